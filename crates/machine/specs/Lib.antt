@@ -1,0 +1,5 @@
+pub mod Alternative
+pub mod Answers
+pub mod Machines
+pub mod MachineText
+pub mod Opcodes

@@ -1,0 +1,94 @@
+//! Reservation tables.
+
+ghost use Rattle.std.specs.Prelude.{◌≡◌, ◌<◌, ◌≤◌, length};
+ghost use Rattle.std.specs.List.{All};
+ghost use Rattle.machine.specs.Alternative.{IsAlternative, AreAlternatives};
+
+use smallvec::SmallVec;
+use std::marker::Model;
+
+/// A row of a reservation table: the operation holds the unit in the cycle that comes `offset`
+/// cycles after its issue.
+#[derive(Clone, Copy, Debug, Default, PartialEq, Eq)]
+pub struct Row {
+    /// The unit's number on its machine, from 0; below 64.
+    pub unit: u8,
+    /// Cycles after the issue, 0 to 63.
+    pub offset: u8,
+}
+
+/// One way to issue an operation: a reservation table of 1 to 16 different rows. Contracts see the
+/// list of its rows.
+#[derive(Drop)]
+pub struct Alternative {
+    rows: SmallVec<Row, 4>,
+}
+
+impl Model for Alternative {
+    ghost use Rattle.std.specs.Prelude.{List};
+    ghost use Rattle.machine.specs.declared.alternative.Row.{Row};
+
+    ghost Value = { List Row };
+
+    ghost use Rattle.machine.specs.Alternative.{IsAlternative};
+
+    ghost view = { λ a. a.rows.items };
+
+    ghost invariant = { λ a. IsAlternative a.rows.items };
+}
+
+impl Alternative {
+    /// The alternative with these rows.
+    pub fn new(rows: SmallVec<Row, 4>) -> Alternative
+        requires { IsAlternative rows.items }
+        ensures { result ≡ rows.items }
+    {
+        Alternative { rows }
+    }
+
+    /// The rows, in the order of the machine text.
+    pub fn rows(&self) -> &[Row]
+        ensures value { result.now ≡ self.now }
+        ensures well_formed { IsAlternative self.now }
+    {
+        self.rows.as_slice()
+    }
+}
+
+/// The 1 to 8 alternatives by which operations of one opcode may be issued, in the order of the
+/// machine text. Contracts see the list of the alternatives' lists of rows.
+#[derive(Drop)]
+pub struct Alternatives {
+    list: Vec<Alternative>,
+}
+
+impl Model for Alternatives {
+    ghost use Rattle.std.specs.Prelude.{List};
+    ghost use Rattle.machine.specs.declared.alternative.Row.{Row};
+
+    ghost Value = { List (List Row) };
+
+    ghost use Rattle.machine.specs.Alternative.{AreAlternatives};
+
+    ghost view = { λ a. a.list.items };
+
+    ghost invariant = { λ a. AreAlternatives a.list.items };
+}
+
+impl Alternatives {
+    /// These alternatives.
+    pub fn new(list: Vec<Alternative>) -> Alternatives
+        requires { AreAlternatives list.items }
+        ensures { result ≡ list.items }
+    {
+        Alternatives { list }
+    }
+
+    /// The alternatives, in order.
+    pub fn as_slice(&self) -> &[Alternative]
+        ensures value { result.now ≡ self.now }
+        ensures well_formed { AreAlternatives self.now }
+    {
+        self.list.as_slice()
+    }
+}
