@@ -1,0 +1,5 @@
+pub use Rattle.machine.specs.Opcodes
+pub mod Forms
+pub mod Loops
+pub mod Meaning
+pub mod Words
