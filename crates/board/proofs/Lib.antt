@@ -1,3 +1,4 @@
 pub mod Totals
 pub mod Words
 pub mod Steps
+pub mod Opening

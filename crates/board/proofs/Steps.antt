@@ -83,7 +83,7 @@ draws terms slots id me one wet s kept _ at small =
       (refl, below_next terms s.words s.views id me.0 at kept.0 kept.2, refl),
     )
 
-all_one : {X : Type 0} (P : X → Type 0) (x : X) → P x → All P (x ∷ [])
+pub all_one : {X : Type 0} (P : X → Type 0) (x : X) → P x → All P (x ∷ [])
 all_one P x h zero d near = h
 all_one P x h (suc k) d near = absurd (omega arith)
 
@@ -152,7 +152,7 @@ looks terms slots id l me one near s kept _ at small =
 abbrev none_word : ℕ
 none_word = 18446744073709551615
 
-interval_none : (word : ℕ) → word ≡ none_word → interval_of word ≡ None
+pub interval_none : (word : ℕ) → word ≡ none_word → interval_of word ≡ None
 interval_none word e = ap (λ b. if b then None else Some word) (eq-eqb word none_word e)
 
 interval_some : (word : ℕ) → word ≢ none_word → interval_of word ≡ Some word

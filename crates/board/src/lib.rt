@@ -13,6 +13,9 @@ mod word;
 pub use view::{Terms, View};
 pub use word::{WordBoard, WordPass};
 
+/// Memory ran out.
+pub type OutOfMemory = std::alloc::AllocError;
+
 /// What workers share: the next piece, and for each loop the least interval posted.
 pub trait Board {
     /// What one worker draws, looks and posts with. It cannot be copied.

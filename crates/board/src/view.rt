@@ -21,5 +21,5 @@ pub struct Terms {
     /// How many pieces there are to draw.
     pub pieces: u64,
     /// How many passes were made.
-    pub passes: u64,
+    pub passes: usize,
 }

@@ -1,6 +1,6 @@
 //! A board of shared words: no step on it waits, tries again or takes memory.
-ghost use Rattle.std.specs.Prelude.{◌≡◌, ◌+◌, ℕ, []};
-ghost use Rattle.board.specs.Views.{is_dry};
+ghost use Rattle.std.specs.Prelude.{◌≡◌, ◌+◌, ◌≤◌, []};
+ghost use Rattle.board.specs.Views.{is_dry, beyond};
 ghost use Rattle.board.specs.Names.{terms_of};
 
 use crate::Board;
@@ -9,16 +9,19 @@ use crate::view::{Terms, View};
 use atomic_table::{Seat, Table};
 use std::alloc::Global;
 
+mod opening;
+
 /// Word 0 is the next number, and word 1 + l the least interval posted for the loop l, or the greatest u64 for none.
 #[derive(Drop)]
 pub struct WordBoard {
     tag: u64,
     loops: usize,
     pieces: u64,
-    passes: u64,
+    passes: usize,
     table: Table<(), View, Terms, Fair, Global>,
     ghost sizes: { table.shared.key ≡ terms_of loops pieces passes },
     ghost words: { table.shared.table_id.words ≡ loops + 1 },
+    ghost some_pass: { 1 ≤ passes },
 }
 
 /// What one worker steps with. It may go to another thread.
@@ -30,6 +33,7 @@ pub struct WordPass {
     seat: Seat<(), View>,
     ghost no_slots: { seat.me.1 ≡ [] },
     ghost one_part: { seat.me.0.count ≡ 1 },
+    ghost within: { beyond pieces seat.me.0.drawn ≤ 1 },
     ghost dryness: { dry ≡ is_dry pieces seat.me.0 },
 }
 

@@ -22,6 +22,9 @@ invariant_of-pass c =
     record {
       no_slots = told.2 ∙ pass.no_slots;
       one_part = ap (λ v. v.count) told.0 ∙ pass.one_part;
+      within =
+          let more = beyond-append pass.pieces pass.seat.me.0.drawn (c.fetch_add-number.result ∷ []) in
+          grind (arith, nat_tests);
       dryness =
           let more = beyond-append pass.pieces pass.seat.me.0.drawn (c.fetch_add-number.result ∷ []) in
           let same = c.requires.1 in
