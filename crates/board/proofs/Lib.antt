@@ -2,3 +2,4 @@ pub mod Totals
 pub mod Words
 pub mod Steps
 pub mod Opening
+pub mod Closing

@@ -155,7 +155,7 @@ none_word = 18446744073709551615
 pub interval_none : (word : ℕ) → word ≡ none_word → interval_of word ≡ None
 interval_none word e = ap (λ b. if b then None else Some word) (eq-eqb word none_word e)
 
-interval_some : (word : ℕ) → word ≢ none_word → interval_of word ≡ Some word
+pub interval_some : (word : ℕ) → word ≢ none_word → interval_of word ≡ Some word
 interval_some word n = ap (λ b. if b then None else Some word) (ne_eqb word none_word n)
 
 module _ (terms : Terms) (words : List ℕ) (views : List View) (id : ℕ) (v : View) (at : get_elem? views id ≡ some v) (wide : length words ≡ terms.loops + 1) (rule : Rule terms words views)

@@ -4,3 +4,6 @@ pub mod Rule
 pub mod Steps
 pub mod Names
 pub mod Boards
+pub mod Together
+pub mod Closes
+pub mod Last

@@ -11,7 +11,7 @@ mod view;
 mod word;
 
 pub use view::{Terms, View};
-pub use word::{WordBoard, WordPass};
+pub use word::{Closed, Stranger, WordBoard, WordPass};
 
 /// Memory ran out.
 pub type OutOfMemory = std::alloc::AllocError;

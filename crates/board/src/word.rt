@@ -9,7 +9,10 @@ use crate::view::{Terms, View};
 use atomic_table::{Seat, Table};
 use std::alloc::Global;
 
+mod closing;
 mod opening;
+
+pub use closing::{Closed, Stranger};
 
 /// Word 0 is the next number, and word 1 + l the least interval posted for the loop l, or the greatest u64 for none.
 #[derive(Drop)]
@@ -21,6 +24,7 @@ pub struct WordBoard {
     table: Table<(), View, Terms, Fair, Global>,
     ghost sizes: { table.shared.key ≡ terms_of loops pieces passes },
     ghost words: { table.shared.table_id.words ≡ loops + 1 },
+    ghost slots: { table.shared.table_id.slots ≡ 0 },
     ghost some_pass: { 1 ≤ passes },
 }
 
