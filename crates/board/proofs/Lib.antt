@@ -3,3 +3,4 @@ pub mod Words
 pub mod Steps
 pub mod Opening
 pub mod Closing
+pub mod Events

@@ -9,7 +9,7 @@ use Rattle.board.specs.Rule.{total, times, IsWithinParts, Rule, next_of}
 use Rattle.board.proofs.Totals.{total_both}
 
 -- how many of the numbers are from the first bound on, and below the second
-abbrev between : ℕ → ℕ → List ℕ → ℕ
+abbrev pub between : ℕ → ℕ → List ℕ → ℕ
 between a zero xs = 0
 between a (suc n) xs = between a n xs + times (a + n) xs
 
@@ -17,16 +17,24 @@ between-nil : (a n : ℕ) → between a n [] ≡ 0
 between-nil a zero = refl
 between-nil a (suc n) = let r = between-nil a n in omega arith
 
-between-cons : (a n x : ℕ) (xs : List ℕ) → between a n (x ∷ xs) ≤ (if nat_lt x a then 0 else (if nat_lt x (a + n) then 1 else 0)) + between a n xs
-between-cons a zero x xs = omega arith
+between-cons : (a n x : ℕ) (xs : List ℕ) → between a n (x ∷ xs) ≡ (if nat_lt x a then 0 else (if nat_lt x (a + n) then 1 else 0)) + between a n xs
+between-cons a zero x xs = grind (arith, nat_tests)
 between-cons a (suc n) x xs = let r = between-cons a n x xs in grind (arith, nat_tests)
 
 between_beyond : (a n : ℕ) (xs : List ℕ) → between a n xs ≤ beyond a xs
 between_beyond a n [] = let r = between-nil a n in omega arith
 between_beyond a n (x ∷ xs) = let r = between-cons a n x xs in let s = between_beyond a n xs in grind (arith, nat_tests)
 
+pub between_below : (n : ℕ) (xs : List ℕ) → All (λ x. x < n) xs → between 0 n xs ≡ length xs
+between_below n [] h = between-nil 0 n
+between_below n (x ∷ xs) h =
+    let r = between-cons 0 n x xs in
+    let s = between_below n xs (λ k d near. h (suc k) d (omega arith)) in
+    let t = h 0 x (omega arith) in
+    grind (arith, nat_tests)
+
 -- each number below the next one stands once in all the lists
-total_between : (views : List View) (next a n : ℕ) → a + n ≤ next → ((x : ℕ) → total (λ v. times x v.drawn) views ≡ (if nat_lt x next then 1 else 0)) → total (λ v. between a n v.drawn) views ≡ n
+pub total_between : (views : List View) (next a n : ℕ) → a + n ≤ next → ((x : ℕ) → total (λ v. times x v.drawn) views ≡ (if nat_lt x next then 1 else 0)) → total (λ v. between a n v.drawn) views ≡ n
 total_between views next a zero fits once = total_none views
   where
     total_none : (views : List View) → total (λ v. 0) views ≡ 0

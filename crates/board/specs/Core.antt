@@ -1,5 +1,5 @@
 -- What the words of a board stand for: a machine of one thread, whose events are draws, looks and posts.
-use Rattle.std.specs.Prelude.{◌≡◌, ℕ, ◌+◌, min, List, [], ◌∷◌, Option, None, Some, if◌then◌else◌, ◌==◌}
+use Rattle.std.specs.Prelude.{◌≡◌, ℕ, ◌+◌, ◌&&◌, min, List, [], ◌∷◌, Option, None, Some, if◌then◌else◌, ◌==◌}
 
 -- a look at a loop, a post of an interval for a loop
 pub data Event : Type 0 where
@@ -35,3 +35,17 @@ answer c (post l ii) = None
 abbrev pub run : Core → List Event → Core
 run c [] = c
 run c (e ∷ es) = run (after c e) es
+
+-- how many draws there are
+abbrev pub draws : List Event → ℕ
+draws [] = 0
+draws (draw ∷ es) = 1 + draws es
+draws (look l ∷ es) = draws es
+draws (post l ii ∷ es) = draws es
+
+-- how often the interval is posted for the loop
+abbrev pub posts : ℕ → ℕ → List Event → ℕ
+posts l ii [] = 0
+posts l ii (draw ∷ es) = posts l ii es
+posts l ii (look k ∷ es) = posts l ii es
+posts l ii (post k x ∷ es) = (if (k == l) && (x == ii) then 1 else 0) + posts l ii es

@@ -7,3 +7,4 @@ pub mod Boards
 pub mod Together
 pub mod Closes
 pub mod Last
+pub mod Events

@@ -4,12 +4,16 @@
 
 ghost use Rattle.std.specs.Prelude.{◌≡◌, ℕ, ◌<◌, ◌≤◌, Bool, IsTrue, IfSome, is_none};
 ghost use Rattle.board.specs.declared.view.View.{View};
-ghost use Rattle.board.specs.Views.{DrawsUnlessDry, Looks, with_posted};
+ghost use Rattle.board.specs.Views.{DrawsUnlessDry, Looks, is_dry, with_posted};
 
+mod law;
+mod locked;
 mod rule;
 mod view;
 mod word;
 
+pub use law::words_follow_events;
+pub use locked::{LockedBoard, LockedPass};
 pub use view::{Terms, View};
 pub use word::{Closed, Stranger, WordBoard, WordPass};
 
@@ -62,4 +66,7 @@ pub trait Board {
         ensures same_board { is_of self.now pass.new }
         ensures same_dryness { dry pass.new ≡ dry pass.old }
         ensures told { IsTrue tells → view pass.new ≡ with_posted (view pass.old) loop_number interval };
+
+    // Where the board tells it, a pass is dry exactly where its view is.
+    ghost dry_as_told: { (board : Self) (pass : Self.Pass) → is_of board pass → IsTrue tells → dry pass ≡ is_dry (pieces board) (view pass) };
 }

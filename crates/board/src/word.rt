@@ -66,7 +66,7 @@ impl Board for WordBoard {
     type Pass = WordPass;
 
     ghost use Rattle.std.specs.Prelude.{true};
-    ghost use Rattle.board.specs.Boards.{IsPassOf};
+    ghost use Rattle.board.specs.Boards.{IsPassOf, dry_as_view};
 
     ghost loops = { λ b. b.loops };
 
@@ -102,4 +102,6 @@ impl Board for WordBoard {
             .shared
             .fetch_min::<Post>(&mut pass.seat, 1 + loop_number, interval);
     }
+
+    ghost dry_as_told = { λ board pass of _. dry_as_view board pass of };
 }

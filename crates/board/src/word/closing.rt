@@ -1,8 +1,6 @@
 //! A board is closed over all of its passes.
 ghost use Rattle.std.specs.Prelude.{◌≡◌, ◌+◌, ◌<◌, ◌≤◌, ◌↔◌, ℕ, true, All, Any, List, IsOk, IsTrue, IfOk, IfErr, IfSome, IsSome, length, map, vec_len, []};
 ghost use Rattle.board.specs.Last.{IsWhole};
-ghost use Rattle.board.specs.declared.view.View.{View};
-ghost use Rattle.board.specs.Core.{Event, run, opening};
 ghost use Rattle.board.specs.Views.{is_dry};
 ghost use Rattle.board.specs.Rule.{Rule, times_drawn, next_of, least_of};
 ghost use Rattle.board.specs.Together.{IsTogether};
@@ -48,6 +46,7 @@ impl WordBoard {
         ensures stranger { IfErr result (λ s. (s.board ≡ self) × (s.passes.items ≡ passes.items)) }
         ensures loops { IfOk result (λ c. loops_of c ≡ (sizes_of self).loops) }
         ensures rule { IfOk result (λ c. Rule (sizes_of self) (words_of c) (map view_of passes.items)) }
+        ensures once { IfOk result (λ c. Any (λ p. IsTrue (is_dry (sizes_of self).pieces (view_of p))) passes.items → (x : ℕ) → x < (sizes_of self).pieces → times_drawn (map view_of passes.items) x ≡ 1) }
     {
         if passes.len() < self.passes || !all_carry(&passes, self.tag) {
             return Err(Stranger {

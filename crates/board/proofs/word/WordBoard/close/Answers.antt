@@ -5,7 +5,7 @@ use Rattle.board.specs.Rule.{Rule, total}
 use Rattle.board.specs.Steps.{Keeps}
 use Rattle.board.specs.Boards.{view_of, sizes_of, IsPassOf, pass_tag_of, tag_of}
 use Rattle.board.proofs.Totals.{all_by}
-use Rattle.board.proofs.Closing.{closes, count_of_passes, passes_within}
+use Rattle.board.proofs.Closing.{closes, count_of_passes, passes_within, dry_once}
 use Rattle.board.proofs.word.WordBoard.close.Goals as goal
 
 pub invariant_of-result : goal.invariant_of-result
@@ -35,3 +35,6 @@ returns-clause-rule c =
     in
     subst (λ words. Rule terms words (map view_of ps)) last.2
     (closes terms last.0 c.in-Some.seat.id c.in-Some.seat.me.0 (map view_of ps) kept last.1.1 together (passes_within terms.pieces ps own) enough)
+
+pub returns-clause-once : goal.returns-clause-once
+returns-clause-once c = dry_once (sizes_of c.args.self) _ c.args.passes.items (returns-clause-rule c)
