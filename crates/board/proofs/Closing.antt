@@ -1,22 +1,22 @@
 -- One pass takes in another, and what is left at the end.
-use Rattle.std.proofs.Common.{◌≡◌, ◌≢◌, ℕ, zero, suc, ◌+◌, ◌-◌, ◌<◌, ◌≤◌, ◌⊎◌, if◌then◌else◌, nat_lt, List, [], ◌∷◌, ◌++◌, map, length, set, slice_index, slice_index_or, sym, refl, ap, ◌∙◌, subst, ⊎_elim, arith}
+use Rattle.std.proofs.Common.{◌≡◌, ℕ, zero, suc, ◌+◌, ◌<◌, ◌≤◌, List, [], ◌∷◌, ◌++◌, map, length, set, slice_index, slice_index_or, sym, refl, ap, ◌∙◌, subst, ⊎_elim, arith}
 use Rattle.std.proofs.lemmas.Bool.{cases_lt, ltb-true}
-use Rattle.std.specs.Prelude.{All, Any, IsTrue, Contains, Option, None, Some}
+use Rattle.std.specs.Prelude.{All, Any, IsTrue, Contains, Option}
 use Rattle.std.proofs.lemmas.Bool.Decides.{nat_tests}
 use Rattle.std.proofs.lemmas.List.Elements.{All-append, All-nil, All-map, All-contains, All-contains_itself, Contains-append_left, Contains-append_right}
-use mathlib.Core.Option.{some, none, some-injective, some-ne-none}
+use mathlib.Core.Option.{some, some-injective, some-ne-none}
 use lib.ListN.{get_elem?}
 use Rattle.atomic_table.specs.Table.{State, Joins}
 use Rattle.atomic_table.proofs.Lists.{set_else}
 use Rattle.board.specs.declared.view.View.{View}
 use Rattle.board.specs.declared.view.Terms.{Terms}
 use Rattle.board.specs.Views.{blank, beyond, is_dry}
-use Rattle.board.specs.Rule.{total, times, times_posted, times_drawn, IsPosted, least_of, IsLeastPosted, IsTrueAnswer, IsWithinParts, Rule, IsWithinLimits}
+use Rattle.board.specs.Rule.{total, times, times_posted, times_drawn, least_of, IsTrueAnswer, IsWithinParts, Rule}
 use Rattle.board.specs.Steps.{Keeps, both}
 use Rattle.board.specs.Together.{IsTogether}
 use Rattle.board.specs.declared.word.WordPass.{WordPass}
 use Rattle.board.specs.Boards.{view_of}
-use Rattle.board.proofs.Totals.{total_set, total_at, total-append, times-append, times_posted-append, beyond-append, all_at, all_set, all_by}
+use Rattle.board.proofs.Totals.{total_set, total_at, times-append, times_posted-append, beyond-append, all_at, all_set, all_by}
 use Rattle.board.proofs.Steps.{least_moves, answers_move, all_one}
 
 both_within : (pieces : ℕ) (v w : View) → IsWithinParts pieces v → IsWithinParts pieces w → IsWithinParts pieces (both v w)

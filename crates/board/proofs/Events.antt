@@ -1,12 +1,12 @@
 -- The words stand for what the events come to.
-use Rattle.std.proofs.Common.{◌≡◌, ◌≢◌, ℕ, zero, suc, ◌+◌, ◌<◌, ◌≤◌, ◌⊎◌, ◌&&◌, min, if◌then◌else◌, nat_lt, ◌==◌, eqb, List, [], ◌∷◌, length, sym, refl, ap, ◌∙◌, subst, inl, inr, ⊎_elim, arith, eq-eqb, ne_eqb}
-use Rattle.std.specs.Prelude.{All, Option, None, Some}
+use Rattle.std.proofs.Common.{◌≡◌, ◌≢◌, ℕ, ◌+◌, ◌<◌, ◌≤◌, ◌&&◌, min, if◌then◌else◌, ◌==◌, List, [], ◌∷◌, length, sym, refl, ap, subst, ⊎_elim, arith, eq-eqb, ne_eqb}
+use Rattle.std.specs.Prelude.{Option, None, Some}
 use Rattle.std.proofs.lemmas.Bool.{cases_eq, cases_lt}
 use Rattle.std.proofs.lemmas.Bool.Decides.{nat_tests}
 use Rattle.board.specs.declared.view.View.{View}
 use Rattle.board.specs.declared.view.Terms.{Terms}
 use Rattle.board.specs.Core.{Event, draw, look, post, Core, opening, smaller, after, run, draws, posts}
-use Rattle.board.specs.Rule.{total, times, times_posted, IsPosted, next_of, least_of, IsLeastPosted, Rule}
+use Rattle.board.specs.Rule.{total, times, times_posted, next_of, least_of, IsLeastPosted, Rule}
 use Rattle.board.specs.Events.{IsMadeOf, StandsFor}
 use Rattle.board.proofs.Totals.{all_times}
 use Rattle.board.proofs.Words.{between, between_below, total_between}

@@ -1,18 +1,16 @@
 -- A table with nothing drawn and nothing posted meets the rule, and a seat in which nothing was done may be cut.
-use Rattle.std.proofs.Common.{◌≡◌, ℕ, zero, suc, ◌+◌, ◌-◌, ◌<◌, ◌≤◌, if◌then◌else◌, nat_lt, List, [], ◌∷◌, ◌++◌, length, set, replicate, slice_index, slice_index_or, sym, refl, ap, ◌∙◌, subst, arith}
+use Rattle.std.proofs.Common.{◌≡◌, ℕ, zero, suc, ◌+◌, ◌-◌, ◌<◌, List, [], ◌∷◌, ◌++◌, length, set, replicate, slice_index, sym, refl, ap, ◌∙◌, subst, arith}
 use Rattle.std.proofs.lemmas.List.{length-replicate}
-use Rattle.std.specs.Prelude.{All, Option, None, Some}
+use Rattle.std.specs.Prelude.{All, None}
 use Rattle.std.proofs.lemmas.Bool.Decides.{nat_tests}
 use Rattle.std.proofs.lemmas.List.Elements.{All-append, All-nil}
-use mathlib.Core.Option.{some, none}
-use lib.ListN.{get_elem?}
-use Rattle.atomic_table.specs.Table.{State, opening, Splits}
+use Rattle.atomic_table.specs.Table.{opening, Splits}
 use Rattle.board.specs.declared.view.View.{View}
 use Rattle.board.specs.declared.view.Terms.{Terms}
 use Rattle.board.specs.Views.{blank}
-use Rattle.board.specs.Rule.{total, times, times_posted, IsPosted, interval_of, least_of, IsLeastPosted, IsTrueAnswer, IsWithinParts, Rule, IsWithinLimits}
-use Rattle.board.specs.Steps.{Keeps, rest_of}
-use Rattle.board.proofs.Totals.{total_set, total-append, all_at, all_set}
+use Rattle.board.specs.Rule.{total, times, times_posted, least_of, IsLeastPosted, IsTrueAnswer, IsWithinParts, IsWithinLimits}
+use Rattle.board.specs.Steps.{Keeps}
+use Rattle.board.proofs.Totals.{total_set, total-append, all_set}
 use Rattle.board.proofs.Steps.{least_moves, answers_move, all_one, interval_none}
 
 word_none : (n k : ℕ) → k < n → slice_index (replicate n 18446744073709551615) k ≡ 18446744073709551615

@@ -1,5 +1,5 @@
 -- Each step keeps the rule.
-use Rattle.std.proofs.Common.{◌≡◌, ◌≢◌, ℕ, zero, suc, ◌+◌, ◌-◌, ◌%◌, ◌^◌, ◌<◌, ◌≤◌, ◌⊎◌, min, Bool, true, false, cond, nat_lt, ltb, eqb, ◌==◌, if◌then◌else◌, List, [], ◌∷◌, ◌++◌, length, get_or, set, slice_index, slice_index_or, sym, refl, ap, ◌∙◌, subst, inl, inr, ⊎_elim, arith, length-append, length-set, get_or-set_same, get_or-set_other, eq-eqb, ne_eqb, ◌&&◌}
+use Rattle.std.proofs.Common.{◌≡◌, ◌≢◌, ℕ, zero, suc, ◌+◌, ◌%◌, ◌<◌, ◌≤◌, ◌⊎◌, min, false, nat_lt, ◌==◌, if◌then◌else◌, List, [], ◌∷◌, length, set, slice_index, sym, refl, ap, ◌∙◌, subst, ⊎_elim, arith, length-set, get_or-set_same, get_or-set_other, eq-eqb, ne_eqb, ◌&&◌}
 use Rattle.std.proofs.lemmas.List.{set-get_or}
 use Rattle.std.proofs.lemmas.Bool.{cases_eq, cases_lt}
 use Rattle.std.specs.Prelude.{All, Option, None, Some, IfSome}
@@ -7,11 +7,11 @@ use Rattle.std.proofs.lemmas.Bool.Decides.{nat_tests}
 use Rattle.std.proofs.lemmas.List.Elements.{All-append}
 use mathlib.Core.Option.{some, none}
 use lib.ListN.{get_elem?}
-use Rattle.atomic_table.specs.Table.{State, Me, step, keeps, stepped, Allows}
+use Rattle.atomic_table.specs.Table.{step, keeps, Allows}
 use Rattle.board.specs.declared.view.View.{View}
 use Rattle.board.specs.declared.view.Terms.{Terms}
-use Rattle.board.specs.Views.{blank, beyond, is_dry, with_drawn, with_posted, with_seen, IsAtMost, IsNoLater}
-use Rattle.board.specs.Rule.{total, times, times_posted, times_drawn, IsPosted, next_of, interval_of, least_of, EachNumberOnce, IsLeastPosted, EachWordIsLeast, IsTrueAnswer, EachAnswerIsTrue, IsWithinParts, CountsAddUp, Rule, IsWithinLimits}
+use Rattle.board.specs.Views.{is_dry, with_drawn, with_posted, with_seen, IsAtMost, IsNoLater}
+use Rattle.board.specs.Rule.{total, times, times_posted, times_drawn, IsPosted, next_of, interval_of, least_of, IsLeastPosted, EachWordIsLeast, IsTrueAnswer, IsWithinParts, Rule, IsWithinLimits}
 use Rattle.board.specs.Steps.{Place, Keeps, loop_of, Drew, Looked, Posted}
 use Rattle.board.proofs.Totals.{total_set, total_at, times-append, times_posted-append, beyond-append, all_times, all_times_posted, all_at, all_set, all_by}
 use Rattle.board.proofs.Words.{next_bounded}

@@ -1,5 +1,5 @@
 -- What the words of a board stand for: a machine of one thread, whose events are draws, looks and posts.
-use Rattle.std.specs.Prelude.{◌≡◌, ℕ, ◌+◌, ◌&&◌, min, List, [], ◌∷◌, Option, None, Some, if◌then◌else◌, ◌==◌}
+use Rattle.std.specs.Prelude.{ℕ, ◌+◌, ◌&&◌, min, List, [], ◌∷◌, Option, None, Some, if◌then◌else◌, ◌==◌}
 
 -- a look at a loop, a post of an interval for a loop
 pub data Event : Type 0 where

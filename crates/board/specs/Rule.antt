@@ -1,6 +1,6 @@
 -- The rule over the words of a board and the views of all its passes.
 -- Word 0 is the next number. Word 1 + l is the least interval posted for the loop l, or the greatest u64, which stands for none.
-use Rattle.std.specs.Prelude.{◌≡◌, ℕ, ◌+◌, ◌<◌, ◌≤◌, ◌&&◌, if◌then◌else◌, nat_lt, ◌==◌, List, [], ◌∷◌, All, Option, None, Some, IfSome, length, slice_index}
+use Rattle.std.specs.Prelude.{◌≡◌, ℕ, ◌+◌, ◌<◌, ◌≤◌, ◌&&◌, if◌then◌else◌, nat_lt, ◌==◌, List, [], ◌∷◌, All, Option, None, Some, IfSome, slice_index}
 use Rattle.board.specs.declared.view.View.{View}
 use Rattle.board.specs.declared.view.Terms.{Terms}
 use Rattle.board.specs.Views.{beyond, blank, IsAtMost}

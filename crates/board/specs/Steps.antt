@@ -1,9 +1,9 @@
 -- The rule of the shared table, and what each of its steps tells the pass that makes it.
-use Rattle.std.specs.Prelude.{◌≡◌, ℕ, ◌+◌, ◌-◌, ◌<◌, List, ◌++◌, All, Option, length}
+use Rattle.std.specs.Prelude.{◌≡◌, ℕ, ◌+◌, ◌-◌, ◌<◌, ◌++◌, All, length}
 use Rattle.atomic_table.specs.Table.{State, Me, Step}
 use Rattle.board.specs.declared.view.View.{View}
 use Rattle.board.specs.declared.view.Terms.{Terms}
-use Rattle.board.specs.Views.{blank, with_drawn, with_posted, with_seen, IsNoLater}
+use Rattle.board.specs.Views.{with_drawn, with_posted, with_seen, IsNoLater}
 use Rattle.board.specs.Rule.{Rule, IsWithinLimits, interval_of}
 
 abbrev pub Place : Type 0

@@ -1,5 +1,6 @@
 //! The plain board: one lock round all of its numbers. Contracts hear nothing of what its passes did.
-ghost use Rattle.std.specs.Prelude.{◌≡◌, ◌+◌, min, IfOk, None, replicate};
+ghost use Rattle.std.specs.Prelude.{◌≡◌, ◌+◌, ◌<◌, ℕ, min, length, IfOk, Option, None, replicate, slice_get, slice_set};
+ghost use Rattle.board.specs.Core.{smaller};
 
 use crate::{Board, OutOfMemory};
 use std::alloc::Global;
@@ -49,11 +50,17 @@ impl Numbers {
         number
     }
 
-    fn look(&self, loop_number: usize) -> Option<u64> {
+    fn look(&self, loop_number: usize) -> Option<u64>
+        ensures { loop_number < length self.now.least.items → slice_get self.now.least.items loop_number ≡ Some result }
+    {
         self.least.get(loop_number).copied().flatten()
     }
 
-    fn post(&mut self, loop_number: usize, interval: u64) {
+    // The least becomes the smaller of what it was and the interval.
+    fn post(&mut self, loop_number: usize, interval: u64)
+        ensures next { self.new.next ≡ self.old.next }
+        ensures least { (known : Option ℕ) → slice_get self.old.least.items loop_number ≡ Some known → self.new.least.items ≡ slice_set self.old.least.items loop_number (smaller known interval) }
+    {
         if let Some(least) = self.least.get_mut(loop_number) {
             *least = Some(least.map_or(interval, |known| known.min(interval)));
         }

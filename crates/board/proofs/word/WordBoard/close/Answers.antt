@@ -1,10 +1,9 @@
-use Rattle.std.proofs.Common.{◌≡◌, ◌≤◌, ℕ, sym, ap, ◌∙◌, subst, arith, true, refl, length, map, List}
-use Rattle.std.specs.Prelude.{All, vec_len}
+use Rattle.std.proofs.Common.{◌≡◌, ◌≤◌, sym, ap, ◌∙◌, subst, arith, refl, length, map}
+use Rattle.std.specs.Prelude.{All}
 use Rattle.board.specs.declared.view.Terms.{Terms}
-use Rattle.board.specs.Rule.{Rule, total}
+use Rattle.board.specs.Rule.{Rule}
 use Rattle.board.specs.Steps.{Keeps}
-use Rattle.board.specs.Boards.{view_of, sizes_of, IsPassOf, pass_tag_of, tag_of}
-use Rattle.board.proofs.Totals.{all_by}
+use Rattle.board.specs.Boards.{view_of, sizes_of, pass_tag_of, tag_of}
 use Rattle.board.proofs.Closing.{closes, count_of_passes, passes_within, dry_once}
 use Rattle.board.proofs.word.WordBoard.close.Goals as goal
 

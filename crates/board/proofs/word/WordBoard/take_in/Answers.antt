@@ -1,6 +1,5 @@
-use Rattle.std.proofs.Common.{rules, ap, sym, ◌∙◌, [], ◌∷◌, ◌++◌, refl, subst, arith, append_assoc}
-use Rattle.std.specs.Prelude.{map, All, Contains, length, slice_index_or, List}
-use Rattle.std.proofs.lemmas.Grind.{common_steps}
+use Rattle.std.proofs.Common.{ap, sym, ◌∙◌, [], ◌∷◌, ◌++◌, subst, arith, append_assoc}
+use Rattle.std.specs.Prelude.{map, All}
 use Rattle.board.specs.Together.{IsTogether}
 use Rattle.board.specs.Boards.{view_of, IsPassOf}
 use Rattle.board.proofs.Closing.{joins, together_one, together_more, all_before, one_after}

@@ -1,4 +1,4 @@
-use Rattle.std.proofs.Common.{rules, ap, sym, ◌∙◌, subst, arith, ◌<◌}
+use Rattle.std.proofs.Common.{rules, ap, sym, subst, arith, ◌<◌}
 use Rattle.board.proofs.Steps.{looks}
 use Rattle.board.proofs.word.WordBoardBoard.look.Goals as goal
 

@@ -1,5 +1,4 @@
-use Rattle.std.proofs.Common.{◌+◌, sym, ap, ◌∙◌, arith}
-use Rattle.std.proofs.lemmas.Bool.Decides.{nat_tests}
+use Rattle.std.proofs.Common.{◌+◌, sym, ap, ◌∙◌}
 use Rattle.board.specs.Rule.{interval_of}
 use Rattle.board.specs.Closes.{words_of}
 use Rattle.board.proofs.Steps.{interval_none, interval_some}
