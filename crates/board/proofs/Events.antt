@@ -7,7 +7,7 @@ use Rattle.board.specs.declared.view.View.{View}
 use Rattle.board.specs.declared.view.Terms.{Terms}
 use Rattle.board.specs.Core.{Event, draw, look, post, Core, opening, smaller, after, run, draws, posts}
 use Rattle.board.specs.Rule.{total, times, times_posted, next_of, least_of, IsLeastPosted, Rule}
-use Rattle.board.specs.Events.{IsMadeOf, StandsFor}
+use Rattle.board.specs.Events.{IsMadeOf, StandsFor, AnswersAs}
 use Rattle.board.proofs.Totals.{all_times}
 use Rattle.board.proofs.Words.{between, between_below, total_between}
 
@@ -86,3 +86,8 @@ stands terms words views events rule made = record {
       let b : IsLeastOf f (least_of words l) = least_along g f (λ ii. let e = made.posted l ii in omega arith) (least_of words l) (as_least views l (least_of words l) (rule.least l near)) in
       one_least f ((run opening events).least l) (least_of words l) a b;
 }
+
+pub answers : (terms : Terms) (words : List ℕ) (views : List View) (events : List Event) → Rule terms words views → IsMadeOf events views → AnswersAs terms.loops words (run opening events)
+answers terms words views events rule made =
+    let stood = stands terms words views events rule made in
+    record { drawn = ap Some stood.next; looked = stood.least }

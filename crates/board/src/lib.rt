@@ -1,5 +1,5 @@
-//! The board that workers share: they draw pieces from it, look up the least interval known to succeed for a loop, and
-//! post intervals that succeeded.
+//! The board that workers share: they draw pieces from it, look up the least interval known to succeed
+//! for a loop, and post intervals that succeeded.
 #![tactic(auto)]
 
 ghost use Rattle.std.specs.Prelude.{◌≡◌, ℕ, ◌<◌, ◌≤◌, Bool, IsTrue, IfSome, is_none};
@@ -43,14 +43,16 @@ pub trait Board {
 
     ghost view: { Self.Pass → View };
 
-    /// The number of a piece, or `None` once there is none left, from when on the pass is dry. A dry pass draws no more.
+    /// The number of a piece, or `None` once there is none left, from when on the pass is dry. A dry pass
+    /// draws no more.
     fn draw(&self, pass: &mut Self::Pass) -> Option<u64>
         requires { is_of self.now pass.old }
         ensures same_board { is_of self.now pass.new }
         ensures piece { IfSome result (λ n. n < pieces self.now) }
         ensures dries { dry pass.new ≡ is_none result }
         ensures stays_dry { IsTrue (dry pass.old) → IsTrue (dry pass.new) }
-        ensures told { IsTrue tells → DrawsUnlessDry (pieces self.now) (view pass.old) result (view pass.new) };
+        ensures told { IsTrue tells
+            → DrawsUnlessDry (pieces self.now) (view pass.old) result (view pass.new) };
 
     /// The least interval posted for the loop, as far as this pass can see, or `None`.
     fn look(&self, pass: &mut Self::Pass, loop_number: usize) -> Option<u64>
@@ -70,5 +72,6 @@ pub trait Board {
         ensures told { IsTrue tells → view pass.new ≡ with_posted (view pass.old) loop_number interval };
 
     // Where the board tells it, a pass is dry exactly where its view is.
-    ghost dry_as_told: { (board : Self) (pass : Self.Pass) → is_of board pass → IsTrue tells → dry pass ≡ is_dry (pieces board) (view pass) };
+    ghost dry_as_told: { (board : Self) (pass : Self.Pass) → is_of board pass → IsTrue tells
+        → dry pass ≡ is_dry (pieces board) (view pass) };
 }

@@ -51,7 +51,8 @@ impl Numbers {
     }
 
     fn look(&self, loop_number: usize) -> Option<u64>
-        ensures { loop_number < length self.now.least.items → slice_get self.now.least.items loop_number ≡ Some result }
+        ensures { loop_number < length self.now.least.items
+            → slice_get self.now.least.items loop_number ≡ Some result }
     {
         self.least.get(loop_number).copied().flatten()
     }
@@ -59,7 +60,9 @@ impl Numbers {
     // The least becomes the smaller of what it was and the interval.
     fn post(&mut self, loop_number: usize, interval: u64)
         ensures next { self.new.next ≡ self.old.next }
-        ensures least { (known : Option ℕ) → slice_get self.old.least.items loop_number ≡ Some known → self.new.least.items ≡ slice_set self.old.least.items loop_number (smaller known interval) }
+        ensures least { (known : Option ℕ) → slice_get self.old.least.items loop_number ≡ Some known
+            → self.new.least.items
+            ≡ slice_set self.old.least.items loop_number (smaller known interval) }
     {
         if let Some(least) = self.least.get_mut(loop_number) {
             *least = Some(least.map_or(interval, |known| known.min(interval)));

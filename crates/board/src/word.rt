@@ -14,7 +14,8 @@ mod opening;
 
 pub use closing::{Closed, Stranger};
 
-/// Word 0 is the next number, and word 1 + l the least interval posted for the loop l, or the greatest u64 for none.
+/// Word 0 is the next number, and word 1 + l the least interval posted for the loop l, or the greatest
+/// u64 for none.
 #[derive(Drop)]
 pub struct WordBoard {
     tag: u64,

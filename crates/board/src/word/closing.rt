@@ -11,6 +11,8 @@ use crate::rule::TakeIn;
 use crate::view::View;
 use atomic_table::Seat;
 use std::alloc::Global;
+use std::error::Error;
+use std::fmt;
 
 /// A pass of another board was handed in, or too few came back. Nothing has changed.
 #[derive(Drop)]
@@ -18,6 +20,20 @@ pub struct Stranger {
     pub board: WordBoard,
     pub passes: Vec<WordPass>,
 }
+
+impl fmt::Debug for Stranger {
+    fn fmt<W: fmt::Write>(&self, f: &mut fmt::Formatter<W>) -> fmt::Result {
+        f.debug_struct("Stranger").finish_non_exhaustive()
+    }
+}
+
+impl fmt::Display for Stranger {
+    fn fmt<W: fmt::Write>(&self, f: &mut fmt::Formatter<W>) -> fmt::Result {
+        f.write_str("a pass of another board, or too few passes")
+    }
+}
+
+impl Error for Stranger {}
 
 /// The words of a board that nobody shares any more.
 pub struct Closed {
@@ -42,11 +58,15 @@ impl WordBoard {
     /// `Stranger` where a pass carries another tag, or fewer passes come back than were made.
     pub fn close(self, passes: Vec<WordPass>) -> Result<Closed, Stranger>
         requires { All (λ p. pass_tag_of p ≡ tag_of self → IsPassOf self p) passes.items }
-        ensures closed { IsOk result ↔ (All (λ p. pass_tag_of p ≡ tag_of self) passes.items × ((sizes_of self).passes ≤ vec_len passes)) }
+        ensures closed { IsOk result ↔ (All (λ p. pass_tag_of p ≡ tag_of self) passes.items
+            × ((sizes_of self).passes ≤ vec_len passes)) }
         ensures stranger { IfErr result (λ s. (s.board ≡ self) × (s.passes.items ≡ passes.items)) }
         ensures loops { IfOk result (λ c. loops_of c ≡ (sizes_of self).loops) }
         ensures rule { IfOk result (λ c. Rule (sizes_of self) (words_of c) (map view_of passes.items)) }
-        ensures once { IfOk result (λ c. Any (λ p. IsTrue (is_dry (sizes_of self).pieces (view_of p))) passes.items → (x : ℕ) → x < (sizes_of self).pieces → times_drawn (map view_of passes.items) x ≡ 1) }
+        ensures once { IfOk result (λ c.
+            Any (λ p. IsTrue (is_dry (sizes_of self).pieces (view_of p))) passes.items
+            → (x : ℕ) → x < (sizes_of self).pieces
+            → times_drawn (map view_of passes.items) x ≡ 1) }
     {
         if passes.len() < self.passes || !all_carry(&passes, self.tag) {
             return Err(Stranger {

@@ -22,7 +22,8 @@ fn opening_words(alloc: Global, loops: usize) -> Result<Vec<u64>, OutOfMemory>
 }
 
 impl WordBoard {
-    /// A board for so many loops and pieces, with just so many passes. The tag is whatever tells it from other boards.
+    /// A board for so many loops and pieces, with just so many passes. The tag is whatever tells it from
+    /// other boards.
     pub fn new(
         alloc: Global,
         tag: u64,
