@@ -1,12 +1,10 @@
-ghost use Rattle.std.specs.Prelude.{◌≡◌, ◌≤◌, ◌<◌, IfOk, IfSome};
+ghost use Rattle.std.specs.Prelude.{◌≡◌, ◌≤◌, IfOk};
 ghost use Rattle.board.specs.Boards.{IsPassOf, tag_of, sizes_of};
-ghost use Rattle.board.specs.Closes.{loops_of};
 ghost use Rattle.board.specs.Names.{terms_of};
 
-use crate::{Board, Closed, OutOfMemory, Stranger, WordBoard, WordPass};
+use crate::{Board, OutOfMemory, Stranger, WordBoard, WordPass};
 use std::alloc::Global;
 use std::test::Fail;
-use std::thread::{Threads, join};
 
 fn with_one_pass(alloc: Global, tag: u64, pieces: u64) -> Result<(WordBoard, WordPass), OutOfMemory>
     requires { pieces ≤ 262144 }
@@ -102,59 +100,5 @@ fn a_stranger_is_handed_back(rt: HostRuntime) -> Result<(), Fail> {
 fn no_pass_is_too_few(rt: HostRuntime) -> Result<(), Fail> {
     let (board, _pass) = with_one_pass(rt.alloc(), 1, 3)?;
     assert!(rt; board.close(Vec::new(rt.alloc())).is_err());
-    Ok(())
-}
-
-// Posts for one loop, and looks at the other until it sees a post or has looked often enough.
-fn meet(board: &WordBoard, mut pass: WordPass, mine: usize, interval: u64) -> (WordPass, bool)
-    requires of { IsPassOf board.now pass }
-    requires loops { (sizes_of board.now).loops ≡ 2 }
-    requires mine { mine < 2 }
-    requires interval { interval ≤ 16384 }
-    ensures { IsPassOf board.now result.0 }
-{
-    board.post(&mut pass, mine, interval);
-    for _ in 0..10_000_000u64 {
-        if board.look(&mut pass, 1 - mine).is_some() {
-            return (pass, true);
-        }
-    }
-    (pass, false)
-}
-
-// No handle that waits is needed.
-fn both_meet<R: Threads + Sync>(
-    rt: &R,
-    alloc: Global,
-) -> Result<Option<(Closed, bool)>, OutOfMemory>
-    ensures { IfOk result (λ r. IfSome r (λ s. loops_of s.0 ≡ 2)) }
-{
-    let (board, mut passes) = WordBoard::new(alloc, 1, 2, 12, 2)?;
-    let (Some(one), Some(two)) = (passes.pop(), passes.pop()) else {
-        return Ok(None);
-    };
-    let shared = &board;
-    let ((one, one_saw), (two, two_saw)) = join(
-        rt,
-        || -> (WordPass, bool)
-            requires { IsPassOf shared.now one × ((sizes_of shared.now).loops ≡ 2) }
-            ensures { IsPassOf shared.entry.now result.0 }
-        { meet(shared, one, 0, 5) },
-        || -> (WordPass, bool)
-            requires { IsPassOf shared.now two × ((sizes_of shared.now).loops ≡ 2) }
-            ensures { IsPassOf shared.entry.now result.0 }
-        { meet(shared, two, 1, 6) },
-    );
-    let passes = vec![in alloc; one, two]?;
-    let closed = board.close(passes).ok();
-    Ok(closed.map(|closed| (closed, one_saw && two_saw)))
-}
-
-#[test]
-fn two_threads_see_each_others_posts(rt: HostRuntime) -> Result<(), Fail> {
-    let Some((closed, both_saw)) = both_meet(&rt, rt.alloc())? else {
-        panic!(rt; "the board was not closed")
-    };
-    assert!(rt; both_saw && closed.least(0) == Some(5) && closed.least(1) == Some(6));
     Ok(())
 }

@@ -54,15 +54,6 @@ impl WordPass {
     }
 }
 
-impl WordBoard {
-    /// The tag that the board was made with.
-    pub fn tag(&self) -> u64
-        ensures { result ≡ self.now.tag }
-    {
-        self.tag
-    }
-}
-
 impl Board for WordBoard {
     type Pass = WordPass;
 

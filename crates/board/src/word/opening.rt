@@ -58,6 +58,13 @@ impl WordBoard {
         Ok((board, issued))
     }
 
+    /// The tag that the board was made with.
+    pub fn tag(&self) -> u64
+        ensures { result ≡ self.now.tag }
+    {
+        self.tag
+    }
+
     // Cuts the first seat, which stands for all passes, into as many.
     fn issue(&self, alloc: Global, mut seat: Seat<(), View>) -> Result<Vec<WordPass>, OutOfMemory>
         requires table { seat.table_id ≡ self.now.table.shared.table_id }
