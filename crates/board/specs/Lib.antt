@@ -1,0 +1,10 @@
+pub mod Core
+pub mod Views
+pub mod Rule
+pub mod Steps
+pub mod Names
+pub mod Boards
+pub mod Together
+pub mod Closes
+pub mod Last
+pub mod Events
