@@ -12,6 +12,8 @@ mod processor;
 mod read;
 mod rows;
 mod tables;
+#[cfg(test)]
+mod tests;
 mod units;
 
 pub use alternative::{Alternative, Alternatives, Row};
