@@ -3,3 +3,4 @@ pub mod Answers
 pub mod Machines
 pub mod MachineText
 pub mod Opcodes
+pub mod Reads

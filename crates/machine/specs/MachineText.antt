@@ -4,7 +4,7 @@
 -- fault of the whole list is the answer. Behind it the list may hold more, which nobody sees.
 use Rattle.std.specs.Prelude.{ℕ, pos, ◌==◌, nat_lt, not, ◌&&◌, Bool, true, false, if◌then◌else◌, codes, List, [], ◌∷◌, ◌++◌, length, map, Option, Some, None, option_map, is_some, unwrap_or, Result, Ok, Err, position}
 use Rattle.std.specs.Prelude.{negsuc}
-use Rattle.std.specs.List.{list_any, flat_map, filter_map, before_first, after_first}
+use Rattle.std.specs.List.{list_any, flat_map, before_first, after_first}
 use Rattle.std.specs.Str.{all_ascii_digits}
 use Rattle.std.specs.Str.Parse.{digits_value}
 use Rattle.std.specs.Str.Lossy.{utf8_valid_len}
@@ -54,22 +54,27 @@ abbrev pub text_of : Data → List ℕ
 text_of (string text) = text
 text_of _ = []
 
--- an element of `units` behind the ones before it
-unfoldable pub unit_faults : List Data → Data → Faults
+-- a text that has the form of a unit's name
+abbrev pub is_unit_name : List ℕ → Bool
+is_unit_name text = is_unit_word text && within 1 16 (length text)
+
+-- an element of `units`, behind the names before it
+unfoldable pub unit_faults : List (List ℕ) → Data → Faults
 unit_faults before (string name) =
-    unless (is_unit_word name && within 1 16 (length name)) (Limit (codes "unit name"))
-    ++ unless (not (list_any (λ other. same_word (text_of other) name) before)) (RepeatedUnit name)
+    unless (is_unit_name name) (Limit (codes "unit name"))
+    ++ unless (not (list_any (λ other. same_word other name) before)) (RepeatedUnit name)
 unit_faults before _ = WrongType (codes "units") ∷ []
 
--- a check of each element behind the ones before it
-abbrev pub faults_in_turn : (List Data → Data → Faults) → List Data → List Data → Faults
-faults_in_turn check before [] = []
-faults_in_turn check before (d ∷ ds) = check before d ++ faults_in_turn check (before ++ d ∷ []) ds
+-- a check of each element, behind what the elements before it write
+abbrev pub faults_in_turn : {A : Type 0} → (List A → Data → Faults) → (Data → A) → List A → List Data → Faults
+faults_in_turn check written before [] = []
+faults_in_turn check written before (d ∷ ds) = check before d ++ faults_in_turn check written (before ++ written d ∷ []) ds
 
 unfoldable pub faults_of_units : Option Data → Faults
 faults_of_units None = MissingKey (codes "units") ∷ []
 faults_of_units (Some (array units)) =
-    unless (within 1 64 (length (data_of units))) (Limit (codes "units")) ++ faults_in_turn unit_faults [] (data_of units)
+    unless (within 1 64 (length (data_of units))) (Limit (codes "units"))
+    ++ faults_in_turn unit_faults text_of [] (data_of units)
 faults_of_units (Some _) = WrongType (codes "units") ∷ []
 
 abbrev pub names_of : Option Data → List (List ℕ)
@@ -96,7 +101,7 @@ unfoldable pub row_words : List ℕ → Option (List ℕ × ℕ)
 row_words text =
     let unit = before_first (λ c. c == 64) text in
     let offset = after_first (λ c. c == 64) text in
-    if list_any (λ c. c == 64) text && is_unit_word unit && within 1 16 (length unit) && nat_lt 0 (length offset) && all_ascii_digits offset
+    if list_any (λ c. c == 64) text && is_unit_name unit && nat_lt 0 (length offset) && all_ascii_digits offset
     then Some (unit, digits_value 10 offset)
     else None
 
@@ -105,26 +110,36 @@ abbrev pub words_in : Data → Option (List ℕ × ℕ)
 words_in (string text) = row_words text
 words_in _ = None
 
--- the two rows are of one unit and at one offset
-abbrev pub same_row : List ℕ × ℕ → Option (List ℕ × ℕ) → Bool
-same_row words None = false
-same_row words (Some others) = same_word words.0 others.0 && (words.1 == others.1)
+-- the row of these words, by the number of its unit
+abbrev pub row_of : List (List ℕ) → Option (List ℕ × ℕ) → Row
+row_of units None = record { unit = 0; offset = 0 }
+row_of units (Some words) = record { unit = unwrap_or (position (same_word words.0) units) 0; offset = words.1 }
 
--- a row behind the ones before it
-abbrev pub faults_of_words : List ℕ → List (List ℕ) → List Data → Option (List ℕ × ℕ) → Faults
+-- the row that an element of an alternative writes
+abbrev pub row_in : List (List ℕ) → Data → Row
+row_in units d = row_of units (words_in d)
+
+-- the two rows are of one unit and at one offset
+abbrev pub same_row : Row → Row → Bool
+same_row row other = (row.unit == other.unit) && (row.offset == other.offset)
+
+-- the words of a row, behind the rows before it
+abbrev pub faults_of_words : List ℕ → List (List ℕ) → List Row → Option (List ℕ × ℕ) → Faults
 faults_of_words path units before None = WrongType path ∷ []
 faults_of_words path units before (Some words) =
     unless (within 0 63 words.1) (Limit (codes "offset"))
     ++ unless (list_any (same_word words.0) units) (UnknownUnit words.0)
-    ++ unless (not (list_any (λ other. same_row words (words_in other)) before)) (RepeatedRow path)
+    ++ unless (not (list_any (λ other. same_row other (row_of units (Some words))) before)) (RepeatedRow path)
 
-unfoldable pub row_faults : List ℕ → List (List ℕ) → List Data → Data → Faults
+-- an element of an alternative, behind the rows before it
+unfoldable pub row_faults : List ℕ → List (List ℕ) → List Row → Data → Faults
 row_faults path units before d = faults_of_words path units before (words_in d)
 
 -- an alternative
 unfoldable pub alternative_faults : List ℕ → List (List ℕ) → Data → Faults
 alternative_faults path units (array rows) =
-    unless (within 1 16 (length (data_of rows))) (Limit (codes "rows")) ++ faults_in_turn (row_faults path units) [] (data_of rows)
+    unless (within 1 16 (length (data_of rows))) (Limit (codes "rows"))
+    ++ faults_in_turn (row_faults path units) (row_in units) [] (data_of rows)
 alternative_faults path units _ = WrongType path ∷ []
 
 unfoldable pub faults_of_alternatives : List ℕ → List (List ℕ) → Option Data → Faults
@@ -134,13 +149,9 @@ faults_of_alternatives path units (Some (array alternatives)) =
     ++ flat_map (alternative_faults path units) (data_of alternatives)
 faults_of_alternatives path units (Some _) = WrongType path ∷ []
 
--- a row, by the number of its unit
-abbrev pub row_of : List (List ℕ) → List ℕ × ℕ → Row
-row_of units words = record { unit = unwrap_or (position (same_word words.0) units) 0; offset = words.1 }
-
 -- the rows of an alternative
 abbrev pub rows_of : List (List ℕ) → Data → List Row
-rows_of units (array rows) = map (row_of units) (filter_map words_in (data_of rows))
+rows_of units (array rows) = map (row_in units) (data_of rows)
 rows_of units _ = []
 
 abbrev pub alternatives_of : List (List ℕ) → Option Data → List (List Row)

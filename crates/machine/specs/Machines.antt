@@ -1,5 +1,6 @@
 -- Machines as data.
-use Rattle.std.specs.Prelude.{◌≡◌, ◌≢◌, ℕ, ◌<◌, ◌≤◌, ◌==◌, nat_lt, ◌&&◌, ◌||◌, Bool, true, false, List, [], ◌∷◌, length, Option, Some, slice_get}
+use Rattle.std.specs.Prelude.{◌≡◌, ◌≢◌, ℕ, ◌<◌, ◌≤◌, ◌==◌, ◌&&◌, ◌||◌, Bool, true, false, List, [], ◌∷◌, length, Option, Some, slice_get}
+use Rattle.std.specs.Char.{is_ascii_lowercase, is_ascii_digit}
 use Rattle.std.specs.List.{All, AllPairs, list_all}
 use Rattle.std.specs.Option.{option_flatten}
 use Rattle.machine.specs.declared.alternative.Row.{Row}
@@ -32,18 +33,14 @@ pub record IsOperation (table : OperationData) : Type 0 where
 abbrev pub UsesUnits : ℕ → OperationData → Type 0
 UsesUnits units table = All (λ rows. All (λ r. r.unit < units) rows) table.alternatives
 
--- a byte that a unit's name may begin with: a lower-case letter
-abbrev pub is_lower : ℕ → Bool
-is_lower c = nat_lt 96 c && nat_lt c 123
-
 -- a byte that a unit's name may go on with: a lower-case letter, a digit or a low line
 abbrev pub is_unit_byte : ℕ → Bool
-is_unit_byte c = is_lower c || (nat_lt 47 c && nat_lt c 58) || (c == 95)
+is_unit_byte c = is_ascii_lowercase c || is_ascii_digit c || (c == 95)
 
--- a unit's name, of any length
+-- a unit's name, of any length: it begins with a lower-case letter
 abbrev pub is_unit_word : List ℕ → Bool
 is_unit_word [] = false
-is_unit_word (c ∷ cs) = is_lower c && list_all is_unit_byte cs
+is_unit_word (c ∷ cs) = is_ascii_lowercase c && list_all is_unit_byte cs
 
 -- a unit's name, of at most 16 bytes
 pub record IsUnitName (name : List ℕ) : Type 0 where

@@ -1,9 +1,9 @@
 //! Why a machine text is refused.
 
-ghost use Rattle.std.specs.Prelude.{◌≡◌, string_bytes};
+ghost use Rattle.std.specs.Prelude.{◌≡◌, string_bytes, IfOk};
 ghost use Rattle.machine.specs.declared.fault.MachineFault.TheVariants.{Memory};
 
-use std::alloc::{AllocError, AllocFailed};
+use std::alloc::{AllocError, AllocFailed, Global};
 use std::fmt;
 use std::marker::Model;
 use thiserror::Error;
@@ -28,6 +28,13 @@ impl Key {
         ensures { result ≡ string_bytes text }
     {
         Key { text }
+    }
+
+    /// A key with a copy of this text.
+    pub(crate) fn of(alloc: Global, text: &str) -> Result<Key, AllocError>
+        ensures { IfOk result (λ key. key ≡ text.now) }
+    {
+        Ok(Key::new(String::from_str(alloc, text)?))
     }
 
     /// The key's text.

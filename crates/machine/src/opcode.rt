@@ -23,24 +23,7 @@ pub enum Opcode {
 }
 
 /// How many opcodes there are.
-pub const OPCODES: usize = 13;
-
-/// The opcodes by their numbers.
-const IN_ORDER: [Opcode; 13] = [
-    Opcode::Load,
-    Opcode::Store,
-    Opcode::Add,
-    Opcode::Sub,
-    Opcode::Mul,
-    Opcode::And,
-    Opcode::Or,
-    Opcode::Xor,
-    Opcode::Min,
-    Opcode::Max,
-    Opcode::Lt,
-    Opcode::Sel,
-    Opcode::Mov,
-];
+pub(crate) const OPCODES: usize = 13;
 
 impl Opcode {
     /// The opcode's word in both texts, as `load`.
@@ -76,9 +59,21 @@ impl Opcode {
     pub fn named(word: &[u8]) -> Option<Opcode>
         ensures { result ≡ opcode_named word.now }
     {
-        IN_ORDER
-            .iter()
-            .copied()
-            .find(|opcode| opcode.word().as_bytes() == word)
+        match word {
+            b"load" => Some(Opcode::Load),
+            b"store" => Some(Opcode::Store),
+            b"add" => Some(Opcode::Add),
+            b"sub" => Some(Opcode::Sub),
+            b"mul" => Some(Opcode::Mul),
+            b"and" => Some(Opcode::And),
+            b"or" => Some(Opcode::Or),
+            b"xor" => Some(Opcode::Xor),
+            b"min" => Some(Opcode::Min),
+            b"max" => Some(Opcode::Max),
+            b"lt" => Some(Opcode::Lt),
+            b"sel" => Some(Opcode::Sel),
+            b"mov" => Some(Opcode::Mov),
+            _ => None,
+        }
     }
 }
