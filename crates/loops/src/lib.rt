@@ -2,6 +2,7 @@
 #![tactic(auto)]
 
 mod fault;
+mod form;
 mod innermost;
 mod lists;
 mod statement;
