@@ -5,7 +5,10 @@ mod fault;
 mod form;
 mod innermost;
 mod lists;
+mod name;
+mod number;
 mod statement;
+mod words;
 
 pub use fault::{LoopFault, LoopFaultKind};
 pub use innermost::Loop;
