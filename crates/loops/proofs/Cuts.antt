@@ -1,5 +1,5 @@
 -- How a text falls into lines and a line into words, at a cut.
-use Rattle.std.proofs.Common.{◌≡◌, ◌==◌, ℕ, suc, ◌+◌, ◌-◌, ◌<◌, ◌≤◌, Bool, true, false, not, List, [], ◌∷◌, length, get_or, take, drop, refl, sym, ◌∙◌, ap, arith}
+use Rattle.std.proofs.Common.{◌≡◌, ◌==◌, ℕ, suc, ◌+◌, ◌-◌, ◌<◌, ◌≤◌, Bool, true, false, List, [], ◌∷◌, length, get_or, take, drop, refl, sym, ◌∙◌, ap, arith}
 use Rattle.std.proofs.lemmas.List.{take_rest, drop_more, take_all, drop_all}
 use Rattle.std.specs.List.{before_first, after_first, position_or_len}
 use Rattle.loops.specs.Words.{is_blank, ends_word, lines_of, onto_first, pieces_of, starts_blank}

@@ -1,5 +1,5 @@
 -- Names, by their first byte and the others.
-use Rattle.std.proofs.Common.{◌≡◌, ◌<◌, ◌-◌, ℕ, Bool, true, false, not, ◌&&◌, List, [], ◌∷◌, length, get_or, take, drop, refl, sym, ◌∙◌, ap}
+use Rattle.std.proofs.Common.{◌≡◌, ◌<◌, ◌-◌, ℕ, true, false, not, ◌&&◌, List, length, get_or, take, drop, ap}
 use Rattle.std.specs.List.{list_all}
 use Rattle.loops.specs.Forms.{is_letter, is_name, is_name_byte, is_reserved, starts_name}
 use Rattle.loops.proofs.Cuts.{head_and_rest}

@@ -1,6 +1,7 @@
 -- The forms that the reader keeps, beside what they stand for.
-use Rattle.std.specs.Prelude.{ℕ, ℤ, List, [], ◌∷◌, ◌++◌, map, Option, Some, None, option_map, unwrap_or, option_to_list}
+use Rattle.std.specs.Prelude.{ℕ, ℤ, List, [], ◌∷◌, ◌++◌, map, Option, Some, None, option_map, unwrap_or, option_to_list, if◌then◌else◌, codes}
 use Rattle.std.specs.Borrow.{Bor}
+use Rattle.machine.specs.Opcodes.{same_word}
 use Rattle.loops.specs.Forms as spec
 use Rattle.loops.specs.Forms.{ints_of}
 use Rattle.loops.specs.Words.{pieces_of}
@@ -20,6 +21,20 @@ use_seen (uses.At name distance) = spec.At name.now distance
 abbrev pub uses_seen : Uses → List spec.Use
 uses_seen u = map use_seen (option_to_list u.first ++ (option_to_list u.second ++ option_to_list u.third))
 
+-- a name and the number behind its `@`
+abbrev pub at_seen : Bor (List ℕ) × Option ℕ → spec.Use
+at_seen x = spec.At x.0.now x.1
+
+-- the guard of a `store`, as a list of the uses behind the value
+abbrev pub guard_seen : Option Use → List spec.Use
+guard_seen guard = map use_seen (option_to_list guard)
+
+-- the guard that words are: none, or `if` and a use
+abbrev pub guard_of : List (List ℕ) → Option (List spec.Use)
+guard_of [] = Some []
+guard_of (word ∷ guard ∷ []) = if same_word word (codes "if") then spec.uses_of (guard ∷ []) else None
+guard_of _ = None
+
 abbrev pub subscript_seen : Subscript → spec.Subscript
 subscript_seen s = record { array = s.array.now; offset = s.offset }
 
@@ -30,6 +45,10 @@ source_seen s = record {
   place = option_map subscript_seen s.place;
   uses = uses_seen s.uses;
 }
+
+-- the form of a line that is this statement, if it is one
+abbrev pub source_form : Option Source → spec.Form
+source_form source = spec.formed (option_map (λ s. spec.StatementLine (source_seen s)) source)
 
 -- the integers that a rest of a line writes
 abbrev pub cells_seen : List ℕ → List (Option ℤ)

@@ -21,6 +21,7 @@ abbrev pub ends_word : List ℕ → Bool
 ends_word [] = true
 ends_word (c ∷ cs) = is_blank c
 
+-- what begins with a blank
 abbrev pub starts_blank : List ℕ → Bool
 starts_blank [] = false
 starts_blank (c ∷ cs) = is_blank c

@@ -7,6 +7,7 @@ mod innermost;
 mod lists;
 mod name;
 mod number;
+mod operand;
 mod statement;
 mod words;
 

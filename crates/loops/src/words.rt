@@ -1,7 +1,7 @@
 //! Lines of a text and words of a line.
 
-ghost use Rattle.std.specs.Prelude.{◌≡◌, ◌≢◌, ◌==◌, ◌<◌, ℕ, List, [], ◌∷◌, length, false, MatchOption};
-ghost use Rattle.std.specs.List.{before_first, position_or_len};
+ghost use Rattle.std.specs.Prelude.{◌≡◌, ◌≢◌, ◌==◌, ◌-◌, ◌<◌, ◌&&◌, nat_lt, ℕ, List, [], ◌∷◌, length, take, slice_index, false, true, MatchOption};
+ghost use Rattle.std.specs.List.{before_first, after_first, position_or_len};
 ghost use Rattle.machine.specs.Opcodes.{same_word};
 ghost use Rattle.loops.specs.Words.{is_blank, lines_of, pieces_of, starts_blank};
 
@@ -22,6 +22,18 @@ pub(crate) fn after_byte(bytes: &[u8], byte: u8) -> Option<&[u8]>
     }
 }
 
+/// What stands before this byte, where the bytes end with it.
+pub(crate) fn before_byte(bytes: &[u8], byte: u8) -> Option<&[u8]>
+    ensures { MatchOption result
+        ((nat_lt 0 (length bytes.now) && (slice_index bytes.now (length bytes.now - 1) == byte)) ≡ false)
+        (λ x. ((nat_lt 0 (length bytes.now) && (slice_index bytes.now (length bytes.now - 1) == byte)) ≡ true) × (x.now ≡ take (length bytes.now - 1) bytes.now)) }
+{
+    match bytes {
+        [inner @ .., last] if *last == byte => Some(inner),
+        _ => None,
+    }
+}
+
 /// How many bytes stand before the first one of this value: all of them where it is not there.
 pub(crate) fn count_before(text: &[u8], byte: u8) -> usize
     ensures { result ≡ position_or_len (λ c. c == byte) text.now }
@@ -32,6 +44,22 @@ pub(crate) fn count_before(text: &[u8], byte: u8) -> usize
         }
     }
     text.len()
+}
+
+/// What stands before the first byte of this value, and what follows it.
+pub(crate) fn split_at_byte(text: &[u8], byte: u8) -> Option<(&[u8], &[u8])>
+    ensures { MatchOption result
+        (position_or_len (λ c. c == byte) text.now ≡ length text.now)
+        (λ x. (position_or_len (λ c. c == byte) text.now < length text.now)
+        × (x.0.now ≡ before_first (λ c. c == byte) text.now)
+        × (x.1.now ≡ after_first (λ c. c == byte) text.now)) }
+{
+    let end = count_before(text, byte);
+    if end < text.len() {
+        Some((&text[..end], &text[end + 1..]))
+    } else {
+        None
+    }
 }
 
 /// The first line of a text that is not empty, and what follows it.

@@ -1,5 +1,5 @@
 use Rattle.std.proofs.Common.{◌∙◌, sym, arith}
-use Rattle.loops.proofs.Names.{starts_name-letter, starts_name-other}
+use Rattle.loops.proofs.Names.{starts_name-letter}
 use Rattle.loops.proofs.name.starts_name.Goals as goal
 
 pub returns-then-is_letter : goal.returns-then-is_letter

@@ -1,4 +1,4 @@
-use Rattle.std.proofs.Common.{◌≡◌, ◌∙◌, sym}
+use Rattle.std.proofs.Common.{◌∙◌, sym}
 use Rattle.loops.proofs.Numbers.{int_of-minus, int_of-plain, minus_is, plus_is, no_number, number_made}
 use Rattle.loops.proofs.number.int_of.Goals as goal
 

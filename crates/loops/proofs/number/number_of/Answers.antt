@@ -1,4 +1,4 @@
-use Rattle.std.proofs.Common.{◌≡◌, ◌∙◌, ◌<◌, ◌≤◌, ℕ, true, arith, rules, get_or, length, not}
+use Rattle.std.proofs.Common.{◌≡◌, ◌<◌, true, arith, rules, get_or, length}
 use Rattle.std.proofs.lemmas.Bool.Decides.{nat_tests}
 use Rattle.std.specs.Char.{is_ascii_digit}
 use Rattle.loops.proofs.Numbers.{digits_step, value_step, number_end}

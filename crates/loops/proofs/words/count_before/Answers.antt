@@ -1,4 +1,4 @@
-use Rattle.std.proofs.Common.{◌==◌, ◌<◌, ◌≤◌, ℕ, arith, sym, refl, eq-eqb}
+use Rattle.std.proofs.Common.{◌==◌, arith, sym, eq-eqb}
 use Rattle.std.proofs.lemmas.List.Sums.{position_or_len_is}
 use Rattle.loops.proofs.words.count_before.Goals as goal
 

@@ -1,4 +1,4 @@
-use Rattle.std.proofs.Common.{◌==◌, ◌<◌, ◌≤◌, ◌∙◌, ℕ, arith, sym, refl}
+use Rattle.std.proofs.Common.{◌∙◌, arith, sym}
 use Rattle.std.proofs.lemmas.List.Sums.{position_or_len_is}
 use Rattle.loops.specs.Words.{is_blank}
 use Rattle.loops.proofs.words.count_unblank.Goals as goal
