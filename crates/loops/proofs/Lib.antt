@@ -1,5 +1,4 @@
+pub mod AtSigns
 pub mod Cuts
-pub mod Names
 pub mod Numbers
 pub mod Stores
-pub mod Uses

@@ -89,6 +89,7 @@ fn form_from<'a>(word: &'a [u8], rest: &'a [u8]) -> Form<'a>
     }
 }
 
+/// The line of a statement, if it is one.
 fn statement_line(source: Option<Source<'_>>) -> Form<'_>
     ensures { form_seen result ≡ source_form source.entry }
 {
@@ -195,6 +196,7 @@ fn init_line(rest: &[u8]) -> Form<'_>
 }
 
 /// `store NAME[SUB] USE`, and `store NAME[SUB] USE if USE`
+#[tactic(auto, using(crate::proofs::Stores::no_guard, crate::proofs::Stores::no_uses, crate::proofs::Stores::last_nothing, crate::proofs::Stores::store_by_parts))]
 fn store_source(rest: &[u8]) -> Option<Source<'_>>
     ensures { source_form result ≡ store_line (pieces_of rest.now) }
 {

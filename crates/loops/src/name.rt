@@ -6,12 +6,14 @@ ghost use Rattle.loops.specs.Forms.{is_letter, is_name, is_name_byte, is_reserve
 
 use crate::words::is_text;
 
+/// A letter or `_`.
 fn is_letter(byte: u8) -> bool
     ensures { result ≡ is_letter byte }
 {
     byte.is_ascii_alphabetic() || byte == b'_'
 }
 
+/// A letter, a digit or `_`.
 fn is_name_byte(byte: u8) -> bool
     ensures { result ≡ is_name_byte byte }
 {
@@ -25,6 +27,7 @@ fn are_name_bytes(bytes: &[u8]) -> bool
 }
 
 /// A letter or `_`, then letters, digits and `_`.
+#[tactic(auto, using(crate::proofs::Cuts::head_and_rest))]
 fn starts_name(word: &[u8]) -> bool
     ensures { result ≡ starts_name word.now }
 {
@@ -59,6 +62,7 @@ fn is_reserved(word: &[u8]) -> bool
 }
 
 /// The word is a name: a letter or `_`, then letters, digits and `_`, and not reserved.
+#[tactic(auto, unfolding(crate::specs::Forms::is_name))]
 pub(crate) fn is_name(word: &[u8]) -> bool
     ensures { result ≡ is_name word.now }
 {

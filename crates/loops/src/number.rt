@@ -29,6 +29,7 @@ fn number_of(word: &[u8]) -> Option<u64>
 
 /// An integer's value: the outer `Option` is whether the word is one, the inner is `None` outside 64
 /// bits.
+#[tactic(auto, using(crate::proofs::Numbers::minus_is, crate::proofs::Numbers::plus_is), unfolding(crate::specs::Forms::int_of))]
 pub(crate) fn int_of(word: &[u8]) -> Option<Option<i64>>
     ensures { result ≡ int_of word.now }
 {
@@ -65,6 +66,7 @@ fn offset_of(negative: bool, digits: &[u8]) -> Option<Option<i8>>
 }
 
 /// The constant of a subscript `i`, `i+NUM` or `i-NUM`: the inner `Option` is `None` outside -64 to 64.
+#[tactic(auto, unfolding(crate::specs::Forms::subscript_of))]
 pub(crate) fn subscript_of(word: &[u8]) -> Option<Option<i8>>
     ensures { result ≡ subscript_of word.now }
 {

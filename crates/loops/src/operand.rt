@@ -15,6 +15,7 @@ use crate::words::{
 use machine::Opcode;
 
 /// The name and the number of `NAME@NUM`. A number above 16 is `None`.
+#[tactic(auto, using(crate::proofs::AtSigns::any_there))]
 pub(crate) fn at_of(word: &[u8]) -> Option<(&[u8], Option<u8>)>
     ensures { option_map at_seen result
         ≡ (if list_any (λ c. c == 64) word.now then at_of (before_first (λ c. c == 64) word.now) (after_first (λ c. c == 64) word.now) else None) }
@@ -29,6 +30,7 @@ pub(crate) fn at_of(word: &[u8]) -> Option<(&[u8], Option<u8>)>
 }
 
 /// A use: an integer, a name or `NAME@NUM`.
+#[tactic(auto, using(crate::proofs::AtSigns::name_has_no_at), unfolding(crate::specs::Forms::use_of))]
 pub(crate) fn use_of(word: &[u8]) -> Option<Use<'_>>
     ensures { option_map use_seen result ≡ use_of word.now }
 {
@@ -46,6 +48,7 @@ pub(crate) fn use_of(word: &[u8]) -> Option<Use<'_>>
 }
 
 /// A place: `NAME[SUB]`.
+#[tactic(auto, unfolding(crate::specs::Forms::place_of))]
 pub(crate) fn place_of(word: &[u8]) -> Option<Subscript<'_>>
     ensures { option_map subscript_seen result ≡ place_of word.now }
 {

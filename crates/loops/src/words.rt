@@ -7,7 +7,8 @@ ghost use Rattle.loops.specs.Words.{is_blank, lines_of, pieces_of, starts_blank}
 
 /// The bytes are those of this text.
 pub(crate) fn is_text(bytes: &[u8], text: &str) -> bool
-    ensures { result ≡ same_word bytes.now text.now }
+    ensures value { result ≡ same_word bytes.now text.now }
+    ensures turned { result ≡ same_word text.now bytes.now }
 {
     bytes == text.as_bytes()
 }
@@ -63,9 +64,10 @@ pub(crate) fn split_at_byte(text: &[u8], byte: u8) -> Option<(&[u8], &[u8])>
 }
 
 /// The first line of a text that is not empty, and what follows it.
+#[tactic(auto, using(crate::proofs::Cuts::line_taken, crate::proofs::Cuts::line_whole))]
 pub(crate) fn next_line(text: &[u8]) -> (&[u8], &[u8])
     requires { 0 < length text.now }
-    ensures line { lines_of text.now ≡ result.0.now ∷ lines_of result.1.now }
+    ensures lines { lines_of text.now ≡ result.0.now ∷ lines_of result.1.now }
     ensures shorter { length result.1.now < length text.now }
 {
     let end = count_before(text, b'\n');
@@ -83,6 +85,7 @@ pub(crate) fn without_comment(line: &[u8]) -> &[u8]
     &line[..count_before(line, b'#')]
 }
 
+/// A space, a tab or a carriage return.
 fn is_blank(byte: u8) -> bool
     ensures { result ≡ is_blank byte }
 {
