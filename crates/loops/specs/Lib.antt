@@ -2,4 +2,5 @@ pub use Rattle.machine.specs.Opcodes
 pub mod Forms
 pub mod Loops
 pub mod Meaning
+pub mod Parsed
 pub mod Words

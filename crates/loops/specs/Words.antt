@@ -1,5 +1,5 @@
 -- How a loop text is cut into lines, and a line into words.
-use Rattle.std.specs.Prelude.{ℕ, ◌==◌, ◌||◌, Bool, true, if◌then◌else◌, List, [], ◌∷◌}
+use Rattle.std.specs.Prelude.{ℕ, ◌==◌, ◌||◌, Bool, true, false, if◌then◌else◌, List, [], ◌∷◌}
 use Rattle.std.specs.List.{before_first}
 
 -- a byte in front of the first piece
@@ -20,6 +20,11 @@ is_blank c = (c == 32) || (c == 9) || (c == 13)
 abbrev pub ends_word : List ℕ → Bool
 ends_word [] = true
 ends_word (c ∷ cs) = is_blank c
+
+-- what begins with a blank
+abbrev pub starts_blank : List ℕ → Bool
+starts_blank [] = false
+starts_blank (c ∷ cs) = is_blank c
 
 -- the words of a line without its comment
 abbrev pub pieces_of : List ℕ → List (List ℕ)

@@ -2,9 +2,14 @@
 #![tactic(auto)]
 
 mod fault;
+mod form;
 mod innermost;
 mod lists;
+mod name;
+mod number;
+mod operand;
 mod statement;
+mod words;
 
 pub use fault::{LoopFault, LoopFaultKind};
 pub use innermost::Loop;

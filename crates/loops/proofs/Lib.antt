@@ -1,0 +1,4 @@
+pub mod AtSigns
+pub mod Cuts
+pub mod Numbers
+pub mod Stores

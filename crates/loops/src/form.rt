@@ -1,0 +1,263 @@
+//! The form of a line, by its words alone.
+
+ghost use Rattle.std.specs.Prelude.{◌≡◌, if◌then◌else◌, is_some, option_map};
+ghost use Rattle.loops.specs.Forms.{Malformed, array_line, compute_line, end_line, form_of, init_line, ints_of, is_memory, line_form, load_line, loop_line, out_line, param_line, store_line, value_line};
+ghost use Rattle.loops.specs.Parsed.{form_seen, source_form};
+ghost use Rattle.loops.specs.Words.{pieces_of, words_of};
+
+use crate::name::is_name;
+use crate::number::int_of;
+use crate::operand::{at_of, guard_of, place_of, use_of, uses_of};
+use crate::words::{is_text, next_word, one_word, three_words, without_comment};
+use machine::Opcode;
+
+/// A use of a statement. Numbers outside their limits are `None`.
+#[derive(Clone, Copy)]
+pub(crate) enum Use<'a> {
+    Number(Option<i64>),
+    Plain(&'a [u8]),
+    At(&'a [u8], Option<u8>),
+}
+
+/// An array's name and the constant of a subscript.
+#[derive(Clone, Copy)]
+pub(crate) struct Subscript<'a> {
+    pub(crate) array: &'a [u8],
+    pub(crate) offset: Option<i8>,
+}
+
+/// The uses of a statement, from the left on: behind a `None` stand no others.
+#[derive(Clone, Copy)]
+pub(crate) struct Uses<'a> {
+    pub(crate) first: Option<Use<'a>>,
+    pub(crate) second: Option<Use<'a>>,
+    pub(crate) third: Option<Use<'a>>,
+}
+
+/// A statement by its words.
+#[derive(Clone, Copy)]
+pub(crate) struct Source<'a> {
+    pub(crate) opcode: Opcode,
+    pub(crate) name: Option<&'a [u8]>,
+    pub(crate) place: Option<Subscript<'a>>,
+    pub(crate) uses: Uses<'a>,
+}
+
+/// A line that has words.
+#[derive(Clone, Copy)]
+pub(crate) enum Form<'a> {
+    Loop(&'a [u8]),
+    /// The name, and the rest of the line behind `=`, whose words are integers.
+    Array(&'a [u8], &'a [u8]),
+    Param(&'a [u8], Option<i64>),
+    Init(&'a [u8], Option<u8>, Option<i64>),
+    Statement(Source<'a>),
+    Out(&'a [u8]),
+    End,
+    Malformed,
+}
+
+/// The form of a line, which has none where it has no words.
+pub(crate) fn form_of(line: &[u8]) -> Option<Form<'_>>
+    ensures { option_map form_seen result ≡ line_form (words_of line.now) }
+{
+    let (word, rest) = next_word(without_comment(line))?;
+    Some(form_from(word, rest))
+}
+
+/// The form of a line by its first word and the rest.
+#[tactic(auto, unfolding(crate::specs::Forms::form_of))]
+fn form_from<'a>(word: &'a [u8], rest: &'a [u8]) -> Form<'a>
+    ensures { form_seen result ≡ form_of word.now (pieces_of rest.now) }
+{
+    if is_text(word, "loop") {
+        loop_line(rest)
+    } else if is_text(word, "array") {
+        array_line(rest)
+    } else if is_text(word, "param") {
+        param_line(rest)
+    } else if is_text(word, "init") {
+        init_line(rest)
+    } else if is_text(word, "store") {
+        statement_line(store_source(rest))
+    } else if is_text(word, "out") {
+        out_line(rest)
+    } else if is_text(word, "end") {
+        end_line(rest)
+    } else {
+        statement_line(value_source(word, rest))
+    }
+}
+
+/// The line of a statement, if it is one.
+fn statement_line(source: Option<Source<'_>>) -> Form<'_>
+    ensures { form_seen result ≡ source_form source.entry }
+{
+    match source {
+        Some(source) => Form::Statement(source),
+        None => Form::Malformed,
+    }
+}
+
+/// `loop NAME`
+fn loop_line(rest: &[u8]) -> Form<'_>
+    ensures { form_seen result ≡ loop_line (pieces_of rest.now) }
+{
+    match one_word(rest) {
+        Some(name) if is_name(name) => Form::Loop(name),
+        _ => Form::Malformed,
+    }
+}
+
+/// `out NAME`
+fn out_line(rest: &[u8]) -> Form<'_>
+    ensures { form_seen result ≡ out_line (pieces_of rest.now) }
+{
+    match one_word(rest) {
+        Some(name) if is_name(name) => Form::Out(name),
+        _ => Form::Malformed,
+    }
+}
+
+/// `end`
+fn end_line(rest: &[u8]) -> Form<'_>
+    ensures { form_seen result ≡ end_line (pieces_of rest.now) }
+{
+    match next_word(rest) {
+        None => Form::End,
+        Some(_) => Form::Malformed,
+    }
+}
+
+/// The words are integers.
+fn are_ints(words: &[u8]) -> bool
+    ensures { result ≡ is_some (ints_of (pieces_of words.now)) }
+{
+    let mut rest = words;
+    while let Some((word, more)) = next_word(rest) {
+        if int_of(word).is_none() {
+            return false;
+        }
+        rest = more;
+    }
+    true
+}
+
+/// `array NAME = INT INT ..`
+fn array_line(rest: &[u8]) -> Form<'_>
+    ensures { form_seen result ≡ array_line (pieces_of rest.now) }
+{
+    let Some((name, rest)) = next_word(rest) else {
+        return Form::Malformed;
+    };
+    let Some((equals, cells)) = next_word(rest) else {
+        return Form::Malformed;
+    };
+    if is_name(name) && is_text(equals, "=") && are_ints(cells) {
+        Form::Array(name, cells)
+    } else {
+        Form::Malformed
+    }
+}
+
+/// `param NAME = INT`
+fn param_line(rest: &[u8]) -> Form<'_>
+    ensures { form_seen result ≡ param_line (pieces_of rest.now) }
+{
+    let Some((name, equals, value)) = three_words(rest) else {
+        return Form::Malformed;
+    };
+    if !is_name(name) || !is_text(equals, "=") {
+        return Form::Malformed;
+    }
+    match int_of(value) {
+        Some(value) => Form::Param(name, value),
+        None => Form::Malformed,
+    }
+}
+
+/// `init NAME@NUM = INT`
+fn init_line(rest: &[u8]) -> Form<'_>
+    ensures { form_seen result ≡ init_line (pieces_of rest.now) }
+{
+    let Some((what, equals, value)) = three_words(rest) else {
+        return Form::Malformed;
+    };
+    if !is_text(equals, "=") {
+        return Form::Malformed;
+    }
+    let Some((name, number)) = at_of(what) else {
+        return Form::Malformed;
+    };
+    match int_of(value) {
+        Some(value) => Form::Init(name, number, value),
+        None => Form::Malformed,
+    }
+}
+
+/// `store NAME[SUB] USE`, and `store NAME[SUB] USE if USE`
+#[tactic(auto, using(crate::proofs::Stores::no_guard, crate::proofs::Stores::no_uses, crate::proofs::Stores::last_nothing, crate::proofs::Stores::store_by_parts))]
+fn store_source(rest: &[u8]) -> Option<Source<'_>>
+    ensures { source_form result ≡ store_line (pieces_of rest.now) }
+{
+    let (place, rest) = next_word(rest)?;
+    let (value, rest) = next_word(rest)?;
+    let place = place_of(place)?;
+    let value = use_of(value)?;
+    let guard = guard_of(rest)?;
+    Some(Source {
+        opcode: Opcode::Store,
+        name: None,
+        place: Some(place),
+        uses: Uses {
+            first: Some(value),
+            second: guard,
+            third: None,
+        },
+    })
+}
+
+/// A statement that gives a value.
+fn value_source<'a>(name: &'a [u8], rest: &'a [u8]) -> Option<Source<'a>>
+    ensures { source_form result ≡ value_line name.now (pieces_of rest.now) }
+{
+    let (equals, rest) = next_word(rest)?;
+    let (opcode, rest) = next_word(rest)?;
+    if !is_name(name) || !is_text(equals, "=") {
+        return None;
+    }
+    match Opcode::named(opcode)? {
+        Opcode::Load => load_source(name, rest),
+        opcode => compute_source(name, opcode, rest),
+    }
+}
+
+/// `NAME = load NAME[SUB]`
+fn load_source<'a>(name: &'a [u8], rest: &'a [u8]) -> Option<Source<'a>>
+    ensures { source_form result ≡ load_line name.now (pieces_of rest.now) }
+{
+    let place = place_of(one_word(rest)?)?;
+    Some(Source {
+        opcode: Opcode::Load,
+        name: Some(name),
+        place: Some(place),
+        uses: Uses {
+            first: None,
+            second: None,
+            third: None,
+        },
+    })
+}
+
+/// `NAME = OP USE ..`, with as many uses as the opcode takes
+fn compute_source<'a>(name: &'a [u8], opcode: Opcode, rest: &'a [u8]) -> Option<Source<'a>>
+    ensures { source_form result ≡ (if is_memory opcode then Malformed else compute_line name.now opcode (pieces_of rest.now)) }
+{
+    let uses = uses_of(opcode, rest)?;
+    Some(Source {
+        opcode,
+        name: Some(name),
+        place: None,
+        uses,
+    })
+}
