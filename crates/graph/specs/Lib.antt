@@ -4,4 +4,5 @@ pub mod Answers
 pub mod Dependences
 pub mod Schedules
 pub mod Units
+pub mod Uses
 pub mod Walks

@@ -2,5 +2,7 @@
 #![tactic(auto)]
 
 mod fault;
+mod units;
 
 pub use fault::GraphFault;
+pub use units::res_mii;

@@ -1,0 +1,6 @@
+pub mod Best
+pub mod Chosen
+pub mod Passes
+pub mod Pigeons
+pub mod Tally
+pub mod UnitBound
