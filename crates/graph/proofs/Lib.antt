@@ -1,5 +1,10 @@
 pub mod Best
 pub mod Chosen
+pub mod Found
+pub mod GraphOf
+pub mod Instances
+pub mod Latencies
+pub mod Order
 pub mod Passes
 pub mod Pigeons
 pub mod Tally
