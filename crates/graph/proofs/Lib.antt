@@ -1,0 +1,11 @@
+pub mod Best
+pub mod Chosen
+pub mod Found
+pub mod GraphOf
+pub mod Instances
+pub mod Latencies
+pub mod Order
+pub mod Passes
+pub mod Pigeons
+pub mod Tally
+pub mod UnitBound

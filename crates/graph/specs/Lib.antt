@@ -1,0 +1,10 @@
+pub use Rattle.loops.specs.Loops
+pub use Rattle.machine.specs.Machines
+pub mod Answers
+pub mod Dependences
+pub mod Graphs
+pub mod Schedules
+pub mod Subscripts
+pub mod Units
+pub mod Uses
+pub mod Walks

@@ -1,0 +1,126 @@
+//! The resource-constrained lower bound of the initiation interval.
+
+ghost use Rattle.std.specs.Prelude.{◌≡◌, ◌≢◌, ℕ, ◌+◌, ◌*◌, ◌-◌, ◌^◌, ◌<◌, ◌≤◌, ◌==◌, List, ◌++◌, length, filter, take, IfOk, IfErr, Option};
+ghost use Rattle.std.specs.List.{All};
+ghost use Rattle.machine.specs.declared.alternative.Row.{Row};
+ghost use Rattle.machine.specs.Alternative.{AreAlternatives};
+ghost use Rattle.machine.specs.Machines.{IsMachine};
+ghost use Rattle.loops.specs.Loops.{IsLoop};
+ghost use Rattle.graph.specs.Answers.{Answers};
+ghost use Rattle.graph.specs.Units.{first_without_table, operations_of, IsUnitBound};
+ghost use Rattle.graph.specs.Uses.{AtMost, Tallies, TakesBest, Progress, IsBelowLawful};
+
+use crate::fault::GraphFault;
+use loops::Loop;
+use machine::{Alternative, Machine, Opcode, Row};
+
+/// How many rows use each unit, and the use of the most used unit.
+#[derive(Clone, Copy)]
+struct Uses {
+    counts: [u16; 64],
+    greatest: u16,
+}
+
+impl Uses {
+    /// These uses with the rows taken on.
+    fn with(self, rows: &[Row]) -> Uses
+        requires units { All (λ r. r.unit < 64) rows.now }
+        requires few { length rows.now ≤ 16 }
+        requires room { AtMost 60000 self.counts }
+        ensures tallied { (taken : List Row) → Tallies taken self.counts self.greatest → Tallies (taken ++ rows.now) result.counts result.greatest }
+        ensures grown { (bound : ℕ) → AtMost bound self.counts → AtMost (bound + 16) result.counts }
+    {
+        let mut counts = self.counts;
+        let mut greatest = self.greatest;
+        for row in rows {
+            let unit = row.unit as usize;
+            let count = counts[unit] + 1;
+            counts[unit] = count;
+            greatest = greatest.max(count);
+        }
+        Uses { counts, greatest }
+    }
+
+    /// These uses with the alternative taken on that leaves the most used unit with the lowest use,
+    /// the first of several.
+    fn with_best(self, alternatives: &[Alternative]) -> Uses
+        requires well_formed { AreAlternatives alternatives.now }
+        requires room { AtMost 60000 self.counts }
+        ensures best { (taken : List Row) → Tallies taken self.counts self.greatest → TakesBest taken alternatives.now result.counts result.greatest }
+        ensures grown { (bound : ℕ) → AtMost bound self.counts → AtMost (bound + 16) result.counts }
+    {
+        let mut best = self.with(alternatives[0].rows());
+        for alternative in &alternatives[1..] {
+            let tried = self.with(alternative.rows());
+            if tried.greatest < best.greatest {
+                best = tried;
+            }
+        }
+        best
+    }
+
+    /// These uses with all operations taken on that have so many alternatives, in text order.
+    fn with_operations(self, machine: &Machine, innermost: &Loop, freedom: usize) -> Uses
+        requires some { 0 < freedom }
+        requires few { freedom ≤ 8 }
+        requires room { AtMost (2048 * (freedom - 1)) self.counts }
+        ensures taken { (done : List (List (List Row))) → Progress done self.counts self.greatest
+            → Progress (done ++ filter (λ alternatives. length alternatives == freedom) (operations_of machine.now innermost.now)) result.counts result.greatest }
+        ensures grown { AtMost (2048 * freedom) result.counts }
+        ensures machine { IsMachine machine.now }
+        ensures innermost { IsLoop innermost.now }
+    {
+        let mut uses = self;
+        for statement in innermost.statements() {
+            if let Some(table) = machine.table(statement.opcode) {
+                let alternatives = table.alternatives().as_slice();
+                if alternatives.len() == freedom {
+                    uses = uses.with_best(alternatives);
+                }
+            }
+        }
+        uses
+    }
+}
+
+/// The opcode of the first statement whose opcode the machine has no table for.
+fn missing_table(machine: &Machine, innermost: &Loop) -> Option<Opcode>
+    ensures { result ≡ first_without_table machine.now innermost.now }
+{
+    innermost
+        .statements()
+        .iter()
+        .map(|statement| statement.opcode)
+        .find(|opcode| machine.table(*opcode).is_none())
+}
+
+/// The resource-constrained lower bound of a loop's initiation interval on a machine, in cycles, 1 to
+/// 2,048: ResMII of B. R. Rau, "Iterative Modulo Scheduling", HPL-94-115.
+///
+/// The operations are taken by increasing number of alternatives, those of one number in text order.
+/// Each takes the alternative that leaves the most used unit with the lowest use, the first of
+/// several. The use of the most used unit at the end is the bound. Where every operation has one
+/// alternative, no schedule that keeps the units has a smaller interval.
+///
+/// # Errors
+/// [`GraphFault::NoTable`] for the first statement whose opcode the machine has no table for. No
+/// memory is taken.
+pub fn res_mii(machine: &Machine, innermost: &Loop) -> Result<u64, GraphFault>
+    ensures exact { Answers (first_without_table machine.now innermost.now) (IsUnitBound (operations_of machine.now innermost.now)) result }
+    ensures below { IfOk result (IsBelowLawful (operations_of machine.now innermost.now)) }
+    ensures from_one { IfOk result (λ bound. 1 ≤ bound) }
+    ensures range { IfOk result (λ bound. bound ≤ 2048) }
+    ensures no_memory { IfErr result (λ fault. fault ≢ GraphFault.Memory) }
+{
+    if let Some(opcode) = missing_table(machine, innermost) {
+        return Err(GraphFault::NoTable(opcode));
+    }
+    let mut uses = Uses {
+        counts: [0; 64],
+        greatest: 0,
+    };
+    for freedom in 1..=8 {
+        uses = uses.with_operations(machine, innermost, freedom);
+    }
+    Ok(u64::from(uses.greatest))
+}
