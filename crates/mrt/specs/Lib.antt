@@ -1,0 +1,2 @@
+pub use Rattle.machine.specs.Alternative
+pub mod Placements
