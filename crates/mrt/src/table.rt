@@ -30,6 +30,10 @@ pub trait ModuloTable: Drop {
         ensures operations { IfOk result (λ table. operations table ≡ alternatives.now) }
         ensures interval { IfOk result (λ table. interval table ≡ ii) };
 
+    /// The initiation interval, in cycles.
+    fn ii(&self) -> u64
+        ensures { result ≡ interval self.now };
+
     /// The first alternative by which an operation can be issued at a time: it does not collide with
     /// itself, and meets no placed operation.
     fn free(&self, op: usize, time: u64) -> Option<usize>
@@ -70,5 +74,13 @@ pub trait ModuloTable: Drop {
     fn first_free(&self, op: usize, start: u64) -> Option<(u64, usize)>
         requires there { op < length (operations self.now) }
         requires time { start + interval self.now ≤ 2 ^ 32 }
-        ensures { IsFirstSlot (interval self.now) (operations self.now) (placed self.now) op start result };
+        ensures { IsFirstSlot (interval self.now) (operations self.now) (placed self.now) op start result }
+    {
+        for time in start..start + self.ii() {
+            if let Some(alternative) = self.free(op, time) {
+                return Some((time, alternative));
+            }
+        }
+        None
+    }
 }
