@@ -1,2 +1,4 @@
 pub use Rattle.machine.specs.Alternative
 pub mod Placements
+pub mod Slots
+pub mod Choices

@@ -2,6 +2,8 @@
 //! interval.
 #![tactic(auto)]
 
+mod choices;
+mod slot;
 mod table;
 
 pub use table::ModuloTable;
