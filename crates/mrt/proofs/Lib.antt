@@ -1,3 +1,4 @@
 pub mod Residues
 pub mod Lists
 pub mod Choosing
+pub mod Rostering

@@ -1,6 +1,6 @@
 -- Parts of a list that grows, and tests of a mapped list.
-use Rattle.std.proofs.Common.{◌≡◌, ℕ, ◌+◌, ◌-◌, ◌<◌, ◌≤◌, Bool, true, ◌||◌, List, [], ◌∷◌, ◌++◌, length, get_or, map, take, drop, refl, sym, ap, ◌∙◌, subst, arith, length-drop}
-use Rattle.std.specs.List.{list_any, slice_range}
+use Rattle.std.proofs.Common.{zero, suc, ◌≢◌, set, Option, Some, ◌≡◌, ℕ, ◌+◌, ◌-◌, ◌<◌, ◌≤◌, Bool, true, ◌||◌, List, [], ◌∷◌, ◌++◌, length, get_or, map, take, drop, refl, sym, ap, ◌∙◌, subst, arith, length-drop}
+use Rattle.std.specs.List.{list_any, slice_get, slice_range}
 use Rattle.std.proofs.lemmas.List.{take-append-drop, take-append-le, drop-append-le, take_rest, get_or_default}
 use Rattle.std.proofs.lemmas.List.Folds.{Any-from_list_any}
 
@@ -23,3 +23,15 @@ pub slice_range_kept : {X : Type 0} (xs ys : List X) (i j : ℕ) → take (lengt
 slice_range_kept xs ys i j e o h =
     let whole : ys ≡ xs ++ drop (length xs) ys = sym (take-append-drop (length xs) ys) ∙ ap (λ zs. zs ++ drop (length xs) ys) e in
     ap (λ zs. slice_range zs i j) whole ∙ slice_range-append xs (drop (length xs) ys) i j o h
+
+pub slice_get-set_same : {X : Type 0} (xs : List X) (i : ℕ) (x : X) → i < length xs → slice_get (set xs i x) i ≡ Some x
+slice_get-set_same [] i x lt = absurd (omega arith)
+slice_get-set_same (y ∷ xs) zero x lt = refl
+slice_get-set_same (y ∷ xs) (suc i) x lt = slice_get-set_same xs i x (omega arith)
+
+pub slice_get-set_other : {X : Type 0} (xs : List X) (i j : ℕ) (x : X) → j ≢ i → slice_get (set xs i x) j ≡ slice_get xs j
+slice_get-set_other [] i j x ne = refl
+slice_get-set_other (y ∷ xs) zero zero x ne = absurd (ne refl)
+slice_get-set_other (y ∷ xs) zero (suc j) x ne = refl
+slice_get-set_other (y ∷ xs) (suc i) zero x ne = refl
+slice_get-set_other (y ∷ xs) (suc i) (suc j) x ne = slice_get-set_other xs i j x (λ e. ne (ap suc e))

@@ -2,3 +2,4 @@ pub use Rattle.machine.specs.Alternative
 pub mod Placements
 pub mod Slots
 pub mod Choices
+pub mod Rosters

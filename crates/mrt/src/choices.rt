@@ -86,7 +86,7 @@ impl Choices {
         &self.slots[span.start..span.end]
     }
 
-    /// Adds an alternative. Where memory runs out, the alternatives stay as they were.
+    /// Adds an alternative.
     pub(crate) fn push(&mut self, rows: &[Row]) -> Result<(), OutOfMemory>
         requires { IsAlternative rows.now }
         ensures interval { self.new.interval ≡ self.old.interval }

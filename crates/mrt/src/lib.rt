@@ -3,6 +3,7 @@
 #![tactic(auto)]
 
 mod choices;
+mod roster;
 mod slot;
 mod table;
 
