@@ -2,3 +2,5 @@ pub mod Residues
 pub mod Lists
 pub mod Choosing
 pub mod Rostering
+pub mod Taking
+pub mod Marking

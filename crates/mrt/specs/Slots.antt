@@ -1,5 +1,5 @@
 -- Rows as a table at one interval reads them, and the slots that are taken.
-use Rattle.std.specs.Prelude.{◌≡◌, ℕ, ◌%◌, ◌^◌, ◌<◌, ◌≤◌, ◌==◌, ◌&&◌, Bool, true, List, length, map, Some}
+use Rattle.std.specs.Prelude.{◌≡◌, ◌≢◌, ℕ, ◌%◌, ◌^◌, ◌<◌, ◌≤◌, ◌==◌, ◌&&◌, Bool, true, List, length, map, Some}
 use Rattle.std.specs.List.{All, list_any}
 use Rattle.machine.specs.declared.alternative.Row.{Row}
 use Rattle.machine.specs.Alternative.{residue_of}
@@ -25,3 +25,21 @@ pub record Takes (ii : ℕ) (operations : Operations) (placed : Placements) (uni
   pub at : Placement
   pub is_placed : placement_of placed op ≡ Some at
   pub takes : takes ii (rows_of operations op at.alternative) at.time unit residue ≡ true
+
+-- some row, issued at the time, takes a slot that is held
+abbrev pub meets_held : ℕ → (ℕ → ℕ → Bool) → List Row → ℕ → Bool
+meets_held ii held rows time = list_any (λ row. held row.unit (residue_of ii row time)) rows
+
+-- of the units below a number, exactly the slots that some operation takes are held
+pub record Occupies (ii units : ℕ) (operations : Operations) (placed : Placements) (held : ℕ → ℕ → Bool) : Type 0 where
+  pub marked : (unit residue op : ℕ) → unit < units → residue < ii → Takes ii operations placed unit residue op → held unit residue ≡ true
+  pub owed : (unit residue : ℕ) → unit < units → residue < ii → held unit residue ≡ true → (op : ℕ) × Takes ii operations placed unit residue op
+
+-- no two operations take one slot
+abbrev pub AreApart : ℕ → Operations → Placements → Type 0
+AreApart ii operations placed = (unit residue op other : ℕ) → Takes ii operations placed unit residue op → Takes ii operations placed unit residue other → op ≡ other
+
+-- the owner of a slot is the operation that takes it, or `free` where none does
+pub record Owns (ii units free : ℕ) (operations : Operations) (placed : Placements) (owner : ℕ → ℕ → ℕ) : Type 0 where
+  pub kept : (unit residue op : ℕ) → unit < units → residue < ii → Takes ii operations placed unit residue op → owner unit residue ≡ op
+  pub owed : (unit residue : ℕ) → unit < units → residue < ii → owner unit residue ≢ free → Takes ii operations placed unit residue (owner unit residue)
