@@ -1,8 +1,8 @@
 -- Alternatives that collide with themselves, and spans of slots that are added to.
-use Rattle.std.proofs.Common.{◌≡◌, ℕ, ◌+◌, ◌%◌, ◌<◌, ◌≤◌, Bool, true, false, ◌&&◌, ◌||◌, eqb, List, [], ◌∷◌, ◌++◌, length, get_or, map, take, drop, refl, sym, ap, ◌∙◌, subst, arith, rules, eq-eqb, zero-add, length-take}
+use Rattle.std.proofs.Common.{◌≡◌, ℕ, ◌+◌, ◌-◌, ◌%◌, ◌<◌, ◌≤◌, Bool, true, false, ◌&&◌, ◌||◌, eqb, List, [], ◌∷◌, ◌++◌, length, get_or, map, take, drop, refl, sym, ap, ◌∙◌, subst, arith, rules, eq-eqb, zero-add, length-take}
 use Rattle.std.specs.List.{All, list_any, slice_range}
-use Rattle.std.proofs.lemmas.List.{drop_more, drop_all, take_rest, map_push}
-use Rattle.std.proofs.lemmas.List.Elements.{All-push, All-head, All-tail, All-weaker}
+use Rattle.std.proofs.lemmas.List.{drop_more, take_rest, map_push, get_or-map, length-map}
+use Rattle.std.proofs.lemmas.List.Elements.{All-push, All-head, All-tail, All-weaker, All-map, All-take, All-drop}
 use Rattle.std.proofs.lemmas.List.Folds.{list_any_at, list_any_more}
 use Rattle.machine.specs.declared.alternative.Row.{Row}
 use Rattle.machine.specs.Alternative.{residue_of, rows_meet, collides}
@@ -97,3 +97,20 @@ pub rows_at-pushed : (ii : ℕ) (old new : List Slot) (spans : List Span) (span 
 rows_at-pushed ii old new spans span rows all e from to r =
     let own : rows_at new span ≡ rows = ap (λ n. rows_in (slice_range new n span.end)) from ∙ ap (λ n. rows_in (slice_range new (length old) n)) to ∙ ap rows_in (take_rest new (length old)) ∙ r in
     map_push (rows_at new) spans span ∙ ap (λ xs. xs ++ rows_at new span ∷ []) (rows_at-kept ii old new spans e all) ∙ ap (λ x. map (rows_at old) spans ++ x ∷ []) own
+
+-- units below a number, of the slots and of the alternatives that they make up
+pub rows_at-covered : (units : ℕ) (slots : List Slot) (spans : List Span) → All (λ s. s.row.unit < units) slots → All (All (λ r. r.unit < units)) (map (rows_at slots) spans)
+rows_at-covered units slots spans all =
+    let P : Row → Type 0 = λ r. r.unit < units in
+    let Q : Slot → Type 0 = λ s. s.row.unit < units in
+    let each = λ (span : Span). All-map P (λ (s : Slot). s.row) (slice_range slots span.start span.end) (All-take Q (span.end - span.start) (drop span.start slots) (All-drop Q span.start slots all)) in
+    All-map (All P) (rows_at slots) spans (λ k d lt. each (get_or spans k d))
+
+pub covered_slots : (units : ℕ) (slots : List Slot) (rows : List Row) → rows_in slots ≡ rows → All (λ r. r.unit < units) rows → All (λ s. s.row.unit < units) slots
+covered_slots units slots rows e all k d lt =
+    let there : k < length rows = omega (arith, length-map slots (λ (s : Slot). s.row), ap length e) in
+    let same : (get_or slots k d).row ≡ get_or rows k d.row = sym (get_or-map (λ (s : Slot). s.row) slots k d d.row lt) ∙ ap (λ rs. get_or rs k d.row) e in
+    omega (arith, ap (λ (r : Row). r.unit) same, all k d.row there)
+
+pub row_within : (slots : List Slot) (rows : List Row) (k : ℕ) → rows_in slots ≡ rows → k < length rows → k < length slots
+row_within slots rows k e lt = omega (arith, length-map slots (λ (s : Slot). s.row), ap length e)

@@ -4,3 +4,4 @@ pub mod Choosing
 pub mod Rostering
 pub mod Taking
 pub mod Marking
+pub mod Owning

@@ -1,15 +1,15 @@
 -- What is kept of operations and their placements, as they change.
-use Rattle.std.proofs.Common.{zero, suc, ◌≡◌, ◌≢◌, ℕ, ◌+◌, ◌<◌, ◌≤◌, ◌⊎◌, inl, inr, List, [], ◌∷◌, ◌++◌, length, get_or, set, map, replicate, take, drop, Option, Some, None, refl, sym, ap, ◌∙◌, subst, arith, length-set, length-append}
+use Rattle.std.proofs.Common.{zero, suc, ◌≡◌, ◌≢◌, ℕ, ◌+◌, ◌-◌, ◌<◌, ◌≤◌, ◌⊎◌, inl, inr, List, [], ◌∷◌, ◌++◌, length, get_or, set, map, replicate, take, drop, Option, Some, None, refl, sym, ap, ◌∙◌, subst, arith, length-set, length-append}
 use Rattle.std.specs.List.{All, slice_get, slice_range}
 use Rattle.std.specs.Option.{option_map}
-use Rattle.std.proofs.lemmas.Bool.{cases_eq}
+use Rattle.std.proofs.lemmas.Bool.{cases_eq, cases_lt}
 use Rattle.std.proofs.lemmas.Option.{none-some, same_Some, slice_get-get_or, slice_get_within}
-use Rattle.std.proofs.lemmas.List.{map_push, map-set, take_rest, drop_at, take_all, get_or-replicate, length-replicate}
-use Rattle.std.proofs.lemmas.List.Elements.{All-push, All-head, All-tail, All-weaker}
+use Rattle.std.proofs.lemmas.List.{map_push, map-set, take_rest, drop_at, take_all, get_or-replicate, get_or_past, length-replicate}
+use Rattle.std.proofs.lemmas.List.Elements.{All-push, All-head, All-tail, All-weaker, All-map, All-nil, All-take, All-drop}
 use Rattle.machine.specs.declared.alternative.Row.{Row}
 use Rattle.mrt.specs.declared.roster.Group.{Group}
 use Rattle.mrt.specs.declared.roster.Issue.{Issue}
-use Rattle.mrt.specs.Placements.{Operations, Placements, Placement}
+use Rattle.mrt.specs.Placements.{Operations, Placements, Placement, alternatives_of, rows_of}
 use Rattle.mrt.specs.Rosters.{Table, table_of, placement, group_of, IsGroup, IsIssue, IsRoster}
 use Rattle.mrt.proofs.Lists.{slice_range-append, slice_get-set_same, slice_get-set_other}
 
@@ -106,3 +106,20 @@ table_of-new ii interval alternatives groups operations n i o =
     let second = λ (os : Operations). let t : Table = record { interval = ii; operations = os; placed = map (option_map placement) (replicate n None) } in t in
     let third = λ (ps : Placements). let t : Table = record { interval = ii; operations = operations; placed = ps } in t in
     ap first i ∙ ap second o ∙ ap third (map-replicate_none n)
+
+-- what holds of the empty list and of each element holds at any place
+get_or_all : {X : Type 0} (P : List X → Type 0) (xss : List (List X)) (k : ℕ) → P [] → All P xss → P (get_or xss k [])
+get_or_all P xss k none all =
+    elim (cases_lt k (length xss)) [
+      inl lt ↦ all k [] lt
+    | inr past ↦ subst P (sym (get_or_past xss k [] past)) none
+    ]
+
+pub rows_of-all : (P : Row → Type 0) (alternatives : List (List Row)) (groups : List Group) → All (All P) alternatives
+    → (op alternative : ℕ) → All P (rows_of (map (group_of alternatives) groups) op alternative)
+rows_of-all P alternatives groups all op alternative =
+    let Q : List Row → Type 0 = All P in
+    let each = λ (g : Group). All-take Q (g.end - g.first) (drop g.first alternatives) (All-drop Q g.first alternatives all) in
+    let groups_all = All-map (All Q) (group_of alternatives) groups (λ k d lt. each (get_or groups k d)) in
+    get_or_all Q (alternatives_of (map (group_of alternatives) groups) op) alternative (All-nil P)
+    (get_or_all (All Q) (map (group_of alternatives) groups) op (All-nil Q) groups_all)

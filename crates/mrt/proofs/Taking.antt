@@ -1,15 +1,16 @@
 -- Which slots the placed operations take, and what that says of the answers of a table.
-use Rattle.std.proofs.Common.{◌≡◌, ◌≢◌, ℕ, ◌+◌, ◌%◌, ◌<◌, ◌≤◌, ◌⊎◌, inl, inr, Bool, true, false, ◌&&◌, eqb, List, [], ◌∷◌, length, get_or, set, map, Option, Some, None, refl, sym, ap, ◌∙◌, subst, arith, eq-eqb, length-set}
+use Rattle.std.proofs.Common.{◌≡◌, ◌≢◌, ℕ, ◌+◌, ◌%◌, ◌<◌, ◌≤◌, ◌⊎◌, inl, inr, Bool, true, false, not, ◌&&◌, ◌↔◌, eqb, List, [], ◌∷◌, length, get_or, set, map, replicate, Option, Some, None, refl, sym, ap, ◌∙◌, subst, arith, eq-eqb, length-set}
 use Rattle.std.specs.List.{All, list_any, slice_get}
 use Rattle.std.specs.Option.{option_flatten}
-use Rattle.std.proofs.lemmas.Bool.{cases_eq, cases_Bool, and_parts, and_from, eqb-true, both_ways}
-use Rattle.std.proofs.lemmas.Option.{none-some, same_Some, slice_get-get_or, slice_get_within, slice_get_cases}
-use Rattle.std.proofs.lemmas.List.{get_or_default}
+use Rattle.std.proofs.lemmas.Bool.{cases_eq, cases_Bool, and_parts, and_from, eqb-true, both_ways, not-true}
+use Rattle.std.proofs.lemmas.Option.{none-some, same_Some, slice_get-get_or, slice_get_within, get_or_from_slice_get}
+use Rattle.std.proofs.lemmas.List.{get_or-map, get_or-replicate, length-map, length-replicate}
 use Rattle.std.proofs.lemmas.List.Folds.{list_any_at}
 use Rattle.machine.specs.declared.alternative.Row.{Row}
 use Rattle.machine.specs.Alternative.{residue_of, rows_meet, alternatives_meet, collides}
+use Rattle.mrt.specs.declared.slot.Slot.{Slot}
 use Rattle.mrt.specs.Placements.{Operations, Placements, Placement, placement_of, alternatives_of, rows_of, IsMetBy, Fits, IsFree, Holds}
-use Rattle.mrt.specs.Slots.{takes, Takes, meets_held, Occupies, AreApart}
+use Rattle.mrt.specs.Slots.{rows_in, takes, Takes, meets_held, Occupies, AreApart}
 use Rattle.mrt.proofs.Lists.{list_any_place, slice_get-set_same, slice_get-set_other}
 
 -- ---- one row and its slot
@@ -74,6 +75,21 @@ module _ (ii : ℕ) (operations : Operations) (placed : Placements) where
         let t = occupied.owed at.unit (residue_of ii at time) (covered p.0 d p.1) (omega arith) (p.2 d) in
         (t.0, met_from_takes rows time t.0 p.0 d p.1 t.1)
 
+    pub free_from_unmet : (op alternative time : ℕ) (met : Bool) → alternative < length (alternatives_of operations op)
+        → All (λ r. r.unit < units) (rows_of operations op alternative) → collides ii (rows_of operations op alternative) ≡ false
+        → met ≡ meets_held ii held (rows_of operations op alternative) time → (not met ≡ true) ↔ IsFree ii operations placed op time alternative
+    free_from_unmet op alternative time met there covered sound is =
+        let rows = rows_of operations op alternative in (
+          λ h. record { there = there; fits = record { sound = sound; meets_none = meets_none rows time covered (sym is ∙ not-true met h) } },
+          λ f.
+              elim (cases_Bool met) [
+                inl meets ↦
+                  let m = meets_some rows time covered (sym is ∙ meets) in
+                  absurd (f.fits.meets_none m.0 m.1)
+              | inr apart ↦ ap not apart
+              ],
+        )
+
 -- ---- one operation more, and one less
 placement_of-some : (placed : Placements) (op : ℕ) (at : Placement) → placement_of placed op ≡ Some at → slice_get placed op ≡ Some (Some at)
 placement_of-some placed op at h =
@@ -117,3 +133,16 @@ module _ (ii : ℕ) (operations : Operations) (placed : Placements) (op : ℕ) w
           absurd (none-some t.at (sym own ∙ ap (λ k. placement_of (set placed op None) k) (sym same) ∙ t.is_placed))
         | inr other ↦ (other, takes_before None unit residue x other t)
       ]
+
+-- ---- nothing is placed at first
+pub none_placed : (n op : ℕ) (at : Placement) → placement_of (replicate n None) op ≡ Some at → ⊥
+none_placed n op at h =
+    let within : op < n = omega (arith, placed_within (replicate n None) op at h, length-replicate {A = Option Placement} n None) in
+    let there = slice_get-get_or (replicate n None) op None (placed_within (replicate n None) op at h) in
+    none-some at (sym (ap option_flatten there ∙ get_or-replicate {A = Option Placement} n op None None within) ∙ h)
+
+-- ---- a row by its place
+pub row_at : (slots : List Slot) (rows : List Row) (k : ℕ) (r : Row) (d : Slot) → rows_in slots ≡ rows → slice_get rows k ≡ Some r → (get_or slots k d).row ≡ r
+row_at slots rows k r d e h =
+    let within : k < length slots = omega (arith, slice_get_within rows k r h, length-map slots (λ (s : Slot). s.row), ap length e) in
+    sym (get_or-map (λ (s : Slot). s.row) slots k d r within) ∙ ap (λ rs. get_or rs k r) e ∙ get_or_from_slice_get rows k r r h

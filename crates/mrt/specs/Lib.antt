@@ -3,3 +3,5 @@ pub mod Placements
 pub mod Slots
 pub mod Choices
 pub mod Rosters
+pub mod OwnerTables
+pub mod MaskTables

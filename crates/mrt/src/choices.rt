@@ -86,6 +86,18 @@ impl Choices {
         &self.slots[span.start..span.end]
     }
 
+    /// One more than the greatest unit of an alternative, or 0.
+    pub(crate) fn units(&self) -> usize
+        ensures few { result ≤ 64 }
+        ensures covered { All (All (λ r. r.unit < result)) self.now.alternatives }
+    {
+        let mut units = 0;
+        for slot in &self.slots {
+            units = units.max(usize::from(slot.row.unit) + 1);
+        }
+        units
+    }
+
     /// Adds an alternative.
     pub(crate) fn push(&mut self, rows: &[Row]) -> Result<(), OutOfMemory>
         requires { IsAlternative rows.now }

@@ -3,8 +3,12 @@
 #![tactic(auto)]
 
 mod choices;
+mod mask;
+mod owner;
 mod roster;
 mod slot;
 mod table;
 
+pub use mask::MaskTable;
+pub use owner::OwnerTable;
 pub use table::ModuloTable;

@@ -1,10 +1,10 @@
 //! Operations with their alternatives at one initiation interval, and their placements.
 
-ghost use Rattle.std.specs.Prelude.{◌≡◌, ◌++◌, ◌%◌, ◌^◌, ◌<◌, ◌≤◌, ℕ, List, length, replicate, Some, None, IfOk, IfSome, option_map, slice_set};
+ghost use Rattle.std.specs.Prelude.{◌≡◌, ◌++◌, ◌%◌, ◌^◌, ◌<◌, ◌≤◌, ℕ, List, length, replicate, Some, None, IfOk, IfSome, MatchOption, option_map, slice_set};
 ghost use Rattle.std.specs.List.{All};
 ghost use Rattle.machine.specs.Alternative.{IsAlternative, collides};
 ghost use Rattle.mrt.specs.Placements.{placement_of, alternatives_of, rows_of};
-ghost use Rattle.mrt.specs.Slots.{IsSlot, rows_in};
+ghost use Rattle.mrt.specs.Slots.{IsSlot, rows_in, takes, Takes};
 
 use crate::choices::Choices;
 use crate::slot::Slot;
@@ -57,7 +57,8 @@ impl Roster {
     ) -> Result<Roster, OutOfMemory>
         requires some { 0 < ii }
         requires few { ii ≤ 16384 }
-        ensures { IfOk result
+        ensures short { length operations.now < 2 ^ 64 }
+        ensures value { IfOk result
             (λ r. r ≡ record { interval = ii; operations = operations.now; placed = replicate (length operations.now) None }) }
     {
         let mut choices = Choices::new(alloc, ii);
@@ -91,6 +92,14 @@ impl Roster {
         ensures placed { result ≡ length self.now.placed }
     {
         self.groups.len()
+    }
+
+    /// One more than the greatest unit of an alternative, or 0.
+    pub(crate) fn units(&self) -> usize
+        ensures few { result ≤ 64 }
+        ensures covered { (op alternative : ℕ) → All (λ r. r.unit < result) (rows_of self.now.operations op alternative) }
+    {
+        self.choices.units()
     }
 
     /// How many alternatives an operation has.
@@ -132,6 +141,23 @@ impl Roster {
         self.issues[op]
     }
 
+    /// An operation that takes a slot, if there is one.
+    pub(crate) fn taker(&self, unit: u8, residue: usize) -> Option<usize>
+        ensures { MatchOption result
+            ((op : ℕ) → Takes self.now.interval self.now.operations self.now.placed unit residue op → ⊥)
+            (Takes self.now.interval self.now.operations self.now.placed unit residue) }
+    {
+        for op in 0..self.len() {
+            if let Some(issue) = self.issue(op) {
+                let slots = self.slots(op, issue.alternative);
+                if takes(slots, self.ii(), issue.base, unit, residue) {
+                    return Some(op);
+                }
+            }
+        }
+        None
+    }
+
     /// Places an operation.
     pub(crate) fn place(&mut self, op: usize, issue: Issue)
         requires there { op < length self.old.operations }
@@ -148,6 +174,21 @@ impl Roster {
     {
         self.issues[op] = None;
     }
+}
+
+/// Whether one of the slots, for an operation issued at a time whose residue is `base`, is this one.
+fn takes(slots: &[Slot], ii: usize, base: usize, unit: u8, residue: usize) -> bool
+    requires slots { All (IsSlot ii) slots.now }
+    requires base { base < ii }
+    requires few { ii ≤ 16384 }
+    ensures { (time : ℕ) → time % ii ≡ base → result ≡ takes ii (rows_in slots.now) time unit residue }
+{
+    for slot in slots {
+        if slot.row.unit == unit && slot.residue(base, ii) == residue {
+            return true;
+        }
+    }
+    false
 }
 
 /// Adds the alternatives of one operation.

@@ -38,7 +38,8 @@ impl Slot {
         requires slot { IsSlot ii self.now }
         requires base { base < ii }
         requires few { ii ≤ 16384 }
-        ensures { (time : ℕ) → time % ii ≡ base → result ≡ residue_of ii self.now.row time }
+        ensures below { result < ii }
+        ensures value { (time : ℕ) → time % ii ≡ base → result ≡ residue_of ii self.now.row time }
     {
         let sum = base + self.turn as usize;
         if sum < ii { sum } else { sum - ii }

@@ -31,8 +31,8 @@ unfolding none
 invariant_of-result c =
     rw (issues_are_none c) (IsRoster-new _ _ _ (length c.args.operations.now) (omega (arith, c.loop-operation.invariant.count)) c.loop-operation.invariant.each_group)
 
-pub returns : goal.returns
+pub returns-clause-value : goal.returns-clause-value
 unfolding none
-returns c =
+returns-clause-value c =
     let all = take_all c.loop-operation.operation-index c.args.operations.now (omega arith) in
     rw (issues_are_none c) (table_of-new _ _ _ _ _ _ c.loop-operation.invariant.interval (c.loop-operation.invariant.groups ∙ all))
