@@ -114,3 +114,8 @@ covered_slots units slots rows e all k d lt =
 
 pub row_within : (slots : List Slot) (rows : List Row) (k : ℕ) → rows_in slots ≡ rows → k < length rows → k < length slots
 row_within slots rows k e lt = omega (arith, length-map slots (λ (s : Slot). s.row), ap length e)
+
+pub slot_units : (ii : ℕ) (slots : List Slot) (rows : List Row) → rows_in slots ≡ rows → All (IsSlot ii) slots → All (λ r. r.unit < 64) rows
+slot_units ii slots rows e all =
+    let P : Row → Type 0 = λ r. r.unit < 64 in
+    rw (← e) (All-map P (λ (s : Slot). s.row) slots (λ k d lt. (all k d lt).unit))

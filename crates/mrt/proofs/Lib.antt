@@ -5,3 +5,4 @@ pub mod Rostering
 pub mod Taking
 pub mod Marking
 pub mod Owning
+pub mod Masking

@@ -1,7 +1,7 @@
 -- Owners in rows of units.
 use Rattle.std.proofs.Common.{◌≡◌, ◌≢◌, ℕ, ◌+◌, ◌*◌, ◌/◌, ◌%◌, ◌<◌, ◌≤◌, ◌⊎◌, inl, inr, Bool, true, false, ◌&&◌, ◌||◌, cond, not, eqb, List, length, get_or, set, map, take, replicate, Option, Some, None, refl, sym, ap, ◌∙◌, subst, arith, eq-eqb, length-set}
 use Rattle.std.specs.List.{All, list_any, slice_get}
-use Rattle.std.proofs.lemmas.Bool.{cases_eq, cases_Bool, ne_eqb, eqb-false, not-true}
+use Rattle.std.proofs.lemmas.Bool.{cases_eq, cases_Bool, ne_eqb, eqb-false, not-true, and_from}
 use Rattle.std.proofs.Math.Nat.{mul_comm}
 use Rattle.std.proofs.lemmas.Nat.{mul-add-lt, div-mul-add, mod-mul-add}
 use Rattle.std.proofs.lemmas.List.{get_or-set_same, get_or-set_other, get_or-replicate, get_or_read, length-replicate}
@@ -70,11 +70,22 @@ owner_at-set units owners place unit' residue' v unit residue at lt u u' =
         get_or-set_other owners place (residue * units + unit) v 0 other ∙ sym (ap (λ b. cond b v (owner_at units owners unit residue)) off)
     ]
 
-cond_again : (a b : Bool) (v w : ℕ) → cond b v (cond a v w) ≡ cond (a || b) v w
+cond_again : {V : Type 0} (a b : Bool) (v w : V) → cond b v (cond a v w) ≡ cond (a || b) v w
 cond_again true true v w = refl
 cond_again true false v w = refl
 cond_again false true v w = refl
 cond_again false false v w = refl
+
+-- one slot more is written
+pub write_more : {V : Type 0} (ii : ℕ) (slots : List Slot) (time unit residue k : ℕ) (d : Slot) (v before was now : V) → k < length slots
+    → was ≡ cond (takes ii (rows_in (take k slots)) time unit residue) v before
+    → now ≡ cond (eqb unit (get_or slots k d).row.unit && eqb residue (residue_of ii (get_or slots k d).row time)) v was
+    → now ≡ cond (takes ii (rows_in (take (k + 1) slots)) time unit residue) v before
+write_more ii slots time unit residue k d v before was now lt so_far written =
+    let row = (get_or slots k d).row in
+    let own = eqb unit row.unit && eqb residue (residue_of ii row time) in
+    written ∙ ap (λ n. cond own v n) so_far ∙ cond_again (takes ii (rows_in (take k slots)) time unit residue) own v before
+    ∙ ap (λ b. cond b v before) (sym (takes_more ii slots time unit residue k d lt))
 
 -- one slot more is given to the owner
 pub owner_at_more : (ii units : ℕ) (before owners : List ℕ) (slots : List Slot) (time k : ℕ) (d : Slot) (place v unit residue : ℕ) → k < length slots → place < length owners
@@ -83,11 +94,8 @@ pub owner_at_more : (ii units : ℕ) (before owners : List ℕ) (slots : List Sl
     → owner_at units (set owners place v) unit residue ≡ cond (takes ii (rows_in (take (k + 1) slots)) time unit residue) v (owner_at units before unit residue)
 owner_at_more ii units before owners slots time k d place v unit residue lt within u u' at so_far =
     let row = (get_or slots k d).row in
-    let own = eqb unit row.unit && eqb residue (residue_of ii row time) in
-    owner_at-set units owners place row.unit (residue_of ii row time) v unit residue at within u u'
-    ∙ ap (λ n. cond own v n) so_far
-    ∙ cond_again (takes ii (rows_in (take k slots)) time unit residue) own v (owner_at units before unit residue)
-    ∙ ap (λ b. cond b v (owner_at units before unit residue)) (sym (takes_more ii slots time unit residue k d lt))
+    write_more ii slots time unit residue k d v (owner_at units before unit residue) (owner_at units owners unit residue) (owner_at units (set owners place v) unit residue) lt so_far
+    (owner_at-set units owners place row.unit (residue_of ii row time) v unit residue at within u u')
 
 -- ---- what an owner tells
 pub owned_here : (units : ℕ) (owners : List ℕ) (place unit residue : ℕ) → place ≡ residue * units + unit → get_or owners place 0 ≢ FREE → is_owned units owners unit residue ≡ true
@@ -173,3 +181,11 @@ module _ (ii units : ℕ) (operations : Operations) (placed : Placements) (owner
 
 pub owner_read : (units : ℕ) (owners : List ℕ) (place v unit residue : ℕ) → place < length owners → v ≡ get_or owners place v → place ≡ residue * units + unit → v ≡ owner_at units owners unit residue
 owner_read units owners place v unit residue lt is at = get_or_read owners place v lt is 0 ∙ ap (λ k. get_or owners k 0) at
+
+pub takes_here : (ii : ℕ) (slots : List Slot) (time unit residue k : ℕ) (d : Slot) → k < length slots → (get_or slots k d).row.unit ≡ unit → residue ≡ residue_of ii (get_or slots k d).row time
+    → takes ii (rows_in slots) time unit residue ≡ true
+takes_here ii slots time unit residue k d lt u r =
+    let p = λ (row : Row). eqb unit row.unit && eqb residue (residue_of ii row time) in
+    let row = (get_or slots k d).row in
+    list_any-map p (λ (s : Slot). s.row) slots
+    ∙ list_any_at (λ (s : Slot). p s.row) slots k d lt (and_from (eqb unit row.unit) (eqb residue (residue_of ii row time)) (eq-eqb unit row.unit (sym u)) (eq-eqb residue (residue_of ii row time) r))

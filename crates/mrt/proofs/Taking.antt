@@ -146,3 +146,14 @@ pub row_at : (slots : List Slot) (rows : List Row) (k : ℕ) (r : Row) (d : Slot
 row_at slots rows k r d e h =
     let within : k < length slots = omega (arith, slice_get_within rows k r h, length-map slots (λ (s : Slot). s.row), ap length e) in
     sym (get_or-map (λ (s : Slot). s.row) slots k d r within) ∙ ap (λ rs. get_or rs k r) e ∙ get_or_from_slice_get rows k r r h
+
+-- an operation that is placed, and not where it would take the slot
+pub takes_not : (ii : ℕ) (operations : Operations) (placed : Placements) (unit residue op : ℕ) (at : Placement) → Some at ≡ placement_of placed op
+    → takes ii (rows_of operations op at.alternative) at.time unit residue ≡ false → Takes ii operations placed unit residue op → ⊥
+takes_not ii operations placed unit residue op at is_at apart t =
+    let same : t.at ≡ at = same_Some t.at at (sym t.is_placed ∙ sym is_at) in
+    let P : Placement → Type 0 = λ p. takes ii (rows_of operations op p.alternative) p.time unit residue ≡ true in
+    both_ways (takes ii (rows_of operations op at.alternative) at.time unit residue) apart (subst P same t.takes)
+
+pub takes_unplaced : (ii : ℕ) (operations : Operations) (placed : Placements) (unit residue op : ℕ) → None ≡ placement_of placed op → Takes ii operations placed unit residue op → ⊥
+takes_unplaced ii operations placed unit residue op none t = none-some t.at (none ∙ t.is_placed)

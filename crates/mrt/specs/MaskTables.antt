@@ -1,8 +1,7 @@
 -- A table of masks, one word of units for each residue.
 use Rattle.std.specs.Prelude.{◌≡◌, ℕ, ◌+◌, ◌<◌, ◌≤◌, Bool, ◌==◌, List, length}
 use Rattle.std.specs.Int.{bit_at}
-use Rattle.std.specs.List.{All, slice_index}
-use Rattle.mrt.specs.Placements.{rows_of}
+use Rattle.std.specs.List.{slice_index}
 use Rattle.mrt.specs.Rosters.{Table}
 use Rattle.mrt.specs.Slots.{Occupies, AreApart}
 
@@ -21,6 +20,5 @@ pub record IsMaskTable (table : Table) (busy : List ℕ) : Type 0 where
   pub least : table.interval ≤ length busy
   pub most : length busy ≤ table.interval + table.interval
   pub spare : 8 ≤ table.interval → length busy ≡ table.interval + 7
-  pub covered : (op alternative : ℕ) → All (λ r. r.unit < 64) (rows_of table.operations op alternative)
   pub occupied : Occupies table.interval 64 table.operations table.placed (is_held busy)
   pub repeats : Repeats table.interval busy

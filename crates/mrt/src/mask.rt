@@ -1,6 +1,6 @@
 //! A modulo reservation table as a word of units for each residue.
 
-ghost use Rattle.std.specs.Prelude.{◌≡◌, ◌↔◌, ◌+◌, ◌*◌, ◌%◌, ◌^◌, ◌<◌, ◌≤◌, ◌==◌, ℕ, List, length, replicate, Option, Some, None, IsNone, IsSome, IsTrue, IfOk, if◌then◌else◌, slice_set, slice_index_or, slice_get};
+ghost use Rattle.std.specs.Prelude.{◌≡◌, ◌↔◌, ◌+◌, ◌*◌, ◌%◌, ◌^◌, ◌<◌, ◌≤◌, ◌==◌, ◌&&◌, ℕ, List, length, replicate, Option, Some, None, IsNone, IsSome, IsTrue, IfOk, if◌then◌else◌, slice_set, slice_index_or, slice_get};
 ghost use Rattle.std.specs.Int.{bit_at};
 ghost use Rattle.std.specs.List.{All};
 ghost use Rattle.machine.specs.Alternative.{residue_of};
@@ -156,12 +156,25 @@ fn mark(busy: &mut [u64], slots: &[Slot], ii: usize, base: usize, held: bool)
         → is_held busy.new unit residue ≡ (if takes ii (rows_in slots.now) time unit residue then held else is_held busy.old unit residue) }
 {
     for slot in slots {
-        let residue = slot.residue(base, ii);
-        let word = with_bit(busy[residue], slot.mask, held);
-        busy[residue] = word;
-        if residue + ii < busy.len() {
-            busy[residue + ii] = word;
-        }
+        write(busy, ii, slot.residue(base, ii), slot.mask, held);
+    }
+}
+
+/// Sets or clears the bit of a mask in the word of a residue, and where that word is repeated.
+fn write(busy: &mut [u64], ii: usize, residue: usize, mask: u64, held: bool)
+    requires least { ii ≤ length busy.old }
+    requires most { length busy.old ≤ ii + ii }
+    requires few { ii ≤ 16384 }
+    requires residue { residue < ii }
+    requires repeats { Repeats ii busy.old }
+    ensures repeats { Repeats ii busy.new }
+    ensures marked { (own unit place : ℕ) → mask ≡ 2 ^ own → own < 64 → unit < 64 → place < ii
+        → is_held busy.new unit place ≡ (if (unit == own) && (place == residue) then held else is_held busy.old unit place) }
+{
+    let word = with_bit(busy[residue], mask, held);
+    busy[residue] = word;
+    if residue + ii < busy.len() {
+        busy[residue + ii] = word;
     }
 }
 
