@@ -6,3 +6,4 @@ pub mod Taking
 pub mod Marking
 pub mod Owning
 pub mod Masking
+pub mod Vectors

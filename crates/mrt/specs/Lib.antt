@@ -5,3 +5,4 @@ pub mod Choices
 pub mod Rosters
 pub mod OwnerTables
 pub mod MaskTables
+pub mod Lanes
