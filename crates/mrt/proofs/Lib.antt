@@ -7,3 +7,4 @@ pub mod Marking
 pub mod Owning
 pub mod Masking
 pub mod Vectors
+pub mod Searching

@@ -35,23 +35,23 @@ module _ (ii units : ℕ) (operations : Operations) (placed : Placements) (op : 
         record {
           kept = λ unit residue x u r t.
               elim (Takes-placed ii operations placed op at unit residue x t) [
-                inl is ↦ write unit residue u r ∙ ap (λ b. cond b op (owner unit residue)) is.1 ∙ sym is.0
-              | inr was ↦
-                  elim (cases_Bool (takes ii rows at.time unit residue)) [
-                    inl its ↦ absurd (alone unit residue x its was.1)
-                  | inr not_its ↦ write unit residue u r ∙ ap (λ b. cond b op (owner unit residue)) not_its ∙ o.kept unit residue x u r was.1
-                  ]
+                | inl is ↦ write unit residue u r ∙ ap (λ b. cond b op (owner unit residue)) is.1 ∙ sym is.0
+                | inr was ↦
+                    elim (cases_Bool (takes ii rows at.time unit residue)) [
+                      | inl its ↦ absurd (alone unit residue x its was.1)
+                      | inr not_its ↦ write unit residue u r ∙ ap (λ b. cond b op (owner unit residue)) not_its ∙ o.kept unit residue x u r was.1
+                    ]
               ];
           owed = λ unit residue u r ne.
               let P : ℕ → Type 0 = λ x. Takes ii operations (set placed op (Some at)) unit residue x in
               elim (cases_Bool (takes ii rows at.time unit residue)) [
-                inl its ↦
-                  let is : owner' unit residue ≡ op = write unit residue u r ∙ ap (λ b. cond b op (owner unit residue)) its in
-                  subst P (sym is) (takes_own ii operations placed op at unit residue there its)
-              | inr not_its ↦
-                  let is : owner' unit residue ≡ owner unit residue = write unit residue u r ∙ ap (λ b. cond b op (owner unit residue)) not_its in
-                  let t = o.owed unit residue u r (λ e. ne (is ∙ e)) in
-                  subst P (sym is) (takes_other ii operations placed op (Some at) unit residue (owner unit residue) (another unit residue (owner unit residue) t) t)
+                | inl its ↦
+                    let is : owner' unit residue ≡ op = write unit residue u r ∙ ap (λ b. cond b op (owner unit residue)) its in
+                    subst P (sym is) (takes_own ii operations placed op at unit residue there its)
+                | inr not_its ↦
+                    let is : owner' unit residue ≡ owner unit residue = write unit residue u r ∙ ap (λ b. cond b op (owner unit residue)) not_its in
+                    let t = o.owed unit residue u r (λ e. ne (is ∙ e)) in
+                    subst P (sym is) (takes_other ii operations placed op (Some at) unit residue (owner unit residue) (another unit residue (owner unit residue) t) t)
               ];
         }
 
@@ -63,36 +63,36 @@ module _ (ii units : ℕ) (operations : Operations) (placed : Placements) (op : 
         record {
           marked = λ unit residue x u r t.
               elim (cases_Bool (takes ii rows at.time unit residue)) [
-                inl its ↦ write unit residue u r ∙ ap (λ b. cond b true (held unit residue)) its
-              | inr not_its ↦
-                  elim (Takes-placed ii operations placed op at unit residue x t) [
-                    inl is ↦ absurd (both_ways (takes ii rows at.time unit residue) not_its is.1)
-                  | inr was ↦ write unit residue u r ∙ ap (λ b. cond b true (held unit residue)) not_its ∙ o.marked unit residue x u r was.1
-                  ]
+                | inl its ↦ write unit residue u r ∙ ap (λ b. cond b true (held unit residue)) its
+                | inr not_its ↦
+                    elim (Takes-placed ii operations placed op at unit residue x t) [
+                      | inl is ↦ absurd (both_ways (takes ii rows at.time unit residue) not_its is.1)
+                      | inr was ↦ write unit residue u r ∙ ap (λ b. cond b true (held unit residue)) not_its ∙ o.marked unit residue x u r was.1
+                    ]
               ];
           owed = λ unit residue u r h.
               elim (cases_Bool (takes ii rows at.time unit residue)) [
-                inl its ↦ (op, takes_own ii operations placed op at unit residue there its)
-              | inr not_its ↦
-                  let is : held' unit residue ≡ held unit residue = write unit residue u r ∙ ap (λ b. cond b true (held unit residue)) not_its in
-                  let t = o.owed unit residue u r (sym is ∙ h) in
-                  (t.0, takes_other ii operations placed op (Some at) unit residue t.0 (another unit residue t.0 t.1) t.1)
+                | inl its ↦ (op, takes_own ii operations placed op at unit residue there its)
+                | inr not_its ↦
+                    let is : held' unit residue ≡ held unit residue = write unit residue u r ∙ ap (λ b. cond b true (held unit residue)) not_its in
+                    let t = o.owed unit residue u r (sym is ∙ h) in
+                    (t.0, takes_other ii operations placed op (Some at) unit residue t.0 (another unit residue t.0 t.1) t.1)
               ];
         }
 
     pub AreApart-placed : AreApart ii operations placed → AreApart ii operations (set placed op (Some at))
     AreApart-placed apart unit residue x y s t =
         elim (Takes-placed ii operations placed op at unit residue x s) [
-          inl p ↦
-            elim (Takes-placed ii operations placed op at unit residue y t) [
-              inl q ↦ p.0 ∙ sym q.0
-            | inr q ↦ absurd (alone unit residue y p.1 q.1)
-            ]
-        | inr p ↦
-            elim (Takes-placed ii operations placed op at unit residue y t) [
-              inl q ↦ absurd (alone unit residue x q.1 p.1)
-            | inr q ↦ apart unit residue x y p.1 q.1
-            ]
+          | inl p ↦
+              elim (Takes-placed ii operations placed op at unit residue y t) [
+                | inl q ↦ p.0 ∙ sym q.0
+                | inr q ↦ absurd (alone unit residue y p.1 q.1)
+              ]
+          | inr p ↦
+              elim (Takes-placed ii operations placed op at unit residue y t) [
+                | inl q ↦ absurd (alone unit residue x q.1 p.1)
+                | inr q ↦ apart unit residue x y p.1 q.1
+              ]
         ]
 
   -- ---- the operation is taken out
@@ -116,17 +116,17 @@ module _ (ii units : ℕ) (operations : Operations) (placed : Placements) (op : 
           kept = λ unit residue x u r t.
               let was = Takes-removed ii operations placed op unit residue x t in
               elim (cases_Bool (takes ii rows at.time unit residue)) [
-                inl its ↦ absurd (was.0 (sym (o.kept unit residue x u r was.1) ∙ o.kept unit residue op u r (here unit residue its)))
-              | inr not_its ↦ write unit residue u r ∙ ap (λ b. cond b free (owner unit residue)) not_its ∙ o.kept unit residue x u r was.1
+                | inl its ↦ absurd (was.0 (sym (o.kept unit residue x u r was.1) ∙ o.kept unit residue op u r (here unit residue its)))
+                | inr not_its ↦ write unit residue u r ∙ ap (λ b. cond b free (owner unit residue)) not_its ∙ o.kept unit residue x u r was.1
               ];
           owed = λ unit residue u r ne.
               let P : ℕ → Type 0 = λ x. Takes ii operations (set placed op None) unit residue x in
               elim (cases_Bool (takes ii rows at.time unit residue)) [
-                inl its ↦ absurd (ne (write unit residue u r ∙ ap (λ b. cond b free (owner unit residue)) its))
-              | inr not_its ↦
-                  let is : owner' unit residue ≡ owner unit residue = write unit residue u r ∙ ap (λ b. cond b free (owner unit residue)) not_its in
-                  let t = o.owed unit residue u r (λ e. ne (is ∙ e)) in
-                  subst P (sym is) (takes_other ii operations placed op None unit residue (owner unit residue) (elsewhere unit residue (owner unit residue) not_its t) t)
+                | inl its ↦ absurd (ne (write unit residue u r ∙ ap (λ b. cond b free (owner unit residue)) its))
+                | inr not_its ↦
+                    let is : owner' unit residue ≡ owner unit residue = write unit residue u r ∙ ap (λ b. cond b free (owner unit residue)) not_its in
+                    let t = o.owed unit residue u r (λ e. ne (is ∙ e)) in
+                    subst P (sym is) (takes_other ii operations placed op None unit residue (owner unit residue) (elsewhere unit residue (owner unit residue) not_its t) t)
               ];
         }
 
@@ -139,16 +139,16 @@ module _ (ii units : ℕ) (operations : Operations) (placed : Placements) (op : 
           marked = λ unit residue x u r t.
               let was = Takes-removed ii operations placed op unit residue x t in
               elim (cases_Bool (takes ii rows at.time unit residue)) [
-                inl its ↦ absurd (was.0 (apart unit residue x op was.1 (here unit residue its)))
-              | inr not_its ↦ write unit residue u r ∙ ap (λ b. cond b false (held unit residue)) not_its ∙ o.marked unit residue x u r was.1
+                | inl its ↦ absurd (was.0 (apart unit residue x op was.1 (here unit residue its)))
+                | inr not_its ↦ write unit residue u r ∙ ap (λ b. cond b false (held unit residue)) not_its ∙ o.marked unit residue x u r was.1
               ];
           owed = λ unit residue u r h.
               elim (cases_Bool (takes ii rows at.time unit residue)) [
-                inl its ↦ absurd (false≢true (sym (write unit residue u r ∙ ap (λ b. cond b false (held unit residue)) its) ∙ h))
-              | inr not_its ↦
-                  let is : held' unit residue ≡ held unit residue = write unit residue u r ∙ ap (λ b. cond b false (held unit residue)) not_its in
-                  let t = o.owed unit residue u r (sym is ∙ h) in
-                  (t.0, takes_other ii operations placed op None unit residue t.0 (elsewhere unit residue t.0 not_its t.1) t.1)
+                | inl its ↦ absurd (false≢true (sym (write unit residue u r ∙ ap (λ b. cond b false (held unit residue)) its) ∙ h))
+                | inr not_its ↦
+                    let is : held' unit residue ≡ held unit residue = write unit residue u r ∙ ap (λ b. cond b false (held unit residue)) not_its in
+                    let t = o.owed unit residue u r (sym is ∙ h) in
+                    (t.0, takes_other ii operations placed op None unit residue t.0 (elsewhere unit residue t.0 not_its t.1) t.1)
               ];
         }
 

@@ -21,13 +21,13 @@ pub with_set : (word mask own unit : ℕ) → mask ≡ 2 ^ own → eqb (bit_at (
 with_set word mask own unit m =
     let or = ap (λ k. bit_at (bit_or word k) unit) m ∙ bit_at_or word (2 ^ own) unit in
     elim (cases_eq unit own) [
-      inl same ↦
-        let one : bit_at (2 ^ own) unit ≡ 1 = ap (λ k. bit_at (2 ^ own) k) same ∙ bit_at-pow_same own in
-        let is : bit_at (bit_or word mask) unit ≡ 1 = omega (arith, or, one, bit_at-lt word unit) in
-        eq-eqb (bit_at (bit_or word mask) unit) 1 is ∙ sym (ap (λ b. cond b true (eqb (bit_at word unit) 1)) (eq-eqb unit own same))
-    | inr other ↦
-        let is : bit_at (bit_or word mask) unit ≡ bit_at word unit = omega (arith, or, bit_at-pow_other own unit other) in
-        ap (λ n. eqb n 1) is ∙ sym (ap (λ b. cond b true (eqb (bit_at word unit) 1)) (ne_eqb unit own other))
+      | inl same ↦
+          let one : bit_at (2 ^ own) unit ≡ 1 = ap (λ k. bit_at (2 ^ own) k) same ∙ bit_at-pow_same own in
+          let is : bit_at (bit_or word mask) unit ≡ 1 = omega (arith, or, one, bit_at-lt word unit) in
+          eq-eqb (bit_at (bit_or word mask) unit) 1 is ∙ sym (ap (λ b. cond b true (eqb (bit_at word unit) 1)) (eq-eqb unit own same))
+      | inr other ↦
+          let is : bit_at (bit_or word mask) unit ≡ bit_at word unit = omega (arith, or, bit_at-pow_other own unit other) in
+          ap (λ n. eqb n 1) is ∙ sym (ap (λ b. cond b true (eqb (bit_at word unit) 1)) (ne_eqb unit own other))
     ]
 
 pub with_cleared : (word mask own unit : ℕ) → mask ≡ 2 ^ own → own < 64 → unit < 64 → mask < 2 ^ 64
@@ -36,14 +36,14 @@ with_cleared word mask own unit m o u fits =
     let and = bit_at_and word (bit_not w64 mask) unit in
     let not_is = bit_at_not w64 mask unit fits u in
     elim (cases_eq unit own) [
-      inl same ↦
-        let one : bit_at mask unit ≡ 1 = ap (λ k. bit_at k unit) m ∙ ap (λ k. bit_at (2 ^ own) k) same ∙ bit_at-pow_same own in
-        let is : bit_at (bit_and word (bit_not w64 mask)) unit ≡ 0 = omega (arith, and, not_is, one) in
-        ap (λ n. eqb n 1) is ∙ sym (ap (λ b. cond b false (eqb (bit_at word unit) 1)) (eq-eqb unit own same))
-    | inr other ↦
-        let zero_bit : bit_at mask unit ≡ 0 = ap (λ k. bit_at k unit) m ∙ bit_at-pow_other own unit other in
-        let is : bit_at (bit_and word (bit_not w64 mask)) unit ≡ bit_at word unit = omega (arith, and, not_is, zero_bit, bit_at-lt word unit) in
-        ap (λ n. eqb n 1) is ∙ sym (ap (λ b. cond b false (eqb (bit_at word unit) 1)) (ne_eqb unit own other))
+      | inl same ↦
+          let one : bit_at mask unit ≡ 1 = ap (λ k. bit_at k unit) m ∙ ap (λ k. bit_at (2 ^ own) k) same ∙ bit_at-pow_same own in
+          let is : bit_at (bit_and word (bit_not w64 mask)) unit ≡ 0 = omega (arith, and, not_is, one) in
+          ap (λ n. eqb n 1) is ∙ sym (ap (λ b. cond b false (eqb (bit_at word unit) 1)) (eq-eqb unit own same))
+      | inr other ↦
+          let zero_bit : bit_at mask unit ≡ 0 = ap (λ k. bit_at k unit) m ∙ bit_at-pow_other own unit other in
+          let is : bit_at (bit_and word (bit_not w64 mask)) unit ≡ bit_at word unit = omega (arith, and, not_is, zero_bit, bit_at-lt word unit) in
+          ap (λ n. eqb n 1) is ∙ sym (ap (λ b. cond b false (eqb (bit_at word unit) 1)) (ne_eqb unit own other))
     ]
 
 pub test_clear : (word mask own : ℕ) → mask ≡ 2 ^ own → bit_and word mask ≡ 0 → eqb (bit_at word own) 1 ≡ false
@@ -54,10 +54,10 @@ test_clear word mask own m h =
 pub test_set : (word mask own : ℕ) → mask ≡ 2 ^ own → bit_and word mask ≢ 0 → eqb (bit_at word own) 1 ≡ true
 test_set word mask own m ne =
     elim (cases_eq (bit_at word own) 1) [
-      inl one ↦ eq-eqb (bit_at word own) 1 one
-    | inr other ↦
-        let none : bit_at word own ≡ 0 = omega (arith, bit_at-lt word own) in
-        absurd (ne (ap (λ k. bit_and word k) m ∙ and_pow word own ∙ ap (λ n. n * 2 ^ own) none ∙ omega arith))
+      | inl one ↦ eq-eqb (bit_at word own) 1 one
+      | inr other ↦
+          let none : bit_at word own ≡ 0 = omega (arith, bit_at-lt word own) in
+          absurd (ne (ap (λ k. bit_and word k) m ∙ and_pow word own ∙ ap (λ n. n * 2 ^ own) none ∙ omega arith))
     ]
 
 -- ---- one word, and its repeat
@@ -75,13 +75,13 @@ pub is_held-set : (busy : List ℕ) (residue word own : ℕ) (held : Bool) → r
     → (unit place : ℕ) → unit < 64 → is_held (set busy residue word) unit place ≡ cond (eqb unit own && eqb place residue) held (is_held busy unit place)
 is_held-set busy residue word own held lt w unit place u =
     elim (cases_eq place residue) [
-      inl same ↦
-        let at : get_or (set busy residue word) place 0 ≡ word = ap (λ k. get_or (set busy residue word) k 0) same ∙ get_or-set_same busy residue word 0 lt in
-        ap (λ n. eqb (bit_at n unit) 1) at ∙ w unit u ∙ ap (λ k. cond (eqb unit own) held (is_held busy unit k)) (sym same)
-        ∙ ap (λ b. cond b held (is_held busy unit place)) (sym (and_with_true (eqb unit own) (eqb place residue) (eq-eqb place residue same)))
-    | inr other ↦
-        ap (λ n. eqb (bit_at n unit) 1) (get_or-set_other busy residue place word 0 other)
-        ∙ ap (λ b. cond b held (is_held busy unit place)) (sym (and_with_false (eqb unit own) (eqb place residue) (ne_eqb place residue other)))
+      | inl same ↦
+          let at : get_or (set busy residue word) place 0 ≡ word = ap (λ k. get_or (set busy residue word) k 0) same ∙ get_or-set_same busy residue word 0 lt in
+          ap (λ n. eqb (bit_at n unit) 1) at ∙ w unit u ∙ ap (λ k. cond (eqb unit own) held (is_held busy unit k)) (sym same)
+          ∙ ap (λ b. cond b held (is_held busy unit place)) (sym (and_with_true (eqb unit own) (eqb place residue) (eq-eqb place residue same)))
+      | inr other ↦
+          ap (λ n. eqb (bit_at n unit) 1) (get_or-set_other busy residue place word 0 other)
+          ∙ ap (λ b. cond b held (is_held busy unit place)) (sym (and_with_false (eqb unit own) (eqb place residue) (ne_eqb place residue other)))
     ]
 
 pub Repeats-once : (ii : ℕ) (busy : List ℕ) (residue word : ℕ) → residue < ii → length busy ≤ residue + ii → Repeats ii busy → Repeats ii (set busy residue word)
@@ -98,14 +98,14 @@ Repeats-twice ii busy residue word r there most rep place lt =
     let within : place + ii < length busy = omega (arith, long, length-set first (residue + ii) word) in
     let near : place ≢ residue + ii = λ e. omega arith in
     elim (cases_eq place residue) [
-      inl same ↦
-        ap (λ k. get_or (set first (residue + ii) word) (k + ii) 0) same ∙ get_or-set_same first (residue + ii) word 0 (omega arith)
-        ∙ sym (get_or-set_other first (residue + ii) place word 0 near ∙ ap (λ k. get_or first k 0) same ∙ get_or-set_same busy residue word 0 (omega arith))
-    | inr other ↦
-        let far : place + ii ≢ residue = λ e. omega arith in
-        let apart : place + ii ≢ residue + ii = λ e. other (omega arith) in
-        get_or-set_other first (residue + ii) (place + ii) word 0 apart ∙ get_or-set_other busy residue (place + ii) word 0 far ∙ rep place within
-        ∙ sym (get_or-set_other first (residue + ii) place word 0 near ∙ get_or-set_other busy residue place word 0 other)
+      | inl same ↦
+          ap (λ k. get_or (set first (residue + ii) word) (k + ii) 0) same ∙ get_or-set_same first (residue + ii) word 0 (omega arith)
+          ∙ sym (get_or-set_other first (residue + ii) place word 0 near ∙ ap (λ k. get_or first k 0) same ∙ get_or-set_same busy residue word 0 (omega arith))
+      | inr other ↦
+          let far : place + ii ≢ residue = λ e. omega arith in
+          let apart : place + ii ≢ residue + ii = λ e. other (omega arith) in
+          get_or-set_other first (residue + ii) (place + ii) word 0 apart ∙ get_or-set_other busy residue (place + ii) word 0 far ∙ rep place within
+          ∙ sym (get_or-set_other first (residue + ii) place word 0 near ∙ get_or-set_other busy residue place word 0 other)
     ]
 
 -- the repeat changes no word of the interval

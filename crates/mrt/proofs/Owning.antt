@@ -53,25 +53,26 @@ pub place_below : (ii units unit residue : ℕ) → unit < units → residue < i
 place_below ii units unit residue u r = omega (arith, mul-add-lt residue units unit ii r u, mul_comm units ii)
 
 same_place : (units unit residue unit' residue' : ℕ) → unit < units → unit' < units → residue * units + unit ≡ residue' * units + unit' → (unit ≡ unit') × (residue ≡ residue')
-same_place units unit residue unit' residue' u u' e =
-    (sym (mod-mul-add residue units unit u) ∙ ap (λ n. n % units) e ∙ mod-mul-add residue' units unit' u',
-     sym (div-mul-add residue units unit u) ∙ ap (λ n. n / units) e ∙ div-mul-add residue' units unit' u')
+same_place units unit residue unit' residue' u u' e = (
+  sym (mod-mul-add residue units unit u) ∙ ap (λ n. n % units) e ∙ mod-mul-add residue' units unit' u',
+  sym (div-mul-add residue units unit u) ∙ ap (λ n. n / units) e ∙ div-mul-add residue' units unit' u',
+)
 
 pub owner_at-set : (units : ℕ) (owners : List ℕ) (place unit' residue' v unit residue : ℕ) → place ≡ residue' * units + unit' → place < length owners → unit < units → unit' < units
     → owner_at units (set owners place v) unit residue ≡ cond (eqb unit unit' && eqb residue residue') v (owner_at units owners unit residue)
 owner_at-set units owners place unit' residue' v unit residue at lt u u' =
     elim (cases_eq (residue * units + unit) place) [
-      inl same ↦
-        let is = same_place units unit residue unit' residue' u u' (same ∙ at) in
-        ap (λ k. get_or (set owners place v) k 0) same ∙ get_or-set_same owners place v 0 lt
-        ∙ sym (ap (λ b. cond (b && eqb residue residue') v (owner_at units owners unit residue)) (eq-eqb unit unit' is.0) ∙ ap (λ b. cond b v (owner_at units owners unit residue)) (eq-eqb residue residue' is.1))
-    | inr other ↦
-        let off : (eqb unit unit' && eqb residue residue') ≡ false =
-                elim (cases_eq unit unit') [
-                  inl same ↦ ap (λ b. b && eqb residue residue') (eq-eqb unit unit' same) ∙ ne_eqb residue residue' (λ e. other (ap (λ r. r * units + unit) e ∙ ap (λ n. residue' * units + n) same ∙ sym at))
-                | inr ne ↦ ap (λ b. b && eqb residue residue') (ne_eqb unit unit' ne)
-                ] in
-        get_or-set_other owners place (residue * units + unit) v 0 other ∙ sym (ap (λ b. cond b v (owner_at units owners unit residue)) off)
+      | inl same ↦
+          let is = same_place units unit residue unit' residue' u u' (same ∙ at) in
+          ap (λ k. get_or (set owners place v) k 0) same ∙ get_or-set_same owners place v 0 lt
+          ∙ sym (ap (λ b. cond (b && eqb residue residue') v (owner_at units owners unit residue)) (eq-eqb unit unit' is.0) ∙ ap (λ b. cond b v (owner_at units owners unit residue)) (eq-eqb residue residue' is.1))
+      | inr other ↦
+          let off : (eqb unit unit' && eqb residue residue') ≡ false =
+          elim (cases_eq unit unit') [
+            | inl same ↦ ap (λ b. b && eqb residue residue') (eq-eqb unit unit' same) ∙ ne_eqb residue residue' (λ e. other (ap (λ r. r * units + unit) e ∙ ap (λ n. residue' * units + n) same ∙ sym at))
+            | inr ne ↦ ap (λ b. b && eqb residue residue') (ne_eqb unit unit' ne)
+          ] in
+          get_or-set_other owners place (residue * units + unit) v 0 other ∙ sym (ap (λ b. cond b v (owner_at units owners unit residue)) off)
     ]
 
 cond_again : {V : Type 0} (a b : Bool) (v w : V) → cond b v (cond a v w) ≡ cond (a || b) v w

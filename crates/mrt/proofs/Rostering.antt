@@ -111,8 +111,8 @@ table_of-new ii interval alternatives groups operations n i o =
 get_or_all : {X : Type 0} (P : List X → Type 0) (xss : List (List X)) (k : ℕ) → P [] → All P xss → P (get_or xss k [])
 get_or_all P xss k none all =
     elim (cases_lt k (length xss)) [
-      inl lt ↦ all k [] lt
-    | inr past ↦ subst P (sym (get_or_past xss k [] past)) none
+      | inl lt ↦ all k [] lt
+      | inr past ↦ subst P (sym (get_or_past xss k [] past)) none
     ]
 
 pub rows_of-all : (P : Row → Type 0) (alternatives : List (List Row)) (groups : List Group) → All (All P) alternatives

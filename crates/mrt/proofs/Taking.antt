@@ -17,10 +17,13 @@ use Rattle.mrt.proofs.Lists.{list_any_place, slice_get-set_same, slice_get-set_o
 pub takes_place : (ii : ℕ) (rows : List Row) (time unit residue : ℕ) → takes ii rows time unit residue ≡ true
     → (k : ℕ) × (k < length rows) × ((d : Row) → (unit ≡ (get_or rows k d).unit) × (residue ≡ residue_of ii (get_or rows k d) time))
 takes_place ii rows time unit residue h =
-    let p = list_any_place (λ (row : Row). eqb unit row.unit && eqb residue (residue_of ii row time)) rows h in
-    (p.0, p.1, λ d.
-        let both = and_parts (eqb unit (get_or rows p.0 d).unit) (eqb residue (residue_of ii (get_or rows p.0 d) time)) (p.2 d) in
-        (eqb-true unit (get_or rows p.0 d).unit both.0, eqb-true residue (residue_of ii (get_or rows p.0 d) time) both.1))
+    let p = list_any_place (λ (row : Row). eqb unit row.unit && eqb residue (residue_of ii row time)) rows h in (
+      p.0,
+      p.1,
+      λ d.
+          let both = and_parts (eqb unit (get_or rows p.0 d).unit) (eqb residue (residue_of ii (get_or rows p.0 d) time)) (p.2 d) in
+          (eqb-true unit (get_or rows p.0 d).unit both.0, eqb-true residue (residue_of ii (get_or rows p.0 d) time) both.1),
+    )
 
 pub takes_at : (ii : ℕ) (rows : List Row) (time unit residue k : ℕ) (d : Row) → k < length rows → unit ≡ (get_or rows k d).unit → residue ≡ residue_of ii (get_or rows k d) time
     → takes ii rows time unit residue ≡ true
@@ -83,10 +86,10 @@ module _ (ii : ℕ) (operations : Operations) (placed : Placements) where
           λ h. record { there = there; fits = record { sound = sound; meets_none = meets_none rows time covered (sym is ∙ not-true met h) } },
           λ f.
               elim (cases_Bool met) [
-                inl meets ↦
-                  let m = meets_some rows time covered (sym is ∙ meets) in
-                  absurd (f.fits.meets_none m.0 m.1)
-              | inr apart ↦ ap not apart
+                | inl meets ↦
+                    let m = meets_some rows time covered (sym is ∙ meets) in
+                    absurd (f.fits.meets_none m.0 m.1)
+                | inr apart ↦ ap not apart
               ],
         )
 
@@ -115,22 +118,22 @@ module _ (ii : ℕ) (operations : Operations) (placed : Placements) (op : ℕ) w
       → ((x ≡ op) × (takes ii (rows_of operations op at.alternative) at.time unit residue ≡ true)) ⊎ ((x ≢ op) × Takes ii operations placed unit residue x)
   Takes-placed at unit residue x t =
       elim (cases_eq x op) [
-        inl same ↦
-          let within : op < length placed = omega (arith, placed_within (set placed op (Some at)) x t.at t.is_placed, length-set placed op (Some at)) in
-          let own = ap option_flatten (slice_get-set_same placed op (Some at) within) in
-          let is : at ≡ t.at = same_Some at t.at (sym own ∙ ap (λ k. placement_of (set placed op (Some at)) k) (sym same) ∙ t.is_placed) in
-          let P : ℕ → Placement → Type 0 = λ k p. takes ii (rows_of operations k p.alternative) p.time unit residue ≡ true in
-          inl (same, subst (P op) (sym is) (subst (λ k. P k t.at) same t.takes))
+        | inl same ↦
+            let within : op < length placed = omega (arith, placed_within (set placed op (Some at)) x t.at t.is_placed, length-set placed op (Some at)) in
+            let own = ap option_flatten (slice_get-set_same placed op (Some at) within) in
+            let is : at ≡ t.at = same_Some at t.at (sym own ∙ ap (λ k. placement_of (set placed op (Some at)) k) (sym same) ∙ t.is_placed) in
+            let P : ℕ → Placement → Type 0 = λ k p. takes ii (rows_of operations k p.alternative) p.time unit residue ≡ true in
+            inl (same, subst (P op) (sym is) (subst (λ k. P k t.at) same t.takes))
         | inr other ↦ inr (other, takes_before (Some at) unit residue x other t)
       ]
 
   pub Takes-removed : (unit residue x : ℕ) → Takes ii operations (set placed op None) unit residue x → (x ≢ op) × Takes ii operations placed unit residue x
   Takes-removed unit residue x t =
       elim (cases_eq x op) [
-        inl same ↦
-          let within : op < length placed = omega (arith, placed_within (set placed op None) x t.at t.is_placed, length-set placed op None) in
-          let own = ap option_flatten (slice_get-set_same placed op None within) in
-          absurd (none-some t.at (sym own ∙ ap (λ k. placement_of (set placed op None) k) (sym same) ∙ t.is_placed))
+        | inl same ↦
+            let within : op < length placed = omega (arith, placed_within (set placed op None) x t.at t.is_placed, length-set placed op None) in
+            let own = ap option_flatten (slice_get-set_same placed op None within) in
+            absurd (none-some t.at (sym own ∙ ap (λ k. placement_of (set placed op None) k) (sym same) ∙ t.is_placed))
         | inr other ↦ (other, takes_before None unit residue x other t)
       ]
 

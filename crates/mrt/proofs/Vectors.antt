@@ -46,23 +46,23 @@ bit_of_zero_lanes met k p l =
 pub or_is_zero : (a b : ℕ) → eqb (bit_or a b) 0 ≡ (eqb a 0 && eqb b 0)
 or_is_zero a b =
     elim (cases_eq a 0) [
-      inl left ↦
-        elim (cases_eq b 0) [
-          inl right ↦ ap (λ n. eqb (bit_or n b) 0) left ∙ ap (λ n. eqb (bit_or 0 n) 0) right ∙ sym (ap (λ t. t && eqb b 0) (eq-eqb a 0 left) ∙ eq-eqb b 0 right)
-        | inr ne ↦
-            let more : bit_or a b ≢ 0 = λ e. ne (omega (arith, le_or_r a b)) in
-            ne_eqb (bit_or a b) 0 more ∙ sym (ap (λ t. t && eqb b 0) (eq-eqb a 0 left) ∙ ne_eqb b 0 ne)
-        ]
-    | inr ne ↦
-        let more : bit_or a b ≢ 0 = λ e. ne (omega (arith, le_or_l a b)) in
-        ne_eqb (bit_or a b) 0 more ∙ sym (ap (λ t. t && eqb b 0) (ne_eqb a 0 ne))
+      | inl left ↦
+          elim (cases_eq b 0) [
+            | inl right ↦ ap (λ n. eqb (bit_or n b) 0) left ∙ ap (λ n. eqb (bit_or 0 n) 0) right ∙ sym (ap (λ t. t && eqb b 0) (eq-eqb a 0 left) ∙ eq-eqb b 0 right)
+            | inr ne ↦
+                let more : bit_or a b ≢ 0 = λ e. ne (omega (arith, le_or_r a b)) in
+                ne_eqb (bit_or a b) 0 more ∙ sym (ap (λ t. t && eqb b 0) (eq-eqb a 0 left) ∙ ne_eqb b 0 ne)
+          ]
+      | inr ne ↦
+          let more : bit_or a b ≢ 0 = λ e. ne (omega (arith, le_or_l a b)) in
+          ne_eqb (bit_or a b) 0 more ∙ sym (ap (λ t. t && eqb b 0) (ne_eqb a 0 ne))
     ]
 
 mask_tests : (word mask own : ℕ) → mask ≡ 2 ^ own → eqb (bit_and word mask) 0 ≡ not (eqb (bit_at word own) 1)
 mask_tests word mask own m =
     elim (cases_eq (bit_and word mask) 0) [
-      inl none ↦ eq-eqb (bit_and word mask) 0 none ∙ sym (ap not (test_clear word mask own m none))
-    | inr some ↦ ne_eqb (bit_and word mask) 0 some ∙ sym (ap not (test_set word mask own m some))
+      | inl none ↦ eq-eqb (bit_and word mask) 0 none ∙ sym (ap not (test_clear word mask own m none))
+      | inr some ↦ ne_eqb (bit_and word mask) 0 some ∙ sym (ap not (test_set word mask own m some))
     ]
 
 neither : (a b : Bool) → (not a && not b) ≡ not (a || b)
@@ -75,12 +75,12 @@ pub word_later : (ii : ℕ) (busy : List ℕ) (row : Row) (time at k : ℕ) → 
 word_later ii busy row time at k eight long rep is below lt =
     let same : (time + row.offset) + k ≡ (time + k) + row.offset = omega arith in
     elim (cases_lt (at + k) ii) [
-      inl inside ↦ ap (λ n. get_or busy n 0) (sym (sym (ap (λ n. n % ii) same) ∙ residue_later ii at (time + row.offset) k (sym is) inside))
-    | inr past ↦
-        let whole : at + k ≡ (at + k - ii) + ii = omega arith in
-        let within : (at + k - ii) + ii < length busy = omega arith in
-        ap (λ n. get_or busy n 0) whole ∙ rep (at + k - ii) within
-        ∙ ap (λ n. get_or busy n 0) (sym (sym (ap (λ n. n % ii) same) ∙ residue_around ii at (time + row.offset) k (omega arith) (sym is) (omega arith) past))
+      | inl inside ↦ ap (λ n. get_or busy n 0) (sym (sym (ap (λ n. n % ii) same) ∙ residue_later ii at (time + row.offset) k (sym is) inside))
+      | inr past ↦
+          let whole : at + k ≡ (at + k - ii) + ii = omega arith in
+          let within : (at + k - ii) + ii < length busy = omega arith in
+          ap (λ n. get_or busy n 0) whole ∙ rep (at + k - ii) within
+          ∙ ap (λ n. get_or busy n 0) (sym (sym (ap (λ n. n % ii) same) ∙ residue_around ii at (time + row.offset) k (omega arith) (sym is) (omega arith) past))
     ]
 
 -- one slot more

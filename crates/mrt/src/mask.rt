@@ -4,10 +4,12 @@ ghost use Rattle.std.specs.Prelude.{◌≡◌, ◌↔◌, ◌+◌, ◌*◌, ◌%
 ghost use Rattle.std.specs.Int.{bit_at};
 ghost use Rattle.std.specs.List.{All};
 ghost use Rattle.machine.specs.Alternative.{residue_of};
-ghost use Rattle.mrt.specs.Placements.{alternatives_of, IsFree};
+ghost use Rattle.mrt.specs.Placements.{alternatives_of, IsFree, IsFirstFree};
+ghost use Rattle.mrt.specs.Searches.{IsFirstWithin};
 ghost use Rattle.mrt.specs.Slots.{IsSlot, rows_in, takes, meets_held};
 ghost use Rattle.mrt.specs.MaskTables.{is_held, Repeats};
 
+use crate::lanes::free_cycles;
 use crate::roster::{Issue, Roster};
 use crate::slot::Slot;
 use crate::table::ModuloTable;
@@ -60,10 +62,79 @@ impl MaskTable {
         let slots = self.roster.slots(op, alternative);
         !is_met(&self.busy, slots, self.roster.ii(), base)
     }
+
+    /// The first alternative by which an operation can be issued at the times with a residue.
+    fn first_alternative(&self, op: usize, base: usize) -> Option<usize>
+        requires there { op < length self.now.operations }
+        requires base { base < self.now.interval }
+        ensures { (time : ℕ) → time % self.now.interval ≡ base
+            → IsFirstFree self.now.interval self.now.operations self.now.placed op time result }
+    {
+        for alternative in 0..self.roster.count(op) {
+            if self.is_free(op, alternative, base) {
+                return Some(alternative);
+            }
+        }
+        None
+    }
+
+    /// After how many cycles, counted from one whose residue is `base`, an operation can first be
+    /// issued by an alternative; 8 where it cannot within eight.
+    fn first_cycle(&self, op: usize, alternative: usize, base: usize) -> u64
+        requires there { op < length self.now.operations }
+        requires alternative { alternative < length (alternatives_of self.now.operations op) }
+        requires base { base < self.now.interval }
+        requires eight { 8 ≤ self.now.interval }
+        ensures few { result ≤ 8 }
+        ensures none_sooner { (time sooner : ℕ) → time % self.now.interval ≡ base → sooner < result
+            → IsFree self.now.interval self.now.operations self.now.placed op (time + sooner) alternative → ⊥ }
+        ensures free { (time : ℕ) → time % self.now.interval ≡ base → result < 8
+            → IsFree self.now.interval self.now.operations self.now.placed op (time + result) alternative }
+    {
+        if self.roster.collides(op, alternative) {
+            return 8;
+        }
+        let slots = self.roster.slots(op, alternative);
+        let cycles = free_cycles(&self.busy, slots, self.roster.ii(), base);
+        u64::from(cycles.trailing_zeros().min(8))
+    }
+
+    /// After how many of eight cycles, counted from one whose residue is `base`, an operation can first
+    /// be issued, and the first alternative there.
+    fn first_of_eight(&self, op: usize, base: usize) -> Option<(u64, usize)>
+        requires there { op < length self.now.operations }
+        requires base { base < self.now.interval }
+        requires eight { 8 ≤ self.now.interval }
+        ensures { (time : ℕ) → time % self.now.interval ≡ base
+            → IsFirstWithin 8 self.now.interval self.now.operations self.now.placed op time result }
+    {
+        let mut first = 8;
+        let mut best = 0;
+        for alternative in 0..self.roster.count(op) {
+            let cycle = self.first_cycle(op, alternative, base);
+            if cycle < first {
+                first = cycle;
+                best = alternative;
+            }
+        }
+        if first < 8 { Some((first, best)) } else { None }
+    }
+}
+
+/// The residue of a time some cycles after one whose residue is `base`.
+fn later(base: usize, cycles: usize, ii: usize) -> usize
+    requires base { base < ii }
+    requires cycles { cycles ≤ ii }
+    requires few { ii ≤ 16384 }
+    ensures below { result < ii }
+    ensures value { (time : ℕ) → time % ii ≡ base → result ≡ (time + cycles) % ii }
+{
+    let sum = base + cycles;
+    if sum < ii { sum } else { sum - ii }
 }
 
 impl ModuloTable for MaskTable {
-    ghost use Rattle.mrt.specs.Placements.{Operations, Placements, IsFirstFree, IsFirstSlot, IsHolder};
+    ghost use Rattle.mrt.specs.Placements.{Operations, Placements, IsFirstSlot, IsHolder};
 
     ghost placed = { λ t. t.placed };
 
@@ -87,11 +158,27 @@ impl ModuloTable for MaskTable {
     }
 
     fn free(&self, op: usize, time: u64) -> Option<usize> {
-        let base = self.residue(time);
-        for alternative in 0..self.roster.count(op) {
-            if self.is_free(op, alternative, base) {
-                return Some(alternative);
+        self.first_alternative(op, self.residue(time))
+    }
+
+    fn first_free(&self, op: usize, start: u64) -> Option<(u64, usize)> {
+        let ii = self.roster.ii();
+        let end = start + ii as u64;
+        let mut time = start;
+        let mut base = self.residue(start);
+        while time + 8 <= end {
+            if let Some((cycle, alternative)) = self.first_of_eight(op, base) {
+                return Some((time + cycle, alternative));
             }
+            time += 8;
+            base = later(base, 8, ii);
+        }
+        while time < end {
+            if let Some(alternative) = self.first_alternative(op, base) {
+                return Some((time, alternative));
+            }
+            time += 1;
+            base = later(base, 1, ii);
         }
         None
     }
@@ -110,11 +197,14 @@ impl ModuloTable for MaskTable {
         let base = self.residue(time);
         let slots = self.roster.slots(op, alternative);
         mark(&mut self.busy, slots, ii, base, true);
-        self.roster.place(op, Issue {
-            time,
-            base,
-            alternative,
-        });
+        self.roster.place(
+            op,
+            Issue {
+                time,
+                base,
+                alternative,
+            },
+        );
     }
 
     fn release(&mut self, op: usize) {

@@ -113,11 +113,14 @@ impl ModuloTable for OwnerTable {
         let base = self.residue(time);
         let slots = self.roster.slots(op, alternative);
         mark(&mut self.owners, slots, ii, self.units, base, op);
-        self.roster.place(op, Issue {
-            time,
-            base,
-            alternative,
-        });
+        self.roster.place(
+            op,
+            Issue {
+                time,
+                base,
+                alternative,
+            },
+        );
     }
 
     fn release(&mut self, op: usize) {

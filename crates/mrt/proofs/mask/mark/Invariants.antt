@@ -8,5 +8,5 @@ abbrev pub invariant-loop-slot : goal.invariant-loop-slot
 invariant-loop-slot l = record {
   repeats : Repeats l.ii l.busy;
   marked : (time unit residue : ℕ) → time % l.ii ≡ l.base → unit < 64 → residue < l.ii
-      → is_held l.busy unit residue ≡ cond (takes l.ii (rows_in (take l.slot-index l.slots)) time unit residue) l.held (is_held l.initial.busy unit residue)
+      → is_held l.busy unit residue ≡ cond (takes l.ii (rows_in (take l.slot-index l.slots)) time unit residue) l.held (is_held l.initial.busy unit residue);
 }
