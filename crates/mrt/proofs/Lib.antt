@@ -1,0 +1,10 @@
+pub mod Residues
+pub mod Lists
+pub mod Choosing
+pub mod Rostering
+pub mod Taking
+pub mod Marking
+pub mod Owning
+pub mod Masking
+pub mod Vectors
+pub mod Searching

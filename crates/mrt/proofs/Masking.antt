@@ -1,0 +1,187 @@
+-- Words of units.
+use Rattle.std.proofs.Common.{◌≡◌, ◌≢◌, ℕ, ◌+◌, ◌-◌, ◌*◌, ◌/◌, ◌%◌, ◌^◌, ◌<◌, ◌≤◌, ◌⊎◌, inl, inr, Bool, true, false, ◌&&◌, ◌||◌, cond, not, eqb, bit_and, bit_or, List, length, get_or, set, map, take, replicate, Option, Some, None, MatchOption, refl, sym, ap, ◌∙◌, arith, eq-eqb, length-set, w64}
+use Rattle.std.specs.Int.{bit_at, bit_not}
+use Rattle.std.specs.List.{All, list_any}
+use Rattle.std.proofs.lemmas.Bool.{cases_eq, cases_Bool, ne_eqb, eqb-true, eqb-false, true≢false}
+use Rattle.std.proofs.lemmas.Nat.Bits.{bit_at-lt, bit_at_or, bit_at_and, bit_at_not, bit_at-pow_same, bit_at-pow_other, and_pow, bit_at-zero}
+use Rattle.std.proofs.lemmas.List.{get_or-set_same, get_or-set_other, get_or-replicate, length-replicate}
+use Rattle.std.proofs.Math.Pow.{pow_pos}
+use Rattle.machine.specs.declared.alternative.Row.{Row}
+use Rattle.machine.specs.Alternative.{residue_of}
+use Rattle.mrt.specs.declared.slot.Slot.{Slot}
+use Rattle.mrt.specs.Placements.{Operations, Placements, Placement, placement_of, rows_of, IsFree, Holds, IsHolder}
+use Rattle.mrt.specs.Rosters.{Table}
+use Rattle.mrt.specs.Slots.{rows_in, takes, Takes, meets_held, Occupies, AreApart}
+use Rattle.mrt.specs.MaskTables.{is_held, Repeats, IsMaskTable}
+use Rattle.mrt.proofs.Taking.{none_placed, takes_from_Holds, Holds-from_takes}
+use Rattle.mrt.proofs.Marking.{Occupies-placed, Occupies-removed, AreApart-placed, AreApart-removed}
+
+-- ---- one bit of a word
+pub with_set : (word mask own unit : ℕ) → mask ≡ 2 ^ own → eqb (bit_at (bit_or word mask) unit) 1 ≡ cond (eqb unit own) true (eqb (bit_at word unit) 1)
+with_set word mask own unit m =
+    let or = ap (λ k. bit_at (bit_or word k) unit) m ∙ bit_at_or word (2 ^ own) unit in
+    elim (cases_eq unit own) [
+      | inl same ↦
+          let one : bit_at (2 ^ own) unit ≡ 1 = ap (λ k. bit_at (2 ^ own) k) same ∙ bit_at-pow_same own in
+          let is : bit_at (bit_or word mask) unit ≡ 1 = omega (arith, or, one, bit_at-lt word unit) in
+          eq-eqb (bit_at (bit_or word mask) unit) 1 is ∙ sym (ap (λ b. cond b true (eqb (bit_at word unit) 1)) (eq-eqb unit own same))
+      | inr other ↦
+          let is : bit_at (bit_or word mask) unit ≡ bit_at word unit = omega (arith, or, bit_at-pow_other own unit other) in
+          ap (λ n. eqb n 1) is ∙ sym (ap (λ b. cond b true (eqb (bit_at word unit) 1)) (ne_eqb unit own other))
+    ]
+
+pub with_cleared : (word mask own unit : ℕ) → mask ≡ 2 ^ own → own < 64 → unit < 64 → mask < 2 ^ 64
+    → eqb (bit_at (bit_and word (2 ^ 64 - 1 - mask)) unit) 1 ≡ cond (eqb unit own) false (eqb (bit_at word unit) 1)
+with_cleared word mask own unit m o u fits =
+    let and = bit_at_and word (bit_not w64 mask) unit in
+    let not_is = bit_at_not w64 mask unit fits u in
+    elim (cases_eq unit own) [
+      | inl same ↦
+          let one : bit_at mask unit ≡ 1 = ap (λ k. bit_at k unit) m ∙ ap (λ k. bit_at (2 ^ own) k) same ∙ bit_at-pow_same own in
+          let is : bit_at (bit_and word (bit_not w64 mask)) unit ≡ 0 = omega (arith, and, not_is, one) in
+          ap (λ n. eqb n 1) is ∙ sym (ap (λ b. cond b false (eqb (bit_at word unit) 1)) (eq-eqb unit own same))
+      | inr other ↦
+          let zero_bit : bit_at mask unit ≡ 0 = ap (λ k. bit_at k unit) m ∙ bit_at-pow_other own unit other in
+          let is : bit_at (bit_and word (bit_not w64 mask)) unit ≡ bit_at word unit = omega (arith, and, not_is, zero_bit, bit_at-lt word unit) in
+          ap (λ n. eqb n 1) is ∙ sym (ap (λ b. cond b false (eqb (bit_at word unit) 1)) (ne_eqb unit own other))
+    ]
+
+pub test_clear : (word mask own : ℕ) → mask ≡ 2 ^ own → bit_and word mask ≡ 0 → eqb (bit_at word own) 1 ≡ false
+test_clear word mask own m h =
+    let product : bit_at word own * 2 ^ own ≡ 0 = sym (and_pow word own) ∙ ap (λ k. bit_and word k) (sym m) ∙ h in
+    ne_eqb (bit_at word own) 1 (λ e. omega (arith, ap (λ n. n * 2 ^ own) e, product, pow_pos own))
+
+pub test_set : (word mask own : ℕ) → mask ≡ 2 ^ own → bit_and word mask ≢ 0 → eqb (bit_at word own) 1 ≡ true
+test_set word mask own m ne =
+    elim (cases_eq (bit_at word own) 1) [
+      | inl one ↦ eq-eqb (bit_at word own) 1 one
+      | inr other ↦
+          let none : bit_at word own ≡ 0 = omega (arith, bit_at-lt word own) in
+          absurd (ne (ap (λ k. bit_and word k) m ∙ and_pow word own ∙ ap (λ n. n * 2 ^ own) none ∙ omega arith))
+    ]
+
+-- ---- one word, and its repeat
+and_with_true : (a b : Bool) → b ≡ true → (a && b) ≡ a
+and_with_true true b h = h
+and_with_true false b h = refl
+
+and_with_false : (a b : Bool) → b ≡ false → (a && b) ≡ false
+and_with_false true b h = h
+and_with_false false b h = refl
+
+-- a list in which the word at a residue, and where it is repeated, is another
+pub is_held-set : (busy : List ℕ) (residue word own : ℕ) (held : Bool) → residue < length busy
+    → ((unit : ℕ) → unit < 64 → eqb (bit_at word unit) 1 ≡ cond (eqb unit own) held (eqb (bit_at (get_or busy residue 0) unit) 1))
+    → (unit place : ℕ) → unit < 64 → is_held (set busy residue word) unit place ≡ cond (eqb unit own && eqb place residue) held (is_held busy unit place)
+is_held-set busy residue word own held lt w unit place u =
+    elim (cases_eq place residue) [
+      | inl same ↦
+          let at : get_or (set busy residue word) place 0 ≡ word = ap (λ k. get_or (set busy residue word) k 0) same ∙ get_or-set_same busy residue word 0 lt in
+          ap (λ n. eqb (bit_at n unit) 1) at ∙ w unit u ∙ ap (λ k. cond (eqb unit own) held (is_held busy unit k)) (sym same)
+          ∙ ap (λ b. cond b held (is_held busy unit place)) (sym (and_with_true (eqb unit own) (eqb place residue) (eq-eqb place residue same)))
+      | inr other ↦
+          ap (λ n. eqb (bit_at n unit) 1) (get_or-set_other busy residue place word 0 other)
+          ∙ ap (λ b. cond b held (is_held busy unit place)) (sym (and_with_false (eqb unit own) (eqb place residue) (ne_eqb place residue other)))
+    ]
+
+pub Repeats-once : (ii : ℕ) (busy : List ℕ) (residue word : ℕ) → residue < ii → length busy ≤ residue + ii → Repeats ii busy → Repeats ii (set busy residue word)
+Repeats-once ii busy residue word r past rep place lt =
+    let within : place + ii < length busy = omega (arith, length-set busy residue word) in
+    let ne : place ≢ residue = λ e. omega arith in
+    let far : place + ii ≢ residue = λ e. omega arith in
+    get_or-set_other busy residue (place + ii) word 0 far ∙ rep place within ∙ sym (get_or-set_other busy residue place word 0 ne)
+
+pub Repeats-twice : (ii : ℕ) (busy : List ℕ) (residue word : ℕ) → residue < ii → residue + ii < length busy → length busy ≤ ii + ii → Repeats ii busy → Repeats ii (set (set busy residue word) (residue + ii) word)
+Repeats-twice ii busy residue word r there most rep place lt =
+    let first = set busy residue word in
+    let long : length first ≡ length busy = length-set busy residue word in
+    let within : place + ii < length busy = omega (arith, long, length-set first (residue + ii) word) in
+    let near : place ≢ residue + ii = λ e. omega arith in
+    elim (cases_eq place residue) [
+      | inl same ↦
+          ap (λ k. get_or (set first (residue + ii) word) (k + ii) 0) same ∙ get_or-set_same first (residue + ii) word 0 (omega arith)
+          ∙ sym (get_or-set_other first (residue + ii) place word 0 near ∙ ap (λ k. get_or first k 0) same ∙ get_or-set_same busy residue word 0 (omega arith))
+      | inr other ↦
+          let far : place + ii ≢ residue = λ e. omega arith in
+          let apart : place + ii ≢ residue + ii = λ e. other (omega arith) in
+          get_or-set_other first (residue + ii) (place + ii) word 0 apart ∙ get_or-set_other busy residue (place + ii) word 0 far ∙ rep place within
+          ∙ sym (get_or-set_other first (residue + ii) place word 0 near ∙ get_or-set_other busy residue place word 0 other)
+    ]
+
+-- the repeat changes no word of the interval
+pub is_held-repeat : (ii : ℕ) (busy : List ℕ) (residue word unit place : ℕ) → place < ii → is_held (set busy (residue + ii) word) unit place ≡ is_held busy unit place
+is_held-repeat ii busy residue word unit place lt =
+    let ne : place ≢ residue + ii = λ e. omega arith in
+    ap (λ n. eqb (bit_at n unit) 1) (get_or-set_other busy (residue + ii) place word 0 ne)
+
+-- ---- the table as it changes
+pub IsMaskTable-new : (ii n words : ℕ) (operations : Operations) → n ≡ length operations → ii ≤ words → words ≤ ii + ii → (8 ≤ ii → words ≡ ii + 7) → IsMaskTable (record { interval = ii; operations = operations; placed = replicate n None }) (replicate words 0)
+IsMaskTable-new ii n words operations whole least most spare = record {
+  whole = length-replicate n None ∙ whole;
+  apart = λ unit residue x y s t. absurd (none_placed n x s.at s.is_placed);
+  least = omega (arith, length-replicate {A = ℕ} words 0);
+  most = omega (arith, length-replicate {A = ℕ} words 0);
+  spare = λ long. length-replicate words 0 ∙ spare long;
+  occupied = record {
+    marked = λ unit residue op u r t. absurd (none_placed n op t.at t.is_placed);
+    owed = λ unit residue u r h.
+        let word : get_or (replicate words 0) residue 0 ≡ 0 = get_or-replicate words residue 0 0 (omega arith) in
+        absurd (true≢false (sym h ∙ ap (λ w. eqb (bit_at w unit) 1) word ∙ ap (λ b. eqb b 1) (bit_at-zero unit)));
+  };
+  repeats = λ place lt.
+      let within : place + ii < words = omega (arith, length-replicate {A = ℕ} words 0) in
+      get_or-replicate words (place + ii) 0 0 within ∙ sym (get_or-replicate words place 0 0 (omega arith));
+}
+
+module _ (table : Table) (busy busy' : List ℕ) (op : ℕ) (at : Placement) (kept : IsMaskTable table busy) (long : length busy' ≡ length busy) (again : Repeats table.interval busy') where
+  pub IsMaskTable-placed : op < length table.operations → placement_of table.placed op ≡ None → IsFree table.interval table.operations table.placed op at.time at.alternative
+      → ((unit residue : ℕ) → unit < 64 → residue < table.interval
+      → is_held busy' unit residue ≡ cond (takes table.interval (rows_of table.operations op at.alternative) at.time unit residue) true (is_held busy unit residue))
+      → IsMaskTable (record table { placed = set table.placed op (Some at) }) busy'
+  IsMaskTable-placed there unplaced free write =
+      let within : op < length table.placed = omega (arith, there, kept.whole) in
+      record {
+        whole = length-set table.placed op (Some at) ∙ kept.whole;
+        apart = AreApart-placed table.interval 64 table.operations table.placed op at within unplaced free.fits.meets_none kept.apart;
+        least = omega (arith, long, kept.least);
+        most = omega (arith, long, kept.most);
+        spare = λ h. long ∙ kept.spare h;
+        occupied = Occupies-placed table.interval 64 table.operations table.placed op at within unplaced free.fits.meets_none (is_held busy) (is_held busy') write kept.occupied;
+        repeats = again;
+      }
+
+  pub IsMaskTable-removed : placement_of table.placed op ≡ Some at
+      → ((unit residue : ℕ) → unit < 64 → residue < table.interval
+      → is_held busy' unit residue ≡ cond (takes table.interval (rows_of table.operations op at.alternative) at.time unit residue) false (is_held busy unit residue))
+      → IsMaskTable (record table { placed = set table.placed op None }) busy'
+  IsMaskTable-removed is_placed write = record {
+    whole = length-set table.placed op None ∙ kept.whole;
+    apart = AreApart-removed table.interval 64 table.operations table.placed op at is_placed kept.apart;
+    least = omega (arith, long, kept.least);
+    most = omega (arith, long, kept.most);
+    spare = λ h. long ∙ kept.spare h;
+    occupied = Occupies-removed table.interval 64 table.operations table.placed op at is_placed kept.apart (is_held busy) (is_held busy') write kept.occupied;
+    repeats = again;
+  }
+
+-- ---- who holds a slot
+module _ (ii : ℕ) (operations : Operations) (placed : Placements) (row : Row) (time : ℕ) where
+  pub nobody_holds : ((op : ℕ) → Takes ii operations placed row.unit (residue_of ii row time) op → ⊥) → (holder : ℕ) → Holds ii operations placed row time holder → ⊥
+  nobody_holds none holder h = none holder (takes_from_Holds ii operations placed row time holder h)
+
+  pub unmarked : (busy : List ℕ) → 0 < ii → row.unit < 64 → Occupies ii 64 operations placed (is_held busy) → is_held busy row.unit (residue_of ii row time) ≡ false
+      → (op : ℕ) → Takes ii operations placed row.unit (residue_of ii row time) op → ⊥
+  unmarked busy some u o clear op t = true≢false (sym (o.marked row.unit (residue_of ii row time) op u (omega arith) t) ∙ clear)
+
+  pub taker_holds : AreApart ii operations placed → (holder : ℕ) → Takes ii operations placed row.unit (residue_of ii row time) holder
+      → Holds ii operations placed row time holder × ((other : ℕ) → Holds ii operations placed row time other → other ≡ holder)
+  taker_holds apart holder t = (
+    Holds-from_takes ii operations placed row time holder t,
+    λ other h. apart row.unit (residue_of ii row time) other holder (takes_from_Holds ii operations placed row time other h) t,
+  )
+
+  pub holder_of_taker : AreApart ii operations placed → (found : Option ℕ)
+      → MatchOption found ((op : ℕ) → Takes ii operations placed row.unit (residue_of ii row time) op → ⊥) (Takes ii operations placed row.unit (residue_of ii row time))
+      → IsHolder ii operations placed row time found
+  holder_of_taker apart None none = nobody_holds none
+  holder_of_taker apart (Some holder) t = taker_holds apart holder t

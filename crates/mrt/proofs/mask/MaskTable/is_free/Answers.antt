@@ -1,0 +1,16 @@
+use Rattle.std.proofs.Common.{◌≡◌, ◌%◌, ◌<◌, length, sym}
+use Rattle.mrt.specs.Placements.{alternatives_of}
+use Rattle.mrt.specs.MaskTables.{is_held}
+use Rattle.mrt.proofs.Choosing.{slot_units}
+use Rattle.mrt.proofs.Taking.{free_from_unmet}
+use Rattle.mrt.proofs.mask.MaskTable.is_free.Goals as goal
+
+pub returns : goal.returns
+returns c time base =
+    let t = c.self.inside.roster in
+    let i = c.self.invariant in
+    let b : time % t.interval ≡ c.args.base = rw c.self.view_is base in
+    let there : c.args.alternative < length (alternatives_of t.operations c.args.op) = rw c.self.view_is c.requires.alternative in
+    let met = rw (c.ii.ensures.value, c.deref.ensures.value, c.slots-slots.ensures.rows) at (c.is_met.ensures time (rw c.ii.ensures.value b)) in
+    rw (← c.self.view_is) (free_from_unmet t.interval t.operations t.placed 64 (is_held c.self.inside.busy.items) c.ii.ensures.some i.occupied
+    c.args.op c.args.alternative time c.is_met.result there (slot_units t.interval c.slots-slots.result.now _ c.slots-slots.ensures.rows c.slots-slots.ensures.slots) (sym c.if-collides.ensures) met)

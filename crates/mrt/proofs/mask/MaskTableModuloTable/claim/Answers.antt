@@ -1,0 +1,20 @@
+use Rattle.std.proofs.Common.{◌≡◌, ◌%◌, ◌<◌, None, length, drop, sym, ap, ◌∙◌}
+use Rattle.std.proofs.lemmas.List.{take_at}
+use Rattle.mrt.specs.Placements.{Placement, placement_of, IsFree}
+use Rattle.mrt.specs.MaskTables.{Repeats}
+use Rattle.mrt.proofs.Masking.{IsMaskTable-placed}
+use Rattle.mrt.proofs.mask.MaskTableModuloTable.claim.Goals as goal
+
+pub invariant_of-self : goal.invariant_of-self
+invariant_of-self c =
+    let t = c.self.inside.roster in
+    let at : Placement = record { time = c.args.time; alternative = c.args.alternative } in
+    let base : c.args.time % t.interval ≡ c.residue-base.result = rw c.self.view_is (sym c.residue-base.ensures.value) in
+    let there : c.args.op < length t.operations = rw c.self.view_is c.requires.there in
+    let unplaced : placement_of t.placed c.args.op ≡ None = rw c.self.view_is c.requires.unplaced in
+    let free : IsFree t.interval t.operations t.placed c.args.op c.args.time c.args.alternative = rw c.self.view_is c.requires.free in
+    let long : length c.mark.new.busy ≡ length c.self.inside.busy.items = c.mark.auto.busy ∙ ap length c.deref_mut.ensures.value in
+    let whole = take_at c.mark.new.busy (drop (length c.mark.new.busy) c.self.inside.busy.items) c.self.inside.busy.len (long ∙ sym c.self.inside.busy.ok.0) in
+    let again : Repeats t.interval c.mark.new.busy = rw c.ii-ii.ensures.value at c.mark.ensures.repeats in
+    rw (c.place.ensures, whole) (IsMaskTable-placed t c.self.inside.busy.items c.mark.new.busy c.args.op at c.self.invariant long again there unplaced free
+    (λ unit residue u r. rw (c.ii-ii.ensures.value, c.slots-slots.ensures.rows, c.deref_mut.ensures.value) at (c.mark.ensures.marked c.args.time unit residue (rw c.ii-ii.ensures.value base) u (rw c.ii-ii.ensures.value r))))

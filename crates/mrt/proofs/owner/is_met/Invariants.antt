@@ -1,0 +1,9 @@
+use Rattle.std.proofs.Common.{◌≡◌, ℕ, ◌%◌, false, take}
+use Rattle.mrt.specs.Slots.{rows_in, meets_held}
+use Rattle.mrt.specs.OwnerTables.{is_owned}
+use Rattle.mrt.proofs.owner.is_met.Given as goal
+
+-- no slot so far has an owner
+abbrev pub invariant-loop-slot : goal.invariant-loop-slot
+invariant-loop-slot l =
+    (time : ℕ) → time % l.ii ≡ l.base → meets_held l.ii (is_owned l.units l.owners) (rows_in (take l.slot-index l.slots)) time ≡ false

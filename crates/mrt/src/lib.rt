@@ -1,0 +1,15 @@
+//! The modulo reservation table: which operations hold which units in which cycles of the initiation
+//! interval.
+#![tactic(auto)]
+
+mod choices;
+mod lanes;
+mod mask;
+mod owner;
+mod roster;
+mod slot;
+mod table;
+
+pub use mask::MaskTable;
+pub use owner::OwnerTable;
+pub use table::ModuloTable;

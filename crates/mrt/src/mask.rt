@@ -1,0 +1,277 @@
+//! A modulo reservation table as a word of units for each residue.
+
+ghost use Rattle.std.specs.Prelude.{◌≡◌, ◌↔◌, ◌+◌, ◌*◌, ◌%◌, ◌^◌, ◌<◌, ◌≤◌, ◌==◌, ◌&&◌, ℕ, List, length, replicate, Option, Some, None, IsNone, IsSome, IsTrue, IfOk, if◌then◌else◌, slice_set, slice_index_or, slice_get};
+ghost use Rattle.std.specs.Int.{bit_at};
+ghost use Rattle.std.specs.List.{All};
+ghost use Rattle.machine.specs.Alternative.{residue_of};
+ghost use Rattle.mrt.specs.Placements.{alternatives_of, IsFree, IsFirstFree};
+ghost use Rattle.mrt.specs.Searches.{IsFirstWithin};
+ghost use Rattle.mrt.specs.Slots.{IsSlot, rows_in, takes, meets_held};
+ghost use Rattle.mrt.specs.MaskTables.{is_held, Repeats};
+
+use crate::lanes::free_cycles;
+use crate::roster::{Issue, Roster};
+use crate::slot::Slot;
+use crate::table::ModuloTable;
+use machine::{Alternatives, OutOfMemory};
+use std::alloc::Global;
+use std::marker::Model;
+
+/// A modulo reservation table that keeps, for each residue, one word whose bit `u` tells that unit `u`
+/// is held, beside the list of placements. Contracts see the interval, the alternatives of each
+/// operation and the set of placements.
+#[derive(Drop)]
+pub struct MaskTable {
+    roster: Roster,
+    /// The words by residue. From an interval of 8 on, the first seven are repeated at the end, so that
+    /// those of eight consecutive cycles always stand side by side.
+    busy: Vec<u64>,
+}
+
+impl Model for MaskTable {
+    ghost use Rattle.mrt.specs.Rosters.{Table};
+    ghost use Rattle.mrt.specs.MaskTables.{IsMaskTable};
+
+    ghost Value = { Table };
+
+    ghost view = { λ t. t.roster };
+
+    ghost invariant = { λ t. IsMaskTable t.roster t.busy.items };
+}
+
+impl MaskTable {
+    /// A time modulo the interval.
+    fn residue(&self, time: u64) -> usize
+        ensures value { result ≡ time % self.now.interval }
+        ensures below { result < self.now.interval }
+    {
+        (time % self.roster.ii() as u64) as usize
+    }
+
+    /// Whether an operation can be issued by one of its alternatives at the times with a residue.
+    fn is_free(&self, op: usize, alternative: usize, base: usize) -> bool
+        requires there { op < length self.now.operations }
+        requires alternative { alternative < length (alternatives_of self.now.operations op) }
+        requires base { base < self.now.interval }
+        ensures { (time : ℕ) → time % self.now.interval ≡ base
+            → IsTrue result ↔ IsFree self.now.interval self.now.operations self.now.placed op time alternative }
+    {
+        if self.roster.collides(op, alternative) {
+            return false;
+        }
+        let slots = self.roster.slots(op, alternative);
+        !is_met(&self.busy, slots, self.roster.ii(), base)
+    }
+
+    /// The first alternative by which an operation can be issued at the times with a residue.
+    fn first_alternative(&self, op: usize, base: usize) -> Option<usize>
+        requires there { op < length self.now.operations }
+        requires base { base < self.now.interval }
+        ensures { (time : ℕ) → time % self.now.interval ≡ base
+            → IsFirstFree self.now.interval self.now.operations self.now.placed op time result }
+    {
+        for alternative in 0..self.roster.count(op) {
+            if self.is_free(op, alternative, base) {
+                return Some(alternative);
+            }
+        }
+        None
+    }
+
+    /// After how many cycles, counted from one whose residue is `base`, an operation can first be
+    /// issued by an alternative; 8 where it cannot within eight.
+    fn first_cycle(&self, op: usize, alternative: usize, base: usize) -> u64
+        requires there { op < length self.now.operations }
+        requires alternative { alternative < length (alternatives_of self.now.operations op) }
+        requires base { base < self.now.interval }
+        requires eight { 8 ≤ self.now.interval }
+        ensures few { result ≤ 8 }
+        ensures none_sooner { (time sooner : ℕ) → time % self.now.interval ≡ base → sooner < result
+            → IsFree self.now.interval self.now.operations self.now.placed op (time + sooner) alternative → ⊥ }
+        ensures free { (time : ℕ) → time % self.now.interval ≡ base → result < 8
+            → IsFree self.now.interval self.now.operations self.now.placed op (time + result) alternative }
+    {
+        if self.roster.collides(op, alternative) {
+            return 8;
+        }
+        let slots = self.roster.slots(op, alternative);
+        let cycles = free_cycles(&self.busy, slots, self.roster.ii(), base);
+        u64::from(cycles.trailing_zeros().min(8))
+    }
+
+    /// After how many of eight cycles, counted from one whose residue is `base`, an operation can first
+    /// be issued, and the first alternative there.
+    fn first_of_eight(&self, op: usize, base: usize) -> Option<(u64, usize)>
+        requires there { op < length self.now.operations }
+        requires base { base < self.now.interval }
+        requires eight { 8 ≤ self.now.interval }
+        ensures { (time : ℕ) → time % self.now.interval ≡ base
+            → IsFirstWithin 8 self.now.interval self.now.operations self.now.placed op time result }
+    {
+        let mut first = 8;
+        let mut best = 0;
+        for alternative in 0..self.roster.count(op) {
+            let cycle = self.first_cycle(op, alternative, base);
+            if cycle < first {
+                first = cycle;
+                best = alternative;
+            }
+        }
+        if first < 8 { Some((first, best)) } else { None }
+    }
+}
+
+/// The residue of a time some cycles after one whose residue is `base`.
+fn later(base: usize, cycles: usize, ii: usize) -> usize
+    requires base { base < ii }
+    requires cycles { cycles ≤ ii }
+    requires few { ii ≤ 16384 }
+    ensures below { result < ii }
+    ensures value { (time : ℕ) → time % ii ≡ base → result ≡ (time + cycles) % ii }
+{
+    let sum = base + cycles;
+    if sum < ii { sum } else { sum - ii }
+}
+
+impl ModuloTable for MaskTable {
+    ghost use Rattle.mrt.specs.Placements.{Operations, Placements, IsFirstSlot, IsHolder};
+
+    ghost placed = { λ t. t.placed };
+
+    ghost operations = { λ t. t.operations };
+
+    ghost interval = { λ t. t.interval };
+
+    fn make(
+        alloc: Global,
+        alternatives: &[Alternatives],
+        ii: u64,
+    ) -> Result<MaskTable, OutOfMemory> {
+        let roster = Roster::new(alloc, alternatives, ii as usize)?;
+        let words = if ii < 8 { ii } else { ii + 7 };
+        let busy = vec![in alloc; 0; words as usize]?;
+        Ok(MaskTable { roster, busy })
+    }
+
+    fn ii(&self) -> u64 {
+        self.roster.ii() as u64
+    }
+
+    fn free(&self, op: usize, time: u64) -> Option<usize> {
+        self.first_alternative(op, self.residue(time))
+    }
+
+    fn first_free(&self, op: usize, start: u64) -> Option<(u64, usize)> {
+        let ii = self.roster.ii();
+        let end = start + ii as u64;
+        let mut time = start;
+        let mut base = self.residue(start);
+        while time + 8 <= end {
+            if let Some((cycle, alternative)) = self.first_of_eight(op, base) {
+                return Some((time + cycle, alternative));
+            }
+            time += 8;
+            base = later(base, 8, ii);
+        }
+        while time < end {
+            if let Some(alternative) = self.first_alternative(op, base) {
+                return Some((time, alternative));
+            }
+            time += 1;
+            base = later(base, 1, ii);
+        }
+        None
+    }
+
+    fn holder(&self, op: usize, alternative: usize, row: usize, time: u64) -> Option<usize> {
+        let slot = self.roster.slots(op, alternative)[row];
+        let residue = slot.residue(self.residue(time), self.roster.ii());
+        if self.busy[residue] & slot.mask == 0 {
+            return None;
+        }
+        self.roster.taker(slot.row.unit, residue)
+    }
+
+    fn claim(&mut self, op: usize, time: u64, alternative: usize) {
+        let ii = self.roster.ii();
+        let base = self.residue(time);
+        let slots = self.roster.slots(op, alternative);
+        mark(&mut self.busy, slots, ii, base, true);
+        self.roster.place(
+            op,
+            Issue {
+                time,
+                base,
+                alternative,
+            },
+        );
+    }
+
+    fn release(&mut self, op: usize) {
+        if let Some(issue) = self.roster.issue(op) {
+            let ii = self.roster.ii();
+            let slots = self.roster.slots(op, issue.alternative);
+            mark(&mut self.busy, slots, ii, issue.base, false);
+            self.roster.remove(op);
+        }
+    }
+}
+
+/// Whether some slot is held.
+fn is_met(busy: &[u64], slots: &[Slot], ii: usize, base: usize) -> bool
+    requires long { ii ≤ length busy.now }
+    requires slots { All (IsSlot ii) slots.now }
+    requires base { base < ii }
+    requires few { ii ≤ 16384 }
+    ensures { (time : ℕ) → time % ii ≡ base → result ≡ meets_held ii (is_held busy.now) (rows_in slots.now) time }
+{
+    for slot in slots {
+        if busy[slot.residue(base, ii)] & slot.mask != 0 {
+            return true;
+        }
+    }
+    false
+}
+
+/// Sets or clears the bits of slots.
+fn mark(busy: &mut [u64], slots: &[Slot], ii: usize, base: usize, held: bool)
+    requires least { ii ≤ length busy.old }
+    requires most { length busy.old ≤ ii + ii }
+    requires slots { All (IsSlot ii) slots.now }
+    requires base { base < ii }
+    requires few { ii ≤ 16384 }
+    requires repeats { Repeats ii busy.old }
+    ensures repeats { Repeats ii busy.new }
+    ensures marked { (time unit residue : ℕ) → time % ii ≡ base → unit < 64 → residue < ii
+        → is_held busy.new unit residue ≡ (if takes ii (rows_in slots.now) time unit residue then held else is_held busy.old unit residue) }
+{
+    for slot in slots {
+        write(busy, ii, slot.residue(base, ii), slot.mask, held);
+    }
+}
+
+/// Sets or clears the bit of a mask in the word of a residue, and where that word is repeated.
+fn write(busy: &mut [u64], ii: usize, residue: usize, mask: u64, held: bool)
+    requires least { ii ≤ length busy.old }
+    requires most { length busy.old ≤ ii + ii }
+    requires few { ii ≤ 16384 }
+    requires residue { residue < ii }
+    requires repeats { Repeats ii busy.old }
+    ensures repeats { Repeats ii busy.new }
+    ensures marked { (own unit place : ℕ) → mask ≡ 2 ^ own → own < 64 → unit < 64 → place < ii
+        → is_held busy.new unit place ≡ (if (unit == own) && (place == residue) then held else is_held busy.old unit place) }
+{
+    let word = with_bit(busy[residue], mask, held);
+    busy[residue] = word;
+    if residue + ii < busy.len() {
+        busy[residue + ii] = word;
+    }
+}
+
+/// A word with the bit of a mask set or cleared.
+fn with_bit(word: u64, mask: u64, held: bool) -> u64
+    ensures { (own unit : ℕ) → mask ≡ 2 ^ own → own < 64 → unit < 64
+        → (bit_at result unit == 1) ≡ (if unit == own then held else (bit_at word unit == 1)) }
+{
+    if held { word | mask } else { word & !mask }
+}

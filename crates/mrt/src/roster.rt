@@ -1,0 +1,204 @@
+//! Operations with their alternatives at one initiation interval, and their placements.
+
+ghost use Rattle.std.specs.Prelude.{◌≡◌, ◌++◌, ◌%◌, ◌^◌, ◌<◌, ◌≤◌, ℕ, List, length, replicate, Some, None, IfOk, IfSome, MatchOption, option_map, slice_set};
+ghost use Rattle.std.specs.List.{All};
+ghost use Rattle.machine.specs.Alternative.{IsAlternative, collides};
+ghost use Rattle.mrt.specs.Placements.{placement_of, alternatives_of, rows_of};
+ghost use Rattle.mrt.specs.Slots.{IsSlot, rows_in, takes, Takes};
+
+use crate::choices::Choices;
+use crate::slot::Slot;
+use machine::{Alternative, Alternatives, OutOfMemory};
+use std::alloc::Global;
+use std::marker::Model;
+
+/// Where the alternatives of one operation stand among all.
+#[derive(Clone, Copy)]
+struct Group {
+    first: usize,
+    end: usize,
+}
+
+/// When an operation is issued, and by which of its alternatives.
+#[derive(Clone, Copy)]
+pub(crate) struct Issue {
+    pub(crate) time: u64,
+    /// The time modulo the interval.
+    pub(crate) base: usize,
+    pub(crate) alternative: usize,
+}
+
+/// Operations and their placements. Contracts see the interval, the alternatives and the placements.
+#[derive(Drop)]
+pub(crate) struct Roster {
+    choices: Choices,
+    groups: Vec<Group>,
+    issues: Vec<Option<Issue>>,
+}
+
+impl Model for Roster {
+    ghost use Rattle.mrt.specs.Rosters.{Table, table_of, IsRoster};
+
+    ghost Value = { Table };
+
+    ghost view = { λ r. table_of r.choices.interval r.choices.alternatives r.groups.items r.issues.items };
+
+    ghost invariant = { λ r. IsRoster r.choices.interval r.choices.alternatives r.groups.items r.issues.items };
+}
+
+impl Roster {
+    ghost use Rattle.mrt.specs.Rosters.{placement, IsIssue};
+
+    /// These operations, with nothing placed.
+    pub(crate) fn new(
+        alloc: Global,
+        operations: &[Alternatives],
+        ii: usize,
+    ) -> Result<Roster, OutOfMemory>
+        requires some { 0 < ii }
+        requires few { ii ≤ 16384 }
+        ensures short { length operations.now < 2 ^ 64 }
+        ensures value { IfOk result
+            (λ r. r ≡ record { interval = ii; operations = operations.now; placed = replicate (length operations.now) None }) }
+    {
+        let mut choices = Choices::new(alloc, ii);
+        let mut groups = Vec::with_capacity(alloc, operations.len())?;
+        let issues = vec![in alloc; None; operations.len()]?;
+        for operation in operations {
+            let first = choices.len();
+            push_all(&mut choices, operation.as_slice())?;
+            let end = choices.len();
+            groups.push(Group { first, end })?;
+        }
+        Ok(Roster {
+            choices,
+            groups,
+            issues,
+        })
+    }
+
+    /// The interval, in cycles.
+    pub(crate) fn ii(&self) -> usize
+        ensures value { result ≡ self.now.interval }
+        ensures some { 0 < self.now.interval }
+        ensures few { self.now.interval ≤ 16384 }
+    {
+        self.choices.ii()
+    }
+
+    /// How many operations there are.
+    pub(crate) fn len(&self) -> usize
+        ensures value { result ≡ length self.now.operations }
+        ensures placed { result ≡ length self.now.placed }
+    {
+        self.groups.len()
+    }
+
+    /// One more than the greatest unit of an alternative, or 0.
+    pub(crate) fn units(&self) -> usize
+        ensures few { result ≤ 64 }
+        ensures covered { (op alternative : ℕ) → All (λ r. r.unit < result) (rows_of self.now.operations op alternative) }
+    {
+        self.choices.units()
+    }
+
+    /// How many alternatives an operation has.
+    pub(crate) fn count(&self, op: usize) -> usize
+        requires { op < length self.now.operations }
+        ensures { result ≡ length (alternatives_of self.now.operations op) }
+    {
+        let group = self.groups[op];
+        group.end - group.first
+    }
+
+    /// Whether two rows of an alternative meet.
+    pub(crate) fn collides(&self, op: usize, alternative: usize) -> bool
+        requires there { op < length self.now.operations }
+        requires alternative { alternative < length (alternatives_of self.now.operations op) }
+        ensures { result ≡ collides self.now.interval (rows_of self.now.operations op alternative) }
+    {
+        let group = self.groups[op];
+        self.choices.collides(group.first + alternative)
+    }
+
+    /// The slots of an alternative.
+    pub(crate) fn slots(&self, op: usize, alternative: usize) -> &[Slot]
+        requires there { op < length self.now.operations }
+        requires alternative { alternative < length (alternatives_of self.now.operations op) }
+        ensures rows { rows_in result.now ≡ rows_of self.now.operations op alternative }
+        ensures slots { All (IsSlot self.now.interval) result.now }
+    {
+        let group = self.groups[op];
+        self.choices.slots(group.first + alternative)
+    }
+
+    /// Where an operation is placed.
+    pub(crate) fn issue(&self, op: usize) -> Option<Issue>
+        requires { op < length self.now.operations }
+        ensures value { option_map placement result ≡ placement_of self.now.placed op }
+        ensures kept { IfSome result (IsIssue self.now.interval self.now.operations op) }
+    {
+        self.issues[op]
+    }
+
+    /// An operation that takes a slot, if there is one.
+    pub(crate) fn taker(&self, unit: u8, residue: usize) -> Option<usize>
+        ensures { MatchOption result
+            ((op : ℕ) → Takes self.now.interval self.now.operations self.now.placed unit residue op → ⊥)
+            (Takes self.now.interval self.now.operations self.now.placed unit residue) }
+    {
+        for op in 0..self.len() {
+            if let Some(issue) = self.issue(op) {
+                let slots = self.slots(op, issue.alternative);
+                if takes(slots, self.ii(), issue.base, unit, residue) {
+                    return Some(op);
+                }
+            }
+        }
+        None
+    }
+
+    /// Places an operation.
+    pub(crate) fn place(&mut self, op: usize, issue: Issue)
+        requires there { op < length self.old.operations }
+        requires issue { IsIssue self.old.interval self.old.operations op issue }
+        ensures { self.new ≡ record self.old { placed = slice_set self.old.placed op (Some (placement issue)) } }
+    {
+        self.issues[op] = Some(issue);
+    }
+
+    /// Takes an operation out.
+    pub(crate) fn remove(&mut self, op: usize)
+        requires { op < length self.old.operations }
+        ensures { self.new ≡ record self.old { placed = slice_set self.old.placed op None } }
+    {
+        self.issues[op] = None;
+    }
+}
+
+/// Whether one of the slots, for an operation issued at a time whose residue is `base`, is this one.
+fn takes(slots: &[Slot], ii: usize, base: usize, unit: u8, residue: usize) -> bool
+    requires slots { All (IsSlot ii) slots.now }
+    requires base { base < ii }
+    requires few { ii ≤ 16384 }
+    ensures { (time : ℕ) → time % ii ≡ base → result ≡ takes ii (rows_in slots.now) time unit residue }
+{
+    for slot in slots {
+        if slot.row.unit == unit && slot.residue(base, ii) == residue {
+            return true;
+        }
+    }
+    false
+}
+
+/// Adds the alternatives of one operation.
+fn push_all(choices: &mut Choices, alternatives: &[Alternative]) -> Result<(), OutOfMemory>
+    requires { All IsAlternative alternatives.now }
+    ensures interval { choices.new.interval ≡ choices.old.interval }
+    ensures pushed { IfOk result (λ _. choices.new.alternatives ≡ choices.old.alternatives ++ alternatives.now) }
+{
+    for alternative in alternatives {
+        choices.push(alternative.rows())?;
+    }
+    Ok(())
+}
