@@ -1,5 +1,5 @@
 -- A loop's turn over the elements of an array, whose faults come one after another.
-use Rattle.std.proofs.Common.{◌≡◌, ℕ, suc, ◌+◌, ◌<◌, ◌≤◌, List, [], ◌∷◌, ◌++◌, length, get_or, take, drop, map, Some, refl, sym, ap, ◌∙◌, arith, rules}
+use Rattle.std.proofs.Common.{◌≡◌, ℕ, suc, ◌+◌, ◌<◌, ◌≤◌, List, [], ◌∷◌, ◌++◌, length, get_or, take, drop, map, Some, Vec, Global, vec_len, refl, sym, ap, ◌∙◌, arith, rules}
 use Rattle.std.specs.List.{flat_map}
 use Rattle.std.proofs.lemmas.List.{drop_more, drop_all, take_more, take_all, map_push, append-nil}
 use Rattle.toml.specs.Data.{Data, Items}
@@ -14,9 +14,12 @@ pub data_of-view : (vs : List Value) → data_of (items_view vs) ≡ map view vs
 data_of-view [] = refl
 data_of-view (v ∷ vs) = ap (λ ds. view v ∷ ds) (data_of-view vs)
 
-pub length-data_of : (vs : List Value) → length (data_of (items_view vs)) ≡ length vs
+length-data_of : (vs : List Value) → length (data_of (items_view vs)) ≡ length vs
 length-data_of [] = refl
 length-data_of (v ∷ vs) = ap suc (length-data_of vs)
+
+pub count-data_of : (vs : Vec Value Global) (n : ℕ) → n ≡ vec_len vs → length (data_of (items_view vs.items)) ≡ n
+count-data_of vs n h = length-data_of vs.items ∙ omega (arith, vs.ok.0, h)
 
 -- the values made of the elements before a place
 pub made-more : {A : Type 0} (make : Data → A) (vs : List Value) (i : ℕ) (v : Value) (made : List A) → i < length vs → v ≡ get_or vs i v → made ≡ map make (map view (take i vs)) → made ++ make (view v) ∷ [] ≡ map make (map view (take (i + 1) vs))

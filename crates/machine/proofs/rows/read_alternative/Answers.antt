@@ -5,7 +5,7 @@ use Rattle.machine.specs.MachineText.{alternative_faults, rows_of, row_faults, r
 use Rattle.machine.proofs.AlternativeFaults.{alternative-wrong_type, alternative-limit, alternative-of, alternative-rows}
 use Rattle.machine.proofs.Faults.{Reads-err}
 use Rattle.machine.proofs.Laws.{alternative-law}
-use Rattle.machine.proofs.Turns.{length-data_of, made-more, made-all, turn-none, turn-more, turn-fault, turn-all}
+use Rattle.machine.proofs.Turns.{count-data_of, made-more, made-all, turn-none, turn-more, turn-fault, turn-all}
 use Rattle.machine.proofs.rows.read_alternative.Goals as goal
 use Rattle.machine.proofs.rows.read_alternative.Goals.{After-loop-value}
 
@@ -15,7 +15,7 @@ returns-in_default c = λ _. rw (c.in_ok-to_key.ensures, append-nil) (alternativ
 pub returns-then-not-is_within : goal.returns-then-not-is_within
 returns-then-not-is_within c = λ _.
     let vs = c.in-Some.values.now in
-    let count : length (data_of (items_view vs.items)) ≡ c.len.result = length-data_of vs.items ∙ omega (arith, vs.ok.0, c.len.ensures) in
+    let count = count-data_of vs c.len.result c.len.ensures in
     rw c.in_ok-of.ensures (alternative-limit _ _ _ _ c.in-Some.ensures (rw count (sym c.if-not-is_within.ensures)))
 
 pub loop-value-init : goal.loop-value-init
@@ -38,7 +38,7 @@ loop-value-preserved c =
 pub returns-in_err-row : goal.returns-in_err-row
 returns-in_err-row c =
     let vs = c.in-Some.values.now in
-    let count : length (data_of (items_view vs.items)) ≡ c.len.result = length-data_of vs.items ∙ omega (arith, vs.ok.0, c.len.ensures) in
+    let count = count-data_of vs c.len.result c.len.ensures in
     let below : c.loop-value.value-index < length c.deref-value-items.result.now = omega arith in
     Reads-err _ _ c.from_residual-in_err-row.result c.in_err-row.field-0.0 c.from_residual-in_err-row.ensures.1 (λ ne.
     let first = rw c.as_slice.ensures at (c.in_err-row.ensures ne) in
@@ -48,7 +48,7 @@ returns-in_err-row c =
 read : (c : After-loop-value) → (alternative_faults c.args.path.now c.args.units.now (view c.args.value.now) ≡ []) × (c.loop-value.rows.items ≡ rows_of c.args.units.now (view c.args.value.now))
 read c =
     let vs = c.in-Some.values.now in
-    let count : length (data_of (items_view vs.items)) ≡ c.len.result = length-data_of vs.items ∙ omega (arith, vs.ok.0, c.len.ensures) in
+    let count = count-data_of vs c.len.result c.len.ensures in
     let turn = rw c.deref-value-items.ensures.value at c.loop-value.invariant.no_fault in
     let made = rw c.deref-value-items.ensures.value at c.loop-value.invariant.made in
     let past : length vs.items ≤ c.loop-value.value-index = omega (arith, c.deref-value-items.ensures.len, vs.ok.0) in (

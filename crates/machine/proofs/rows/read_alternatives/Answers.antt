@@ -5,7 +5,7 @@ use Rattle.machine.specs.MachineText.{alternative_faults, rows_of, faults_of_alt
 use Rattle.machine.proofs.AlternativeFaults.{alternatives-missing, alternatives-wrong_type, alternatives-limit, alternatives-of, alternatives-rows}
 use Rattle.machine.proofs.Faults.{Reads-err}
 use Rattle.machine.proofs.Laws.{alternatives-law}
-use Rattle.machine.proofs.Turns.{length-data_of, made-more, made-all, each-none, each-more, each-fault, each-all}
+use Rattle.machine.proofs.Turns.{count-data_of, made-more, made-all, each-none, each-more, each-fault, each-all}
 use Rattle.machine.proofs.rows.read_alternatives.Goals as goal
 use Rattle.machine.proofs.rows.read_alternatives.Goals.{After-loop-value}
 
@@ -18,7 +18,7 @@ returns-in_default-as_array c = λ _. rw (c.in_ok-to_key-2.ensures, append-nil, 
 pub returns-then-not-is_within : goal.returns-then-not-is_within
 returns-then-not-is_within c = λ _.
     let vs = c.in-Some-as_array.values.now in
-    let count : length (data_of (items_view vs.items)) ≡ c.len.result = length-data_of vs.items ∙ omega (arith, vs.ok.0, c.len.ensures) in
+    let count = count-data_of vs c.len.result c.len.ensures in
     rw (c.in_ok-of.ensures, c.in-Some.is) (alternatives-limit _ _ _ _ c.in-Some-as_array.ensures (rw count (sym c.if-not-is_within.ensures)))
 
 pub loop-value-init : goal.loop-value-init
@@ -41,7 +41,7 @@ loop-value-preserved c =
 pub returns-in_err-read_alternative : goal.returns-in_err-read_alternative
 returns-in_err-read_alternative c =
     let vs = c.in-Some-as_array.values.now in
-    let count : length (data_of (items_view vs.items)) ≡ c.len.result = length-data_of vs.items ∙ omega (arith, vs.ok.0, c.len.ensures) in
+    let count = count-data_of vs c.len.result c.len.ensures in
     let below : c.loop-value.value-index < length c.deref-value-items.result.now = omega arith in
     Reads-err _ _ c.from_residual-in_err-read_alternative.result c.in_err-read_alternative.field-0.0 c.from_residual-in_err-read_alternative.ensures.1 (λ ne.
     let first = c.in_err-read_alternative.ensures ne in
@@ -51,7 +51,7 @@ returns-in_err-read_alternative c =
 read : (c : After-loop-value) → let found = option_map (λ v. view v.now) c.args.value in (faults_of_alternatives c.args.path.now c.args.units.now found ≡ []) × (c.loop-value.alternatives.items ≡ alternatives_of c.args.units.now found)
 read c =
     let vs = c.in-Some-as_array.values.now in
-    let count : length (data_of (items_view vs.items)) ≡ c.len.result = length-data_of vs.items ∙ omega (arith, vs.ok.0, c.len.ensures) in
+    let count = count-data_of vs c.len.result c.len.ensures in
     let turn = rw c.deref-value-items.ensures.value at c.loop-value.invariant.no_fault in
     let made = rw c.deref-value-items.ensures.value at c.loop-value.invariant.made in
     let past : length vs.items ≤ c.loop-value.value-index = omega (arith, c.deref-value-items.ensures.len, vs.ok.0) in

@@ -2,7 +2,7 @@ use Rattle.std.proofs.Common.{◌≡◌, ◌<◌, ◌≤◌, length, sym, ◌∙
 use Rattle.toml.specs.View.{items_view}
 use Rattle.machine.specs.MachineText.{unit_faults, text_of, data_of}
 use Rattle.machine.proofs.Faults.{Reads-err, units-missing, units-wrong_type, units-limit, units-of, units-names}
-use Rattle.machine.proofs.Turns.{length-data_of, made-more, made-all, turn-none, turn-more, turn-fault, turn-all}
+use Rattle.machine.proofs.Turns.{count-data_of, made-more, made-all, turn-none, turn-more, turn-fault, turn-all}
 use Rattle.machine.proofs.units.read_units.Goals as goal
 
 pub returns-in_default : goal.returns-in_default
@@ -14,7 +14,7 @@ returns-in_default-as_array c = λ _. rw (c.in_ok-of-2.ensures, c.in-Some.is) (u
 pub returns-then-not-is_within : goal.returns-then-not-is_within
 returns-then-not-is_within c = λ _.
     let vs = c.in-Some-as_array.units.now in
-    let count : length (data_of (items_view vs.items)) ≡ c.len.result = length-data_of vs.items ∙ omega (arith, vs.ok.0, c.len.ensures) in
+    let count = count-data_of vs c.len.result c.len.ensures in
     rw (c.in_ok-of-3.ensures, c.in-Some.is) (units-limit _ _ c.in-Some-as_array.ensures (rw count (sym c.if-not-is_within.ensures)))
 
 pub loop-unit-init : goal.loop-unit-init
@@ -37,7 +37,7 @@ loop-unit-preserved c =
 pub returns-in_err-name : goal.returns-in_err-name
 returns-in_err-name c =
     let vs = c.in-Some-as_array.units.now in
-    let count : length (data_of (items_view vs.items)) ≡ c.len.result = length-data_of vs.items ∙ omega (arith, vs.ok.0, c.len.ensures) in
+    let count = count-data_of vs c.len.result c.len.ensures in
     let below : c.loop-unit.unit-index < length c.deref-unit-items.result.now = omega arith in
     Reads-err _ _ c.from_residual-in_err-name.result c.in_err-name.field-0.0 c.from_residual-in_err-name.ensures.1 (λ ne.
     let first = rw c.as_slice.ensures.value at (c.in_err-name.ensures ne) in
@@ -47,7 +47,7 @@ returns-in_err-name c =
 pub returns : goal.returns
 returns c =
     let vs = c.in-Some-as_array.units.now in
-    let count : length (data_of (items_view vs.items)) ≡ c.len.result = length-data_of vs.items ∙ omega (arith, vs.ok.0, c.len.ensures) in
+    let count = count-data_of vs c.len.result c.len.ensures in
     let turn = rw c.deref-unit-items.ensures.value at c.loop-unit.invariant.no_fault in
     let made = rw c.deref-unit-items.ensures.value at c.loop-unit.invariant.made in
     let past : length vs.items ≤ c.loop-unit.unit-index = omega (arith, c.deref-unit-items.ensures.len, vs.ok.0) in
