@@ -1,5 +1,5 @@
 -- Which slots the placed operations take, and what that says of the answers of a table.
-use Rattle.std.proofs.Common.{◌≡◌, ◌≢◌, ℕ, ◌+◌, ◌%◌, ◌<◌, ◌≤◌, ◌⊎◌, inl, inr, Bool, true, false, not, ◌&&◌, ◌↔◌, eqb, List, [], ◌∷◌, length, get_or, set, map, replicate, Option, Some, None, refl, sym, ap, ◌∙◌, subst, arith, eq-eqb, length-set}
+use Rattle.std.proofs.Common.{◌≡◌, ◌≢◌, ℕ, zero, suc, ◌+◌, ◌%◌, ◌<◌, ◌≤◌, ◌⊎◌, inl, inr, Bool, true, false, not, ◌&&◌, ◌↔◌, eqb, List, [], ◌∷◌, length, get_or, set, map, replicate, Option, Some, None, refl, sym, ap, ◌∙◌, subst, arith, eq-eqb, length-set}
 use Rattle.std.specs.List.{All, list_any, slice_get}
 use Rattle.std.specs.Option.{option_flatten}
 use Rattle.std.proofs.lemmas.Bool.{cases_eq, cases_Bool, and_parts, and_from, eqb-true, both_ways, not-true}
@@ -160,3 +160,8 @@ takes_not ii operations placed unit residue op at is_at apart t =
 
 pub takes_unplaced : (ii : ℕ) (operations : Operations) (placed : Placements) (unit residue op : ℕ) → None ≡ placement_of placed op → Takes ii operations placed unit residue op → ⊥
 takes_unplaced ii operations placed unit residue op none t = none-some t.at (none ∙ t.is_placed)
+
+pub unplaced_at_first : (n op : ℕ) → placement_of (replicate n None) op ≡ None
+unplaced_at_first zero op = refl
+unplaced_at_first (suc n) zero = refl
+unplaced_at_first (suc n) (suc op) = unplaced_at_first n op

@@ -9,6 +9,8 @@ mod owner;
 mod roster;
 mod slot;
 mod table;
+#[cfg(test)]
+mod tests;
 
 pub use mask::MaskTable;
 pub use owner::OwnerTable;

@@ -1,0 +1,148 @@
+//! The worked table on both bodies, and the two bodies side by side.
+
+ghost use Rattle.std.specs.Prelude.{◌≡◌, ◌^◌, ◌<◌, ◌≤◌, ◌∷◌, [], ℕ, length, slice_index_or, None, IfOk, vec_len};
+ghost use Rattle.machine.specs.Alternative.{IsAlternative};
+ghost use Rattle.mrt.specs.Placements.{placement_of};
+
+use crate::{MaskTable, ModuloTable, OwnerTable};
+use machine::{Alternative, Alternatives, OutOfMemory, Row};
+use smallvec::SmallVec;
+use std::alloc::Global;
+use std::process::Abort;
+use std::test::Fail;
+
+/// An alternative of one row.
+fn one_row(alloc: Global, unit: u8, offset: u8) -> Result<Alternative, OutOfMemory>
+    requires unit { unit < 64 }
+    requires offset { offset < 64 }
+    ensures rows { IfOk result (λ a. a ≡ record { unit = unit; offset = offset } ∷ []) }
+    ensures well_formed { IfOk result (λ a. IsAlternative a) }
+{
+    let mut rows = SmallVec::new(alloc);
+    rows.push(Row { unit, offset })?;
+    Ok(Alternative::new(rows))
+}
+
+/// An operation of one alternative.
+fn one(alloc: Global, alternative: Alternative) -> Result<Alternatives, OutOfMemory>
+    requires { IsAlternative alternative }
+{
+    let mut list = Vec::new(alloc);
+    list.push(alternative)?;
+    Ok(Alternatives::new(list))
+}
+
+/// An operation of two alternatives.
+fn two(alloc: Global, first: Alternative, second: Alternative) -> Result<Alternatives, OutOfMemory>
+    requires first { IsAlternative first }
+    requires second { IsAlternative second }
+    ensures { IfOk result (λ a. a ≡ first ∷ second ∷ []) }
+{
+    let mut list = Vec::new(alloc);
+    list.push(first)?;
+    list.push(second)?;
+    Ok(Alternatives::new(list))
+}
+
+/// Operations that each take unit 0 in the cycle of their issue.
+fn same(alloc: Global, count: usize) -> Result<Vec<Alternatives>, OutOfMemory>
+    ensures { IfOk result (λ v. vec_len v ≡ count) }
+{
+    let mut operations = Vec::new(alloc);
+    for _i in 0..count {
+        operations.push(one(alloc, one_row(alloc, 0, 0)?)?)?;
+    }
+    Ok(operations)
+}
+
+/// An operation for each of 64 units, and one that takes the first or the last of them.
+fn wide(alloc: Global) -> Result<Vec<Alternatives>, OutOfMemory>
+    ensures long { IfOk result (λ v. vec_len v ≡ 65) }
+    ensures last { IfOk result (λ v. slice_index_or v.items 64 [] ≡ (record { unit = 0; offset = 63 } ∷ []) ∷ (record { unit = 63; offset = 62 } ∷ []) ∷ []) }
+{
+    let mut operations = Vec::new(alloc);
+    for unit in 0..64 {
+        operations.push(one(alloc, one_row(alloc, unit, 63)?)?)?;
+    }
+    operations.push(two(alloc, one_row(alloc, 0, 63)?, one_row(alloc, 63, 62)?)?)?;
+    Ok(operations)
+}
+
+/// Places the first operations, each in the cycle of its number or all in cycle 0.
+fn place_all<T: ModuloTable>(rt: &impl Abort, table: &mut T, count: usize, apart: bool)
+    requires there { count ≤ length (T.operations table.old) }
+    requires few { count ≤ 64 }
+    requires unplaced { (op : ℕ) → placement_of (T.placed table.old) op ≡ None }
+    ensures operations { T.operations table.new ≡ T.operations table.old }
+    ensures interval { T.interval table.new ≡ T.interval table.old }
+{
+    for op in 0..count {
+        let time = if apart { op as u64 } else { 0 };
+        let alternative = table.free(op, time).expect(rt, "the slot is free");
+        table.claim(op, time, alternative);
+    }
+}
+
+/// A table of nine operations of one unit, the first eight in the cycles 0 to 7.
+fn filled<T: ModuloTable>(rt: &impl Abort, alloc: Global, ii: u64) -> Result<T, OutOfMemory>
+    requires some { 0 < ii }
+    requires few { ii ≤ 9 }
+    ensures operations { IfOk result (λ t. length (T.operations t) ≡ 9) }
+    ensures interval { IfOk result (λ t. T.interval t ≡ ii) }
+{
+    let operations = same(alloc, 9)?;
+    let mut table = T::make(alloc, &operations, ii)?;
+    place_all(rt, &mut table, 8, true);
+    Ok(table)
+}
+
+/// A table of 65 operations, of which 64 hold each unit in one cycle.
+fn crowded<T: ModuloTable>(rt: &impl Abort, alloc: Global) -> Result<T, OutOfMemory>
+    ensures operations { IfOk result (λ t. slice_index_or (T.operations t) 64 [] ≡ (record { unit = 0; offset = 63 } ∷ []) ∷ (record { unit = 63; offset = 62 } ∷ []) ∷ []) }
+{
+    let operations = wide(alloc)?;
+    let mut table = T::make(alloc, &operations, 8)?;
+    place_all(rt, &mut table, 64, false);
+    Ok(table)
+}
+
+/// The slots wrap round at the interval, and the search finds the one that is left.
+fn finds_the_hole<T: ModuloTable>(rt: &impl Abort, alloc: Global) -> Result<(), OutOfMemory> {
+    let table = filled::<T>(rt, alloc, 9)?;
+    assert_eq!(rt; table.first_free(8, 0), Some((8, 0)));
+    assert_eq!(rt; table.first_free(8, 5), Some((8, 0)));
+    assert_eq!(rt; table.first_free(8, 9), Some((17, 0)));
+    Ok(())
+}
+
+/// A full table has no slot.
+fn finds_none<T: ModuloTable>(rt: &impl Abort, alloc: Global) -> Result<(), OutOfMemory> {
+    let table = filled::<T>(rt, alloc, 8)?;
+    assert_eq!(rt; table.ii(), 8);
+    assert_eq!(rt; table.first_free(8, 3), None);
+    Ok(())
+}
+
+/// Of two alternatives the free one is taken, and the slot of the other has a holder.
+fn tells_the_holder<T: ModuloTable>(rt: &impl Abort, alloc: Global) -> Result<(), OutOfMemory> {
+    let table = crowded::<T>(rt, alloc)?;
+    assert_eq!(rt; table.free(64, 0), Some(1));
+    assert_eq!(rt; table.holder(64, 0, 0, 0), Some(0));
+    Ok(())
+}
+
+#[test]
+fn owners(rt: HostRuntime) -> Result<(), Fail> {
+    finds_the_hole::<OwnerTable>(&rt, rt.alloc())?;
+    finds_none::<OwnerTable>(&rt, rt.alloc())?;
+    tells_the_holder::<OwnerTable>(&rt, rt.alloc())?;
+    Ok(())
+}
+
+#[test]
+fn masks(rt: HostRuntime) -> Result<(), Fail> {
+    finds_the_hole::<MaskTable>(&rt, rt.alloc())?;
+    finds_none::<MaskTable>(&rt, rt.alloc())?;
+    tells_the_holder::<MaskTable>(&rt, rt.alloc())?;
+    Ok(())
+}
