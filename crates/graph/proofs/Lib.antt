@@ -8,6 +8,7 @@ pub mod Order
 pub mod Passes
 pub mod Pigeons
 pub mod Promised
+pub mod Recurrences
 pub mod Slices
 pub mod Tally
 pub mod UnitBound

@@ -1,12 +1,12 @@
 -- What a schedule that keeps each dependence of a loop promises for the instances of its iterations.
-use Rattle.std.specs.Prelude.{◌≡◌, ℕ, ℤ, ◌+◌, ◌*◌, ◌≤◌, List, [], slice_index}
+use Rattle.std.specs.Prelude.{◌≡◌, ℕ, ℤ, ◌+◌, ◌*◌, ◌<◌, ◌≤◌, List, [], slice_index}
 use Rattle.std.specs.List.{All, Contains}
 use Rattle.machine.specs.declared.opcode.Opcode.{Opcode}
 use Rattle.machine.specs.declared.opcode.Opcode.TheVariants.{Load, Store}
 use Rattle.loops.specs.Loops.{LoopData, IsLoop}
 use Rattle.graph.specs.Dependences.{EdgeData, Dependence, Uses, Touches, HasOpcode, ComesFirst}
 use Rattle.graph.specs.Schedules.{KeepsEdge}
-use Rattle.graph.specs.Walks.{IsWalk, distance_of}
+use Rattle.graph.specs.Walks.{IsWalk, distance_of, IsRecurrenceBound}
 
 -- the cycle in which the instance of an operation in an iteration is issued
 abbrev pub issue_of : ℕ → List ℕ → ℕ → ℕ → ℕ
@@ -52,3 +52,8 @@ StoresInOrder = (loop : LoopData) (latencies : List ℕ) (ii : ℕ) (times : Lis
 abbrev pub CircuitsTakeIterations : Type 0
 CircuitsTakeIterations = (loop : LoopData) (latencies : List ℕ) (edges : List EdgeData) → IsLoop loop → All (Dependence loop latencies) edges
     → (p : ℕ) (walk : List EdgeData) → IsWalk edges p walk p → distance_of walk ≡ 0 → walk ≡ []
+
+-- no times keep the edges at an interval below their bound
+abbrev pub SchedulesKeepRecurrences : Type 0
+SchedulesKeepRecurrences = (edges : List EdgeData) (bound ii : ℕ) (times : List ℕ) → IsRecurrenceBound edges bound → 0 < ii
+    → All (KeepsEdge ii times) edges → bound ≤ ii

@@ -1,6 +1,6 @@
 //! What dependences promise: laws, stated by the contracts of functions that do nothing.
 
-ghost use Rattle.graph.specs.Promises.{ValuesInTime, StoresInTime, LoadsInTime, StoresInOrder, CircuitsTakeIterations};
+ghost use Rattle.graph.specs.Promises.{ValuesInTime, StoresInTime, LoadsInTime, StoresInOrder, CircuitsTakeIterations, SchedulesKeepRecurrences};
 
 /// A schedule that keeps the dependences of a loop issues no use of a value before it has landed.
 pub fn values_in_time()
@@ -28,4 +28,9 @@ pub fn stores_in_order()
 /// Each circuit of dependences goes over iterations: none has distance 0.
 pub fn circuits_take_iterations()
     ensures { CircuitsTakeIterations }
+{}
+
+/// No schedule that keeps the edges has an interval below their recurrence-constrained lower bound.
+pub fn schedules_keep_recurrences()
+    ensures { SchedulesKeepRecurrences }
 {}

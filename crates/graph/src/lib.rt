@@ -7,6 +7,7 @@ mod edge;
 mod fault;
 mod graph;
 mod laws;
+mod recurrence;
 mod starts;
 mod units;
 
