@@ -33,6 +33,14 @@ memory_edge-sound latencies p first q second place later d delay a b same far or
 same_place : (first : Statement) (a b : Place) → first.place ≡ Some a → first.place ≡ Some b → a ≡ b
 same_place first a b p q = let h : Some a ≡ Some b = sym p ∙ q in cc
 
+same_fields : (from to distance : ℕ) (delay : ℤ) (e : EdgeData) → from ≡ e.from → to ≡ e.to → distance ≡ e.distance → delay ≡ e.delay
+    → record { from = from; to = to; distance = distance; delay = delay } ≡ e
+same_fields from to distance delay e f t d z =
+    ap (λ k. let x : EdgeData = record { from = k; to = to; distance = distance; delay = delay } in x) f
+    ∙ (ap (λ k. let x : EdgeData = record { from = e.from; to = k; distance = distance; delay = delay } in x) t
+    ∙ (ap (λ k. let x : EdgeData = record { from = e.from; to = e.to; distance = k; delay = delay } in x) d
+    ∙ ap (λ k. let x : EdgeData = record { from = e.from; to = e.to; distance = e.distance; delay = k } in x) z))
+
 pub memory_edge-complete : (latencies : List ℕ) (p : ℕ) (first : Statement) (q : ℕ) (second : Statement) (place later : Place) (d : ℕ) (delay : ℤ)
     → first.place ≡ Some place → second.place ≡ Some later → place.offset ≡ (later.offset +ℤ pos d)
     → ((other : ℤ) → IsDelay first.opcode second.opcode (slice_index latencies p) (slice_index latencies q) other → Some delay ≡ Some other)
@@ -40,16 +48,11 @@ pub memory_edge-complete : (latencies : List ℕ) (p : ℕ) (first : Statement) 
 memory_edge-complete latencies p first q second place later d delay a b far only e h =
     let s : place.offset ≡ h.place.offset = ap (λ (x : Place). x.offset) (same_place first place h.place a h.is_place) in
     let t : later.offset ≡ h.later.offset = ap (λ (x : Place). x.offset) (same_place second later h.later b h.is_later) in
-    let u : (later.offset +ℤ pos d) ≡ (later.offset +ℤ pos e.distance) = sym far ∙ s ∙ h.distance ∙ ap (λ x. x +ℤ pos e.distance) (sym t) in
+    let u : h.place.offset ≡ (h.later.offset +ℤ pos e.distance) = h.distance in
     let v : d ≡ e.distance = omega (arith, ints) in
-    let f : p ≡ e.from = sym h.from in
-    let g : q ≡ e.to = sym h.to in
     let w : Some delay ≡ Some e.delay = only e.delay h.delay in
     let x : delay ≡ e.delay = cc in
-    ap Some (ap (λ k. record { from = k; to = q; distance = d; delay = delay }) f
-    ∙ ap (λ k. record { from = e.from; to = k; distance = d; delay = delay }) g
-    ∙ ap (λ k. record { from = e.from; to = e.to; distance = k; delay = delay }) v
-    ∙ ap (λ k. record { from = e.from; to = e.to; distance = e.distance; delay = k }) x)
+    ap Some (same_fields p q d delay e (sym h.from) (sym h.to) v x)
 
 pub Gains-none : (statements : List Statement) (latencies : List ℕ) (list : List EdgeData) → Gains statements latencies list list
 Gains-none statements latencies list = record { more = []; is = sym (append-nil list); found = All-nil (IsFound statements latencies) }

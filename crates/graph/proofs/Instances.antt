@@ -11,7 +11,7 @@ use Rattle.loops.specs.declared.statement.Place.{Place}
 use Rattle.graph.specs.Dependences.{EdgeData, Uses, Touches, HasOpcode, ComesFirst, MeetInMemory, Dependence, value_flow, memory_flow, anti, output}
 use Rattle.graph.specs.Subscripts.{IsDelay, IsMemoryEdge, IsUse, IsMeeting, IsFound}
 
-comes_first : (p i q d : ℕ) → (d ≡ 0 → p < q) → ComesFirst p i q (i + d)
+pub comes_first : (p i q d : ℕ) → (d ≡ 0 → p < q) → ComesFirst p i q (i + d)
 comes_first p i q d order = elim (cases_eq d 0) [
   | inl zero ↦ inr (omega arith, order zero)
   | inr more ↦ inl (omega arith)

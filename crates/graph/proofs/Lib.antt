@@ -7,5 +7,8 @@ pub mod Latencies
 pub mod Order
 pub mod Passes
 pub mod Pigeons
+pub mod Promised
+pub mod Recurrences
+pub mod Slices
 pub mod Tally
 pub mod UnitBound

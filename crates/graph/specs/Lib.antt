@@ -3,6 +3,8 @@ pub use Rattle.machine.specs.Machines
 pub mod Answers
 pub mod Dependences
 pub mod Graphs
+pub mod Layout
+pub mod Promises
 pub mod Schedules
 pub mod Subscripts
 pub mod Units

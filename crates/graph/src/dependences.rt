@@ -53,5 +53,5 @@ pub fn edges(alloc: Global, machine: &Machine, innermost: &Loop) -> Result<Edges
 {
     let cycles = latencies(alloc, machine, innermost)?;
     let list = collect(alloc, innermost.statements(), cycles.as_slice())?;
-    Ok(Edges::new(in_order(list)?, cycles))
+    Ok(Edges::new(alloc, in_order(list)?, cycles)?)
 }

@@ -6,10 +6,16 @@ mod dependences;
 mod edge;
 mod fault;
 mod graph;
+mod laws;
+mod recurrence;
+mod starts;
 mod units;
 
 pub use dependences::edges;
 pub use edge::Edge;
 pub use fault::GraphFault;
 pub use graph::Edges;
+pub use laws::{
+    circuits_take_iterations, loads_in_time, stores_in_order, stores_in_time, values_in_time,
+};
 pub use units::res_mii;

@@ -46,6 +46,6 @@ returns c =
     = graph-of_loop c.args.machine.now c.args.innermost.now c.in_ok-cycles.cycles.items c.in_ok-list.list.items c.in_ok-in_order.field-0.items told.1 found every
     c.in_ok-in_order.ensures.ascending c.in_ok-in_order.ensures.kept c.in_ok-in_order.ensures.no_more in
     record {
-      exact = subst (λ missing. Answers missing (IsGraphOf c.args.machine.now c.args.innermost.now) (Ok c.new.result)) (sym told.0)
-          (subst (IsGraphOf c.args.machine.now c.args.innermost.now) (sym c.new.ensures) of_loop);
+      exact = subst (λ missing. Answers missing (IsGraphOf c.args.machine.now c.args.innermost.now) (Ok c.in_ok-new.field-0)) (sym told.0)
+          (subst (IsGraphOf c.args.machine.now c.args.innermost.now) (sym c.in_ok-new.ensures) of_loop);
     }

@@ -1,0 +1,5 @@
+use Rattle.graph.proofs.Promised.{stores-in_time}
+use Rattle.graph.proofs.laws.stores_in_time.Goals as goal
+
+pub returns : goal.returns
+returns c = stores-in_time

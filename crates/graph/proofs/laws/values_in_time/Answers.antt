@@ -1,0 +1,5 @@
+use Rattle.graph.proofs.Promised.{values-in_time}
+use Rattle.graph.proofs.laws.values_in_time.Goals as goal
+
+pub returns : goal.returns
+returns c = values-in_time
