@@ -2,5 +2,9 @@
 #![tactic(auto)]
 
 mod device;
+mod text;
 
-pub use device::{Fault, Input, Output};
+pub use device::{
+    Bytes, Fault, FaultyInput, FaultyOutput, FileInput, Input, Output, StandardOutput, TakenBytes,
+};
+pub use text::{ReadTextError, TEXT_LIMIT, read_text, write_text};
