@@ -2,9 +2,13 @@
 #![tactic(auto)]
 
 mod device;
+mod line;
+mod status;
 mod text;
 
 pub use device::{
     Bytes, Fault, FaultyInput, FaultyOutput, FileInput, Input, Output, StandardOutput, TakenBytes,
 };
+pub use line::{Command, Usage, parse_line};
+pub use status::{Line, Status};
 pub use text::{ReadTextError, TEXT_LIMIT, read_text, write_text};

@@ -158,3 +158,6 @@ pub fn write_text<O: Output>(output: &mut O, text: &[u8]) -> Result<(), Fault>
     }
     output.flush()
 }
+
+#[cfg(test)]
+mod tests;
