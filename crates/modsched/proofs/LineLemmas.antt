@@ -1,9 +1,8 @@
 -- The line's arguments as `clap` sees them, and what its matches mean.
-use Rattle.std.proofs.Common.{◌≡◌, ◌≢◌, ◌⊎◌, ◌∙◌, ℕ, List, Option, Some, None, Err, option_map, true, codes, refl, sym, ap, subst, inl, inr, IfSome, IfNone, string_bytes, String, Global}
+use Rattle.std.proofs.Common.{◌≡◌, ◌⊎◌, ◌∙◌, List, Option, Some, None, Err, option_map, true, codes, refl, sym, ap, subst, inl, inr, IfSome, IfNone, string_bytes, String, Global}
 use Rattle.clap.specs.Words.{HasKind, IsAmong, Kinds, Row, Text, first_of, is_simple, is_simple_and_free, kind_of, subcommand_name_of, subcommand_rows_of}
 use Rattle.clap.specs.declared.error.Error.{Error}
 use Rattle.clap.specs.declared.error.kind.ErrorKind.{ErrorKind}
-use Rattle.clap.specs.declared.error.kind.ErrorKind.TheVariants as kind
 use Rattle.clap.specs.declared.parser.matches.ArgMatches.{ArgMatches}
 use Rattle.clap.specs.declared.parser.matches.ArgMatches.TheViews.{out-ArgMatches, out-SubCommand}
 use Rattle.clap.specs.Words.{subcommand_rows}

@@ -1,4 +1,5 @@
 use super::{Command, Usage, parse_line};
+use std::alloc::Global;
 use std::test::Fail;
 
 #[test]
@@ -39,11 +40,15 @@ fn refuses_other_lines(rt: HostRuntime) {
         &["run", "m", "l", "--trip", "3"],
         &["help", "plain"],
     ];
-    for words in lines {
-        match parse_line(rt.alloc(), words) {
-            Err(Usage::Refused(text)) => assert!(rt; !text.is_empty()),
-            other => panic!(rt; "{words:?} gave {other:?}"),
-        }
+    for (i, words) in lines.iter().enumerate() {
+        assert!(rt; is_refused(rt.alloc(), words), "line {i}");
+    }
+}
+
+fn is_refused(alloc: Global, words: &[&str]) -> bool {
+    match parse_line(alloc, words) {
+        Err(Usage::Refused(text)) => !text.is_empty(),
+        _ => false,
     }
 }
 

@@ -1,5 +1,5 @@
-use Rattle.std.proofs.Common.{◌≡◌, ◌∙◌, ap, refl, sym, inl, inr, codes, List, ℕ, Option, Some, None, option_map, rules}
-use Rattle.clap.specs.Words.{found_of, first_of, first_value, rows_of, subcommand_rows_of, subcommand_name_of}
+use Rattle.std.proofs.Common.{◌≡◌, ◌∙◌, ap, refl, sym, inl, inr, codes, List, ℕ, Some}
+use Rattle.clap.specs.Words.{found_of, first_of, rows_of, subcommand_rows_of}
 use Rattle.clap.proofs.WalkLemmas.{first_value-rows}
 use Rattle.modsched.proofs.LineLemmas.{Means-from, Means-none, subcommand_rows-name}
 use Rattle.modsched.proofs.line.command_of.Goals as goal

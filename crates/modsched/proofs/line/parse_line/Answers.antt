@@ -1,5 +1,5 @@
-use Rattle.std.proofs.Common.{◌≡◌, ◌∙◌, ap, sym, inr, List, ℕ, Bor, true, map, subst}
-use Rattle.clap.specs.Words.{App, HasKind, Kinds, app_of, fault_of, subcommand_of, is_simple, is_simple_and_free, subcommand_rows_of}
+use Rattle.std.proofs.Common.{◌≡◌, ◌∙◌, ap, sym, inr, List, ℕ, Bor, map, subst}
+use Rattle.clap.specs.Words.{App, HasKind, app_of, fault_of, subcommand_of, is_simple, is_simple_and_free, subcommand_rows_of}
 use Rattle.modsched.specs.Lines.{program_line}
 use Rattle.modsched.proofs.LineLemmas.{program_is_simple, program_is_free, Means-at, Means-nowhere, IsRead-error}
 use Rattle.modsched.proofs.line.parse_line.Goals as goal

@@ -1,7 +1,7 @@
 use Rattle.std.proofs.Common.{◌≡◌, ◌∙◌, ap, ap₂, codes, true}
 use Rattle.std.proofs.lemmas.Result.{IfOk-weaker}
 use Rattle.clap.specs.Simple.{app_of_fields, on_top}
-use Rattle.clap.specs.Words.{App, Shape, app_of, new_app, with_subcommand}
+use Rattle.clap.specs.Words.{App, app_of, new_app, with_subcommand}
 use Rattle.modsched.specs.Lines.{program_line}
 use Rattle.modsched.proofs.line.program.Goals as goal
 
