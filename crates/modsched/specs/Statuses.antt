@@ -1,0 +1,45 @@
+-- The numbers by which a run of the program exits.
+use Rattle.std.specs.Prelude.{ℕ}
+use Rattle.loops.specs.declared.fault.LoopFault.{LoopFault}
+use Rattle.loops.specs.declared.fault.LoopFaultKind.{LoopFaultKind}
+use Rattle.loops.specs.declared.fault.LoopFaultKind.TheVariants as kind
+use Rattle.machine.specs.declared.fault.MachineFault.{MachineFault}
+use Rattle.machine.specs.declared.fault.MachineFault.TheVariants as fault
+use Rattle.modsched.specs.declared.status.Status.{Status}
+use Rattle.modsched.specs.declared.status.Status.TheVariants.{Done, MachineUnread, LoopsUnread}
+use Rattle.modsched.specs.declared.status.Status.TheVariants.{Machine, Loops, NoTable, Unwritten}
+use Rattle.modsched.specs.declared.status.Status.TheVariants.{OutOfMemory}
+
+-- a refused machine text: 7 where memory ran out
+abbrev pub machine_number : MachineFault → ℕ
+machine_number fault.Memory = 7
+machine_number _ = 4
+
+-- a refused loop text: 7 where memory ran out
+abbrev pub loops_number : LoopFaultKind → ℕ
+loops_number kind.Memory = 7
+loops_number _ = 5
+
+-- 0 done, 3 a file can't be read, 4 machine refused, 5 loops refused, 6 output can't be written, 7 out of memory
+abbrev pub number_of : Status → ℕ
+number_of Done = 0
+number_of MachineUnread = 3
+number_of LoopsUnread = 3
+number_of (Machine f) = machine_number f
+number_of (Loops f) = loops_number f.kind
+number_of (NoTable name opcode) = 5
+number_of Unwritten = 6
+number_of OutOfMemory = 7
+
+-- the status of a refused machine text
+abbrev pub refusal_of_machine : MachineFault → Status
+refusal_of_machine fault.Memory = OutOfMemory
+refusal_of_machine f = Machine f
+
+abbrev pub loops_status : LoopFaultKind → LoopFault → Status
+loops_status kind.Memory f = OutOfMemory
+loops_status _ f = Loops f
+
+-- the status of a refused loop text
+abbrev pub refusal_of_loops : LoopFault → Status
+refusal_of_loops f = loops_status f.kind f

@@ -1,0 +1,114 @@
+//! Devices in memory.
+
+ghost use Rattle.std.specs.Prelude.{◌≡◌, [], Some, None, IfOk};
+ghost use Rattle.modsched.specs.Devices.{Reads, Writes};
+
+use super::{Fault, Input, Output};
+use std::alloc::{AllocError, Global};
+use std::marker::Model;
+
+/// An input over bytes in memory. None of its calls fails. Contracts see the bytes that are left.
+#[derive(Drop)]
+pub struct Bytes<'a> {
+    rest: &'a [u8],
+}
+
+impl<'a> Model for Bytes<'a> {
+    ghost use Rattle.std.specs.Prelude.{ℕ, List};
+
+    ghost Value = { List ℕ };
+
+    ghost view = { λ b. b.rest.now };
+}
+
+impl<'a> Bytes<'a> {
+    /// An input that has these bytes left.
+    pub fn new(bytes: &'a [u8]) -> Bytes<'a>
+        ensures { result ≡ bytes.entry.now }
+    {
+        Bytes { rest: bytes }
+    }
+
+    /// The bytes that are left.
+    pub fn rest(&self) -> &'a [u8]
+        ensures { result.now ≡ self.now }
+    {
+        self.rest
+    }
+}
+
+impl Input for Bytes<'_> {
+    ghost left = { λ b. Some b };
+
+    ghost failed = { λ _. 0 };
+
+    fn read(&mut self, buffer: &mut [u8]) -> Result<usize, Fault> {
+        let (now, later) = self.rest.split_at(buffer.len().min(self.rest.len()));
+        buffer[..now.len()].copy_from_slice(now);
+        self.rest = later;
+        Ok(now.len())
+    }
+
+    fn faults(&self) -> u64 {
+        0
+    }
+}
+
+/// An output that keeps the bytes that it takes. A call fails only where memory for them is refused.
+/// Contracts see the bytes and how many calls failed.
+#[derive(Drop)]
+pub struct TakenBytes {
+    bytes: Vec<u8>,
+    faults: u64,
+}
+
+impl Model for TakenBytes {
+    ghost use Rattle.std.specs.Prelude.{ℕ, List};
+
+    ghost Value = { List ℕ × ℕ };
+
+    ghost view = { λ t. (t.bytes.items, t.faults) };
+}
+
+impl TakenBytes {
+    /// An output that took nothing yet, with room for this many bytes.
+    pub fn with_capacity(alloc: Global, capacity: usize) -> Result<TakenBytes, AllocError>
+        ensures { IfOk result (λ t. t ≡ ([], 0)) }
+    {
+        Ok(TakenBytes {
+            bytes: Vec::with_capacity(alloc, capacity)?,
+            faults: 0,
+        })
+    }
+
+    /// The bytes that were taken.
+    pub fn as_slice(&self) -> &[u8]
+        ensures { result.now ≡ self.now.0 }
+    {
+        self.bytes.as_slice()
+    }
+}
+
+impl Output for TakenBytes {
+    ghost taken = { λ t. Some t.0 };
+
+    ghost failed = { λ t. t.1 };
+
+    fn write(&mut self, bytes: &[u8]) -> Result<usize, Fault> {
+        match self.bytes.extend_from_slice(bytes) {
+            Ok(()) => Ok(bytes.len()),
+            Err(AllocError) => {
+                self.faults += 1;
+                Err(Fault)
+            }
+        }
+    }
+
+    fn flush(&mut self) -> Result<(), Fault> {
+        Ok(())
+    }
+
+    fn faults(&self) -> u64 {
+        self.faults
+    }
+}

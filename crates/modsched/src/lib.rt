@@ -1,0 +1,14 @@
+//! The program: its command line, and the work of its subcommands over inputs and an output.
+#![tactic(auto)]
+
+mod device;
+mod line;
+mod status;
+mod text;
+
+pub use device::{
+    Bytes, Fault, FaultyInput, FaultyOutput, FileInput, Input, Output, StandardOutput, TakenBytes,
+};
+pub use line::{Command, Usage, parse_line};
+pub use status::{Line, Status};
+pub use text::{ReadTextError, TEXT_LIMIT, read_text, write_text};

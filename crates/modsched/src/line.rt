@@ -1,0 +1,155 @@
+//! The program's command line.
+
+ghost use Rattle.std.specs.Prelude.{◌≡◌, map, false, IfOk, IfSome, IfNone};
+ghost use Rattle.clap.specs.Words.{app_of, fault_of, kind_of, rule_of, subcommand_of, subcommand_rows_of};
+ghost use Rattle.clap.specs.declared.builder.command.Command.TheViews.{out-Command};
+ghost use Rattle.modsched.specs.Lines.{program_line, bounds_line, path_rule, Means, IsRead, IsToldBy};
+ghost use Rattle.modsched.specs.declared.line.Usage.TheVariants.{Memory};
+
+use clap::error::ErrorKind;
+use clap::{Arg, ArgMatches};
+use std::alloc::{AllocError, Global};
+
+/// What the program is asked to do.
+#[derive(Debug, Drop)]
+pub enum Command {
+    /// Tell the bounds of each loop.
+    Bounds {
+        /// The path of the machine's file.
+        machine: String,
+        /// The path of the loops' file.
+        loops: String,
+    },
+}
+
+/// Why a line gives no command.
+#[derive(Debug, Drop)]
+pub enum Usage {
+    /// Help was asked for: its text.
+    Help(String),
+    /// The line is refused: what is wrong with it, and how it is used.
+    Refused(String),
+    /// Memory ran out. This says nothing of the line.
+    Memory,
+}
+
+impl From<AllocError> for Usage {
+    ghost from_gives = { λ _ e. e ≡ Memory };
+
+    fn from(_e: AllocError) -> Usage {
+        Usage::Memory
+    }
+}
+
+const ABOUT: &str = "Software pipelining of innermost loops for a described VLIW machine";
+
+const LONG_ABOUT: &str =
+    "Software pipelining of innermost loops of 64-bit integer operations for a described VLIW machine.
+
+The machine is a TOML text: its functional units, the number of its rotating registers and, for each
+opcode, the latency and the reservation tables by which an operation may be issued. The loops are a
+text of their own, with one statement a line.";
+
+const LIMITS: &str =
+    "Limits: 1,048,576 bytes for each text; 1,024 loops of a file, each of 1 to 128 statements, with at
+most 32 arrays and 64 parameters; names of 1 to 16 bytes; 1 to 64 units; 1 to 256 registers; 1 to 8
+alternatives of an opcode, each of 1 to 16 rows; latencies of 1 to 64 cycles.
+
+Exit status: 0 done; 2 the line is refused; 3 a file can't be read; 4 the machine is refused; 5 the
+loops are refused, or an opcode has no reservation table; 6 the output can't be written; 7 out of
+memory. A fault is told in one line on the standard error.";
+
+const BOUNDS_ABOUT: &str = "Tell how many cycles each loop needs for an iteration at least";
+
+const BOUNDS_LONG_ABOUT: &str = "Tell how many cycles each loop needs for an iteration at least.
+
+Prints a line for each loop, in the order of the file: its name, the number of its operations and the
+bound by the machine's units, in cycles. The last line has the number of loops.";
+
+const MACHINE_HELP: &str = "The file with the machine's text";
+
+const LOOPS_HELP: &str = "The file with the loops' text";
+
+// A path that has to be given.
+fn path<'a>(alloc: Global, id: &'a str, value: &'a str, help: &'a str) -> Arg<'a>
+    ensures rule { rule_of result ≡ path_rule id.entry.now }
+    ensures local { result.global ≡ false }
+{
+    Arg::new(alloc, id)
+        .value_name(value)
+        .required(true)
+        .help(help)
+}
+
+// The line of the program, without its own name.
+fn program<'a>(alloc: Global) -> Result<clap::Command<'a>, AllocError>
+    ensures { IfOk result (λ c. app_of c ≡ program_line) }
+{
+    clap::Command::new(alloc, "modsched")
+        .bin_name("modsched")?
+        .no_binary_name(true)
+        .about(ABOUT)
+        .long_about(LONG_ABOUT)
+        .after_long_help(LIMITS)
+        .subcommand_required(true)
+        .arg_required_else_help(true)
+        .subcommand(bounds(alloc)?)
+}
+
+// The subcommand `bounds`.
+fn bounds<'a>(alloc: Global) -> Result<clap::Command<'a>, AllocError>
+    ensures app { IfOk result (λ c. app_of c ≡ bounds_line) }
+    ensures local { IfOk result (λ c. (out-Command c).has_globals ≡ false) }
+{
+    clap::Command::new(alloc, "bounds")
+        .about(BOUNDS_ABOUT)
+        .long_about(BOUNDS_LONG_ABOUT)
+        .after_long_help(LIMITS)
+        .arg(path(alloc, "machine", "MACHINE", MACHINE_HELP))?
+        .arg(path(alloc, "loops", "LOOPS", LOOPS_HELP))
+}
+
+// The command that a subcommand and its values mean.
+fn command_of(alloc: Global, matches: &ArgMatches<'_>) -> Result<Option<Command>, AllocError>
+    ensures meant { IfOk result (λ found. IfSome found (λ c. Means c (subcommand_rows_of matches.now))) }
+    ensures none { IfOk result (λ found. IfNone found ((c : Command) → ¬ Means c (subcommand_rows_of matches.now))) }
+{
+    let Some(values) = matches.subcommand_matches("bounds") else {
+        return Ok(None);
+    };
+    match (values.get_str("machine"), values.get_str("loops")) {
+        (Some(machine), Some(loops)) => Ok(Some(Command::Bounds {
+            machine: String::from_str(alloc, machine)?,
+            loops: String::from_str(alloc, loops)?,
+        })),
+        _ => Ok(None),
+    }
+}
+
+// What is told of an error.
+fn usage_of(alloc: Global, error: &clap::Error) -> Usage
+    ensures { IsToldBy result (kind_of error.now) }
+{
+    match (error.kind(), error.to_string(alloc)) {
+        (ErrorKind::OutOfMemory, _) | (_, Err(_)) => Usage::Memory,
+        (ErrorKind::DisplayHelp, Ok(text)) => Usage::Help(text),
+        (_, Ok(text)) => Usage::Refused(text),
+    }
+}
+
+/// Reads the words of a command line, which begin behind the program's own name. Paths are any text.
+pub fn parse_line<'a>(alloc: Global, words: &'a [&'a str]) -> Result<Command, Usage>
+    ensures { let texts = map (λ w. w.now) words.entry.now in
+        IsRead result (fault_of program_line texts) (subcommand_of program_line texts) }
+{
+    match program(alloc)?.try_get_matches_from(words) {
+        Ok(matches) => match command_of(alloc, &matches)? {
+            Some(command) => Ok(command),
+            None => Err(Usage::Refused(String::from_str(alloc, "error: a path is missing\n")?)),
+        },
+        Err(error) => Err(usage_of(alloc, &error)),
+    }
+}
+
+#[cfg(test)]
+mod tests;
