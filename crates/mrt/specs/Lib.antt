@@ -7,3 +7,4 @@ pub mod OwnerTables
 pub mod MaskTables
 pub mod Lanes
 pub mod Searches
+pub mod Turns

@@ -1,8 +1,9 @@
 //! The worked table on both bodies, and the two bodies side by side.
 
-ghost use Rattle.std.specs.Prelude.{◌≡◌, ◌^◌, ◌<◌, ◌≤◌, ◌∷◌, [], ℕ, length, slice_index_or, None, IfOk, vec_len};
+ghost use Rattle.std.specs.Prelude.{◌≡◌, ◌+◌, ◌^◌, ◌<◌, ◌≤◌, ◌∷◌, [], ℕ, length, slice_index_or, None, IfOk, vec_len};
 ghost use Rattle.machine.specs.Alternative.{IsAlternative};
 ghost use Rattle.mrt.specs.Placements.{placement_of};
+ghost use Rattle.mrt.specs.Turns.{Tells};
 
 use crate::{MaskTable, ModuloTable, OwnerTable};
 use machine::{Alternative, Alternatives, OutOfMemory, Row};
@@ -128,6 +129,54 @@ fn tells_the_holder<T: ModuloTable>(rt: &impl Abort, alloc: Global) -> Result<()
     let table = crowded::<T>(rt, alloc)?;
     assert_eq!(rt; table.free(64, 0), Some(1));
     assert_eq!(rt; table.holder(64, 0, 0, 0), Some(0));
+    Ok(())
+}
+
+/// Takes an operation out where it is placed, and else places it at its first slot from a time on.
+fn turn<T: ModuloTable>(
+    table: &mut T,
+    held: &mut [bool],
+    op: usize,
+    start: u64,
+) -> Option<(u64, usize)>
+    requires there { op < length held.old }
+    requires time { start + T.interval table.old ≤ 2 ^ 32 }
+    requires tells { Tells held.old (length (T.operations table.old)) (T.placed table.old) }
+    ensures tells { Tells held.new (length (T.operations table.new)) (T.placed table.new) }
+    ensures operations { T.operations table.new ≡ T.operations table.old }
+    ensures interval { T.interval table.new ≡ T.interval table.old }
+{
+    if held[op] {
+        table.release(op);
+        held[op] = false;
+        return None;
+    }
+    let slot = table.first_free(op, start);
+    if let Some((time, alternative)) = slot {
+        table.claim(op, time, alternative);
+        held[op] = true;
+    }
+    slot
+}
+
+/// What a table answers as operations come and go.
+fn answers<T: ModuloTable>(alloc: Global) -> Result<Vec<Option<(u64, usize)>>, OutOfMemory> {
+    let operations = wide(alloc)?;
+    let mut table = T::make(alloc, &operations, 11)?;
+    let mut held = vec![in alloc; false; 65]?;
+    let mut answers = Vec::new(alloc);
+    for step in 0..300 {
+        let op = step * step % 65;
+        answers.push(turn(&mut table, &mut held, op, step as u64 / 3))?;
+    }
+    Ok(answers)
+}
+
+#[test]
+fn both_agree(rt: HostRuntime) -> Result<(), Fail> {
+    let owners = answers::<OwnerTable>(rt.alloc())?;
+    let masks = answers::<MaskTable>(rt.alloc())?;
+    assert_eq!(rt; owners.as_slice(), masks.as_slice());
     Ok(())
 }
 

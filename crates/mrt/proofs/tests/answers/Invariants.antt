@@ -1,0 +1,10 @@
+use Rattle.std.proofs.Common.{◌≡◌, length}
+use Rattle.mrt.specs.Turns.{Tells}
+use Rattle.mrt.proofs.tests.answers.Given as goal
+
+abbrev pub invariant-loop-step : goal.invariant-loop-step
+invariant-loop-step g l = record {
+  count : length (g.T.ModuloTable.operations l.table) ≡ 65;
+  interval : g.T.ModuloTable.interval l.table ≡ 11;
+  tells : Tells l.held.items (length (g.T.ModuloTable.operations l.table)) (g.T.ModuloTable.placed l.table);
+}
