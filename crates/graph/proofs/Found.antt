@@ -1,11 +1,11 @@
 -- Lists of edges that grow.
-use Rattle.std.proofs.Common.{◌≡◌, ◌≢◌, ◌⊎◌, ℕ, suc, ◌+◌, ◌<◌, ◌≤◌, ℤ, pos, ◌+ℤ◌, List, [], ◌∷◌, ◌++◌, length, get_or, take, refl, sym, ap, ◌∙◌, subst, inl, inr, arith, Option, Some, None}
+use Rattle.std.proofs.Common.{◌≡◌, ℕ, ◌+◌, ◌<◌, ℤ, pos, ◌+ℤ◌, List, [], ◌∷◌, ◌++◌, length, get_or, take, refl, sym, ap, ◌∙◌, subst, inl, inr, arith, Some, None}
 use Rattle.std.proofs.lemmas.List.{append-nil, append_assoc, take_more, get_or_default}
-use Rattle.std.proofs.lemmas.Option.{slice_get_within, slice_get-get_or}
+use Rattle.std.proofs.lemmas.Option.{slice_get_within}
 use Rattle.std.proofs.lemmas.List.Elements.{All-nil, All-push, All-append, Contains-append_left, Contains-get_or, Contains-push, Contains-push_cases}
-use Rattle.std.proofs.lemmas.Bool.{cases_eq, cases_lt}
+use Rattle.std.proofs.lemmas.Bool.{cases_lt}
 use Rattle.std.proofs.lemmas.Int.{ints}
-use Rattle.std.specs.List.{slice_index, slice_index_or, slice_get, All, Contains}
+use Rattle.std.specs.List.{slice_index, slice_get, All, Contains}
 use Rattle.loops.specs.declared.statement.Statement.{Statement}
 use Rattle.loops.specs.declared.statement.Place.{Place}
 use Rattle.loops.specs.declared.statement.Operand.{Operand}

@@ -1,5 +1,5 @@
 -- The dependences that were found make a graph of the loop.
-use Rattle.std.proofs.Common.{◌≡◌, ◌⊎◌, ℕ, ◌+◌, ◌<◌, ◌≤◌, ℤ, pos, ◌+ℤ◌, ◌-ℤ◌, List, length, get_or, refl, sym, ap, ◌∙◌, subst, inl, inr, arith, Option, Some, None}
+use Rattle.std.proofs.Common.{◌≡◌, ◌⊎◌, ℕ, ◌<◌, ◌≤◌, ℤ, pos, ◌+ℤ◌, ◌-ℤ◌, List, length, get_or, sym, subst, inl, inr, arith, Some}
 use Rattle.std.specs.Prelude.{◌≤ℤ◌}
 use Rattle.std.proofs.lemmas.Int.{ints}
 use Rattle.std.proofs.lemmas.List.Elements.{All-contains, Contains-get_or}
@@ -11,10 +11,9 @@ use Rattle.loops.specs.declared.statement.Operand.{Operand}
 use Rattle.loops.specs.declared.statement.Operand.TheVariants.{Constant, Parameter, Value}
 use Rattle.loops.specs.Loops.{LoopData, IsLoop, MayRead}
 use Rattle.graph.specs.Dependences.{EdgeData, Precedes, Dependence, latencies_of}
-use Rattle.graph.specs.Graphs.{GraphData, IsGraph, IsGraphOf}
-use Rattle.graph.specs.Subscripts.{AreLatencies, IsDelay, IsFound, ReadsBelow}
+use Rattle.graph.specs.Graphs.{IsGraph, IsGraphOf}
+use Rattle.graph.specs.Subscripts.{AreLatencies, IsFound, ReadsBelow}
 use Rattle.graph.proofs.Instances.{found-from_dependence, dependence-from_found}
-use Rattle.graph.proofs.Latencies.{length-latencies}
 
 reads_one : (loop : LoopData) (reader n : ℕ) (o : Operand) → n ≡ length loop.statements → MayRead loop reader o → ReadsBelow n o
 reads_one loop reader n (Constant value) is h = tt

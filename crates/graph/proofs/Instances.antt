@@ -1,15 +1,15 @@
 -- What is told by subscripts is what is told by instances.
-use Rattle.std.proofs.Common.{◌≡◌, ◌⊎◌, ℕ, suc, ◌+◌, ◌<◌, ◌≤◌, ℤ, pos, ◌+ℤ◌, ◌-ℤ◌, List, length, refl, sym, ap, ◌∙◌, subst, inl, inr, arith, Option, Some, None, add-zero, zero-add}
+use Rattle.std.proofs.Common.{◌≡◌, ℕ, ◌+◌, ◌<◌, pos, ◌+ℤ◌, List, refl, sym, ap, ◌∙◌, subst, inl, inr, arith, Some}
 use Rattle.std.proofs.lemmas.Int.{ints}
 use Rattle.std.proofs.lemmas.Bool.{cases_eq}
-use Rattle.std.specs.List.{slice_index, slice_get, Contains}
+use Rattle.std.specs.List.{slice_index}
 use Rattle.machine.specs.declared.opcode.Opcode.{Opcode}
 use Rattle.machine.specs.declared.opcode.Opcode.TheVariants.{Load, Store}
 use Rattle.loops.specs.Loops.{LoopData}
 use Rattle.loops.specs.declared.statement.Statement.{Statement}
 use Rattle.loops.specs.declared.statement.Place.{Place}
-use Rattle.graph.specs.Dependences.{EdgeData, Uses, Touches, HasOpcode, ComesFirst, MeetInMemory, Dependence, value_flow, memory_flow, anti, output}
-use Rattle.graph.specs.Subscripts.{IsDelay, IsMemoryEdge, IsUse, IsMeeting, IsFound}
+use Rattle.graph.specs.Dependences.{EdgeData, Touches, HasOpcode, ComesFirst, MeetInMemory, Dependence, value_flow, memory_flow, anti, output}
+use Rattle.graph.specs.Subscripts.{IsDelay, IsMeeting, IsFound}
 
 pub comes_first : (p i q d : ℕ) → (d ≡ 0 → p < q) → ComesFirst p i q (i + d)
 comes_first p i q d order = elim (cases_eq d 0) [

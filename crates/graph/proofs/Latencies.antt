@@ -1,13 +1,12 @@
 -- The latencies of a loop's operations, one after another.
-use Rattle.std.proofs.Common.{◌≡◌, ℕ, ◌+◌, ◌<◌, ◌≤◌, Bool, true, false, cond, List, [], ◌∷◌, ◌++◌, length, get_or, take, drop, refl, sym, ap, ◌∙◌, subst, arith, Option, Some, None, Result, Ok, Err}
+use Rattle.std.proofs.Common.{◌≡◌, ℕ, ◌+◌, ◌<◌, Bool, cond, List, [], ◌∷◌, ◌++◌, length, get_or, take, drop, refl, sym, ap, ◌∙◌, arith, Option, Some, None, Ok}
 use Rattle.std.proofs.lemmas.List.{drop_more, take_more, get_or-map, length-map}
-use Rattle.std.specs.List.{find, slice_index}
+use Rattle.std.specs.List.{find}
 use Rattle.std.specs.Option.{is_none}
 use Rattle.machine.specs.declared.opcode.Opcode.{Opcode}
 use Rattle.machine.specs.Machines.{MachineData, OperationData, table_of}
 use Rattle.loops.specs.declared.statement.Statement.{Statement}
 use Rattle.loops.specs.Loops.{LoopData}
-use Rattle.graph.specs.declared.fault.GraphFault.{GraphFault}
 use Rattle.graph.specs.Answers.{Answers}
 use Rattle.graph.specs.Units.{opcodes_of, first_without_table}
 use Rattle.graph.specs.Dependences.{latencies_of, latency_in}

@@ -1,5 +1,6 @@
 pub mod Best
 pub mod Chosen
+pub mod Circuits
 pub mod Found
 pub mod GraphOf
 pub mod Instances
@@ -7,6 +8,7 @@ pub mod Latencies
 pub mod Order
 pub mod Passes
 pub mod Pigeons
+pub mod Potentials
 pub mod Promised
 pub mod Recurrences
 pub mod Slices

@@ -1,15 +1,15 @@
 -- The order of edges, by their fields.
-use Rattle.std.proofs.Common.{◌≡◌, ◌⊎◌, ℕ, ◌<◌, ◌≤◌, ℤ, Bool, true, false, ◌&&◌, ◌==◌, cond, List, [], length, get_or, refl, sym, ap, ◌∙◌, subst, inl, inr, arith, eqb, Ordering, nat_cmp, int_cmp, nat_eq}
+use Rattle.std.proofs.Common.{◌≡◌, ◌⊎◌, ℕ, ◌<◌, ℤ, Bool, true, ◌&&◌, ◌==◌, List, [], get_or, refl, sym, ap, ◌∙◌, subst, inl, inr, arith, Ordering, nat_cmp, int_cmp}
 use Rattle.std.specs.Prelude.{◌<ℤ◌}
 use Rattle.std.specs.declared.cmp.Ordering.TheVariants.{Less, Equal, Greater}
-use Rattle.std.specs.Ordering.{ordering_then, is_eq, is_lt, eq_by_cmp, int_eq, MatchOrdering, then_cmp, on}
+use Rattle.std.specs.Ordering.{ordering_then, is_eq, eq_by_cmp, int_eq, MatchOrdering}
 use Rattle.std.specs.Cmp.{IsTotalOrder, IsEquivalence}
-use Rattle.std.specs.List.{All, AllPairs, Contains, dedup}
+use Rattle.std.specs.List.{AllPairs, Contains, dedup}
 use Rattle.std.specs.List.Sorted.{IsSorted, IsStrictlySortedBy, IsPermutation}
 use Rattle.std.specs.List.Retain.{IsFiltered, DiffersFromLast}
 use Rattle.std.proofs.lemmas.Cmp.{then_total, on_total, nat_cmp_total, int_cmp_total, nat_eq_equiv, int_eq_equiv, and_equiv, on_equiv, ranked, int_ranked}
-use Rattle.std.proofs.lemmas.Bool.{cases_order, eq-eqb, ne_eqb, eqb-true, and_parts}
-use Rattle.std.proofs.lemmas.Bool.Decides.{nat_tests, Decides-int_eq}
+use Rattle.std.proofs.lemmas.Bool.{eq-eqb, ne_eqb, eqb-true, and_parts}
+use Rattle.std.proofs.lemmas.Bool.Decides.{Decides-int_eq}
 use Rattle.std.proofs.lemmas.List.Filters.{dedup_is}
 use Rattle.std.proofs.lemmas.List.Kept.{IsStrictlySortedBy-dedup, Contains-dedup, Contains-from_dedup}
 use Rattle.std.proofs.lemmas.List.Sorted.{Contains-permutation, IsPermutation-sym}

@@ -1,18 +1,15 @@
 -- What dependences promise for the instances of iterations.
-use Rattle.std.proofs.Common.{◌≡◌, ◌⊎◌, ℕ, suc, ◌+◌, ◌-◌, ◌*◌, ◌<◌, ◌≤◌, ℤ, pos, ◌+ℤ◌, ◌-ℤ◌, List, [], ◌∷◌, length, refl, sym, ap, ◌∙◌, subst, inl, inr, arith, Option, Some, None}
+use Rattle.std.proofs.Common.{◌≡◌, ℕ, ◌+◌, ◌-◌, ◌*◌, ◌<◌, ◌≤◌, pos, ◌+ℤ◌, ◌-ℤ◌, List, [], ◌∷◌, refl, ap, ◌∙◌, inl, inr, arith}
 use Rattle.std.specs.Prelude.{◌≤ℤ◌}
 use Rattle.std.proofs.lemmas.Int.{ints}
 use Rattle.std.proofs.lemmas.List.Elements.{All-contains}
 use Rattle.std.proofs.Math.Nat.{mul-add}
-use Rattle.std.specs.List.{slice_index, slice_get, All, Contains}
-use Rattle.machine.specs.declared.opcode.Opcode.{Opcode}
-use Rattle.machine.specs.declared.opcode.Opcode.TheVariants.{Load, Store}
+use Rattle.std.specs.List.{slice_index, Contains}
 use Rattle.loops.specs.Loops.{LoopData, IsLoop, MayRead}
 use Rattle.loops.specs.declared.statement.Operand.TheVariants.{Value}
-use Rattle.graph.specs.Dependences.{EdgeData, Uses, Touches, HasOpcode, ComesFirst, MeetInMemory, Dependence, value_flow, memory_flow, anti, output}
-use Rattle.graph.specs.Promises.{issue_of, KeepsDependences, InOrder, ValuesInTime, StoresInTime, LoadsInTime, StoresInOrder, CircuitsTakeIterations}
+use Rattle.graph.specs.Dependences.{EdgeData, ComesFirst, MeetInMemory, Dependence, value_flow, memory_flow, anti, output}
+use Rattle.graph.specs.Promises.{InOrder, ValuesInTime, StoresInTime, LoadsInTime, StoresInOrder, CircuitsTakeIterations}
 use Rattle.graph.specs.Walks.{IsWalk, distance_of}
-use Rattle.graph.specs.Schedules.{KeepsEdge}
 use Rattle.graph.specs.Subscripts.{IsFound}
 use Rattle.graph.proofs.Instances.{comes_first, found-from_dependence}
 

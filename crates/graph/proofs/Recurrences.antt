@@ -1,15 +1,15 @@
 -- Times that keep the edges make every circuit fit.
-use Rattle.std.proofs.Common.{◌≡◌, ◌⊎◌, ℕ, suc, ◌+◌, ◌-◌, ◌*◌, ◌<◌, ◌≤◌, ℤ, pos, ◌+ℤ◌, ◌-ℤ◌, List, [], ◌∷◌, length, refl, sym, ap, ◌∙◌, subst, inl, inr, arith}
+use Rattle.std.proofs.Common.{◌≡◌, ℕ, ◌+◌, ◌-◌, ◌*◌, ◌<◌, ◌≤◌, ℤ, pos, ◌+ℤ◌, List, [], ◌∷◌, ap, inl, inr, arith}
 use Rattle.std.specs.Prelude.{◌≤ℤ◌, ◌<ℤ◌}
 use Rattle.std.proofs.lemmas.Int.{ints}
 use Rattle.std.proofs.lemmas.List.Elements.{All-contains}
 use Rattle.std.proofs.lemmas.Bool.{cases_lt}
 use Rattle.std.proofs.Math.Nat.{mul-add, mul-le-mul}
-use Rattle.std.specs.List.{slice_index, All, Contains}
+use Rattle.std.specs.List.{slice_index, All}
 use Rattle.graph.specs.Dependences.{EdgeData}
 use Rattle.graph.specs.Schedules.{KeepsEdge}
 use Rattle.graph.specs.Promises.{SchedulesKeepRecurrences}
-use Rattle.graph.specs.Walks.{IsWalk, delay_of, distance_of, FitsCircuits, Exceeds, IsRecurrenceBound}
+use Rattle.graph.specs.Walks.{IsWalk, delay_of, distance_of, FitsCircuits, IsRecurrenceBound}
 
 -- along a walk the times differ by at least its delay less its intervals
 walk-kept : (edges : List EdgeData) (ii : ℕ) (times : List ℕ) → All (KeepsEdge ii times) edges → (p q : ℕ) (walk : List EdgeData) → IsWalk edges p walk q

@@ -1,12 +1,12 @@
 -- What a schedule that keeps each dependence of a loop promises for the instances of its iterations.
-use Rattle.std.specs.Prelude.{◌≡◌, ℕ, ℤ, ◌+◌, ◌*◌, ◌<◌, ◌≤◌, List, [], slice_index}
-use Rattle.std.specs.List.{All, Contains}
-use Rattle.machine.specs.declared.opcode.Opcode.{Opcode}
+use Rattle.std.specs.Prelude.{◌≡◌, ℕ, ℤ, ◌+◌, ◌*◌, ◌<◌, ◌≤◌, ◌≤ℤ◌, ◌⊎◌, List, [], length, slice_index}
+use Rattle.std.specs.List.{All}
 use Rattle.machine.specs.declared.opcode.Opcode.TheVariants.{Load, Store}
 use Rattle.loops.specs.Loops.{LoopData, IsLoop}
 use Rattle.graph.specs.Dependences.{EdgeData, Dependence, Uses, Touches, HasOpcode, ComesFirst}
 use Rattle.graph.specs.Schedules.{KeepsEdge}
-use Rattle.graph.specs.Walks.{IsWalk, distance_of, IsRecurrenceBound}
+use Rattle.graph.specs.Walks.{IsWalk, distance_of, length_of, Exceeds, IsRecurrenceBound}
+use Rattle.graph.specs.Graphs.{GraphData, IsGraph}
 
 -- the cycle in which the instance of an operation in an iteration is issued
 abbrev pub issue_of : ℕ → List ℕ → ℕ → ℕ → ℕ
@@ -57,3 +57,14 @@ CircuitsTakeIterations = (loop : LoopData) (latencies : List ℕ) (edges : List 
 abbrev pub SchedulesKeepRecurrences : Type 0
 SchedulesKeepRecurrences = (edges : List EdgeData) (bound ii : ℕ) (times : List ℕ) → IsRecurrenceBound edges bound → 0 < ii
     → All (KeepsEdge ii times) edges → bound ≤ ii
+
+-- the bound is at most 64 for each operation
+abbrev pub RecurrencesAreLimited : Type 0
+RecurrencesAreLimited = (graph : GraphData) (bound : ℕ) → IsGraph graph → IsRecurrenceBound graph.edges bound → bound ≤ 64 * length graph.latencies
+
+-- at any interval some circuit does not fit, or each walk has one from the same operation to the same one that has fewer edges
+-- than there are operations and is as long
+abbrev pub WalksAreShort : Type 0
+WalksAreShort = (graph : GraphData) (ii : ℕ) → IsGraph graph → (p q : ℕ) (walk : List EdgeData) → p < length graph.latencies → IsWalk graph.edges p walk q
+    → Exceeds graph.edges ii ⊎ ((other : List EdgeData) × IsWalk graph.edges p other q × (length other < length graph.latencies)
+    × (length_of graph.latencies ii walk q ≤ℤ length_of graph.latencies ii other q))

@@ -1,5 +1,5 @@
 -- Dependences told by statements alone: by the subscripts of their cells and by their operands.
-use Rattle.std.specs.Prelude.{◌≡◌, ◌⊎◌, ℕ, ℤ, pos, ◌+ℤ◌, ◌-ℤ◌, ◌<◌, ◌≤◌, List, ◌++◌, length, Option, Some, None, slice_index, slice_get}
+use Rattle.std.specs.Prelude.{◌≡◌, ◌⊎◌, ℕ, ℤ, pos, ◌+ℤ◌, ◌-ℤ◌, ◌<◌, ◌≤◌, List, ◌++◌, Some, slice_index, slice_get}
 use Rattle.std.specs.List.{All, Contains}
 use Rattle.machine.specs.declared.opcode.Opcode.{Opcode}
 use Rattle.machine.specs.declared.opcode.Opcode.TheVariants.{Load, Store}

@@ -1,6 +1,6 @@
 //! What dependences promise: laws, stated by the contracts of functions that do nothing.
 
-ghost use Rattle.graph.specs.Promises.{ValuesInTime, StoresInTime, LoadsInTime, StoresInOrder, CircuitsTakeIterations, SchedulesKeepRecurrences};
+ghost use Rattle.graph.specs.Promises.{ValuesInTime, StoresInTime, LoadsInTime, StoresInOrder, CircuitsTakeIterations, SchedulesKeepRecurrences, RecurrencesAreLimited, WalksAreShort};
 
 /// A schedule that keeps the dependences of a loop issues no use of a value before it has landed.
 pub fn values_in_time()
@@ -33,4 +33,14 @@ pub fn circuits_take_iterations()
 /// No schedule that keeps the edges has an interval below their recurrence-constrained lower bound.
 pub fn schedules_keep_recurrences()
     ensures { SchedulesKeepRecurrences }
+{}
+
+/// The recurrence-constrained lower bound is at most 64 cycles for each operation, so at most 8,192.
+pub fn recurrences_are_limited()
+    ensures { RecurrencesAreLimited }
+{}
+
+/// Where every circuit fits an interval, the longest walks have fewer edges than there are operations.
+pub fn walks_are_short()
+    ensures { WalksAreShort }
 {}

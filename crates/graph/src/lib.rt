@@ -16,6 +16,7 @@ pub use edge::Edge;
 pub use fault::GraphFault;
 pub use graph::Edges;
 pub use laws::{
-    circuits_take_iterations, loads_in_time, stores_in_order, stores_in_time, values_in_time,
+    circuits_take_iterations, loads_in_time, recurrences_are_limited, schedules_keep_recurrences,
+    stores_in_order, stores_in_time, values_in_time, walks_are_short,
 };
 pub use units::res_mii;

@@ -1,8 +1,7 @@
-use Rattle.std.proofs.Common.{◌≡◌, ℕ, ◌+◌, ◌<◌, ◌≤◌, List, [], length, get_or, Some, None, arith, refl, sym, ap, ◌∙◌, subst}
-use Rattle.std.specs.List.{slice_index, slice_get, All}
+use Rattle.std.proofs.Common.{◌≡◌, ◌<◌, ◌≤◌, [], length, get_or, Some, None, arith}
+use Rattle.std.specs.List.{slice_get}
 use Rattle.loops.specs.declared.statement.Statement.{Statement}
-use Rattle.graph.specs.Subscripts.{Gains, HasMeetings, HasUses, HasAll, IsFound}
-use Rattle.graph.specs.Dependences.{EdgeData}
+use Rattle.graph.specs.Subscripts.{Gains, HasUses}
 use Rattle.std.proofs.lemmas.Option.{slice_get-get_or}
 use Rattle.machine.specs.declared.opcode.Opcode.TheVariants.{Load}
 use Rattle.graph.proofs.Found.{all-more, Gains-found, found-within}

@@ -1,8 +1,7 @@
-use Rattle.std.proofs.Common.{rules, ◌≡◌, ℕ, ◌<◌, ◌≤◌, ◌⊎◌, ℤ, pos, ◌+ℤ◌, Some, None, arith, inl, inr, sym, ap, ◌∙◌, subst, to_z, of_z, w8}
+use Rattle.std.proofs.Common.{rules, ◌≡◌, ◌<◌, pos, ◌+ℤ◌, Some, None, inl, inr, sym, ap, ◌∙◌, subst, to_z, of_z, w8}
 use Rattle.std.proofs.lemmas.Int.{to_z-of_z}
-use Rattle.std.specs.List.{slice_index}
 use mir.Val.{SFits}
-use Rattle.graph.specs.Subscripts.{IsDelay, IsMemoryEdge}
+use Rattle.graph.specs.Subscripts.{IsMemoryEdge}
 use Rattle.graph.specs.Dependences.{EdgeData}
 use Rattle.graph.proofs.Found.{memory_edge-sound, memory_edge-complete}
 use Rattle.graph.proofs.collect.memory_edge.Goals as goal

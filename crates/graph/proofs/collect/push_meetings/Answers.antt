@@ -1,9 +1,6 @@
-use Rattle.std.proofs.Common.{◌≡◌, ℕ, ◌+◌, ◌<◌, ◌≤◌, List, length, get_or, Some, None, arith, refl, sym, ap, ◌∙◌, subst}
+use Rattle.std.proofs.Common.{◌≡◌, length, Some, None, refl}
 use Rattle.std.proofs.lemmas.Option.{slice_get_read}
-use Rattle.std.specs.List.{slice_index, slice_get}
-use Rattle.loops.specs.declared.statement.Statement.{Statement}
-use Rattle.graph.specs.Subscripts.{Gains, HasMeetings, IsMemoryEdge}
-use Rattle.graph.specs.Dependences.{EdgeData}
+use Rattle.std.specs.List.{slice_get}
 use Rattle.graph.proofs.Found.{meetings-pushed, meetings-passed}
 use Rattle.graph.proofs.collect.push_meetings.Goals as goal
 use Rattle.graph.proofs.collect.push_meetings.Goals.{in-Some+in_ok-push, in_default}

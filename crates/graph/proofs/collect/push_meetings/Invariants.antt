@@ -1,4 +1,3 @@
-use Rattle.std.proofs.Common.{take}
 use Rattle.graph.specs.Subscripts.{Gains, HasMeetings}
 use Rattle.graph.proofs.collect.push_meetings.Given as goal
 

@@ -1,13 +1,11 @@
-use Rattle.std.proofs.Common.{rules, ◌≡◌, ℕ, ◌+◌, ◌<◌, ◌≤◌, ◌⊎◌, ℤ, pos, List, ◌∷◌, ◌++◌, [], length, get_or, take, Some, None, arith, inl, inr, sym, ap, ◌∙◌, subst, to_z, w8}
+use Rattle.std.proofs.Common.{◌≡◌, ◌<◌, ◌≤◌, pos, length, get_or, take, Some, arith, sym, ap, ◌∙◌, subst, to_z, w8}
 use Rattle.std.proofs.lemmas.Int.{ints}
 use Rattle.std.proofs.lemmas.List.{take_all, get_or_default}
 use Rattle.std.proofs.lemmas.Option.{slice_get-get_or}
-use Rattle.std.specs.List.{slice_index, slice_get, Contains, All}
-use Rattle.loops.specs.declared.statement.Operand.{Operand}
-use Rattle.loops.specs.declared.statement.Operand.TheVariants.{Constant, Value}
+use Rattle.std.specs.List.{slice_get, All}
+use Rattle.loops.specs.declared.statement.Operand.TheVariants.{Constant}
 use Rattle.loops.specs.declared.statement.Statement.{Statement}
-use Rattle.graph.specs.Subscripts.{Gains, HasUses, IsUse, IsFound, ReadsBelow}
-use Rattle.graph.specs.Dependences.{EdgeData}
+use Rattle.graph.specs.Subscripts.{HasUses, ReadsBelow}
 use Rattle.graph.proofs.Found.{uses-pushed, HasUses-passed}
 use Rattle.graph.proofs.collect.push_uses.Goals as goal
 use Rattle.graph.proofs.collect.push_uses.Goals.{in-Value+in_ok-push, in_default}

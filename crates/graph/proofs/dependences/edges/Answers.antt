@@ -1,12 +1,11 @@
-use Rattle.std.proofs.Common.{◌≡◌, ℕ, ◌+◌, ◌<◌, ◌≤◌, List, Vec, Global, length, get_or, Some, None, Ok, refl, sym, ap, ◌∙◌, subst, arith}
-use Rattle.std.specs.List.{All, AllPairs, Contains}
+use Rattle.std.proofs.Common.{◌≡◌, ℕ, Vec, Global, length, Ok, sym, ap, ◌∙◌, subst}
+use Rattle.std.specs.List.{All, Contains}
 use Rattle.loops.specs.declared.statement.Statement.{Statement}
-use Rattle.loops.specs.Loops.{IsLoop}
 use Rattle.graph.specs.Answers.{Answers}
 use Rattle.graph.specs.Units.{first_without_table}
 use Rattle.graph.specs.Dependences.{EdgeData, latencies_of}
-use Rattle.graph.specs.Graphs.{IsGraph, IsGraphOf}
-use Rattle.graph.specs.Subscripts.{AreLatencies, IsFound, ReadsBelow}
+use Rattle.graph.specs.Graphs.{IsGraphOf}
+use Rattle.graph.specs.Subscripts.{IsFound, ReadsBelow}
 use Rattle.graph.proofs.Latencies.{answered, length-latencies}
 use Rattle.graph.proofs.GraphOf.{reads-below, graph-well_formed, graph-of_loop}
 use Rattle.graph.proofs.dependences.edges.Goals as goal

@@ -1,4 +1,3 @@
-use Rattle.std.proofs.Common.{ℕ}
 use Rattle.graph.proofs.Order.{ascending, kept, no_more}
 use Rattle.graph.proofs.dependences.in_order.Goals as goal
 

@@ -1,4 +1,4 @@
-use Rattle.std.proofs.Common.{◌≡◌, ℕ, ◌+◌, ◌-◌, ◌<◌, ◌≤◌, length, get_or}
+use Rattle.std.proofs.Common.{◌≡◌, ℕ, ◌-◌, ◌<◌, ◌≤◌, length, get_or}
 use Rattle.graph.specs.Dependences.{EdgeData}
 use Rattle.graph.specs.Layout.{end_of, IsStart}
 use Rattle.graph.proofs.starts.starts.Given as goal

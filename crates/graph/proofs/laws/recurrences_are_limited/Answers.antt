@@ -1,0 +1,5 @@
+use Rattle.graph.proofs.Potentials.{recurrences-are_limited}
+use Rattle.graph.proofs.laws.recurrences_are_limited.Goals as goal
+
+pub returns : goal.returns
+returns c = recurrences-are_limited
