@@ -8,3 +8,4 @@ pub mod Owning
 pub mod Masking
 pub mod Vectors
 pub mod Searching
+pub mod Scheduling

@@ -1,10 +1,8 @@
 -- The slots that are held, as one operation is placed or taken out.
-use Rattle.std.proofs.Common.{◌≡◌, ◌≢◌, ℕ, ◌<◌, ◌⊎◌, inl, inr, Bool, true, false, cond, List, length, get_or, set, Option, Some, None, refl, sym, ap, ◌∙◌, subst}
-use Rattle.std.specs.Option.{option_flatten}
+use Rattle.std.proofs.Common.{◌≡◌, ◌≢◌, ℕ, ◌<◌, inl, inr, Bool, true, false, cond, length, get_or, set, Some, None, sym, ap, ◌∙◌, subst}
 use Rattle.std.proofs.lemmas.Bool.{cases_Bool, false≢true, both_ways}
 use Rattle.std.proofs.lemmas.Option.{none-some, same_Some}
 use Rattle.machine.specs.declared.alternative.Row.{Row}
-use Rattle.machine.specs.Alternative.{residue_of}
 use Rattle.mrt.specs.Placements.{Operations, Placements, Placement, placement_of, rows_of, IsMetBy}
 use Rattle.mrt.specs.Slots.{takes, Takes, Occupies, AreApart, Owns}
 use Rattle.mrt.proofs.Taking.{takes_place, met_from_takes, takes_other, takes_own, Takes-placed, Takes-removed}

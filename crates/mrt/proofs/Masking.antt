@@ -1,17 +1,15 @@
 -- Words of units.
-use Rattle.std.proofs.Common.{◌≡◌, ◌≢◌, ℕ, ◌+◌, ◌-◌, ◌*◌, ◌/◌, ◌%◌, ◌^◌, ◌<◌, ◌≤◌, ◌⊎◌, inl, inr, Bool, true, false, ◌&&◌, ◌||◌, cond, not, eqb, bit_and, bit_or, List, length, get_or, set, map, take, replicate, Option, Some, None, MatchOption, refl, sym, ap, ◌∙◌, arith, eq-eqb, length-set, w64}
+use Rattle.std.proofs.Common.{◌≡◌, ◌≢◌, ℕ, ◌+◌, ◌-◌, ◌*◌, ◌^◌, ◌<◌, ◌≤◌, inl, inr, Bool, true, false, ◌&&◌, cond, eqb, bit_and, bit_or, List, length, get_or, set, replicate, Option, Some, None, MatchOption, refl, sym, ap, ◌∙◌, arith, eq-eqb, length-set, w64}
 use Rattle.std.specs.Int.{bit_at, bit_not}
-use Rattle.std.specs.List.{All, list_any}
-use Rattle.std.proofs.lemmas.Bool.{cases_eq, cases_Bool, ne_eqb, eqb-true, eqb-false, true≢false}
+use Rattle.std.proofs.lemmas.Bool.{cases_eq, ne_eqb, true≢false}
 use Rattle.std.proofs.lemmas.Nat.Bits.{bit_at-lt, bit_at_or, bit_at_and, bit_at_not, bit_at-pow_same, bit_at-pow_other, and_pow, bit_at-zero}
 use Rattle.std.proofs.lemmas.List.{get_or-set_same, get_or-set_other, get_or-replicate, length-replicate}
 use Rattle.std.proofs.Math.Pow.{pow_pos}
 use Rattle.machine.specs.declared.alternative.Row.{Row}
 use Rattle.machine.specs.Alternative.{residue_of}
-use Rattle.mrt.specs.declared.slot.Slot.{Slot}
 use Rattle.mrt.specs.Placements.{Operations, Placements, Placement, placement_of, rows_of, IsFree, Holds, IsHolder}
 use Rattle.mrt.specs.Rosters.{Table}
-use Rattle.mrt.specs.Slots.{rows_in, takes, Takes, meets_held, Occupies, AreApart}
+use Rattle.mrt.specs.Slots.{takes, Takes, Occupies, AreApart}
 use Rattle.mrt.specs.MaskTables.{is_held, Repeats, IsMaskTable}
 use Rattle.mrt.proofs.Taking.{none_placed, takes_from_Holds, Holds-from_takes}
 use Rattle.mrt.proofs.Marking.{Occupies-placed, Occupies-removed, AreApart-placed, AreApart-removed}

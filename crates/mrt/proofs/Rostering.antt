@@ -1,15 +1,15 @@
 -- What is kept of operations and their placements, as they change.
-use Rattle.std.proofs.Common.{zero, suc, ◌≡◌, ◌≢◌, ℕ, ◌+◌, ◌-◌, ◌<◌, ◌≤◌, ◌⊎◌, inl, inr, List, [], ◌∷◌, ◌++◌, length, get_or, set, map, replicate, take, drop, Option, Some, None, refl, sym, ap, ◌∙◌, subst, arith, length-set, length-append}
+use Rattle.std.proofs.Common.{zero, suc, ◌≡◌, ℕ, ◌+◌, ◌-◌, ◌<◌, inl, inr, List, [], ◌∷◌, ◌++◌, length, get_or, set, map, replicate, drop, Option, Some, None, refl, sym, ap, ◌∙◌, subst, arith, length-set, length-append}
 use Rattle.std.specs.List.{All, slice_get, slice_range}
 use Rattle.std.specs.Option.{option_map}
 use Rattle.std.proofs.lemmas.Bool.{cases_eq, cases_lt}
 use Rattle.std.proofs.lemmas.Option.{none-some, same_Some, slice_get-get_or, slice_get_within}
-use Rattle.std.proofs.lemmas.List.{map_push, map-set, take_rest, drop_at, take_all, get_or-replicate, get_or_past, length-replicate}
+use Rattle.std.proofs.lemmas.List.{map_push, map-set, take_rest, drop_at, get_or-replicate, get_or_past, length-replicate}
 use Rattle.std.proofs.lemmas.List.Elements.{All-push, All-head, All-tail, All-weaker, All-map, All-nil, All-take, All-drop}
 use Rattle.machine.specs.declared.alternative.Row.{Row}
 use Rattle.mrt.specs.declared.roster.Group.{Group}
 use Rattle.mrt.specs.declared.roster.Issue.{Issue}
-use Rattle.mrt.specs.Placements.{Operations, Placements, Placement, alternatives_of, rows_of}
+use Rattle.mrt.specs.Placements.{Operations, Placements, alternatives_of, rows_of}
 use Rattle.mrt.specs.Rosters.{Table, table_of, placement, group_of, IsGroup, IsIssue, IsRoster}
 use Rattle.mrt.proofs.Lists.{slice_range-append, slice_get-set_same, slice_get-set_other}
 

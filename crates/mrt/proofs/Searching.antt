@@ -1,5 +1,5 @@
 -- The least cycle and the first alternative there.
-use Rattle.std.proofs.Common.{◌≡◌, ℕ, ◌+◌, ◌-◌, ◌^◌, ◌<◌, ◌≤◌, ◌⊎◌, ◌↔◌, inl, inr, Bool, true, false, not, eqb, min, List, length, Option, Some, None, refl, sym, ap, subst, ◌∙◌, arith, eq-eqb, below_more, w64}
+use Rattle.std.proofs.Common.{◌≡◌, ℕ, ◌+◌, ◌-◌, ◌^◌, ◌<◌, ◌≤◌, ◌↔◌, inl, inr, Bool, false, not, eqb, min, length, Some, None, refl, sym, ap, subst, ◌∙◌, arith, eq-eqb, below_more, w64}
 use Rattle.std.specs.Int.{bit_at, trailing_zeros}
 use Rattle.std.proofs.lemmas.Bool.{cases_eq, cases_lt, eqb-true}
 use Rattle.std.proofs.lemmas.Nat.Bits.{bit_at-trailing_zeros, bit_at-zero}
@@ -8,7 +8,7 @@ use Rattle.machine.specs.Alternative.{collides}
 use Rattle.std.specs.List.{All}
 use Rattle.mrt.specs.Slots.{meets_held, Occupies}
 use Rattle.mrt.proofs.Taking.{free_from_unmet}
-use Rattle.mrt.specs.Placements.{Operations, Placements, alternatives_of, rows_of, IsFree, IsFirstFree}
+use Rattle.mrt.specs.Placements.{Operations, Placements, alternatives_of, rows_of, IsFree}
 use Rattle.mrt.specs.Searches.{IsFirstWithin}
 
 -- the least cycle below 8 at which one of so many alternatives serves, and the first that does, or 8

@@ -1,5 +1,5 @@
 -- Which slots the placed operations take, and what that says of the answers of a table.
-use Rattle.std.proofs.Common.{◌≡◌, ◌≢◌, ℕ, zero, suc, ◌+◌, ◌%◌, ◌<◌, ◌≤◌, ◌⊎◌, inl, inr, Bool, true, false, not, ◌&&◌, ◌↔◌, eqb, List, [], ◌∷◌, length, get_or, set, map, replicate, Option, Some, None, refl, sym, ap, ◌∙◌, subst, arith, eq-eqb, length-set}
+use Rattle.std.proofs.Common.{◌≡◌, ◌≢◌, ℕ, zero, suc, ◌<◌, ◌⊎◌, inl, inr, Bool, true, false, not, ◌&&◌, ◌↔◌, eqb, List, length, get_or, set, replicate, Option, Some, None, refl, sym, ap, ◌∙◌, subst, arith, eq-eqb, length-set}
 use Rattle.std.specs.List.{All, list_any, slice_get}
 use Rattle.std.specs.Option.{option_flatten}
 use Rattle.std.proofs.lemmas.Bool.{cases_eq, cases_Bool, and_parts, and_from, eqb-true, both_ways, not-true}
@@ -7,10 +7,10 @@ use Rattle.std.proofs.lemmas.Option.{none-some, same_Some, slice_get-get_or, sli
 use Rattle.std.proofs.lemmas.List.{get_or-map, get_or-replicate, length-map, length-replicate}
 use Rattle.std.proofs.lemmas.List.Folds.{list_any_at}
 use Rattle.machine.specs.declared.alternative.Row.{Row}
-use Rattle.machine.specs.Alternative.{residue_of, rows_meet, alternatives_meet, collides}
+use Rattle.machine.specs.Alternative.{residue_of, rows_meet, collides}
 use Rattle.mrt.specs.declared.slot.Slot.{Slot}
-use Rattle.mrt.specs.Placements.{Operations, Placements, Placement, placement_of, alternatives_of, rows_of, IsMetBy, Fits, IsFree, Holds}
-use Rattle.mrt.specs.Slots.{rows_in, takes, Takes, meets_held, Occupies, AreApart}
+use Rattle.mrt.specs.Placements.{Operations, Placements, Placement, placement_of, alternatives_of, rows_of, IsMetBy, IsFree, Holds}
+use Rattle.mrt.specs.Slots.{rows_in, takes, Takes, meets_held, Occupies}
 use Rattle.mrt.proofs.Lists.{list_any_place, slice_get-set_same, slice_get-set_other}
 
 -- ---- one row and its slot

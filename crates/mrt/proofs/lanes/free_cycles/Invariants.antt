@@ -1,4 +1,4 @@
-use Rattle.std.proofs.Common.{◌≡◌, ℕ, ◌+◌, ◌%◌, ◌<◌, not, eqb, length, get_or, take}
+use Rattle.std.proofs.Common.{◌≡◌, ℕ, ◌+◌, ◌%◌, ◌<◌, not, eqb, get_or, take}
 use Rattle.mrt.specs.Slots.{rows_in, meets_held}
 use Rattle.mrt.specs.MaskTables.{is_held}
 use Rattle.mrt.proofs.lanes.free_cycles.Given as goal

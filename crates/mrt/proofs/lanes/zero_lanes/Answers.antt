@@ -1,4 +1,4 @@
-use Rattle.std.proofs.Common.{◌≡◌, eqb, sym, ap, ◌∙◌, arith, w64}
+use Rattle.std.proofs.Common.{eqb, ap, ◌∙◌, arith, w64}
 use Rattle.std.specs.Int.{bit_at}
 use Rattle.std.proofs.lemmas.Simd.{bitmask_splat}
 use Rattle.mrt.proofs.Vectors.{bit_of_zero_lanes}

@@ -1,4 +1,4 @@
-use Rattle.std.proofs.Common.{◌≡◌, ◌<◌, ◌≢◌, length, get_or, sym, ap, ◌∙◌, eqb, arith}
+use Rattle.std.proofs.Common.{◌<◌, length, get_or, sym, arith}
 use Rattle.mrt.specs.declared.slot.Slot.{Slot}
 use Rattle.mrt.specs.MaskTables.{is_held}
 use Rattle.mrt.proofs.Owning.{meets_here, meets_later}

@@ -1,4 +1,4 @@
-use Rattle.std.proofs.Common.{◌≡◌, ◌≤◌, length, ◌∙◌, arith, cond, ap}
+use Rattle.std.proofs.Common.{◌∙◌, arith, cond, ap}
 use Rattle.std.proofs.lemmas.List.{take_all}
 use Rattle.mrt.specs.Slots.{takes, rows_in}
 use Rattle.mrt.specs.OwnerTables.{owner_at}

@@ -1,7 +1,4 @@
-use Rattle.std.proofs.Common.{◌≡◌, ◌<◌, length, get_or, sym, ap, ◌∙◌, arith}
-use Rattle.std.proofs.lemmas.List.{get_or-map, length-map}
-use Rattle.mrt.specs.declared.slot.Slot.{Slot}
-use Rattle.mrt.specs.Slots.{rows_in}
+use Rattle.std.proofs.Common.{sym, ◌∙◌, arith}
 use Rattle.mrt.proofs.Owning.{takes_here}
 use Rattle.mrt.proofs.roster.takes.Goals as goal
 

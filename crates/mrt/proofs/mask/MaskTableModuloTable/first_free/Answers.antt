@@ -1,4 +1,4 @@
-use Rattle.std.proofs.Common.{◌≡◌, ◌+◌, ◌%◌, ◌<◌, ◌≤◌, ℕ, sym, ap, ◌∙◌, arith, below_more}
+use Rattle.std.proofs.Common.{◌≡◌, ◌%◌, sym, arith, below_more}
 use Rattle.mrt.proofs.Searching.{none_until}
 use Rattle.mrt.proofs.mask.MaskTableModuloTable.first_free.Goals as goal
 

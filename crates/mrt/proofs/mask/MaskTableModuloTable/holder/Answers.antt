@@ -1,8 +1,7 @@
-use Rattle.std.proofs.Common.{◌≡◌, ◌<◌, ◌%◌, false, bit_and, List, get_or, sym, ap, ◌∙◌, arith, Some, Option, MatchOption}
+use Rattle.std.proofs.Common.{◌≡◌, ◌<◌, ◌%◌, false, get_or, sym, arith, Some}
 use Rattle.std.specs.List.{slice_get}
 use Rattle.std.proofs.lemmas.Option.{slice_get_within}
 use Rattle.std.proofs.lemmas.List.{get_or_read}
-use Rattle.machine.specs.declared.alternative.Row.{Row}
 use Rattle.machine.specs.Alternative.{residue_of}
 use Rattle.mrt.specs.declared.slot.Slot.{Slot}
 use Rattle.mrt.specs.Placements.{rows_of}

@@ -1,6 +1,5 @@
-use Rattle.std.proofs.Common.{◌≡◌, ◌%◌, ◌<◌, ℕ, Some, length, drop, sym, ap, ◌∙◌}
+use Rattle.std.proofs.Common.{◌≡◌, length, drop, sym, ap, ◌∙◌}
 use Rattle.std.proofs.lemmas.List.{take_at}
-use Rattle.mrt.specs.Placements.{Placement, placement_of}
 use Rattle.mrt.specs.Rosters.{placement}
 use Rattle.mrt.proofs.Choosing.{covered_slots}
 use Rattle.mrt.proofs.Owning.{IsOwnerTable-removed}
