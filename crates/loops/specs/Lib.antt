@@ -4,4 +4,5 @@ pub mod Forms
 pub mod Loops
 pub mod Meaning
 pub mod Run
+pub mod Steps
 pub mod Words

@@ -9,9 +9,9 @@ use std::marker::Model;
 /// that are live at the end of a run. Contracts see it as data.
 #[derive(Drop)]
 pub struct Memory {
-    trip: u32,
-    arrays: Vec<Block>,
-    outs: Vec<i64>,
+    pub(crate) trip: u32,
+    pub(crate) arrays: Vec<Block>,
+    pub(crate) outs: Vec<i64>,
 }
 
 /// The cells of one array, in one piece.
