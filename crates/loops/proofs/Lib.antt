@@ -1,3 +1,4 @@
 pub mod Openings
 pub mod Rings
 pub mod Standing
+pub mod Texts

@@ -5,4 +5,5 @@ pub mod Loops
 pub mod Meaning
 pub mod Run
 pub mod Steps
+pub mod Text
 pub mod Words

@@ -12,6 +12,7 @@ mod run;
 mod statement;
 mod step;
 mod window;
+mod write;
 
 pub use arithmetic::apply;
 pub use fault::{LoopFault, LoopFaultKind};
@@ -20,3 +21,4 @@ pub use lists::{Array, Cells, Initial, Operands, Param};
 pub use memory::Memory;
 pub use run::{RunFault, opening, run_from, run_plain};
 pub use statement::{Operand, Place, Statement};
+pub use write::write_loop;
