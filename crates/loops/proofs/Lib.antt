@@ -1,4 +1,6 @@
+pub mod Numbers
 pub mod Openings
 pub mod Rings
+pub mod Splitting
 pub mod Standing
 pub mod Texts
