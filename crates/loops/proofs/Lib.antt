@@ -1,3 +1,5 @@
+pub mod Forming
+pub mod Names
 pub mod Numbers
 pub mod Openings
 pub mod Rings

@@ -12,7 +12,7 @@ use Rattle.loops.specs.Forms.{is_number, int_of, signed_of, small_of, offset_of}
 own : IsNumeralModel (λ ds. all_ascii_digits ds ≡ true) (digits_value 10)
 own = numerals_by_value (λ ds. all_ascii_digits ds ≡ true) (search rules)
 
-is_number-decimal : (n : ℕ) → n < 2 ^ 64 → is_number (decimal n) ≡ true
+pub is_number-decimal : (n : ℕ) → n < 2 ^ 64 → is_number (decimal n) ≡ true
 is_number-decimal n h = and_from (ltb 0 (length (decimal n))) (all_ascii_digits (decimal n)) (lt-ltb 0 (length (decimal n)) (decimal_nonempty n h)) (digits_decimal own n h)
 
 -- a number up to 16
