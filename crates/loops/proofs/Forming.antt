@@ -45,10 +45,10 @@ position_of p (x ∷ xs) rest c none met =
     let parts = or_parts (p x) (list_any p xs) none in
     cond-true (not (p x)) (1 + position_or_len p (xs ++ c ∷ rest)) 0 (ap not parts.0) ∙ omega (arith, position_of p xs rest c parts.1 met)
 
-before_first-at : (p : ℕ → Bool) (xs rest : List ℕ) (c : ℕ) → list_any p xs ≡ false → p c ≡ true → before_first p (xs ++ c ∷ rest) ≡ xs
+pub before_first-at : (p : ℕ → Bool) (xs rest : List ℕ) (c : ℕ) → list_any p xs ≡ false → p c ≡ true → before_first p (xs ++ c ∷ rest) ≡ xs
 before_first-at p xs rest c none met = ap (λ n. take n (xs ++ c ∷ rest)) (position_of p xs rest c none met) ∙ take_at xs (c ∷ rest) (length xs) refl
 
-after_first-at : (p : ℕ → Bool) (xs rest : List ℕ) (c : ℕ) → list_any p xs ≡ false → p c ≡ true → after_first p (xs ++ c ∷ rest) ≡ rest
+pub after_first-at : (p : ℕ → Bool) (xs rest : List ℕ) (c : ℕ) → list_any p xs ≡ false → p c ≡ true → after_first p (xs ++ c ∷ rest) ≡ rest
 after_first-at p xs rest c none met =
     ap (λ n. drop (n + 1) (xs ++ c ∷ rest)) (position_of p xs rest c none met)
     ∙ ap (drop (length xs + 1)) (sym (append_assoc xs (c ∷ []) rest)) ∙ drop_at (xs ++ c ∷ []) rest (length xs + 1) (length_push xs c)

@@ -2,6 +2,7 @@ pub mod Forming
 pub mod Names
 pub mod Numbers
 pub mod Openings
+pub mod Placing
 pub mod Rings
 pub mod Splitting
 pub mod Standing

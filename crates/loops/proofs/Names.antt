@@ -71,3 +71,10 @@ use_of-name (c ∷ cs) h =
     let none = or_from (eqb c 64) (list_any (λ c. eqb c 64) cs) (other_byte c 64 (letter_in_name c bytes.0) refl) (not_at cs bytes.1) in
     ap (λ o. or_use o (named_use_of (c ∷ cs))) (int_of-name c cs bytes.0)
     ∙ cond-false (list_any (λ d. eqb d 64) (c ∷ cs)) _ _ none ∙ cond-true (is_name (c ∷ cs)) (Some (Plain (c ∷ cs))) None h
+
+-- nor is any other byte that stands in no name
+pub not_byte : (d : ℕ) → is_name_byte d ≡ false → (cs : List ℕ) → list_all is_name_byte cs ≡ true → list_any (λ c. eqb c d) cs ≡ false
+not_byte d k [] h = refl
+not_byte d k (c ∷ cs) h =
+    let parts = and_parts (is_name_byte c) (list_all is_name_byte cs) h in
+    or_from (eqb c d) (list_any (λ c. eqb c d) cs) (other_byte c d parts.0 k) (not_byte d k cs parts.1)
