@@ -1,4 +1,13 @@
 pub mod AtSigns
 pub mod Cuts
+pub mod Forming
+pub mod Names
 pub mod Numbers
+pub mod Numerals
+pub mod Openings
+pub mod Placing
+pub mod Rings
+pub mod Splitting
+pub mod Standing
 pub mod Stores
+pub mod Texts

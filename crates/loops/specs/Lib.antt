@@ -1,6 +1,10 @@
 pub use Rattle.machine.specs.Opcodes
+pub mod Arithmetic
 pub mod Forms
 pub mod Loops
 pub mod Meaning
 pub mod Parsed
+pub mod Run
+pub mod Steps
+pub mod Text
 pub mod Words

@@ -1,17 +1,29 @@
 //! Innermost loops of 64-bit integer operations: their text, and what they mean.
 #![tactic(auto)]
 
+mod arithmetic;
 mod fault;
 mod form;
 mod innermost;
+mod iterate;
 mod lists;
+mod memory;
 mod name;
 mod number;
 mod operand;
+mod resolve;
+mod run;
 mod statement;
+mod step;
+mod window;
 mod words;
+mod write;
 
+pub use arithmetic::apply;
 pub use fault::{LoopFault, LoopFaultKind};
 pub use innermost::Loop;
 pub use lists::{Array, Cells, Initial, Operands, Param};
+pub use memory::Memory;
+pub use run::{RunFault, opening, run_from, run_plain};
 pub use statement::{Operand, Place, Statement};
+pub use write::write_loop;

@@ -1,0 +1,7 @@
+use Rattle.std.proofs.Common.{◌≡◌, ◌++◌, take, string_bytes}
+use Rattle.std.specs.List.{flat_map}
+use Rattle.loops.specs.Text.{line_text, out_words}
+use Rattle.loops.proofs.write.write_outs.Given as goal
+
+abbrev pub invariant-loop-statement : goal.invariant-loop-statement
+invariant-loop-statement l = string_bytes l.text ≡ string_bytes l.initial.text ++ flat_map (λ s. line_text (out_words l.innermost s)) (take l.statement-index l.statement-items)

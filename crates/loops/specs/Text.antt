@@ -1,0 +1,103 @@
+-- The canonical text of a loop: a line for each part, words parted by one blank, and a line feed at the end of each line.
+use Rattle.std.specs.Prelude.{ℕ, zero, suc, ℤ, pos, negsuc, List, [], ◌∷◌, ◌++◌, map, codes, Option, Some, None, unwrap_or, slice_get}
+use Rattle.std.specs.List.{flat_map}
+use Rattle.std.specs.Option.{option_and_then, option_map}
+use Rattle.std.specs.Fmt.{decimal, signed_decimal}
+use Rattle.machine.specs.declared.opcode.Opcode.{Opcode}
+use Rattle.machine.specs.Opcodes.{word_of}
+use Rattle.loops.specs.declared.lists.Array.{Array}
+use Rattle.loops.specs.declared.lists.Param.{Param}
+use Rattle.loops.specs.declared.lists.Initial.{Initial}
+use Rattle.loops.specs.declared.statement.Operand.{Operand}
+use Rattle.loops.specs.declared.statement.Operand.TheVariants.{Constant, Parameter, Value}
+use Rattle.loops.specs.declared.statement.Place.{Place}
+use Rattle.loops.specs.declared.statement.Statement.{Statement}
+use Rattle.loops.specs.Loops.{LoopData}
+
+-- names by their numbers
+
+abbrev pub array_name : LoopData → ℕ → List ℕ
+array_name loop number = unwrap_or (option_map (λ (a : Array). a.name) (slice_get loop.arrays number)) []
+
+abbrev pub param_name : LoopData → ℕ → List ℕ
+param_name loop number = unwrap_or (option_map (λ (p : Param). p.name) (slice_get loop.params number)) []
+
+abbrev pub value_name : LoopData → ℕ → List ℕ
+value_name loop number = unwrap_or (option_and_then (λ (s : Statement). s.name) (slice_get loop.statements number)) []
+
+-- words
+
+-- a name, and behind an `@` a number above 0
+abbrev pub at_distance : List ℕ → ℕ → List ℕ
+at_distance name zero = name
+at_distance name (suc d) = name ++ 64 ∷ decimal (suc d)
+
+abbrev pub operand_word : LoopData → Operand → List ℕ
+operand_word loop (Constant value) = signed_decimal value
+operand_word loop (Parameter number) = param_name loop number
+operand_word loop (Value statement distance) = at_distance (value_name loop statement) distance
+
+-- what stands behind the `i` of a subscript
+abbrev pub offset_text : ℤ → List ℕ
+offset_text (pos zero) = []
+offset_text (pos (suc n)) = 43 ∷ decimal (suc n)
+offset_text (negsuc n) = 45 ∷ decimal (suc n)
+
+abbrev pub place_word : LoopData → Place → List ℕ
+place_word loop place = array_name loop place.array ++ codes "[i" ++ offset_text place.offset ++ codes "]"
+
+-- lines, by their words
+
+abbrev pub array_words : Array → List (List ℕ)
+array_words a = codes "array" ∷ a.name ∷ codes "=" ∷ map signed_decimal a.cells
+
+abbrev pub param_words : Param → List (List ℕ)
+param_words p = codes "param" ∷ p.name ∷ codes "=" ∷ signed_decimal p.value ∷ []
+
+abbrev pub init_words : LoopData → Initial → List (List ℕ)
+init_words loop i = codes "init" ∷ at_distance (value_name loop i.statement) i.number ∷ codes "=" ∷ signed_decimal i.value ∷ []
+
+abbrev pub place_words : LoopData → Option Place → List (List ℕ)
+place_words loop None = []
+place_words loop (Some place) = place_word loop place ∷ []
+
+-- what a store reads: its value and, behind `if`, its guard
+abbrev pub stored_words : List (List ℕ) → List (List ℕ)
+stored_words [] = []
+stored_words (value ∷ []) = value ∷ []
+stored_words (value ∷ guards) = value ∷ codes "if" ∷ guards
+
+-- a statement without a name is a store
+abbrev pub words_by : LoopData → Opcode → Option (List ℕ) → List (List ℕ) → List (List ℕ) → List (List ℕ)
+words_by loop opcode None place operands = word_of opcode ∷ (place ++ stored_words operands)
+words_by loop opcode (Some name) place operands = name ∷ codes "=" ∷ word_of opcode ∷ (place ++ operands)
+
+abbrev pub statement_words : LoopData → Statement → List (List ℕ)
+statement_words loop s = words_by loop s.opcode s.name (place_words loop s.place) (map (operand_word loop) s.operands)
+
+abbrev pub out_words : LoopData → ℕ → List (List ℕ)
+out_words loop statement = codes "out" ∷ value_name loop statement ∷ []
+
+-- the lines of a loop: its name, arrays, parameters, initial values, statements and live values, and `end`
+abbrev pub words_of_loop : LoopData → List (List (List ℕ))
+words_of_loop loop =
+    ((((((codes "loop" ∷ loop.name ∷ []) ∷ [])
+    ++ map array_words loop.arrays)
+    ++ map param_words loop.params)
+    ++ map (init_words loop) loop.inits)
+    ++ map (statement_words loop) loop.statements)
+    ++ map (out_words loop) loop.outs
+    ++ (codes "end" ∷ []) ∷ []
+
+-- texts
+
+-- words behind another, each behind a blank
+abbrev pub following : List (List ℕ) → List ℕ
+following words = flat_map (λ word. 32 ∷ word) words
+
+abbrev pub line_text : List (List ℕ) → List ℕ
+line_text [] = 10 ∷ []
+line_text (word ∷ words) = (word ++ following words) ++ 10 ∷ []
+
+unfoldable pub text_of : LoopData → List ℕ
+text_of loop = flat_map line_text (words_of_loop loop)

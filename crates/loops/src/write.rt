@@ -1,0 +1,343 @@
+//! The canonical text of a loop.
+
+ghost use Rattle.std.specs.Prelude.{◌≡◌, ◌+◌, ◌<◌, ◌≤◌, ℕ, pos, [], ◌∷◌, ◌++◌, length, map, codes, Option, Some, None, IfOk, string_bytes};
+ghost use Rattle.std.specs.List.{All, flat_map};
+ghost use Rattle.std.specs.Fmt.{decimal, signed_decimal};
+ghost use Rattle.machine.specs.Opcodes.{word_of};
+ghost use Rattle.loops.specs.declared.statement.Operand.{Operand};
+ghost use Rattle.loops.specs.Loops.{IsLoop, IsPlace, IsStatement, MayRead};
+ghost use Rattle.loops.specs.Text.{array_name, param_name, value_name, at_distance, operand_word, offset_text, place_word, array_words, param_words, init_words, place_words, stored_words, statement_words, out_words, following, line_text, text_of};
+
+use crate::innermost::Loop;
+use crate::lists::{Array, Initial, Param};
+use crate::statement::{Operand, Place, Statement};
+use itoa::Buffer;
+use machine::OutOfMemory;
+use std::alloc::Global;
+
+/// The one canonical text of a loop: a line for its name, each array, parameter, initial value,
+/// statement and value that is live at the end, and `end`. A subscript constant and a distance of 0
+/// are left out.
+pub fn write_loop(alloc: Global, innermost: &Loop) -> Result<String, OutOfMemory>
+    ensures text { IfOk result (λ text. string_bytes text ≡ text_of innermost.now) }
+{
+    let mut text = String::with_capacity(alloc, room(innermost))?;
+    write_head(&mut text, innermost)?;
+    write_arrays(&mut text, innermost.arrays())?;
+    write_params(&mut text, innermost.params())?;
+    write_inits(&mut text, innermost)?;
+    write_statements(&mut text, innermost)?;
+    write_outs(&mut text, innermost)?;
+    text.push_str("end\n")?;
+    Ok(text)
+}
+
+/// Bytes that are enough for the text.
+fn room(innermost: &Loop) -> usize {
+    let mut bytes: usize = 64;
+    for array in innermost.arrays() {
+        let cells = array.cells.as_slice().len();
+        bytes = bytes.saturating_add(cells.saturating_mul(21).saturating_add(32));
+    }
+    bytes
+        .saturating_add(innermost.params().len().saturating_mul(64))
+        .saturating_add(innermost.inits().len().saturating_mul(64))
+        .saturating_add(innermost.statements().len().saturating_mul(128))
+        .saturating_add(innermost.outs().len().saturating_mul(32))
+}
+
+/// Writes the line that names the loop.
+fn write_head(text: &mut String, innermost: &Loop) -> Result<(), OutOfMemory>
+    ensures { IfOk result (λ _. string_bytes text.new ≡ string_bytes text.old ++ line_text (codes "loop" ∷ innermost.now.name ∷ [])) }
+{
+    text.push_str("loop ")?;
+    text.push_str(innermost.name().as_str())?;
+    text.push_str("\n")?;
+    Ok(())
+}
+
+/// Writes the lines of the arrays.
+fn write_arrays(text: &mut String, arrays: &[Array]) -> Result<(), OutOfMemory>
+    ensures { IfOk result (λ _. string_bytes text.new ≡ string_bytes text.old ++ flat_map (λ (a : Array). line_text (array_words a)) arrays.now) }
+{
+    for array in arrays {
+        write_array(text, array)?;
+    }
+    Ok(())
+}
+
+/// Writes the line of an array.
+fn write_array(text: &mut String, array: &Array) -> Result<(), OutOfMemory>
+    ensures { IfOk result (λ _. string_bytes text.new ≡ string_bytes text.old ++ line_text (array_words array.now)) }
+{
+    text.push_str("array ")?;
+    text.push_str(array.name.as_str())?;
+    text.push_str(" =")?;
+    write_numbers(text, array.cells.as_slice())?;
+    text.push_str("\n")?;
+    Ok(())
+}
+
+/// Writes numbers, each behind a blank.
+fn write_numbers(text: &mut String, numbers: &[i64]) -> Result<(), OutOfMemory>
+    ensures { IfOk result (λ _. string_bytes text.new ≡ string_bytes text.old ++ following (map signed_decimal numbers.now)) }
+{
+    for number in numbers {
+        write_number(text, " ", *number)?;
+    }
+    Ok(())
+}
+
+/// Writes a number behind some text.
+fn write_number(text: &mut String, before: &str, number: i64) -> Result<(), OutOfMemory>
+    ensures { IfOk result (λ _. string_bytes text.new ≡ string_bytes text.old ++ (before.now ++ signed_decimal number)) }
+{
+    text.push_str(before)?;
+    let mut buffer = Buffer::new();
+    text.push_str(buffer.format(number))?;
+    Ok(())
+}
+
+/// Writes the lines of the parameters.
+fn write_params(text: &mut String, params: &[Param]) -> Result<(), OutOfMemory>
+    ensures { IfOk result (λ _. string_bytes text.new ≡ string_bytes text.old ++ flat_map (λ (p : Param). line_text (param_words p)) params.now) }
+{
+    for param in params {
+        write_param(text, param)?;
+    }
+    Ok(())
+}
+
+/// Writes the line of a parameter.
+fn write_param(text: &mut String, param: &Param) -> Result<(), OutOfMemory>
+    ensures { IfOk result (λ _. string_bytes text.new ≡ string_bytes text.old ++ line_text (param_words param.now)) }
+{
+    text.push_str("param ")?;
+    text.push_str(param.name.as_str())?;
+    write_number(text, " = ", param.value)?;
+    text.push_str("\n")?;
+    Ok(())
+}
+
+/// Writes the lines of the initial values.
+fn write_inits(text: &mut String, innermost: &Loop) -> Result<(), OutOfMemory>
+    ensures { IfOk result (λ _. string_bytes text.new ≡ string_bytes text.old ++ flat_map (λ (i : Initial). line_text (init_words innermost.now i)) innermost.now.inits) }
+{
+    for init in innermost.inits() {
+        write_init(text, innermost, init)?;
+    }
+    Ok(())
+}
+
+/// Writes the line of an initial value.
+fn write_init(text: &mut String, innermost: &Loop, init: &Initial) -> Result<(), OutOfMemory>
+    requires { init.now.statement < length innermost.now.statements }
+    ensures { IfOk result (λ _. string_bytes text.new ≡ string_bytes text.old ++ line_text (init_words innermost.now init.now)) }
+{
+    text.push_str("init ")?;
+    write_value(text, innermost, init.statement, init.number)?;
+    write_number(text, " = ", init.value)?;
+    text.push_str("\n")?;
+    Ok(())
+}
+
+/// Writes the name of a statement's value, and a distance above 0.
+fn write_value(
+    text: &mut String,
+    innermost: &Loop,
+    statement: u8,
+    distance: u8,
+) -> Result<(), OutOfMemory>
+    requires { statement < length innermost.now.statements }
+    ensures { IfOk result (λ _. string_bytes text.new ≡ string_bytes text.old ++ at_distance (value_name innermost.now statement) distance) }
+{
+    text.push_str(value_name(innermost, statement))?;
+    if distance > 0 {
+        text.push_str("@")?;
+        let mut buffer = Buffer::new();
+        text.push_str(buffer.format(distance))?;
+    }
+    Ok(())
+}
+
+/// The name of a statement's value, which is empty for a store.
+fn value_name(innermost: &Loop, statement: u8) -> &str
+    requires { statement < length innermost.now.statements }
+    ensures { result.now ≡ value_name innermost.now statement }
+{
+    match &innermost.statements()[usize::from(statement)].name {
+        Some(name) => name.as_str(),
+        None => "",
+    }
+}
+
+/// The name of an array.
+fn array_name(innermost: &Loop, array: u8) -> &str
+    requires { array < length innermost.now.arrays }
+    ensures { result.now ≡ array_name innermost.now array }
+{
+    innermost.arrays()[usize::from(array)].name.as_str()
+}
+
+/// The name of a parameter.
+fn param_name(innermost: &Loop, param: u8) -> &str
+    requires { param < length innermost.now.params }
+    ensures { result.now ≡ param_name innermost.now param }
+{
+    innermost.params()[usize::from(param)].name.as_str()
+}
+
+/// Writes the lines of the statements.
+fn write_statements(text: &mut String, innermost: &Loop) -> Result<(), OutOfMemory>
+    ensures { IfOk result (λ _. string_bytes text.new ≡ string_bytes text.old ++ flat_map (λ (s : Statement). line_text (statement_words innermost.now s)) innermost.now.statements) }
+{
+    for statement in innermost.statements() {
+        write_statement(text, innermost, statement)?;
+    }
+    Ok(())
+}
+
+/// Writes the line of a statement.
+fn write_statement(
+    text: &mut String,
+    innermost: &Loop,
+    statement: &Statement,
+) -> Result<(), OutOfMemory>
+    requires { (number : ℕ) × IsStatement innermost.now number statement.now }
+    ensures { IfOk result (λ _. string_bytes text.new ≡ string_bytes text.old ++ line_text (statement_words innermost.now statement.now)) }
+{
+    let operands = statement.operands.as_slice();
+    match &statement.name {
+        Some(name) => {
+            text.push_str(name.as_str())?;
+            text.push_str(" = ")?;
+            text.push_str(statement.opcode.word())?;
+            write_place(text, innermost, statement.place)?;
+            write_operands(text, innermost, operands)?;
+        }
+        None => {
+            text.push_str(statement.opcode.word())?;
+            write_place(text, innermost, statement.place)?;
+            write_stored(text, innermost, operands)?;
+        }
+    }
+    text.push_str("\n")?;
+    Ok(())
+}
+
+/// Writes a place, if there is one, behind a blank.
+fn write_place(text: &mut String, innermost: &Loop, place: Option<Place>) -> Result<(), OutOfMemory>
+    requires { (p : Place) → place ≡ Some p → IsPlace innermost.now p }
+    ensures { IfOk result (λ _. string_bytes text.new ≡ string_bytes text.old ++ following (place_words innermost.now place)) }
+{
+    if let Some(place) = place {
+        write_cell(text, innermost, place)?;
+    }
+    Ok(())
+}
+
+/// Writes a place behind a blank.
+fn write_cell(text: &mut String, innermost: &Loop, place: Place) -> Result<(), OutOfMemory>
+    requires { IsPlace innermost.now place }
+    ensures { IfOk result (λ _. string_bytes text.new ≡ string_bytes text.old ++ 32 ∷ place_word innermost.now place) }
+{
+    text.push_str(" ")?;
+    text.push_str(array_name(innermost, place.array))?;
+    text.push_str("[i")?;
+    write_offset(text, place.offset)?;
+    text.push_str("]")?;
+    Ok(())
+}
+
+/// Writes the constant of a subscript with its sign, unless it is 0.
+fn write_offset(text: &mut String, offset: i8) -> Result<(), OutOfMemory>
+    ensures { IfOk result (λ _. string_bytes text.new ≡ string_bytes text.old ++ offset_text offset) }
+{
+    if offset > 0 {
+        text.push_str("+")?;
+    }
+    if offset != 0 {
+        let mut buffer = Buffer::new();
+        text.push_str(buffer.format(offset))?;
+    }
+    Ok(())
+}
+
+/// Writes operands, each behind a blank.
+fn write_operands(
+    text: &mut String,
+    innermost: &Loop,
+    operands: &[Operand],
+) -> Result<(), OutOfMemory>
+    requires { (number : ℕ) × All (MayRead innermost.now number) operands.now }
+    ensures { IfOk result (λ _. string_bytes text.new ≡ string_bytes text.old ++ following (map (operand_word innermost.now) operands.now)) }
+{
+    for operand in operands {
+        write_operand(text, innermost, *operand)?;
+    }
+    Ok(())
+}
+
+/// Writes what a store reads: its value and, behind `if`, its guard.
+fn write_stored(
+    text: &mut String,
+    innermost: &Loop,
+    operands: &[Operand],
+) -> Result<(), OutOfMemory>
+    requires { (number : ℕ) × All (MayRead innermost.now number) operands.now }
+    ensures { IfOk result (λ _. string_bytes text.new ≡ string_bytes text.old ++ following (stored_words (map (operand_word innermost.now) operands.now))) }
+{
+    match operands {
+        [] => {}
+        [value] => write_operand(text, innermost, *value)?,
+        [value, guards @ ..] => {
+            write_operand(text, innermost, *value)?;
+            text.push_str(" if")?;
+            write_operands(text, innermost, guards)?;
+        }
+    }
+    Ok(())
+}
+
+/// Writes an operand behind a blank.
+fn write_operand(text: &mut String, innermost: &Loop, operand: Operand) -> Result<(), OutOfMemory>
+    requires { (number : ℕ) × MayRead innermost.now number operand }
+    ensures { IfOk result (λ _. string_bytes text.new ≡ string_bytes text.old ++ 32 ∷ operand_word innermost.now operand) }
+{
+    match operand {
+        Operand::Constant(value) => write_number(text, " ", value)?,
+        Operand::Parameter(number) => {
+            text.push_str(" ")?;
+            text.push_str(param_name(innermost, number))?;
+        }
+        Operand::Value {
+            statement,
+            distance,
+        } => {
+            text.push_str(" ")?;
+            write_value(text, innermost, statement, distance)?;
+        }
+    }
+    Ok(())
+}
+
+/// Writes the lines of the values that are live at the end.
+fn write_outs(text: &mut String, innermost: &Loop) -> Result<(), OutOfMemory>
+    ensures { IfOk result (λ _. string_bytes text.new ≡ string_bytes text.old ++ flat_map (λ s. line_text (out_words innermost.now s)) innermost.now.outs) }
+{
+    for statement in innermost.outs() {
+        write_out(text, innermost, *statement)?;
+    }
+    Ok(())
+}
+
+/// Writes the line of a value that is live at the end.
+fn write_out(text: &mut String, innermost: &Loop, statement: u8) -> Result<(), OutOfMemory>
+    requires { statement < length innermost.now.statements }
+    ensures { IfOk result (λ _. string_bytes text.new ≡ string_bytes text.old ++ line_text (out_words innermost.now statement)) }
+{
+    text.push_str("out ")?;
+    text.push_str(value_name(innermost, statement))?;
+    text.push_str("\n")?;
+    Ok(())
+}
