@@ -1,4 +1,5 @@
 pub use Rattle.machine.specs.Opcodes
+pub mod Blocks
 pub mod Forms
 pub mod Loops
 pub mod Meaning

@@ -1,11 +1,15 @@
 //! Innermost loops of 64-bit integer operations: their text, and what they mean.
 #![tactic(auto)]
 
+mod entry;
 mod fault;
 mod form;
+mod index;
 mod innermost;
 mod lists;
+mod number;
 mod statement;
+mod words;
 
 pub use fault::{LoopFault, LoopFaultKind};
 pub use innermost::Loop;
