@@ -1,11 +1,16 @@
 -- The lines of a block as the reader keeps them, and what it asks of them.
-use Rattle.std.specs.Prelude.{ℕ, Bool, if◌then◌else◌, List, map, Option, Some, None}
+use Rattle.std.specs.Prelude.{◌≡◌, ℕ, ◌+◌, ◌≤◌, Bool, if◌then◌else◌, List, [], ◌∷◌, ◌++◌, length, map, Option, Some, None}
 use Rattle.std.specs.Borrow.{Bor}
 use Rattle.machine.specs.Opcodes.{same_word}
-use Rattle.loops.specs.Forms.{Form}
+use Rattle.loops.specs.Forms.{Form, EndLine}
 use Rattle.loops.specs.Meaning as meaning
+use Rattle.loops.specs.Meaning.{at_line, faults_of, whole, inside_faults, outside_faults, blocks_from, blocks_of, forms_of}
 use Rattle.loops.specs.Parsed.{form_seen}
+use Rattle.loops.specs.declared.collect.Stop.{Stop}
+use Rattle.loops.specs.declared.collect.Stop.TheVariants as stops
 use Rattle.loops.specs.declared.entry.Entry.{Entry}
+use Rattle.loops.specs.declared.fault.LoopFault.{LoopFault}
+use Rattle.loops.specs.declared.fault.LoopFaultKind.TheVariants.{Syntax, NoEnd}
 use Rattle.loops.specs.declared.index.Declared.{Declared}
 use Rattle.loops.specs.declared.index.Declared.TheVariants as variants
 
@@ -25,3 +30,31 @@ declared_if q (Some declaration) = if same_word q declaration.0.now then Some (d
 
 abbrev pub one_if : Bool → ℕ
 one_if b = if b then 1 else 0
+
+-- the faults of standing lines behind others, in a block
+abbrev pub entry_faults : List Form → List Form → List Entry → List LoopFault
+entry_faults block before [] = []
+entry_faults block before (entry ∷ entries) =
+    at_line entry.line (faults_of before block (form_seen entry.form)) ++ entry_faults block (before ++ form_seen entry.form ∷ []) entries
+
+-- where the lines that stand in a block stop: the faults of the lines from this number on are those of the standing lines and then
+-- those of the line where they stop and of what follows
+abbrev pub StopsAt : ℕ → List (Option Form) → List Entry → Stop → Type 0
+StopsAt number lines entries (stops.End line rest) =
+    (whole [] lines ≡ forms_in entries)
+    × ((names : List (List ℕ)) → inside_faults number names [] lines
+        ≡ entry_faults (forms_in entries) [] entries ++ (at_line line (faults_of (forms_in entries) (forms_in entries) EndLine) ++ outside_faults (line + 1) names (forms_of rest.now)))
+    × ((name : List ℕ) → blocks_from name [] lines ≡ (name, forms_in entries) ∷ blocks_of (forms_of rest.now))
+StopsAt number lines entries (stops.Unfit line rest) =
+    (whole [] lines ≡ whole (forms_in entries) (forms_of rest.now))
+    × ((names : List (List ℕ)) → (others : List LoopFault) × (inside_faults number names [] lines
+        ≡ entry_faults (whole [] lines) [] entries ++ record { line = line; kind = Syntax } ∷ others))
+StopsAt number lines entries (stops.Open line) =
+    (whole [] lines ≡ forms_in entries)
+    × ((names : List (List ℕ)) → inside_faults number names [] lines ≡ entry_faults (forms_in entries) [] entries ++ at_line line (NoEnd ∷ []))
+
+-- the line where they stop and the text behind it are within this bound
+abbrev pub IsBehind : ℕ → Stop → Type 0
+IsBehind bound (stops.End line rest) = line + 1 + length rest.now ≤ bound
+IsBehind bound (stops.Unfit line rest) = line + 1 + length rest.now ≤ bound
+IsBehind bound (stops.Open line) = line ≤ bound

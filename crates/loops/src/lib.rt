@@ -1,6 +1,7 @@
 //! Innermost loops of 64-bit integer operations: their text, and what they mean.
 #![tactic(auto)]
 
+mod collect;
 mod entry;
 mod fault;
 mod form;
