@@ -1,2 +1,4 @@
+pub mod Covering
 pub mod Declared
+pub mod Pieces
 pub mod Reading

@@ -122,6 +122,7 @@ impl<'a> Index<'a> {
     ghost use Rattle.std.specs.Prelude.{◌≡◌, IfOk, option_map};
     ghost use Rattle.loops.specs.Meaning.{declared};
     ghost use Rattle.loops.specs.Blocks.{forms_in, declared_seen};
+    ghost use Rattle.loops.specs.Checks.{IsCounted};
 
     /// An index of these lines.
     pub(crate) fn new(alloc: Global, lines: &'a [Entry<'a>]) -> Result<Index<'a>, AllocError>
@@ -147,7 +148,8 @@ impl<'a> Index<'a> {
 
     /// The first declaration of a name.
     pub(crate) fn declared(&self, name: &'a [u8]) -> Option<Declared>
-        ensures { option_map declared_seen result ≡ declared (forms_in self.now) name.now }
+        ensures value { option_map declared_seen result ≡ declared (forms_in self.now) name.now }
+        ensures counted { IsCounted (forms_in self.now) (option_map declared_seen result) }
     {
         self.names.get(&name).copied()
     }

@@ -1,10 +1,13 @@
 //! Innermost loops of 64-bit integer operations: their text, and what they mean.
 #![tactic(auto)]
 
+mod cells;
+mod check;
 mod collect;
 mod entry;
 mod fault;
 mod form;
+mod given;
 mod index;
 mod innermost;
 mod lists;
