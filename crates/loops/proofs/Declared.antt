@@ -133,59 +133,5 @@ seen_or None true what = refl
 seen_or None false what = refl
 seen_or (Some x) b what = refl
 
--- the number of a value is below the number of statements
-abbrev IsValueBetween : ℕ → ℕ → Option meaning.Declared → Type 0
-IsValueBetween low high (Some (AValue number)) = (low ≤ number) × (number < high)
-IsValueBetween low high _ = Unit {0}
-
-wider : (low lower high higher : ℕ) (d : Option meaning.Declared) → lower ≤ low → high ≤ higher → IsValueBetween low high d → IsValueBetween lower higher d
-wider low lower high higher None a b h = h
-wider low lower high higher (Some (AnArray n)) a b h = h
-wider low lower high higher (Some (AParam n)) a b h = h
-wider low lower high higher (Some (AValue n)) a b h = (omega arith, omega arith)
-
-either : (low high : ℕ) (b : Bool) (d : meaning.Declared) (rest : Option meaning.Declared) → IsValueBetween low high (Some d) → IsValueBetween low high rest → IsValueBetween low high (option_or (if b then Some d else None) rest)
-either low high true d rest h k = h
-either low high false d rest h k = k
-
 pub number_of-cons : (p : Form → Bool) (form : Form) (forms : List Form) → number_of p (form ∷ forms) ≡ one_if (p form) + number_of p forms
 number_of-cons p form forms = sum_by-append (λ f. if p f then 1 else 0) (form ∷ []) forms ∙ ap (λ n. n + number_of p forms) (zero-add (one_if (p form)))
-
-first-statement : (before : List Form) (s : Source) (forms : List Form) → (number_of is_statement before ≤ number_of is_statement before) × (number_of is_statement before < number_of is_statement before + number_of is_statement (StatementLine s ∷ forms))
-first-statement before s forms =
-    let e = number_of-cons is_statement (StatementLine s) forms in
-    (omega arith, omega arith)
-
-first-between : (q : List ℕ) (before : List Form) (form : Form) (forms : List Form)
-    → IsValueBetween (number_of is_statement before) (number_of is_statement before + number_of is_statement (form ∷ forms)) (first_declared q (before ++ form ∷ []) forms)
-    → IsValueBetween (number_of is_statement before) (number_of is_statement before + number_of is_statement (form ∷ forms)) (first_declared q before (form ∷ forms))
-first-between q before (LoopLine n) forms rest = rest
-first-between q before (ArrayLine n c) forms rest = either _ _ (same_word q n) (AnArray (number_of is_array before)) (first_declared q (before ++ ArrayLine n c ∷ []) forms) tt rest
-first-between q before (ParamLine n v) forms rest = either _ _ (same_word q n) (AParam (number_of is_param before)) (first_declared q (before ++ ParamLine n v ∷ []) forms) tt rest
-first-between q before (InitLine n m v) forms rest = rest
-first-between q before (StatementLine s) forms rest = either _ _ (any_name (same_word q) s.name) (AValue (number_of is_statement before)) (first_declared q (before ++ StatementLine s ∷ []) forms) (first-statement before s forms) rest
-first-between q before (OutLine n) forms rest = rest
-first-between q before EndLine forms rest = rest
-first-between q before Malformed forms rest = rest
-
-value-between : (q : List ℕ) (before forms : List Form) → IsValueBetween (number_of is_statement before) (number_of is_statement before + number_of is_statement forms) (first_declared q before forms)
-value-between q before [] = tt
-value-between q before (form ∷ forms) =
-    let high = number_of is_statement before + number_of is_statement (form ∷ forms) in
-    let e = number_of-cons is_statement form forms in
-    let rest : IsValueBetween (number_of is_statement before) high (first_declared q (before ++ form ∷ []) forms) =
-      wider _ _ _ _ (first_declared q (before ++ form ∷ []) forms) (omega (arith, number_of-push is_statement before form)) (omega (arith, number_of-push is_statement before form)) (value-between q (before ++ form ∷ []) forms) in
-    first-between q before form forms rest
-
-counted-below : (block : List Form) (d : Option meaning.Declared) → IsValueBetween 0 (number_of is_statement block) d → IsCounted block d
-counted-below block None h = tt
-counted-below block (Some (AnArray n)) h = tt
-counted-below block (Some (AParam n)) h = tt
-counted-below block (Some (AValue n)) h = h.1
-
-pub declared-counted : (block : List Form) (q : List ℕ) → IsCounted block (declared block q)
-unfolding declared
-declared-counted block q = counted-below block (first_declared q [] block) (wider _ _ _ _ (first_declared q [] block) (omega arith) (omega arith) (value-between q [] block))
-
-pub counted-as : (block : List Form) (q : List ℕ) (d : Option meaning.Declared) → d ≡ declared block q → IsCounted block d
-counted-as block q d e = subst (IsCounted block) (sym e) (declared-counted block q)

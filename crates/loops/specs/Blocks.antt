@@ -4,13 +4,14 @@ use Rattle.std.specs.Borrow.{Bor}
 use Rattle.machine.specs.Opcodes.{same_word}
 use Rattle.loops.specs.Forms.{Form, EndLine}
 use Rattle.loops.specs.Meaning as meaning
-use Rattle.loops.specs.Meaning.{at_line, faults_of, whole, inside_faults, outside_faults, blocks_from, blocks_of, forms_of}
+use Rattle.loops.specs.Meaning.{number_of, is_array, is_param, is_statement, at_line, faults_of, whole, inside_faults, outside_faults, blocks_from, blocks_of, forms_of}
 use Rattle.loops.specs.Parsed.{form_seen}
 use Rattle.loops.specs.declared.collect.Stop.{Stop}
 use Rattle.loops.specs.declared.collect.Stop.TheVariants as stops
 use Rattle.loops.specs.declared.entry.Entry.{Entry}
 use Rattle.loops.specs.declared.fault.LoopFault.{LoopFault}
 use Rattle.loops.specs.declared.fault.LoopFaultKind.TheVariants.{Syntax, NoEnd}
+use Rattle.loops.specs.declared.index.Counts.{Counts}
 use Rattle.loops.specs.declared.index.Declared.{Declared}
 use Rattle.loops.specs.declared.index.Declared.TheVariants as variants
 
@@ -58,3 +59,9 @@ abbrev pub IsBehind : ℕ → Stop → Type 0
 IsBehind bound (stops.End line rest) = line + 1 + length rest.now ≤ bound
 IsBehind bound (stops.Unfit line rest) = line + 1 + length rest.now ≤ bound
 IsBehind bound (stops.Open line) = line ≤ bound
+
+-- how many lines of each form there are
+pub record IsCounts (block : List Form) (counts : Counts) : Type 0 where
+  pub arrays : counts.arrays ≡ number_of is_array block
+  pub params : counts.params ≡ number_of is_param block
+  pub statements : counts.statements ≡ number_of is_statement block

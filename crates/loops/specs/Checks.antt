@@ -3,10 +3,10 @@
 use Rattle.std.specs.Prelude.{◌≡◌, ℕ, zero, suc, ℤ, ◌+◌, ◌*◌, ◌<◌, ◌≤◌, ◌==◌, ◌||◌, ◌&&◌, nat_lt, nat_le, not, Bool, true, false, if◌then◌else◌, List, [], ◌∷◌, ◌++◌, length, map, Option, Some, None, is_some, is_none, option_to_list, slice_index_or, slice_set}
 use Rattle.std.specs.List.{list_any, AllByRecursion}
 use Rattle.loops.specs.Forms.{Form, LoopLine, ArrayLine, ParamLine, InitLine, StatementLine, OutLine, EndLine, Malformed, Use, Number, Plain, At}
-use Rattle.loops.specs.Meaning.{Declared, AnArray, AParam, AValue, declared, is_value, is_statement, number_of, is_long, is_outside, is_wide, is_wide_place, is_unknown, is_unknown_place, is_early, any_name, is_init, init_value, is_out_of, when, Kinds}
+use Rattle.loops.specs.Meaning.{Declared, AnArray, AParam, AValue, declared, is_value, is_array, is_param, is_statement, number_of, is_long, is_outside, is_wide, is_wide_place, is_unknown, is_unknown_place, is_early, any_name, is_init, init_value, is_out_of, when, whole, forms_of, Kinds}
 use Rattle.loops.specs.Parsed.{use_seen}
 use Rattle.loops.specs.declared.fault.LoopFaultKind.{LoopFaultKind}
-use Rattle.loops.specs.declared.fault.LoopFaultKind.TheVariants.{Limit, RepeatedName, UnknownName, UseBeforeDefinition, MissingInit}
+use Rattle.loops.specs.declared.fault.LoopFaultKind.TheVariants.{Limit, RepeatedName, UnknownName, UseBeforeDefinition, MissingInit, Memory}
 use Rattle.loops.specs.declared.form.Use as code
 use Rattle.loops.specs.declared.index.Counts.{Counts}
 
@@ -100,10 +100,12 @@ abbrev pub outs_with : List Form → List Bool → Form → List Bool
 outs_with block outs (OutLine name) = with_live outs (declared block name)
 outs_with block outs _ = outs
 
--- what a declaration's number is below
+-- a declaration's number is below the number of lines of its form
 abbrev pub IsCounted : List Form → Option Declared → Type 0
+IsCounted block None = Unit {0}
+IsCounted block (Some (AnArray number)) = number < number_of is_array block
+IsCounted block (Some (AParam number)) = number < number_of is_param block
 IsCounted block (Some (AValue number)) = number < number_of is_statement block
-IsCounted block _ = Unit {0}
 
 -- a distance, or the number of an initial value, of at most 16
 abbrev pub IsNear : Option ℕ → Type 0
@@ -127,3 +129,22 @@ IsNearRead (Some u) = IsNearUse (use_seen u)
 abbrev pub IsRoomFor : ℕ → Option Declared → Type 0
 IsRoomFor room (Some (AValue number)) = 16 * number + 16 ≤ room
 IsRoomFor room _ = Unit {0}
+
+-- the tables hold what the lines so far give to the values of a block
+pub record IsGiven (block before : List Form) (inits : List (Option ℤ)) (outs : List Bool) : Type 0 where
+  pub room : length inits ≡ 16 * number_of is_statement block
+  pub flags : length outs ≡ number_of is_statement block
+  pub slots : (name : List ℕ) (value m : ℕ) → declared block name ≡ Some (AValue value) → m < 16 → slot inits value m ≡ init_value name (suc m) before
+  pub valued : (name : List ℕ) (m : ℕ) → list_any (is_init name (Some m)) before ≡ is_some (init_value name m before)
+  pub known : (name : List ℕ) (number : Option ℕ) → list_any (is_init name number) before ≡ true → (is_value (declared block name) ≡ true) × (m : ℕ) × (number ≡ Some (suc m)) × (m < 16)
+  pub marks : (name : List ℕ) (value : ℕ) → declared block name ≡ Some (AValue value) → slice_index_or outs value false ≡ list_any (is_out_of name) before
+  pub known_marks : (name : List ℕ) → list_any (is_out_of name) before ≡ true → is_value (declared block name) ≡ true
+
+-- the lines are those that stand in the first block of some lines
+abbrev pub IsBlock : List Form → Type 0
+IsBlock block = (text : List ℕ) × (block ≡ whole [] (forms_of text))
+
+-- the line that a fault names: none for want of memory
+abbrev pub line_at : LoopFaultKind → ℕ → ℕ
+line_at Memory line = 0
+line_at kind line = line

@@ -1,8 +1,10 @@
 pub use Rattle.machine.specs.Opcodes
 pub mod Blocks
+pub mod Building
 pub mod Checks
 pub mod Forms
 pub mod Loops
 pub mod Meaning
 pub mod Parsed
+pub mod Texts
 pub mod Words

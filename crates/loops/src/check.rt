@@ -1,6 +1,6 @@
 //! The faults of a block's lines.
 
-ghost use Rattle.std.specs.Prelude.{◌≡◌, ◌*◌, ◌≤◌, ℕ, ℤ, Bool, Option, List, not, option_map, length};
+ghost use Rattle.std.specs.Prelude.{◌≡◌, ◌*◌, ◌≤◌, ℕ, ℤ, Bool, false, Option, None, Some, List, [], not, option_map, length, replicate, take};
 ghost use Rattle.std.specs.Borrow.{Bor};
 ghost use Rattle.std.specs.List.{AllByRecursion};
 ghost use Rattle.loops.specs.declared.index.Counts.{Counts};
@@ -8,11 +8,11 @@ ghost use Rattle.loops.specs.Forms.{ArrayLine, ParamLine, InitLine, StatementLin
 ghost use Rattle.loops.specs.Meaning as meaning;
 ghost use Rattle.loops.specs.Meaning.{any_name, declared, number_of, is_statement, AValue};
 ghost use Rattle.loops.specs.Parsed.{cells_seen, form_seen, source_seen, subscript_seen, uses_seen};
-ghost use Rattle.loops.specs.Blocks.{declared_seen, forms_in};
-ghost use Rattle.loops.specs.Checks.{any_use, covers_name, first_in, is_that, kinds_at, lacks_init, IsNear, IsNearForm, IsNearRead, IsNearUse, IsRoomFor};
+ghost use Rattle.loops.specs.Blocks.{declared_seen, entry_faults, forms_in};
+ghost use Rattle.loops.specs.Checks.{any_use, covers_name, first_in, inits_with, is_that, kinds_at, lacks_init, outs_with, with_init, IsBlock, IsGiven, IsNear, IsNearForm, IsNearRead, IsNearUse, IsRoomFor};
 
 use crate::cells::are_wide;
-use crate::fault::LoopFaultKind;
+use crate::fault::{LoopFault, LoopFaultKind};
 use crate::form::{Form, Source, Subscript, Use, Uses};
 use crate::given::{Given, MOST};
 use crate::index::{Counts, Declared, Index};
@@ -305,4 +305,65 @@ pub(crate) fn line_fault<'a>(
         Form::End if counts.statements == 0 => Some(LoopFaultKind::Limit),
         Form::End => None,
     }
+}
+
+/// Takes down what one more line gives to the block's values.
+fn give<'a>(given: &mut Given, index: &Index<'a>, form: Form<'a>)
+    requires room { length given.old.inits.items ≡ 16 * number_of is_statement (forms_in index.now) }
+    requires flags { length given.old.outs.items ≡ number_of is_statement (forms_in index.now) }
+    ensures inits { given.new.inits.items ≡ inits_with (forms_in index.now) given.old.inits.items (form_seen form.entry) }
+    ensures outs { given.new.outs.items ≡ outs_with (forms_in index.now) given.old.outs.items (form_seen form.entry) }
+{
+    match form {
+        Form::Init(name, Some(number), Some(value)) => {
+            give_init(given, index.declared(name), number, value);
+        }
+        Form::Out(name) => {
+            if let Some(Declared::Value(value)) = index.declared(name) {
+                given.outs[value] = true;
+            }
+        }
+        _ => {}
+    }
+}
+
+fn give_init(given: &mut Given, found: Option<Declared>, number: u8, value: i64)
+    requires room { IsRoomFor (length given.old.inits.items) (option_map declared_seen found) }
+    ensures inits { given.new.inits.items ≡ with_init given.old.inits.items (option_map declared_seen found) (Some number) (Some value) }
+    ensures outs { given.new.outs.items ≡ given.old.outs.items }
+{
+    if let Some(Declared::Value(of)) = found
+        && number > 0
+        && number as usize <= MOST
+    {
+        given.inits[MOST * of + number as usize - 1] = Some(value);
+    }
+}
+
+/// The first fault of the first so many lines of a block. Where they have none, `given` is left with
+/// what they give to the block's values.
+pub(crate) fn first_fault<'a>(
+    index: &Index<'a>,
+    sound: usize,
+    given: &mut Given,
+) -> Option<LoopFault>
+    requires sound { sound ≤ length index.now }
+    requires inits { given.old.inits.items ≡ replicate (16 * number_of is_statement (forms_in index.now)) None }
+    requires outs { given.old.outs.items ≡ replicate (number_of is_statement (forms_in index.now)) false }
+    requires block { IsBlock (forms_in index.now) }
+    ensures value { result ≡ first_in (entry_faults (forms_in index.now) [] (take sound index.now)) }
+    ensures given { result ≡ None → IsGiven (forms_in index.now) (forms_in (take sound index.now)) given.new.inits.items given.new.outs.items }
+{
+    let mut counts = Counts::NONE;
+    for entry in &index.lines()[..sound] {
+        if let Some(kind) = line_fault(index, counts, given, entry.form) {
+            return Some(LoopFault {
+                line: entry.line,
+                kind,
+            });
+        }
+        give(given, index, entry.form);
+        counts = counts.with(entry.form);
+    }
+    None
 }

@@ -100,6 +100,7 @@ fn add<'a>(
 pub(crate) struct Index<'a> {
     lines: &'a [Entry<'a>],
     names: BTreeMap<&'a [u8], Declared>,
+    counts: Counts,
 }
 
 impl<'a> Model for Index<'a> {
@@ -109,19 +110,20 @@ impl<'a> Model for Index<'a> {
     ghost use Rattle.std.specs.BTreeMap.{get_by};
     ghost use Rattle.loops.specs.declared.entry.Entry.{Entry};
     ghost use Rattle.loops.specs.Meaning.{declared};
-    ghost use Rattle.loops.specs.Blocks.{forms_in, declared_seen};
+    ghost use Rattle.loops.specs.Blocks.{forms_in, declared_seen, IsCounts};
 
     ghost Value = { List Entry };
 
     ghost view = { λ a. a.lines.now };
 
-    ghost invariant = { λ a. (q : List ℕ) → option_map declared_seen (get_by (λ k. slice_cmp nat_cmp q k.now) a.names) ≡ declared (forms_in a.lines.now) q };
+    ghost invariant = { λ a. ((q : List ℕ) → option_map declared_seen (get_by (λ k. slice_cmp nat_cmp q k.now) a.names) ≡ declared (forms_in a.lines.now) q)
+        × IsCounts (forms_in a.lines.now) a.counts };
 }
 
 impl<'a> Index<'a> {
     ghost use Rattle.std.specs.Prelude.{◌≡◌, IfOk, option_map};
     ghost use Rattle.loops.specs.Meaning.{declared};
-    ghost use Rattle.loops.specs.Blocks.{forms_in, declared_seen};
+    ghost use Rattle.loops.specs.Blocks.{forms_in, declared_seen, IsCounts};
     ghost use Rattle.loops.specs.Checks.{IsCounted};
 
     /// An index of these lines.
@@ -136,7 +138,11 @@ impl<'a> Index<'a> {
             }
             counts = counts.with(entry.form);
         }
-        Ok(Index { lines, names })
+        Ok(Index {
+            lines,
+            names,
+            counts,
+        })
     }
 
     /// The lines.
@@ -144,6 +150,13 @@ impl<'a> Index<'a> {
         ensures { result.now ≡ self.now }
     {
         self.lines
+    }
+
+    /// How many lines of each form there are.
+    pub(crate) fn counts(&self) -> Counts
+        ensures { IsCounts (forms_in self.now) result }
+    {
+        self.counts
     }
 
     /// The first declaration of a name.

@@ -1,7 +1,7 @@
 use Rattle.std.proofs.Common.{◌≡◌, option_map, rules}
 use Rattle.loops.specs.Meaning.{declared}
 use Rattle.loops.specs.Blocks.{forms_in, declared_seen}
-use Rattle.loops.proofs.Declared.{counted-as}
+use Rattle.loops.proofs.Checking.{counted-as}
 use Rattle.loops.proofs.index.Index.declared.Goals as goal
 
 pub returns-clause-counted : goal.returns-clause-counted
