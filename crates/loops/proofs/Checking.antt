@@ -1,5 +1,5 @@
 -- The look-ups of the reader give the faults of a line.
-use Rattle.std.proofs.Common.{◌≡◌, ◌⊎◌, ℕ, zero, suc, ℤ, ◌+◌, ◌*◌, ◌<◌, ◌≤◌, ◌==◌, ◌&&◌, ◌||◌, not, Bool, true, false, cond, if◌then◌else◌, List, [], ◌∷◌, ◌++◌, length, Option, Some, None, is_some, is_none, refl, sym, ◌∙◌, ap, subst, arith, append_assoc, zero-add}
+use Rattle.std.proofs.Common.{◌≡◌, ◌⊎◌, ℕ, zero, suc, ℤ, ◌+◌, ◌*◌, ◌<◌, ◌≤◌, ◌==◌, ◌&&◌, ◌||◌, not, Bool, true, false, cond, if◌then◌else◌, List, [], ◌∷◌, ◌++◌, length, Option, Some, None, is_some, is_none, refl, sym, ◌∙◌, ap, subst, inl, inr, ⊎_elim, nat_lt, nat_le, arith, append_assoc, zero-add}
 use Rattle.std.specs.Option.{option_or}
 use Rattle.std.specs.List.{list_any, AllByRecursion}
 use Rattle.std.proofs.lemmas.Bool.{false_from_ne_true, eq-eqb, eqb-true, false≢true}
@@ -9,13 +9,14 @@ use Rattle.machine.specs.Opcodes.{same_word}
 use Rattle.loops.specs.declared.fault.LoopFaultKind.TheVariants.{Limit, RepeatedName, UnknownName, UseBeforeDefinition, MissingInit}
 use Rattle.loops.specs.declared.index.Counts.{Counts}
 use Rattle.loops.specs.Forms.{Form, LoopLine, ArrayLine, ParamLine, InitLine, StatementLine, OutLine, EndLine, Malformed, Source, Use, Number, Plain, At}
-use Rattle.loops.specs.Meaning.{Declared, AnArray, AParam, AValue, declared, first_declared, number_of, is_array, is_param, is_statement, is_value, is_init, is_out_of, init_value, has_init, has_inits, has_statement, is_uncovered, stands, any_name, faults_of, when, is_long, is_outside, Kinds}
+use Rattle.loops.specs.Meaning.{Declared, AnArray, AParam, AValue, declared, first_declared, number_of, is_array, is_param, is_statement, is_value, is_init, is_out_of, init_value, has_init, has_inits, has_statement, is_uncovered, is_wide, is_wide_place, is_unknown, is_unknown_place, is_early, stands, any_name, faults_of, when, is_long, is_outside, Kinds}
 use Rattle.loops.specs.Blocks.{one_if}
 use Rattle.loops.specs.Checks.{is_that, is_given, is_live, covers, covers_name, lacks_init, slot, kinds_at, IsCounted, IsGiven, IsNear, IsNearForm, IsNearUse}
+use Rattle.loops.proofs.Reading.{is_end}
 use Rattle.loops.proofs.Declared.{declared-append, declared_after, same_word-here, number_of-cons}
 use Rattle.std.proofs.lemmas.List.Sums.{sum_by-append}
 
-number_of-seam : (p : Form → Bool) (before : List Form) (form : Form) (forms : List Form) → p form ≡ true → number_of p before < number_of p (before ++ form ∷ forms)
+pub number_of-seam : (p : Form → Bool) (before : List Form) (form : Form) (forms : List Form) → p form ≡ true → number_of p before < number_of p (before ++ form ∷ forms)
 number_of-seam p before form forms h =
     let a = sum_by-append (λ f. if p f then 1 else 0) before (form ∷ forms) in
     let b = number_of-cons p form forms in
@@ -113,7 +114,7 @@ pub standing-at : (before front : List Form) (form : Form) (after : List Form) �
 standing-at before [] form after h = subst (λ b. (stands b form ≡ true) × IsStanding (b ++ form ∷ []) after) (sym (append-nil before)) h
 standing-at before (f ∷ front) form after h = subst (λ b. (stands b form ≡ true) × IsStanding (b ++ form ∷ []) after) (append_assoc before (f ∷ []) front) (standing-at (before ++ f ∷ []) front form after h.1)
 
-or-true : (b : Bool) → (b || true) ≡ true
+pub or-true : (b : Bool) → (b || true) ≡ true
 or-true true = refl
 or-true false = refl
 
@@ -137,7 +138,7 @@ no-inits name number before (form ∷ forms) h s =
     ap (λ b. b || list_any (is_init name number) forms) (no-init form name number before h s.0)
     ∙ no-inits name number (before ++ form ∷ []) forms (statement-kept before form h) s.1
 
-or-none : (b : Bool) → (b || false) ≡ b
+pub or-none : (b : Bool) → (b || false) ≡ b
 or-none true = refl
 or-none false = refl
 
@@ -149,3 +150,146 @@ inits-before name number before form after h k =
     ∙ ap (λ b. list_any (is_init name number) before || (b || list_any (is_init name number) after)) h
     ∙ ap (λ b. list_any (is_init name number) before || b) k
     ∙ or-none (list_any (is_init name number) before)
+
+-- one line's faults
+
+none-some : (m : ℕ) → None ≡ Some (suc m) → ⊥
+none-some m e = cc
+
+some-same : (m n : ℕ) → Some m ≡ Some n → m ≡ n
+some-same m n e = cc
+
+zero-some : (m : ℕ) → Some zero ≡ Some (suc m) → ⊥
+zero-some m e = omega (arith, some-same zero (suc m) e)
+
+pub not-from : (b : Bool) → (b ≡ true → ⊥) → b ≡ false
+not-from true h = absurd (h refl)
+not-from false h = refl
+
+pub value-of : (d : Option Declared) → (is_value d ≡ false) ⊎ ((k : ℕ) × (d ≡ Some (AValue k)))
+value-of None = inl refl
+value-of (Some (AnArray k)) = inl refl
+value-of (Some (AParam k)) = inl refl
+value-of (Some (AValue k)) = inr (k, refl)
+
+not-given : (inits : List (Option ℤ)) (d : Option Declared) (number : Option ℕ) → is_value d ≡ false → is_given inits d number ≡ false
+not-given inits None number h = refl
+not-given inits (Some (AnArray k)) number h = refl
+not-given inits (Some (AParam k)) number h = refl
+not-given inits (Some (AValue k)) number h = cc
+
+-- nothing was given to what is no value
+unknown-init : (block before : List Form) (inits : List (Option ℤ)) (outs : List Bool) → IsGiven block before inits outs → (name : List ℕ) (number : Option ℕ) → is_value (declared block name) ≡ false → list_any (is_init name number) before ≡ false
+unknown-init block before inits outs g name number h = not-from (list_any (is_init name number) before) (λ e. false≢true (sym h ∙ (g.known name number e).0))
+
+given-init : (block before : List Form) (inits : List (Option ℤ)) (outs : List Bool) → IsGiven block before inits outs → (name : List ℕ) (k : ℕ) (number : Option ℕ) → IsNear number → declared block name ≡ Some (AValue k)
+    → is_given inits (Some (AValue k)) number ≡ list_any (is_init name number) before
+given-init block before inits outs g name k None near e = sym (not-from (list_any (is_init name None) before) (λ t. none-some (g.known name None t).1 (g.known name None t).2))
+given-init block before inits outs g name k (Some zero) near e = sym (not-from (list_any (is_init name (Some zero)) before) (λ t. zero-some (g.known name (Some zero) t).1 (g.known name (Some zero) t).2))
+given-init block before inits outs g name k (Some (suc m)) near e = ap is_some (g.slots name k m e (omega arith)) ∙ sym (g.valued name (suc m))
+
+is-given : (block before : List Form) (inits : List (Option ℤ)) (outs : List Bool) → IsGiven block before inits outs → (name : List ℕ) (number : Option ℕ) → IsNear number
+    → is_given inits (declared block name) number ≡ list_any (is_init name number) before
+is-given block before inits outs g name number near =
+    ⊎_elim (λ h. not-given inits (declared block name) number h ∙ sym (unknown-init block before inits outs g name number h))
+    (λ v. ap (λ d. is_given inits d number) v.1 ∙ given-init block before inits outs g name v.0 number near v.1)
+    (value-of (declared block name))
+
+not-live : (outs : List Bool) (d : Option Declared) → is_value d ≡ false → is_live outs d ≡ false
+not-live outs None h = refl
+not-live outs (Some (AnArray k)) h = refl
+not-live outs (Some (AParam k)) h = refl
+not-live outs (Some (AValue k)) h = cc
+
+is-live : (block before : List Form) (inits : List (Option ℤ)) (outs : List Bool) → IsGiven block before inits outs → (name : List ℕ) → is_live outs (declared block name) ≡ list_any (is_out_of name) before
+is-live block before inits outs g name =
+    ⊎_elim (λ h. not-live outs (declared block name) h ∙ sym (not-from (list_any (is_out_of name) before) (λ e. false≢true (sym h ∙ g.known_marks name e))))
+    (λ v. ap (is_live outs) v.1 ∙ g.marks name v.0 v.1)
+    (value-of (declared block name))
+
+not-covered : (inits : List (Option ℤ)) (d : Option Declared) (n : ℕ) → is_value d ≡ false → covers_name inits d (suc n) ≡ false
+not-covered inits None n h = refl
+not-covered inits (Some (AnArray k)) n h = refl
+not-covered inits (Some (AParam k)) n h = refl
+not-covered inits (Some (AValue k)) n h = cc
+
+covers-all : (block before : List Form) (inits : List (Option ℤ)) (outs : List Bool) → IsGiven block before inits outs → (name : List ℕ) (k : ℕ) → declared block name ≡ Some (AValue k)
+    → ((number : ℕ) → has_init block name number ≡ list_any (is_init name (Some number)) before) → (d : ℕ) → d ≤ 16 → covers inits k d ≡ has_inits block name d
+covers-all block before inits outs g name k e same zero near = refl
+covers-all block before inits outs g name k e same (suc n) near =
+    ap (λ b. b && covers inits k n) (ap is_some (g.slots name k n e (omega arith)) ∙ sym (g.valued name (suc n)) ∙ sym (same (suc n)))
+    ∙ ap (λ b. has_init block name (suc n) && b) (covers-all block before inits outs g name k e same n (omega arith))
+
+covers-name : (block before : List Form) (inits : List (Option ℤ)) (outs : List Bool) → IsGiven block before inits outs → (name : List ℕ)
+    → ((number : ℕ) → has_init block name number ≡ list_any (is_init name (Some number)) before) → (d : ℕ) → d ≤ 16 → covers_name inits (declared block name) d ≡ has_inits block name d
+covers-name block before inits outs g name same zero near = refl
+covers-name block before inits outs g name same (suc n) near =
+    ⊎_elim (λ h. not-covered inits (declared block name) n h ∙ sym (ap (λ b. b && has_inits block name n) (same (suc n) ∙ unknown-init block before inits outs g name (Some (suc n)) h)))
+    (λ v. ap (λ d. covers_name inits d (suc n)) v.1 ∙ covers-all block before inits outs g name v.0 v.1 same (suc n) near)
+    (value-of (declared block name))
+
+lacks-one : (block before : List Form) (inits : List (Option ℤ)) (outs : List Bool) → IsGiven block before inits outs
+    → ((name : List ℕ) (number : ℕ) → has_init block name number ≡ list_any (is_init name (Some number)) before) → (u : Use) → IsNearUse u → lacks_init block inits u ≡ is_uncovered block u
+lacks-one block before inits outs g same (Number v) near = refl
+lacks-one block before inits outs g same (Plain name) near = refl
+lacks-one block before inits outs g same (At name None) near = refl
+lacks-one block before inits outs g same (At name (Some d)) near = ap not (covers-name block before inits outs g name (same name) d near)
+
+lacks-any : (block before : List Form) (inits : List (Option ℤ)) (outs : List Bool) → IsGiven block before inits outs
+    → ((name : List ℕ) (number : ℕ) → has_init block name number ≡ list_any (is_init name (Some number)) before) → (us : List Use) → AllByRecursion IsNearUse us → list_any (lacks_init block inits) us ≡ list_any (is_uncovered block) us
+lacks-any block before inits outs g same [] near = refl
+lacks-any block before inits outs g same (u ∷ us) near =
+    ap (λ b. b || list_any (lacks_init block inits) us) (lacks-one block before inits outs g same u near.0)
+    ∙ ap (λ b. is_uncovered block u || b) (lacks-any block before inits outs g same us near.1)
+
+and-true : (b : Bool) → b ≡ (b && true)
+and-true true = refl
+and-true false = refl
+
+-- the faults by look-ups are the line's
+pub kinds-same : (before : List Form) (form : Form) (after : List Form) (counts : Counts) (inits : List (Option ℤ)) (outs : List Bool)
+    → number_of is_array before ≡ counts.arrays → number_of is_param before ≡ counts.params → number_of is_statement before ≡ counts.statements
+    → IsGiven (before ++ form ∷ after) before inits outs → IsNearForm form → stands before form ≡ true → IsStanding (before ++ form ∷ []) after → is_end form ≡ false
+    → kinds_at (before ++ form ∷ after) counts inits outs form ≡ faults_of before (before ++ form ∷ after) form
+kinds-same before (LoopLine n) after counts inits outs ea ep es g near s later other = refl
+kinds-same before Malformed after counts inits outs ea ep es g near s later other = refl
+kinds-same before EndLine after counts inits outs ea ep es g near s later other = cc
+kinds-same before (ArrayLine name cells) after counts inits outs ea ep es g near s later other =
+    let block = before ++ ArrayLine name cells ∷ after in
+    let P : ℕ → Kinds = λ n. when (is_long name || list_any is_none cells || nat_lt 1024 (length cells) || nat_le 32 n) Limit ++ when (not (is_that (AnArray n) (declared block name))) RepeatedName in
+    sym (ap P ea) ∙ ap (λ b. when (is_long name || list_any is_none cells || nat_lt 1024 (length cells) || nat_le 32 (number_of is_array before)) Limit ++ when b RepeatedName) (repeated-array before after name cells)
+kinds-same before (ParamLine name value) after counts inits outs ea ep es g near s later other =
+    let block = before ++ ParamLine name value ∷ after in
+    let P : ℕ → Kinds = λ n. when (is_long name || is_none value || nat_le 64 n) Limit ++ when (not (is_that (AParam n) (declared block name))) RepeatedName in
+    sym (ap P ep) ∙ ap (λ b. when (is_long name || is_none value || nat_le 64 (number_of is_param before)) Limit ++ when b RepeatedName) (repeated-param before after name value)
+kinds-same before (InitLine name number value) after counts inits outs ea ep es g near s later other =
+    let block = before ++ InitLine name number value ∷ after in
+    ap (λ b. when (is_long name || is_outside number || is_none value) Limit ++ when b RepeatedName ++ when (not (is_value (declared block name))) UnknownName)
+      (is-given block before inits outs g name number near)
+kinds-same before (StatementLine source) after counts inits outs ea ep es g near s later other =
+    let block = before ++ StatementLine source ∷ after in
+    let same : (name : List ℕ) (number : ℕ) → has_init block name number ≡ list_any (is_init name (Some number)) before = λ name number.
+      inits-before name (Some number) before (StatementLine source) after refl (no-inits name (Some number) (before ++ StatementLine source ∷ []) after
+        (list_any-append is_statement before (StatementLine source ∷ []) ∙ or-true (has_statement before)) later) in
+    let P : ℕ → Kinds = λ n.
+      when (any_name is_long source.name || is_wide_place source.place || list_any is_wide source.uses || nat_le 128 n) Limit
+      ++ when (any_name (λ name. not (is_that (AValue n) (declared block name))) source.name) RepeatedName
+      ++ when (is_unknown_place block source.place || list_any (is_unknown block) source.uses) UnknownName
+      ++ when (list_any (is_early block n) source.uses) UseBeforeDefinition
+      ++ when (list_any (lacks_init block inits) source.uses) MissingInit in
+    let Q : Bool → Bool → Kinds = λ again lacking.
+      when (any_name is_long source.name || is_wide_place source.place || list_any is_wide source.uses || nat_le 128 (number_of is_statement before)) Limit
+      ++ when again RepeatedName
+      ++ when (is_unknown_place block source.place || list_any (is_unknown block) source.uses) UnknownName
+      ++ when (list_any (is_early block (number_of is_statement before)) source.uses) UseBeforeDefinition
+      ++ when lacking MissingInit in
+    sym (ap P es) ∙ ap (λ b. Q b (list_any (lacks_init block inits) source.uses)) (repeated-name before after source source.name refl)
+    ∙ ap (Q (any_name (λ name. is_some (declared before name)) source.name)) (lacks-any block before inits outs g same source.uses near)
+kinds-same before (OutLine name) after counts inits outs ea ep es g near s later other =
+    let block = before ++ OutLine name ∷ after in
+    let same : (number : ℕ) → has_init block name number ≡ list_any (is_init name (Some number)) before = λ number.
+      inits-before name (Some number) before (OutLine name) after refl (no-inits name (Some number) (before ++ OutLine name ∷ []) after (statement-kept before (OutLine name) s) later) in
+    let Q : Bool → Bool → Kinds = λ again covered.
+      when (is_long name) Limit ++ when again RepeatedName ++ when (not (is_value (declared block name))) UnknownName ++ when (not covered) MissingInit in
+    ap (λ b. Q b (covers_name inits (declared block name) 1)) (is-live block before inits outs g name)
+    ∙ ap (Q (list_any (is_out_of name) before)) (covers-name block before inits outs g name same 1 (omega arith) ∙ sym (and-true (has_init block name 1)))
