@@ -2,7 +2,9 @@ pub mod Checking
 pub mod Covering
 pub mod Declared
 pub mod Giving
+pub mod Naming
 pub mod Pieces
 pub mod Reading
+pub mod Rows
 pub mod Standing
 pub mod Turns
