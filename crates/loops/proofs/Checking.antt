@@ -83,21 +83,21 @@ pub repeated-array : (before after : List Form) (name : List ℕ) (cells : List 
 repeated-array before after name cells =
     ap (λ d. not (is_that (AnArray (number_of is_array before)) d)) (declared-append name before (ArrayLine name cells ∷ after))
     ∙ that-array before (declared before name) (first_declared name before (ArrayLine name cells ∷ after)) (declared-below before name)
-      (here-first (same_word name name) (AnArray (number_of is_array before)) (first_declared name (before ++ ArrayLine name cells ∷ []) after) (same_word-here name))
+    (here-first (same_word name name) (AnArray (number_of is_array before)) (first_declared name (before ++ ArrayLine name cells ∷ []) after) (same_word-here name))
 
 pub repeated-param : (before after : List Form) (name : List ℕ) (value : Option ℤ)
     → not (is_that (AParam (number_of is_param before)) (declared (before ++ ParamLine name value ∷ after) name)) ≡ is_some (declared before name)
 repeated-param before after name value =
     ap (λ d. not (is_that (AParam (number_of is_param before)) d)) (declared-append name before (ParamLine name value ∷ after))
     ∙ that-param before (declared before name) (first_declared name before (ParamLine name value ∷ after)) (declared-below before name)
-      (here-first (same_word name name) (AParam (number_of is_param before)) (first_declared name (before ++ ParamLine name value ∷ []) after) (same_word-here name))
+    (here-first (same_word name name) (AParam (number_of is_param before)) (first_declared name (before ++ ParamLine name value ∷ []) after) (same_word-here name))
 
 pub repeated-value : (before after : List Form) (source : Source) (name : List ℕ) → source.name ≡ Some name
     → not (is_that (AValue (number_of is_statement before)) (declared (before ++ StatementLine source ∷ after) name)) ≡ is_some (declared before name)
 repeated-value before after source name h =
     ap (λ d. not (is_that (AValue (number_of is_statement before)) d)) (declared-append name before (StatementLine source ∷ after))
     ∙ that-value before (declared before name) (first_declared name before (StatementLine source ∷ after)) (declared-below before name)
-      (here-first (any_name (same_word name) source.name) (AValue (number_of is_statement before)) (first_declared name (before ++ StatementLine source ∷ []) after) (ap (any_name (same_word name)) h ∙ same_word-here name))
+    (here-first (any_name (same_word name) source.name) (AValue (number_of is_statement before)) (first_declared name (before ++ StatementLine source ∷ []) after) (ap (any_name (same_word name)) h ∙ same_word-here name))
 
 repeated-name : (before after : List Form) (source : Source) (maybe : Option (List ℕ)) → source.name ≡ maybe
     → any_name (λ name. not (is_that (AValue (number_of is_statement before)) (declared (before ++ StatementLine source ∷ after) name))) maybe ≡ any_name (λ name. is_some (declared before name)) maybe
@@ -265,31 +265,31 @@ kinds-same before (ParamLine name value) after counts inits outs ea ep es g near
 kinds-same before (InitLine name number value) after counts inits outs ea ep es g near s later other =
     let block = before ++ InitLine name number value ∷ after in
     ap (λ b. when (is_long name || is_outside number || is_none value) Limit ++ when b RepeatedName ++ when (not (is_value (declared block name))) UnknownName)
-      (is-given block before inits outs g name number near)
+    (is-given block before inits outs g name number near)
 kinds-same before (StatementLine source) after counts inits outs ea ep es g near s later other =
     let block = before ++ StatementLine source ∷ after in
     let same : (name : List ℕ) (number : ℕ) → has_init block name number ≡ list_any (is_init name (Some number)) before = λ name number.
-      inits-before name (Some number) before (StatementLine source) after refl (no-inits name (Some number) (before ++ StatementLine source ∷ []) after
-        (list_any-append is_statement before (StatementLine source ∷ []) ∙ or-true (has_statement before)) later) in
+    inits-before name (Some number) before (StatementLine source) after refl (no-inits name (Some number) (before ++ StatementLine source ∷ []) after
+    (list_any-append is_statement before (StatementLine source ∷ []) ∙ or-true (has_statement before)) later) in
     let P : ℕ → Kinds = λ n.
-      when (any_name is_long source.name || is_wide_place source.place || list_any is_wide source.uses || nat_le 128 n) Limit
-      ++ when (any_name (λ name. not (is_that (AValue n) (declared block name))) source.name) RepeatedName
-      ++ when (is_unknown_place block source.place || list_any (is_unknown block) source.uses) UnknownName
-      ++ when (list_any (is_early block n) source.uses) UseBeforeDefinition
-      ++ when (list_any (lacks_init block inits) source.uses) MissingInit in
+    when (any_name is_long source.name || is_wide_place source.place || list_any is_wide source.uses || nat_le 128 n) Limit
+    ++ when (any_name (λ name. not (is_that (AValue n) (declared block name))) source.name) RepeatedName
+    ++ when (is_unknown_place block source.place || list_any (is_unknown block) source.uses) UnknownName
+    ++ when (list_any (is_early block n) source.uses) UseBeforeDefinition
+    ++ when (list_any (lacks_init block inits) source.uses) MissingInit in
     let Q : Bool → Bool → Kinds = λ again lacking.
-      when (any_name is_long source.name || is_wide_place source.place || list_any is_wide source.uses || nat_le 128 (number_of is_statement before)) Limit
-      ++ when again RepeatedName
-      ++ when (is_unknown_place block source.place || list_any (is_unknown block) source.uses) UnknownName
-      ++ when (list_any (is_early block (number_of is_statement before)) source.uses) UseBeforeDefinition
-      ++ when lacking MissingInit in
+    when (any_name is_long source.name || is_wide_place source.place || list_any is_wide source.uses || nat_le 128 (number_of is_statement before)) Limit
+    ++ when again RepeatedName
+    ++ when (is_unknown_place block source.place || list_any (is_unknown block) source.uses) UnknownName
+    ++ when (list_any (is_early block (number_of is_statement before)) source.uses) UseBeforeDefinition
+    ++ when lacking MissingInit in
     sym (ap P es) ∙ ap (λ b. Q b (list_any (lacks_init block inits) source.uses)) (repeated-name before after source source.name refl)
     ∙ ap (Q (any_name (λ name. is_some (declared before name)) source.name)) (lacks-any block before inits outs g same source.uses near)
 kinds-same before (OutLine name) after counts inits outs ea ep es g near s later other =
     let block = before ++ OutLine name ∷ after in
     let same : (number : ℕ) → has_init block name number ≡ list_any (is_init name (Some number)) before = λ number.
-      inits-before name (Some number) before (OutLine name) after refl (no-inits name (Some number) (before ++ OutLine name ∷ []) after (statement-kept before (OutLine name) s) later) in
+    inits-before name (Some number) before (OutLine name) after refl (no-inits name (Some number) (before ++ OutLine name ∷ []) after (statement-kept before (OutLine name) s) later) in
     let Q : Bool → Bool → Kinds = λ again covered.
-      when (is_long name) Limit ++ when again RepeatedName ++ when (not (is_value (declared block name))) UnknownName ++ when (not covered) MissingInit in
+    when (is_long name) Limit ++ when again RepeatedName ++ when (not (is_value (declared block name))) UnknownName ++ when (not covered) MissingInit in
     ap (λ b. Q b (covers_name inits (declared block name) 1)) (is-live block before inits outs g name)
     ∙ ap (Q (list_any (is_out_of name) before)) (covers-name block before inits outs g name same 1 (omega arith) ∙ sym (and-true (has_init block name 1)))

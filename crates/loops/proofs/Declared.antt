@@ -74,10 +74,10 @@ pub added : {X : Type 0} (old new : List ℕ → Option X) (name : List ℕ) (wh
     → (q : List ℕ) → new q ≡ option_or (old q) (if same_word q name then Some what else None)
 added {X} old new name what none is q =
     let by_case : (b : Bool) → same_word q name ≡ b → new q ≡ option_or (old q) (if b then Some what else None) = λ b.
-        elim b as (λ b. same_word q name ≡ b → new q ≡ option_or (old q) (if b then Some what else None)) [
-          true ↦ λ h. is q ∙ ap (λ t. cond t (Some what) (old q)) (same_word-sym name q ∙ h) ∙ ap (λ o. option_or o (Some what)) (none ∙ ap old (sym (same_word-yes q name h)))
-        | false ↦ λ h. is q ∙ ap (λ t. cond t (Some what) (old q)) (same_word-sym name q ∙ h) ∙ sym (option_or-none (old q))
-        ] in
+    elim b as (λ b. same_word q name ≡ b → new q ≡ option_or (old q) (if b then Some what else None)) [
+      | true ↦ λ h. is q ∙ ap (λ t. cond t (Some what) (old q)) (same_word-sym name q ∙ h) ∙ ap (λ o. option_or o (Some what)) (none ∙ ap old (sym (same_word-yes q name h)))
+      | false ↦ λ h. is q ∙ ap (λ t. cond t (Some what) (old q)) (same_word-sym name q ∙ h) ∙ sym (option_or-none (old q))
+    ] in
     by_case (same_word q name) refl
 
 -- a name that was there is put back
@@ -87,10 +87,10 @@ pub kept : {X : Type 0} (old new again : List ℕ → Option X) (name : List ℕ
     → (q : List ℕ) → again q ≡ option_or (old q) (if same_word q name then Some what else None)
 kept {X} old new again name what first some is was q =
     let by_case : (b : Bool) → same_word q name ≡ b → again q ≡ option_or (old q) (if b then Some what else None) = λ b.
-        elim b as (λ b. same_word q name ≡ b → again q ≡ option_or (old q) (if b then Some what else None)) [
-          true ↦ λ h. was q ∙ ap (λ t. cond t (Some first) (new q)) (same_word-sym name q ∙ h) ∙ ap (λ o. option_or o (Some what)) (some ∙ ap old (sym (same_word-yes q name h)))
-        | false ↦ λ h. was q ∙ ap (λ t. cond t (Some first) (new q)) (same_word-sym name q ∙ h) ∙ is q ∙ ap (λ t. cond t (Some what) (old q)) (same_word-sym name q ∙ h) ∙ sym (option_or-none (old q))
-        ] in
+    elim b as (λ b. same_word q name ≡ b → again q ≡ option_or (old q) (if b then Some what else None)) [
+      | true ↦ λ h. was q ∙ ap (λ t. cond t (Some first) (new q)) (same_word-sym name q ∙ h) ∙ ap (λ o. option_or o (Some what)) (some ∙ ap old (sym (same_word-yes q name h)))
+      | false ↦ λ h. was q ∙ ap (λ t. cond t (Some first) (new q)) (same_word-sym name q ∙ h) ∙ is q ∙ ap (λ t. cond t (Some what) (old q)) (same_word-sym name q ∙ h) ∙ sym (option_or-none (old q))
+    ] in
     by_case (same_word q name) refl
 
 -- the forms of one more line

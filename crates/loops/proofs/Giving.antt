@@ -45,7 +45,7 @@ from-all : (q : List ℕ) (before forms : List Form) → IsFrom (number_of is_st
 from-all q before [] = tt
 from-all q before (form ∷ forms) =
     from-first q before form forms (from-wider (number_of is_statement (before ++ form ∷ [])) (number_of is_statement before) (first_declared q (before ++ form ∷ []) forms)
-      (omega (arith, number_of-push is_statement before form)) (from-all q (before ++ form ∷ []) forms))
+    (omega (arith, number_of-push is_statement before form)) (from-all q (before ++ form ∷ []) forms))
 
 least-in : (q : List ℕ) (before : List Form) (forms : List Form) (k : ℕ) → first_declared q before forms ≡ Some (AValue k) → number_of is_statement before ≤ k
 least-in q before forms k e = subst (IsFrom (number_of is_statement before)) e (from-all q before forms)
@@ -96,13 +96,13 @@ one-name-in a b before (StatementLine s ∷ forms) k e f =
     let n = number_of is_statement before in
     let more = number_of-push is_statement before (StatementLine s) in
     ⊎_elim
-      (λ x. ⊎_elim (λ y. x.2 ∙ name-same x.0 y.0 (sym x.1 ∙ y.1) ∙ sym y.2)
-        (λ y. absurd (omega (arith, x.3, more, least-in b (before ++ StatementLine s ∷ []) forms k y)))
-        (same-here b s.name n k rest_b f))
-      (λ x. ⊎_elim (λ y. absurd (omega (arith, y.3, more, least-in a (before ++ StatementLine s ∷ []) forms k x)))
-        (λ y. one-name-in a b (before ++ StatementLine s ∷ []) forms k x y)
-        (same-here b s.name n k rest_b f))
-      (same-here a s.name n k rest_a e)
+    (λ x. ⊎_elim (λ y. x.2 ∙ name-same x.0 y.0 (sym x.1 ∙ y.1) ∙ sym y.2)
+    (λ y. absurd (omega (arith, x.3, more, least-in b (before ++ StatementLine s ∷ []) forms k y)))
+    (same-here b s.name n k rest_b f))
+    (λ x. ⊎_elim (λ y. absurd (omega (arith, y.3, more, least-in a (before ++ StatementLine s ∷ []) forms k x)))
+    (λ y. one-name-in a b (before ++ StatementLine s ∷ []) forms k x y)
+    (same-here b s.name n k rest_b f))
+    (same-here a s.name n k rest_a e)
 one-name-in a b before (OutLine n ∷ forms) k e f = one-name-in a b (before ++ OutLine n ∷ []) forms k e f
 one-name-in a b before (EndLine ∷ forms) k e f = one-name-in a b (before ++ EndLine ∷ []) forms k e f
 one-name-in a b before (Malformed ∷ forms) k e f = one-name-in a b (before ++ Malformed ∷ []) forms k e f
@@ -233,8 +233,8 @@ slots-more : (block before : List Form) (inits : List (Option ℤ)) (outs : List
 slots-more block before inits outs other k m v g e hm hk fresh name j n f hn =
     let form = InitLine other (Some (suc m)) (Some v) in
     let go : (b : Bool) → (same_word name other && same_number (Some (suc n)) (Some (suc m))) ≡ b → get_or (set inits (16 * k + m) (Some v)) (16 * j + n) None ≡ init_value name (suc n) (before ++ form ∷ []) = λ b.
-      elim b as (λ b. (same_word name other && same_number (Some (suc n)) (Some (suc m))) ≡ b → get_or (set inits (16 * k + m) (Some v)) (16 * j + n) None ≡ init_value name (suc n) (before ++ form ∷ [])) [
-        true ↦ λ t.
+    elim b as (λ b. (same_word name other && same_number (Some (suc n)) (Some (suc m))) ≡ b → get_or (set inits (16 * k + m) (Some v)) (16 * j + n) None ≡ init_value name (suc n) (before ++ form ∷ [])) [
+      | true ↦ λ t.
           let both = init-test name other (Some (suc n)) (Some (suc m)) t in
           let nm = number-same n m both.1 in
           let kj = value-number j k (sym f ∙ ap (declared block) both.0 ∙ e) in
@@ -242,14 +242,14 @@ slots-more block before inits outs other k m v g e hm hk fresh name j n f hn =
           ap (λ i. get_or (set inits (16 * k + m) (Some v)) i None) at
           ∙ get_or-set_same inits (16 * k + m) (Some v) None (omega (arith, g.room))
           ∙ sym (value-more name (suc n) before form
-            ∙ ap (λ o. option_or o (value_in name (suc n) form)) (ap (λ q. init_value q (suc n) before) both.0 ∙ ap (λ q. init_value other (suc q) before) nm ∙ none-of (init_value other (suc m) before) fresh)
-            ∙ ap (λ b. if b then Some v else None) t)
+          ∙ ap (λ o. option_or o (value_in name (suc n) form)) (ap (λ q. init_value q (suc n) before) both.0 ∙ ap (λ q. init_value other (suc q) before) nm ∙ none-of (init_value other (suc m) before) fresh)
+          ∙ ap (λ b. if b then Some v else None) t)
       | false ↦ λ t.
           let ne : 16 * j + n ≢ 16 * k + m = row-index j k n m hn hm (λ a c. false≢true (sym t ∙ ap (λ q. q && same_number (Some (suc n)) (Some (suc m))) (ap (same_word name) (sym (one-name block name other k (f ∙ ap (λ i. Some (AValue i)) a) e)) ∙ same_word-here name) ∙ ap (λ i. same_number (Some (suc n)) (Some (suc i))) (sym c) ∙ same-number-here (suc n))) in
           get_or-set_other inits (16 * k + m) (16 * j + n) (Some v) None ne
           ∙ g.slots name j n f hn
           ∙ sym (value-same name (suc n) before form (ap (λ b. if b then Some v else None) t))
-      ] in
+    ] in
     go (same_word name other && same_number (Some (suc n)) (Some (suc m))) refl
 
 pub given-init : (block before : List Form) (inits : List (Option ℤ)) (outs : List Bool) (other : List ℕ) (k m : ℕ) (v : ℤ) → IsGiven block before inits outs
@@ -263,15 +263,15 @@ given-init block before inits outs other k m v g e hm hk first =
       flags = g.flags;
       slots = slots-more block before inits outs other k m v g e hm hk fresh;
       valued = λ name n.
-        any-more (is_init name (Some n)) before form
-        ∙ ap (λ b. b || is_init name (Some n) form) (g.valued name n)
-        ∙ ap (λ b. is_some (init_value name n before) || b) (sym (init-value-test (is_init name (Some n) form) v))
-        ∙ sym (ap is_some (value-more name n before form) ∙ is-some-or (init_value name n before) (value_in name n form));
+          any-more (is_init name (Some n)) before form
+          ∙ ap (λ b. b || is_init name (Some n) form) (g.valued name n)
+          ∙ ap (λ b. is_some (init_value name n before) || b) (sym (init-value-test (is_init name (Some n) form) v))
+          ∙ sym (ap is_some (value-more name n before form) ∙ is-some-or (init_value name n before) (value_in name n form));
       known = λ name number h.
-        ⊎_elim (g.known name number)
-        (λ t. let both = init-test name other number (Some (suc m)) t in
+          ⊎_elim (g.known name number)
+          (λ t. let both = init-test name other number (Some (suc m)) t in
           (ap (λ q. is_value (declared block q)) both.0 ∙ ap is_value e, m, both.1, hm))
-        (or-cases (list_any (is_init name number) before) (is_init name number form) (sym (any-more (is_init name number) before form) ∙ h));
+          (or-cases (list_any (is_init name number) before) (is_init name number form) (sym (any-more (is_init name number) before form) ∙ h));
       marks = λ name j f. g.marks name j f ∙ sym (any-same (is_out_of name) before form refl);
       known_marks = λ name h. g.known_marks name (sym (any-same (is_out_of name) before form refl) ∙ h);
     }
@@ -288,16 +288,16 @@ given-out block before inits outs other k g e hk =
       valued = λ name m. any-same (is_init name (Some m)) before form refl ∙ g.valued name m ∙ ap is_some (sym (value-same name m before form refl));
       known = λ name number h. g.known name number (sym (any-same (is_init name number) before form refl) ∙ h);
       marks = λ name j f.
-        ⊎_elim
+          ⊎_elim
           (λ (a : j ≡ k). ap (λ i. get_or (set outs k true) i false) a ∙ get_or-set_same outs k true false (omega (arith, g.flags))
-            ∙ sym (any-more (is_out_of name) before form ∙ ap (λ b. list_any (is_out_of name) before || b) (ap (same_word name) (sym (one-name block name other k (f ∙ ap (λ i. Some (AValue i)) a) e)) ∙ same_word-here name) ∙ or-true (list_any (is_out_of name) before)))
+          ∙ sym (any-more (is_out_of name) before form ∙ ap (λ b. list_any (is_out_of name) before || b) (ap (same_word name) (sym (one-name block name other k (f ∙ ap (λ i. Some (AValue i)) a) e)) ∙ same_word-here name) ∙ or-true (list_any (is_out_of name) before)))
           (λ (a : j ≡ k → ⊥). get_or-set_other outs k j true false a ∙ g.marks name j f
-            ∙ sym (any-same (is_out_of name) before form (not-from (same_word name other) (λ t. a (value-number j k (sym f ∙ ap (declared block) (same_word-yes name other t) ∙ e))))))
+          ∙ sym (any-same (is_out_of name) before form (not-from (same_word name other) (λ t. a (value-number j k (sym f ∙ ap (declared block) (same_word-yes name other t) ∙ e))))))
           (cases_eq j k);
       known_marks = λ name h.
-        ⊎_elim (g.known_marks name)
-        (λ t. ap (λ q. is_value (declared block q)) (same_word-yes name other t) ∙ ap is_value e)
-        (or-cases (list_any (is_out_of name) before) (same_word name other) (sym (any-more (is_out_of name) before form) ∙ h));
+          ⊎_elim (g.known_marks name)
+          (λ t. ap (λ q. is_value (declared block q)) (same_word-yes name other t) ∙ ap is_value e)
+          (or-cases (list_any (is_out_of name) before) (same_word name other) (sym (any-more (is_out_of name) before form) ∙ h));
     }
 
 below-value : (block : List Form) (other : List ℕ) (k : ℕ) → declared block other ≡ Some (AValue k) → k < number_of is_statement block
@@ -332,8 +332,8 @@ given-more block before inits outs (InitLine name number value) g near h =
     let first = when-false (list_any (is_init name number) before) RepeatedName b.1 in
     let P : Option ℕ → Option ℤ → Type 0 = λ number value. IsGiven block (before ++ InitLine name number value ∷ []) (with_init inits (declared block name) number value) outs in
     subst (λ x. P x value) (sym n.1) (subst (P (Some (suc n.0))) (sym v.1)
-      (subst (λ is. IsGiven block (before ++ InitLine name (Some (suc n.0)) (Some v.0) ∷ []) is outs) (sym (inits-given inits (declared block name) k.0 n.0 v.0 k.1 n.2))
-        (given-init block before inits outs name k.0 n.0 v.0 g k.1 n.2 (below-value block name k.0 k.1) (ap (λ x. list_any (is_init name x) before) (sym n.1) ∙ first))))
+    (subst (λ is. IsGiven block (before ++ InitLine name (Some (suc n.0)) (Some v.0) ∷ []) is outs) (sym (inits-given inits (declared block name) k.0 n.0 v.0 k.1 n.2))
+    (given-init block before inits outs name k.0 n.0 v.0 g k.1 n.2 (below-value block name k.0 k.1) (ap (λ x. list_any (is_init name x) before) (sym n.1) ∙ first))))
 given-more block before inits outs (OutLine name) g near h =
     let limits = when (is_long name) Limit in
     let again = when (list_any (is_out_of name) before) RepeatedName in

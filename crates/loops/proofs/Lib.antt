@@ -1,3 +1,4 @@
+pub mod Blocking
 pub mod Checking
 pub mod Covering
 pub mod Declared

@@ -114,26 +114,28 @@ reads-line number lines entries e left r other h =
     let now = with-standing before form h ∙ sym (forms_in-push entries e) in
     record {
       faults = λ block names.
-        r.faults block names ∙ ap (λ f. entry_faults block [] entries ++ f)
+          r.faults block names ∙ ap (λ f. entry_faults block [] entries ++ f)
           (inside-line block e.line names before form left other
           ∙ ap (λ k. at_line e.line k ++ inside_in block (e.line + 1) names (with_line before form) left) (faults-standing before block form h)
           ∙ ap (λ b. at_line e.line (faults_of before block form) ++ inside_in block (e.line + 1) names b left) now)
-        ∙ sym (append_assoc (entry_faults block [] entries) (at_line e.line (faults_of before block form)) (inside_in block (e.line + 1) names (forms_in (entries ++ e ∷ [])) left))
-        ∙ sym (ap (λ f. f ++ inside_in block (e.line + 1) names (forms_in (entries ++ e ∷ [])) left) (entry_faults-push block [] entries e));
+          ∙ sym (append_assoc (entry_faults block [] entries) (at_line e.line (faults_of before block form)) (inside_in block (e.line + 1) names (forms_in (entries ++ e ∷ [])) left))
+          ∙ sym (ap (λ f. f ++ inside_in block (e.line + 1) names (forms_in (entries ++ e ∷ [])) left) (entry_faults-push block [] entries e));
       whole = r.whole ∙ whole-line before form left other ∙ ap (λ b. whole b left) now;
       blocks = λ name. r.blocks name ∙ blocks-line name before form left other ∙ ap (λ b. blocks_from name b left) now;
     }
 
 pub reads-end : (number : ℕ) (lines : List (Option Form)) (entries : List Entry) (line : ℕ) (rest : Bor (List ℕ)) → Reads number lines entries line (Some EndLine ∷ forms_of rest.now) → StopsAt number lines entries (stops.End line rest)
-reads-end number lines entries line rest r =
-    (r.whole
-    , λ names. inside-named number names [] lines ∙ ap (λ b. inside_in b number names [] lines) r.whole ∙ r.faults (forms_in entries) names
-    , r.blocks)
+reads-end number lines entries line rest r = (
+  r.whole,
+  λ names. inside-named number names [] lines ∙ ap (λ b. inside_in b number names [] lines) r.whole ∙ r.faults (forms_in entries) names,
+  r.blocks,
+)
 
 pub reads-open : (number : ℕ) (lines : List (Option Form)) (entries : List Entry) (line : ℕ) → Reads number lines entries line [] → StopsAt number lines entries (stops.Open line)
-reads-open number lines entries line r =
-    (r.whole
-    , λ names. inside-named number names [] lines ∙ ap (λ b. inside_in b number names [] lines) r.whole ∙ r.faults (forms_in entries) names)
+reads-open number lines entries line r = (
+  r.whole,
+  λ names. inside-named number names [] lines ∙ ap (λ b. inside_in b number names [] lines) r.whole ∙ r.faults (forms_in entries) names,
+)
 
 unfit-faults : (before block : List Form) (form : Form) → stands before form ≡ false → line_faults before block form ≡ Syntax ∷ []
 unfit-faults before block form h = ap (λ b. if b then faults_of before block form else Syntax ∷ []) h
@@ -146,12 +148,15 @@ pub reads-unfit : (number : ℕ) (lines : List (Option Form)) (entries : List En
 reads-unfit number lines entries line form rest r other h =
     let before = forms_in entries in
     let left = forms_of rest.now in
-    let block = whole [] lines in
-    (r.whole ∙ whole-line before form left other ∙ ap (λ b. whole b left) (unfit-with before form h)
-    , λ names. (inside_in block (line + 1) names (with_line before form) left
-      , inside-named number names [] lines ∙ r.faults block names ∙ ap (λ f. entry_faults block [] entries ++ f)
-          (inside-line block line names before form left other
-          ∙ ap (λ k. at_line line k ++ inside_in block (line + 1) names (with_line before form) left) (unfit-faults before block form h))))
+    let block = whole [] lines in (
+      r.whole ∙ whole-line before form left other ∙ ap (λ b. whole b left) (unfit-with before form h),
+      λ names. (
+        inside_in block (line + 1) names (with_line before form) left,
+        inside-named number names [] lines ∙ r.faults block names ∙ ap (λ f. entry_faults block [] entries ++ f)
+            (inside-line block line names before form left other
+            ∙ ap (λ k. at_line line k ++ inside_in block (line + 1) names (with_line before form) left) (unfit-faults before block form h)),
+      ),
+    )
 
 -- the next line of a text
 pub forms-next : (text this after : List ℕ) (form : Option Form) → lines_of text ≡ this ∷ lines_of after → form ≡ line_form (words_of this) → forms_of text ≡ form ∷ forms_of after

@@ -63,7 +63,7 @@ pub line-near : (index lines : List Entry) (sound i : ℕ) (d : Entry) → lines
 line-near index lines sound i d e h b =
     let at = block-at index lines sound i d e h in
     all-at IsNearForm (forms_in (take i lines)) (form_seen (get_or lines i d).form) (behind index sound lines i)
-      (near-block (forms_in (take i lines) ++ form_seen (get_or lines i d).form ∷ behind index sound lines i) (subst IsBlock at b))
+    (near-block (forms_in (take i lines) ++ form_seen (get_or lines i d).form ∷ behind index sound lines i) (subst IsBlock at b))
 
 faults-at : (block before : List Form) (lines : List Entry) (i : ℕ) (d : Entry) → i < length lines
     → entry_faults block before (drop i lines) ≡ at_line (get_or lines i d).line (faults_of before block (form_seen (get_or lines i d).form)) ++ entry_faults block (before ++ form_seen (get_or lines i d).form ∷ []) (drop (i + 1) lines)
@@ -92,7 +92,7 @@ pub turn-given : (block : List Form) (lines : List Entry) (i : ℕ) (d : Entry) 
     → IsGiven block (forms_in (take (i + 1) lines)) (inits_with block inits (form_seen (get_or lines i d).form)) (outs_with block outs (form_seen (get_or lines i d).form))
 turn-given block lines i d kinds inits outs h e f near g =
     subst (λ b. IsGiven block b (inits_with block inits (form_seen (get_or lines i d).form)) (outs_with block outs (form_seen (get_or lines i d).form))) (sym (forms-more lines i d h))
-      (given-more block (forms_in (take i lines)) inits outs (form_seen (get_or lines i d).form) g near (sym e ∙ no-kinds kinds f))
+    (given-more block (forms_in (take i lines)) inits outs (form_seen (get_or lines i d).form) g near (sym e ∙ no-kinds kinds f))
 
 pub same-given : (block before : List Form) (inits inits' : List (Option ℤ)) (outs outs' : List Bool) → inits' ≡ inits → outs' ≡ outs → IsGiven block before inits outs → IsGiven block before inits' outs'
 same-given block before inits inits' outs outs' e f g = subst (λ is. IsGiven block before is outs') (sym e) (subst (λ os. IsGiven block before inits os) (sym f) g)

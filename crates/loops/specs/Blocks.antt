@@ -1,5 +1,5 @@
 -- The lines of a block as the reader keeps them, and what it asks of them.
-use Rattle.std.specs.Prelude.{◌≡◌, ℕ, ◌+◌, ◌≤◌, Bool, if◌then◌else◌, List, [], ◌∷◌, ◌++◌, length, map, Option, Some, None}
+use Rattle.std.specs.Prelude.{◌≡◌, ℕ, ◌+◌, ◌≤◌, Bool, if◌then◌else◌, List, [], ◌∷◌, ◌++◌, length, map, take, Option, Some, None}
 use Rattle.std.specs.Borrow.{Bor}
 use Rattle.machine.specs.Opcodes.{same_word}
 use Rattle.loops.specs.Forms.{Form, EndLine}
@@ -44,12 +44,12 @@ abbrev pub StopsAt : ℕ → List (Option Form) → List Entry → Stop → Type
 StopsAt number lines entries (stops.End line rest) =
     (whole [] lines ≡ forms_in entries)
     × ((names : List (List ℕ)) → inside_faults number names [] lines
-        ≡ entry_faults (forms_in entries) [] entries ++ (at_line line (faults_of (forms_in entries) (forms_in entries) EndLine) ++ outside_faults (line + 1) names (forms_of rest.now)))
+    ≡ entry_faults (forms_in entries) [] entries ++ (at_line line (faults_of (forms_in entries) (forms_in entries) EndLine) ++ outside_faults (line + 1) names (forms_of rest.now)))
     × ((name : List ℕ) → blocks_from name [] lines ≡ (name, forms_in entries) ∷ blocks_of (forms_of rest.now))
 StopsAt number lines entries (stops.Unfit line rest) =
     (whole [] lines ≡ whole (forms_in entries) (forms_of rest.now))
     × ((names : List (List ℕ)) → (others : List LoopFault) × (inside_faults number names [] lines
-        ≡ entry_faults (whole [] lines) [] entries ++ record { line = line; kind = Syntax } ∷ others))
+    ≡ entry_faults (whole [] lines) [] entries ++ record { line = line; kind = Syntax } ∷ others))
 StopsAt number lines entries (stops.Open line) =
     (whole [] lines ≡ forms_in entries)
     × ((names : List (List ℕ)) → inside_faults number names [] lines ≡ entry_faults (forms_in entries) [] entries ++ at_line line (NoEnd ∷ []))
@@ -65,3 +65,16 @@ pub record IsCounts (block : List Form) (counts : Counts) : Type 0 where
   pub arrays : counts.arrays ≡ number_of is_array block
   pub params : counts.params ≡ number_of is_param block
   pub statements : counts.statements ≡ number_of is_statement block
+
+-- the same for a whole block, of which the lines up to this many stand before the line where they stop
+abbrev pub StopsBlock : ℕ → List (Option Form) → List Entry → ℕ → Stop → Type 0
+StopsBlock number lines entries sound (stops.End line rest) =
+    (sound ≡ length entries)
+    × ((names : List (List ℕ)) → inside_faults number names [] lines
+    ≡ entry_faults (forms_in entries) [] (take sound entries) ++ (at_line line (faults_of (forms_in entries) (forms_in entries) EndLine) ++ outside_faults (line + 1) names (forms_of rest.now)))
+    × ((name : List ℕ) → blocks_from name [] lines ≡ (name, forms_in entries) ∷ blocks_of (forms_of rest.now))
+StopsBlock number lines entries sound (stops.Unfit line rest) =
+    (names : List (List ℕ)) → (others : List LoopFault) × (inside_faults number names [] lines
+    ≡ entry_faults (forms_in entries) [] (take sound entries) ++ record { line = line; kind = Syntax } ∷ others)
+StopsBlock number lines entries sound (stops.Open line) =
+    (names : List (List ℕ)) → inside_faults number names [] lines ≡ entry_faults (forms_in entries) [] (take sound entries) ++ at_line line (NoEnd ∷ [])

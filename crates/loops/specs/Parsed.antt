@@ -25,11 +25,11 @@ subscript_seen s = record { array = s.array.now; offset = s.offset }
 
 abbrev pub source_seen : Source → spec.Source
 source_seen s = record {
-    opcode = s.opcode;
-    name = option_map (λ (n : Bor (List ℕ)). n.now) s.name;
-    place = option_map subscript_seen s.place;
-    uses = uses_seen s.uses;
-  }
+  opcode = s.opcode;
+  name = option_map (λ (n : Bor (List ℕ)). n.now) s.name;
+  place = option_map subscript_seen s.place;
+  uses = uses_seen s.uses;
+}
 
 -- the integers that a rest of a line writes
 abbrev pub cells_seen : List ℕ → List (Option ℤ)

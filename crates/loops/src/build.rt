@@ -137,11 +137,7 @@ fn statement<'a>(
 }
 
 /// Appends the initial values of a statement's value, by number.
-fn push_inits(
-    inits: &mut Vec<Initial>,
-    given: &Given,
-    statement: u8,
-) -> Result<(), AllocError>
+fn push_inits(inits: &mut Vec<Initial>, given: &Given, statement: u8) -> Result<(), AllocError>
     requires room { 16 * statement + 16 ≤ length given.now.inits.items }
     ensures { OnOk result (inits.new.items ≡ inits.old.items ++ row_of given.now.inits.items statement 16) }
 {
@@ -238,12 +234,5 @@ pub(crate) fn build<'a>(
         inits,
         outs,
     } = parts;
-    Ok(Loop::new(
-        name_of(name),
-        arrays,
-        params,
-        statements,
-        inits,
-        outs,
-    ))
+    Ok(Loop::new(name_of(name), arrays, params, statements, inits, outs))
 }

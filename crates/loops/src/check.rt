@@ -18,8 +18,11 @@ use crate::given::{Given, MOST};
 use crate::index::{Counts, Declared, Index};
 
 const MOST_BYTES: usize = 16;
+
 const MOST_ARRAYS: usize = 32;
+
 const MOST_PARAMS: usize = 64;
+
 const MOST_STATEMENTS: usize = 128;
 
 pub(crate) fn is_long(name: &[u8]) -> bool

@@ -1,10 +1,10 @@
 //! The lines of a block, up to its end.
 
-ghost use Rattle.std.specs.Prelude.{◌≡◌, ◌+◌, ◌≤◌, ◌<◌, ◌^◌, ◌++◌, ◌||◌, List, length, IfOk, OnOk};
+ghost use Rattle.std.specs.Prelude.{◌≡◌, ◌+◌, ◌≤◌, ◌<◌, ◌^◌, ◌++◌, ◌||◌, List, [], length, IfOk, OnOk};
 ghost use Rattle.loops.specs.Forms as spec;
 ghost use Rattle.loops.specs.Meaning.{stands, has_statement, has_out, is_statement, is_out, whole, forms_of};
 ghost use Rattle.loops.specs.Parsed.{form_seen};
-ghost use Rattle.loops.specs.Blocks.{forms_in, StopsAt, IsBehind};
+ghost use Rattle.loops.specs.Blocks.{forms_in, StopsAt, StopsBlock, IsBehind};
 ghost use Rattle.loops.specs.declared.entry.Entry.{Entry};
 
 use crate::entry::Entry;
@@ -25,7 +25,7 @@ pub(crate) enum Stop<'a> {
 
 /// Which lines a block has so far, as far as they decide what may stand behind them.
 #[derive(Clone, Copy)]
-pub(crate) struct Seen {
+struct Seen {
     statement: bool,
     out: bool,
 }
@@ -64,7 +64,7 @@ impl Seen {
 
 /// Collects the lines of a block, which begins with the line of this number, up to its `end` or to
 /// the first line that may not stand in it.
-pub(crate) fn collect<'a>(
+fn collect<'a>(
     lines: &mut Vec<Entry<'a>>,
     text: &'a [u8],
     number: usize,
@@ -102,7 +102,7 @@ pub(crate) fn collect<'a>(
 
 /// Collects the other lines that stand in the block, behind one that does not. Their numbers are not
 /// asked for.
-pub(crate) fn collect_rest<'a>(
+fn collect_rest<'a>(
     lines: &mut Vec<Entry<'a>>,
     mut seen: Seen,
     text: &'a [u8],
@@ -130,4 +130,28 @@ pub(crate) fn collect_rest<'a>(
         rest = after;
     }
     Ok(())
+}
+
+/// Collects the lines that stand in a block, which begins with the line of this number. The result is
+/// how many of them stand before the first line that may not stand there, and where the block stops.
+pub(crate) fn collect_block<'a>(
+    lines: &mut Vec<Entry<'a>>,
+    text: &'a [u8],
+    number: usize,
+) -> Result<(usize, Stop<'a>), AllocError>
+    requires { number + length text.now < 2 ^ 32 }
+    ensures whole { IfOk result (λ r. forms_in lines.new.items ≡ whole [] (forms_of text.now)) }
+    ensures stops { IfOk result (λ r. StopsBlock number (forms_of text.now) lines.new.items r.0 r.1) }
+    ensures sound { IfOk result (λ r. r.0 ≤ length lines.new.items) }
+    ensures behind { IfOk result (λ r. IsBehind (number + length text.now) r.1) }
+{
+    let (seen, stop) = collect(lines, text, number)?;
+    let sound = lines.len();
+    match stop {
+        Stop::Unfit(_, rest) => {
+            collect_rest(lines, seen, rest)?;
+            Ok((sound, stop))
+        }
+        Stop::End(_, _) | Stop::Open(_) => Ok((sound, stop)),
+    }
 }

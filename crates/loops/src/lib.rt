@@ -15,6 +15,8 @@ mod lists;
 mod number;
 mod read;
 mod statement;
+#[cfg(test)]
+mod tests;
 mod words;
 
 pub use fault::{LoopFault, LoopFaultKind};

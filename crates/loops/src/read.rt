@@ -9,7 +9,7 @@ ghost use Rattle.loops.specs.Texts.{seen, AnswersBlock, AnswersOpening};
 
 use crate::build::build;
 use crate::check::{first_fault, is_long, line_fault};
-use crate::collect::{Stop, collect, collect_rest};
+use crate::collect::{Stop, collect_block};
 use crate::entry::Entry;
 use crate::fault::{LoopFault, LoopFaultKind};
 use crate::form::{Form, form_of};
@@ -21,6 +21,7 @@ use std::alloc::{AllocError, Global};
 use std::collections::BTreeSet;
 
 const MOST_BYTES: usize = 1_048_576;
+
 const MOST_LOOPS: usize = 1024;
 
 /// What is kept from block to block.
@@ -51,11 +52,7 @@ fn read_block<'a>(
     requires room { number + length text.now < 2 ^ 32 }
     ensures { AnswersBlock name.now number text.now result }
 {
-    let (seen, stop) = collect(&mut room.lines, text, number)?;
-    let sound = room.lines.len();
-    if let Stop::Unfit(_, rest) = stop {
-        collect_rest(&mut room.lines, seen, rest)?;
-    }
+    let (sound, stop) = collect_block(&mut room.lines, text, number)?;
     let index = Index::new(alloc, room.lines.as_slice())?;
     let counts = index.counts();
     room.given.reset(counts.statements)?;
@@ -63,15 +60,25 @@ fn read_block<'a>(
         return Err(fault);
     }
     let (line, rest) = match stop {
-        Stop::Unfit(line, _) => return Err(LoopFault { line, kind: LoopFaultKind::Syntax }),
-        Stop::Open(line) => return Err(LoopFault { line, kind: LoopFaultKind::NoEnd }),
+        Stop::Unfit(line, _) => return Err(LoopFault {
+            line,
+            kind: LoopFaultKind::Syntax,
+        }),
+        Stop::Open(line) => return Err(LoopFault {
+            line,
+            kind: LoopFaultKind::NoEnd,
+        }),
         Stop::End(line, rest) => (line, rest),
     };
     if let Some(kind) = line_fault(&index, counts, &room.given, Form::End) {
         return Err(LoopFault { line, kind });
     }
     let found = build(alloc, name, &index, &room.given)?;
-    Ok(Block { found, rest, line: line + 1 })
+    Ok(Block {
+        found,
+        rest,
+        line: line + 1,
+    })
 }
 
 /// The first fault of a line that opens a block behind so many others; else its name is added to theirs.
@@ -100,11 +107,17 @@ pub fn read_loops(alloc: Global, text: &[u8]) -> Result<Vec<Loop>, LoopFault>
     ensures well_formed { IfOk result (λ loops. All IsLoop loops.items × (length loops.items ≤ 1024)) }
 {
     if text.len() > MOST_BYTES {
-        return Err(LoopFault { line: 0, kind: LoopFaultKind::Limit });
+        return Err(LoopFault {
+            line: 0,
+            kind: LoopFaultKind::Limit,
+        });
     }
     let mut loops = Vec::new(alloc);
     let mut names = BTreeSet::new(alloc);
-    let mut room = Room { lines: Vec::new(alloc), given: Given::new(alloc) };
+    let mut room = Room {
+        lines: Vec::new(alloc),
+        given: Given::new(alloc),
+    };
     let mut rest = text;
     let mut line = 1;
     while !rest.is_empty() {
@@ -123,7 +136,10 @@ pub fn read_loops(alloc: Global, text: &[u8]) -> Result<Vec<Loop>, LoopFault>
                 rest = block.rest;
                 line = block.line;
             }
-            Some(_) => return Err(LoopFault { line, kind: LoopFaultKind::Syntax }),
+            Some(_) => return Err(LoopFault {
+                line,
+                kind: LoopFaultKind::Syntax,
+            }),
         }
     }
     Ok(loops)

@@ -21,9 +21,9 @@ returns-then-not-allows c =
     let next = forms-next c.loop-rest.rest.now c.next_line.result.0.now c.next_line.result.1.now (Some form) c.next_line.ensures.lines c.in-Some.ensures in
     record {
       stops = reads-unfit c.args.number (forms_of c.args.text.now) c.loop-rest.lines.items c.loop-rest.line form c.next_line.result.1
-        (reads-same _ _ _ _ _ _ next v.reads)
-        (other-than-end c.in-Some.form c.in_default.not-End)
-        (sym (c.allows.ensures (forms_in c.loop-rest.lines.items) (sym v.statement) (sym v.out)) ∙ c.if-not-allows.true);
+          (reads-same _ _ _ _ _ _ next v.reads)
+          (other-than-end c.in-Some.form c.in_default.not-End)
+          (sym (c.allows.ensures (forms_in c.loop-rest.lines.items) (sym v.statement) (sym v.out)) ∙ c.if-not-allows.true);
       behind = omega arith;
       statement = v.statement;
       out = v.out;
@@ -38,26 +38,26 @@ pub loop-rest-preserved : goal.loop-rest-preserved
 loop-rest-preserved c =
     let v = c.loop-rest.invariant in
     elim c.match-form_of.branch [
-      in-None w ↦
-        let next = forms-next c.loop-rest.rest.now c.next_line.result.0.now c.next_line.result.1.now None c.next_line.ensures.lines w.in-None.ensures in
-        record {
-          reads = rw w.lines-is (reads-blank _ _ _ _ _ (reads-same _ _ _ _ _ _ next v.reads));
-          statement = rw (w.seen-is, w.lines-is) v.statement;
-          out = rw (w.seen-is, w.lines-is) v.out;
-          within = omega arith;
-        }
-    | in-Some+in_default+else-not-allows+in_ok-push-in_default w ↦
-        let form = form_seen w.in-Some.form in
-        let e : Entry = record { line = c.loop-rest.line; form = w.in-Some.form } in
-        let next = forms-next c.loop-rest.rest.now c.next_line.result.0.now c.next_line.result.1.now (Some form) c.next_line.ensures.lines w.in-Some.ensures in
-        let is = w.lines-is in
-        let items = ap (λ l. l.items) w.lines-is ∙ w.in_ok-push-in_default.ensures.items in
-        record {
-          reads = rw items (reads-line c.args.number (forms_of c.args.text.now) c.loop-rest.lines.items e (forms_of c.next_line.result.1.now) (reads-same _ _ _ _ _ _ next v.reads)
-            (other-than-end w.in-Some.form w.in_default.not-End)
-            (sym (w.allows.ensures (forms_in c.loop-rest.lines.items) (sym v.statement) (sym v.out)) ∙ w.if-not-allows.false));
-          statement = ap (λ s. s.statement) w.seen-is ∙ w.with-seen.ensures.statement ∙ ap (λ b. b || is_statement form) v.statement ∙ sym (ap (λ es. has_statement (forms_in es)) items ∙ any-push is_statement c.loop-rest.lines.items e);
-          out = ap (λ s. s.out) w.seen-is ∙ w.with-seen.ensures.out ∙ ap (λ b. b || is_out form) v.out ∙ sym (ap (λ es. has_out (forms_in es)) items ∙ any-push is_out c.loop-rest.lines.items e);
-          within = omega arith;
-        }
+      | in-None w ↦
+          let next = forms-next c.loop-rest.rest.now c.next_line.result.0.now c.next_line.result.1.now None c.next_line.ensures.lines w.in-None.ensures in
+          record {
+            reads = rw w.lines-is (reads-blank _ _ _ _ _ (reads-same _ _ _ _ _ _ next v.reads));
+            statement = rw (w.seen-is, w.lines-is) v.statement;
+            out = rw (w.seen-is, w.lines-is) v.out;
+            within = omega arith;
+          }
+      | in-Some+in_default+else-not-allows+in_ok-push-in_default w ↦
+          let form = form_seen w.in-Some.form in
+          let e : Entry = record { line = c.loop-rest.line; form = w.in-Some.form } in
+          let next = forms-next c.loop-rest.rest.now c.next_line.result.0.now c.next_line.result.1.now (Some form) c.next_line.ensures.lines w.in-Some.ensures in
+          let is = w.lines-is in
+          let items = ap (λ l. l.items) w.lines-is ∙ w.in_ok-push-in_default.ensures.items in
+          record {
+            reads = rw items (reads-line c.args.number (forms_of c.args.text.now) c.loop-rest.lines.items e (forms_of c.next_line.result.1.now) (reads-same _ _ _ _ _ _ next v.reads)
+                (other-than-end w.in-Some.form w.in_default.not-End)
+                (sym (w.allows.ensures (forms_in c.loop-rest.lines.items) (sym v.statement) (sym v.out)) ∙ w.if-not-allows.false));
+            statement = ap (λ s. s.statement) w.seen-is ∙ w.with-seen.ensures.statement ∙ ap (λ b. b || is_statement form) v.statement ∙ sym (ap (λ es. has_statement (forms_in es)) items ∙ any-push is_statement c.loop-rest.lines.items e);
+            out = ap (λ s. s.out) w.seen-is ∙ w.with-seen.ensures.out ∙ ap (λ b. b || is_out form) v.out ∙ sym (ap (λ es. has_out (forms_in es)) items ∙ any-push is_out c.loop-rest.lines.items e);
+            within = omega arith;
+          }
     ]

@@ -13,7 +13,7 @@ loop-rest-preserved c =
     let next = forms-next c.loop-rest.rest.now c.next_line.result.0.now c.next_line.result.1.now (Some form) c.next_line.ensures.lines c.in-Some.ensures in
     record {
       whole = v.whole ∙ ap (whole before) next ∙ whole-unfit before form (forms_of c.next_line.result.1.now) (other-than-end c.in-Some.form c.in_default.not-End)
-        (sym (c.allows.ensures before (sym v.statement) (sym v.out)) ∙ c.if-allows.false);
+          (sym (c.allows.ensures before (sym v.statement) (sym v.out)) ∙ c.if-allows.false);
       more = v.more;
       statement = v.statement;
       out = v.out;

@@ -11,11 +11,12 @@ use Rattle.loops.proofs.read.open.Goals as goal
 
 pub returns : goal.returns
 returns c = λ names has e.
-    let absent : list_any (same_word c.args.name.now) names ≡ false = grind (arith, has c.args.name.now) in
-    (opening-none names c.args.name.now c.args.loops e (sym c.is_long.ensures ∙ c.if-is_long.false) c.if-loops-ge-MOST_LOOPS.false absent
-    , λ q.
-      let old : Bool = contains_by (λ k. slice_cmp nat_cmp q k.now) c.args.names.now in
-      names-more names c.args.name.now q _
-        (c.in_ok-insert.ensures.updates.0 (record { ref_ptr = (0, 0); now = q })
-        ∙ ap (λ b. cond b true old) (is_eq-slice_cmp c.args.name.now q)
-        ∙ ap (λ b. cond (same_word c.args.name.now q) true b) (has q)))
+    let absent : list_any (same_word c.args.name.now) names ≡ false = grind (arith, has c.args.name.now) in (
+      opening-none names c.args.name.now c.args.loops e (sym c.is_long.ensures ∙ c.if-is_long.false) c.if-loops-ge-MOST_LOOPS.false absent,
+      λ q.
+          let old : Bool = contains_by (λ k. slice_cmp nat_cmp q k.now) c.args.names.now in
+          names-more names c.args.name.now q _
+          (c.in_ok-insert.ensures.updates.0 (record { ref_ptr = (0, 0); now = q })
+          ∙ ap (λ b. cond b true old) (is_eq-slice_cmp c.args.name.now q)
+          ∙ ap (λ b. cond (same_word c.args.name.now q) true b) (has q)),
+    )

@@ -38,16 +38,16 @@ loop-entry-preserved c =
     let v = c.loop-entry.invariant in
     record {
       names = declared-more lines i _ (λ q. option_map declared_seen (at c.loop-entry.names q)) (λ q. option_map declared_seen (at c.match-declaration.names q)) _ _ _ c.loop-entry-test.true v.names v.arrays v.params v.statements
-        (λ q. elim c.match-declaration.branch [
-          in-Some+in_ok-add w ↦
-            ap (λ m. option_map declared_seen (at m q)) w.names-is
-            ∙ ap (option_map declared_seen) (w.in_ok-add.ensures q)
-            ∙ seen_or (at c.loop-entry.names q) (same_word q w.in-Some.name.now) w.in-Some.what
-            ∙ ap (option_or (option_map declared_seen (at c.loop-entry.names q))) (sym (c.declaration.ensures q ∙ ap (declared_if q) w.in-Some.is))
-        | in_default w ↦
-            ap (λ m. option_map declared_seen (at m q)) w.names-is
-            ∙ sym (ap (option_or (option_map declared_seen (at c.loop-entry.names q))) (c.declaration.ensures q ∙ ap (declared_if q) w.in_default.is) ∙ option_or-none (option_map declared_seen (at c.loop-entry.names q)))
-        ]);
+          (λ q. elim c.match-declaration.branch [
+            | in-Some+in_ok-add w ↦
+                ap (λ m. option_map declared_seen (at m q)) w.names-is
+                ∙ ap (option_map declared_seen) (w.in_ok-add.ensures q)
+                ∙ seen_or (at c.loop-entry.names q) (same_word q w.in-Some.name.now) w.in-Some.what
+                ∙ ap (option_or (option_map declared_seen (at c.loop-entry.names q))) (sym (c.declaration.ensures q ∙ ap (declared_if q) w.in-Some.is))
+            | in_default w ↦
+                ap (λ m. option_map declared_seen (at m q)) w.names-is
+                ∙ sym (ap (option_or (option_map declared_seen (at c.loop-entry.names q))) (c.declaration.ensures q ∙ ap (declared_if q) w.in_default.is) ∙ option_or-none (option_map declared_seen (at c.loop-entry.names q)))
+          ]);
       arrays = number_of-more is_array lines i _ _ _ c.loop-entry-test.true v.arrays h.arrays;
       params = number_of-more is_param lines i _ _ _ c.loop-entry-test.true v.params h.params;
       statements = number_of-more is_statement lines i _ _ _ c.loop-entry-test.true v.statements h.statements;

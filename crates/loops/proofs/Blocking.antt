@@ -1,0 +1,58 @@
+-- A block and the line where it stops.
+use Rattle.std.proofs.Common.{◌≡◌, ℕ, ◌+◌, ◌==◌, not, Bool, true, false, List, [], ◌∷◌, ◌++◌, length, take, Option, Some, None, refl, sym, ◌∙◌, ap, arith, append_assoc, zero-add, ◌||◌}
+use Rattle.std.specs.Borrow.{Bor}
+use Rattle.std.specs.Option.{option_or}
+use Rattle.std.specs.List.{list_any}
+use Rattle.std.proofs.Math.Seq.{take-append_seam}
+use Rattle.std.proofs.lemmas.Bool.{eqb-true}
+use Rattle.loops.proofs.Checking.{not-from}
+use Rattle.loops.specs.declared.collect.Stop.TheVariants as stops
+use Rattle.loops.specs.declared.entry.Entry.{Entry}
+use Rattle.loops.specs.declared.fault.LoopFault.{LoopFault}
+use Rattle.loops.specs.declared.fault.LoopFaultKind.{LoopFaultKind}
+use Rattle.loops.specs.declared.fault.LoopFaultKind.TheVariants.{Syntax, NoEnd, Limit}
+use Rattle.loops.specs.Forms.{Form, EndLine}
+use Rattle.loops.specs.Meaning.{whole, forms_of, inside_faults, number_of, is_statement, has_statement, at_line, when, faults_of, Kinds}
+use Rattle.loops.specs.Blocks.{forms_in, entry_faults, StopsAt, StopsBlock, one_if}
+use Rattle.loops.specs.Checks.{first_in}
+use Rattle.loops.proofs.Declared.{number_of-cons}
+
+pub unfit-block : (number : ℕ) (lines : List (Option Form)) (old new more : List Entry) (n line : ℕ) (rest : Bor (List ℕ))
+    → StopsAt number lines old (stops.Unfit line rest) → new ≡ old ++ more → forms_in new ≡ whole (forms_in old) (forms_of rest.now) → n ≡ length old → StopsBlock number lines new n (stops.Unfit line rest)
+unfit-block number lines old new more n line rest h e w l = λ names.
+    let others = (h.1 names).0 in
+    let front : take n new ≡ old = ap (λ k. take k new) l ∙ ap (take (length old)) e ∙ take-append_seam old more in (
+      others,
+      (h.1 names).1
+          ∙ ap (λ b. entry_faults b [] old ++ record { line = line; kind = Syntax } ∷ others) (h.0 ∙ sym w)
+          ∙ ap (λ es. entry_faults (forms_in new) [] es ++ record { line = line; kind = Syntax } ∷ others) (sym front),
+    )
+
+pub first-append : (xs ys : List LoopFault) → first_in (xs ++ ys) ≡ option_or (first_in xs) (first_in ys)
+first-append [] ys = refl
+first-append (x ∷ xs) ys = refl
+
+pub no-faults : (xs : List LoopFault) → None ≡ first_in xs → xs ≡ []
+no-faults [] h = refl
+no-faults (x ∷ xs) h = cc
+
+-- the `end` of a block without a statement
+
+none-or : (b : Bool) (forms : List Form) → (number_of is_statement forms == 0) ≡ not (has_statement forms) → ((one_if b + number_of is_statement forms) == 0) ≡ not (b || has_statement forms)
+none-or true forms h = not-from ((1 + number_of is_statement forms) == 0) (λ e. absurd (omega (arith, eqb-true (1 + number_of is_statement forms) 0 e)))
+none-or false forms h = ap (λ n. n == 0) (zero-add (number_of is_statement forms)) ∙ h
+
+none-counted : (block : List Form) → (number_of is_statement block == 0) ≡ not (has_statement block)
+none-counted [] = refl
+none-counted (form ∷ forms) = ap (λ n. n == 0) (number_of-cons is_statement form forms) ∙ none-or (is_statement form) forms (none-counted forms)
+
+pub end-kinds : (block : List Form) (n : ℕ) → n ≡ number_of is_statement block → when (n == 0) Limit ≡ faults_of block block EndLine
+end-kinds block n e = ap (λ k. when (k == 0) Limit) e ∙ ap (λ b. when b Limit) (none-counted block)
+
+there : (b : Bool) → None ≡ first_in (when (not b) Limit) → b ≡ true
+there true h = refl
+there false h = cc
+
+-- a block whose `end` has no fault has a statement
+pub statement-there : (block : List Form) (n : ℕ) → n ≡ number_of is_statement block → None ≡ first_in (when (n == 0) Limit) → has_statement block ≡ true
+statement-there block n e h = there (has_statement block) (h ∙ ap first_in (end-kinds block n e))
