@@ -3,6 +3,7 @@ pub mod Checking
 pub mod Covering
 pub mod Declared
 pub mod Giving
+pub mod Memoryless
 pub mod Naming
 pub mod Pieces
 pub mod Reading

@@ -3,7 +3,7 @@
 ghost use Rattle.std.specs.Prelude.{◌≡◌, ◌+◌, ◌*◌, ◌≤◌, ◌<◌, ◌++◌, ◌∷◌, [], true, None, ℕ, List, IfOk, OnOk, length, map, option_map, option_to_list, suc};
 ghost use Rattle.std.specs.Borrow.{Bor};
 ghost use Rattle.loops.specs.Forms.{is_name};
-ghost use Rattle.loops.specs.Loops.{IsName};
+ghost use Rattle.loops.specs.Loops.{IsLoop, IsName};
 ghost use Rattle.loops.specs.Meaning as meaning;
 ghost use Rattle.loops.specs.Meaning.{array_in, inits_at, loop_of, number_at, operand_of, out_in, param_in, place_at, source_in, statement_of, has_statement, is_statement};
 ghost use Rattle.loops.specs.Parsed.{form_seen, source_seen, subscript_seen, use_seen, uses_seen};
@@ -215,7 +215,8 @@ pub(crate) fn build<'a>(
     requires some { has_statement (forms_in index.now) ≡ true }
     requires faultless { entry_faults (forms_in index.now) [] index.now ≡ [] }
     requires given { IsGiven (forms_in index.now) (forms_in index.now) given.now.inits.items given.now.outs.items }
-    ensures { IfOk result (λ l. l ≡ loop_of (name.now, forms_in index.now)) }
+    ensures value { IfOk result (λ l. l ≡ loop_of (name.now, forms_in index.now)) }
+    ensures well_formed { IfOk result (λ l. IsLoop l) }
 {
     let mut parts = Parts {
         arrays: Vec::new(alloc),

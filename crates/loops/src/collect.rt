@@ -74,6 +74,7 @@ fn collect<'a>(
     ensures behind { IfOk result (λ r. IsBehind (number + length text.now) r.1) }
     ensures statement { IfOk result (λ r. r.0.statement ≡ has_statement (forms_in lines.new.items)) }
     ensures out { IfOk result (λ r. r.0.out ≡ has_out (forms_in lines.new.items)) }
+    ensures few { IfOk result (λ _. length lines.new.items ≤ length text.now) }
 {
     lines.clear();
     let mut seen = Seen::NOTHING;
@@ -111,6 +112,7 @@ fn collect_rest<'a>(
     requires out { seen.out ≡ has_out (forms_in lines.old.items) }
     ensures whole { OnOk result (forms_in lines.new.items ≡ whole (forms_in lines.old.items) (forms_of text.now)) }
     ensures more { OnOk result ((more : List Entry) × (lines.new.items ≡ lines.old.items ++ more)) }
+    ensures few { OnOk result (length lines.new.items ≤ length lines.old.items + length text.now) }
 {
     let mut rest = text;
     while !rest.is_empty() {
@@ -144,6 +146,7 @@ pub(crate) fn collect_block<'a>(
     ensures stops { IfOk result (λ r. StopsBlock number (forms_of text.now) lines.new.items r.0 r.1) }
     ensures sound { IfOk result (λ r. r.0 ≤ length lines.new.items) }
     ensures behind { IfOk result (λ r. IsBehind (number + length text.now) r.1) }
+    ensures few { IfOk result (λ _. length lines.new.items < 2 ^ 33) }
 {
     let (seen, stop) = collect(lines, text, number)?;
     let sound = lines.len();

@@ -25,7 +25,7 @@ impl Given {
 
     /// Nothing is given to any of these values.
     pub(crate) fn reset(&mut self, values: usize) -> Result<(), AllocError>
-        requires { values < 2 ^ 32 }
+        requires { values < 2 ^ 40 }
         ensures inits { OnOk result (self.new.inits.items ≡ replicate (16 * values) None) }
         ensures outs { OnOk result (self.new.outs.items ≡ replicate values false) }
     {

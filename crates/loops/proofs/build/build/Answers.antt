@@ -15,5 +15,8 @@ loop-line-preserved c = ?
 pub new-requires-6 : goal.new-requires-6
 new-requires-6 c = ?
 
-pub returns : goal.returns
-returns c = ?
+pub returns-clause-value : goal.returns-clause-value
+returns-clause-value c = ?
+
+pub returns-clause-well_formed : goal.returns-clause-well_formed
+returns-clause-well_formed c = ?

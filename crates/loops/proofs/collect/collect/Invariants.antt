@@ -9,6 +9,7 @@ invariant-loop-rest l = record {
   reads : Reads l.number (forms_of l.text) l.lines.items l.line (forms_of l.rest);
   statement : l.seen.statement ≡ has_statement (forms_in l.lines.items);
   out : l.seen.out ≡ has_out (forms_in l.lines.items);
+  few : length l.lines.items + length l.rest ≤ length l.text;
   within : l.line + length l.rest ≤ l.number + length l.text;
 }
 

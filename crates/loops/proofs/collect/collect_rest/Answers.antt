@@ -1,4 +1,4 @@
-use Rattle.std.proofs.Common.{◌∙◌, ap, sym, Some}
+use Rattle.std.proofs.Common.{◌∙◌, ap, sym, Some, arith}
 use Rattle.loops.specs.Meaning.{whole, forms_of}
 use Rattle.loops.specs.Parsed.{form_seen}
 use Rattle.loops.specs.Blocks.{forms_in}
@@ -15,6 +15,7 @@ loop-rest-preserved c =
       whole = v.whole ∙ ap (whole before) next ∙ whole-unfit before form (forms_of c.next_line.result.1.now) (other-than-end c.in-Some.form c.in_default.not-End)
           (sym (c.allows.ensures before (sym v.statement) (sym v.out)) ∙ c.if-allows.false);
       more = v.more;
+      few = omega (arith, v.few, c.next_line.ensures.shorter);
       statement = v.statement;
       out = v.out;
     }
