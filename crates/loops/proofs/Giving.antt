@@ -148,19 +148,19 @@ none-when : (b : Bool) (k : LoopFaultKind) (rest : Kinds) → when b k ++ rest �
 none-when true k rest h = cc
 none-when false k rest h = (refl, h)
 
-none-front : (xs ys : Kinds) → xs ++ ys ≡ [] → (xs ≡ []) × (ys ≡ [])
+pub none-front : (xs ys : Kinds) → xs ++ ys ≡ [] → (xs ≡ []) × (ys ≡ [])
 none-front [] ys h = (refl, h)
 none-front (x ∷ xs) ys h = cc
 
-when-false : (b : Bool) (k : LoopFaultKind) → when b k ≡ [] → b ≡ false
+pub when-false : (b : Bool) (k : LoopFaultKind) → when b k ≡ [] → b ≡ false
 when-false true k h = cc
 when-false false k h = refl
 
-or-false-left : (a b : Bool) → (a || b) ≡ false → a ≡ false
+pub or-false-left : (a b : Bool) → (a || b) ≡ false → a ≡ false
 or-false-left true b h = h
 or-false-left false b h = refl
 
-or-false-right : (a b : Bool) → (a || b) ≡ false → b ≡ false
+pub or-false-right : (a b : Bool) → (a || b) ≡ false → b ≡ false
 or-false-right true b h = cc
 or-false-right false b h = h
 

@@ -5,6 +5,7 @@ pub mod Declared
 pub mod Giving
 pub mod Memoryless
 pub mod Naming
+pub mod Opening
 pub mod Pieces
 pub mod Reading
 pub mod Rows

@@ -78,3 +78,9 @@ StopsBlock number lines entries sound (stops.Unfit line rest) =
     ≡ entry_faults (forms_in entries) [] (take sound entries) ++ record { line = line; kind = Syntax } ∷ others)
 StopsBlock number lines entries sound (stops.Open line) =
     (names : List (List ℕ)) → inside_faults number names [] lines ≡ entry_faults (forms_in entries) [] (take sound entries) ++ at_line line (NoEnd ∷ [])
+
+-- the line where they stop is none before this one
+abbrev pub IsPast : ℕ → Stop → Type 0
+IsPast number (stops.End line rest) = number ≤ line
+IsPast number (stops.Unfit line rest) = number ≤ line
+IsPast number (stops.Open line) = number ≤ line

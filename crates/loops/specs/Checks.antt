@@ -2,7 +2,7 @@
 -- the lines so far gave to the block's values.
 use Rattle.std.specs.Prelude.{◌≡◌, ℕ, zero, suc, ℤ, ◌+◌, ◌*◌, ◌<◌, ◌≤◌, ◌==◌, ◌||◌, ◌&&◌, nat_lt, nat_le, not, Bool, true, false, if◌then◌else◌, List, [], ◌∷◌, ◌++◌, length, map, Option, Some, None, is_some, is_none, option_to_list, slice_index_or, slice_set}
 use Rattle.std.specs.List.{list_any, AllByRecursion}
-use Rattle.loops.specs.Forms.{Form, LoopLine, ArrayLine, ParamLine, InitLine, StatementLine, OutLine, EndLine, Malformed, Use, Number, Plain, At}
+use Rattle.loops.specs.Forms.{Form, LoopLine, ArrayLine, ParamLine, InitLine, StatementLine, OutLine, EndLine, Malformed, Use, Number, Plain, At, is_name}
 use Rattle.loops.specs.Meaning.{Declared, AnArray, AParam, AValue, declared, is_value, is_array, is_param, is_statement, number_of, is_long, is_outside, is_wide, is_wide_place, is_unknown, is_unknown_place, is_early, any_name, is_init, init_value, is_out_of, when, whole, forms_of, Kinds}
 use Rattle.loops.specs.Parsed.{use_seen}
 use Rattle.loops.specs.declared.fault.LoopFaultKind.{LoopFaultKind}
@@ -116,7 +116,9 @@ abbrev pub IsNearUse : Use → Type 0
 IsNearUse (At name distance) = IsNear distance
 IsNearUse _ = Unit {0}
 
+-- numbers of a line that are near, and the name of a line that opens a block
 abbrev pub IsNearForm : Form → Type 0
+IsNearForm (LoopLine name) = is_name name ≡ true
 IsNearForm (InitLine name number value) = IsNear number
 IsNearForm (StatementLine source) = AllByRecursion IsNearUse source.uses
 IsNearForm _ = Unit {0}

@@ -32,9 +32,10 @@ UnlessMemoryKind kind P = P
 -- a block without a fault, its loop and what follows it
 pub record IsRead (name : List ℕ) (number : ℕ) (text : List ℕ) (block : Block) : Type 0 where
   pub faults : (names : List (List ℕ)) → inside_faults number names [] (forms_of text) ≡ outside_faults block.line names (forms_of block.rest.now)
-  pub blocks : blocks_from name [] (forms_of text) ≡ (name, whole [] (forms_of text)) ∷ blocks_of (forms_of block.rest.now)
+  pub following : blocks_from name [] (forms_of text) ≡ (name, whole [] (forms_of text)) ∷ blocks_of (forms_of block.rest.now)
   pub found : block.found ≡ loop_of (name, whole [] (forms_of text))
   pub well_formed : IsLoop block.found
+  pub past : number < block.line
   pub behind : block.line + length block.rest.now ≤ number + length text
 
 -- the answer for a block whose lines have numbers from this one on

@@ -127,19 +127,23 @@ pub fn read_loops(alloc: Global, text: &[u8]) -> Result<Vec<Loop>, LoopFault>
                 rest = after;
                 line += 1;
             }
-            Some(Form::Loop(name)) => {
-                if let Err(kind) = open(&mut names, loops.len(), name) {
-                    return Err(LoopFault::at(line, kind));
+            Some(form) => match form {
+                Form::Loop(name) => {
+                    if let Err(kind) = open(&mut names, loops.len(), name) {
+                        return Err(LoopFault::at(line, kind));
+                    }
+                    let block = read_block(alloc, &mut room, name, after, line + 1)?;
+                    loops.push(block.found)?;
+                    rest = block.rest;
+                    line = block.line;
                 }
-                let block = read_block(alloc, &mut room, name, after, line + 1)?;
-                loops.push(block.found)?;
-                rest = block.rest;
-                line = block.line;
-            }
-            Some(_) => return Err(LoopFault {
-                line,
-                kind: LoopFaultKind::Syntax,
-            }),
+                _ => {
+                    return Err(LoopFault {
+                        line,
+                        kind: LoopFaultKind::Syntax,
+                    });
+                }
+            },
         }
     }
     Ok(loops)

@@ -26,6 +26,7 @@ returns-then-not-allows c =
           (other-than-end c.in-Some.form c.in_default.not-End)
           (sym (c.allows.ensures (forms_in c.loop-rest.lines.items) (sym v.statement) (sym v.out)) ∙ c.if-not-allows.true);
       behind = omega arith;
+      past = v.past;
       few = omega (arith, v.few);
       statement = v.statement;
       out = v.out;
@@ -46,7 +47,8 @@ loop-rest-preserved c =
             reads = rw w.lines-is (reads-blank _ _ _ _ _ (reads-same _ _ _ _ _ _ next v.reads));
             statement = rw (w.seen-is, w.lines-is) v.statement;
             out = rw (w.seen-is, w.lines-is) v.out;
-          few = rw w.lines-is (omega (arith, v.few, c.next_line.ensures.shorter));
+            few = rw w.lines-is (omega (arith, v.few, c.next_line.ensures.shorter));
+            past = omega (arith, v.past);
             within = omega arith;
           }
       | in-Some+in_default+else-not-allows+in_ok-push-in_default w ↦
@@ -62,6 +64,7 @@ loop-rest-preserved c =
             statement = ap (λ s. s.statement) w.seen-is ∙ w.with-seen.ensures.statement ∙ ap (λ b. b || is_statement form) v.statement ∙ sym (ap (λ es. has_statement (forms_in es)) items ∙ any-push is_statement c.loop-rest.lines.items e);
             out = ap (λ s. s.out) w.seen-is ∙ w.with-seen.ensures.out ∙ ap (λ b. b || is_out form) v.out ∙ sym (ap (λ es. has_out (forms_in es)) items ∙ any-push is_out c.loop-rest.lines.items e);
             few = omega (arith, v.few, c.next_line.ensures.shorter, ap length items, length_push c.loop-rest.lines.items e);
-          within = omega arith;
+            past = omega (arith, v.past);
+            within = omega arith;
           }
     ]

@@ -10,6 +10,7 @@ invariant-loop-rest l = record {
   statement : l.seen.statement ≡ has_statement (forms_in l.lines.items);
   out : l.seen.out ≡ has_out (forms_in l.lines.items);
   few : length l.lines.items + length l.rest ≤ length l.text;
+  past : l.number ≤ l.line;
   within : l.line + length l.rest ≤ l.number + length l.text;
 }
 

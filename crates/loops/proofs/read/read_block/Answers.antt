@@ -6,7 +6,7 @@ use Rattle.loops.specs.declared.entry.Entry.{Entry}
 use Rattle.loops.specs.declared.fault.LoopFaultKind.TheVariants.{Syntax, NoEnd, Limit}
 use Rattle.loops.specs.Meaning.{forms_of, faults_of, at_line, is_statement, when, has_statement, whole, inside_faults, outside_faults, blocks_of, loop_of}
 use Rattle.loops.specs.Parsed.{form_seen}
-use Rattle.loops.specs.Blocks.{forms_in, entry_faults, StopsBlock, IsBehind}
+use Rattle.loops.specs.Blocks.{forms_in, entry_faults, StopsBlock, IsBehind, IsPast}
 use Rattle.loops.specs.declared.fault.LoopFault.{LoopFault}
 use Rattle.loops.specs.Checks.{first_in}
 use Rattle.loops.proofs.Blocking.{end-kinds, statement-there, stop-front, first-front, after-front, first-end, no-end-kinds}
@@ -26,10 +26,10 @@ returns-in-Some c =
     let first : Some c.in-Some.fault ≡ first_in (entry_faults (forms_in c.in_ok-index.index) [] (take c.in_ok-sound.sound c.in_ok-index.index)) = c.in-Some.ensures.value in
     let stops = subst (λ ls. StopsBlock c.args.number (forms_of c.args.text.now) ls c.in_ok-sound.sound c.in_ok-sound.stop) (sym same) c.in_ok-sound.ensures.stops in
     unless c.in-Some.fault.kind c.in-Some.fault _
-      (entry-kind (forms_in c.in_ok-index.index) [] (take c.in_ok-sound.sound c.in_ok-index.index) c.in-Some.fault first)
-      (λ names.
-        let front = stop-front c.args.number (forms_of c.args.text.now) c.in_ok-index.index c.in_ok-sound.sound c.in_ok-sound.stop stops names in
-        first-front _ _ front.0 c.in-Some.fault front.1 first)
+    (entry-kind (forms_in c.in_ok-index.index) [] (take c.in_ok-sound.sound c.in_ok-index.index) c.in-Some.fault first)
+    (λ names.
+    let front = stop-front c.args.number (forms_of c.args.text.now) c.in_ok-index.index c.in_ok-sound.sound c.in_ok-sound.stop stops names in
+    first-front _ _ front.0 c.in-Some.fault front.1 first)
 
 pub returns-in-Unfit : goal.returns-in-Unfit
 returns-in-Unfit c = λ names.
@@ -49,10 +49,10 @@ returns-in-Some-line_fault c =
     let at = subst (StopsBlock c.args.number (forms_of c.args.text.now) c.in_ok-index.index c.in_ok-sound.sound) c.in-End.is h in
     let first : Some c.in-Some-line_fault.kind ≡ first_in (faults_of block block EndLine) = c.in-Some-line_fault.ensures ∙ ap first_in (end-kinds block c.counts-counts.result.statements c.counts-counts.ensures.statements) in
     unless c.in-Some-line_fault.kind _ _ (end-kind block c.in-Some-line_fault.kind first)
-      (λ names.
-        let after = outside_faults (c.in-End.line + 1) names (forms_of c.in-End.rest.now) in
-        ap first_in (after-front _ _ (at_line c.in-End.line (faults_of block block EndLine) ++ after) (at.1 names) clean)
-        ∙ first-end c.in-End.line (faults_of block block EndLine) c.in-Some-line_fault.kind after first)
+    (λ names.
+    let after = outside_faults (c.in-End.line + 1) names (forms_of c.in-End.rest.now) in
+    ap first_in (after-front _ _ (at_line c.in-End.line (faults_of block block EndLine) ++ after) (at.1 names) clean)
+    ∙ first-end c.in-End.line (faults_of block block EndLine) c.in-Some-line_fault.kind after first)
 
 pub build-requires-clause-some : goal.build-requires-clause-some
 build-requires-clause-some c = statement-there (forms_in c.in_ok-index.index) c.counts-counts.result.statements c.counts-counts.ensures.statements c.in_default-line_fault.ensures
@@ -69,10 +69,11 @@ returns c =
     let all : block ≡ whole [] (forms_of c.args.text.now) = ap forms_in same ∙ c.in_ok-sound.ensures.whole in
     record {
       faults = λ names.
-        let after = outside_faults (c.in-End.line + 1) names (forms_of c.in-End.rest.now) in
-        after-front _ _ (at_line c.in-End.line (faults_of block block EndLine) ++ after) (at.1 names) clean ∙ ap (λ k. at_line c.in-End.line k ++ after) good;
-      blocks = at.2 c.args.name.now ∙ ap (λ b. (c.args.name.now, b) ∷ blocks_of (forms_of c.in-End.rest.now)) all;
+          let after = outside_faults (c.in-End.line + 1) names (forms_of c.in-End.rest.now) in
+          after-front _ _ (at_line c.in-End.line (faults_of block block EndLine) ++ after) (at.1 names) clean ∙ ap (λ k. at_line c.in-End.line k ++ after) good;
+      following = at.2 c.args.name.now ∙ ap (λ b. (c.args.name.now, b) ∷ blocks_of (forms_of c.in-End.rest.now)) all;
       found = c.in_ok-found.ensures.value ∙ ap (λ b. loop_of (c.args.name.now, b)) all;
       well_formed = c.in_ok-found.ensures.well_formed;
+      past = let past = subst (IsPast c.args.number) c.in-End.is c.in_ok-sound.ensures.past in omega arith;
       behind = behind;
     }
