@@ -1,5 +1,8 @@
 pub use Rattle.machine.specs.Opcodes
 pub mod Arithmetic
+pub mod Blocks
+pub mod Building
+pub mod Checks
 pub mod Forms
 pub mod Loops
 pub mod Meaning
@@ -7,4 +10,5 @@ pub mod Parsed
 pub mod Run
 pub mod Steps
 pub mod Text
+pub mod Texts
 pub mod Words

@@ -1,5 +1,10 @@
 //! Why a loop text is refused.
 
+ghost use Rattle.std.specs.Prelude.{◌≡◌, ℕ};
+ghost use Rattle.loops.specs.Checks.{line_at};
+ghost use Rattle.loops.specs.declared.fault.LoopFaultKind.TheVariants.{Memory};
+
+use std::alloc::{AllocError, AllocFailed};
 use std::fmt;
 use thiserror::Error;
 
@@ -40,6 +45,19 @@ pub struct LoopFault {
     pub kind: LoopFaultKind,
 }
 
+impl LoopFault {
+    /// A fault of this line, unless it is want of memory.
+    pub(crate) fn at(line: usize, kind: LoopFaultKind) -> LoopFault
+        ensures kind { result.kind ≡ kind }
+        ensures line { result.line ≡ line_at kind line }
+    {
+        match kind {
+            LoopFaultKind::Memory => LoopFault { line: 0, kind },
+            _ => LoopFault { line, kind },
+        }
+    }
+}
+
 impl fmt::Display for LoopFault {
     fn fmt<W: fmt::Write>(&self, f: &mut fmt::Formatter<W>) -> fmt::Result {
         let kind = self.kind;
@@ -54,3 +72,41 @@ impl fmt::Display for LoopFault {
 }
 
 impl std::error::Error for LoopFault {}
+
+impl From<AllocError> for LoopFaultKind {
+    ghost from_gives = { λ _ kind. kind ≡ Memory };
+
+    fn from(_error: AllocError) -> LoopFaultKind {
+        LoopFaultKind::Memory
+    }
+}
+
+impl<T: Drop> From<AllocFailed<T>> for LoopFaultKind {
+    ghost from_gives = { λ _ kind. kind ≡ Memory };
+
+    fn from(_error: AllocFailed<T>) -> LoopFaultKind {
+        LoopFaultKind::Memory
+    }
+}
+
+impl From<AllocError> for LoopFault {
+    ghost from_gives = { λ _ fault. fault ≡ record { line = 0; kind = Memory } };
+
+    fn from(_error: AllocError) -> LoopFault {
+        LoopFault {
+            line: 0,
+            kind: LoopFaultKind::Memory,
+        }
+    }
+}
+
+impl<T: Drop> From<AllocFailed<T>> for LoopFault {
+    ghost from_gives = { λ _ fault. fault ≡ record { line = 0; kind = Memory } };
+
+    fn from(_error: AllocFailed<T>) -> LoopFault {
+        LoopFault {
+            line: 0,
+            kind: LoopFaultKind::Memory,
+        }
+    }
+}

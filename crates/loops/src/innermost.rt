@@ -30,6 +30,28 @@ impl Model for Loop {
 }
 
 impl Loop {
+    /// The loop of these parts.
+    pub(crate) fn new(
+        name: Name,
+        arrays: Vec<Array>,
+        params: Vec<Param>,
+        statements: Vec<Statement>,
+        inits: Vec<Initial>,
+        outs: Vec<u8>,
+    ) -> Loop
+        requires { IsLoop (record { name = name; arrays = arrays.items; params = params.items; statements = statements.items; inits = inits.items; outs = outs.items }) }
+        ensures { result ≡ record { name = name; arrays = arrays.items; params = params.items; statements = statements.items; inits = inits.items; outs = outs.items } }
+    {
+        Loop {
+            name,
+            arrays,
+            params,
+            statements,
+            inits,
+            outs,
+        }
+    }
+
     /// The loop's name, of 1 to 16 bytes.
     pub fn name(&self) -> &Name
         ensures value { result.now ≡ self.now.name }

@@ -2,8 +2,15 @@
 #![tactic(auto)]
 
 mod arithmetic;
+mod build;
+mod cells;
+mod check;
+mod collect;
+mod entry;
 mod fault;
 mod form;
+mod given;
+mod index;
 mod innermost;
 mod iterate;
 mod lists;
@@ -11,10 +18,13 @@ mod memory;
 mod name;
 mod number;
 mod operand;
+mod read;
 mod resolve;
 mod run;
 mod statement;
 mod step;
+#[cfg(test)]
+mod tests;
 mod window;
 mod words;
 mod write;
@@ -24,6 +34,7 @@ pub use fault::{LoopFault, LoopFaultKind};
 pub use innermost::Loop;
 pub use lists::{Array, Cells, Initial, Operands, Param};
 pub use memory::Memory;
+pub use read::read_loops;
 pub use run::{RunFault, opening, run_from, run_plain};
 pub use statement::{Operand, Place, Statement};
 pub use write::write_loop;

@@ -1,0 +1,19 @@
+use Rattle.std.proofs.Common.{◌≡◌, map, take}
+use Rattle.std.specs.List.{filter_map}
+use Rattle.loops.specs.Meaning.{array_in, param_in, source_in, out_in, statement_of}
+use Rattle.loops.specs.Blocks.{forms_in}
+use Rattle.loops.specs.Building.{rows_of}
+use Rattle.loops.proofs.build.build.Given as goal
+
+abbrev pub invariant-loop-line : goal.invariant-loop-line
+invariant-loop-line l =
+    let block = forms_in l.index in
+    let done = forms_in (take l.line-index l.line-items) in
+    record {
+      items : l.line-items ≡ l.index;
+      arrays : l.parts.arrays.items ≡ filter_map array_in done;
+      params : l.parts.params.items ≡ filter_map param_in done;
+      statements : l.parts.statements.items ≡ map (statement_of block) (filter_map source_in done);
+      inits : l.parts.inits.items ≡ rows_of l.given.inits.items 0 (filter_map source_in done);
+      outs : l.parts.outs.items ≡ filter_map (out_in block) done;
+    }

@@ -1,0 +1,67 @@
+use Rattle.std.proofs.Common.{◌≡◌, ◌∙◌, ◌+◌, [], ℕ, List, Some, None, refl, sym, ap, arith, take, drop}
+use Rattle.loops.specs.declared.entry.Entry.{Entry}
+use Rattle.loops.specs.declared.form.Form.TheVariants as forms
+use Rattle.loops.specs.Meaning.{is_array, is_param, is_statement}
+use Rattle.loops.specs.Blocks.{forms_in, entry_faults}
+use Rattle.loops.specs.Checks.{first_in}
+use Rattle.loops.proofs.Declared.{number_of-more, one_if-le}
+use Rattle.loops.proofs.Giving.{given-none}
+use Rattle.loops.proofs.Turns.{line-fault, line-near, turn-faulty, turn-good, turn-given, same-given}
+use Rattle.loops.proofs.check.first_fault.Goals as goal
+
+-- what stands past the last line
+none : Entry
+none = record { line = 0; form = forms.Loop (record { ref_ptr = (0, 0); now = [] }) }
+
+pub loop-entry-init : goal.loop-entry-init
+loop-entry-init c = record {
+  items = ap (take c.args.sound) c.lines.ensures;
+  faults = refl;
+  given = given-none (forms_in c.args.index.now) c.args.given.now.inits.items c.args.given.now.outs.items c.requires.inits c.requires.outs;
+  arrays = refl;
+  params = refl;
+  statements = refl;
+  few_arrays = omega arith;
+  few_params = omega arith;
+  few_statements = omega arith;
+}
+
+pub line_fault-requires-clause-near : goal.line_fault-requires-clause-near
+unfolding none
+line_fault-requires-clause-near c =
+    line-near c.args.index.now (take c.args.sound c.lines.result.now) c.args.sound c.loop-entry.entry-index none c.loop-entry.invariant.items c.loop-entry-test.true c.requires.block
+
+pub returns-in-Some-clause-value : goal.returns-in-Some-clause-value
+unfolding none
+returns-in-Some-clause-value c =
+    let v = c.loop-entry.invariant in
+    let lines = take c.args.sound c.lines.result.now in
+    let same = line-fault c.args.index.now lines c.args.sound c.loop-entry.entry-index none c.loop-entry.counts c.loop-entry.given.inits.items c.loop-entry.given.outs.items
+    v.items c.loop-entry-test.true c.requires.block v.arrays v.params v.statements v.given in
+    sym (turn-faulty (forms_in c.args.index.now) (forms_in (take c.loop-entry.entry-index lines)) lines c.loop-entry.entry-index none _ c.in-Some.kind c.loop-entry-test.true same (sym c.in-Some.is ∙ c.line_fault.ensures))
+    ∙ sym (sym (ap (λ ls. first_in (entry_faults (forms_in c.args.index.now) [] ls)) v.items) ∙ v.faults)
+
+pub loop-entry-preserved : goal.loop-entry-preserved
+unfolding none
+loop-entry-preserved c =
+    let v = c.loop-entry.invariant in
+    let i = c.loop-entry.entry-index in
+    let lines = take c.args.sound c.lines.result.now in
+    let block = forms_in c.args.index.now in
+    let same = line-fault c.args.index.now lines c.args.sound i none c.loop-entry.counts c.loop-entry.given.inits.items c.loop-entry.given.outs.items
+    v.items c.loop-entry-test.true c.requires.block v.arrays v.params v.statements v.given in
+    let near = line-near c.args.index.now lines c.args.sound i none v.items c.loop-entry-test.true c.requires.block in
+    let clean = sym c.in_default.is ∙ c.line_fault.ensures in
+    let h = c.with-counts.ensures in
+    record {
+      items = v.items;
+      faults = v.faults ∙ turn-good block lines i none _ c.loop-entry-test.true same clean;
+      given = same-given block (forms_in (take (i + 1) lines)) _ _ _ _ c.give.ensures.inits c.give.ensures.outs
+          (turn-given block lines i none _ c.loop-entry.given.inits.items c.loop-entry.given.outs.items c.loop-entry-test.true same clean near v.given);
+      arrays = number_of-more is_array lines i none _ _ c.loop-entry-test.true v.arrays h.arrays;
+      params = number_of-more is_param lines i none _ _ c.loop-entry-test.true v.params h.params;
+      statements = number_of-more is_statement lines i none _ _ c.loop-entry-test.true v.statements h.statements;
+      few_arrays = omega (arith, h.arrays, v.few_arrays, one_if-le);
+      few_params = omega (arith, h.params, v.few_params, one_if-le);
+      few_statements = omega (arith, h.statements, v.few_statements, one_if-le);
+    }

@@ -1,0 +1,21 @@
+use Rattle.std.proofs.Common.{◌≡◌, ◌≤◌, ◌+◌, [], take, drop}
+use Rattle.loops.specs.Meaning.{number_of, is_array, is_param, is_statement}
+use Rattle.loops.specs.Blocks.{forms_in, entry_faults}
+use Rattle.loops.specs.Checks.{first_in, IsGiven}
+use Rattle.loops.proofs.check.first_fault.Given as goal
+
+abbrev pub invariant-loop-entry : goal.invariant-loop-entry
+invariant-loop-entry l =
+    let block = forms_in l.index in
+    let before = forms_in (take l.entry-index l.entry-items) in
+    record {
+      items : l.entry-items ≡ take l.sound l.index;
+      faults : first_in (entry_faults block [] l.entry-items) ≡ first_in (entry_faults block before (drop l.entry-index l.entry-items));
+      given : IsGiven block before l.given.inits.items l.given.outs.items;
+      arrays : l.counts.arrays ≡ number_of is_array before;
+      params : l.counts.params ≡ number_of is_param before;
+      statements : l.counts.statements ≡ number_of is_statement before;
+      few_arrays : l.counts.arrays ≤ l.entry-index;
+      few_params : l.counts.params ≤ l.entry-index;
+      few_statements : l.counts.statements ≤ l.entry-index;
+    }

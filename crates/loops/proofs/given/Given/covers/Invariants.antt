@@ -1,0 +1,6 @@
+use Rattle.std.proofs.Common.{◌≡◌, true}
+use Rattle.loops.specs.Checks.{covers}
+use Rattle.loops.proofs.given.Given.covers.Given as goal
+
+abbrev pub invariant-loop-m : goal.invariant-loop-m
+invariant-loop-m l = covers l.self.inits.items l.value l.m ≡ true

@@ -1,0 +1,10 @@
+use Rattle.std.proofs.Common.{◌≡◌, option_map, rules}
+use Rattle.loops.specs.Meaning.{declared}
+use Rattle.loops.specs.Blocks.{forms_in, declared_seen}
+use Rattle.loops.proofs.Checking.{counted-as}
+use Rattle.loops.proofs.index.Index.declared.Goals as goal
+
+pub returns-clause-counted : goal.returns-clause-counted
+returns-clause-counted c =
+    let e : option_map declared_seen c.copied.result ≡ declared (forms_in c.args.self.now) c.args.name.now = search rules in
+    counted-as (forms_in c.args.self.now) c.args.name.now (option_map declared_seen c.copied.result) e

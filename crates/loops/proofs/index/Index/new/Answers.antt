@@ -1,0 +1,57 @@
+use Rattle.std.proofs.Common.{◌≡◌, ◌+◌, ◌++◌, ◌∷◌, [], ℕ, List, Option, Some, None, refl, ap, sym, ◌∙◌, arith, take, get_or, length, option_map}
+use Rattle.std.specs.BTreeMap.{BTreeMap, get_by, is_at}
+use Rattle.std.specs.Map.{lookup}
+use Rattle.std.specs.Borrow.{Bor}
+use Rattle.std.specs.Cmp.Lexicographic.{slice_cmp}
+use Rattle.std.specs.Ordering.{nat_cmp}
+use Rattle.std.specs.Option.{option_or}
+use Rattle.machine.specs.Opcodes.{same_word}
+use Rattle.loops.specs.Meaning.{declared, is_array, is_param, is_statement}
+use Rattle.loops.specs.Parsed.{form_seen}
+use Rattle.loops.specs.Blocks.{forms_in, declared_seen, declared_if, one_if}
+use Rattle.loops.specs.declared.index.Declared.{Declared}
+use Rattle.loops.proofs.Declared.{declared-more, number_of-more, one_if-le, seen_or, option_or-none}
+use Rattle.loops.proofs.index.Index.new.Goals as goal
+use Rattle.loops.proofs.index.Index.new.Goals.{in-Some+in_ok-add, in_default}
+
+-- what a map has at a name
+abbrev at : BTreeMap (Bor (List ℕ)) Declared → List ℕ → Option Declared
+at m q = get_by (λ k. slice_cmp nat_cmp q k.now) m
+
+pub loop-entry-init : goal.loop-entry-init
+unfolding declared
+loop-entry-init c = record {
+  names = λ q. ap (λ (es : List (Bor (List ℕ) × Declared)). option_map declared_seen (lookup (is_at (λ k. slice_cmp nat_cmp q k.now)) es)) c.new-names.ensures.empty;
+  arrays = refl;
+  params = refl;
+  statements = refl;
+  few_arrays = omega arith;
+  few_params = omega arith;
+  few_statements = omega arith;
+}
+
+pub loop-entry-preserved : goal.loop-entry-preserved
+loop-entry-preserved c =
+    let lines = c.args.lines.now in
+    let i = c.loop-entry.entry-index in
+    let h = c.with-counts.ensures in
+    let v = c.loop-entry.invariant in
+    record {
+      names = declared-more lines i _ (λ q. option_map declared_seen (at c.loop-entry.names q)) (λ q. option_map declared_seen (at c.match-declaration.names q)) _ _ _ c.loop-entry-test.true v.names v.arrays v.params v.statements
+          (λ q. elim c.match-declaration.branch [
+            | in-Some+in_ok-add w ↦
+                ap (λ m. option_map declared_seen (at m q)) w.names-is
+                ∙ ap (option_map declared_seen) (w.in_ok-add.ensures q)
+                ∙ seen_or (at c.loop-entry.names q) (same_word q w.in-Some.name.now) w.in-Some.what
+                ∙ ap (option_or (option_map declared_seen (at c.loop-entry.names q))) (sym (c.declaration.ensures q ∙ ap (declared_if q) w.in-Some.is))
+            | in_default w ↦
+                ap (λ m. option_map declared_seen (at m q)) w.names-is
+                ∙ sym (ap (option_or (option_map declared_seen (at c.loop-entry.names q))) (c.declaration.ensures q ∙ ap (declared_if q) w.in_default.is) ∙ option_or-none (option_map declared_seen (at c.loop-entry.names q)))
+          ]);
+      arrays = number_of-more is_array lines i _ _ _ c.loop-entry-test.true v.arrays h.arrays;
+      params = number_of-more is_param lines i _ _ _ c.loop-entry-test.true v.params h.params;
+      statements = number_of-more is_statement lines i _ _ _ c.loop-entry-test.true v.statements h.statements;
+      few_arrays = omega (arith, h.arrays, v.few_arrays, one_if-le);
+      few_params = omega (arith, h.params, v.few_params, one_if-le);
+      few_statements = omega (arith, h.statements, v.few_statements, one_if-le);
+    }

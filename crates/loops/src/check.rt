@@ -1,0 +1,372 @@
+//! The faults of a block's lines.
+
+ghost use Rattle.std.specs.Prelude.{◌≡◌, ◌*◌, ◌≤◌, ℕ, ℤ, Bool, false, Option, None, Some, List, [], not, option_map, length, replicate, take};
+ghost use Rattle.std.specs.Borrow.{Bor};
+ghost use Rattle.std.specs.List.{AllByRecursion};
+ghost use Rattle.loops.specs.declared.index.Counts.{Counts};
+ghost use Rattle.loops.specs.Forms.{ArrayLine, ParamLine, InitLine, StatementLine, OutLine};
+ghost use Rattle.loops.specs.Meaning as meaning;
+ghost use Rattle.loops.specs.Meaning.{any_name, declared, number_of, is_statement, AValue};
+ghost use Rattle.loops.specs.Parsed.{cells_seen, form_seen, source_seen, subscript_seen, uses_seen};
+ghost use Rattle.loops.specs.Blocks.{declared_seen, entry_faults, forms_in};
+ghost use Rattle.loops.specs.Checks.{any_use, covers_name, first_in, inits_with, is_that, kinds_at, lacks_init, outs_with, with_init, IsBlock, IsGiven, IsNear, IsNearForm, IsNearRead, IsNearUse, IsRoomFor};
+
+use crate::cells::are_wide;
+use crate::fault::{LoopFault, LoopFaultKind};
+use crate::form::{Form, Source, Subscript, Use, Uses};
+use crate::given::{Given, MOST};
+use crate::index::{Counts, Declared, Index};
+
+const MOST_BYTES: usize = 16;
+
+const MOST_ARRAYS: usize = 32;
+
+const MOST_PARAMS: usize = 64;
+
+const MOST_STATEMENTS: usize = 128;
+
+pub(crate) fn is_long(name: &[u8]) -> bool
+    ensures { result ≡ meaning.is_long name.now }
+{
+    name.len() > MOST_BYTES
+}
+
+fn is_that(what: Declared, found: Option<Declared>) -> bool
+    ensures { result ≡ is_that (declared_seen what) (option_map declared_seen found) }
+{
+    match (what, found) {
+        (Declared::Array(m), Some(Declared::Array(n))) => m == n,
+        (Declared::Param(m), Some(Declared::Param(n))) => m == n,
+        (Declared::Value(m), Some(Declared::Value(n))) => m == n,
+        _ => false,
+    }
+}
+
+fn is_value(found: Option<Declared>) -> bool
+    ensures { result ≡ meaning.is_value (option_map declared_seen found) }
+{
+    matches!(found, Some(Declared::Value(_)))
+}
+
+fn is_readable(found: Option<Declared>) -> bool
+    ensures { result ≡ meaning.is_readable (option_map declared_seen found) }
+{
+    matches!(found, Some(Declared::Value(_) | Declared::Param(_)))
+}
+
+/// The value of a statement from this one on.
+fn is_value_from(statement: usize, found: Option<Declared>) -> bool
+    ensures { result ≡ meaning.is_value_from statement (option_map declared_seen found) }
+{
+    match found {
+        Some(Declared::Value(number)) => statement <= number,
+        _ => false,
+    }
+}
+
+fn is_wide(read: Option<Use<'_>>) -> bool
+    ensures { result ≡ any_use meaning.is_wide read.entry }
+{
+    match read {
+        None => false,
+        Some(Use::Number(value)) => value.is_none(),
+        Some(Use::Plain(name)) => is_long(name),
+        Some(Use::At(name, distance)) => is_long(name) || distance.is_none(),
+    }
+}
+
+fn is_unknown<'a>(index: &Index<'a>, read: Option<Use<'a>>) -> bool
+    ensures { result ≡ any_use (meaning.is_unknown (forms_in index.now)) read.entry }
+{
+    match read {
+        None | Some(Use::Number(_)) => false,
+        Some(Use::Plain(name)) => !is_readable(index.declared(name)),
+        Some(Use::At(name, _)) => !is_value(index.declared(name)),
+    }
+}
+
+fn is_early<'a>(index: &Index<'a>, statement: usize, read: Option<Use<'a>>) -> bool
+    ensures { result ≡ any_use (meaning.is_early (forms_in index.now) statement) read.entry }
+{
+    match read {
+        Some(Use::Plain(name)) => is_value_from(statement, index.declared(name)),
+        Some(Use::At(name, Some(0))) => is_value_from(statement, index.declared(name)),
+        _ => false,
+    }
+}
+
+/// All initial values of a name from 1 to a distance were given.
+fn covers_name(given: &Given, found: Option<Declared>, distance: u8) -> bool
+    requires below { IsRoomFor (length given.now.inits.items) (option_map declared_seen found) }
+    requires near { distance ≤ 16 }
+    ensures { result ≡ covers_name given.now.inits.items (option_map declared_seen found) distance }
+{
+    match found {
+        _ if distance == 0 => true,
+        Some(Declared::Value(value)) => given.covers(value, distance),
+        _ => false,
+    }
+}
+
+fn lacks_init<'a>(index: &Index<'a>, given: &Given, read: Option<Use<'a>>) -> bool
+    requires room { length given.now.inits.items ≡ 16 * number_of is_statement (forms_in index.now) }
+    requires near { IsNearRead read }
+    ensures { result ≡ any_use (lacks_init (forms_in index.now) given.now.inits.items) read.entry }
+{
+    match read {
+        Some(Use::At(name, Some(distance))) => !covers_name(given, index.declared(name), distance),
+        _ => false,
+    }
+}
+
+fn is_long_name(name: Option<&[u8]>) -> bool
+    ensures { result ≡ any_name meaning.is_long (option_map (λ (n : Bor (List ℕ)). n.now) name.entry) }
+{
+    match name {
+        None => false,
+        Some(name) => is_long(name),
+    }
+}
+
+/// The name stands for another thing than the value of this statement.
+fn is_repeated_value<'a>(index: &Index<'a>, statement: usize, name: Option<&'a [u8]>) -> bool
+    ensures { result ≡ any_name (λ name. not (is_that (AValue statement) (declared (forms_in index.now) name))) (option_map (λ (n : Bor (List ℕ)). n.now) name.entry) }
+{
+    match name {
+        None => false,
+        Some(name) => !is_that(Declared::Value(statement), index.declared(name)),
+    }
+}
+
+fn is_unknown_place<'a>(index: &Index<'a>, place: Option<Subscript<'a>>) -> bool
+    ensures { result ≡ meaning.is_unknown_place (forms_in index.now) (option_map subscript_seen place.entry) }
+{
+    match place {
+        None => false,
+        Some(place) => !matches!(index.declared(place.array), Some(Declared::Array(_))),
+    }
+}
+
+fn is_wide_place(place: Option<Subscript<'_>>) -> bool
+    ensures { result ≡ meaning.is_wide_place (option_map subscript_seen place.entry) }
+{
+    match place {
+        None => false,
+        Some(place) => is_long(place.array) || place.offset.is_none(),
+    }
+}
+
+/// The first fault of an array behind so many lines.
+fn array_fault<'a>(
+    index: &Index<'a>,
+    counts: Counts,
+    name: &'a [u8],
+    cells: &[u8],
+) -> Option<LoopFaultKind>
+    ensures { (inits : List (Option ℤ)) (outs : List Bool) → result
+        ≡ first_in (kinds_at (forms_in index.now) counts inits outs (ArrayLine name.now (cells_seen cells.now))) }
+{
+    if is_long(name) || are_wide(cells) || counts.arrays >= MOST_ARRAYS {
+        return Some(LoopFaultKind::Limit);
+    }
+    if !is_that(Declared::Array(counts.arrays), index.declared(name)) {
+        return Some(LoopFaultKind::RepeatedName);
+    }
+    None
+}
+
+fn param_fault<'a>(
+    index: &Index<'a>,
+    counts: Counts,
+    name: &'a [u8],
+    value: Option<i64>,
+) -> Option<LoopFaultKind>
+    ensures { (inits : List (Option ℤ)) (outs : List Bool) → result
+        ≡ first_in (kinds_at (forms_in index.now) counts inits outs (ParamLine name.now value)) }
+{
+    if is_long(name) || value.is_none() || counts.params >= MOST_PARAMS {
+        return Some(LoopFaultKind::Limit);
+    }
+    if !is_that(Declared::Param(counts.params), index.declared(name)) {
+        return Some(LoopFaultKind::RepeatedName);
+    }
+    None
+}
+
+fn init_fault<'a>(
+    index: &Index<'a>,
+    given: &Given,
+    name: &'a [u8],
+    number: Option<u8>,
+    value: Option<i64>,
+) -> Option<LoopFaultKind>
+    requires room { length given.now.inits.items ≡ 16 * number_of is_statement (forms_in index.now) }
+    requires near { IsNear number }
+    ensures { (counts : Counts) (outs : List Bool) → result
+        ≡ first_in (kinds_at (forms_in index.now) counts given.now.inits.items outs (InitLine name.now number value)) }
+{
+    let number = match number {
+        Some(number) if number > 0 && value.is_some() && !is_long(name) => number as usize,
+        _ => return Some(LoopFaultKind::Limit),
+    };
+    match index.declared(name) {
+        Some(Declared::Value(of)) if given.inits[MOST * of + number - 1].is_some() => {
+            Some(LoopFaultKind::RepeatedName)
+        }
+        Some(Declared::Value(_)) => None,
+        _ => Some(LoopFaultKind::UnknownName),
+    }
+}
+
+fn statement_fault<'a>(
+    index: &Index<'a>,
+    counts: Counts,
+    given: &Given,
+    source: Source<'a>,
+) -> Option<LoopFaultKind>
+    requires room { length given.now.inits.items ≡ 16 * number_of is_statement (forms_in index.now) }
+    requires near { AllByRecursion IsNearUse (uses_seen source.uses) }
+    ensures { (outs : List Bool) → result
+        ≡ first_in (kinds_at (forms_in index.now) counts given.now.inits.items outs (StatementLine (source_seen source.entry))) }
+{
+    let Uses {
+        first,
+        second,
+        third,
+    } = source.uses;
+    let number = counts.statements;
+    if is_long_name(source.name)
+        || is_wide_place(source.place)
+        || is_wide(first)
+        || is_wide(second)
+        || is_wide(third)
+        || number >= MOST_STATEMENTS
+    {
+        return Some(LoopFaultKind::Limit);
+    }
+    if is_repeated_value(index, number, source.name) {
+        return Some(LoopFaultKind::RepeatedName);
+    }
+    if is_unknown_place(index, source.place)
+        || is_unknown(index, first)
+        || is_unknown(index, second)
+        || is_unknown(index, third)
+    {
+        return Some(LoopFaultKind::UnknownName);
+    }
+    if is_early(index, number, first)
+        || is_early(index, number, second)
+        || is_early(index, number, third)
+    {
+        return Some(LoopFaultKind::UseBeforeDefinition);
+    }
+    if lacks_init(index, given, first)
+        || lacks_init(index, given, second)
+        || lacks_init(index, given, third)
+    {
+        return Some(LoopFaultKind::MissingInit);
+    }
+    None
+}
+
+fn out_fault<'a>(index: &Index<'a>, given: &Given, name: &'a [u8]) -> Option<LoopFaultKind>
+    requires room { length given.now.inits.items ≡ 16 * number_of is_statement (forms_in index.now) }
+    requires flags { length given.now.outs.items ≡ number_of is_statement (forms_in index.now) }
+    ensures { (counts : Counts) → result
+        ≡ first_in (kinds_at (forms_in index.now) counts given.now.inits.items given.now.outs.items (OutLine name.now)) }
+{
+    if is_long(name) {
+        return Some(LoopFaultKind::Limit);
+    }
+    match index.declared(name) {
+        Some(Declared::Value(value)) if given.outs[value] => Some(LoopFaultKind::RepeatedName),
+        Some(Declared::Value(value)) if given.covers(value, 1) => None,
+        Some(Declared::Value(_)) => Some(LoopFaultKind::MissingInit),
+        _ => Some(LoopFaultKind::UnknownName),
+    }
+}
+
+/// The first fault of a line behind so many others, which gave this to the block's values.
+pub(crate) fn line_fault<'a>(
+    index: &Index<'a>,
+    counts: Counts,
+    given: &Given,
+    form: Form<'a>,
+) -> Option<LoopFaultKind>
+    requires room { length given.now.inits.items ≡ 16 * number_of is_statement (forms_in index.now) }
+    requires flags { length given.now.outs.items ≡ number_of is_statement (forms_in index.now) }
+    requires near { IsNearForm (form_seen form) }
+    ensures { result ≡ first_in (kinds_at (forms_in index.now) counts given.now.inits.items given.now.outs.items (form_seen form.entry)) }
+{
+    match form {
+        Form::Loop(_) | Form::Malformed => None,
+        Form::Array(name, cells) => array_fault(index, counts, name, cells),
+        Form::Param(name, value) => param_fault(index, counts, name, value),
+        Form::Init(name, number, value) => init_fault(index, given, name, number, value),
+        Form::Statement(source) => statement_fault(index, counts, given, source),
+        Form::Out(name) => out_fault(index, given, name),
+        Form::End if counts.statements == 0 => Some(LoopFaultKind::Limit),
+        Form::End => None,
+    }
+}
+
+/// Takes down what one more line gives to the block's values.
+fn give<'a>(given: &mut Given, index: &Index<'a>, form: Form<'a>)
+    requires room { length given.old.inits.items ≡ 16 * number_of is_statement (forms_in index.now) }
+    requires flags { length given.old.outs.items ≡ number_of is_statement (forms_in index.now) }
+    ensures inits { given.new.inits.items ≡ inits_with (forms_in index.now) given.old.inits.items (form_seen form.entry) }
+    ensures outs { given.new.outs.items ≡ outs_with (forms_in index.now) given.old.outs.items (form_seen form.entry) }
+{
+    match form {
+        Form::Init(name, Some(number), Some(value)) => {
+            give_init(given, index.declared(name), number, value);
+        }
+        Form::Out(name) => {
+            if let Some(Declared::Value(value)) = index.declared(name) {
+                given.outs[value] = true;
+            }
+        }
+        _ => {}
+    }
+}
+
+fn give_init(given: &mut Given, found: Option<Declared>, number: u8, value: i64)
+    requires room { IsRoomFor (length given.old.inits.items) (option_map declared_seen found) }
+    ensures inits { given.new.inits.items ≡ with_init given.old.inits.items (option_map declared_seen found) (Some number) (Some value) }
+    ensures outs { given.new.outs.items ≡ given.old.outs.items }
+{
+    if let Some(Declared::Value(of)) = found
+        && number > 0
+        && number as usize <= MOST
+    {
+        given.inits[MOST * of + number as usize - 1] = Some(value);
+    }
+}
+
+/// The first fault of the first so many lines of a block. Where they have none, `given` is left with
+/// what they give to the block's values.
+pub(crate) fn first_fault<'a>(
+    index: &Index<'a>,
+    sound: usize,
+    given: &mut Given,
+) -> Option<LoopFault>
+    requires sound { sound ≤ length index.now }
+    requires inits { given.old.inits.items ≡ replicate (16 * number_of is_statement (forms_in index.now)) None }
+    requires outs { given.old.outs.items ≡ replicate (number_of is_statement (forms_in index.now)) false }
+    requires block { IsBlock (forms_in index.now) }
+    ensures value { result ≡ first_in (entry_faults (forms_in index.now) [] (take sound index.now)) }
+    ensures given { result ≡ None → IsGiven (forms_in index.now) (forms_in (take sound index.now)) given.new.inits.items given.new.outs.items }
+{
+    let mut counts = Counts::NONE;
+    for entry in &index.lines()[..sound] {
+        if let Some(kind) = line_fault(index, counts, given, entry.form) {
+            return Some(LoopFault {
+                line: entry.line,
+                kind,
+            });
+        }
+        give(given, index, entry.form);
+        counts = counts.with(entry.form);
+    }
+    None
+}

@@ -1,0 +1,169 @@
+//! What the names of a block stand for.
+
+ghost use Rattle.std.specs.Prelude.{◌≡◌, ◌+◌, ◌^◌, ◌<◌, ℕ, List, OnOk, None, Some, if◌then◌else◌};
+ghost use Rattle.std.specs.BTreeMap.{get_by};
+ghost use Rattle.std.specs.Cmp.Lexicographic.{slice_cmp};
+ghost use Rattle.std.specs.Option.{option_or};
+ghost use Rattle.std.specs.Ordering.{nat_cmp};
+ghost use Rattle.machine.specs.Opcodes.{same_word};
+ghost use Rattle.loops.specs.Meaning.{declared_by, is_array, is_param, is_statement};
+ghost use Rattle.loops.specs.Parsed.{form_seen};
+ghost use Rattle.loops.specs.Blocks.{declared_seen, declared_if, one_if};
+
+use crate::entry::Entry;
+use crate::form::Form;
+use std::alloc::{AllocError, Global};
+use std::collections::BTreeMap;
+use std::marker::Model;
+
+/// What a name stands for: an array, a parameter or the value of a statement, by its number from 0.
+#[derive(Clone, Copy, Drop)]
+pub(crate) enum Declared {
+    Array(usize),
+    Param(usize),
+    Value(usize),
+}
+
+/// How many lines of each form stand in a part of a block.
+#[derive(Clone, Copy)]
+pub(crate) struct Counts {
+    pub(crate) arrays: usize,
+    pub(crate) params: usize,
+    pub(crate) statements: usize,
+}
+
+impl Counts {
+    pub(crate) const NONE: Counts = Counts {
+        arrays: 0,
+        params: 0,
+        statements: 0,
+    };
+
+    /// The counts with one more line.
+    pub(crate) fn with(self, form: Form<'_>) -> Counts
+        requires arrays { self.arrays + 1 < 2 ^ 64 }
+        requires params { self.params + 1 < 2 ^ 64 }
+        requires statements { self.statements + 1 < 2 ^ 64 }
+        ensures arrays { result.arrays ≡ self.arrays + one_if (is_array (form_seen form.entry)) }
+        ensures params { result.params ≡ self.params + one_if (is_param (form_seen form.entry)) }
+        ensures statements { result.statements ≡ self.statements + one_if (is_statement (form_seen form.entry)) }
+    {
+        let Counts {
+            mut arrays,
+            mut params,
+            mut statements,
+        } = self;
+        match form {
+            Form::Array(_, _) => arrays += 1,
+            Form::Param(_, _) => params += 1,
+            Form::Statement(_) => statements += 1,
+            _ => {}
+        }
+        Counts {
+            arrays,
+            params,
+            statements,
+        }
+    }
+}
+
+/// The name that a line declares behind so many others, and what it stands for.
+fn declaration<'a>(form: Form<'a>, before: Counts) -> Option<(&'a [u8], Declared)>
+    ensures { (q : List ℕ) → declared_by q before.arrays before.params before.statements (form_seen form.entry)
+        ≡ declared_if q result }
+{
+    match form {
+        Form::Array(name, _) => Some((name, Declared::Array(before.arrays))),
+        Form::Param(name, _) => Some((name, Declared::Param(before.params))),
+        Form::Statement(source) => Some((source.name?, Declared::Value(before.statements))),
+        _ => None,
+    }
+}
+
+/// Adds a name, unless it is there already.
+fn add<'a>(
+    names: &mut BTreeMap<&'a [u8], Declared>,
+    name: &'a [u8],
+    what: Declared,
+) -> Result<(), AllocError>
+    ensures { OnOk result ((q : List ℕ) → get_by (λ k. slice_cmp nat_cmp q k.now) names.new
+        ≡ option_or (get_by (λ k. slice_cmp nat_cmp q k.now) names.old) (if same_word q name.now then Some what else None)) }
+{
+    if let Some(first) = names.insert(name, what)? {
+        names.insert(name, first)?;
+    }
+    Ok(())
+}
+
+/// The lines of a block with an index of their names. Contracts see the lines.
+#[derive(Drop)]
+pub(crate) struct Index<'a> {
+    lines: &'a [Entry<'a>],
+    names: BTreeMap<&'a [u8], Declared>,
+    counts: Counts,
+}
+
+impl<'a> Model for Index<'a> {
+    ghost use Rattle.std.specs.Prelude.{◌≡◌, ℕ, List, option_map};
+    ghost use Rattle.std.specs.Ordering.{nat_cmp};
+    ghost use Rattle.std.specs.Cmp.Lexicographic.{slice_cmp};
+    ghost use Rattle.std.specs.BTreeMap.{get_by};
+    ghost use Rattle.loops.specs.declared.entry.Entry.{Entry};
+    ghost use Rattle.loops.specs.Meaning.{declared};
+    ghost use Rattle.loops.specs.Blocks.{forms_in, declared_seen, IsCounts};
+
+    ghost Value = { List Entry };
+
+    ghost view = { λ a. a.lines.now };
+
+    ghost invariant = { λ a. ((q : List ℕ) → option_map declared_seen (get_by (λ k. slice_cmp nat_cmp q k.now) a.names) ≡ declared (forms_in a.lines.now) q)
+        × IsCounts (forms_in a.lines.now) a.counts };
+}
+
+impl<'a> Index<'a> {
+    ghost use Rattle.std.specs.Prelude.{◌≡◌, IfOk, option_map};
+    ghost use Rattle.loops.specs.Meaning.{declared};
+    ghost use Rattle.loops.specs.Blocks.{forms_in, declared_seen, IsCounts};
+    ghost use Rattle.loops.specs.Checks.{IsCounted};
+
+    /// An index of these lines.
+    pub(crate) fn new(alloc: Global, lines: &'a [Entry<'a>]) -> Result<Index<'a>, AllocError>
+        ensures { IfOk result (λ index. index ≡ lines.now) }
+    {
+        let mut names = BTreeMap::new(alloc);
+        let mut counts = Counts::NONE;
+        for entry in lines {
+            if let Some((name, what)) = declaration(entry.form, counts) {
+                add(&mut names, name, what)?;
+            }
+            counts = counts.with(entry.form);
+        }
+        Ok(Index {
+            lines,
+            names,
+            counts,
+        })
+    }
+
+    /// The lines.
+    pub(crate) fn lines(&self) -> &'a [Entry<'a>]
+        ensures { result.now ≡ self.now }
+    {
+        self.lines
+    }
+
+    /// How many lines of each form there are.
+    pub(crate) fn counts(&self) -> Counts
+        ensures { IsCounts (forms_in self.now) result }
+    {
+        self.counts
+    }
+
+    /// The first declaration of a name.
+    pub(crate) fn declared(&self, name: &'a [u8]) -> Option<Declared>
+        ensures value { option_map declared_seen result ≡ declared (forms_in self.now) name.now }
+        ensures counted { IsCounted (forms_in self.now) (option_map declared_seen result) }
+    {
+        self.names.get(&name).copied()
+    }
+}
