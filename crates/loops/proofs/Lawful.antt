@@ -36,7 +36,7 @@ spelled-at : (front : List Form) (form : Form) (after : List Form) → AllByRecu
 spelled-at [] form after h = h.0
 spelled-at (f ∷ front) form after h = spelled-at front form after h.1
 
-clean-from : (block : List Form) → IsBlock block → IsFaultlessFrom block [] block → IsClean block
+pub clean-from : (block : List Form) → IsBlock block → IsFaultlessFrom block [] block → IsClean block
 clean-from block is faultless =
     record {
       spelled = λ front form after e. spelled-at front form after (subst (AllByRecursion IsSpelled) e (block-spelled block is));

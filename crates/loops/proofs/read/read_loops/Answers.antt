@@ -11,7 +11,7 @@ use Rattle.loops.specs.Meaning.{forms_of, whole, loops_in, loop_of, opening_faul
 use Rattle.loops.specs.Parsed.{form_seen}
 use Rattle.loops.specs.Texts.{HasNames}
 use Rattle.loops.proofs.Reading.{forms-next, forms-none}
-use Rattle.loops.proofs.Opening.{Reads, reads-start, reads-as, reads-blank, reads-block, reads-all, reads-other, reads-opening, reads-inside, too-long, answer, answer-opening, short-name, named, names-with, name-of-loop, few-loops, handed-on}
+use Rattle.loops.proofs.OpeningLines.{Reads, reads-start, reads-as, reads-blank, reads-block, reads-all, reads-other, reads-opening, reads-inside, too-long, answer, answer-opening, short-name, named, names-with, name-of-loop, few-loops, handed-on}
 use Rattle.loops.proofs.BlockStanding.{near-words}
 use Rattle.loops.proofs.read.read_loops.Goals as goal
 

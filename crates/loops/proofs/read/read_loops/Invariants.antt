@@ -3,7 +3,7 @@ use Rattle.std.specs.List.{All}
 use Rattle.loops.specs.Loops.{LoopData, IsLoop}
 use Rattle.loops.specs.Meaning.{forms_of}
 use Rattle.loops.specs.Texts.{HasNames}
-use Rattle.loops.proofs.Opening.{Reads}
+use Rattle.loops.proofs.OpeningLines.{Reads}
 use Rattle.loops.proofs.read.read_loops.Given as goal
 
 abbrev pub invariant-loop-rest : goal.invariant-loop-rest
