@@ -1,2 +1,5 @@
-pub mod TextLemmas
+pub mod Ending
 pub mod LineLemmas
+pub mod LinesOfLoops
+pub mod Refusing
+pub mod TextLemmas

@@ -1,3 +1,6 @@
+pub mod Bounds
 pub mod Devices
-pub mod Statuses
+pub mod Engine
 pub mod Lines
+pub mod Refusals
+pub mod Statuses

@@ -1,9 +1,11 @@
 //! The program: its command line, and the work of its subcommands over inputs and an output.
 #![tactic(auto)]
 
+mod bounds;
 mod device;
 mod line;
 mod status;
+mod subcommand;
 mod text;
 
 pub use device::{
@@ -11,4 +13,5 @@ pub use device::{
 };
 pub use line::{Command, Usage, parse_line};
 pub use status::{Line, Status};
+pub use subcommand::engine;
 pub use text::{ReadTextError, TEXT_LIMIT, read_text, write_text};

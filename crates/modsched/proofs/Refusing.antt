@@ -1,0 +1,67 @@
+-- Refusals of `bounds`.
+use Rattle.std.proofs.Common.{◌≡◌, ℕ, List, ◌++◌, Option, Some, None, refl, sym, ap, ◌∙◌}
+use Rattle.std.specs.Prelude.{Result, Ok, Err}
+use Rattle.machine.specs.Answers.{Answers}
+use Rattle.machine.specs.Machines.{MachineData}
+use Rattle.machine.specs.declared.opcode.Opcode.{Opcode}
+use Rattle.machine.specs.declared.fault.MachineFault.{MachineFault}
+use Rattle.machine.specs.declared.fault.MachineFault.TheVariants as machine_fault
+use Rattle.loops.specs.Loops.{LoopData}
+use Rattle.loops.specs.Meaning as loops_meaning
+use Rattle.loops.specs.declared.fault.LoopFault.{LoopFault}
+use Rattle.loops.specs.declared.fault.LoopFaultKind.{LoopFaultKind}
+use Rattle.loops.specs.declared.fault.LoopFaultKind.TheVariants as kinds
+use Rattle.modsched.specs.Bounds.{Outcome, Written, RefusedMachine, RefusedLoops, NoTable as NoTableFor, Bounds, BoundsIn, BoundsOn, first_lacking}
+use Rattle.modsched.specs.Refusals.{IsLacking, RefusesBounds}
+use Rattle.modsched.specs.Statuses.{refusal_of_machine, refusal_of_loops, loops_status}
+use Rattle.modsched.specs.declared.status.Status.{Status}
+use Rattle.modsched.specs.declared.status.Status.TheVariants.{Done, MachineUnread, LoopsUnread, Machine, Loops, NoTable, Unwritten, OutOfMemory}
+
+abbrev pub Machines : Type 0
+Machines = Result MachineData MachineFault
+
+abbrev pub LoopLists : Type 0
+LoopLists = Result (List LoopData) LoopFault
+
+refuses_machine : (f : MachineFault) (machine : Machines) (loops : LoopLists) → Err f ≡ machine → (outcome : Outcome) × Bounds machine loops outcome × (Machine f ≡ Machine f)
+refuses_machine f machine loops e = (RefusedMachine f, rw (← e) refl, refl)
+
+-- a machine text that is refused
+pub machine_refused : (f : MachineFault) (machine : Machines) (loops : LoopLists) → Answers (Err f) machine → RefusesBounds (refusal_of_machine f) machine loops
+machine_refused machine_fault.Memory machine loops h = tt
+machine_refused machine_fault.NotUtf8 machine loops h = (RefusedMachine machine_fault.NotUtf8, rw (← h) refl, refl)
+machine_refused machine_fault.NotToml machine loops h = (RefusedMachine machine_fault.NotToml, rw (← h) refl, refl)
+machine_refused (machine_fault.MissingKey k) machine loops h = (RefusedMachine (machine_fault.MissingKey k), rw (← h) refl, refl)
+machine_refused (machine_fault.WrongType k) machine loops h = (RefusedMachine (machine_fault.WrongType k), rw (← h) refl, refl)
+machine_refused (machine_fault.UnknownKey k) machine loops h = (RefusedMachine (machine_fault.UnknownKey k), rw (← h) refl, refl)
+machine_refused (machine_fault.UnknownUnit k) machine loops h = (RefusedMachine (machine_fault.UnknownUnit k), rw (← h) refl, refl)
+machine_refused (machine_fault.UnknownOpcode k) machine loops h = (RefusedMachine (machine_fault.UnknownOpcode k), rw (← h) refl, refl)
+machine_refused (machine_fault.RepeatedUnit k) machine loops h = (RefusedMachine (machine_fault.RepeatedUnit k), rw (← h) refl, refl)
+machine_refused (machine_fault.RepeatedRow k) machine loops h = (RefusedMachine (machine_fault.RepeatedRow k), rw (← h) refl, refl)
+machine_refused (machine_fault.Limit k) machine loops h = (RefusedMachine (machine_fault.Limit k), rw (← h) refl, refl)
+
+loops_refused_at : (kind : LoopFaultKind) (f : LoopFault) (m : MachineData) (loops : LoopLists)
+    → loops_meaning.AnswersFault kind f loops → RefusesBounds (loops_status kind f) (Ok m) loops
+loops_refused_at kinds.Memory f m loops h = tt
+loops_refused_at kinds.Syntax f m loops h = (RefusedLoops f, rw (← h) refl, refl)
+loops_refused_at kinds.Limit f m loops h = (RefusedLoops f, rw (← h) refl, refl)
+loops_refused_at kinds.RepeatedName f m loops h = (RefusedLoops f, rw (← h) refl, refl)
+loops_refused_at kinds.UnknownName f m loops h = (RefusedLoops f, rw (← h) refl, refl)
+loops_refused_at kinds.UseBeforeDefinition f m loops h = (RefusedLoops f, rw (← h) refl, refl)
+loops_refused_at kinds.MissingInit f m loops h = (RefusedLoops f, rw (← h) refl, refl)
+loops_refused_at kinds.NoEnd f m loops h = (RefusedLoops f, rw (← h) refl, refl)
+
+-- a loop text that is refused, behind a machine text that is not
+pub loops_refused : (f : LoopFault) (m : MachineData) (loops : LoopLists) → loops_meaning.Answers (Err f) loops → RefusesBounds (refusal_of_loops f) (Ok m) loops
+loops_refused f m loops h = loops_refused_at f.kind f m loops h
+
+-- a loop that lacks a table
+pub lacking_refused : (status : Status) (m : MachineData) (loops : List LoopData) → IsLacking status (first_lacking m loops) → RefusesBounds status (Ok m) (Ok loops)
+lacking_refused OutOfMemory m loops h = tt
+lacking_refused (NoTable name opcode) m loops h = (NoTableFor name opcode, rw h refl, refl)
+lacking_refused Done m loops h = absurd h
+lacking_refused MachineUnread m loops h = absurd h
+lacking_refused LoopsUnread m loops h = absurd h
+lacking_refused (Machine f) m loops h = absurd h
+lacking_refused (Loops f) m loops h = absurd h
+lacking_refused Unwritten m loops h = absurd h

@@ -1,0 +1,9 @@
+use Rattle.std.proofs.Common.{◌≡◌, None, take}
+use Rattle.modsched.specs.Bounds.{first_lacking, IsLines}
+use Rattle.modsched.proofs.bounds.lines.Given as goal
+
+abbrev pub invariant-loop-innermost : goal.invariant-loop-innermost
+invariant-loop-innermost l = record {
+  complete : first_lacking l.machine (take l.innermost-index l.loops) ≡ None;
+  lines : IsLines l.machine (take l.innermost-index l.loops) l.text.items;
+}

@@ -1,0 +1,64 @@
+-- What `bounds` writes, and when it refuses.
+use Rattle.std.specs.Prelude.{◌≡◌, ℕ, ◌+◌, decimal, codes, Bool, List, [], ◌∷◌, ◌++◌, length, Option, Some, None, is_some, find, Result, Ok, Err}
+use Rattle.std.specs.List.{flat_map, zip, AllZip}
+use Rattle.machine.specs.declared.fault.MachineFault.{MachineFault}
+use Rattle.machine.specs.declared.opcode.Opcode.{Opcode}
+use Rattle.machine.specs.Machines.{MachineData}
+use Rattle.loops.specs.declared.fault.LoopFault.{LoopFault}
+use Rattle.loops.specs.Loops.{LoopData}
+use Rattle.graph.specs.Units.{IsUnitBound, operations_of, first_without_table}
+
+-- what a subcommand does with its texts: it writes a text, or refuses the machine's text, the loops' text, or the loops
+-- for want of a table of an opcode, with the loop's name
+pub data Outcome : Type 0 where
+  Written : List ℕ → Outcome
+  RefusedMachine : MachineFault → Outcome
+  RefusedLoops : LoopFault → Outcome
+  NoTable : List ℕ → Opcode → Outcome
+
+abbrev pub lacking_or : List ℕ → Option Opcode → Option (List ℕ × Opcode) → Option (List ℕ × Opcode)
+lacking_or name None rest = rest
+lacking_or name (Some opcode) rest = Some (name, opcode)
+
+-- the first loop of a file that has a statement whose opcode the machine has no table for, with that opcode
+abbrev pub first_lacking : MachineData → List LoopData → Option (List ℕ × Opcode)
+first_lacking machine [] = None
+first_lacking machine (loop ∷ loops) = lacking_or loop.name (first_without_table machine loop) (first_lacking machine loops)
+
+-- `loop NAME ops O res R`, with a line feed
+abbrev pub bounds_line : LoopData → ℕ → List ℕ
+bounds_line loop res =
+    ((((codes "loop " ++ loop.name) ++ codes " ops ") ++ decimal (length loop.statements)) ++ codes " res ") ++ decimal res ++ codes "\n"
+
+-- the lines of loops with these bounds
+abbrev pub bounds_lines : List LoopData → List ℕ → List ℕ
+bounds_lines loops bounds = flat_map (λ line. bounds_line line.0 line.1) (zip loops bounds)
+
+-- a line for each loop, with its bound
+pub record IsLines (machine : MachineData) (loops : List LoopData) (text : List ℕ) : Type 0 where
+  pub bounds : List ℕ
+  pub are_bounds : AllZip (λ loop bound. IsUnitBound (operations_of machine loop) bound) loops bounds
+  pub is_text : text ≡ bounds_lines loops bounds
+
+-- `loops A`, with a line feed
+abbrev pub last_line : ℕ → List ℕ
+last_line loops = (codes "loops " ++ decimal loops) ++ codes "\n"
+
+-- a line for each loop, and then `loops A`
+abbrev pub IsBoundsText : MachineData → List LoopData → List ℕ → Type 0
+IsBoundsText machine loops text = (lines : List ℕ) × IsLines machine loops lines × (text ≡ lines ++ last_line (length loops))
+
+-- what `bounds` does with loops on a machine
+abbrev pub BoundsOn : MachineData → List LoopData → Option (List ℕ × Opcode) → Outcome → Type 0
+BoundsOn machine loops None (Written text) = IsBoundsText machine loops text
+BoundsOn machine loops None other = ⊥
+BoundsOn machine loops (Some lacking) outcome = outcome ≡ NoTable lacking.0 lacking.1
+
+abbrev pub BoundsIn : MachineData → Result (List LoopData) LoopFault → Outcome → Type 0
+BoundsIn machine (Err fault) outcome = outcome ≡ RefusedLoops fault
+BoundsIn machine (Ok loops) outcome = BoundsOn machine loops (first_lacking machine loops) outcome
+
+-- what `bounds` does with what its two texts mean: the machine's text is refused first
+abbrev pub Bounds : Result MachineData MachineFault → Result (List LoopData) LoopFault → Outcome → Type 0
+Bounds (Err fault) loops outcome = outcome ≡ RefusedMachine fault
+Bounds (Ok machine) loops outcome = BoundsIn machine loops outcome

@@ -1,0 +1,49 @@
+-- What the parts of `bounds` answer, where they may refuse.
+use Rattle.std.specs.Prelude.{◌≡◌, ℕ, List, Option, Some, None, Vec, Result, Ok, Err}
+use Rattle.std.specs.declared.alloc.Global.{Global}
+use Rattle.machine.specs.declared.fault.MachineFault.{MachineFault}
+use Rattle.machine.specs.declared.opcode.Opcode.{Opcode}
+use Rattle.machine.specs.Machines.{MachineData}
+use Rattle.loops.specs.declared.fault.LoopFault.{LoopFault}
+use Rattle.loops.specs.Loops.{LoopData}
+use Rattle.graph.specs.Units.{IsUnitBound, operations_of, first_without_table}
+use Rattle.modsched.specs.Bounds.{Outcome, Written, RefusedMachine, RefusedLoops, NoTable as NoTableFor, Bounds, IsLines, first_lacking, lacking_or}
+use Rattle.modsched.specs.declared.status.Status.{Status}
+use Rattle.modsched.specs.declared.status.Status.TheVariants.{Machine, Loops, NoTable, OutOfMemory}
+
+-- the status is for want of memory, or for an opcode that is lacking
+abbrev pub IsLacking : Status → Option (List ℕ × Opcode) → Type 0
+IsLacking OutOfMemory lacking = Unit {0}
+IsLacking (NoTable name opcode) lacking = lacking ≡ Some (name, opcode)
+IsLacking _ lacking = ⊥
+
+-- the opcode that a loop lacks, with its name
+abbrev pub lacking_in : MachineData → LoopData → Option (List ℕ × Opcode)
+lacking_in machine loop = lacking_or loop.name (first_without_table machine loop) None
+
+-- the bound of a loop
+abbrev pub BoundAnswers : MachineData → LoopData → Result ℕ Status → Type 0
+BoundAnswers machine loop (Ok bound) = (first_without_table machine loop ≡ None) × IsUnitBound (operations_of machine loop) bound
+BoundAnswers machine loop (Err status) = IsLacking status (lacking_in machine loop)
+
+-- the lines of loops
+abbrev pub LinesAnswer : MachineData → List LoopData → Result (Vec ℕ Global) Status → Type 0
+LinesAnswer machine loops (Ok text) = (first_lacking machine loops ≡ None) × IsLines machine loops text.items
+LinesAnswer machine loops (Err status) = IsLacking status (first_lacking machine loops)
+
+-- the status is the outcome's
+abbrev pub Refuses : Outcome → Status → Type 0
+Refuses (Written text) status = ⊥
+Refuses (RefusedMachine fault) status = status ≡ Machine fault
+Refuses (RefusedLoops fault) status = status ≡ Loops fault
+Refuses (NoTableFor name opcode) status = status ≡ NoTable name opcode
+
+-- the status is for want of memory, or that of what `bounds` does
+abbrev pub RefusesBounds : Status → Result MachineData MachineFault → Result (List LoopData) LoopFault → Type 0
+RefusesBounds OutOfMemory machine loops = Unit {0}
+RefusesBounds status machine loops = (outcome : Outcome) × Bounds machine loops outcome × Refuses outcome status
+
+-- the text of `bounds`, or the status of its refusal
+abbrev pub TextAnswers : Result MachineData MachineFault → Result (List LoopData) LoopFault → Result (Vec ℕ Global) Status → Type 0
+TextAnswers machine loops (Ok text) = Bounds machine loops (Written text.items)
+TextAnswers machine loops (Err status) = RefusesBounds status machine loops
