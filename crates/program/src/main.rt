@@ -1,0 +1,63 @@
+//! The program `modsched`: software pipelining of innermost loops for a described VLIW machine.
+#![tactic(auto)]
+
+use modsched::{Command, FileInput, StandardOutput, Usage, engine, parse_line};
+use std::env;
+use std::io::ErrorKind;
+use std::process::ExitCode;
+use std::rt::{Env, Files};
+
+fn main(rt: HostRuntime) -> ExitCode {
+    match run(&rt) {
+        Ok(number) => ExitCode::from(number),
+        Err(usage) => ExitCode::from(tell(&rt, &usage)),
+    }
+}
+
+/// Reads the command line and does what it asks for. Answers the number to exit with.
+fn run<R: AllocGlobal + Env + Eprint + Files + Print>(rt: &R) -> Result<u8, Usage> {
+    let alloc = rt.alloc();
+    let given = match env::args(rt) {
+        Ok(given) => given,
+        Err(e) if e.kind() == ErrorKind::OutOfMemory => return Err(Usage::Memory),
+        Err(_) => {
+            let why = "error: a word of the line is not text\n";
+            return Err(Usage::Refused(String::from_str(alloc, why)?));
+        }
+    };
+    let given: Vec<String> = given.skip(1).collect(alloc)?;
+    let words: Vec<&str> = given.iter().map(|word| word.as_str()).collect(alloc)?;
+    let command = parse_line(alloc, words.as_slice())?;
+    Ok(work(rt, &command))
+}
+
+/// Does the work of a command over its files and the standard output, and tells of a fault.
+fn work<R: AllocGlobal + Eprint + Files + Print>(rt: &R, command: &Command) -> u8 {
+    let Command::Bounds { machine, loops } = command;
+    let mut machine = FileInput::new(rt, machine.as_str());
+    let mut loops = FileInput::new(rt, loops.as_str());
+    let mut output = StandardOutput::new(rt);
+    let status = engine(rt.alloc(), command, &mut machine, &mut loops, &mut output);
+    if let Some(line) = status.line() {
+        let _ = eprintln!(rt; "modsched: {line}");
+    }
+    status.number()
+}
+
+/// Prints a help to the standard output, and what is wrong with a line to the standard error.
+fn tell<R: Eprint + Print>(rt: &R, usage: &Usage) -> u8 {
+    match usage {
+        Usage::Help(text) => match print!(rt; "{text}") {
+            Ok(()) => 0,
+            Err(_) => 6,
+        },
+        Usage::Refused(text) => {
+            let _ = eprint!(rt; "{text}");
+            2
+        }
+        Usage::Memory => {
+            let _ = eprintln!(rt; "modsched: out of memory");
+            7
+        }
+    }
+}
