@@ -33,3 +33,4 @@ pub mod Standing
 pub mod Stores
 pub mod Texts
 pub mod Turns
+pub mod Written
