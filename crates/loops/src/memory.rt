@@ -106,16 +106,23 @@ impl Memory {
     pub fn copied(&self, alloc: Global) -> Result<Memory, AllocError>
         ensures { IfOk result (λ copy. copy ≡ self.now) }
     {
-        let mut arrays = Vec::with_capacity(alloc, self.arrays.len())?;
-        for block in &self.arrays {
-            arrays.push(Block {
-                cells: Vec::from_slice(alloc, block.cells.as_slice())?,
-            })?;
-        }
         Ok(Memory {
             trip: self.trip,
-            arrays,
+            arrays: copied_blocks(alloc, self.arrays.as_slice())?,
             outs: Vec::from_slice(alloc, self.outs.as_slice())?,
         })
     }
+}
+
+/// A copy of the cells of some arrays.
+fn copied_blocks(alloc: Global, blocks: &[Block]) -> Result<Vec<Block>, AllocError>
+    ensures { IfOk result (λ copies. copies.items ≡ blocks.now) }
+{
+    let mut copies = Vec::with_capacity(alloc, blocks.len())?;
+    for block in blocks {
+        copies.push(Block {
+            cells: Vec::from_slice(alloc, block.cells.as_slice())?,
+        })?;
+    }
+    Ok(copies)
 }
