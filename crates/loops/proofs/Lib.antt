@@ -9,8 +9,10 @@ pub mod Declared
 pub mod Few
 pub mod Forming
 pub mod Giving
+pub mod HeadLines
 pub mod Initials
 pub mod Inits
+pub mod Insides
 pub mod Lawful
 pub mod Lines
 pub mod Made
@@ -22,11 +24,13 @@ pub mod Numbers
 pub mod Numerals
 pub mod OpeningLines
 pub mod Openings
+pub mod Parts
 pub mod Pieces
 pub mod Placing
 pub mod Reading
 pub mod Rings
 pub mod Rows
+pub mod ShortNames
 pub mod Spelled
 pub mod Splitting
 pub mod Standing
