@@ -10,6 +10,7 @@ pub mod Few
 pub mod Forming
 pub mod Giving
 pub mod HeadLines
+pub mod InitLines
 pub mod Initials
 pub mod Inits
 pub mod Insides

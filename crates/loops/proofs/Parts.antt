@@ -39,6 +39,10 @@ pub all-right : {X : Type 0} (P : X → Type 0) (xs ys : List X) → AllByRecurs
 all-right P [] ys h = h
 all-right P (x ∷ xs) ys h = all-right P xs ys h.1
 
+pub all-both : {X : Type 0} (P Q R : X → Type 0) → ((x : X) → P x → Q x → R x) → (xs : List X) → AllByRecursion P xs → AllByRecursion Q xs → AllByRecursion R xs
+all-both P Q R both [] h k = tt
+all-both P Q R both (x ∷ xs) h k = (both x h.0 k.0, all-both P Q R both xs h.1 k.1)
+
 pub all-unmapped : {X Y : Type 0} (P : Y → Type 0) (f : X → Y) (xs : List X) → AllByRecursion P (map f xs) → AllByRecursion (λ x. P (f x)) xs
 all-unmapped P f [] h = tt
 all-unmapped P f (x ∷ xs) h = (h.0, all-unmapped P f xs h.1)
