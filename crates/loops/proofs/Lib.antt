@@ -13,6 +13,7 @@ pub mod Initials
 pub mod Inits
 pub mod Lawful
 pub mod Lines
+pub mod Lookups
 pub mod Made
 pub mod Memoryless
 pub mod Names
