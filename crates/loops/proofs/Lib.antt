@@ -16,6 +16,7 @@ pub mod Inits
 pub mod Insides
 pub mod Lawful
 pub mod Lines
+pub mod Lookups
 pub mod Made
 pub mod Memoryless
 pub mod Names
