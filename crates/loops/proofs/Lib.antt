@@ -16,7 +16,6 @@ pub mod Inits
 pub mod Insides
 pub mod Lawful
 pub mod Lines
-pub mod Lookups
 pub mod Made
 pub mod Memoryless
 pub mod Names
@@ -36,6 +35,7 @@ pub mod ShortNames
 pub mod Spelled
 pub mod Splitting
 pub mod Standing
+pub mod StatementLines
 pub mod Stores
 pub mod Texts
 pub mod Turns

@@ -39,6 +39,10 @@ pub all-right : {X : Type 0} (P : X → Type 0) (xs ys : List X) → AllByRecurs
 all-right P [] ys h = h
 all-right P (x ∷ xs) ys h = all-right P xs ys h.1
 
+pub all-weaker : {X : Type 0} (P Q : X → Type 0) → ((x : X) → P x → Q x) → (xs : List X) → AllByRecursion P xs → AllByRecursion Q xs
+all-weaker P Q weaker [] h = tt
+all-weaker P Q weaker (x ∷ xs) h = (weaker x h.0, all-weaker P Q weaker xs h.1)
+
 pub all-both : {X : Type 0} (P Q R : X → Type 0) → ((x : X) → P x → Q x → R x) → (xs : List X) → AllByRecursion P xs → AllByRecursion Q xs → AllByRecursion R xs
 all-both P Q R both [] h k = tt
 all-both P Q R both (x ∷ xs) h k = (both x h.0 k.0, all-both P Q R both xs h.1 k.1)
