@@ -6,6 +6,7 @@ pub mod Checking
 pub mod Covering
 pub mod Cuts
 pub mod Declared
+pub mod Faultless
 pub mod Few
 pub mod Forming
 pub mod Giving
@@ -16,6 +17,7 @@ pub mod Inits
 pub mod Insides
 pub mod Lawful
 pub mod Lines
+pub mod Lookups
 pub mod Made
 pub mod Memoryless
 pub mod Names
@@ -25,6 +27,7 @@ pub mod Numbers
 pub mod Numerals
 pub mod OpeningLines
 pub mod Openings
+pub mod OutLines
 pub mod Parts
 pub mod Pieces
 pub mod Placing
