@@ -1,5 +1,5 @@
 -- The canonical text of a loop has no fault.
-use Rattle.std.proofs.Common.{◌≡◌, ℕ, ◌||◌, Bool, true, false, List, [], ◌∷◌, ◌++◌, map, Some, refl, ◌∙◌, ap}
+use Rattle.std.proofs.Common.{◌≡◌, ◌||◌, false, List, [], ◌∷◌, ◌++◌, map, Some, refl, ◌∙◌, ap}
 use Rattle.std.proofs.lemmas.Bool.{or_from}
 use Rattle.loops.specs.declared.fault.LoopFault.{LoopFault}
 use Rattle.loops.specs.declared.fault.LoopFaultKind.TheVariants.{Limit}

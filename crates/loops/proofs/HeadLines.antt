@@ -1,5 +1,5 @@
 -- The lines of a loop's arrays and parameters have no faults in its canonical text.
-use Rattle.std.proofs.Common.{◌≡◌, ℕ, ℤ, ◌+◌, ◌<◌, ◌≤◌, ◌||◌, not, Bool, true, false, List, [], ◌∷◌, ◌++◌, length, map, Option, Some, None, is_some, is_none, nat_lt, nat_le, refl, sym, ◌∙◌, ap, arith, append_assoc}
+use Rattle.std.proofs.Common.{◌≡◌, ℕ, ℤ, ◌+◌, ◌<◌, ◌≤◌, ◌||◌, not, Bool, false, List, [], ◌∷◌, ◌++◌, length, map, Some, None, is_some, is_none, nat_lt, nat_le, refl, ◌∙◌, ap, arith}
 use Rattle.std.specs.List.{list_any}
 use Rattle.std.proofs.lemmas.Bool.{or_from, le-ltb, lt-leb}
 use Rattle.std.proofs.lemmas.List.{length-map}
@@ -10,12 +10,12 @@ use Rattle.loops.specs.declared.lists.Array.{Array}
 use Rattle.loops.specs.declared.lists.Param.{Param}
 use Rattle.loops.specs.Forms.{Form}
 use Rattle.loops.specs.Loops.{LoopData, IsLoop, IsName}
-use Rattle.loops.specs.Meaning.{Kinds, declared, has_statement, is_array, is_long, is_param, is_statement, number_of, when}
+use Rattle.loops.specs.Meaning.{Kinds, declared, is_array, is_long, is_param, is_statement, number_of, when}
 use Rattle.loops.proofs.Insides.{IsFine, AreFine, fine-mapped}
-use Rattle.loops.proofs.Lookups.{declared-new}
-use Rattle.loops.proofs.Parts.{all-at, at-front, front-within, counted-made, line-among, none-joined, none-made, number_of-append, uncounted-made}
+use Rattle.loops.proofs.Lookups.{array-cut, declared-new, number_of-all, number_of-append, number_of-none, param-cut}
+use Rattle.loops.proofs.Parts.{all-at, at-front, front-within, none-joined, none-made}
 use Rattle.loops.proofs.ShortNames.{arrays-named, not-long, params-named}
-use Rattle.loops.proofs.Written.{array_form, param_form, init_form, statement_form, out_form, body_forms}
+use Rattle.loops.proofs.Written.{array_form, param_form, body_forms}
 
 -- faults
 
@@ -28,20 +28,6 @@ no-faults xs ys h k = ap (λ zs. zs ++ ys) h ∙ k
 pub not-declared : (before : List Form) (name : List ℕ) → declared before name ≡ None → is_some (declared before name) ≡ false
 not-declared before name none = ap (λ o. is_some o) none
 
--- what follows the arrays, and the parameters
-
-abbrev behind_params : LoopData → List Form
-behind_params l = map (init_form l) l.inits ++ (map (statement_form l) l.statements ++ map (out_form l) l.outs)
-
-body-params : (l : LoopData) → body_forms l ≡ (map array_form l.arrays ++ map param_form l.params) ++ behind_params l
-body-params l =
-    let heads : List Form = map array_form l.arrays ++ map param_form l.params in
-    append_assoc (heads ++ map (init_form l) l.inits) (map (statement_form l) l.statements) (map (out_form l) l.outs)
-    ∙ append_assoc heads (map (init_form l) l.inits) (map (statement_form l) l.statements ++ map (out_form l) l.outs)
-
-body-arrays : (l : LoopData) → body_forms l ≡ map array_form l.arrays ++ (map param_form l.params ++ behind_params l)
-body-arrays l = body-params l ∙ append_assoc (map array_form l.arrays) (map param_form l.params) (behind_params l)
-
 -- arrays
 
 array-fine : (l : LoopData) → IsLoop l → (front : List Array) (a : Array) (after : List Array) → l.arrays ≡ front ++ a ∷ after → IsFine (body_forms l) (map array_form front) (array_form a)
@@ -50,11 +36,11 @@ array-fine l is front a after e =
     let at = at-front l.arrays front a after e in
     let named = all-at (λ (a : Array). IsName a.name) l.arrays (length front) a (arrays-named l is) at in
     let small : length a.cells ≤ 1024 = all-at (λ (a : Array). length a.cells ≤ 1024) l.arrays (length front) a (recursion_from_All (λ (a : Array). length a.cells ≤ 1024) l.arrays is.cells) at in
-    let count : number_of is_array before ≡ length front = counted-made is_array array_form (λ a. refl) front in
+    let count : number_of is_array before ≡ length front = number_of-all is_array array_form front (λ a. refl) in
     let few : number_of is_array before < 32 = omega (arith, front-within l.arrays front a after e, is.arrays) in
     let size : length (map Some a.cells) ≤ 1024 = omega (arith, length-map a.cells (λ (c : ℤ). Some c)) in
-    let new = declared-new l is before (map array_form after ++ (map param_form l.params ++ behind_params l)) (array_form a) a.name
-    (body-arrays l ∙ line-among [] (map param_form l.params ++ behind_params l) array_form l.arrays front a after e) refl in
+    let cut = array-cut l front a after e in
+    let new = declared-new l is before cut.0 (array_form a) a.name cut.1 refl in
     record {
       goes_on = refl;
       standing = ap not (none-made is_statement array_form (λ a. refl) front);
@@ -80,12 +66,12 @@ param-fine l is front p after e =
     let arrays : List Form = map array_form l.arrays in
     let before : List Form = arrays ++ map param_form front in
     let named = all-at (λ (p : Param). IsName p.name) l.params (length front) p (params-named l is) (at-front l.params front p after e) in
-    let none : number_of is_param arrays ≡ 0 = uncounted-made is_param array_form (λ a. refl) l.arrays in
-    let some : number_of is_param (map param_form front) ≡ length front = counted-made is_param param_form (λ p. refl) front in
+    let none : number_of is_param arrays ≡ 0 = number_of-none is_param array_form l.arrays (λ a. refl) in
+    let some : number_of is_param (map param_form front) ≡ length front = number_of-all is_param param_form front (λ p. refl) in
     let count : number_of is_param before ≡ number_of is_param arrays + number_of is_param (map param_form front) = number_of-append is_param arrays (map param_form front) in
     let few : number_of is_param before < 64 = omega (arith, front-within l.params front p after e, is.params) in
-    let new = declared-new l is before (map param_form after ++ behind_params l) (param_form p) p.name
-    (body-params l ∙ line-among arrays (behind_params l) param_form l.params front p after e) refl in
+    let cut = param-cut l front p after e in
+    let new = declared-new l is before cut.0 (param_form p) p.name cut.1 refl in
     record {
       goes_on = refl;
       standing = ap not (none-joined is_statement arrays (map param_form front) (none-made is_statement array_form (λ a. refl) l.arrays) (none-made is_statement param_form (λ p. refl) front));

@@ -1,5 +1,5 @@
 -- The lines of a loop's initial values have no faults in its canonical text.
-use Rattle.std.proofs.Common.{◌≡◌, ◌⊎◌, ℕ, ◌+◌, ◌<◌, ◌≤◌, ◌&&◌, ◌||◌, not, Bool, true, false, eqb, List, [], ◌∷◌, ◌++◌, length, map, Some, refl, sym, ◌∙◌, ap, subst, arith, ⊎_elim}
+use Rattle.std.proofs.Common.{◌≡◌, ℕ, ◌≤◌, ◌||◌, not, false, eqb, List, ◌∷◌, ◌++◌, length, map, Some, refl, sym, ◌∙◌, ap, subst, arith, ⊎_elim}
 use Rattle.std.specs.List.{AllByRecursion, list_any}
 use Rattle.std.proofs.lemmas.Bool.{and_left, and_right, false_from_ne_true, ne_eqb, or_from}
 use Rattle.std.proofs.lemmas.List.Elements.{recursion_from_All}
@@ -8,7 +8,7 @@ use Rattle.loops.specs.declared.fault.LoopFaultKind.TheVariants.{Limit, Repeated
 use Rattle.loops.specs.declared.lists.Initial.{Initial}
 use Rattle.loops.specs.Forms.{Form}
 use Rattle.loops.specs.Loops.{LoopData, IsLoop, GivesValue, IsBefore}
-use Rattle.loops.specs.Meaning.{declared, is_init, is_long, is_outside, is_statement, is_value, number_at, when}
+use Rattle.loops.specs.Meaning.{declared, is_init, is_long, is_statement, is_value, number_at, when}
 use Rattle.loops.specs.Text.{value_name}
 use Rattle.loops.proofs.Declared.{same_word-yes}
 use Rattle.loops.proofs.HeadLines.{no-fault, no-faults}
@@ -50,7 +50,7 @@ init-fine l is front i after e =
     let given : IsGiven l i = all-at (IsGiven l) l.inits (length front) i all (at-front l.inits front i after e) in
     let earlier : AllByRecursion (IsGiven l) front = all-left (IsGiven l) front (i ∷ after) (subst (AllByRecursion (IsGiven l)) e all) in
     let others = all-both (λ j. IsBefore j i) (IsGiven l) (λ j. is_init name (Some i.number) (init_form l j) ≡ false) (λ j. init-other l is i j given.0) front
-        (pairs-front IsBefore l.inits front i after is.inits_ascend e) earlier in
+    (pairs-front IsBefore l.inits front i after is.inits_ascend e) earlier in
     let some : 1 ≤ i.number = given.1 in
     let limit = when (is_long name || eqb i.number 0 || false) Limit in
     let repeated = when (list_any (is_init name (Some i.number)) before) RepeatedName in

@@ -1,10 +1,10 @@
 -- A block whose lines stand and have no faults, up to its `end`, has none.
-use Rattle.std.proofs.Common.{◌≡◌, ℕ, ◌+◌, not, Bool, true, false, List, [], ◌∷◌, ◌++◌, map, Option, Some, None, refl, sym, ◌∙◌, ap, subst, append_assoc}
+use Rattle.std.proofs.Common.{◌≡◌, ℕ, ◌+◌, not, Bool, true, false, List, [], ◌∷◌, ◌++◌, map, Option, Some, refl, sym, ◌∙◌, ap, subst, append_assoc}
 use Rattle.std.proofs.lemmas.Bool.{true≢false, cond-true}
 use Rattle.std.proofs.lemmas.List.{append-nil, map-append}
 use Rattle.loops.specs.declared.fault.LoopFault.{LoopFault}
 use Rattle.loops.specs.declared.fault.LoopFaultKind.TheVariants.{Syntax, Limit}
-use Rattle.loops.specs.Forms.{Form, LoopLine, ArrayLine, ParamLine, InitLine, StatementLine, OutLine, EndLine, Malformed}
+use Rattle.loops.specs.Forms.{Form, EndLine}
 use Rattle.loops.specs.Meaning.{stands, with_line, whole, has_statement, faults_of, line_faults, at_line, when, inside_faults}
 
 abbrev pub is_end : Form → Bool

@@ -143,7 +143,7 @@ declared-there l is before after form name d split named here =
 
 -- lines of one kind, counted
 
-number_of-append : (p : Form → Bool) (xs ys : List Form) → number_of p (xs ++ ys) ≡ number_of p xs + number_of p ys
+pub number_of-append : (p : Form → Bool) (xs ys : List Form) → number_of p (xs ++ ys) ≡ number_of p xs + number_of p ys
 number_of-append p xs ys = sum_by-append (λ f. cond (p f) 1 0) xs ys
 
 pub number_of-all : {X : Type 0} (p : Form → Bool) (f : X → Form) (xs : List X) → ((x : X) → p (f x) ≡ true) → number_of p (map f xs) ≡ length xs

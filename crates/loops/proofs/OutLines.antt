@@ -1,8 +1,7 @@
 -- The lines of a loop's live values have no faults in its canonical text.
-use Rattle.std.proofs.Common.{◌≡◌, ◌≢◌, ℕ, ◌≤◌, ◌||◌, not, Bool, true, false, List, [], ◌∷◌, ◌++◌, length, map, refl, sym, ◌∙◌, ap, subst, arith}
+use Rattle.std.proofs.Common.{◌≡◌, ◌≢◌, ℕ, ◌≤◌, not, true, false, List, [], ◌∷◌, ◌++◌, length, map, refl, sym, ap, subst, arith}
 use Rattle.std.specs.List.{AllByRecursion, list_any}
 use Rattle.std.proofs.lemmas.List.Elements.{recursion_from_All}
-use Rattle.machine.specs.Opcodes.{same_word}
 use Rattle.loops.specs.declared.fault.LoopFaultKind.TheVariants.{Limit, RepeatedName, UnknownName, MissingInit}
 use Rattle.loops.specs.declared.statement.Statement.{Statement}
 use Rattle.loops.specs.Forms.{Form}
@@ -45,15 +44,15 @@ out-fine l is front o after e =
     let live : IsLive l o = all-at (IsLive l) l.outs (length front) o all (at-front l.outs front o after e) in
     let earlier : AllByRecursion (IsLive l) front = all-left (IsLive l) front (o ∷ after) (subst (AllByRecursion (IsLive l)) e all) in
     let others = all-both (λ q. q ≢ o) (IsLive l) (λ q. is_out_of name (out_form l q) ≡ false) (λ q. out-other l is o q live.0) front
-        (pairs-front (λ a b. a ≢ b) l.outs front o after is.outs_different e) earlier in
+    (pairs-front (λ a b. a ≢ b) l.outs front o after is.outs_different e) earlier in
     let limit = when (is_long name) Limit in
     let repeated = when (list_any (is_out_of name) before) RepeatedName in
     let unknown = when (not (is_value (declared (body_forms l) name))) UnknownName in
     let missing = when (not (has_init (body_forms l) name 1)) MissingInit in
     let repeats = no-fault (list_any (is_out_of name) before) RepeatedName
-        (none-joined (is_out_of name) (main_forms l) (map (out_form l) front)
-        (none-joined (is_out_of name) (lead_forms l) (map (statement_form l) l.statements) (lead-none l (is_out_of name) (λ a. refl) (λ p. refl) (λ i. refl)) (none-made (is_out_of name) (statement_form l) (λ s. refl) l.statements))
-        (none-mapped (is_out_of name) (out_form l) front others)) in
+    (none-joined (is_out_of name) (main_forms l) (map (out_form l) front)
+    (none-joined (is_out_of name) (lead_forms l) (map (statement_form l) l.statements) (lead-none l (is_out_of name) (λ a. refl) (λ p. refl) (λ i. refl)) (none-made (is_out_of name) (statement_form l) (λ s. refl) l.statements))
+    (none-mapped (is_out_of name) (out_form l) front others)) in
     record {
       goes_on = refl;
       standing = has-statement l is (map (out_form l) front);

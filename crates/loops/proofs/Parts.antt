@@ -1,16 +1,11 @@
 -- Parts of lists, and what tests find in lists that are joined or made of others.
-use Rattle.std.proofs.Common.{◌≡◌, ℕ, zero, suc, ◌+◌, ◌<◌, ◌||◌, Bool, true, false, List, [], ◌∷◌, ◌++◌, length, map, get_or, Option, Some, None, refl, sym, ◌∙◌, ap, subst, arith}
-use Rattle.std.specs.List.{All, AllPairs, AllByRecursion, list_any, filter_map, cons_option, slice_get}
+use Rattle.std.proofs.Common.{◌≡◌, ℕ, zero, suc, ◌<◌, Bool, true, false, List, [], ◌∷◌, ◌++◌, length, map, get_or, Option, Some, None, refl, ◌∙◌, ap, subst, arith}
+use Rattle.std.specs.List.{AllPairs, AllByRecursion, list_any, filter_map, cons_option, slice_get}
 use Rattle.std.proofs.lemmas.Bool.{or_from, or_left, or_right}
-use Rattle.std.proofs.lemmas.List.{append_assoc, get_or_append_left, get_or_at, length-append, map-append}
+use Rattle.std.proofs.lemmas.List.{get_or_append_left, get_or_at, length-append}
 use Rattle.std.proofs.lemmas.List.Elements.{recursion_from_All}
 use Rattle.std.proofs.lemmas.List.Folds.{list_any-append}
-use Rattle.std.proofs.lemmas.List.Sums.{sum_by-append}
 use Rattle.std.proofs.lemmas.Option.{none-some, same_Some}
-use Rattle.loops.specs.Blocks.{one_if}
-use Rattle.loops.specs.Forms.{Form}
-use Rattle.loops.specs.Meaning.{number_of}
-use Rattle.loops.proofs.Declared.{number_of-cons}
 
 -- an element and those before it
 
@@ -95,27 +90,3 @@ all-each P each (x ∷ xs) = (each x, all-each P each xs)
 
 pub none-made : {X Y : Type 0} (p : Y → Bool) (f : X → Y) → ((x : X) → p (f x) ≡ false) → (xs : List X) → list_any p (map f xs) ≡ false
 none-made p f each xs = none-mapped p f xs (all-each (λ x. p (f x) ≡ false) each xs)
-
--- lines of one form
-
-pub number_of-append : (p : Form → Bool) (xs ys : List Form) → number_of p (xs ++ ys) ≡ number_of p xs + number_of p ys
-number_of-append p xs ys = sum_by-append (λ form. one_if (p form)) xs ys
-
-pub counted-made : {X : Type 0} (p : Form → Bool) (f : X → Form) → ((x : X) → p (f x) ≡ true) → (xs : List X) → number_of p (map f xs) ≡ length xs
-counted-made p f each [] = refl
-counted-made p f each (x ∷ xs) =
-    let here : one_if (p (f x)) ≡ 1 = ap one_if (each x) in
-    omega (arith, number_of-cons p (f x) (map f xs), counted-made p f each xs)
-
-pub uncounted-made : {X : Type 0} (p : Form → Bool) (f : X → Form) → ((x : X) → p (f x) ≡ false) → (xs : List X) → number_of p (map f xs) ≡ 0
-uncounted-made p f each [] = refl
-uncounted-made p f each (x ∷ xs) =
-    let here : one_if (p (f x)) ≡ 0 = ap one_if (each x) in
-    omega (arith, number_of-cons p (f x) (map f xs), uncounted-made p f each xs)
-
--- a line among those of a list's elements, with what stands before and behind them
-pub line-among : {X : Type 0} (start tail : List Form) (f : X → Form) (xs front : List X) (x : X) (after : List X) → xs ≡ front ++ x ∷ after
-    → (start ++ map f xs) ++ tail ≡ (start ++ map f front) ++ f x ∷ (map f after ++ tail)
-line-among start tail f xs front x after e =
-    ap (λ ys. (start ++ map f ys) ++ tail) e ∙ ap (λ ms. (start ++ ms) ++ tail) (map-append f front (x ∷ after))
-    ∙ ap (λ ms. ms ++ tail) (sym (append_assoc start (map f front) (map f (x ∷ after)))) ∙ append_assoc (start ++ map f front) (map f (x ∷ after)) tail

@@ -1,8 +1,7 @@
 -- The names of a loop are names, of at most 16 bytes.
-use Rattle.std.proofs.Common.{◌≡◌, ℕ, ◌+◌, ◌<◌, Bool, true, false, List, [], ◌∷◌, ◌++◌, length, map, Option, Some, None, is_some, unwrap_or, refl, sym, ◌∙◌, ap, subst}
-use Rattle.std.specs.List.{AllByRecursion, filter_map, slice_get}
-use Rattle.std.specs.Option.{option_map, option_and_then}
-use Rattle.std.proofs.lemmas.Bool.{le-ltb, true≢false}
+use Rattle.std.proofs.Common.{◌≡◌, ℕ, ◌<◌, false, List, ◌++◌, length, map, Some, sym, subst}
+use Rattle.std.specs.List.{AllByRecursion, slice_get}
+use Rattle.std.proofs.lemmas.Bool.{le-ltb}
 use Rattle.std.proofs.lemmas.List.Elements.{recursion_from_All}
 use Rattle.loops.specs.declared.lists.Array.{Array}
 use Rattle.loops.specs.declared.lists.Param.{Param}
@@ -10,6 +9,7 @@ use Rattle.loops.specs.declared.statement.Statement.{Statement}
 use Rattle.loops.specs.Loops.{LoopData, IsLoop, IsName, GivesValue, declared_names, value_names}
 use Rattle.loops.specs.Meaning.{is_long}
 use Rattle.loops.specs.Text.{array_name, param_name, value_name}
+use Rattle.loops.proofs.Lookups.{array_named, param_named, gives-named}
 use Rattle.loops.proofs.Parts.{all-at, all-left, all-right, all-unmapped, all-unfiltered}
 use Rattle.loops.proofs.Standing.{element_at}
 
@@ -30,14 +30,12 @@ params-named l is = all-unmapped IsName (λ (p : Param). p.name) l.params (all-r
 pub array-short : (l : LoopData) → IsLoop l → (k : ℕ) → k < length l.arrays → IsName (array_name l k)
 array-short l is k within =
     let a = element_at l.arrays k within in
-    let same : a.0.name ≡ array_name l k = ap (λ o. unwrap_or (option_map (λ (a : Array). a.name) o) []) (sym a.1) in
-    subst IsName same (all-at (λ (a : Array). IsName a.name) l.arrays k a.0 (arrays-named l is) a.1)
+    subst IsName (sym (array_named l k a.0 a.1)) (all-at (λ (a : Array). IsName a.name) l.arrays k a.0 (arrays-named l is) a.1)
 
 pub param-short : (l : LoopData) → IsLoop l → (k : ℕ) → k < length l.params → IsName (param_name l k)
 param-short l is k within =
     let p = element_at l.params k within in
-    let same : p.0.name ≡ param_name l k = ap (λ o. unwrap_or (option_map (λ (p : Param). p.name) o) []) (sym p.1) in
-    subst IsName same (all-at (λ (p : Param). IsName p.name) l.params k p.0 (params-named l is) p.1)
+    subst IsName (sym (param_named l k p.0 p.1)) (all-at (λ (p : Param). IsName p.name) l.params k p.0 (params-named l is) p.1)
 
 -- of values
 
@@ -52,14 +50,5 @@ statements-named l is =
 pub statement-named : (l : LoopData) → IsLoop l → (k : ℕ) (s : Statement) (name : List ℕ) → slice_get l.statements k ≡ Some s → s.name ≡ Some name → IsName name
 statement-named l is k s name e named = all-at IsNamed l.statements k s (statements-named l is) e name named
 
-some-name : (o : Option (List ℕ)) → is_some o ≡ true → (name : List ℕ) × (o ≡ Some name)
-some-name None h = absurd (true≢false (sym h))
-some-name (Some name) h = (name, refl)
-
-value_name-is : (l : LoopData) (k : ℕ) (s : Statement) (name : List ℕ) → slice_get l.statements k ≡ Some s → s.name ≡ Some name → value_name l k ≡ name
-value_name-is l k s name e named = ap (λ o. unwrap_or (option_and_then (λ (s : Statement). s.name) o) []) e ∙ ap (λ o. unwrap_or o []) named
-
 pub value-short : (l : LoopData) → IsLoop l → (k : ℕ) → GivesValue l k → IsName (value_name l k)
-value-short l is k gives =
-    let n = some-name gives.0.name gives.2 in
-    subst IsName (sym (value_name-is l k gives.0 n.0 gives.1 n.1)) (statement-named l is k gives.0 n.0 gives.1 n.1)
+value-short l is k gives = statement-named l is k gives.0 (value_name l k) gives.1 (gives-named l k gives)

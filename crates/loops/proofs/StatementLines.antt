@@ -1,6 +1,6 @@
 -- The lines of a loop's statements have no faults in its canonical text.
-use Rattle.std.proofs.Common.{◌≡◌, ℕ, zero, suc, ◌+◌, ◌<◌, ◌≤◌, ◌&&◌, ◌||◌, not, Bool, true, false, eqb, List, [], ◌∷◌, ◌++◌, length, map, Option, Some, None, is_some, nat_le, option_map, refl, sym, ◌∙◌, ap, arith}
-use Rattle.std.specs.List.{AllByRecursion, list_any, slice_get}
+use Rattle.std.proofs.Common.{◌≡◌, ℕ, zero, suc, ◌<◌, ◌≤◌, ◌||◌, not, Bool, true, false, List, ◌∷◌, ◌++◌, length, map, Option, Some, None, is_some, nat_le, option_map, refl, ◌∙◌, ap, arith}
+use Rattle.std.specs.List.{list_any, slice_get}
 use Rattle.std.proofs.lemmas.Bool.{and_from, and_left, lt-leb, ne_eqb, or_from}
 use Rattle.std.proofs.lemmas.List.Elements.{recursion_from_All}
 use Rattle.loops.specs.declared.fault.LoopFaultKind.TheVariants.{Limit, RepeatedName, UnknownName, UseBeforeDefinition, MissingInit}
@@ -12,16 +12,16 @@ use Rattle.loops.specs.declared.statement.Operand.TheVariants.{Constant, Paramet
 use Rattle.loops.specs.declared.statement.Place.{Place}
 use Rattle.loops.specs.declared.statement.Statement.{Statement}
 use Rattle.loops.specs.Forms.{Form, Subscript, Use}
-use Rattle.loops.specs.Loops.{LoopData, IsLoop, IsName, IsPlace, IsStatement, MayRead, HasInitial}
-use Rattle.loops.specs.Meaning.{AValue, any_name, declared, has_init, has_inits, is_array_name, is_early, is_long, is_out, is_readable, is_statement, is_uncovered, is_unknown, is_unknown_place, is_value, is_value_from, is_wide, is_wide_place, number_of, same_number, when}
+use Rattle.loops.specs.Loops.{LoopData, IsLoop, IsPlace, IsStatement, MayRead, HasInitial}
+use Rattle.loops.specs.Meaning.{any_name, declared, has_init, has_inits, is_array_name, is_early, is_long, is_out, is_readable, is_statement, is_uncovered, is_unknown, is_unknown_place, is_value_from, is_wide, is_wide_place, number_of, same_number, when}
 use Rattle.loops.specs.Text.{array_name, param_name, value_name}
 use Rattle.loops.proofs.HeadLines.{no-fault, no-faults, not-declared}
 use Rattle.loops.proofs.InitLines.{head_forms, value-known}
 use Rattle.loops.proofs.Insides.{IsFine, AreFine, fine-mapped}
-use Rattle.loops.proofs.Lookups.{declared-array, declared-new, declared-param, declared-value, has_init-there}
-use Rattle.loops.proofs.Parts.{all-weaker, at-front, counted-made, front-within, line-among, none-joined, none-made, none-mapped, number_of-append, uncounted-made}
+use Rattle.loops.proofs.Lookups.{declared-array, declared-new, declared-param, declared-value, has_init-there, number_of-all, number_of-append, number_of-none, statement-cut}
+use Rattle.loops.proofs.Parts.{all-weaker, at-front, front-within, none-joined, none-made, none-mapped}
 use Rattle.loops.proofs.ShortNames.{array-short, not-long, param-short, statement-named, value-short}
-use Rattle.loops.proofs.Written.{array_form, param_form, init_form, place_form, use_form, statement_form, out_form, body_forms}
+use Rattle.loops.proofs.Written.{array_form, param_form, init_form, place_form, use_form, statement_form, body_forms}
 
 -- what a statement reads
 
@@ -91,10 +91,10 @@ line-number l front =
     let arrays : List Form = map array_form l.arrays in
     let params : List Form = map param_form l.params in
     let inits : List Form = map (init_form l) l.inits in
-    let a : number_of is_statement arrays ≡ 0 = uncounted-made is_statement array_form (λ a. refl) l.arrays in
-    let p : number_of is_statement params ≡ 0 = uncounted-made is_statement param_form (λ p. refl) l.params in
-    let i : number_of is_statement inits ≡ 0 = uncounted-made is_statement (init_form l) (λ i. refl) l.inits in
-    let s : number_of is_statement (map (statement_form l) front) ≡ length front = counted-made is_statement (statement_form l) (λ s. refl) front in
+    let a : number_of is_statement arrays ≡ 0 = number_of-none is_statement array_form l.arrays (λ a. refl) in
+    let p : number_of is_statement params ≡ 0 = number_of-none is_statement param_form l.params (λ p. refl) in
+    let i : number_of is_statement inits ≡ 0 = number_of-none is_statement (init_form l) l.inits (λ i. refl) in
+    let s : number_of is_statement (map (statement_form l) front) ≡ length front = number_of-all is_statement (statement_form l) front (λ s. refl) in
     omega (arith, number_of-append is_statement (lead_forms l) (map (statement_form l) front), number_of-append is_statement (arrays ++ params) inits, number_of-append is_statement arrays params)
 
 statement-fine : (l : LoopData) → IsLoop l → (front : List Statement) (s : Statement) (after : List Statement) → l.statements ≡ front ++ s ∷ after
@@ -109,22 +109,22 @@ statement-fine l is front s after e =
     let at : slice_get l.statements number ≡ Some s = ap (slice_get l.statements) count ∙ at-front l.statements front s after e in
     let lawful : IsStatement l number s = is.each number s at in
     let few : number < 128 = omega (arith, front-within l.statements front s after e, is.statements_few) in
-    let new = λ (name : List ℕ) (named : s.name ≡ Some name).
-        declared-new l is before (map (statement_form l) after ++ map (out_form l) l.outs) (statement_form l s) name (line-among (lead_forms l) (map (out_form l) l.outs) (statement_form l) l.statements front s after e) named in
+    let cut = statement-cut l front s after e in
+    let new = λ (name : List ℕ) (named : s.name ≡ Some name). declared-new l is before cut.0 (statement_form l s) name cut.1 named in
     let limit = when (any_name is_long s.name || is_wide_place place || list_any is_wide uses || nat_le 128 number) Limit in
     let repeated = when (any_name (λ name. is_some (declared before name)) s.name) RepeatedName in
     let unknown = when (is_unknown_place block place || list_any (is_unknown block) uses) UnknownName in
     let early = when (list_any (is_early block number) uses) UseBeforeDefinition in
     let missing = when (list_any (is_uncovered block) uses) MissingInit in
     let limits = no-fault (any_name is_long s.name || is_wide_place place || list_any is_wide uses || nat_le 128 number) Limit
-        (or_from (any_name is_long s.name || is_wide_place place || list_any is_wide uses) (nat_le 128 number)
-        (or_from (any_name is_long s.name || is_wide_place place) (list_any is_wide uses)
-        (or_from (any_name is_long s.name) (is_wide_place place) (no-name is_long s.name (λ name named. not-long name (statement-named l is number s name at named))) (narrow-place l is s.place lawful.place))
-        (no-use l number s lawful is_wide (not-wide l is number)))
-        (lt-leb 128 number few)) in
+    (or_from (any_name is_long s.name || is_wide_place place || list_any is_wide uses) (nat_le 128 number)
+    (or_from (any_name is_long s.name || is_wide_place place) (list_any is_wide uses)
+    (or_from (any_name is_long s.name) (is_wide_place place) (no-name is_long s.name (λ name named. not-long name (statement-named l is number s name at named))) (narrow-place l is s.place lawful.place))
+    (no-use l number s lawful is_wide (not-wide l is number)))
+    (lt-leb 128 number few)) in
     let repeats = no-fault (any_name (λ name. is_some (declared before name)) s.name) RepeatedName (no-name (λ name. is_some (declared before name)) s.name (λ name named. not-declared before name (new name named))) in
     let unknowns = no-fault (is_unknown_place block place || list_any (is_unknown block) uses) UnknownName
-        (or_from (is_unknown_place block place) (list_any (is_unknown block) uses) (known-place l is s.place lawful.place) (no-use l number s lawful (is_unknown block) (not-unknown l is number))) in
+    (or_from (is_unknown_place block place) (list_any (is_unknown block) uses) (known-place l is s.place lawful.place) (no-use l number s lawful (is_unknown block) (not-unknown l is number))) in
     let earlies = no-fault (list_any (is_early block number) uses) UseBeforeDefinition (no-use l number s lawful (is_early block number) (not-early l is number)) in
     let missings = no-fault (list_any (is_uncovered block) uses) MissingInit (no-use l number s lawful (is_uncovered block) (not-uncovered l is number)) in
     record {
