@@ -32,11 +32,11 @@ value-apart l is a b given also apart =
 pub value-known : (l : LoopData) → IsLoop l → (k : ℕ) → GivesValue l k → not (is_value (declared (body_forms l) (value_name l k))) ≡ false
 value-known l is k gives = ap (λ d. not (is_value d)) (declared-value l is k gives)
 
-abbrev IsGiven : LoopData → Initial → Type 0
-IsGiven l i = GivesValue l i.statement × (1 ≤ i.number) × (i.number ≤ 16)
+abbrev IsAllowed : LoopData → Initial → Type 0
+IsAllowed l i = GivesValue l i.statement × (1 ≤ i.number) × (i.number ≤ 16)
 
 -- an earlier initial value is another one
-init-other : (l : LoopData) → IsLoop l → (i j : Initial) → GivesValue l i.statement → IsBefore j i → IsGiven l j → is_init (value_name l i.statement) (Some i.number) (init_form l j) ≡ false
+init-other : (l : LoopData) → IsLoop l → (i j : Initial) → GivesValue l i.statement → IsBefore j i → IsAllowed l j → is_init (value_name l i.statement) (Some i.number) (init_form l j) ≡ false
 init-other l is i j gives before given =
     ⊎_elim (λ lower. and_left (same_word (value_name l i.statement) (value_name l j.statement)) (eqb i.number j.number) (value-apart l is i.statement j.statement gives given.0 (λ e. omega arith)))
     (λ same. and_right (same_word (value_name l i.statement) (value_name l j.statement)) (eqb i.number j.number) (ne_eqb i.number j.number (λ e. let less = same.1 in omega arith)))
@@ -46,10 +46,10 @@ init-fine : (l : LoopData) → IsLoop l → (front : List Initial) (i : Initial)
 init-fine l is front i after e =
     let before : List Form = head_forms l ++ map (init_form l) front in
     let name : List ℕ = value_name l i.statement in
-    let all : AllByRecursion (IsGiven l) l.inits = recursion_from_All (IsGiven l) l.inits is.inits in
-    let given : IsGiven l i = all-at (IsGiven l) l.inits (length front) i all (at-front l.inits front i after e) in
-    let earlier : AllByRecursion (IsGiven l) front = all-left (IsGiven l) front (i ∷ after) (subst (AllByRecursion (IsGiven l)) e all) in
-    let others = all-both (λ j. IsBefore j i) (IsGiven l) (λ j. is_init name (Some i.number) (init_form l j) ≡ false) (λ j. init-other l is i j given.0) front
+    let all : AllByRecursion (IsAllowed l) l.inits = recursion_from_All (IsAllowed l) l.inits is.inits in
+    let given : IsAllowed l i = all-at (IsAllowed l) l.inits (length front) i all (at-front l.inits front i after e) in
+    let earlier : AllByRecursion (IsAllowed l) front = all-left (IsAllowed l) front (i ∷ after) (subst (AllByRecursion (IsAllowed l)) e all) in
+    let others = all-both (λ j. IsBefore j i) (IsAllowed l) (λ j. is_init name (Some i.number) (init_form l j) ≡ false) (λ j. init-other l is i j given.0) front
     (pairs-front IsBefore l.inits front i after is.inits_ascend e) earlier in
     let some : 1 ≤ i.number = given.1 in
     let limit = when (is_long name || eqb i.number 0 || false) Limit in
