@@ -11,6 +11,7 @@ pub mod Forming
 pub mod Giving
 pub mod Initials
 pub mod Inits
+pub mod InitsBack
 pub mod Lawful
 pub mod Lines
 pub mod Lookups
@@ -21,11 +22,13 @@ pub mod Naming
 pub mod Numbered
 pub mod Numbers
 pub mod Numerals
+pub mod OneBlock
 pub mod OpeningLines
 pub mod Openings
 pub mod Pieces
 pub mod Placing
 pub mod Reading
+pub mod Returned
 pub mod Rings
 pub mod Rows
 pub mod Spelled
