@@ -197,7 +197,7 @@ init-parts name other number n true e h = (same_word-yes name other e, same-numb
 init-parts name other number n false e h = cc
 
 -- the words and numbers of an initial value agree with others only where both are the same
-init-test : (name other : List ℕ) (number n : Option ℕ) → (same_word name other && same_number number n) ≡ true → (name ≡ other) × (number ≡ n)
+pub init-test : (name other : List ℕ) (number n : Option ℕ) → (same_word name other && same_number number n) ≡ true → (name ≡ other) × (number ≡ n)
 init-test name other number n h = init-parts name other number n (same_word name other) refl h
 
 or-cases : (a b : Bool) → (a || b) ≡ true → (a ≡ true) ⊎ (b ≡ true)

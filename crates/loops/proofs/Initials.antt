@@ -74,16 +74,16 @@ init-found name number (form ∷ forms) all h =
     some-or (value_in name number form) (init_value name number forms) (list_any (is_init name (Some number)) forms)
     (ap (λ b. b || list_any (is_init name (Some number)) forms) (sym (init-given name number form all.0)) ∙ h) (λ k. init-found name number forms all.1 k)
 
-numbers-run : IsRun 1 init_numbers 17
+pub numbers-run : IsRun 1 init_numbers 17
 numbers-run = (refl, (refl, (refl, (refl, (refl, (refl, (refl, (refl, (refl, (refl, (refl, (refl, (refl, (refl, (refl, (refl, refl))))))))))))))))
 
-abbrev initial : ℕ → ℕ → ℤ → Initial
+abbrev pub initial : ℕ → ℕ → ℤ → Initial
 initial statement number value = record { statement = statement; number = number; value = value }
 
-abbrev initial_in : List Form → ℕ → List ℕ → ℕ → Option Initial
+abbrev pub initial_in : List Form → ℕ → List ℕ → ℕ → Option Initial
 initial_in block statement name number = option_map (initial statement number) (init_value name number block)
 
-inits-has : (block : List Form) (n : ℕ) (sources : List Source) (k : ℕ) (s : Source) (name : List ℕ) (i : Initial) → slice_get sources k ≡ Some s → s.name ≡ Some name → Has (inits_at block (n + k) (Some name)) i
+pub inits-has : (block : List Form) (n : ℕ) (sources : List Source) (k : ℕ) (s : Source) (name : List ℕ) (i : Initial) → slice_get sources k ≡ Some s → s.name ≡ Some name → Has (inits_at block (n + k) (Some name)) i
     → Has (inits_from block n sources) i
 inits-has block n [] k s name i e f h = absurd (none-some s e)
 inits-has block n (t ∷ sources) zero s name i e f h =

@@ -14,6 +14,7 @@ pub mod HeadLines
 pub mod InitLines
 pub mod Initials
 pub mod Inits
+pub mod InitsBack
 pub mod Insides
 pub mod Lawful
 pub mod Lines
@@ -25,6 +26,7 @@ pub mod Naming
 pub mod Numbered
 pub mod Numbers
 pub mod Numerals
+pub mod OneBlock
 pub mod OpeningLines
 pub mod Openings
 pub mod OutLines
@@ -32,6 +34,7 @@ pub mod Parts
 pub mod Pieces
 pub mod Placing
 pub mod Reading
+pub mod Returned
 pub mod Rings
 pub mod Rows
 pub mod ShortNames
