@@ -13,6 +13,7 @@ pub mod Initials
 pub mod Inits
 pub mod Lawful
 pub mod Lines
+pub mod LoopNames
 pub mod Made
 pub mod Memoryless
 pub mod Names
@@ -24,6 +25,7 @@ pub mod OpeningLines
 pub mod Openings
 pub mod Pieces
 pub mod Placing
+pub mod PlainWords
 pub mod Reading
 pub mod Rings
 pub mod Rows
