@@ -32,6 +32,7 @@ pub mod Rows
 pub mod Spelled
 pub mod Splitting
 pub mod Standing
+pub mod StatementLines
 pub mod Stores
 pub mod Texts
 pub mod Turns
