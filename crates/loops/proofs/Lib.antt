@@ -30,6 +30,7 @@ pub mod Reading
 pub mod Rings
 pub mod Rows
 pub mod Spelled
+pub mod Spelling
 pub mod Splitting
 pub mod Standing
 pub mod StatementLines

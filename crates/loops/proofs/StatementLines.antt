@@ -1,13 +1,13 @@
 -- Statements and initial values of the canonical text have the forms that they were written from.
-use Rattle.std.proofs.Common.{◌≡◌, ℕ, zero, suc, ℤ, ◌+◌, ◌≤◌, Bool, true, false, cond, eqb, not, ◌&&◌, ◌||◌, List, [], ◌∷◌, ◌++◌, codes, length, map, Option, Some, None, is_some, refl, sym, ap, ◌∙◌, arith, FitsSigned, w64}
+use Rattle.std.proofs.Common.{◌≡◌, ℕ, ℤ, ◌≤◌, Bool, true, false, cond, eqb, not, ◌&&◌, List, [], ◌∷◌, ◌++◌, codes, length, map, Option, Some, None, is_some, refl, ap, ◌∙◌, arith, FitsSigned, w64}
 use Rattle.std.specs.List.{AllByRecursion, list_any, find, before_first, after_first}
 use Rattle.std.specs.Option.{option_map}
 use Rattle.std.specs.Fmt.{decimal, signed_decimal}
 use Rattle.std.proofs.lemmas.Bool.{and_parts, and_from, or_parts, not-true, cond-true, cond-false, eq-eqb}
 use Rattle.machine.specs.declared.opcode.Opcode.{Opcode}
 use Rattle.machine.specs.declared.opcode.Opcode.TheVariants.{Load, Store, Add, Sub, Mul, And, Or, Xor, Min, Max, Lt, Sel, Mov}
-use Rattle.machine.specs.Opcodes.{word_of, opcode_named, same_word, all_opcodes}
-use Rattle.loops.specs.Forms.{Form, Use, Source, Subscript, InitLine, StatementLine, Malformed, small_of, is_number, is_name, is_reserved, starts_name, keywords, int_of, init_of, init_line, with_use, uses_of, use_of, place_of, operands_of, formed, loop_line, array_line, param_line, store_line, store_of, out_line, end_line, load_line, compute_line, value_of, value_line, form_of}
+use Rattle.machine.specs.Opcodes.{word_of, opcode_named, same_word}
+use Rattle.loops.specs.Forms.{Form, Use, Subscript, InitLine, StatementLine, Malformed, small_of, is_number, is_name, is_reserved, starts_name, keywords, int_of, init_of, init_line, with_use, uses_of, use_of, place_of, operands_of, formed, loop_line, array_line, param_line, store_line, store_of, out_line, end_line, compute_line, value_of, value_line, form_of}
 use Rattle.loops.proofs.Declared.{same_word-sym}
 use Rattle.loops.proofs.Numerals.{int_of-signed_decimal, is_number-decimal, small_of-decimal}
 use Rattle.loops.proofs.Forming.{before_first-at, after_first-at, list_any-at, name_not_at}
