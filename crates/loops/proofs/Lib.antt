@@ -19,6 +19,7 @@ pub mod Insides
 pub mod Lawful
 pub mod Lines
 pub mod Lookups
+pub mod LoopNames
 pub mod Made
 pub mod Memoryless
 pub mod Names
@@ -33,14 +34,17 @@ pub mod OutLines
 pub mod Parts
 pub mod Pieces
 pub mod Placing
+pub mod PlainWords
 pub mod Reading
 pub mod Returned
 pub mod Rings
 pub mod Rows
 pub mod ShortNames
 pub mod Spelled
+pub mod Spelling
 pub mod Splitting
 pub mod Standing
+pub mod StatementForms
 pub mod StatementLines
 pub mod Stores
 pub mod Texts
