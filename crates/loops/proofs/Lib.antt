@@ -35,6 +35,7 @@ pub mod Parts
 pub mod Pieces
 pub mod Placing
 pub mod PlainWords
+pub mod ReadBack
 pub mod Reading
 pub mod Returned
 pub mod Rings
