@@ -29,6 +29,7 @@ pub mod PlainWords
 pub mod Reading
 pub mod Rings
 pub mod Rows
+pub mod Sizes
 pub mod Spelled
 pub mod Spelling
 pub mod Splitting
