@@ -41,6 +41,7 @@ pub mod Returned
 pub mod Rings
 pub mod Rows
 pub mod ShortNames
+pub mod Sizes
 pub mod Spelled
 pub mod Spelling
 pub mod Splitting

@@ -27,11 +27,6 @@ digits_are_plain (c ∷ cs) h =
     let parts = and_parts (is_ascii_digit c) (all_ascii_digits cs) h in
     and_from (is_plain_byte c) (list_all is_plain_byte cs) (digit_is_plain c parts.0) (digits_are_plain cs parts.1)
 
--- the bytes of a plain word
-pub plain_bytes : (word : List ℕ) → is_plain word ≡ true → list_all is_plain_byte word ≡ true
-plain_bytes [] h = refl
-plain_bytes (c ∷ cs) h = h
-
 pub plain_join : (word rest : List ℕ) → is_plain word ≡ true → list_all is_plain_byte rest ≡ true → is_plain (word ++ rest) ≡ true
 plain_join [] rest h k = cc
 plain_join (c ∷ cs) rest h k =

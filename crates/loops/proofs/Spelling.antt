@@ -22,7 +22,7 @@ use Rattle.loops.specs.Meaning.{forms_of}
 use Rattle.loops.specs.Text.{array_name, param_name, value_name, at_distance, operand_word, place_word, place_words, offset_text, array_words, param_words, init_words, words_by, statement_words, out_words, words_of_loop, text_of}
 use Rattle.loops.specs.Words.{lines_of, words_of}
 use Rattle.loops.proofs.Written.{array_form, param_form, init_form, use_form, place_form, statement_form, out_form, written_forms}
-use Rattle.loops.proofs.LoopNames.{all-numbered, arrays-named, params-named, statement-named, array_name-named, param_name-named, value_name-named}
+use Rattle.loops.proofs.LoopNames.{all-both, all-numbered, arrays-named, params-named, statement-named, array_name-named, param_name-named, value_name-named}
 use Rattle.loops.proofs.Names.{is_plain-name, use_of-name}
 use Rattle.loops.proofs.Numerals.{int_of-signed_decimal}
 use Rattle.loops.proofs.PlainWords.{long-fits, is_plain-signed, is_plain-distance, is_plain-place, is_plain-opcode}
@@ -64,10 +64,6 @@ all-formed (x ∷ xs) (f ∷ fs) h = ap (λ o. o ∷ map line_form xs) h.0.1 ∙
 forms-mapped : (lines : List (List ℕ)) → map (λ line. line_form (words_of line)) lines ≡ map line_form (map words_of lines)
 forms-mapped [] = refl
 forms-mapped (x ∷ xs) = ap (λ fs. line_form (words_of x) ∷ fs) (forms-mapped xs)
-
-all-both : {X : Type 0} (P Q R : X → Type 0) → ((x : X) → P x → Q x → R x) → (xs : List X) → AllByRecursion P xs → AllByRecursion Q xs → AllByRecursion R xs
-all-both P Q R w [] h k = tt
-all-both P Q R w (x ∷ xs) h k = (w x h.0 k.0, all-both P Q R w xs h.1 k.1)
 
 -- lines of names and numbers
 

@@ -17,9 +17,6 @@ use Rattle.loops.proofs.Forming.{before_first-at, after_first-at, list_any-at, n
 find-first : (p : Opcode → Bool) (o : Opcode) (os : List Opcode) → is_some (find p (o ∷ os)) ≡ false → (p o ≡ false) × (is_some (find p os) ≡ false)
 find-first p o os h = elim (p o) as (λ b. is_some (cond b (Some o) (find p os)) ≡ false → (b ≡ false) × (is_some (find p os) ≡ false)) [ true ↦ λ k. cc | false ↦ λ k. (refl, k) ] h
 
-abbrev IsOtherWord : List ℕ → List ℕ → Type 0
-IsOtherWord word name = same_word name word ≡ false
-
 no_reserved : (name : List ℕ) → is_name name ≡ true → is_reserved name ≡ false
 unfolding is_name
 no_reserved name h = not-true (is_reserved name) (and_parts (starts_name name) (not (is_reserved name)) h).1
