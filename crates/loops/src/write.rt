@@ -19,7 +19,6 @@ use std::alloc::Global;
 /// The one canonical text of a loop: a line for its name, each array, parameter, initial value,
 /// statement and value that is live at the end, and `end`. A subscript constant and a distance of 0
 /// are left out. It is read back as the loop alone.
-#[tactic(auto, using(crate::proofs::ReadBack::read_back))]
 pub fn write_loop(alloc: Global, innermost: &Loop) -> Result<String, OutOfMemory>
     ensures text { IfOk result (λ text. string_bytes text ≡ text_of innermost.now) }
     ensures reads_back { IfOk result (λ text. loops_in (string_bytes text) ≡ Ok (innermost.now ∷ [])) }
