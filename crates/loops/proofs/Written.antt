@@ -1,5 +1,5 @@
 -- The forms of the lines of a loop's canonical text.
-use Rattle.std.proofs.Common.{ℕ, zero, suc, List, [], ◌∷◌, ◌++◌, map, Option, Some, None}
+use Rattle.std.proofs.Common.{ℕ, zero, suc, List, [], ◌∷◌, ◌++◌, map, Some}
 use Rattle.std.specs.Option.{option_map}
 use Rattle.loops.specs.declared.lists.Array.{Array}
 use Rattle.loops.specs.declared.lists.Param.{Param}
