@@ -1,5 +1,5 @@
 -- The look-ups of the reader give the faults of a line.
-use Rattle.std.proofs.Common.{◌≡◌, ◌⊎◌, ℕ, zero, suc, ℤ, ◌+◌, ◌*◌, ◌<◌, ◌≤◌, ◌==◌, ◌&&◌, ◌||◌, not, Bool, true, false, cond, if◌then◌else◌, List, [], ◌∷◌, ◌++◌, length, Option, Some, None, is_some, is_none, refl, sym, ◌∙◌, ap, subst, inl, inr, ⊎_elim, nat_lt, nat_le, arith, append_assoc, zero-add}
+use Rattle.std.proofs.Common.{◌≡◌, ◌⊎◌, ℕ, zero, suc, ℤ, ◌<◌, ◌≤◌, ◌==◌, ◌&&◌, ◌||◌, not, Bool, true, false, if◌then◌else◌, List, [], ◌∷◌, ◌++◌, length, Option, Some, None, is_some, is_none, refl, sym, ◌∙◌, ap, subst, inl, inr, ⊎_elim, nat_lt, nat_le, arith, append_assoc}
 use Rattle.std.specs.Option.{option_or}
 use Rattle.std.specs.List.{list_any, AllByRecursion}
 use Rattle.std.proofs.lemmas.Bool.{false_from_ne_true, eq-eqb, eqb-true, false≢true}
@@ -9,11 +9,11 @@ use Rattle.machine.specs.Opcodes.{same_word}
 use Rattle.loops.specs.declared.fault.LoopFaultKind.TheVariants.{Limit, RepeatedName, UnknownName, UseBeforeDefinition, MissingInit}
 use Rattle.loops.specs.declared.index.Counts.{Counts}
 use Rattle.loops.specs.Forms.{Form, LoopLine, ArrayLine, ParamLine, InitLine, StatementLine, OutLine, EndLine, Malformed, Source, Use, Number, Plain, At}
-use Rattle.loops.specs.Meaning.{Declared, AnArray, AParam, AValue, declared, first_declared, number_of, is_array, is_param, is_statement, is_value, is_init, is_out_of, init_value, has_init, has_inits, has_statement, is_uncovered, is_wide, is_wide_place, is_unknown, is_unknown_place, is_early, stands, any_name, faults_of, when, is_long, is_outside, Kinds}
+use Rattle.loops.specs.Meaning.{Declared, AnArray, AParam, AValue, declared, first_declared, number_of, is_array, is_param, is_statement, is_value, is_init, is_out_of, has_init, has_inits, has_statement, is_uncovered, is_wide, is_wide_place, is_unknown, is_unknown_place, is_early, stands, any_name, faults_of, when, is_long, is_outside, Kinds}
 use Rattle.loops.specs.Blocks.{one_if}
-use Rattle.loops.specs.Checks.{is_that, is_given, is_live, covers, covers_name, lacks_init, slot, kinds_at, IsCounted, IsGiven, IsNear, IsNearForm, IsNearUse}
+use Rattle.loops.specs.Checks.{is_that, is_given, is_live, covers, covers_name, lacks_init, kinds_at, IsCounted, IsGiven, IsNear, IsNearForm, IsNearUse}
 use Rattle.loops.proofs.Reading.{is_end}
-use Rattle.loops.proofs.Declared.{declared-append, declared_after, same_word-here, number_of-cons}
+use Rattle.loops.proofs.Declared.{declared-append, same_word-here, number_of-cons}
 use Rattle.std.proofs.lemmas.List.Sums.{sum_by-append}
 
 pub number_of-seam : (p : Form → Bool) (before : List Form) (form : Form) (forms : List Form) → p form ≡ true → number_of p before < number_of p (before ++ form ∷ forms)

@@ -1,5 +1,5 @@
 -- Which initial values the tables have.
-use Rattle.std.proofs.Common.{◌≡◌, ℕ, zero, suc, ℤ, ◌<◌, ◌≤◌, ◌&&◌, Bool, true, false, List, Option, is_some, refl, sym, ◌∙◌, ap, arith, ⊎_elim}
+use Rattle.std.proofs.Common.{◌≡◌, ℕ, zero, suc, ℤ, ◌<◌, ◌&&◌, Bool, true, false, List, Option, is_some, refl, sym, ◌∙◌, ap, arith, ⊎_elim}
 use Rattle.std.proofs.lemmas.Bool.{cases_eq}
 use Rattle.loops.specs.Checks.{covers, slot}
 

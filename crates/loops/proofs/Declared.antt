@@ -1,5 +1,5 @@
 -- The first declaration of a name in a block.
-use Rattle.std.proofs.Common.{◌≡◌, ◌≢◌, ◌⊎◌, ℕ, suc, zero, ◌+◌, ◌<◌, ◌≤◌, ◌&&◌, ◌||◌, not, Bool, true, false, cond, List, [], ◌∷◌, ◌++◌, Option, Some, None, is_some, refl, sym, ◌∙◌, ap, inl, inr, arith, rules, append_assoc, MatchOption}
+use Rattle.std.proofs.Common.{◌≡◌, ℕ, ◌+◌, ◌<◌, ◌≤◌, Bool, true, false, cond, List, [], ◌∷◌, ◌++◌, Option, Some, None, refl, sym, ◌∙◌, ap, arith, append_assoc}
 use Rattle.std.proofs.Common.{Decides, if◌then◌else◌}
 use Rattle.std.specs.Option.{option_or}
 use Rattle.std.proofs.Common.{take, get_or, length}
@@ -7,20 +7,18 @@ use Rattle.std.proofs.lemmas.List.{take_more, map-append}
 use Rattle.std.proofs.lemmas.List.Sums.{sum_by_push}
 use Rattle.loops.specs.declared.entry.Entry.{Entry}
 use Rattle.loops.specs.Parsed.{form_seen}
-use Rattle.loops.specs.Blocks.{forms_in, one_if, declared_seen, declared_if}
-use Rattle.std.proofs.Common.{option_map, subst, zero-add}
-use Rattle.loops.specs.Checks.{IsCounted}
+use Rattle.loops.specs.Blocks.{forms_in, one_if, declared_seen}
+use Rattle.std.proofs.Common.{option_map, zero-add}
 use Rattle.loops.specs.Meaning as meaning
 use Rattle.loops.specs.declared.index.Declared as code
 use Rattle.std.specs.Map.{update}
 use Rattle.std.specs.Str.{bytes_eq}
 use Rattle.std.proofs.lemmas.Slice.Eq.{bytes_eq-Decides}
 use Rattle.std.proofs.lemmas.Bool.Decides.{same_from_decides}
-use Rattle.std.specs.List.{count_by}
 use Rattle.std.proofs.lemmas.List.Sums.{sum_by-append}
 use Rattle.std.proofs.lemmas.List.{append-nil}
 use Rattle.machine.specs.Opcodes.{same_word}
-use Rattle.loops.specs.Forms.{Form, LoopLine, ArrayLine, ParamLine, InitLine, StatementLine, OutLine, EndLine, Malformed, Source}
+use Rattle.loops.specs.Forms.{Form}
 use Rattle.loops.specs.Meaning.{Declared, AnArray, AParam, AValue, declared_by, first_declared, declared, number_of, is_array, is_param, is_statement, any_name}
 
 pub option_or-none : {T : Type 0} (a : Option T) → option_or a None ≡ a

@@ -53,12 +53,12 @@ after_first-at p xs rest c none met =
     ap (λ n. drop (n + 1) (xs ++ c ∷ rest)) (position_of p xs rest c none met)
     ∙ ap (drop (length xs + 1)) (sym (append_assoc xs (c ∷ []) rest)) ∙ drop_at (xs ++ c ∷ []) rest (length xs + 1) (length_push xs c)
 
-list_any-at : (p : ℕ → Bool) (xs rest : List ℕ) (c : ℕ) → p c ≡ true → list_any p (xs ++ c ∷ rest) ≡ true
+pub list_any-at : (p : ℕ → Bool) (xs rest : List ℕ) (c : ℕ) → p c ≡ true → list_any p (xs ++ c ∷ rest) ≡ true
 list_any-at p [] rest c met = or_left (p c) (list_any p rest) met
 list_any-at p (x ∷ xs) rest c met = or_right (p x) (list_any p (xs ++ c ∷ rest)) (list_any-at p xs rest c met)
 
 -- the byte `@` is in no name
-name_not_at : (name : List ℕ) → is_name name ≡ true → list_any (λ c. eqb c 64) name ≡ false
+pub name_not_at : (name : List ℕ) → is_name name ≡ true → list_any (λ c. eqb c 64) name ≡ false
 name_not_at [] h = refl
 name_not_at (c ∷ cs) h =
     let bytes = name_bytes c cs h in

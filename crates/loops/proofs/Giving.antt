@@ -1,19 +1,19 @@
 -- What one more line gives to the values of a block.
-use Rattle.std.proofs.Common.{◌≡◌, ◌≢◌, ◌⊎◌, ℕ, zero, suc, ℤ, ◌+◌, ◌*◌, ◌<◌, ◌≤◌, ◌==◌, ◌&&◌, ◌||◌, not, Bool, true, false, cond, if◌then◌else◌, List, [], ◌∷◌, ◌++◌, length, Option, Some, None, is_some, is_none, nat_lt, refl, sym, ◌∙◌, ap, subst, inl, inr, ⊎_elim, arith, get_or, set, replicate}
+use Rattle.std.proofs.Common.{◌≡◌, ◌≢◌, ◌⊎◌, ℕ, zero, suc, ℤ, ◌+◌, ◌*◌, ◌<◌, ◌≤◌, ◌&&◌, ◌||◌, not, Bool, true, false, if◌then◌else◌, List, [], ◌∷◌, ◌++◌, length, Option, Some, None, is_some, is_none, nat_lt, refl, sym, ◌∙◌, ap, subst, inl, inr, ⊎_elim, arith, get_or, set, replicate}
 use Rattle.std.specs.Option.{option_or}
 use Rattle.std.specs.List.{list_any}
 use Rattle.std.proofs.lemmas.Bool.{false≢true, cases_eq, eq-eqb, eqb-true}
 use Rattle.std.proofs.lemmas.Bool.Decides.{nat_tests}
-use Rattle.std.proofs.lemmas.List.{append-nil, get_or-set_same, get_or-set_other, get_or-replicate, length-set, length-replicate}
+use Rattle.std.proofs.lemmas.List.{get_or-set_same, get_or-set_other, get_or-replicate, length-set, length-replicate}
 use Rattle.std.proofs.lemmas.List.Folds.{list_any-append}
 use Rattle.machine.specs.Opcodes.{same_word}
 use Rattle.loops.specs.declared.fault.LoopFaultKind.TheVariants.{Limit, RepeatedName, UnknownName, MissingInit}
 use Rattle.loops.specs.declared.fault.LoopFaultKind.{LoopFaultKind}
-use Rattle.loops.specs.Forms.{Form, LoopLine, ArrayLine, ParamLine, InitLine, StatementLine, OutLine, EndLine, Malformed, Source}
-use Rattle.loops.specs.Meaning.{Declared, AnArray, AParam, AValue, declared, first_declared, number_of, is_array, is_param, is_statement, is_value, is_init, is_out_of, init_value, value_in, has_init, same_number, stands, any_name, faults_of, when, is_long, is_outside, Kinds}
-use Rattle.loops.specs.Checks.{slot, with_init, inits_with, with_live, outs_with, IsCounted, IsGiven, IsNear, IsNearForm}
+use Rattle.loops.specs.Forms.{Form, LoopLine, ArrayLine, ParamLine, InitLine, StatementLine, OutLine, EndLine, Malformed}
+use Rattle.loops.specs.Meaning.{Declared, AnArray, AParam, AValue, declared, first_declared, number_of, is_array, is_param, is_statement, is_value, is_init, is_out_of, init_value, value_in, has_init, same_number, any_name, faults_of, when, is_long, is_outside, Kinds}
+use Rattle.loops.specs.Checks.{with_init, inits_with, with_live, outs_with, IsCounted, IsGiven, IsNear, IsNearForm}
 use Rattle.loops.proofs.Declared.{number_of-push, option_or-none, option_or-assoc, same_word-here, same_word-yes}
-use Rattle.loops.proofs.Checking.{or-none, or-true, value-of, not-from, declared-below, number_of-seam}
+use Rattle.loops.proofs.Checking.{or-none, or-true, not-from, declared-below}
 
 -- two names do not stand for one value
 
@@ -197,7 +197,7 @@ init-parts name other number n true e h = (same_word-yes name other e, same-numb
 init-parts name other number n false e h = cc
 
 -- the words and numbers of an initial value agree with others only where both are the same
-init-test : (name other : List ℕ) (number n : Option ℕ) → (same_word name other && same_number number n) ≡ true → (name ≡ other) × (number ≡ n)
+pub init-test : (name other : List ℕ) (number n : Option ℕ) → (same_word name other && same_number number n) ≡ true → (name ≡ other) × (number ≡ n)
 init-test name other number n h = init-parts name other number n (same_word name other) refl h
 
 or-cases : (a b : Bool) → (a || b) ≡ true → (a ≡ true) ⊎ (b ≡ true)

@@ -10,11 +10,12 @@ use Rattle.machine.specs.Opcodes.{same_word}
 use Rattle.loops.specs.declared.fault.LoopFaultKind.TheVariants.{Limit, RepeatedName, UnknownName, MissingInit}
 use Rattle.loops.specs.declared.lists.Initial.{Initial}
 use Rattle.loops.specs.Forms.{Form, InitLine, OutLine, Source}
-use Rattle.loops.specs.Loops.{LoopData, GivesValue, HasInitial, IsBefore}
+use Rattle.loops.specs.Loops.{LoopData, GivesValue, HasInitial, IsBefore, IsLong}
 use Rattle.loops.specs.Meaning.{AValue, declared, is_value, is_init, init_value, init_numbers, value_in, has_init, same_number, is_out_of, when, is_long, is_outside, array_in, param_in, source_in, out_in, statement_of, inits_at, inits_from, number_at}
 use Rattle.loops.proofs.Declared.{same_word-here}
 use Rattle.loops.proofs.Numbered.{EachFrom, Ascends, ascends-lower, ascends-append, ascends-pairs, Has, has-left, has-right, IsRun, run-has, run-ascends, run-bounds, all-join, all-filtered}
 use Rattle.loops.proofs.Lines.{IsClean, append-none, when-only, value-named, one-name, value-of}
+use Rattle.loops.proofs.Spelled.{IsSpelled, IsKept}
 
 -- the loop of a block
 abbrev pub the_loop : List ℕ → List Form → LoopData
@@ -73,16 +74,16 @@ init-found name number (form ∷ forms) all h =
     some-or (value_in name number form) (init_value name number forms) (list_any (is_init name (Some number)) forms)
     (ap (λ b. b || list_any (is_init name (Some number)) forms) (sym (init-given name number form all.0)) ∙ h) (λ k. init-found name number forms all.1 k)
 
-numbers-run : IsRun 1 init_numbers 17
+pub numbers-run : IsRun 1 init_numbers 17
 numbers-run = (refl, (refl, (refl, (refl, (refl, (refl, (refl, (refl, (refl, (refl, (refl, (refl, (refl, (refl, (refl, (refl, refl))))))))))))))))
 
-abbrev initial : ℕ → ℕ → ℤ → Initial
+abbrev pub initial : ℕ → ℕ → ℤ → Initial
 initial statement number value = record { statement = statement; number = number; value = value }
 
-abbrev initial_in : List Form → ℕ → List ℕ → ℕ → Option Initial
+abbrev pub initial_in : List Form → ℕ → List ℕ → ℕ → Option Initial
 initial_in block statement name number = option_map (initial statement number) (init_value name number block)
 
-inits-has : (block : List Form) (n : ℕ) (sources : List Source) (k : ℕ) (s : Source) (name : List ℕ) (i : Initial) → slice_get sources k ≡ Some s → s.name ≡ Some name → Has (inits_at block (n + k) (Some name)) i
+pub inits-has : (block : List Form) (n : ℕ) (sources : List Source) (k : ℕ) (s : Source) (name : List ℕ) (i : Initial) → slice_get sources k ≡ Some s → s.name ≡ Some name → Has (inits_at block (n + k) (Some name)) i
     → Has (inits_from block n sources) i
 inits-has block n [] k s name i e f h = absurd (none-some s e)
 inits-has block n (t ∷ sources) zero s name i e f h =
@@ -128,6 +129,48 @@ inits-here Q block n (Some name) q =
 pub inits-all : (Q : ℕ → Type 0) (block : List Form) (n : ℕ) (sources : List Source) → EachFrom (λ v (s : Source). (name : List ℕ) → s.name ≡ Some name → Q v) n sources → AllByRecursion (IsInitialOf Q) (inits_from block n sources)
 inits-all Q block n [] q = tt
 inits-all Q block n (s ∷ sources) q = all-join (IsInitialOf Q) (inits_at block n s.name) (inits_from block (n + 1) sources) (inits-here Q block n s.name q.0) (inits-all Q block (n + 1) sources q.1)
+
+-- each is a number of 64 bits
+
+spelled-from : (block before forms : List Form) → IsClean block → block ≡ before ++ forms → AllByRecursion IsSpelled forms
+spelled-from block before [] clean e = tt
+spelled-from block before (form ∷ forms) clean e = (clean.spelled before form forms e, spelled-from block (before ++ form ∷ []) forms clean (e ∙ sym (append_assoc before (form ∷ []) forms)))
+
+kept-if : (b : Bool) (value : Option ℤ) → IsKept value → IsKept (if b then value else None)
+kept-if true value h = h
+kept-if false value h = tt
+
+kept-or : (o rest : Option ℤ) → IsKept o → IsKept rest → IsKept (option_or o rest)
+kept-or None rest h k = k
+kept-or (Some z) rest h k = h
+
+kept-in : (name : List ℕ) (number : ℕ) (form : Form) → IsSpelled form → IsKept (value_in name number form)
+kept-in name number (InitLine other n value) h = kept-if (same_word name other && same_number (Some number) n) value h
+kept-in name number _ h = tt
+
+kept-value : (name : List ℕ) (number : ℕ) (forms : List Form) → AllByRecursion IsSpelled forms → IsKept (init_value name number forms)
+kept-value name number [] all = tt
+kept-value name number (form ∷ forms) all = kept-or (value_in name number form) (init_value name number forms) (kept-in name number form all.0) (kept-value name number forms all.1)
+
+abbrev IsLongInitial : Initial → Type 0
+IsLongInitial i = IsLong i.value
+
+initial-long : (statement number : ℕ) (o : Option ℤ) (i : Initial) → IsKept o → option_map (initial statement number) o ≡ Some i → IsLongInitial i
+initial-long statement number None i k h = absurd (none-some i h)
+initial-long statement number (Some z) i k h = subst IsLongInitial (same_Some (initial statement number z) i h) k
+
+long-here : (block : List Form) (n : ℕ) (o : Option (List ℕ)) → AllByRecursion IsSpelled block → AllByRecursion IsLongInitial (inits_at block n o)
+long-here block n None all = tt
+long-here block n (Some name) all =
+    all-filtered IsLongInitial (initial_in block n name) (λ m. (1 ≤ m) × (m < 17)) (λ m i b e. initial-long n m (init_value name m block) i (kept-value name m block all) e)
+    init_numbers (run-bounds 1 1 init_numbers 17 (omega arith) numbers-run)
+
+long-from : (block : List Form) (n : ℕ) (sources : List Source) → AllByRecursion IsSpelled block → AllByRecursion IsLongInitial (inits_from block n sources)
+long-from block n [] all = tt
+long-from block n (s ∷ sources) all = all-join IsLongInitial (inits_at block n s.name) (inits_from block (n + 1) sources) (long-here block n s.name all) (long-from block (n + 1) sources all)
+
+pub inits-long : (block : List Form) → IsClean block → All (λ (i : Initial). IsLong i.value) (inits_from block 0 (filter_map source_in block))
+inits-long block clean = All-from_recursion IsLongInitial (inits_from block 0 (filter_map source_in block)) (long-from block 0 (filter_map source_in block) (spelled-from block [] block clean refl))
 
 -- the initial values stand by statement and then by number
 

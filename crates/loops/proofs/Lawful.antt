@@ -14,12 +14,12 @@ use Rattle.loops.specs.declared.statement.Statement.{Statement}
 use Rattle.loops.specs.Blocks.{one_if}
 use Rattle.loops.specs.Checks.{IsBlock, IsCounted}
 use Rattle.loops.specs.Forms.{Form, Source, Subscript, Use, Number, Plain, At}
-use Rattle.loops.specs.Loops.{IsLoop, IsName, IsStatement, IsPlace, MayRead, GivesValue, declared_names}
+use Rattle.loops.specs.Loops.{IsLoop, IsName, IsStatement, IsPlace, MayRead, GivesValue, IsLong, declared_names}
 use Rattle.loops.specs.Meaning.{Declared, AnArray, AParam, AValue, declared, number_of, number_at, is_array, is_param, is_statement, is_value, is_array_name, is_readable, is_value_from, same_number, has_init, has_inits, has_statement, is_long, faults_of, reads, array_in, param_in, source_in, statement_of, operand_of, place_at, inits_from, loop_of}
 use Rattle.loops.proofs.Checking.{declared-below, counted-as}
 use Rattle.loops.proofs.Declared.{number_of-cons}
-use Rattle.loops.proofs.Initials.{the_loop, gives-value, has-initial, inits-all, inits-ascend, outs-different, outs-hold}
-use Rattle.loops.proofs.Lines.{IsClean, IsArrayAt, IsParamAt, IsSourceAt, IsUseAt, arrays-at, params-at, sources-at, numbered-length, array-agrees, param-agrees, source-agrees, value-of}
+use Rattle.loops.proofs.Initials.{the_loop, gives-value, has-initial, inits-all, inits-ascend, inits-long, outs-different, outs-hold}
+use Rattle.loops.proofs.Lines.{IsClean, IsArrayAt, IsParamAt, IsSourceAt, IsUseAt, arrays-at, params-at, sources-at, numbered-length, array-agrees, param-agrees, source-agrees, kept-long, value-of}
 use Rattle.loops.proofs.Numbered.{EachFrom, each-get, each-weaker, each-map, each-all, each-length, all-join, all-mapped, all-filtered, Ascends, ascends-lower, ascends-append, ascends-pairs, mapped-ascends, filtered-ascends}
 use Rattle.loops.proofs.Spelled.{IsSpelled, block-spelled}
 
@@ -208,7 +208,7 @@ at-read loop block clean n name d v e near late inits = (
 )
 
 use-read : (loop : List ℕ) (block : List Form) → IsClean block → (n : ℕ) (u : Use) → IsUseAt block n u → MayRead (the_loop loop block) n (operand_of block u)
-use-read loop block clean n (Number value) at = tt
+use-read loop block clean n (Number value) at = kept-long value at.near
 use-read loop block clean n (Plain name) at = plain-read loop block clean n name (declared block name) refl (not-false (is_readable (declared block name)) at.known) at.late
 use-read loop block clean n (At name None) at = absurd (true≢false (or_parts (is_long name) true at.narrow).1)
 use-read loop block clean n (At name (Some d)) at =
@@ -248,6 +248,19 @@ cells-are block clean =
     All-from_recursion (λ (a : Array). length a.cells ≤ 1024) (filter_map array_in block)
     (each-all (IsArrayAt block) (λ (a : Array). length a.cells ≤ 1024) (λ m a h. h.cells) 0 (filter_map array_in block) (arrays-at block clean))
 
+abbrev AreLongCells : Array → Type 0
+AreLongCells a = All IsLong a.cells
+
+cells-long : (block : List Form) → IsClean block → All (λ (a : Array). All IsLong a.cells) (filter_map array_in block)
+cells-long block clean =
+    All-from_recursion AreLongCells (filter_map array_in block)
+    (each-all (IsArrayAt block) AreLongCells (λ m a h. All-from_recursion IsLong a.cells h.values) 0 (filter_map array_in block) (arrays-at block clean))
+
+params-long : (block : List Form) → IsClean block → All (λ (p : Param). IsLong p.value) (filter_map param_in block)
+params-long block clean =
+    All-from_recursion (λ (p : Param). IsLong p.value) (filter_map param_in block)
+    (each-all (IsParamAt block) (λ (p : Param). IsLong p.value) (λ m p h. h.value) 0 (filter_map param_in block) (params-at block clean))
+
 clean-loop : (loop : List ℕ) (block : List Form) → IsName loop → has_statement block ≡ true → IsClean block → IsLoop (the_loop loop block)
 clean-loop loop block name some clean =
     record {
@@ -257,10 +270,13 @@ clean-loop loop block name some clean =
       statements_some = statements-some block some;
       statements_few = statements-few block clean;
       cells = cells-are block clean;
+      cell_values = cells-long block clean;
+      param_values = params-long block clean;
       names = all-names loop block clean;
       different = names-different loop block clean;
       each = statements-are loop block clean;
       inits = All-from_recursion (λ (i : Initial). GivesValue (the_loop loop block) i.statement × (1 ≤ i.number) × (i.number ≤ 16)) (inits_from block 0 (filter_map source_in block)) (inits-are loop block clean);
+      init_values = inits-long block clean;
       inits_ascend = inits-ascend (GivesValue (the_loop loop block)) block (filter_map source_in block) (inits-are loop block clean);
       outs = outs-hold loop block clean;
       outs_different = outs-different block clean;

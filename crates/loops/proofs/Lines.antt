@@ -3,6 +3,7 @@ use Rattle.std.proofs.Common.{◌≡◌, ℕ, suc, ℤ, pos, ◌+◌, ◌<◌, �
 use Rattle.std.specs.List.{AllByRecursion, list_any, filter_map, cons_option, slice_get}
 use Rattle.std.specs.Option.{option_or}
 use Rattle.std.proofs.lemmas.Bool.{false≢true, true≢false, or_parts, ltb-false, leb-false, not-false}
+use Rattle.std.proofs.lemmas.Int.{ints}
 use Rattle.std.proofs.lemmas.List.{length-map}
 use Rattle.std.proofs.lemmas.Option.{none-some, same_Some}
 use Rattle.machine.specs.Opcodes.{same_word}
@@ -11,13 +12,12 @@ use Rattle.loops.specs.declared.fault.LoopFaultKind.TheVariants.{Limit, Repeated
 use Rattle.loops.specs.declared.lists.Array.{Array}
 use Rattle.loops.specs.declared.lists.Param.{Param}
 use Rattle.loops.specs.Blocks.{one_if}
-use Rattle.loops.specs.Checks.{IsNearUse}
 use Rattle.loops.specs.Forms.{Form, LoopLine, ArrayLine, ParamLine, InitLine, StatementLine, OutLine, EndLine, Malformed, Source, Subscript, Use}
-use Rattle.loops.specs.Loops.{IsName, HasShape}
+use Rattle.loops.specs.Loops.{IsName, IsLong, HasShape}
 use Rattle.loops.specs.Meaning.{Declared, AnArray, AParam, AValue, declared, first_declared, number_of, is_array, is_param, is_statement, is_out, is_value, is_array_name, any_name, faults_of, when, Kinds, is_long, is_wide, is_wide_place, is_unknown, is_unknown_place, is_early, is_uncovered, array_in, param_in, source_in, out_in, statement_of, number_at}
 use Rattle.loops.proofs.Declared.{declared-append, declared_after, same_word-here, same_word-yes, number_of-push, number_of-cons}
 use Rattle.loops.proofs.Numbered.{EachFrom}
-use Rattle.loops.proofs.Spelled.{IsSpelled, IsSource, IsOffset, OnSome}
+use Rattle.loops.proofs.Spelled.{IsSpelled, IsSpelledUse, IsSource, IsOffset, IsKept, OnSome}
 
 -- each line of a block is spelled and has no fault behind the lines before it
 pub record IsClean (block : List Form) : Type 0 where
@@ -113,17 +113,29 @@ declared-here block front form after name d e none here =
     ∙ ap (λ o. option_or o (first_declared name front (form ∷ after))) (none-is (declared front name) none)
     ∙ ap (λ o. option_or o (first_declared name (front ++ form ∷ []) after)) here
 
+-- numbers
+
+pub kept-long : (value : Option ℤ) → IsKept value → IsLong (unwrap_or value (pos 0))
+kept-long None h = (omega (arith, ints), omega (arith, ints))
+kept-long (Some z) h = h
+
+cells-long : (cells : List (Option ℤ)) → AllByRecursion IsKept cells → AllByRecursion IsLong (map (λ cell. unwrap_or cell (pos 0)) cells)
+cells-long [] h = tt
+cells-long (cell ∷ cells) h = (kept-long cell h.0, cells-long cells h.1)
+
 -- arrays
 
 pub record IsArrayAt (block : List Form) (n : ℕ) (a : Array) : Type 0 where
   pub name : IsName a.name
   pub cells : length a.cells ≤ 1024
+  pub values : AllByRecursion IsLong a.cells
   pub few : n < 32
   pub is : declared block a.name ≡ Some (AnArray n)
 
 array-line : (block front after : List Form) (name : List ℕ) (cells : List (Option ℤ)) → IsClean block → block ≡ front ++ ArrayLine name cells ∷ after
     → IsArrayAt block (number_of is_array front) (record { name = name; cells = map (λ cell. unwrap_or cell (pos 0)) cells })
 array-line block front after name cells clean e =
+    let spelled = clean.spelled front (ArrayLine name cells) after e in
     let faults = clean.faultless front (ArrayLine name cells) after e in
     let wide = is_long name || list_any is_none cells || nat_lt 1024 (length cells) || nat_le 32 (number_of is_array front) in
     let parts = when-parts wide Limit (when (is_some (declared front name)) RepeatedName) faults in
@@ -133,8 +145,9 @@ array-line block front after name cells clean e =
     let size = ltb-false 1024 (length cells) large.1 in
     let count : length (map (λ (cell : Option ℤ). unwrap_or cell (pos 0)) cells) ≡ length cells = length-map cells (λ (cell : Option ℤ). unwrap_or cell (pos 0)) in
     record {
-      name = record { formed = clean.spelled front (ArrayLine name cells) after e; short = ltb-false 16 (length name) long.0 };
+      name = record { formed = spelled.0; short = ltb-false 16 (length name) long.0 };
       cells = omega arith;
+      values = cells-long cells spelled.1;
       few = leb-false 32 (number_of is_array front) many.1;
       is = declared-here block front (ArrayLine name cells) after name (AnArray (number_of is_array front)) e (when-only (is_some (declared front name)) RepeatedName parts.1)
           (ap (λ b. if b then Some (AnArray (number_of is_array front)) else None) (same_word-here name));
@@ -152,18 +165,21 @@ arrays-at block clean = numbered (IsArrayAt block) is_array array_in array-agree
 
 pub record IsParamAt (block : List Form) (n : ℕ) (p : Param) : Type 0 where
   pub name : IsName p.name
+  pub value : IsLong p.value
   pub few : n < 64
   pub is : declared block p.name ≡ Some (AParam n)
 
 param-line : (block front after : List Form) (name : List ℕ) (value : Option ℤ) → IsClean block → block ≡ front ++ ParamLine name value ∷ after
     → IsParamAt block (number_of is_param front) (record { name = name; value = unwrap_or value (pos 0) })
 param-line block front after name value clean e =
+    let spelled = clean.spelled front (ParamLine name value) after e in
     let faults = clean.faultless front (ParamLine name value) after e in
     let parts = when-parts (is_long name || is_none value || nat_le 64 (number_of is_param front)) Limit (when (is_some (declared front name)) RepeatedName) faults in
     let many = or_parts (is_long name || is_none value) (nat_le 64 (number_of is_param front)) parts.0 in
     let long = or_parts (is_long name) (is_none value) many.0 in
     record {
-      name = record { formed = clean.spelled front (ParamLine name value) after e; short = ltb-false 16 (length name) long.0 };
+      name = record { formed = spelled.0; short = ltb-false 16 (length name) long.0 };
+      value = kept-long value spelled.1;
       few = leb-false 64 (number_of is_param front) many.1;
       is = declared-here block front (ParamLine name value) after name (AParam (number_of is_param front)) e (when-only (is_some (declared front name)) RepeatedName parts.1)
           (ap (λ b. if b then Some (AParam (number_of is_param front)) else None) (same_word-here name));
@@ -181,7 +197,7 @@ params-at block clean = numbered (IsParamAt block) is_param param_in param-agree
 
 -- a use by the statement of this number
 pub record IsUseAt (block : List Form) (n : ℕ) (u : Use) : Type 0 where
-  pub near : IsNearUse u
+  pub near : IsSpelledUse u
   pub narrow : is_wide u ≡ false
   pub known : is_unknown block u ≡ false
   pub late : is_early block n u ≡ false
@@ -196,7 +212,7 @@ pub record IsSourceAt (block : List Form) (n : ℕ) (s : Source) : Type 0 where
   pub array : (p : Subscript) → s.place ≡ Some p → is_array_name (declared block p.array) ≡ true
   pub uses : AllByRecursion (IsUseAt block n) s.uses
 
-uses-at : (block : List Form) (n : ℕ) (uses : List Use) → AllByRecursion IsNearUse uses → list_any is_wide uses ≡ false → list_any (is_unknown block) uses ≡ false → list_any (is_early block n) uses ≡ false
+uses-at : (block : List Form) (n : ℕ) (uses : List Use) → AllByRecursion IsSpelledUse uses → list_any is_wide uses ≡ false → list_any (is_unknown block) uses ≡ false → list_any (is_early block n) uses ≡ false
     → list_any (is_uncovered block) uses ≡ false → AllByRecursion (IsUseAt block n) uses
 uses-at block n [] near wide unknown early uncovered = tt
 uses-at block n (u ∷ uses) near wide unknown early uncovered =

@@ -1,16 +1,16 @@
 -- No line has a fault that is want of memory.
-use Rattle.std.proofs.Common.{◌≡◌, ℕ, Bool, true, false, List, [], ◌∷◌, ◌++◌, Option, Some, None, refl, sym, ◌∙◌, ap, subst}
+use Rattle.std.proofs.Common.{◌≡◌, ℕ, Bool, true, false, List, [], ◌∷◌, ◌++◌, Some, sym, subst}
 use Rattle.std.specs.List.{AllByRecursion}
 use Rattle.loops.specs.declared.entry.Entry.{Entry}
 use Rattle.loops.specs.declared.fault.LoopFault.{LoopFault}
 use Rattle.loops.specs.declared.fault.LoopFaultKind.{LoopFaultKind}
 use Rattle.loops.specs.declared.fault.LoopFaultKind.TheVariants.{Syntax, Limit, RepeatedName, UnknownName, UseBeforeDefinition, MissingInit, NoEnd, Memory}
 use Rattle.loops.specs.Forms.{Form, LoopLine, ArrayLine, ParamLine, InitLine, StatementLine, OutLine, EndLine, Malformed}
-use Rattle.loops.specs.Meaning.{faults_of, opening_faults, when, at_line, Kinds}
+use Rattle.loops.specs.Meaning.{faults_of, when, at_line, Kinds}
 use Rattle.loops.specs.Parsed.{form_seen}
 use Rattle.loops.specs.Blocks.{entry_faults}
 use Rattle.loops.specs.Checks.{first_in}
-use Rattle.loops.specs.Texts.{UnlessMemory, UnlessMemoryKind}
+use Rattle.loops.specs.Texts.{UnlessMemory}
 
 abbrev pub IsKind : LoopFaultKind → Type 0
 IsKind Memory = ⊥

@@ -89,11 +89,11 @@ pub has-right : {X : Type 0} (xs ys : List X) (x : X) → Has ys x → Has (xs +
 has-right [] ys x h = h
 has-right (z ∷ xs) ys x h = has-later z (xs ++ ys) x (has-right xs ys x h)
 
-has-behind : {X : Type 0} (o : Option X) (xs : List X) (x : X) → Has xs x → Has (cons_option o xs) x
+pub has-behind : {X : Type 0} (o : Option X) (xs : List X) (x : X) → Has xs x → Has (cons_option o xs) x
 has-behind None xs x h = h
 has-behind (Some y) xs x h = has-later y xs x h
 
-has-first : {X : Type 0} (o : Option X) (xs : List X) (x : X) → o ≡ Some x → Has (cons_option o xs) x
+pub has-first : {X : Type 0} (o : Option X) (xs : List X) (x : X) → o ≡ Some x → Has (cons_option o xs) x
 has-first None xs x h = absurd (none-some x h)
 has-first (Some y) xs x h = (zero, h)
 

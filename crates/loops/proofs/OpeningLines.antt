@@ -1,5 +1,5 @@
 -- The lines outside the blocks of a text.
-use Rattle.std.proofs.Common.{◌≡◌, ℕ, ◌+◌, ◌<◌, ◌≤◌, ◌||◌, Bool, true, false, nat_lt, nat_le, if◌then◌else◌, List, [], ◌∷◌, ◌++◌, length, map, Option, Some, None, Result, Ok, Err, refl, sym, ◌∙◌, ap, subst, arith, append_assoc}
+use Rattle.std.proofs.Common.{◌≡◌, ℕ, ◌+◌, ◌<◌, ◌≤◌, ◌||◌, true, false, nat_lt, nat_le, if◌then◌else◌, List, [], ◌∷◌, ◌++◌, length, map, Option, Some, None, Result, Ok, Err, refl, sym, ◌∙◌, ap, subst, arith, append_assoc}
 use Rattle.std.specs.Borrow.{Bor}
 use Rattle.std.specs.List.{list_any}
 use Rattle.std.proofs.lemmas.Bool.Decides.{nat_tests}
@@ -12,7 +12,7 @@ use Rattle.loops.specs.declared.form.Form as code
 use Rattle.loops.specs.declared.form.Form.TheVariants as variants
 use Rattle.loops.specs.Forms.{Form, LoopLine, is_name}
 use Rattle.loops.specs.Loops.{LoopData}
-use Rattle.loops.specs.Meaning.{outside_faults, inside_faults, blocks_of, blocks_from, forms_of, loop_of, loops_in, first_fault, opening_faults, is_long, when, at_line, Answers, AnswersFault, Kinds}
+use Rattle.loops.specs.Meaning.{outside_faults, inside_faults, blocks_of, blocks_from, forms_of, loop_of, loops_in, first_fault, opening_faults, is_long, when, at_line, Answers, AnswersFault}
 use Rattle.loops.specs.Parsed.{form_seen}
 use Rattle.loops.specs.Checks.{first_in, line_at, IsNearForm}
 use Rattle.loops.specs.Texts.{UnlessMemory, UnlessMemoryKind, seen}
@@ -20,8 +20,8 @@ use Rattle.std.specs.Prelude.{Vec}
 use Rattle.std.specs.Global.{Global}
 use Rattle.std.specs.Result.{IsErrAnd}
 use Rattle.loops.proofs.Giving.{none-front, when-false, or-false-left, or-false-right}
-use Rattle.loops.proofs.Blocking.{first-append, first-end}
-use Rattle.loops.proofs.BlockStanding.{Holds, near-words}
+use Rattle.loops.proofs.Blocking.{first-end}
+use Rattle.loops.proofs.BlockStanding.{Holds}
 
 at-most : (n : ℕ) → nat_lt 16 n ≡ false → n ≤ 16
 at-most n h = grind (arith, nat_tests)

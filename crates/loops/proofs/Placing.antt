@@ -24,7 +24,7 @@ name_not_bracket (c ∷ cs) h =
     or_from (eqb c 91) (list_any (λ d. eqb d 91) cs) (other_byte c 91 (letter_in_name c bytes.0) refl) (not_byte 91 refl cs bytes.1)
 
 -- a place by its parts
-place_of-parts : (name inner : List ℕ) (offset : ℤ) → is_name name ≡ true → subscript_of inner ≡ Some (Some offset)
+pub place_of-parts : (name inner : List ℕ) (offset : ℤ) → is_name name ≡ true → subscript_of inner ≡ Some (Some offset)
     → place_of (name ++ 91 ∷ (inner ++ 93 ∷ [])) ≡ Some (record { array = name; offset = Some offset })
 unfolding place_of
 place_of-parts name inner offset h sub =

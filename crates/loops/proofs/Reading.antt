@@ -1,5 +1,5 @@
 -- What a block's lines are, line by line.
-use Rattle.std.proofs.Common.{◌≡◌, ℕ, ◌+◌, Bool, true, false, cond, List, [], ◌∷◌, ◌++◌, map, Option, Some, None, option_map, refl, sym, ◌∙◌, ap, subst, if◌then◌else◌, append_assoc}
+use Rattle.std.proofs.Common.{◌≡◌, ℕ, ◌+◌, Bool, true, false, List, [], ◌∷◌, ◌++◌, map, Option, Some, None, refl, sym, ◌∙◌, ap, subst, if◌then◌else◌, append_assoc}
 use Rattle.std.specs.Borrow.{Bor}
 use Rattle.std.proofs.Common.{◌||◌, ◌==◌, length, arith}
 use Rattle.std.specs.List.{list_any}
@@ -14,7 +14,7 @@ use Rattle.loops.specs.declared.fault.LoopFault.{LoopFault}
 use Rattle.loops.specs.declared.fault.LoopFaultKind.TheVariants.{Syntax, NoEnd}
 use Rattle.loops.specs.Forms.{Form, LoopLine, ArrayLine, ParamLine, InitLine, StatementLine, OutLine, EndLine, Malformed, line_form}
 use Rattle.loops.specs.Words.{lines_of, words_of}
-use Rattle.loops.specs.Meaning.{stands, with_line, whole, faults_of, line_faults, at_line, inside_faults, outside_faults, blocks_of, blocks_from, forms_of}
+use Rattle.loops.specs.Meaning.{stands, with_line, whole, faults_of, line_faults, at_line, inside_faults, outside_faults, blocks_from, forms_of}
 use Rattle.loops.specs.Parsed.{form_seen}
 use Rattle.loops.specs.Blocks.{forms_in, entry_faults, StopsAt}
 

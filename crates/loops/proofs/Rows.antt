@@ -1,9 +1,8 @@
 -- The initial values of a statement's value.
-use Rattle.std.proofs.Common.{◌≡◌, ℕ, suc, ℤ, ◌+◌, List, ◌++◌, ◌∷◌, [], Option, Some, None, option_map, refl, sym, ◌∙◌, ap, arith}
+use Rattle.std.proofs.Common.{◌≡◌, ℕ, suc, ℤ, ◌+◌, List, ◌++◌, Option, option_map, ◌∙◌, ap, arith}
 use Rattle.std.specs.Prelude.{option_to_list}
 use Rattle.loops.specs.Building.{row_of}
 use Rattle.loops.specs.Checks.{slot}
-use Rattle.loops.specs.declared.lists.Initial.{Initial}
 
 one-on : (i : ℕ) → i + 1 ≡ suc i
 one-on i = omega arith

@@ -9,12 +9,11 @@ use Rattle.machine.specs.declared.opcode.Opcode.{Opcode}
 use Rattle.machine.specs.declared.opcode.Opcode.TheVariants.{Load, Store}
 use Rattle.machine.specs.Opcodes.{same_word, opcode_named}
 use Rattle.loops.specs.declared.statement.Statement.{Statement}
-use Rattle.loops.specs.Checks.{IsNear, IsNearUse}
-use Rattle.loops.specs.Forms.{Form, LoopLine, ArrayLine, ParamLine, InitLine, StatementLine, OutLine, EndLine, Malformed, Source, Subscript, Use, Plain, At, form_of, line_form, is_name, is_number, is_memory, operands_of, small_of, int_of, ints_of, at_of, named_use_of, or_use, use_of, uses_of, with_use, offset_of, subscript_of, place_of, formed, loop_line, array_line, param_line, init_line, init_of, store_line, store_of, out_line, end_line, load_line, compute_line, value_of, value_line}
-use Rattle.loops.specs.Loops.{HasShape}
+use Rattle.loops.specs.Checks.{IsBlock, IsNear}
+use Rattle.loops.specs.Forms.{Form, LoopLine, ArrayLine, ParamLine, InitLine, StatementLine, OutLine, EndLine, Malformed, Source, Subscript, Use, Number, Plain, At, form_of, line_form, is_name, is_number, is_memory, operands_of, small_of, signed_of, int_of, ints_of, with_int, at_of, named_use_of, or_use, use_of, uses_of, with_use, offset_of, subscript_of, place_of, formed, loop_line, array_line, param_line, init_line, init_of, store_line, store_of, out_line, end_line, load_line, compute_line, value_of, value_line}
+use Rattle.loops.specs.Loops.{HasShape, IsLong}
 use Rattle.loops.specs.Meaning.{statement_of, operand_of, stands, with_line, whole, forms_of}
 use Rattle.loops.specs.Words.{lines_of, words_of}
-use Rattle.loops.specs.Checks.{IsBlock}
 use Rattle.loops.proofs.Numbered.{all-join}
 
 abbrev pub OnSome : {T : Type 0} → (T → Type 0) → Option T → Type 0
@@ -26,17 +25,28 @@ abbrev pub IsOffset : Option ℤ → Type 0
 IsOffset None = Unit {0}
 IsOffset (Some z) = (neg_ℤ (pos 64) ≤ℤ z) × (z ≤ℤ pos 64)
 
+-- a number that is kept has 64 bits
+abbrev pub IsKept : Option ℤ → Type 0
+IsKept value = OnSome IsLong value
+
+-- what the word of a use gives
+abbrev pub IsSpelledUse : Use → Type 0
+IsSpelledUse (Number value) = IsKept value
+IsSpelledUse (Plain name) = Unit {0}
+IsSpelledUse (At name distance) = IsNear distance
+
 -- what the words of a statement give
 pub record IsSource (s : Source) : Type 0 where
   pub named : (name : List ℕ) → s.name ≡ Some name → is_name name ≡ true
   pub shape : (block : List Form) → HasShape s.opcode (statement_of block s)
   pub place : OnSome (λ (p : Subscript). IsOffset p.offset) s.place
-  pub uses : AllByRecursion IsNearUse s.uses
+  pub uses : AllByRecursion IsSpelledUse s.uses
 
 -- what the words of a line give
 abbrev pub IsSpelled : Form → Type 0
-IsSpelled (ArrayLine name cells) = is_name name ≡ true
-IsSpelled (ParamLine name value) = is_name name ≡ true
+IsSpelled (ArrayLine name cells) = (is_name name ≡ true) × AllByRecursion IsKept cells
+IsSpelled (ParamLine name value) = (is_name name ≡ true) × IsKept value
+IsSpelled (InitLine name number value) = IsKept value
 IsSpelled (StatementLine source) = IsSource source
 IsSpelled _ = Unit {0}
 
@@ -56,6 +66,31 @@ near-if false n h = h refl
 
 small-near : (word : List ℕ) → IsNear (small_of word)
 small-near word = near-if (nat_lt 16 (digits_value 10 word)) (digits_value 10 word) (λ e. ltb-false 16 (digits_value 10 word) e)
+
+kept-if : (b : Bool) (z : ℤ) → (b ≡ false → IsLong z) → IsKept (if b then None else Some z)
+kept-if true z h = tt
+kept-if false z h = h refl
+
+signed-kept : (negative : Bool) (n : ℕ) → IsKept (signed_of negative n)
+signed-kept true n = kept-if (nat_lt 9223372036854775808 n) (neg_ℤ (pos n)) (λ e. let l = ltb-false 9223372036854775808 n e in (omega (arith, ints), omega (arith, ints)))
+signed-kept false n = kept-if (nat_lt 9223372036854775807 n) (pos n) (λ e. let l = ltb-false 9223372036854775807 n e in (omega (arith, ints), omega (arith, ints)))
+
+int-kept : (word : List ℕ) → OnSome IsKept (int_of word)
+unfolding int_of
+int-kept [] = tt
+int-kept (c ∷ cs) =
+    if-either IsKept (c == 45) (if is_number cs then Some (signed_of true (digits_value 10 cs)) else None) (if is_number (c ∷ cs) then Some (signed_of false (digits_value 10 (c ∷ cs))) else None)
+    (λ _. if-some IsKept (is_number cs) (Some (signed_of true (digits_value 10 cs))) (λ _. signed-kept true (digits_value 10 cs)))
+    (if-some IsKept (is_number (c ∷ cs)) (Some (signed_of false (digits_value 10 (c ∷ cs)))) (λ _. signed-kept false (digits_value 10 (c ∷ cs))))
+
+ints-with : (first : Option (Option ℤ)) (ints : Option (List (Option ℤ))) → OnSome IsKept first → OnSome (AllByRecursion IsKept) ints → OnSome (AllByRecursion IsKept) (with_int first ints)
+ints-with None ints h k = tt
+ints-with (Some first) None h k = tt
+ints-with (Some first) (Some ints) h k = (h, k)
+
+ints-kept : (words : List (List ℕ)) → OnSome (AllByRecursion IsKept) (ints_of words)
+ints-kept [] = tt
+ints-kept (word ∷ words) = ints-with (int_of word) (ints_of words) (int-kept word) (ints-kept words)
 
 signed-offset : (negative : Bool) (n : ℕ) → n ≤ 64 → IsOffset (Some (if negative then neg_ℤ (pos n) else pos n))
 signed-offset true n h = (omega (arith, ints), omega (arith, ints))
@@ -99,26 +134,26 @@ place-near word =
 
 -- uses
 
-named-near : (word : List ℕ) → OnSome IsNearUse (named_use_of word)
+named-near : (word : List ℕ) → OnSome IsSpelledUse (named_use_of word)
 named-near word =
     let name = before_first (λ c. c == 64) word in
     let number = after_first (λ c. c == 64) word in
-    if-either IsNearUse (list_any (λ c. c == 64) word) (at_of name number) (if is_name word then Some (Plain word) else None)
-    (λ _. if-some IsNearUse (is_name name && is_number number) (Some (At name (small_of number))) (λ _. small-near number))
-    (if-some IsNearUse (is_name word) (Some (Plain word)) (λ _. tt))
+    if-either IsSpelledUse (list_any (λ c. c == 64) word) (at_of name number) (if is_name word then Some (Plain word) else None)
+    (λ _. if-some IsSpelledUse (is_name name && is_number number) (Some (At name (small_of number))) (λ _. small-near number))
+    (if-some IsSpelledUse (is_name word) (Some (Plain word)) (λ _. tt))
 
-or-near : (o : Option (Option ℤ)) (named : Option Use) → OnSome IsNearUse named → OnSome IsNearUse (or_use o named)
-or-near None named h = h
-or-near (Some value) named h = tt
+or-near : (o : Option (Option ℤ)) (named : Option Use) → OnSome IsKept o → OnSome IsSpelledUse named → OnSome IsSpelledUse (or_use o named)
+or-near None named k h = h
+or-near (Some value) named k h = k
 
-use-near : (word : List ℕ) → OnSome IsNearUse (use_of word)
+use-near : (word : List ℕ) → OnSome IsSpelledUse (use_of word)
 unfolding use_of
-use-near word = or-near (int_of word) (named_use_of word) (named-near word)
+use-near word = or-near (int_of word) (named_use_of word) (int-kept word) (named-near word)
 
 abbrev IsUses : ℕ → List Use → Type 0
-IsUses n uses = AllByRecursion IsNearUse uses × (length uses ≡ n)
+IsUses n uses = AllByRecursion IsSpelledUse uses × (length uses ≡ n)
 
-uses-with : (first : Option Use) (n : ℕ) (uses : Option (List Use)) → OnSome IsNearUse first → OnSome (IsUses n) uses → OnSome (IsUses (n + 1)) (with_use first uses)
+uses-with : (first : Option Use) (n : ℕ) (uses : Option (List Use)) → OnSome IsSpelledUse first → OnSome (IsUses n) uses → OnSome (IsUses (n + 1)) (with_use first uses)
 uses-with None n uses h k = tt
 uses-with (Some first) n None h k = tt
 uses-with (Some first) n (Some uses) h k = let e = k.1 in ((h, k.0), omega arith)
@@ -212,20 +247,20 @@ loop-line [] = tt
 loop-line (name ∷ []) = if-form (is_name name) (LoopLine name) Malformed (λ _. tt) tt
 loop-line (name ∷ more ∷ words) = tt
 
-array-formed : (name : List ℕ) → is_name name ≡ true → (o : Option (List (Option ℤ))) → IsSpelled (formed (option_map (ArrayLine name) o))
-array-formed name h None = tt
-array-formed name h (Some cells) = h
+array-formed : (name : List ℕ) → is_name name ≡ true → (o : Option (List (Option ℤ))) → OnSome (AllByRecursion IsKept) o → IsSpelled (formed (option_map (ArrayLine name) o))
+array-formed name h None k = tt
+array-formed name h (Some cells) k = (h, k)
 
 array-line : (words : List (List ℕ)) → IsSpelled (array_line words)
 array-line [] = tt
 array-line (a ∷ []) = tt
 array-line (name ∷ equals ∷ cells) =
     if-form (is_name name && same_word equals (codes "=")) (formed (option_map (ArrayLine name) (ints_of cells))) Malformed
-    (λ e. array-formed name (and_parts (is_name name) (same_word equals (codes "=")) e).0 (ints_of cells)) tt
+    (λ e. array-formed name (and_parts (is_name name) (same_word equals (codes "=")) e).0 (ints_of cells) (ints-kept cells)) tt
 
-param-formed : (name : List ℕ) → is_name name ≡ true → (o : Option (Option ℤ)) → IsSpelled (formed (option_map (ParamLine name) o))
-param-formed name h None = tt
-param-formed name h (Some value) = h
+param-formed : (name : List ℕ) → is_name name ≡ true → (o : Option (Option ℤ)) → OnSome IsKept o → IsSpelled (formed (option_map (ParamLine name) o))
+param-formed name h None k = tt
+param-formed name h (Some value) k = (h, k)
 
 param-line : (words : List (List ℕ)) → IsSpelled (param_line words)
 param-line [] = tt
@@ -233,12 +268,12 @@ param-line (a ∷ []) = tt
 param-line (a ∷ b ∷ []) = tt
 param-line (name ∷ equals ∷ value ∷ []) =
     if-form (is_name name && same_word equals (codes "=")) (formed (option_map (ParamLine name) (int_of value))) Malformed
-    (λ e. param-formed name (and_parts (is_name name) (same_word equals (codes "=")) e).0 (int_of value)) tt
+    (λ e. param-formed name (and_parts (is_name name) (same_word equals (codes "=")) e).0 (int_of value) (int-kept value)) tt
 param-line (a ∷ b ∷ c ∷ d ∷ words) = tt
 
-init-formed : (name number : List ℕ) (o : Option (Option ℤ)) → IsSpelled (init_of name number o)
-init-formed name number None = tt
-init-formed name number (Some value) = if-form (is_name name && is_number number) (InitLine name (small_of number) value) Malformed (λ _. tt) tt
+init-formed : (name number : List ℕ) (o : Option (Option ℤ)) → OnSome IsKept o → IsSpelled (init_of name number o)
+init-formed name number None k = tt
+init-formed name number (Some value) k = if-form (is_name name && is_number number) (InitLine name (small_of number) value) Malformed (λ _. k) tt
 
 init-line : (words : List (List ℕ)) → IsSpelled (init_line words)
 init-line [] = tt
@@ -246,7 +281,7 @@ init-line (a ∷ []) = tt
 init-line (a ∷ b ∷ []) = tt
 init-line (what ∷ equals ∷ value ∷ []) =
     if-form (list_any (λ c. c == 64) what && same_word equals (codes "=")) (init_of (before_first (λ c. c == 64) what) (after_first (λ c. c == 64) what) (int_of value)) Malformed
-    (λ _. init-formed (before_first (λ c. c == 64) what) (after_first (λ c. c == 64) what) (int_of value)) tt
+    (λ _. init-formed (before_first (λ c. c == 64) what) (after_first (λ c. c == 64) what) (int_of value) (int-kept value)) tt
 init-line (a ∷ b ∷ c ∷ d ∷ words) = tt
 
 out-line : (words : List (List ℕ)) → IsSpelled (out_line words)

@@ -88,7 +88,7 @@ plain_in_line c h =
     let parts = plain_byte_parts c h in
     ap not (or_from (eqb c 10) (eqb c 35) parts.1 parts.2)
 
-list_all-append : (p : ℕ → Bool) (xs ys : List ℕ) → list_all p xs ≡ true → list_all p ys ≡ true → list_all p (xs ++ ys) ≡ true
+pub list_all-append : (p : ℕ → Bool) (xs ys : List ℕ) → list_all p xs ≡ true → list_all p ys ≡ true → list_all p (xs ++ ys) ≡ true
 list_all-append p [] ys h k = k
 list_all-append p (x ∷ xs) ys h k =
     let parts = and_parts (p x) (list_all p xs) h in

@@ -1,11 +1,9 @@
 -- The loop of a block as the reader makes it.
-use Rattle.std.specs.Prelude.{◌≡◌, ℕ, zero, suc, ℤ, ◌+◌, ◌<◌, ◌≤◌, true, List, [], ◌∷◌, ◌++◌, Option, Some, None, option_to_list, option_map}
+use Rattle.std.specs.Prelude.{ℕ, zero, suc, ℤ, ◌+◌, ◌<◌, ◌≤◌, List, [], ◌∷◌, ◌++◌, Option, Some, None, option_to_list, option_map}
 use Rattle.loops.specs.Forms.{Form, ArrayLine, ParamLine, StatementLine, Source}
 use Rattle.loops.specs.Loops.{IsName}
-use Rattle.loops.specs.Meaning.{Declared, AnArray, AParam, AValue, number_of, is_array, is_param, is_statement, has_statement, faults_of}
-use Rattle.loops.specs.Blocks.{entry_faults}
-use Rattle.loops.specs.Checks.{IsBlock, slot}
-use Rattle.loops.specs.declared.entry.Entry.{Entry}
+use Rattle.loops.specs.Meaning.{Declared, AnArray, AParam, AValue, number_of, is_array, is_param, is_statement}
+use Rattle.loops.specs.Checks.{slot}
 use Rattle.loops.specs.declared.lists.Initial.{Initial}
 
 -- so few lines of each form that their numbers fit a byte

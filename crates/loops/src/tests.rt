@@ -1,11 +1,40 @@
-//! What no clause says: that reading succeeds, and the loops and lines of real texts.
+//! What no clause says: that reading succeeds, the loops and lines of real texts, and what loops
+//! leave by values worked by hand.
 
-use crate::{LoopFault, LoopFaultKind, Operand, read_loops};
+ghost use Rattle.std.specs.Prelude.{◌+◌, ◌<◌, ◌≤ℤ◌, ◌<ℤ◌, pos, neg_ℤ, length};
+
+use crate::{
+    Loop, LoopFault, LoopFaultKind, Memory, Operand, RunFault, apply, opening, read_loops,
+    run_from, run_plain, write_loop,
+};
 use machine::Opcode;
+use std::alloc::Global;
+use std::process::Abort;
 use std::test::Fail;
 
 const ACC: &str =
     "loop acc\narray a = 1 2 3\narray b =\ninit s@1 = 0\nt = load a[i]\ns = add s@1 t\nstore b[i] s\nend\n";
+
+const CHAIN: &str = "loop chain\narray a = 7\nt = load a[i]\nu = add t 1\nstore a[i+1] u\nend\n";
+
+const EDGE: &str = "loop edge\narray a =\narray b =\nstore a[i+64] 5\nstore b[i-64] 7\nend\n";
+
+const ABS: &str =
+    "loop abs\narray a = -5 3\narray b =\nt = load a[i]\nc = lt t 0\nn = sub 0 t\nv = sel c n t\nstore b[i] v\nend\n";
+
+const WRAP: &str =
+    "loop wrap\narray b =\nparam p = 9223372036854775807\nx = add p 1\nstore b[i] x\nend\n";
+
+const KEEP: &str =
+    "loop keep\narray a = 4 -1 6\narray b = 7 7 7\nt = load a[i]\nc = lt 0 t\nstore b[i] t if c\nend\n";
+
+const HOLD: &str =
+    "loop hold\narray a = 1 9\nt = load a[i]\nc = lt t 3\nu = add t 1\nstore a[i+1] u if c\nend\n";
+
+const ACC_OUT: &str =
+    "loop acco\narray a = 1 2 3\narray b =\ninit s@1 = 0\nt = load a[i]\ns = add s@1 t\nstore b[i] s\nout s\nend\n";
+
+const LAST: &str = "loop last\narray a = 4 5\ninit t@1 = 9\nt = load a[i]\nout t\nend\n";
 
 #[test]
 fn reads_acc(rt: HostRuntime) -> Result<(), Fail> {
@@ -93,4 +122,183 @@ fn names_the_first_fault(rt: HostRuntime) {
             Some(LoopFault { line, kind })
         );
     }
+}
+
+/// The last loop of a text.
+fn one(alloc: Global, text: &str) -> Result<Loop, Fail> {
+    let mut loops = read_loops(alloc, text.as_bytes())?;
+    Ok(loops.pop().ok_or("a loop")?)
+}
+
+/// The memory that a loop leaves.
+fn left(alloc: Global, text: &str, trip: u64) -> Result<Memory, Fail> {
+    Ok(run_plain(alloc, &one(alloc, text)?, trip)?)
+}
+
+/// Stops unless the memory has the cell.
+fn check_cell(rt: &impl Abort, memory: &Memory, array: usize, cell: i64)
+    ensures array { array < length memory.now.arrays }
+    ensures low { neg_ℤ (pos 64) ≤ℤ cell }
+    ensures high { cell <ℤ pos (memory.now.trip + 64) }
+{
+    assert!(rt; array < memory.array_count());
+    assert!(rt; -64 <= cell && cell < memory.trip() as i64 + 64);
+}
+
+/// A cell, which has to be there.
+fn cell(rt: &impl Abort, memory: &Memory, array: usize, cell: i64) -> i64 {
+    check_cell(rt, memory, array, cell);
+    memory.cell(array, cell)
+}
+
+/// Sets a cell, which has to be there.
+fn set_cell(rt: &impl Abort, memory: &mut Memory, array: usize, cell: i64, value: i64) {
+    check_cell(rt, memory, array, cell);
+    memory.set_cell(array, cell, value);
+}
+
+/// A value that is live at the end, which has to be there.
+fn out(rt: &impl Abort, memory: &Memory, index: usize) -> i64 {
+    assert!(rt; index < memory.out_count());
+    memory.out(index)
+}
+
+#[test]
+fn computes(rt: HostRuntime) {
+    assert_eq!(rt; apply(Opcode::Add, &[i64::MAX, 1]), i64::MIN);
+    assert_eq!(rt; apply(Opcode::Sub, &[i64::MIN, 1]), i64::MAX);
+    assert_eq!(rt; apply(Opcode::Mul, &[i64::MAX, 2]), -2);
+    assert_eq!(rt; apply(Opcode::And, &[-2, 7]), 6);
+    assert_eq!(rt;
+        apply(Opcode::Or, &[i64::MIN, 1]),
+        -9_223_372_036_854_775_807
+    );
+    assert_eq!(rt; apply(Opcode::Xor, &[-1, 5]), -6);
+    assert_eq!(rt; apply(Opcode::Min, &[-1, 0]), -1);
+    assert_eq!(rt; apply(Opcode::Max, &[-1, 0]), 0);
+    assert_eq!(rt; apply(Opcode::Lt, &[-1, 0]), 1);
+    assert_eq!(rt; apply(Opcode::Lt, &[0, -1]), 0);
+    assert_eq!(rt; apply(Opcode::Sel, &[-1, 2, 3]), 2);
+    assert_eq!(rt; apply(Opcode::Sel, &[0, 2, 3]), 3);
+    assert_eq!(rt; apply(Opcode::Mov, &[-7]), -7);
+}
+
+#[test]
+fn sums_up(rt: HostRuntime) -> Result<(), Fail> {
+    let cases = [
+        (0, 0, 0),
+        (1, 0, 1),
+        (1, 1, 0),
+        (2, 1, 3),
+        (2, 2, 0),
+        (3, 0, 1),
+        (3, 1, 3),
+        (3, 2, 6),
+        (3, 3, 0),
+        (100, 3, 6),
+        (100, 50, 6),
+        (100, 99, 6),
+        (100, 100, 0),
+    ];
+    for (trip, k, want) in cases {
+        let after = left(rt.alloc(), ACC, trip)?;
+        assert_eq!(rt; after.trip(), trip);
+        assert_eq!(rt; cell(&rt, &after, 1, k), want, "at {k} after {trip}");
+    }
+    let after = left(rt.alloc(), ACC, 3)?;
+    for (k, want) in [(0, 1), (2, 3), (3, 0)] {
+        assert_eq!(rt; cell(&rt, &after, 0, k), want, "at {k}");
+    }
+    Ok(())
+}
+
+#[test]
+fn leaves_cells(rt: HostRuntime) -> Result<(), Fail> {
+    let cases = [
+        (EDGE, 2, 0, 64, 5),
+        (EDGE, 2, 0, 65, 5),
+        (EDGE, 2, 0, 63, 0),
+        (EDGE, 2, 1, -64, 7),
+        (EDGE, 2, 1, -63, 7),
+        (EDGE, 2, 1, -62, 0),
+        (ABS, 2, 1, 0, 5),
+        (ABS, 2, 1, 1, 3),
+        (WRAP, 1, 0, 0, i64::MIN),
+        (KEEP, 3, 1, 0, 4),
+        (KEEP, 3, 1, 1, 7),
+        (KEEP, 3, 1, 2, 6),
+        (HOLD, 4, 0, 0, 1),
+        (HOLD, 4, 0, 1, 2),
+        (HOLD, 4, 0, 2, 3),
+        (HOLD, 4, 0, 3, 0),
+        (HOLD, 4, 0, 4, 1),
+    ];
+    for (text, trip, array, k, want) in cases {
+        let after = left(rt.alloc(), text, trip)?;
+        assert_eq!(rt;
+            cell(&rt, &after, array, k),
+            want,
+            "at {array}, {k} of {text}"
+        );
+    }
+    Ok(())
+}
+
+#[test]
+fn leaves_live_values(rt: HostRuntime) -> Result<(), Fail> {
+    for (text, trip, want) in [(ACC_OUT, 0, 0), (ACC_OUT, 3, 6), (LAST, 0, 9), (LAST, 2, 5)] {
+        let after = left(rt.alloc(), text, trip)?;
+        assert_eq!(rt; out(&rt, &after, 0), want, "after {trip} of {text}");
+    }
+    Ok(())
+}
+
+#[test]
+fn refuses_trips_and_shapes(rt: HostRuntime) -> Result<(), Fail> {
+    let alloc = rt.alloc();
+    let acc = one(alloc, ACC)?;
+    let chain = one(alloc, CHAIN)?;
+    assert_eq!(rt; run_plain(alloc, &acc, 100_001).err(), Some(RunFault::Trip));
+    assert_eq!(rt; run_plain(alloc, &acc, 100_000)?.trip(), 100_000);
+    let memory = opening(alloc, &chain, 3)?;
+    assert_eq!(rt; run_from(alloc, &acc, memory).err(), Some(RunFault::Shape));
+    Ok(())
+}
+
+#[test]
+fn sets_a_copy_alone(rt: HostRuntime) -> Result<(), Fail> {
+    let alloc = rt.alloc();
+    let memory = left(alloc, ACC_OUT, 3)?;
+    let mut copy = memory.copied(alloc)?;
+    assert_eq!(rt; copy.trip(), 3);
+    assert_eq!(rt; copy.array_count(), 2);
+    assert_eq!(rt; cell(&rt, &copy, 1, 2), 6);
+    assert_eq!(rt; out(&rt, &copy, 0), 6);
+    set_cell(&rt, &mut copy, 1, -64, 8);
+    set_cell(&rt, &mut copy, 1, 66, -8);
+    assert!(rt; copy.out_count() == 1);
+    copy.set_out(0, -9);
+    for (array, k, want) in [
+        (1, -64, 8),
+        (1, -63, 0),
+        (0, -64, 0),
+        (1, 65, 0),
+        (1, 66, -8),
+    ] {
+        assert_eq!(rt; cell(&rt, &copy, array, k), want, "at {array}, {k}");
+    }
+    assert_eq!(rt; out(&rt, &copy, 0), -9);
+    assert_eq!(rt; cell(&rt, &memory, 1, -64), 0);
+    assert_eq!(rt; out(&rt, &memory, 0), 6);
+    Ok(())
+}
+
+#[test]
+fn writes_canonical_text(rt: HostRuntime) -> Result<(), Fail> {
+    let alloc = rt.alloc();
+    for text in [ACC, CHAIN, EDGE, ABS, WRAP, KEEP, HOLD, ACC_OUT, LAST] {
+        let written = write_loop(alloc, &one(alloc, text)?)?;
+        assert_eq!(rt; written.as_str(), text);
+    }
+    Ok(())
 }

@@ -1,11 +1,12 @@
 //! The canonical text of a loop.
 
-ghost use Rattle.std.specs.Prelude.{◌≡◌, ◌+◌, ◌<◌, ◌≤◌, ℕ, pos, [], ◌∷◌, ◌++◌, length, map, codes, Option, Some, None, IfOk, string_bytes};
+ghost use Rattle.std.specs.Prelude.{◌≡◌, ◌+◌, ◌<◌, ◌≤◌, ℕ, pos, [], ◌∷◌, ◌++◌, length, map, codes, Option, Some, None, Ok, IfOk, string_bytes};
 ghost use Rattle.std.specs.List.{All, flat_map};
 ghost use Rattle.std.specs.Fmt.{decimal, signed_decimal};
 ghost use Rattle.machine.specs.Opcodes.{word_of};
 ghost use Rattle.loops.specs.declared.statement.Operand.{Operand};
 ghost use Rattle.loops.specs.Loops.{IsLoop, IsPlace, IsStatement, MayRead};
+ghost use Rattle.loops.specs.Meaning.{loops_in};
 ghost use Rattle.loops.specs.Text.{array_name, param_name, value_name, at_distance, operand_word, offset_text, place_word, array_words, param_words, init_words, place_words, stored_words, statement_words, out_words, following, line_text, text_of};
 
 use crate::innermost::Loop;
@@ -17,9 +18,10 @@ use std::alloc::Global;
 
 /// The one canonical text of a loop: a line for its name, each array, parameter, initial value,
 /// statement and value that is live at the end, and `end`. A subscript constant and a distance of 0
-/// are left out.
+/// are left out. It is read back as the loop alone.
 pub fn write_loop(alloc: Global, innermost: &Loop) -> Result<String, OutOfMemory>
     ensures text { IfOk result (λ text. string_bytes text ≡ text_of innermost.now) }
+    ensures reads_back { IfOk result (λ text. loops_in (string_bytes text) ≡ Ok (innermost.now ∷ [])) }
 {
     let mut text = String::with_capacity(alloc, room(innermost))?;
     write_head(&mut text, innermost)?;

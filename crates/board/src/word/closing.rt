@@ -28,6 +28,10 @@ impl fmt::Debug for Stranger {
 }
 
 impl fmt::Display for Stranger {
+    ghost use Rattle.std.specs.Prelude.{codes, Some};
+
+    ghost output = { λ _. Some (codes "a pass of another board, or too few passes") };
+
     fn fmt<W: fmt::Write>(&self, f: &mut fmt::Formatter<W>) -> fmt::Result {
         f.write_str("a pass of another board, or too few passes")
     }

@@ -1,4 +1,4 @@
-use Rattle.std.proofs.Common.{◌≡◌, ◌∙◌, ◌++◌, ◌∷◌, [], ℤ, Option, Some, None, is_none, length, refl, sym, ap, arith, ◌||◌, Bool, true, false}
+use Rattle.std.proofs.Common.{◌∙◌, ◌++◌, ◌∷◌, [], is_none, length, refl, sym, ap, arith, ◌||◌}
 use Rattle.std.proofs.lemmas.List.{length_push}
 use Rattle.loops.specs.Forms.{ints_of}
 use Rattle.loops.specs.Words.{pieces_of}

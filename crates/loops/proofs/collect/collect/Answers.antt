@@ -1,11 +1,11 @@
-use Rattle.std.proofs.Common.{◌≡◌, ◌+◌, ◌≤◌, ◌++◌, ◌∷◌, ◌||◌, [], ℕ, List, Option, Some, None, Bool, true, false, not, refl, ap, sym, ◌∙◌, arith, rules, length, option_map}
+use Rattle.std.proofs.Common.{◌||◌, Some, None, ap, sym, ◌∙◌, arith, length}
 use Rattle.std.proofs.lemmas.List.{length_push}
 use Rattle.loops.specs.Forms as spec
-use Rattle.loops.specs.Meaning.{stands, has_statement, has_out, is_statement, is_out, forms_of}
+use Rattle.loops.specs.Meaning.{has_statement, has_out, is_statement, is_out, forms_of}
 use Rattle.loops.specs.Parsed.{form_seen}
 use Rattle.loops.specs.Blocks.{forms_in}
 use Rattle.loops.specs.declared.entry.Entry.{Entry}
-use Rattle.loops.proofs.Reading.{Reads, reads-blank, reads-line, reads-same, reads-end, reads-open, reads-unfit, forms-next, forms-none, other-than-end, any-push}
+use Rattle.loops.proofs.Reading.{reads-blank, reads-line, reads-same, reads-end, reads-open, reads-unfit, forms-next, forms-none, other-than-end, any-push}
 use Rattle.loops.proofs.collect.collect.Goals as goal
 use Rattle.loops.proofs.collect.collect.Goals.{in-None, in-Some+in_default+else-not-allows+in_ok-push-in_default}
 

@@ -1,5 +1,5 @@
-use Rattle.std.proofs.Common.{◌≡◌, ◌∙◌, ◌+◌, ◌<◌, ◌≤◌, ◌++◌, ◌∷◌, [], ℕ, List, Option, Some, None, refl, sym, ap, subst, arith, rules, length, map}
-use Rattle.std.proofs.lemmas.List.{map-append, length-map, length_push}
+use Rattle.std.proofs.Common.{◌≡◌, ◌∙◌, ◌++◌, ◌∷◌, [], ℕ, List, Some, sym, ap, subst, arith, rules, length, map}
+use Rattle.std.proofs.lemmas.List.{length-map, length_push}
 use Rattle.std.proofs.lemmas.List.Elements.{All-push}
 use Rattle.std.specs.List.{All}
 use Rattle.std.specs.Result.{IsErrAnd}
@@ -7,11 +7,11 @@ use Rattle.loops.specs.declared.fault.LoopFaultKind.{LoopFaultKind}
 use Rattle.loops.specs.Words.{words_of}
 use Rattle.loops.specs.Forms.{LoopLine, line_form}
 use Rattle.loops.specs.Loops.{LoopData, IsLoop}
-use Rattle.loops.specs.Meaning.{forms_of, whole, loops_in, loop_of, opening_faults, AnswersFault}
+use Rattle.loops.specs.Meaning.{forms_of, whole, loops_in, loop_of, AnswersFault}
 use Rattle.loops.specs.Parsed.{form_seen}
 use Rattle.loops.specs.Texts.{HasNames}
 use Rattle.loops.proofs.Reading.{forms-next, forms-none}
-use Rattle.loops.proofs.OpeningLines.{Reads, reads-start, reads-as, reads-blank, reads-block, reads-all, reads-other, reads-opening, reads-inside, too-long, answer, answer-opening, short-name, named, names-with, name-of-loop, few-loops, handed-on}
+use Rattle.loops.proofs.OpeningLines.{Reads, reads-as, reads-block, reads-all, reads-other, reads-opening, reads-inside, too-long, answer, answer-opening, named, names-with, name-of-loop, few-loops, handed-on}
 use Rattle.loops.proofs.BlockStanding.{near-words}
 use Rattle.loops.proofs.read.read_loops.Goals as goal
 

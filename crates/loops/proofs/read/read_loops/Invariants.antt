@@ -1,4 +1,4 @@
-use Rattle.std.proofs.Common.{◌≡◌, ◌+◌, ◌-◌, ◌≤◌, length, map}
+use Rattle.std.proofs.Common.{◌+◌, ◌-◌, ◌≤◌, length, map}
 use Rattle.std.specs.List.{All}
 use Rattle.loops.specs.Loops.{LoopData, IsLoop}
 use Rattle.loops.specs.Meaning.{forms_of}

@@ -1,6 +1,5 @@
-use Rattle.std.proofs.Common.{◌≡◌, ◌∙◌, ◌+◌, ◌*◌, ◌<◌, length, None, is_some, sym, ap, arith, false}
+use Rattle.std.proofs.Common.{◌∙◌, ◌+◌, ◌*◌, None, is_some, sym, ap, arith}
 use Rattle.std.proofs.lemmas.List.{get_or_read}
-use Rattle.loops.specs.Checks.{slot}
 use Rattle.loops.proofs.Covering.{covers-false}
 use Rattle.loops.proofs.given.Given.covers.Goals as goal
 

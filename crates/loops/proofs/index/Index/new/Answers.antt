@@ -1,4 +1,4 @@
-use Rattle.std.proofs.Common.{◌≡◌, ◌+◌, ◌++◌, ◌∷◌, [], ℕ, List, Option, Some, None, refl, ap, sym, ◌∙◌, arith, take, get_or, length, option_map}
+use Rattle.std.proofs.Common.{ℕ, List, Option, refl, ap, sym, ◌∙◌, arith, option_map}
 use Rattle.std.specs.BTreeMap.{BTreeMap, get_by, is_at}
 use Rattle.std.specs.Map.{lookup}
 use Rattle.std.specs.Borrow.{Bor}
@@ -7,8 +7,7 @@ use Rattle.std.specs.Ordering.{nat_cmp}
 use Rattle.std.specs.Option.{option_or}
 use Rattle.machine.specs.Opcodes.{same_word}
 use Rattle.loops.specs.Meaning.{declared, is_array, is_param, is_statement}
-use Rattle.loops.specs.Parsed.{form_seen}
-use Rattle.loops.specs.Blocks.{forms_in, declared_seen, declared_if, one_if}
+use Rattle.loops.specs.Blocks.{declared_seen, declared_if}
 use Rattle.loops.specs.declared.index.Declared.{Declared}
 use Rattle.loops.proofs.Declared.{declared-more, number_of-more, one_if-le, seen_or, option_or-none}
 use Rattle.loops.proofs.index.Index.new.Goals as goal
