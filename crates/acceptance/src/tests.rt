@@ -5,6 +5,7 @@ mod devices;
 mod faults;
 mod given;
 mod plain;
+mod runs;
 
 use modsched::{FaultyInput, FaultyOutput, engine, parse_line};
 use std::alloc::{AllocError, Global};

@@ -23,8 +23,6 @@ mod resolve;
 mod run;
 mod statement;
 mod step;
-#[cfg(test)]
-mod tests;
 mod window;
 mod words;
 mod write;

@@ -444,3 +444,18 @@ t = load a[i]
 out t
 end
 ";
+
+/// One operation.
+pub(super) const LONE: &str = "loop lone
+param p = 3
+m = mul p p
+end
+";
+
+/// A sum of a sum, far behind it where `add` takes long.
+pub(super) const FAR: &str = "loop far
+param p = 1
+x = add p p
+y = add x p
+end
+";

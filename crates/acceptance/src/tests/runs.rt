@@ -1,40 +1,18 @@
-//! What no clause says: that reading succeeds, the loops and lines of real texts, and what loops
-//! leave by values worked by hand.
+//! The loop of a text, what runs of loops leave, by values worked by hand, and the canonical text of a loop.
 
 ghost use Rattle.std.specs.Prelude.{◌+◌, ◌<◌, ◌≤ℤ◌, ◌<ℤ◌, pos, neg_ℤ, length};
 
-use crate::{
-    Loop, LoopFault, LoopFaultKind, Memory, Operand, RunFault, apply, opening, read_loops,
-    run_from, run_plain, write_loop,
+use super::given::{
+    ABS, ACC, ACCO, ALTS, CHAIN, EDGE, FAR, FORCE, HOLD, KEEP, LAST, LATE, LONE, POW, SHIFT, SUM,
+    WRAP,
+};
+use loops::{
+    Loop, Memory, Operand, RunFault, apply, opening, read_loops, run_from, run_plain, write_loop,
 };
 use machine::Opcode;
 use std::alloc::Global;
 use std::process::Abort;
 use std::test::Fail;
-
-const ACC: &str =
-    "loop acc\narray a = 1 2 3\narray b =\ninit s@1 = 0\nt = load a[i]\ns = add s@1 t\nstore b[i] s\nend\n";
-
-const CHAIN: &str = "loop chain\narray a = 7\nt = load a[i]\nu = add t 1\nstore a[i+1] u\nend\n";
-
-const EDGE: &str = "loop edge\narray a =\narray b =\nstore a[i+64] 5\nstore b[i-64] 7\nend\n";
-
-const ABS: &str =
-    "loop abs\narray a = -5 3\narray b =\nt = load a[i]\nc = lt t 0\nn = sub 0 t\nv = sel c n t\nstore b[i] v\nend\n";
-
-const WRAP: &str =
-    "loop wrap\narray b =\nparam p = 9223372036854775807\nx = add p 1\nstore b[i] x\nend\n";
-
-const KEEP: &str =
-    "loop keep\narray a = 4 -1 6\narray b = 7 7 7\nt = load a[i]\nc = lt 0 t\nstore b[i] t if c\nend\n";
-
-const HOLD: &str =
-    "loop hold\narray a = 1 9\nt = load a[i]\nc = lt t 3\nu = add t 1\nstore a[i+1] u if c\nend\n";
-
-const ACC_OUT: &str =
-    "loop acco\narray a = 1 2 3\narray b =\ninit s@1 = 0\nt = load a[i]\ns = add s@1 t\nstore b[i] s\nout s\nend\n";
-
-const LAST: &str = "loop last\narray a = 4 5\ninit t@1 = 9\nt = load a[i]\nout t\nend\n";
 
 #[test]
 fn reads_acc(rt: HostRuntime) -> Result<(), Fail> {
@@ -75,53 +53,6 @@ fn reads_nothing_twice(rt: HostRuntime) -> Result<(), Fail> {
     assert_eq!(rt; read_loops(rt.alloc(), b"")?.len(), 0);
     assert_eq!(rt; read_loops(rt.alloc(), b"")?.len(), 0);
     Ok(())
-}
-
-#[test]
-fn names_the_first_fault(rt: HostRuntime) {
-    let texts = [
-        (
-            "loop acc\narray a = 1 2 3\narray b =\nt = load a[i]\ns = add s@1 t\nstore b[i] s\nend\n",
-            5,
-            LoopFaultKind::MissingInit,
-        ),
-        (
-            "loop acc\narray a = 1 2 3\narray b =\ninit s@1 = 0\nt = load a[i]\ns = add s@1 t\nstore b[",
-            7,
-            LoopFaultKind::Syntax,
-        ),
-        (
-            "loop acc\narray a = 1 2 3\narray b =\ninit s@1 = 0\nt = load a[i]\ns = add s@1 t\nstore b[i] s\n",
-            8,
-            LoopFaultKind::NoEnd,
-        ),
-        (
-            "loop acc\narray a = 1 2 3\narray b =\ninit s@1 = 0\nt = load a[i]\ns = add s@1",
-            4,
-            LoopFaultKind::UnknownName,
-        ),
-        (
-            "loop a\nx = mov 1\ny = add x@17 1\nend\n",
-            3,
-            LoopFaultKind::Limit,
-        ),
-        (
-            "loop a\narray b =\narray b =\nx = mov 1\nend\n",
-            3,
-            LoopFaultKind::RepeatedName,
-        ),
-        (
-            "loop a\nx = add x 1\nend\n",
-            2,
-            LoopFaultKind::UseBeforeDefinition,
-        ),
-    ];
-    for (text, line, kind) in texts {
-        assert_eq!(rt;
-            read_loops(rt.alloc(), text.as_bytes()).err(),
-            Some(LoopFault { line, kind })
-        );
-    }
 }
 
 /// The last loop of a text.
@@ -246,7 +177,7 @@ fn leaves_cells(rt: HostRuntime) -> Result<(), Fail> {
 
 #[test]
 fn leaves_live_values(rt: HostRuntime) -> Result<(), Fail> {
-    for (text, trip, want) in [(ACC_OUT, 0, 0), (ACC_OUT, 3, 6), (LAST, 0, 9), (LAST, 2, 5)] {
+    for (text, trip, want) in [(ACCO, 0, 0), (ACCO, 3, 6), (LAST, 0, 9), (LAST, 2, 5)] {
         let after = left(rt.alloc(), text, trip)?;
         assert_eq!(rt; out(&rt, &after, 0), want, "after {trip} of {text}");
     }
@@ -268,7 +199,7 @@ fn refuses_trips_and_shapes(rt: HostRuntime) -> Result<(), Fail> {
 #[test]
 fn sets_a_copy_alone(rt: HostRuntime) -> Result<(), Fail> {
     let alloc = rt.alloc();
-    let memory = left(alloc, ACC_OUT, 3)?;
+    let memory = left(alloc, ACCO, 3)?;
     let mut copy = memory.copied(alloc)?;
     assert_eq!(rt; copy.trip(), 3);
     assert_eq!(rt; copy.array_count(), 2);
@@ -296,7 +227,11 @@ fn sets_a_copy_alone(rt: HostRuntime) -> Result<(), Fail> {
 #[test]
 fn writes_canonical_text(rt: HostRuntime) -> Result<(), Fail> {
     let alloc = rt.alloc();
-    for text in [ACC, CHAIN, EDGE, ABS, WRAP, KEEP, HOLD, ACC_OUT, LAST] {
+    let texts = [
+        ABS, ACC, ACCO, ALTS, CHAIN, EDGE, FAR, FORCE, HOLD, KEEP, LAST, LATE, LONE, POW, SHIFT,
+        SUM, WRAP,
+    ];
+    for text in texts {
         let written = write_loop(alloc, &one(alloc, text)?)?;
         assert_eq!(rt; written.as_str(), text);
     }
