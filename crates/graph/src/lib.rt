@@ -8,6 +8,7 @@ mod fault;
 mod graph;
 mod laws;
 mod recurrence;
+mod rounds;
 mod starts;
 mod units;
 
