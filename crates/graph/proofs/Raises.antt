@@ -1,18 +1,17 @@
 -- One round makes the numbers those of walks with one edge more.
-use Rattle.std.proofs.Common.{◌≡◌, ◌≢◌, set, get_or-set_other, get_or-set_same, ℕ, suc, ◌+◌, ◌*◌, ◌<◌, ◌≤◌, ◌==◌, ℤ, pos, ◌+ℤ◌, ◌-ℤ◌, Bool, true, false, cond, List, [], ◌∷◌, ◌++◌, length, get_or, take, filter, refl, sym, ap, ◌∙◌, subst, inl, inr, arith}
+use Rattle.std.proofs.Common.{◌≡◌, ◌≢◌, set, get_or-set_other, get_or-set_same, ℕ, ◌+◌, ◌*◌, ◌<◌, ◌≤◌, ◌==◌, ℤ, pos, ◌+ℤ◌, ◌-ℤ◌, Bool, true, false, cond, List, [], ◌∷◌, ◌++◌, length, get_or, filter, refl, sym, ap, ◌∙◌, subst, inl, inr, arith}
 use Rattle.std.specs.Prelude.{◌≤ℤ◌, ◌<ℤ◌}
 use Rattle.std.specs.List.{slice_index, All, Contains}
 use Rattle.std.proofs.lemmas.Int.{ints}
 use lib.IntN.{nat_abs, negsuc}
 use lib.Signed.{lt_z}
 use Rattle.std.proofs.lemmas.Bool.{cases_lt, cases_Bool, eqb-true, eq-eqb}
-use Rattle.std.proofs.lemmas.List.{take_more}
-use Rattle.std.proofs.lemmas.List.Elements.{All-nil, All-cons, All-head, All-tail, All-push, All-weaker, All-contains, All-filter, All-contains_itself, filter_passes, Contains-append_left, Contains-push}
+use Rattle.std.proofs.lemmas.List.Elements.{All-nil, All-cons, All-head, All-tail, All-push, All-contains, All-filter, All-contains_itself, filter_passes, Contains-append_left, Contains-push}
 use Rattle.std.proofs.Math.Nat.{mul-add}
 use Rattle.graph.specs.Dependences.{EdgeData}
 use Rattle.graph.specs.Graphs.{GraphData, IsGraph}
-use Rattle.graph.specs.Walks.{IsWalk, delay_of, distance_of, length_of}
-use Rattle.graph.specs.Reaches.{IsReach, AreReaches, IsThrough, IsRaised}
+use Rattle.graph.specs.Walks.{IsWalk, distance_of, length_of}
+use Rattle.graph.specs.Reaches.{IsReach, AreReaches, IsRaised}
 
 -- what holds of each element that passes a test
 pub all-from_filter : {X : Type 0} (p : X → Bool) (P : X → Type 0) (xs : List X) → All P (filter p xs) → All (λ x. p x ≡ true → P x) xs

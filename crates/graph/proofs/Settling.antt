@@ -1,20 +1,22 @@
 -- What it tells of an interval whether a round changes a number.
-use Rattle.std.proofs.Common.{◌≡◌, ◌⊎◌, ℕ, ◌+◌, ◌-◌, ◌==◌, true, false, filter, ◌*◌, ◌<◌, ◌≤◌, ℤ, pos, ◌+ℤ◌, ◌-ℤ◌, List, [], ◌∷◌, length, refl, sym, ap, ◌∙◌, subst, inl, inr, arith}
-use Rattle.std.specs.Prelude.{◌≤ℤ◌, ◌<ℤ◌}
+use Rattle.std.proofs.Common.{◌≡◌, ◌⊎◌, ℕ, ◌+◌, ◌-◌, ◌==◌, Bool, true, false, filter, take, ◌*◌, ◌<◌, ◌≤◌, ℤ, pos, ◌+ℤ◌, List, [], ◌∷◌, length, refl, sym, ap, ◌∙◌, subst, inl, inr, arith}
+use Rattle.std.specs.Prelude.{not, ◌≤ℤ◌, ◌<ℤ◌}
 use Rattle.std.specs.List.{slice_index, All, Contains}
 use Rattle.std.proofs.lemmas.Int.{ints}
 use Rattle.std.proofs.lemmas.Bool.{cases_lt}
+use Rattle.std.proofs.lemmas.List.{get_or-take, get_or_default, length-take-le}
 use Rattle.std.proofs.lemmas.List.Elements.{All-contains, All-contains_itself}
 use Rattle.std.proofs.Math.Nat.{mul-add}
 use Rattle.graph.specs.Dependences.{EdgeData}
 use Rattle.graph.specs.Graphs.{GraphData, IsGraph}
-use Rattle.graph.specs.Walks.{IsWalk, delay_of, distance_of, length_of, FitsCircuits, Exceeds, IsHeight}
-use Rattle.graph.specs.Rounds.{IsSettledAt, Settles, IsRounds}
+use Rattle.graph.specs.Walks.{IsWalk, delay_of, distance_of, length_of, FitsCircuits, Exceeds, IsHeight, IsRecurrenceBound}
+use Rattle.graph.specs.Rounds.{IsSettledAt, Settles, IsRounds, IsFeasible, TellsFeasible}
 use Rattle.graph.specs.Reaches.{IsReach, AreReaches, IsRaised, IsUnsettled, AreHeights}
 use Rattle.graph.specs.Promises.{SumsAreLimited}
-use Rattle.graph.proofs.Circuits.{AsLong, exceeds_or_short}
+use Rattle.graph.proofs.Circuits.{exceeds_or_short}
 use Rattle.graph.proofs.Raises.{reach-raised}
-use Rattle.graph.proofs.Potentials.{KeepsHeight, walk-below, fits-from_heights}
+use Rattle.graph.proofs.Potentials.{KeepsHeight, walk-below, fits-from_heights, fits-at_limit}
+use Rattle.graph.proofs.Recurrences.{fits-longer, bound-le-fitting}
 
 ends-walk : (graph : GraphData) → IsGraph graph → (p q : ℕ) (walk : List EdgeData) → p < length graph.latencies → IsWalk graph.edges p walk q → q < length graph.latencies
 ends-walk graph g p q [] below w = subst (λ k. k < length graph.latencies) w below
@@ -217,3 +219,85 @@ rounds-never graph ii g changed =
       least = λ fewer from to settles. unsettled-not_settled graph ii fewer (changed fewer from (omega arith)) settles;
       never = λ _. (refl, λ more from settles. exceeds-not_fits graph.edges ii x (fits-from_settles graph ii more g settles));
     }
+
+-- a circuit that fits an interval fits each longer one
+pub fits-at_longer : (edges : List EdgeData) (ii later : ℕ) → ii ≤ later → FitsCircuits edges ii → FitsCircuits edges later
+fits-at_longer edges ii later le fits = λ p walk w. fits-longer ii later (distance_of walk) (delay_of walk) le (fits p walk w)
+
+pub exceeds-below_bound : (edges : List EdgeData) (ii bound : ℕ) → Exceeds edges ii → FitsCircuits edges bound → ii < bound
+exceeds-below_bound edges ii bound x fits = elim (cases_lt ii bound) [
+  | inl less ↦ less
+  | inr more ↦ absurd (exceeds-not_fits edges ii x (fits-at_longer edges bound ii more fits))
+]
+
+-- no circuit exceeds an interval of 64 cycles for each operation
+pub exceeds-below_limit : (graph : GraphData) (ii : ℕ) → IsGraph graph → Exceeds graph.edges ii → ii < 64 * length graph.latencies
+exceeds-below_limit graph ii g x = exceeds-below_bound graph.edges ii (64 * length graph.latencies) x (fits-at_limit graph g)
+
+-- an answer that is told by all circuits
+pub tells-feasible : (edges : List EdgeData) (ii : ℕ) (answer : Bool) → 1 ≤ ii → (answer ≡ true → FitsCircuits edges ii) → (answer ≡ false → Exceeds edges ii)
+    → TellsFeasible edges ii answer
+tells-feasible edges ii true some fits exceeds = λ bound b. (λ _. bound-le-fitting edges bound ii b some (fits refl), λ _. refl)
+tells-feasible edges ii false some fits exceeds = λ bound b. (
+  λ wrong. cc,
+  λ le. absurd (exceeds-not_fits edges ii (exceeds refl) (fits-at_longer edges bound ii le b.fits)),
+)
+
+-- at a feasible interval rounds settle
+pub settled-at_feasible : (edges : List EdgeData) (ii : ℕ) (answer : Bool) → IsFeasible edges ii → (answer ≡ false → Exceeds edges ii) → answer ≡ true
+settled-at_feasible edges ii true f exceeds = refl
+settled-at_feasible edges ii false f exceeds = absurd (exceeds-not_fits edges ii (exceeds refl) (fits-at_longer edges f.0 ii f.2 f.1.fits))
+
+-- the least interval that fits
+pub bound-from_ends : (edges : List EdgeData) (low high : ℕ) → low + 1 ≡ high → (low ≡ 0) ⊎ Exceeds edges low → FitsCircuits edges high → IsRecurrenceBound edges high
+bound-from_ends edges low high next above fits = record {
+  from_one = omega arith;
+  fits = fits;
+  least = elim above [
+    | inl none ↦ inl (omega arith)
+    | inr x ↦ inr (let at : low ≡ high - 1 = omega arith in subst (Exceeds edges) at x)
+  ];
+}
+
+-- a height is 1 to 64 cycles for each operation
+pub height-range : (graph : GraphData) (ii p height : ℕ) → IsGraph graph → FitsCircuits graph.edges ii → p < length graph.latencies
+    → IsHeight graph.edges graph.latencies ii p height → (1 ≤ height) × (height ≤ 64 * length graph.latencies)
+height-range graph ii p height g fits below h =
+    let some : 0 < slice_index graph.latencies p = (g.latencies p 0 below).0 in
+    let zero : ii * 0 ≡ 0 = omega arith in
+    let low : length_of graph.latencies ii [] p ≤ℤ pos height = h.longest [] p refl in
+    let long : pos height ≡ length_of graph.latencies ii h.walk h.end = h.as_long in (
+      omega (arith, ints),
+      elim (exceeds_or_short graph.edges graph.latencies ii (length graph.latencies) g.ends (length h.walk) p h.end h.walk (omega arith) below h.is_walk) [
+        | inl x ↦ absurd (exceeds-not_fits graph.edges ii x fits)
+        | inr s ↦ (let short : length s.other < length graph.latencies = s.short in
+            let as_long : length_of graph.latencies ii h.walk h.end ≤ℤ length_of graph.latencies ii s.other h.end = s.as_long in
+            let limit : length_of graph.latencies ii s.other h.end ≤ℤ pos (64 * length s.other + 64) = sums-are_limited graph ii g p h.end s.other below s.is_walk in
+            omega (arith, ints))
+      ],
+    )
+
+-- the heights among a row's numbers
+pub heights-taken : (graph : GraphData) (ii : ℕ) (numbers : List ℕ) → AreHeights graph ii numbers → AreHeights graph ii (take (length graph.latencies) numbers)
+heights-taken graph ii numbers heights = λ p below.
+    subst (IsHeight graph.edges graph.latencies ii p) (sym (get_or-take (length graph.latencies) numbers p 0 below)) (heights p below)
+
+-- a vector's numbers are the heights
+pub items-are_heights : (graph : GraphData) (ii : ℕ) (numbers items : List ℕ) → IsGraph graph → IsFeasible graph.edges ii → AreHeights graph ii numbers
+    → length graph.latencies ≤ length numbers → items ≡ take (length graph.latencies) numbers
+    → (length items ≡ length graph.latencies) × AreHeights graph ii items × All (λ h. (1 ≤ h) × (h ≤ 64 * length graph.latencies)) items
+items-are_heights graph ii numbers items g f heights long is =
+    let n : ℕ = length graph.latencies in
+    let all : length items ≡ n = ap length is ∙ length-take-le n numbers long in
+    let each : AreHeights graph ii items = subst (AreHeights graph ii) (sym is) (heights-taken graph ii numbers heights) in (
+      all,
+      each,
+      λ p d below.
+          let within : p < n = omega arith in
+          subst (λ h. (1 ≤ h) × (h ≤ 64 * n)) (get_or_default items p 0 d below)
+          (height-range graph ii p (slice_index items p) g (fits-at_longer graph.edges f.0 ii f.2 f.1.fits) within (each p within)),
+    )
+
+pub not_true : (b : Bool) → not b ≡ true → b ≡ false
+not_true true is = cc
+not_true false is = refl

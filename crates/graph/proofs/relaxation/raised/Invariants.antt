@@ -1,6 +1,6 @@
 use Rattle.std.proofs.Common.{◌≤◌, take}
 use Rattle.graph.specs.Reaches.{IsRaised}
-use Rattle.graph.proofs.rounds.raised.Given as goal
+use Rattle.graph.proofs.relaxation.raised.Given as goal
 
 abbrev pub invariant-loop-edge : goal.invariant-loop-edge
 invariant-loop-edge l = record {

@@ -1,9 +1,9 @@
-use Rattle.std.proofs.Common.{◌≡◌, ℕ, ◌+◌, ◌*◌, ◌<◌, ◌≤◌, false, length, get_or, sym, subst, arith}
+use Rattle.std.proofs.Common.{◌≡◌, ◌+◌, ◌*◌, ◌<◌, ◌≤◌, false, length, get_or, sym, subst, arith}
 use Rattle.graph.specs.Graphs.{IsGraph}
 use Rattle.graph.specs.Rounds.{IsRounds, Settles}
 use Rattle.graph.specs.Reaches.{AreReaches}
 use Rattle.graph.proofs.Settling.{reach-limited, reaches-more, changed-more, settles-from_same, rounds-settled, rounds-never, exceeds-from_unsettled, fits-from_settles, heights-from_settles, HaveChanged}
-use Rattle.graph.proofs.rounds.settle.Goals as goal
+use Rattle.graph.proofs.relaxation.settle.Goals as goal
 
 pub round-changed-requires-clause-small : goal.round-changed-requires-clause-small
 round-changed-requires-clause-small c = λ p below.

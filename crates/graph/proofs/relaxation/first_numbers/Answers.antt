@@ -1,7 +1,7 @@
 use Rattle.std.proofs.Common.{◌≡◌, ℕ, ◌≤◌, ◌<◌, length, get_or, ◌∙◌, arith}
 use Rattle.std.proofs.Math.ListN.{length-set}
 use Rattle.graph.proofs.Raises.{reach-first, row-more}
-use Rattle.graph.proofs.rounds.first_numbers.Goals as goal
+use Rattle.graph.proofs.relaxation.first_numbers.Goals as goal
 
 pub loop-operation-preserved : goal.loop-operation-preserved
 loop-operation-preserved c =

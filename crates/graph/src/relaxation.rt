@@ -3,6 +3,7 @@
 ghost use Rattle.std.specs.Prelude.{◌≡◌, ℕ, pos, true, false, ◌*◌, ◌+ℤ◌, ◌-ℤ◌, ◌≤ℤ◌, ◌+◌, ◌<◌, ◌≤◌, ◌==◌, length, filter, slice_index, IfOk, IsOk};
 ghost use Rattle.std.specs.List.{All};
 ghost use Rattle.graph.specs.declared.edge.Edge.{Edge};
+ghost use Rattle.graph.specs.Graphs.{IsGraph};
 ghost use Rattle.graph.specs.Walks.{FitsCircuits, Exceeds};
 ghost use Rattle.graph.specs.Rounds.{IsRounds, TellsFeasible};
 ghost use Rattle.graph.specs.Reaches.{AreReaches, IsRaised, AreHeights};
@@ -15,6 +16,7 @@ use std::alloc::{AllocError, Global};
 const MOST: usize = 128;
 
 /// What rounds at an interval come to.
+#[derive(Drop)]
 pub(crate) struct Settled {
     /// Whether a round changed nothing.
     pub(crate) settled: bool,
@@ -87,6 +89,7 @@ fn first_numbers(edges: &Edges, interval: u64) -> [u64; MOST]
 pub(crate) fn settle(edges: &Edges, interval: u64) -> Settled
     requires short { interval ≤ 16384 }
     ensures exact { IsRounds edges.now interval result.settled result.rounds }
+    ensures well_formed { IsGraph edges.now }
     ensures heights { result.settled ≡ true → AreHeights edges.now interval result.numbers }
     ensures fits { result.settled ≡ true → FitsCircuits edges.now.edges interval }
     ensures exceeds { result.settled ≡ false → Exceeds edges.now.edges interval }
@@ -109,4 +112,26 @@ pub(crate) fn settle(edges: &Edges, interval: u64) -> Settled
         rounds: edges.operations() as u64,
         numbers,
     }
+}
+
+/// Rounds of relaxation at an interval, in cycles: whether they settle, and how many are made, from 1 to
+/// the number of operations. They settle where the interval is at or above the recurrence-constrained
+/// lower bound.
+///
+/// Each operation has a number, at first its latency. A round raises it to the greatest, over the edges
+/// from the operation, of the target's number in the round before with the edge's delay, less the
+/// interval for each iteration of the edge's distance. Rounds are made until one changes nothing, which
+/// is counted too, and no more than there are operations.
+///
+/// # Errors
+/// None: no memory is taken.
+pub fn rounds(_alloc: Global, edges: &Edges, ii: u64) -> Result<(bool, u64), AllocError>
+    requires from_one { 1 ≤ ii }
+    requires limit { ii ≤ 16384 }
+    ensures exact { IfOk result (λ r. IsRounds edges.now ii r.0 r.1) }
+    ensures feasible { IfOk result (λ r. TellsFeasible edges.now.edges ii r.0) }
+    ensures no_memory { IsOk result }
+{
+    let reached = settle(edges, ii);
+    Ok((reached.settled, reached.rounds))
 }

@@ -1,7 +1,7 @@
 use Rattle.std.proofs.Common.{◌≡◌, ℕ, ◌<◌, ◌==◌, true, false, length, get_or, filter}
 use Rattle.graph.specs.Dependences.{EdgeData}
 use Rattle.graph.specs.Reaches.{IsRaised}
-use Rattle.graph.proofs.rounds.round.Given as goal
+use Rattle.graph.proofs.relaxation.round.Given as goal
 
 abbrev pub invariant-loop-operation : goal.invariant-loop-operation
 invariant-loop-operation l = record {

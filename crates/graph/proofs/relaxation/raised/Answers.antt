@@ -1,4 +1,4 @@
-use Rattle.std.proofs.Common.{rules, ◌≡◌, ◌≤◌, ◌<◌, ◌+◌, ◌*◌, ℤ, pos, ◌+ℤ◌, ◌-ℤ◌, length, get_or, take, ◌∙◌, sym, ap, subst, arith, to_z, of_z, w64}
+use Rattle.std.proofs.Common.{rules, ◌≡◌, ◌≤◌, ◌<◌, ◌+◌, ◌*◌, pos, ◌+ℤ◌, ◌-ℤ◌, length, get_or, take, ◌∙◌, sym, ap, subst, arith, to_z, of_z, w64}
 use Rattle.std.specs.Prelude.{◌<ℤ◌, ◌≤ℤ◌}
 use mir.Val.{SFits}
 use Rattle.std.proofs.lemmas.Int.{ints, to_z-of_z}
@@ -7,8 +7,8 @@ use lib.IntN.{nat_abs}
 use Rattle.graph.specs.Dependences.{EdgeData}
 use Rattle.graph.specs.Reaches.{IsRaised}
 use Rattle.graph.proofs.Raises.{IsRaised-none, IsRaised-higher, IsRaised-kept, less-from_test, no_less-from_test, pos-nat_abs}
-use Rattle.graph.proofs.rounds.raised.Goals as goal
-use Rattle.graph.proofs.rounds.raised.Goals.{then-reached-best, else-reached-best}
+use Rattle.graph.proofs.relaxation.raised.Goals as goal
+use Rattle.graph.proofs.relaxation.raised.Goals.{then-reached-best, else-reached-best}
 
 pub loop-edge-init : goal.loop-edge-init
 loop-edge-init c =

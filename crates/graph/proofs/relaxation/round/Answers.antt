@@ -1,12 +1,12 @@
-use Rattle.std.proofs.Common.{◌≡◌, ℕ, ◌+◌, ◌<◌, ◌≤◌, ◌==◌, true, false, List, length, get_or, set, filter, refl, sym, ap, ◌∙◌, subst, arith, get_or-set_same}
+use Rattle.std.proofs.Common.{◌≡◌, ℕ, ◌+◌, ◌<◌, ◌≤◌, ◌==◌, List, length, get_or, set, filter, sym, ◌∙◌, subst, arith, get_or-set_same}
 use Rattle.std.specs.List.{All}
 use Rattle.std.proofs.lemmas.List.Elements.{All-filter}
 use Rattle.std.proofs.Math.ListN.{length-set}
 use Rattle.graph.specs.Dependences.{EdgeData}
 use Rattle.graph.specs.Reaches.{IsRaised}
 use Rattle.graph.proofs.Raises.{row-more, get_or-set_far}
-use Rattle.graph.proofs.rounds.round.Goals as goal
-use Rattle.graph.proofs.rounds.round.Goals.{then-own-best, else-own-best}
+use Rattle.graph.proofs.relaxation.round.Goals as goal
+use Rattle.graph.proofs.relaxation.round.Goals.{then-own-best, else-own-best}
 
 pub raised-best-requires-clause-small : goal.raised-best-requires-clause-small
 raised-best-requires-clause-small c =

@@ -1,7 +1,7 @@
 use Rattle.std.proofs.Common.{◌+◌}
 use Rattle.graph.specs.Reaches.{AreReaches}
 use Rattle.graph.proofs.Settling.{HaveChanged}
-use Rattle.graph.proofs.rounds.settle.Given as goal
+use Rattle.graph.proofs.relaxation.settle.Given as goal
 
 abbrev pub invariant-loop-made : goal.invariant-loop-made
 invariant-loop-made l = record {

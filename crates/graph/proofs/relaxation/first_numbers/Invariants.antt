@@ -1,5 +1,5 @@
 use Rattle.std.proofs.Common.{◌≡◌, ℕ, ◌<◌, length, get_or}
-use Rattle.graph.proofs.rounds.first_numbers.Given as goal
+use Rattle.graph.proofs.relaxation.first_numbers.Given as goal
 
 abbrev pub invariant-loop-operation : goal.invariant-loop-operation
 invariant-loop-operation l = record {
