@@ -25,3 +25,6 @@ pub use laws::{
 pub use recurrence::{feasible, mii, rec_mii};
 pub use relaxation::rounds;
 pub use units::res_mii;
+
+#[cfg(test)]
+mod tests;
