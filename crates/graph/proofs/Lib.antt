@@ -10,7 +10,9 @@ pub mod Passes
 pub mod Pigeons
 pub mod Potentials
 pub mod Promised
+pub mod Raises
 pub mod Recurrences
+pub mod Settling
 pub mod Slices
 pub mod Tally
 pub mod UnitBound

@@ -16,7 +16,7 @@ use Rattle.graph.proofs.Recurrences.{bound-le-fitting}
 abbrev pub KeepsHeight : ℕ → (ℕ → ℤ) → EdgeData → Type 0
 KeepsHeight ii height e = (height e.to +ℤ e.delay) ≤ℤ (height e.from +ℤ pos (ii * e.distance))
 
-walk-below : (edges : List EdgeData) (ii : ℕ) (height : ℕ → ℤ) → All (KeepsHeight ii height) edges → (p q : ℕ) (walk : List EdgeData) → IsWalk edges p walk q
+pub walk-below : (edges : List EdgeData) (ii : ℕ) (height : ℕ → ℤ) → All (KeepsHeight ii height) edges → (p q : ℕ) (walk : List EdgeData) → IsWalk edges p walk q
     → (height q +ℤ delay_of walk) ≤ℤ (height p +ℤ pos (ii * distance_of walk))
 walk-below edges ii height keeps p q [] w =
     let e : height p ≡ height q = ap height w in

@@ -5,6 +5,8 @@ pub mod Dependences
 pub mod Graphs
 pub mod Layout
 pub mod Promises
+pub mod Reaches
+pub mod Rounds
 pub mod Schedules
 pub mod Subscripts
 pub mod Units

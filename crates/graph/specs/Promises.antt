@@ -1,5 +1,5 @@
 -- What a schedule that keeps each dependence of a loop promises for the instances of its iterations.
-use Rattle.std.specs.Prelude.{◌≡◌, ℕ, ℤ, ◌+◌, ◌*◌, ◌<◌, ◌≤◌, ◌≤ℤ◌, ◌⊎◌, List, [], length, slice_index}
+use Rattle.std.specs.Prelude.{◌≡◌, ℕ, ℤ, pos, ◌+◌, ◌*◌, ◌<◌, ◌≤◌, ◌≤ℤ◌, ◌⊎◌, List, [], length, slice_index}
 use Rattle.std.specs.List.{All}
 use Rattle.machine.specs.declared.opcode.Opcode.TheVariants.{Load, Store}
 use Rattle.loops.specs.Loops.{LoopData, IsLoop}
@@ -68,3 +68,8 @@ abbrev pub WalksAreShort : Type 0
 WalksAreShort = (graph : GraphData) (ii : ℕ) → IsGraph graph → (p q : ℕ) (walk : List EdgeData) → p < length graph.latencies → IsWalk graph.edges p walk q
     → Exceeds graph.edges ii ⊎ ((other : List EdgeData) × IsWalk graph.edges p other q × (length other < length graph.latencies)
     × (length_of graph.latencies ii walk q ≤ℤ length_of graph.latencies ii other q))
+
+-- at any interval no walk is longer than 64 cycles for each of its edges, and 64 more
+abbrev pub SumsAreLimited : Type 0
+SumsAreLimited = (graph : GraphData) (ii : ℕ) → IsGraph graph → (p q : ℕ) (walk : List EdgeData) → p < length graph.latencies → IsWalk graph.edges p walk q
+    → length_of graph.latencies ii walk q ≤ℤ pos (64 * length walk + 64)

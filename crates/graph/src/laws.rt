@@ -1,6 +1,6 @@
 //! What dependences promise: laws, stated by the contracts of functions that do nothing.
 
-ghost use Rattle.graph.specs.Promises.{ValuesInTime, StoresInTime, LoadsInTime, StoresInOrder, CircuitsTakeIterations, SchedulesKeepRecurrences, RecurrencesAreLimited, WalksAreShort};
+ghost use Rattle.graph.specs.Promises.{ValuesInTime, StoresInTime, LoadsInTime, StoresInOrder, CircuitsTakeIterations, SchedulesKeepRecurrences, RecurrencesAreLimited, WalksAreShort, SumsAreLimited};
 
 /// A schedule that keeps the dependences of a loop issues no use of a value before it has landed.
 pub fn values_in_time()
@@ -43,4 +43,10 @@ pub fn recurrences_are_limited()
 /// Where every circuit fits an interval, the longest walks have fewer edges than there are operations.
 pub fn walks_are_short()
     ensures { WalksAreShort }
+{}
+
+/// The longest walk of so many edges is no longer than 64 cycles for each of them and 64 more, so no
+/// number grows further in as many rounds.
+pub fn sums_are_limited()
+    ensures { SumsAreLimited }
 {}

@@ -6,8 +6,10 @@ mod dependences;
 mod edge;
 mod fault;
 mod graph;
+mod height;
 mod laws;
 mod recurrence;
+mod relaxation;
 mod starts;
 mod units;
 
@@ -15,8 +17,14 @@ pub use dependences::edges;
 pub use edge::Edge;
 pub use fault::GraphFault;
 pub use graph::Edges;
+pub use height::heights;
 pub use laws::{
     circuits_take_iterations, loads_in_time, recurrences_are_limited, schedules_keep_recurrences,
-    stores_in_order, stores_in_time, values_in_time, walks_are_short,
+    stores_in_order, stores_in_time, sums_are_limited, values_in_time, walks_are_short,
 };
+pub use recurrence::{feasible, mii, rec_mii};
+pub use relaxation::rounds;
 pub use units::res_mii;
+
+#[cfg(test)]
+mod tests;

@@ -1,0 +1,14 @@
+use Rattle.std.proofs.Common.{◌≡◌, ◌⊎◌, ◌-◌, ◌<◌, ◌≤◌}
+use Rattle.graph.specs.Walks.{FitsCircuits, Exceeds}
+use Rattle.graph.proofs.recurrence.bound_between.Given as goal
+
+abbrev pub invariant-loop-low : goal.invariant-loop-low
+invariant-loop-low l = record {
+  order : l.low < l.high;
+  limit : l.high ≤ 16384;
+  above : (l.low ≡ 0) ⊎ Exceeds l.edges.edges l.low;
+  fits : FitsCircuits l.edges.edges l.high;
+}
+
+abbrev pub decreases-loop-low : goal.decreases-loop-low
+decreases-loop-low l = l.high - l.low

@@ -1,0 +1,35 @@
+-- Rounds of relaxation, told by walks: what is known after so many rounds are the longest walks of at most so many edges.
+use Rattle.std.specs.Prelude.{◌≡◌, ℕ, ◌<◌, ◌≤◌, ◌↔◌, ◌≤ℤ◌, Bool, true, false, List, length}
+use Rattle.graph.specs.Dependences.{EdgeData}
+use Rattle.graph.specs.Graphs.{GraphData}
+use Rattle.graph.specs.Walks.{IsWalk, IsRecurrenceBound, length_of}
+
+-- from an operation, some walk of fewer edges than there are rounds is as long as each walk of at most as many
+pub record IsSettledAt (graph : GraphData) (ii round p : ℕ) : Type 0 where
+  pub walk : List EdgeData
+  pub end : ℕ
+  pub is_walk : IsWalk graph.edges p walk end
+  pub few : length walk < round
+  pub longest : (other : List EdgeData) (last : ℕ) → IsWalk graph.edges p other last → length other ≤ round
+      → length_of graph.latencies ii other last ≤ℤ length_of graph.latencies ii walk end
+
+-- the last of so many rounds changes nothing
+abbrev pub Settles : GraphData → ℕ → ℕ → Type 0
+Settles graph ii round = (p : ℕ) → p < length graph.latencies → IsSettledAt graph ii round p
+
+-- whether rounds settle, and how many are made: the least number, from 1, of which the last changes nothing, and where there is
+-- none as many as there are operations
+pub record IsRounds (graph : GraphData) (ii : ℕ) (settled : Bool) (rounds : ℕ) : Type 0 where
+  pub from_one : 1 ≤ rounds
+  pub within : rounds ≤ length graph.latencies
+  pub settles : settled ≡ true → Settles graph ii rounds
+  pub least : (fewer : ℕ) → 1 ≤ fewer → fewer < rounds → Settles graph ii fewer → ⊥
+  pub never : settled ≡ false → (rounds ≡ length graph.latencies) × ((more : ℕ) → 1 ≤ more → Settles graph ii more → ⊥)
+
+-- an interval is at or above the recurrence-constrained lower bound
+abbrev pub IsFeasible : List EdgeData → ℕ → Type 0
+IsFeasible edges ii = (bound : ℕ) × IsRecurrenceBound edges bound × (bound ≤ ii)
+
+-- the answer to whether an interval is at or above that bound, whatever the bound is
+abbrev pub TellsFeasible : List EdgeData → ℕ → Bool → Type 0
+TellsFeasible edges ii answer = (bound : ℕ) → IsRecurrenceBound edges bound → (answer ≡ true) ↔ (bound ≤ ii)

@@ -1,0 +1,30 @@
+//! Heights, by which a scheduler takes operations.
+
+ghost use Rattle.std.specs.Prelude.{◌≡◌, ℕ, ◌*◌, ◌<◌, ◌≤◌, length, slice_index, IfOk};
+ghost use Rattle.std.specs.List.{All};
+ghost use Rattle.graph.specs.Walks.{IsHeight};
+ghost use Rattle.graph.specs.Rounds.{IsFeasible};
+
+use crate::graph::Edges;
+use crate::relaxation::settle;
+use std::alloc::{AllocError, Global};
+
+/// The height of each operation at an interval, in cycles, 1 to 64 for each operation: HeightR of
+/// B. R. Rau, "Iterative Modulo Scheduling", HPL-94-115.
+///
+/// It is the length of the longest walk along edges from the operation. A walk's length is the sum of
+/// the edges' delays, less the interval for each iteration of their distances, and the latency of the
+/// operation that the walk ends at.
+///
+/// # Errors
+/// [`AllocError`] where memory ran out.
+pub fn heights(alloc: Global, edges: &Edges, ii: u64) -> Result<Vec<u64>, AllocError>
+    requires feasible { IsFeasible edges.now.edges ii }
+    requires limit { ii ≤ 16384 }
+    ensures each { IfOk result (λ v. length v.items ≡ length edges.now.latencies) }
+    ensures exact { IfOk result (λ v. (p : ℕ) → p < length edges.now.latencies → IsHeight edges.now.edges edges.now.latencies ii p (slice_index v.items p)) }
+    ensures range { IfOk result (λ v. All (λ h. (1 ≤ h) × (h ≤ 64 * length edges.now.latencies)) v.items) }
+{
+    let reached = settle(edges, ii);
+    Vec::from_slice(alloc, &reached.numbers[..edges.operations()])
+}
