@@ -10,7 +10,7 @@ use Rattle.std.proofs.Math.Nat.{mul-add}
 use Rattle.graph.specs.Dependences.{EdgeData}
 use Rattle.graph.specs.Graphs.{GraphData, IsGraph}
 use Rattle.graph.specs.Walks.{IsWalk, delay_of, distance_of, length_of, FitsCircuits, Exceeds, IsHeight, IsRecurrenceBound}
-use Rattle.graph.specs.Rounds.{IsSettledAt, Settles, IsRounds, IsFeasible, TellsFeasible}
+use Rattle.graph.specs.Rounds.{IsSettledAt, Settles, IsRounds, TellsFeasible}
 use Rattle.graph.specs.Reaches.{IsReach, AreReaches, IsRaised, IsUnsettled, AreHeights}
 use Rattle.graph.specs.Promises.{SumsAreLimited}
 use Rattle.graph.proofs.Circuits.{exceeds_or_short}
@@ -244,9 +244,9 @@ tells-feasible edges ii false some fits exceeds = λ bound b. (
 )
 
 -- at a feasible interval rounds settle
-pub settled-at_feasible : (edges : List EdgeData) (ii : ℕ) (answer : Bool) → IsFeasible edges ii → (answer ≡ false → Exceeds edges ii) → answer ≡ true
+pub settled-at_feasible : (edges : List EdgeData) (ii : ℕ) (answer : Bool) → FitsCircuits edges ii → (answer ≡ false → Exceeds edges ii) → answer ≡ true
 settled-at_feasible edges ii true f exceeds = refl
-settled-at_feasible edges ii false f exceeds = absurd (exceeds-not_fits edges ii (exceeds refl) (fits-at_longer edges f.0 ii f.2 f.1.fits))
+settled-at_feasible edges ii false f exceeds = absurd (exceeds-not_fits edges ii (exceeds refl) f)
 
 -- the least interval that fits
 pub bound-from_ends : (edges : List EdgeData) (low high : ℕ) → low + 1 ≡ high → (low ≡ 0) ⊎ Exceeds edges low → FitsCircuits edges high → IsRecurrenceBound edges high
@@ -283,7 +283,7 @@ heights-taken graph ii numbers heights = λ p below.
     subst (IsHeight graph.edges graph.latencies ii p) (sym (get_or-take (length graph.latencies) numbers p 0 below)) (heights p below)
 
 -- a vector's numbers are the heights
-pub items-are_heights : (graph : GraphData) (ii : ℕ) (numbers items : List ℕ) → IsGraph graph → IsFeasible graph.edges ii → AreHeights graph ii numbers
+pub items-are_heights : (graph : GraphData) (ii : ℕ) (numbers items : List ℕ) → IsGraph graph → FitsCircuits graph.edges ii → AreHeights graph ii numbers
     → length graph.latencies ≤ length numbers → items ≡ take (length graph.latencies) numbers
     → (length items ≡ length graph.latencies) × AreHeights graph ii items × All (λ h. (1 ≤ h) × (h ≤ 64 * length graph.latencies)) items
 items-are_heights graph ii numbers items g f heights long is =
@@ -295,7 +295,7 @@ items-are_heights graph ii numbers items g f heights long is =
       λ p d below.
           let within : p < n = omega arith in
           subst (λ h. (1 ≤ h) × (h ≤ 64 * n)) (get_or_default items p 0 d below)
-          (height-range graph ii p (slice_index items p) g (fits-at_longer graph.edges f.0 ii f.2 f.1.fits) within (each p within)),
+          (height-range graph ii p (slice_index items p) g f within (each p within)),
     )
 
 pub not_true : (b : Bool) → not b ≡ true → b ≡ false

@@ -5,7 +5,7 @@ use Rattle.machine.specs.declared.opcode.Opcode.TheVariants.{Load, Store}
 use Rattle.loops.specs.Loops.{LoopData, IsLoop}
 use Rattle.graph.specs.Dependences.{EdgeData, Dependence, Uses, Touches, HasOpcode, ComesFirst}
 use Rattle.graph.specs.Schedules.{KeepsEdge}
-use Rattle.graph.specs.Walks.{IsWalk, distance_of, length_of, Exceeds, IsRecurrenceBound}
+use Rattle.graph.specs.Walks.{IsWalk, distance_of, length_of, Exceeds, FitsCircuits, IsRecurrenceBound}
 use Rattle.graph.specs.Graphs.{GraphData, IsGraph}
 
 -- the cycle in which the instance of an operation in an iteration is issued
@@ -57,6 +57,10 @@ CircuitsTakeIterations = (loop : LoopData) (latencies : List ℕ) (edges : List 
 abbrev pub SchedulesKeepRecurrences : Type 0
 SchedulesKeepRecurrences = (edges : List EdgeData) (bound ii : ℕ) (times : List ℕ) → IsRecurrenceBound edges bound → 0 < ii
     → All (KeepsEdge ii times) edges → bound ≤ ii
+
+-- each circuit fits every interval from the bound on
+abbrev pub LongerIntervalsFit : Type 0
+LongerIntervalsFit = (edges : List EdgeData) (bound ii : ℕ) → IsRecurrenceBound edges bound → bound ≤ ii → FitsCircuits edges ii
 
 -- the bound is at most 64 for each operation
 abbrev pub RecurrencesAreLimited : Type 0

@@ -26,10 +26,6 @@ pub record IsRounds (graph : GraphData) (ii : ℕ) (settled : Bool) (rounds : �
   pub least : (fewer : ℕ) → 1 ≤ fewer → fewer < rounds → Settles graph ii fewer → ⊥
   pub never : settled ≡ false → (rounds ≡ length graph.latencies) × ((more : ℕ) → 1 ≤ more → Settles graph ii more → ⊥)
 
--- an interval is at or above the recurrence-constrained lower bound
-abbrev pub IsFeasible : List EdgeData → ℕ → Type 0
-IsFeasible edges ii = (bound : ℕ) × IsRecurrenceBound edges bound × (bound ≤ ii)
-
--- the answer to whether an interval is at or above that bound, whatever the bound is
+-- the answer to whether an interval is at or above the recurrence-constrained lower bound
 abbrev pub TellsFeasible : List EdgeData → ℕ → Bool → Type 0
 TellsFeasible edges ii answer = (bound : ℕ) → IsRecurrenceBound edges bound → (answer ≡ true) ↔ (bound ≤ ii)

@@ -2,8 +2,7 @@
 
 ghost use Rattle.std.specs.Prelude.{◌≡◌, ℕ, ◌*◌, ◌<◌, ◌≤◌, length, slice_index, IfOk};
 ghost use Rattle.std.specs.List.{All};
-ghost use Rattle.graph.specs.Walks.{IsHeight};
-ghost use Rattle.graph.specs.Rounds.{IsFeasible};
+ghost use Rattle.graph.specs.Walks.{FitsCircuits, IsHeight};
 
 use crate::graph::Edges;
 use crate::relaxation::settle;
@@ -14,12 +13,14 @@ use std::alloc::{AllocError, Global};
 ///
 /// It is the length of the longest walk along edges from the operation. A walk's length is the sum of
 /// the edges' delays, less the interval for each iteration of their distances, and the latency of the
-/// operation that the walk ends at.
+/// operation that the walk ends at. The interval has to be at or above the recurrence-constrained lower
+/// bound: [`feasible`](crate::feasible) tells so, and [`longer_intervals_fit`](crate::longer_intervals_fit) of
+/// a bound that is known.
 ///
 /// # Errors
 /// [`AllocError`] where memory ran out.
 pub fn heights(alloc: Global, edges: &Edges, ii: u64) -> Result<Vec<u64>, AllocError>
-    requires feasible { IsFeasible edges.now.edges ii }
+    requires fits { FitsCircuits edges.now.edges ii }
     requires limit { ii ≤ 16384 }
     ensures each { IfOk result (λ v. length v.items ≡ length edges.now.latencies) }
     ensures exact { IfOk result (λ v. (p : ℕ) → p < length edges.now.latencies → IsHeight edges.now.edges edges.now.latencies ii p (slice_index v.items p)) }

@@ -1,6 +1,6 @@
 //! What dependences promise: laws, stated by the contracts of functions that do nothing.
 
-ghost use Rattle.graph.specs.Promises.{ValuesInTime, StoresInTime, LoadsInTime, StoresInOrder, CircuitsTakeIterations, SchedulesKeepRecurrences, RecurrencesAreLimited, WalksAreShort, SumsAreLimited};
+ghost use Rattle.graph.specs.Promises.{ValuesInTime, StoresInTime, LoadsInTime, StoresInOrder, CircuitsTakeIterations, SchedulesKeepRecurrences, LongerIntervalsFit, RecurrencesAreLimited, WalksAreShort, SumsAreLimited};
 
 /// A schedule that keeps the dependences of a loop issues no use of a value before it has landed.
 pub fn values_in_time()
@@ -33,6 +33,11 @@ pub fn circuits_take_iterations()
 /// No schedule that keeps the edges has an interval below their recurrence-constrained lower bound.
 pub fn schedules_keep_recurrences()
     ensures { SchedulesKeepRecurrences }
+{}
+
+/// Every circuit fits an interval at or above the recurrence-constrained lower bound.
+pub fn longer_intervals_fit()
+    ensures { LongerIntervalsFit }
 {}
 
 /// The recurrence-constrained lower bound is at most 64 cycles for each operation, so at most 8,192.

@@ -19,8 +19,9 @@ pub use fault::GraphFault;
 pub use graph::Edges;
 pub use height::heights;
 pub use laws::{
-    circuits_take_iterations, loads_in_time, recurrences_are_limited, schedules_keep_recurrences,
-    stores_in_order, stores_in_time, sums_are_limited, values_in_time, walks_are_short,
+    circuits_take_iterations, loads_in_time, longer_intervals_fit, recurrences_are_limited,
+    schedules_keep_recurrences, stores_in_order, stores_in_time, sums_are_limited, values_in_time,
+    walks_are_short,
 };
 pub use recurrence::{feasible, mii, rec_mii};
 pub use relaxation::rounds;

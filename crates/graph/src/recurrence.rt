@@ -1,6 +1,6 @@
 //! The recurrence-constrained lower bound of the initiation interval.
 
-ghost use Rattle.std.specs.Prelude.{◌≡◌, ◌⊎◌, ◌+◌, ◌*◌, ◌<◌, ◌≤◌, length, max, IfOk, IsOk};
+ghost use Rattle.std.specs.Prelude.{◌≡◌, ◌⊎◌, ◌+◌, ◌*◌, ◌<◌, ◌≤◌, length, max, true, IfOk, IsOk};
 ghost use Rattle.graph.specs.Walks.{FitsCircuits, Exceeds, IsRecurrenceBound};
 ghost use Rattle.graph.specs.Rounds.{TellsFeasible};
 
@@ -17,6 +17,7 @@ pub fn feasible(_alloc: Global, edges: &Edges, ii: u64) -> Result<bool, AllocErr
     requires from_one { 1 ≤ ii }
     requires limit { ii ≤ 16384 }
     ensures exact { IfOk result (λ answer. TellsFeasible edges.now.edges ii answer) }
+    ensures fits { IfOk result (λ answer. answer ≡ true → FitsCircuits edges.now.edges ii) }
     ensures no_memory { IsOk result }
 {
     Ok(settle(edges, ii).settled)

@@ -130,6 +130,7 @@ pub fn rounds(_alloc: Global, edges: &Edges, ii: u64) -> Result<(bool, u64), All
     requires limit { ii ≤ 16384 }
     ensures exact { IfOk result (λ r. IsRounds edges.now ii r.0 r.1) }
     ensures feasible { IfOk result (λ r. TellsFeasible edges.now.edges ii r.0) }
+    ensures fits { IfOk result (λ r. r.0 ≡ true → FitsCircuits edges.now.edges ii) }
     ensures no_memory { IsOk result }
 {
     let reached = settle(edges, ii);

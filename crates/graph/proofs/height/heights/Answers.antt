@@ -10,8 +10,8 @@ both : (c : goal.After-from_slice) (items : List ℕ) → items ≡ take c.opera
     × All (λ h. (1 ≤ h) × (h ≤ 64 * length c.args.edges.now.latencies)) items
 both c items is =
     let settled : c.settle-reached.result.settled ≡ true
-    = settled-at_feasible c.args.edges.now.edges c.args.ii c.settle-reached.result.settled c.requires.feasible c.settle-reached.ensures.exceeds in
-    items-are_heights c.args.edges.now c.args.ii c.settle-reached.result.numbers items c.settle-reached.ensures.well_formed c.requires.feasible
+    = settled-at_feasible c.args.edges.now.edges c.args.ii c.settle-reached.result.settled c.requires.fits c.settle-reached.ensures.exceeds in
+    items-are_heights c.args.edges.now c.args.ii c.settle-reached.result.numbers items c.settle-reached.ensures.well_formed c.requires.fits
     (c.settle-reached.ensures.heights settled) (let long : length c.settle-reached.result.numbers ≡ 128 = search rules in
     let few : length c.args.edges.now.latencies ≤ 128 = c.operations.ensures.well_formed.few in omega arith)
     (is ∙ ap (λ n. take n c.settle-reached.result.numbers) c.operations.ensures.value)
