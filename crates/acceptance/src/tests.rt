@@ -1,9 +1,11 @@
 //! Rows: a line, the texts of its files, and what has to come of them.
 
 mod bounds;
+mod dependences;
 mod devices;
 mod faults;
 mod given;
+mod matrices;
 mod plain;
 mod runs;
 

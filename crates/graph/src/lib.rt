@@ -27,5 +27,3 @@ pub use recurrence::{feasible, mii, rec_mii};
 pub use relaxation::rounds;
 pub use units::res_mii;
 
-#[cfg(test)]
-mod tests;

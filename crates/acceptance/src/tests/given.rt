@@ -459,3 +459,43 @@ x = add p p
 y = add x p
 end
 ";
+
+/// A `store` that takes long.
+pub(super) const M4: &str = r#"registers = 8
+units = ["mem", "alu"]
+
+[ops.load]
+latency = 1
+alts = [["mem@0"]]
+
+[ops.store]
+latency = 4
+alts = [["mem@0"]]
+
+[ops.add]
+latency = 1
+alts = [["alu@0"]]
+"#;
+
+/// A `mul` that takes long.
+pub(super) const M5: &str = r#"registers = 8
+units = ["u", "mem"]
+
+[ops.mul]
+latency = 5
+alts = [["u@0"]]
+
+[ops.store]
+latency = 1
+alts = [["mem@0"]]
+"#;
+
+/// Two stores to one array, the second of which stores to a cell first.
+pub(super) const TWO: &str = "loop two
+array b =
+param p = 1
+param q = 2
+store b[i] p
+store b[i+1] q
+end
+";

@@ -1,6 +1,6 @@
 //! Greatest sums by matrices, for loops of at most four operations.
 
-use crate::Edges;
+use graph::Edges;
 use std::process::Abort;
 
 /// The most operations.

@@ -1,64 +1,18 @@
-//! The worked loops: their edges, bounds, rounds and heights, and the same by matrices.
+//! The edges, bounds, rounds and heights of worked loops, and the same by matrices.
 
 ghost use Rattle.std.specs.Prelude.{◌≤◌};
 
-mod matrices;
-
-use crate::{Edge, Edges, GraphFault, edges, feasible, heights, mii, rec_mii, res_mii, rounds};
+use super::given::{ACC, ALTS, CHAIN, FORCE, LATE, LONE, M1, M2, M3, M4, M5, M6, POW, TWO};
+use super::matrices::{closed, longest, weights};
+use graph::{Edge, Edges, GraphFault, edges, feasible, heights, mii, rec_mii, res_mii, rounds};
 use loops::read_loops;
 use machine::{Opcode, read_machine};
-use matrices::{closed, longest, weights};
 use std::alloc::{AllocError, Global};
 use std::process::Abort;
 use std::test::Fail;
 
-const M1: &str = "registers = 8\nunits = [\"mem\", \"alu\"]\n\
-    [ops.load]\nlatency = 3\nalts = [[\"mem@0\"]]\n\
-    [ops.store]\nlatency = 1\nalts = [[\"mem@0\"]]\n\
-    [ops.add]\nlatency = 1\nalts = [[\"alu@0\"]]\n";
-
-const M2: &str = "registers = 8\nunits = [\"u\"]\n\
-    [ops.add]\nlatency = 2\nalts = [[\"u@0\"]]\n\
-    [ops.mul]\nlatency = 1\nalts = [[\"u@0\", \"u@1\"]]\n";
-
-const M3: &str =
-    "registers = 8\nunits = [\"u\"]\n[ops.mul]\nlatency = 1\nalts = [[\"u@0\", \"u@2\"]]\n";
-
-const M4: &str = "registers = 8\nunits = [\"mem\", \"alu\"]\n\
-    [ops.load]\nlatency = 1\nalts = [[\"mem@0\"]]\n\
-    [ops.store]\nlatency = 4\nalts = [[\"mem@0\"]]\n\
-    [ops.add]\nlatency = 1\nalts = [[\"alu@0\"]]\n";
-
-const M5: &str = "registers = 8\nunits = [\"u\", \"mem\"]\n\
-    [ops.mul]\nlatency = 5\nalts = [[\"u@0\"]]\n\
-    [ops.store]\nlatency = 1\nalts = [[\"mem@0\"]]\n";
-
-const M6: &str = "registers = 8\nunits = [\"a0\", \"a1\"]\n\
-    [ops.add]\nlatency = 1\nalts = [[\"a0@0\"], [\"a1@0\"]]\n\
-    [ops.mul]\nlatency = 2\nalts = [[\"a0@0\"]]\n";
-
-const ACC: &str = "loop acc\narray a = 1 2 3\narray b =\ninit s@1 = 0\n\
-    t = load a[i]\ns = add s@1 t\nstore b[i] s\nend\n";
-
-const CHAIN: &str = "loop chain\narray a = 7\nt = load a[i]\nu = add t 1\nstore a[i+1] u\nend\n";
-
-const LATE: &str = "loop late\narray a = 1 2 3\nparam p = 9\ninit s@1 = 0\n\
-    t = load a[i]\ns = add s@1 t\nstore a[i] p\nend\n";
-
-const POW: &str = "loop pow\narray b =\nparam p = 3\ninit x@1 = 1\ninit x@2 = 2\n\
-    x = mul x@2 p\nstore b[i] x\nend\n";
-
-const TWO: &str =
-    "loop two\narray b =\nparam p = 1\nparam q = 2\nstore b[i] p\nstore b[i+1] q\nend\n";
-
-const LONE: &str = "loop lone\nparam p = 3\nm = mul p p\nend\n";
-
-const FORCE: &str = "loop force\nparam p = 2\nx = add p p\ny = add x p\nm = mul p p\nend\n";
-
-const ALTS: &str = "loop alts\nparam p = 4\nx = add p 1\ny = add x 1\nm = mul y y\nend\n";
-
 /// The edges of the loop of a text on the machine of a text.
-fn graph(alloc: Global, machine: &str, text: &str) -> Result<Edges, Fail> {
+fn dependences_of(alloc: Global, machine: &str, text: &str) -> Result<Edges, Fail> {
     let machine = read_machine(alloc, machine.as_bytes())?;
     let loops = read_loops(alloc, text.as_bytes())?;
     let innermost = loops.as_slice().first().ok_or("a loop")?;
@@ -75,14 +29,18 @@ fn edge(from: u8, to: u8, distance: u8, delay: i8) -> Edge {
 }
 
 /// The heights where an interval is at or above the recurrence-constrained lower bound.
-fn heights_above(alloc: Global, graph: &Edges, ii: u64) -> Result<Option<Vec<u64>>, AllocError>
+fn heights_above(
+    alloc: Global,
+    dependences: &Edges,
+    ii: u64,
+) -> Result<Option<Vec<u64>>, AllocError>
+    requires from_one { 1 ≤ ii }
     requires limit { ii ≤ 16384 }
 {
-    let bound = rec_mii(alloc, graph)?;
-    if ii < bound {
+    if !feasible(alloc, dependences, ii)? {
         return Ok(None);
     }
-    Ok(Some(heights(alloc, graph, ii)?))
+    Ok(Some(heights(alloc, dependences, ii)?))
 }
 
 /// Compares a loop's edges, recurrence bound, and heights at an interval.
@@ -96,18 +54,19 @@ fn expect_row(
     ii: u64,
     high: &[u64],
 ) -> Result<(), Fail>
+    requires from_one { 1 ≤ ii }
     requires limit { ii ≤ 16384 }
 {
-    let graph = graph(alloc, machine, text)?;
-    assert_eq!(rt; graph.all(), list);
-    assert_eq!(rt; rec_mii(alloc, &graph)?, bound);
-    let found = heights_above(alloc, &graph, ii)?.ok_or("heights")?;
+    let dependences = dependences_of(alloc, machine, text)?;
+    assert_eq!(rt; dependences.all(), list);
+    assert_eq!(rt; rec_mii(alloc, &dependences)?, bound);
+    let found = heights_above(alloc, &dependences, ii)?.ok_or("heights")?;
     assert_eq!(rt; found.as_slice(), high);
     Ok(())
 }
 
 #[test]
-fn table(rt: HostRuntime) -> Result<(), Fail> {
+fn finds_dependences(rt: HostRuntime) -> Result<(), Fail> {
     let alloc = rt.alloc();
     let acc = [edge(0, 1, 0, 3), edge(1, 1, 1, 1), edge(1, 2, 0, 1)];
     expect_row(
@@ -150,20 +109,26 @@ fn table(rt: HostRuntime) -> Result<(), Fail> {
 }
 
 #[test]
-fn rounds_of_loops(rt: HostRuntime) -> Result<(), Fail> {
+fn settles_in_rounds(rt: HostRuntime) -> Result<(), Fail> {
     let alloc = rt.alloc();
-    let chain = graph(alloc, M1, CHAIN)?;
+    let chain = dependences_of(alloc, M1, CHAIN)?;
     assert!(rt; !feasible(alloc, &chain, 4)?);
     assert!(rt; feasible(alloc, &chain, 5)?);
     assert_eq!(rt; rounds(alloc, &chain, 4)?, (false, 3));
     assert_eq!(rt; rounds(alloc, &chain, 5)?, (true, 3));
-    assert_eq!(rt; rounds(alloc, &graph(alloc, M4, LATE)?, 2)?, (true, 2));
-    assert_eq!(rt; rounds(alloc, &graph(alloc, M2, LONE)?, 1)?, (true, 1));
+    assert_eq!(rt;
+        rounds(alloc, &dependences_of(alloc, M4, LATE)?, 2)?,
+        (true, 2)
+    );
+    assert_eq!(rt;
+        rounds(alloc, &dependences_of(alloc, M2, LONE)?, 1)?,
+        (true, 1)
+    );
     Ok(())
 }
 
 #[test]
-fn unit_bounds(rt: HostRuntime) -> Result<(), Fail> {
+fn bounds_units(rt: HostRuntime) -> Result<(), Fail> {
     let alloc = rt.alloc();
     for (machine, text, bound) in [(M2, FORCE, 4), (M6, ALTS, 2), (M1, ACC, 2)] {
         let machine = read_machine(alloc, machine.as_bytes())?;
@@ -176,7 +141,7 @@ fn unit_bounds(rt: HostRuntime) -> Result<(), Fail> {
 }
 
 #[test]
-fn no_table(rt: HostRuntime) -> Result<(), Fail> {
+fn misses_a_table(rt: HostRuntime) -> Result<(), Fail> {
     let alloc = rt.alloc();
     let machine = read_machine(alloc, M3.as_bytes())?;
     let loops = read_loops(alloc, ACC.as_bytes())?;
@@ -184,25 +149,25 @@ fn no_table(rt: HostRuntime) -> Result<(), Fail> {
     match edges(alloc, &machine, innermost) {
         Err(GraphFault::NoTable(opcode)) => assert_eq!(rt; opcode, Opcode::Load),
         Err(GraphFault::Memory) => return Err(Fail::from("memory")),
-        Ok(_graph) => return Err(Fail::from("no fault")),
+        Ok(_) => return Err(Fail::from("no fault")),
     }
     Ok(())
 }
 
 #[test]
-fn matrices_agree(rt: HostRuntime) -> Result<(), Fail> {
+fn agrees_with_matrices(rt: HostRuntime) -> Result<(), Fail> {
     let alloc = rt.alloc();
     for (machine, text) in [(M1, ACC), (M1, CHAIN), (M4, LATE), (M5, POW), (M1, TWO)] {
-        let graph = graph(alloc, machine, text)?;
+        let dependences = dependences_of(alloc, machine, text)?;
         for interval in 1..=12_u8 {
             let ii = u64::from(interval);
-            let paths = closed(weights(&rt, &graph, interval));
-            assert_eq!(rt; feasible(alloc, &graph, ii)?, paths.is_some());
-            let found = heights_above(alloc, &graph, ii)?;
+            let paths = closed(weights(&rt, &dependences, interval));
+            assert_eq!(rt; feasible(alloc, &dependences, ii)?, paths.is_some());
+            let found = heights_above(alloc, &dependences, ii)?;
             assert_eq!(rt; found.is_some(), paths.is_some());
             if let (Some(found), Some(paths)) = (found, paths) {
                 for operation in 0..found.len() {
-                    let height = longest(&rt, &graph, &paths, operation);
+                    let height = longest(&rt, &dependences, &paths, operation);
                     assert_eq!(rt; found.as_slice()[operation], height);
                 }
             }
