@@ -1,14 +1,14 @@
 -- The lines of loops one after another, and the loop that lacks a table.
 use Rattle.std.proofs.Common.{◌≡◌, ℕ, List, [], ◌∷◌, ◌++◌, Option, Some, None, refl, sym, ap, ◌∙◌, append_assoc, ◌+◌, ◌<◌, length, take, drop, get_or, subst}
-use Rattle.std.specs.Prelude.{Result, Ok, Err}
 use Rattle.std.specs.List.{AllZip}
 use Rattle.std.proofs.lemmas.List.{append-nil, take_more, drop_more, take-append-drop}
 use Rattle.machine.specs.Machines.{MachineData}
 use Rattle.machine.specs.declared.opcode.Opcode.{Opcode}
 use Rattle.loops.specs.Loops.{LoopData}
-use Rattle.graph.specs.Units.{IsUnitBound, operations_of, first_without_table}
-use Rattle.modsched.specs.Bounds.{first_lacking, lacking_or, IsLines, bounds_line, bounds_lines}
+use Rattle.graph.specs.Units.{first_without_table}
+use Rattle.modsched.specs.Bounds.{AreBounds, first_lacking, lacking_or, IsLines, bounds_line, bounds_lines}
 use Rattle.modsched.specs.Refusals.{IsLacking, lacking_in}
+use Rattle.modsched.specs.declared.bounds.LowerBounds.{LowerBounds}
 use Rattle.modsched.specs.declared.status.Status.{Status}
 use Rattle.modsched.specs.declared.status.Status.TheVariants.{Done, MachineUnread, LoopsUnread, Machine, Loops, NoTable, Unwritten, OutOfMemory}
 
@@ -54,7 +54,7 @@ all_zip-push R [] (b ∷ ys) x y h r = absurd h
 all_zip-push R (a ∷ xs) [] x y h r = absurd h
 all_zip-push R (a ∷ xs) (b ∷ ys) x y h r = (h.0, all_zip-push R xs ys x y h.1 r)
 
-lines-push : (R : LoopData → ℕ → Type 0) (xs : List LoopData) (bounds : List ℕ) (x : LoopData) (bound : ℕ) → AllZip R xs bounds
+lines-push : (R : LoopData → LowerBounds → Type 0) (xs : List LoopData) (bounds : List LowerBounds) (x : LoopData) (bound : LowerBounds) → AllZip R xs bounds
     → bounds_lines (xs ++ x ∷ []) (bounds ++ bound ∷ []) ≡ bounds_lines xs bounds ++ bounds_line x bound
 lines-push R [] [] x bound h = append-nil (bounds_line x bound)
 lines-push R [] (b ∷ bounds) x bound h = absurd h
@@ -63,8 +63,8 @@ lines-push R (a ∷ xs) (b ∷ bounds) x bound h =
     ap (λ rest. bounds_line a b ++ rest) (lines-push R xs bounds x bound h.1) ∙ sym (append_assoc (bounds_line a b) (bounds_lines xs bounds) (bounds_line x bound))
 
 -- one more loop with its line
-pub is_lines-push : (machine : MachineData) (xs : List LoopData) (text : List ℕ) (x : LoopData) (bound : ℕ)
-    → IsLines machine xs text → IsUnitBound (operations_of machine x) bound → IsLines machine (xs ++ x ∷ []) (text ++ bounds_line x bound)
+pub is_lines-push : (machine : MachineData) (xs : List LoopData) (text : List ℕ) (x : LoopData) (bound : LowerBounds)
+    → IsLines machine xs text → AreBounds machine x bound → IsLines machine (xs ++ x ∷ []) (text ++ bounds_line x bound)
 is_lines-push machine xs text x bound h b = record {
   bounds = h.bounds ++ bound ∷ [];
   are_bounds = all_zip-push _ xs h.bounds x bound h.are_bounds b;
@@ -76,8 +76,8 @@ pub is_lines-none : (machine : MachineData) → IsLines machine [] []
 is_lines-none machine = record { bounds = []; are_bounds = tt; is_text = refl }
 
 -- a step of the loop over loops
-pub lines_step : (machine : MachineData) (loops : List LoopData) (i : ℕ) (x : LoopData) (text : List ℕ) (bound : ℕ) → i < length loops → x ≡ get_or loops i x
-    → first_lacking machine (take i loops) ≡ None → IsLines machine (take i loops) text → first_without_table machine x ≡ None → IsUnitBound (operations_of machine x) bound
+pub lines_step : (machine : MachineData) (loops : List LoopData) (i : ℕ) (x : LoopData) (text : List ℕ) (bound : LowerBounds) → i < length loops → x ≡ get_or loops i x
+    → first_lacking machine (take i loops) ≡ None → IsLines machine (take i loops) text → first_without_table machine x ≡ None → AreBounds machine x bound
     → (first_lacking machine (take (i + 1) loops) ≡ None) × IsLines machine (take (i + 1) loops) (text ++ bounds_line x bound)
 lines_step machine loops i x text bound h is complete lines none is_bound =
     let e : take (i + 1) loops ≡ take i loops ++ x ∷ [] = take_more loops i x h ∙ ap (λ y. take i loops ++ y ∷ []) (sym is) in (

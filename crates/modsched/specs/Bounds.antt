@@ -1,12 +1,15 @@
 -- What `bounds` writes, and when it refuses.
-use Rattle.std.specs.Prelude.{◌≡◌, ℕ, ◌+◌, decimal, codes, Bool, List, [], ◌∷◌, ◌++◌, length, Option, Some, None, is_some, find, Result, Ok, Err}
+use Rattle.std.specs.Prelude.{◌≡◌, ℕ, ◌+◌, decimal, codes, max, Bool, List, [], ◌∷◌, ◌++◌, length, Option, Some, None, is_some, find, Result, Ok, Err}
 use Rattle.std.specs.List.{flat_map, zip, AllZip}
 use Rattle.machine.specs.declared.fault.MachineFault.{MachineFault}
 use Rattle.machine.specs.declared.opcode.Opcode.{Opcode}
 use Rattle.machine.specs.Machines.{MachineData}
 use Rattle.loops.specs.declared.fault.LoopFault.{LoopFault}
 use Rattle.loops.specs.Loops.{LoopData}
+use Rattle.graph.specs.Graphs.{GraphData, IsGraphOf}
 use Rattle.graph.specs.Units.{IsUnitBound, operations_of, first_without_table}
+use Rattle.graph.specs.Walks.{IsRecurrenceBound}
+use Rattle.modsched.specs.declared.bounds.LowerBounds.{LowerBounds}
 
 -- what a subcommand does with its texts: it writes a text, or refuses the machine's text, the loops' text, or the loops
 -- for want of a table of an opcode, with the loop's name
@@ -25,19 +28,31 @@ abbrev pub first_lacking : MachineData → List LoopData → Option (List ℕ ×
 first_lacking machine [] = None
 first_lacking machine (loop ∷ loops) = lacking_or loop.name (first_without_table machine loop) (first_lacking machine loops)
 
--- `loop NAME ops O res R`, with a line feed
-abbrev pub bounds_line : LoopData → ℕ → List ℕ
-bounds_line loop res =
-    ((((codes "loop " ++ loop.name) ++ codes " ops ") ++ decimal (length loop.statements)) ++ codes " res ") ++ decimal res ++ codes "\n"
+-- the resource-constrained bound of a loop on a machine, and the recurrence-constrained bound of its dependences
+pub record AreBounds (machine : MachineData) (loop : LoopData) (bounds : LowerBounds) : Type 0 where
+  pub units : IsUnitBound (operations_of machine loop) bounds.resources
+  pub graph : GraphData
+  pub is_graph : IsGraphOf machine loop graph
+  pub recurrences : IsRecurrenceBound graph.edges bounds.recurrences
+
+-- a word, and a number behind it
+abbrev pub told : List ℕ → ℕ → List ℕ
+told word number = word ++ decimal number
+
+-- `loop NAME ops O res R rec C mii M`, with a line feed; the lower bound of the interval is the greater of the two bounds
+abbrev pub bounds_line : LoopData → LowerBounds → List ℕ
+bounds_line loop bounds =
+    (((((codes "loop " ++ loop.name) ++ told (codes " ops ") (length loop.statements)) ++ told (codes " res ") bounds.resources)
+    ++ told (codes " rec ") bounds.recurrences) ++ told (codes " mii ") (max bounds.resources bounds.recurrences)) ++ codes "\n"
 
 -- the lines of loops with these bounds
-abbrev pub bounds_lines : List LoopData → List ℕ → List ℕ
+abbrev pub bounds_lines : List LoopData → List LowerBounds → List ℕ
 bounds_lines loops bounds = flat_map (λ line. bounds_line line.0 line.1) (zip loops bounds)
 
--- a line for each loop, with its bound
+-- a line for each loop, with its bounds
 pub record IsLines (machine : MachineData) (loops : List LoopData) (text : List ℕ) : Type 0 where
-  pub bounds : List ℕ
-  pub are_bounds : AllZip (λ loop bound. IsUnitBound (operations_of machine loop) bound) loops bounds
+  pub bounds : List LowerBounds
+  pub are_bounds : AllZip (AreBounds machine) loops bounds
   pub is_text : text ≡ bounds_lines loops bounds
 
 -- `loops A`, with a line feed

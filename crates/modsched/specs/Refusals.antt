@@ -6,8 +6,11 @@ use Rattle.machine.specs.declared.opcode.Opcode.{Opcode}
 use Rattle.machine.specs.Machines.{MachineData}
 use Rattle.loops.specs.declared.fault.LoopFault.{LoopFault}
 use Rattle.loops.specs.Loops.{LoopData}
-use Rattle.graph.specs.Units.{IsUnitBound, operations_of, first_without_table}
-use Rattle.modsched.specs.Bounds.{Outcome, Written, RefusedMachine, RefusedLoops, NoTable as NoTableFor, Bounds, IsLines, first_lacking, lacking_or}
+use Rattle.graph.specs.Units.{first_without_table}
+use Rattle.graph.specs.declared.fault.GraphFault.{GraphFault}
+use Rattle.graph.specs.declared.fault.GraphFault.TheVariants as graph_fault
+use Rattle.modsched.specs.Bounds.{Outcome, Written, RefusedMachine, RefusedLoops, NoTable as NoTableFor, Bounds, AreBounds, IsLines, first_lacking, lacking_or}
+use Rattle.modsched.specs.declared.bounds.LowerBounds.{LowerBounds}
 use Rattle.modsched.specs.declared.status.Status.{Status}
 use Rattle.modsched.specs.declared.status.Status.TheVariants.{Machine, Loops, NoTable, OutOfMemory}
 
@@ -21,10 +24,15 @@ IsLacking _ lacking = ⊥
 abbrev pub lacking_in : MachineData → LoopData → Option (List ℕ × Opcode)
 lacking_in machine loop = lacking_or loop.name (first_without_table machine loop) None
 
--- the bound of a loop
-abbrev pub BoundAnswers : MachineData → LoopData → Result ℕ Status → Type 0
-BoundAnswers machine loop (Ok bound) = (first_without_table machine loop ≡ None) × IsUnitBound (operations_of machine loop) bound
-BoundAnswers machine loop (Err status) = IsLacking status (lacking_in machine loop)
+-- the status of a fault of a loop of this name
+abbrev pub status_for : List ℕ → GraphFault → Status
+status_for name (graph_fault.NoTable opcode) = NoTable name opcode
+status_for name graph_fault.Memory = OutOfMemory
+
+-- the bounds of a loop
+abbrev pub BoundsAnswer : MachineData → LoopData → Result LowerBounds Status → Type 0
+BoundsAnswer machine loop (Ok bounds) = (first_without_table machine loop ≡ None) × AreBounds machine loop bounds
+BoundsAnswer machine loop (Err status) = IsLacking status (lacking_in machine loop)
 
 -- the lines of loops
 abbrev pub LinesAnswer : MachineData → List LoopData → Result (Vec ℕ Global) Status → Type 0

@@ -3,12 +3,12 @@
 ghost use Rattle.std.specs.Prelude.{◌≡◌, ◌++◌, decimal, codes, OnOk};
 ghost use Rattle.machine.specs.MachineText.{machine_of};
 ghost use Rattle.loops.specs.Meaning.{loops_in};
-ghost use Rattle.modsched.specs.Bounds.{bounds_line};
-ghost use Rattle.modsched.specs.Refusals.{BoundAnswers, LinesAnswer, TextAnswers};
+ghost use Rattle.modsched.specs.Bounds.{bounds_line, told};
+ghost use Rattle.modsched.specs.Refusals.{BoundsAnswer, LinesAnswer, TextAnswers, status_for};
 ghost use Rattle.modsched.specs.declared.status.Status.TheVariants.{OutOfMemory};
 
 use crate::status::Status;
-use graph::{GraphFault, res_mii};
+use graph::{GraphFault, edges, mii, rec_mii, res_mii};
 use itoa::Buffer;
 use loops::{Loop, read_loops};
 use machine::{Machine, read_machine};
@@ -23,7 +23,7 @@ impl From<AllocError> for Status {
 }
 
 /// A guess of how many bytes a line takes, for the first reservation.
-const LINE: usize = 48;
+const LINE: usize = 64;
 
 /// Appends a number in decimal digits.
 fn push_number(text: &mut Vec<u8>, number: u64) -> Result<(), AllocError>
@@ -33,31 +33,66 @@ fn push_number(text: &mut Vec<u8>, number: u64) -> Result<(), AllocError>
     text.extend_from_slice(digits.format(number).as_bytes())
 }
 
-/// Appends the line of a loop with its bound.
-fn push_line(text: &mut Vec<u8>, innermost: &Loop, res: u64) -> Result<(), AllocError>
-    ensures ok { OnOk result (text.new.items ≡ text.old.items ++ bounds_line innermost.now res) }
+/// The lower bounds of a loop's initiation interval, in cycles.
+#[derive(Clone, Copy)]
+pub(crate) struct LowerBounds {
+    /// By the units of the machine, at most 2,048.
+    pub(crate) resources: u64,
+    /// By the recurrences of the loop, at most 8,192.
+    pub(crate) recurrences: u64,
+}
+
+/// Appends a word and a number behind it.
+fn push_told(text: &mut Vec<u8>, word: &[u8], number: u64) -> Result<(), AllocError>
+    ensures ok { OnOk result (text.new.items ≡ text.old.items ++ told word.now number) }
+{
+    text.extend_from_slice(word)?;
+    push_number(text, number)
+}
+
+/// Appends the line of a loop with its bounds.
+fn push_line(text: &mut Vec<u8>, innermost: &Loop, bounds: LowerBounds) -> Result<(), AllocError>
+    ensures ok { OnOk result (text.new.items ≡ text.old.items ++ bounds_line innermost.now bounds) }
 {
     text.extend_from_slice(b"loop ")?;
     text.extend_from_slice(innermost.name().as_str().as_bytes())?;
-    text.extend_from_slice(b" ops ")?;
-    push_number(text, innermost.statements().len() as u64)?;
-    text.extend_from_slice(b" res ")?;
-    push_number(text, res)?;
+    push_told(text, b" ops ", innermost.statements().len() as u64)?;
+    push_told(text, b" res ", bounds.resources)?;
+    push_told(text, b" rec ", bounds.recurrences)?;
+    push_told(text, b" mii ", mii(bounds.resources, bounds.recurrences))?;
     text.extend_from_slice(b"\n")
 }
 
-/// The bound of a loop, or the status for an opcode without a table.
-fn bound_of(machine: &Machine, innermost: &Loop) -> Result<u64, Status>
-    ensures { BoundAnswers machine.now innermost.now result }
+/// The status of a fault of a loop.
+fn status_of(fault: GraphFault, innermost: &Loop) -> Status
+    ensures { result ≡ status_for innermost.now.name fault }
 {
-    match res_mii(machine, innermost) {
-        Ok(bound) => Ok(bound),
-        Err(GraphFault::NoTable(opcode)) => Err(Status::NoTable {
+    match fault {
+        GraphFault::NoTable(opcode) => Status::NoTable {
             name: innermost.name().copied(),
             opcode,
-        }),
-        Err(GraphFault::Memory) => Err(Status::OutOfMemory),
+        },
+        GraphFault::Memory => Status::OutOfMemory,
     }
+}
+
+/// The bounds of a loop, or the status for an opcode without a table.
+fn bounds_of(alloc: Global, machine: &Machine, innermost: &Loop) -> Result<LowerBounds, Status>
+    ensures { BoundsAnswer machine.now innermost.now result }
+{
+    let resources = match res_mii(machine, innermost) {
+        Ok(resources) => resources,
+        Err(fault) => return Err(status_of(fault, innermost)),
+    };
+    let dependences = match edges(alloc, machine, innermost) {
+        Ok(dependences) => dependences,
+        Err(fault) => return Err(status_of(fault, innermost)),
+    };
+    let recurrences = rec_mii(alloc, &dependences)?;
+    Ok(LowerBounds {
+        resources,
+        recurrences,
+    })
 }
 
 /// The lines of all loops, in order.
@@ -66,8 +101,8 @@ fn lines(alloc: Global, machine: &Machine, loops: &[Loop]) -> Result<Vec<u8>, St
 {
     let mut text = Vec::with_capacity(alloc, LINE * (loops.len() + 1))?;
     for innermost in loops {
-        let bound = bound_of(machine, innermost)?;
-        push_line(&mut text, innermost, bound)?;
+        let bounds = bounds_of(alloc, machine, innermost)?;
+        push_line(&mut text, innermost, bounds)?;
     }
     Ok(text)
 }
