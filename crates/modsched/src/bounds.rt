@@ -1,37 +1,20 @@
 //! What `bounds` writes.
 
-ghost use Rattle.std.specs.Prelude.{◌≡◌, ◌++◌, decimal, codes, OnOk};
+ghost use Rattle.std.specs.Prelude.{◌≡◌, ◌++◌, OnOk};
 ghost use Rattle.machine.specs.MachineText.{machine_of};
 ghost use Rattle.loops.specs.Meaning.{loops_in};
 ghost use Rattle.modsched.specs.Bounds.{bounds_line};
 ghost use Rattle.modsched.specs.Refusals.{BoundAnswers, LinesAnswer, TextAnswers};
-ghost use Rattle.modsched.specs.declared.status.Status.TheVariants.{OutOfMemory};
 
+use crate::lines::{push_last, push_number};
 use crate::status::Status;
 use graph::{GraphFault, res_mii};
-use itoa::Buffer;
 use loops::{Loop, read_loops};
 use machine::{Machine, read_machine};
 use std::alloc::{AllocError, Global};
 
-impl From<AllocError> for Status {
-    ghost from_gives = { λ _ status. status ≡ OutOfMemory };
-
-    fn from(_e: AllocError) -> Status {
-        Status::OutOfMemory
-    }
-}
-
 /// A guess of how many bytes a line takes, for the first reservation.
 const LINE: usize = 48;
-
-/// Appends a number in decimal digits.
-fn push_number(text: &mut Vec<u8>, number: u64) -> Result<(), AllocError>
-    ensures ok { OnOk result (text.new.items ≡ text.old.items ++ decimal number) }
-{
-    let mut digits = Buffer::new();
-    text.extend_from_slice(digits.format(number).as_bytes())
-}
 
 /// Appends the line of a loop with its bound.
 fn push_line(text: &mut Vec<u8>, innermost: &Loop, res: u64) -> Result<(), AllocError>
@@ -79,8 +62,6 @@ pub(crate) fn bounds_text(alloc: Global, machine: &[u8], loops: &[u8]) -> Result
     let machine = read_machine(alloc, machine)?;
     let loops = read_loops(alloc, loops)?;
     let mut text = lines(alloc, &machine, loops.as_slice())?;
-    text.extend_from_slice(b"loops ")?;
-    push_number(&mut text, loops.len() as u64)?;
-    text.extend_from_slice(b"\n")?;
+    push_last(&mut text, loops.len() as u64)?;
     Ok(text)
 }
