@@ -1,4 +1,4 @@
--- How a run of `bounds` ends.
+-- How runs of `bounds` and `plain` end.
 use Rattle.std.proofs.Common.{◌≡◌, ◌≢◌, ℕ, ◌<◌, ◌≤◌, List, Option, true, refl, sym, ap, ◌∙◌, arith, length, take, inl, inr}
 use Rattle.std.specs.Prelude.{Result, Ok, Err, nat_lt, codes}
 use Rattle.std.proofs.lemmas.List.{take_all, length-take-le}
@@ -8,10 +8,11 @@ use Rattle.machine.specs.MachineText.{machine_of}
 use Rattle.loops.specs.declared.fault.LoopFaultKind.TheVariants as kinds
 use Rattle.loops.specs.Meaning.{loops_in}
 use Rattle.modsched.proofs.Refusing.{Machines, LoopLists}
-use Rattle.modsched.specs.Bounds.{Outcome, Written, RefusedMachine, RefusedLoops, NoTable as NoTableFor, Bounds}
+use Rattle.modsched.specs.Bounds.{Bounds}
+use Rattle.modsched.specs.Outcomes.{Outcome, Written, RefusedMachine, RefusedLoops, NoTable as NoTableFor}
 use Rattle.modsched.specs.Devices.{most_read}
 use Rattle.modsched.specs.Engine.{Ends}
-use Rattle.modsched.specs.Refusals.{Refuses, RefusesBounds}
+use Rattle.modsched.specs.Refusals.{Refuses, RefusesBounds, RefusesFor}
 use Rattle.modsched.specs.Statuses.{number_of}
 use Rattle.modsched.specs.declared.status.Status.{Status}
 use Rattle.modsched.specs.declared.status.Status.TheVariants.{Done, MachineUnread, LoopsUnread, Machine, Loops, NoTable, Unwritten, OutOfMemory}
@@ -35,6 +36,16 @@ refusal_ends (Machine f) machine loops before h some = (h.0, h.1, refused_ends h
 refusal_ends (Loops f) machine loops before h some = (h.0, h.1, refused_ends h.0 (Loops f) before h.2)
 refusal_ends (NoTable name opcode) machine loops before h some = (h.0, h.1, refused_ends h.0 (NoTable name opcode) before h.2)
 refusal_ends Unwritten machine loops before h some = (h.0, h.1, refused_ends h.0 Unwritten before h.2)
+
+pub outcome_ends : (status : Status) (outcome : Outcome) (before : Option (List ℕ)) → RefusesFor outcome status → number_of status ≢ 7 → Ends outcome before before status
+outcome_ends OutOfMemory outcome before h some = absurd (some refl)
+outcome_ends Done outcome before h some = refused_ends outcome Done before h
+outcome_ends MachineUnread outcome before h some = refused_ends outcome MachineUnread before h
+outcome_ends LoopsUnread outcome before h some = refused_ends outcome LoopsUnread before h
+outcome_ends (Machine f) outcome before h some = refused_ends outcome (Machine f) before h
+outcome_ends (Loops f) outcome before h some = refused_ends outcome (Loops f) before h
+outcome_ends (NoTable name opcode) outcome before h some = refused_ends outcome (NoTable name opcode) before h
+outcome_ends Unwritten outcome before h some = refused_ends outcome Unwritten before h
 
 machine_too_long : (text : List ℕ) → 1048576 < length text → machine_of text ≡ Err (Limit (codes "text"))
 unfolding machine_of

@@ -1,5 +1,5 @@
 -- The line's arguments as `clap` sees them, and what its matches mean.
-use Rattle.std.proofs.Common.{◌≡◌, ◌⊎◌, ◌∙◌, List, Option, Some, None, Err, option_map, true, codes, refl, sym, ap, subst, inl, inr, IfSome, IfNone, string_bytes, String, Global}
+use Rattle.std.proofs.Common.{◌≡◌, ◌⊎◌, ◌∙◌, ℕ, length, arith, Ok, Result, IfOk, List, Option, Some, None, Err, option_map, true, codes, refl, sym, ap, ap₂, subst, inl, inr, IfSome, IfNone, string_bytes, String, Global}
 use Rattle.clap.specs.Words.{HasKind, IsAmong, Kinds, Row, Text, first_of, is_simple, is_simple_and_free, kind_of, subcommand_name_of, subcommand_rows_of}
 use Rattle.clap.specs.declared.error.Error.{Error}
 use Rattle.clap.specs.declared.error.kind.ErrorKind.{ErrorKind}
@@ -7,46 +7,66 @@ use Rattle.clap.specs.declared.parser.matches.ArgMatches.{ArgMatches}
 use Rattle.clap.specs.declared.parser.matches.ArgMatches.TheViews.{out-ArgMatches, out-SubCommand}
 use Rattle.clap.specs.Words.{subcommand_rows}
 use Rattle.std.specs.Box.{box_value}
+use Rattle.std.specs.declared.alloc.AllocError.{AllocError}
 use Rattle.modsched.specs.declared.line.Usage.{Usage}
 use Rattle.modsched.specs.declared.line.Usage.TheVariants.{Help, Refused, Memory}
 use Rattle.clap.proofs.OnLiterals.{clap_on_literals}
-use Rattle.modsched.specs.Lines.{IsRead, IsToldBy, Means, program_line, bounds_line}
+use Rattle.modsched.specs.Lines.{IsRead, IsToldBy, Means, MeansNamed, SaysTrip, program_line, bounds_line, plain_line}
 use Rattle.modsched.specs.declared.line.Command.{Command}
-use Rattle.modsched.specs.declared.line.Command.TheVariants.{Bounds}
+use Rattle.modsched.specs.declared.line.Command.TheVariants.{Bounds, Plain}
 
 pub program_is_simple : is_simple program_line ≡ true
-unfolding program_line bounds_line clap_on_literals
+unfolding program_line bounds_line plain_line clap_on_literals
 program_is_simple = refl
 
 pub program_is_free : is_simple_and_free program_line ≡ true
-unfolding program_line bounds_line clap_on_literals
+unfolding program_line bounds_line plain_line clap_on_literals
 program_is_free = refl
 
--- a subcommand of the right name with both paths
-pub Means-from : (s : Option (Text × List Row)) (rows : List Row) (machine loops : String Global)
-    → option_map (λ p. p.0) s ≡ Some (codes "bounds") → option_map (λ p. p.1) s ≡ Some rows
-    → first_of (codes "machine") rows ≡ Some (string_bytes machine)
-    → first_of (codes "loops") rows ≡ Some (string_bytes loops)
-    → Means (Bounds machine loops) s
-Means-from None rows machine loops n r m l = absurd (cc)
-Means-from (Some p) rows machine loops n r m l =
-    let same : p.1 ≡ rows = cc in
-    let name : p.0 ≡ codes "bounds" = cc in
-    (name, ap (first_of (codes "machine")) same ∙ m, ap (first_of (codes "loops")) same ∙ l)
+-- the two names differ
+names_differ : codes "bounds" ≡ codes "plain" → ⊥
+names_differ e = let bad : 6 ≡ 5 = ap (λ (t : List ℕ). length t) e in absurd (omega (arith, bad))
 
--- no command is meant where a path is missing
-pub Means-none : (s : Option (Text × List Row)) (rows : List Row) → option_map (λ p. p.1) s ≡ Some rows
-    → (first_of (codes "machine") rows ≡ None) ⊎ (first_of (codes "loops") rows ≡ None)
+-- no command of `bounds` is meant where a path is missing
+pub bounds-none : (rows : List Row) → (first_of (codes "machine") rows ≡ None) ⊎ (first_of (codes "loops") rows ≡ None)
+    → (c : Command) → MeansNamed c (codes "bounds") rows → ⊥
+bounds-none rows (inl none) (Bounds machine loops) h = let there = h.1 in absurd (cc)
+bounds-none rows (inr none) (Bounds machine loops) h = let there = h.2 in absurd (cc)
+bounds-none rows missing (Plain loops trip) h = names_differ h.0
+
+-- no command of `plain` is meant where the path is missing, or where no trip count is said
+pub plain-none : (rows : List Row) → (first_of (codes "loops") rows ≡ None) ⊎ ((trip : ℕ) → SaysTrip (first_of (codes "trip") rows) trip → ⊥)
+    → (c : Command) → MeansNamed c (codes "plain") rows → ⊥
+plain-none rows missing (Bounds machine loops) h = names_differ (sym h.0)
+plain-none rows (inl none) (Plain loops trip) h = let there = h.1 in absurd (cc)
+plain-none rows (inr none) (Plain loops trip) h = none trip h.2
+
+named : (s : Option (Text × List Row)) (name : Text) (rows : List Row) → option_map (λ p. p.0) s ≡ Some name → option_map (λ p. p.1) s ≡ Some rows → s ≡ Some (name, rows)
+named None name rows n r = absurd (cc)
+named (Some p) name rows n r =
+    let same : p.1 ≡ rows = cc in
+    let called : p.0 ≡ name = cc in
+    ap₂ (λ (t : Text) (rs : List Row). Some (t, rs)) called same
+
+-- what the values of a subcommand mean is what its matches mean
+pub given-meant : (r : Result (Option Command) AllocError) (s : Option (Text × List Row)) (name : Text) (rows : List Row)
+    → option_map (λ p. p.0) s ≡ Some name → option_map (λ p. p.1) s ≡ Some rows
+    → IfOk r (λ found. IfSome found (λ c. MeansNamed c name rows)) → IfOk r (λ found. IfSome found (λ c. Means c s))
+given-meant r s name rows n e h =
+    subst (λ (o : Option (Text × List Row)). IfOk r (λ found. IfSome found (λ c. Means c o))) (sym (named s name rows n e)) h
+
+pub given-none : (r : Result (Option Command) AllocError) (s : Option (Text × List Row)) (name : Text) (rows : List Row)
+    → option_map (λ p. p.0) s ≡ Some name → option_map (λ p. p.1) s ≡ Some rows
+    → IfOk r (λ found. IfNone found ((c : Command) → ¬ MeansNamed c name rows)) → IfOk r (λ found. IfNone found ((c : Command) → ¬ Means c s))
+given-none r s name rows n e h =
+    subst (λ (o : Option (Text × List Row)). IfOk r (λ found. IfNone found ((c : Command) → ¬ Means c o))) (sym (named s name rows n e)) h
+
+-- no command is meant by a subcommand of another name, or by none
+pub nothing-meant : (s : Option (Text × List Row)) → (option_map (λ p. p.0) s ≡ Some (codes "bounds") → ⊥) → (option_map (λ p. p.0) s ≡ Some (codes "plain") → ⊥)
     → (c : Command) → Means c s → ⊥
-Means-none None rows r missing (Bounds machine loops) h = h
-Means-none (Some p) rows r (inl none) (Bounds machine loops) h =
-    let same : p.1 ≡ rows = cc in
-    let there : first_of (codes "machine") rows ≡ Some (string_bytes machine) = ap (first_of (codes "machine")) (sym same) ∙ h.1 in
-    absurd (cc)
-Means-none (Some p) rows r (inr none) (Bounds machine loops) h =
-    let same : p.1 ≡ rows = cc in
-    let there : first_of (codes "loops") rows ≡ Some (string_bytes loops) = ap (first_of (codes "loops")) (sym same) ∙ h.2 in
-    absurd (cc)
+nothing-meant None b p c h = h
+nothing-meant (Some s) b p (Bounds machine loops) h = b (ap (λ (t : Text). Some t) h.0)
+nothing-meant (Some s) b p (Plain loops trip) h = p (ap (λ (t : Text). Some t) h.0)
 
 pub subcommand_rows-name : (m : ArgMatches) → option_map (λ p. p.0) (subcommand_rows_of m) ≡ subcommand_name_of m
 subcommand_rows-name m = elim (out-ArgMatches m).subcommand as (λ o. option_map (λ p. p.0) (subcommand_rows o) ≡ option_map (λ b. (out-SubCommand (box_value b)).name.now) o) [ None ↦ refl | Some b ↦ refl ]

@@ -1,4 +1,4 @@
--- Refusals of `bounds`.
+-- Refusals of `bounds` and `plain`.
 use Rattle.std.proofs.Common.{◌≡◌, ℕ, List, ◌++◌, Option, Some, None, refl, sym, ap, ◌∙◌}
 use Rattle.std.specs.Prelude.{Result, Ok, Err}
 use Rattle.machine.specs.Answers.{Answers}
@@ -11,8 +11,10 @@ use Rattle.loops.specs.Meaning as loops_meaning
 use Rattle.loops.specs.declared.fault.LoopFault.{LoopFault}
 use Rattle.loops.specs.declared.fault.LoopFaultKind.{LoopFaultKind}
 use Rattle.loops.specs.declared.fault.LoopFaultKind.TheVariants as kinds
-use Rattle.modsched.specs.Bounds.{Outcome, Written, RefusedMachine, RefusedLoops, NoTable as NoTableFor, Bounds, BoundsIn, BoundsOn, first_lacking}
-use Rattle.modsched.specs.Refusals.{IsLacking, RefusesBounds}
+use Rattle.modsched.specs.Bounds.{Bounds, BoundsIn, BoundsOn, first_lacking}
+use Rattle.modsched.specs.Outcomes.{Outcome, Written, RefusedMachine, RefusedLoops, NoTable as NoTableFor}
+use Rattle.modsched.specs.Plain.{plain_outcome}
+use Rattle.modsched.specs.Refusals.{IsLacking, RefusesBounds, RefusesFor}
 use Rattle.modsched.specs.Statuses.{refusal_of_machine, refusal_of_loops, loops_status}
 use Rattle.modsched.specs.declared.status.Status.{Status}
 use Rattle.modsched.specs.declared.status.Status.TheVariants.{Done, MachineUnread, LoopsUnread, Machine, Loops, NoTable, Unwritten, OutOfMemory}
@@ -65,3 +67,18 @@ lacking_refused LoopsUnread m loops h = absurd h
 lacking_refused (Machine f) m loops h = absurd h
 lacking_refused (Loops f) m loops h = absurd h
 lacking_refused Unwritten m loops h = absurd h
+
+plain_refused_at : (kind : LoopFaultKind) (f : LoopFault) (trip : ℕ) (loops : LoopLists)
+    → loops_meaning.AnswersFault kind f loops → RefusesFor (plain_outcome trip loops) (loops_status kind f)
+plain_refused_at kinds.Memory f trip loops h = tt
+plain_refused_at kinds.Syntax f trip loops h = rw (← h) refl
+plain_refused_at kinds.Limit f trip loops h = rw (← h) refl
+plain_refused_at kinds.RepeatedName f trip loops h = rw (← h) refl
+plain_refused_at kinds.UnknownName f trip loops h = rw (← h) refl
+plain_refused_at kinds.UseBeforeDefinition f trip loops h = rw (← h) refl
+plain_refused_at kinds.MissingInit f trip loops h = rw (← h) refl
+plain_refused_at kinds.NoEnd f trip loops h = rw (← h) refl
+
+-- a loop text that `plain` refuses
+pub plain_refused : (f : LoopFault) (trip : ℕ) (loops : LoopLists) → loops_meaning.Answers (Err f) loops → RefusesFor (plain_outcome trip loops) (refusal_of_loops f)
+plain_refused f trip loops h = plain_refused_at f.kind f trip loops h

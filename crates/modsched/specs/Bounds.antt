@@ -10,14 +10,7 @@ use Rattle.graph.specs.Graphs.{GraphData, IsGraphOf}
 use Rattle.graph.specs.Units.{IsUnitBound, operations_of, first_without_table}
 use Rattle.graph.specs.Walks.{IsRecurrenceBound}
 use Rattle.modsched.specs.declared.bounds.LowerBounds.{LowerBounds}
-
--- what a subcommand does with its texts: it writes a text, or refuses the machine's text, the loops' text, or the loops
--- for want of a table of an opcode, with the loop's name
-pub data Outcome : Type 0 where
-  Written : List ℕ → Outcome
-  RefusedMachine : MachineFault → Outcome
-  RefusedLoops : LoopFault → Outcome
-  NoTable : List ℕ → Opcode → Outcome
+use Rattle.modsched.specs.Outcomes.{Outcome, Written, RefusedMachine, RefusedLoops, NoTable, last_line}
 
 abbrev pub lacking_or : List ℕ → Option Opcode → Option (List ℕ × Opcode) → Option (List ℕ × Opcode)
 lacking_or name None rest = rest
@@ -54,10 +47,6 @@ pub record IsLines (machine : MachineData) (loops : List LoopData) (text : List 
   pub bounds : List LowerBounds
   pub are_bounds : AllZip (AreBounds machine) loops bounds
   pub is_text : text ≡ bounds_lines loops bounds
-
--- `loops A`, with a line feed
-abbrev pub last_line : ℕ → List ℕ
-last_line loops = (codes "loops " ++ decimal loops) ++ codes "\n"
 
 -- a line for each loop, and then `loops A`
 abbrev pub IsBoundsText : MachineData → List LoopData → List ℕ → Type 0

@@ -1,7 +1,13 @@
 -- How a run of a subcommand ends, beside what it does with its texts.
-use Rattle.std.specs.Prelude.{◌≡◌, ℕ, List, ◌++◌, Option, option_map}
-use Rattle.modsched.specs.Bounds.{Outcome, Written, RefusedMachine, RefusedLoops, NoTable}
+use Rattle.std.specs.Prelude.{◌≡◌, ℕ, Bool, true, false, List, ◌++◌, Option, Some, option_map}
+use Rattle.machine.specs.MachineText.{machine_of}
+use Rattle.loops.specs.Meaning.{loops_in}
+use Rattle.modsched.specs.Bounds as bounds
+use Rattle.modsched.specs.Outcomes.{Outcome, Written, RefusedMachine, RefusedLoops, NoTable}
+use Rattle.modsched.specs.Plain.{plain_outcome}
 use Rattle.modsched.specs.Devices.{TakesBeginning}
+use Rattle.modsched.specs.declared.line.Command.{Command}
+use Rattle.modsched.specs.declared.line.Command.TheVariants.{Bounds, Plain}
 use Rattle.modsched.specs.declared.status.Status.{Status}
 use Rattle.modsched.specs.declared.status.Status.TheVariants as status
 
@@ -17,3 +23,17 @@ Ends (Written text) before after ended = EndsWritten text before after ended
 Ends (RefusedMachine fault) before after ended = (ended ≡ status.Machine fault) × (after ≡ before)
 Ends (RefusedLoops fault) before after ended = (ended ≡ status.Loops fault) × (after ≡ before)
 Ends (NoTable name opcode) before after ended = (ended ≡ status.NoTable name opcode) × (after ≡ before)
+
+-- a command reads a machine's text; each reads a loops' text
+abbrev pub reads_machine : Command → Bool
+reads_machine (Bounds machine loops) = true
+reads_machine (Plain loops trip) = false
+
+-- an outcome of a command is brought about, for the bytes that the inputs had left: `bounds` speaks of what both texts mean,
+-- `plain` of what the loops' text means and its trip count
+abbrev pub Does : Command → Option (List ℕ) → Option (List ℕ) → (Outcome → Type 0) → Type 0
+Does (Bounds machine_path loops_path) machine loops IsBrought =
+    (machine_bytes loops_bytes : List ℕ) → machine ≡ Some machine_bytes → loops ≡ Some loops_bytes
+    → (outcome : Outcome) × bounds.Bounds (machine_of machine_bytes) (loops_in loops_bytes) outcome × IsBrought outcome
+Does (Plain loops_path trip) machine loops IsBrought =
+    (loops_bytes : List ℕ) → loops ≡ Some loops_bytes → IsBrought (plain_outcome trip (loops_in loops_bytes))

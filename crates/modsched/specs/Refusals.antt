@@ -1,4 +1,4 @@
--- What the parts of `bounds` answer, where they may refuse.
+-- What the parts of subcommands answer, where they may refuse.
 use Rattle.std.specs.Prelude.{◌≡◌, ℕ, List, Option, Some, None, Vec, Result, Ok, Err}
 use Rattle.std.specs.declared.alloc.Global.{Global}
 use Rattle.machine.specs.declared.fault.MachineFault.{MachineFault}
@@ -9,7 +9,8 @@ use Rattle.loops.specs.Loops.{LoopData}
 use Rattle.graph.specs.Units.{first_without_table}
 use Rattle.graph.specs.declared.fault.GraphFault.{GraphFault}
 use Rattle.graph.specs.declared.fault.GraphFault.TheVariants as graph_fault
-use Rattle.modsched.specs.Bounds.{Outcome, Written, RefusedMachine, RefusedLoops, NoTable as NoTableFor, Bounds, AreBounds, IsLines, first_lacking, lacking_or}
+use Rattle.modsched.specs.Bounds.{Bounds, AreBounds, IsLines, first_lacking, lacking_or}
+use Rattle.modsched.specs.Outcomes.{Outcome, Written, RefusedMachine, RefusedLoops, NoTable as NoTableFor}
 use Rattle.modsched.specs.declared.bounds.LowerBounds.{LowerBounds}
 use Rattle.modsched.specs.declared.status.Status.{Status}
 use Rattle.modsched.specs.declared.status.Status.TheVariants.{Machine, Loops, NoTable, OutOfMemory}
@@ -55,3 +56,13 @@ RefusesBounds status machine loops = (outcome : Outcome) × Bounds machine loops
 abbrev pub TextAnswers : Result MachineData MachineFault → Result (List LoopData) LoopFault → Result (Vec ℕ Global) Status → Type 0
 TextAnswers machine loops (Ok text) = Bounds machine loops (Written text.items)
 TextAnswers machine loops (Err status) = RefusesBounds status machine loops
+
+-- the status is for want of memory, or the outcome's
+abbrev pub RefusesFor : Outcome → Status → Type 0
+RefusesFor outcome OutOfMemory = Unit {0}
+RefusesFor outcome status = Refuses outcome status
+
+-- the text that the outcome writes, or the status of its refusal
+abbrev pub OutcomeAnswers : Outcome → Result (Vec ℕ Global) Status → Type 0
+OutcomeAnswers outcome (Ok text) = outcome ≡ Written text.items
+OutcomeAnswers outcome (Err status) = RefusesFor outcome status

@@ -1,37 +1,20 @@
 //! What `bounds` writes.
 
-ghost use Rattle.std.specs.Prelude.{◌≡◌, ◌++◌, decimal, codes, OnOk};
+ghost use Rattle.std.specs.Prelude.{◌≡◌, ◌++◌, OnOk};
 ghost use Rattle.machine.specs.MachineText.{machine_of};
 ghost use Rattle.loops.specs.Meaning.{loops_in};
 ghost use Rattle.modsched.specs.Bounds.{bounds_line, told};
 ghost use Rattle.modsched.specs.Refusals.{BoundsAnswer, LinesAnswer, TextAnswers, status_for};
-ghost use Rattle.modsched.specs.declared.status.Status.TheVariants.{OutOfMemory};
 
+use crate::lines::{push_last, push_number};
 use crate::status::Status;
 use graph::{GraphFault, edges, mii, rec_mii, res_mii};
-use itoa::Buffer;
 use loops::{Loop, read_loops};
 use machine::{Machine, read_machine};
 use std::alloc::{AllocError, Global};
 
-impl From<AllocError> for Status {
-    ghost from_gives = { λ _ status. status ≡ OutOfMemory };
-
-    fn from(_e: AllocError) -> Status {
-        Status::OutOfMemory
-    }
-}
-
 /// A guess of how many bytes a line takes, for the first reservation.
 const LINE: usize = 64;
-
-/// Appends a number in decimal digits.
-fn push_number(text: &mut Vec<u8>, number: u64) -> Result<(), AllocError>
-    ensures ok { OnOk result (text.new.items ≡ text.old.items ++ decimal number) }
-{
-    let mut digits = Buffer::new();
-    text.extend_from_slice(digits.format(number).as_bytes())
-}
 
 /// The lower bounds of a loop's initiation interval, in cycles.
 #[derive(Clone, Copy)]
@@ -114,8 +97,6 @@ pub(crate) fn bounds_text(alloc: Global, machine: &[u8], loops: &[u8]) -> Result
     let machine = read_machine(alloc, machine)?;
     let loops = read_loops(alloc, loops)?;
     let mut text = lines(alloc, &machine, loops.as_slice())?;
-    text.extend_from_slice(b"loops ")?;
-    push_number(&mut text, loops.len() as u64)?;
-    text.extend_from_slice(b"\n")?;
+    push_last(&mut text, loops.len() as u64)?;
     Ok(text)
 }

@@ -1,13 +1,14 @@
 //! The program's command line.
 
-ghost use Rattle.std.specs.Prelude.{◌≡◌, map, false, IfOk, IfSome, IfNone};
-ghost use Rattle.clap.specs.Words.{app_of, fault_of, kind_of, rule_of, subcommand_of, subcommand_rows_of};
+ghost use Rattle.std.specs.Prelude.{◌≡◌, ◌≤◌, ℕ, codes, map, false, IfOk, IfSome, IfNone};
+ghost use Rattle.clap.specs.Words.{app_of, fault_of, found_of, kind_of, rows_of, rule_of, subcommand_of, subcommand_rows_of};
 ghost use Rattle.clap.specs.declared.builder.command.Command.TheViews.{out-Command};
-ghost use Rattle.modsched.specs.Lines.{program_line, bounds_line, path_rule, Means, IsRead, IsToldBy};
+ghost use Rattle.modsched.specs.Lines.{program_line, bounds_line, plain_line, path_rule, trip_rule, Says, Means, MeansNamed, IsRead, IsToldBy};
 ghost use Rattle.modsched.specs.declared.line.Usage.TheVariants.{Memory};
 
+use crate::trip::Trip;
 use clap::error::ErrorKind;
-use clap::{Arg, ArgMatches};
+use clap::{Arg, ArgMatches, value_parser};
 use std::alloc::{AllocError, Global};
 
 /// What the program is asked to do.
@@ -19,6 +20,13 @@ pub enum Command {
         machine: String,
         /// The path of the loops' file.
         loops: String,
+    },
+    /// Run each loop plainly, and tell what it changed.
+    Plain {
+        /// The path of the loops' file.
+        loops: String,
+        /// How many iterations each loop is run.
+        trip: Trip,
     },
 }
 
@@ -53,7 +61,8 @@ text of their own, with one statement a line.";
 const LIMITS: &str =
     "Limits: 1,048,576 bytes for each text; 1,024 loops of a file, each of 1 to 128 statements, with at
 most 32 arrays and 64 parameters; names of 1 to 16 bytes; 1 to 64 units; 1 to 256 registers; 1 to 8
-alternatives of an opcode, each of 1 to 16 rows; latencies of 1 to 64 cycles.
+alternatives of an opcode, each of 1 to 16 rows; latencies of 1 to 64 cycles; trip counts of 0 to
+100,000.
 
 Exit status: 0 done; 2 the line is refused; 3 a file can't be read; 4 the machine is refused; 5 the
 loops are refused, or an opcode has no reservation table; 6 the output can't be written; 7 out of
@@ -65,6 +74,17 @@ const BOUNDS_LONG_ABOUT: &str = "Tell how many cycles each loop needs for an ite
 
 Prints a line for each loop, in the order of the file: its name, the number of its operations and the
 bound by the machine's units, in cycles. The last line has the number of loops.";
+
+const PLAIN_ABOUT: &str = "Run each loop, one iteration after another, and tell what it changed";
+
+const PLAIN_LONG_ABOUT: &str =
+    "Run each loop, one iteration after another, and tell what it changed.
+
+Prints for each loop, in the order of the file, its name and the number of iterations, then a line for
+each cell of an array that the run changed, and a line for each value that is live at the end. The last
+line has the number of loops.";
+
+const TRIP_HELP: &str = "How many iterations each loop is run, from 0 to 100000";
 
 const MACHINE_HELP: &str = "The file with the machine's text";
 
@@ -93,7 +113,8 @@ fn program<'a>(alloc: Global) -> Result<clap::Command<'a>, AllocError>
         .after_long_help(LIMITS)
         .subcommand_required(true)
         .arg_required_else_help(true)
-        .subcommand(bounds(alloc)?)
+        .subcommand(bounds(alloc)?)?
+        .subcommand(plain(alloc)?)
 }
 
 // The subcommand `bounds`.
@@ -109,20 +130,88 @@ fn bounds<'a>(alloc: Global) -> Result<clap::Command<'a>, AllocError>
         .arg(path(alloc, "loops", "LOOPS", LOOPS_HELP))
 }
 
+// The trip count, which has to be given.
+fn trip<'a>(alloc: Global) -> Arg<'a>
+    ensures rule { rule_of result ≡ trip_rule }
+    ensures local { result.global ≡ false }
+{
+    Arg::new(alloc, "trip")
+        .long("trip")
+        .value_name("N")
+        .required(true)
+        .value_parser(value_parser!(u64).range(..=100_000))
+        .help(TRIP_HELP)
+}
+
+// The subcommand `plain`.
+fn plain<'a>(alloc: Global) -> Result<clap::Command<'a>, AllocError>
+    ensures app { IfOk result (λ c. app_of c ≡ plain_line) }
+    ensures local { IfOk result (λ c. (out-Command c).has_globals ≡ false) }
+{
+    clap::Command::new(alloc, "plain")
+        .about(PLAIN_ABOUT)
+        .long_about(PLAIN_LONG_ABOUT)
+        .after_long_help(LIMITS)
+        .arg(path(alloc, "loops", "LOOPS", LOOPS_HELP))?
+        .arg(trip(alloc))
+}
+
 // The command that a subcommand and its values mean.
 fn command_of(alloc: Global, matches: &ArgMatches<'_>) -> Result<Option<Command>, AllocError>
     ensures meant { IfOk result (λ found. IfSome found (λ c. Means c (subcommand_rows_of matches.now))) }
     ensures none { IfOk result (λ found. IfNone found ((c : Command) → ¬ Means c (subcommand_rows_of matches.now))) }
 {
-    let Some(values) = matches.subcommand_matches("bounds") else {
-        return Ok(None);
-    };
+    if let Some(values) = matches.subcommand_matches("bounds") {
+        return bounds_given(alloc, values);
+    }
+    match matches.subcommand_matches("plain") {
+        Some(values) => plain_given(alloc, values),
+        None => Ok(None),
+    }
+}
+
+// The command of the values of `bounds`.
+fn bounds_given(alloc: Global, values: &ArgMatches<'_>) -> Result<Option<Command>, AllocError>
+    ensures meant { IfOk result (λ found. IfSome found (λ c. MeansNamed c (codes "bounds") (rows_of (found_of values.now)))) }
+    ensures none { IfOk result (λ found. IfNone found ((c : Command) → ¬ MeansNamed c (codes "bounds") (rows_of (found_of values.now)))) }
+{
     match (values.get_str("machine"), values.get_str("loops")) {
         (Some(machine), Some(loops)) => Ok(Some(Command::Bounds {
             machine: String::from_str(alloc, machine)?,
             loops: String::from_str(alloc, loops)?,
         })),
         _ => Ok(None),
+    }
+}
+
+// The command of the values of `plain`.
+fn plain_given(alloc: Global, values: &ArgMatches<'_>) -> Result<Option<Command>, AllocError>
+    ensures meant { IfOk result (λ found. IfSome found (λ c. MeansNamed c (codes "plain") (rows_of (found_of values.now)))) }
+    ensures none { IfOk result (λ found. IfNone found ((c : Command) → ¬ MeansNamed c (codes "plain") (rows_of (found_of values.now)))) }
+{
+    let Some(loops) = values.get_str("loops") else {
+        return Ok(None);
+    };
+    let Some(word) = values.get_str("trip") else {
+        return Ok(None);
+    };
+    match trip_of(word) {
+        Some(trip) => Ok(Some(Command::Plain {
+            loops: String::from_str(alloc, loops)?,
+            trip,
+        })),
+        None => Ok(None),
+    }
+}
+
+// The trip count that a word says.
+fn trip_of(word: &str) -> Option<Trip>
+    ensures says { IfSome result (λ trip. Says word.now trip × (trip ≤ 100000)) }
+    ensures none { IfNone result ((trip : ℕ) → Says word.now trip → ¬ (trip ≤ 100000)) }
+{
+    match word.parse() {
+        Ok(count) => Trip::new(count),
+        Err(_) => None,
     }
 }
 
@@ -145,7 +234,10 @@ pub fn parse_line<'a>(alloc: Global, words: &'a [&'a str]) -> Result<Command, Us
     match program(alloc)?.try_get_matches_from(words) {
         Ok(matches) => match command_of(alloc, &matches)? {
             Some(command) => Ok(command),
-            None => Err(Usage::Refused(String::from_str(alloc, "error: a path is missing\n")?)),
+            None => Err(Usage::Refused(String::from_str(
+                alloc,
+                "error: an argument is missing\n",
+            )?)),
         },
         Err(error) => Err(usage_of(alloc, &error)),
     }

@@ -2,9 +2,11 @@
 
 ghost use Rattle.std.specs.Prelude.{◌≡◌, ◌<◌, ◌↔◌, IsSome, IfSome};
 ghost use Rattle.modsched.specs.Statuses.{number_of, refusal_of_machine, refusal_of_loops};
+ghost use Rattle.modsched.specs.declared.status.Status.TheVariants.{OutOfMemory};
 
 use loops::{LoopFault, LoopFaultKind};
 use machine::{MachineFault, Name, Opcode};
+use std::alloc::AllocError;
 use std::fmt;
 use std::marker::Model;
 
@@ -84,6 +86,15 @@ impl From<LoopFault> for Status {
             LoopFaultKind::Memory => Status::OutOfMemory,
             _ => Status::Loops(fault),
         }
+    }
+}
+
+/// A refused allocation ends in `OutOfMemory`.
+impl From<AllocError> for Status {
+    ghost from_gives = { λ _ status. status ≡ OutOfMemory };
+
+    fn from(_e: AllocError) -> Status {
+        Status::OutOfMemory
     }
 }
 

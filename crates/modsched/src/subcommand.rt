@@ -1,23 +1,28 @@
 //! The work of the subcommands.
 
-ghost use Rattle.std.specs.Prelude.{◌≡◌, ◌≢◌, ◌+◌, ◌-◌, ◌^◌, ◌<◌, ◌↔◌, ℕ, List, Some, drop, IfSome};
+ghost use Rattle.std.specs.Prelude.{◌≡◌, ◌≢◌, ◌+◌, ◌-◌, ◌^◌, ◌<◌, ◌↔◌, ℕ, List, Some, drop, true, false, IfSome};
 ghost use Rattle.machine.specs.MachineText.{machine_of};
 ghost use Rattle.loops.specs.Meaning.{loops_in};
-ghost use Rattle.modsched.specs.Bounds.{Outcome, Bounds};
+ghost use Rattle.modsched.specs.Bounds.{Bounds};
 ghost use Rattle.modsched.specs.Devices.{most_read};
-ghost use Rattle.modsched.specs.Engine.{Ends, EndsWritten};
+ghost use Rattle.modsched.specs.Engine.{Does, Ends, EndsWritten, reads_machine};
+ghost use Rattle.modsched.specs.Outcomes.{Outcome};
+ghost use Rattle.modsched.specs.Plain.{plain_outcome};
 ghost use Rattle.modsched.specs.Statuses.{number_of};
 
 use crate::bounds::bounds_text;
 use crate::device::{Input, Output};
 use crate::line::Command;
+use crate::plain::plain_text;
 use crate::status::Status;
 use crate::text::{ReadTextError, read_text, write_text};
+use crate::trip::Trip;
 use std::alloc::Global;
 
-/// Does the work of a command: reads the machine's text and the loops' text, makes the output whole,
-/// writes it and flushes it. Both inputs are read before either text is looked at. After a fault no
-/// further call is made on that device, and after a refusal nothing is written.
+/// Does the work of a command: reads the texts that it needs, makes the output whole, writes it and
+/// flushes it. `bounds` reads the machine's text and the loops' text, both before either is looked at,
+/// and `plain` the loops' text alone. After a fault no further call is made on that device, and after
+/// a refusal nothing is written.
 pub fn engine<M: Input, L: Input, O: Output>(
     alloc: Global,
     command: &Command,
@@ -35,17 +40,19 @@ pub fn engine<M: Input, L: Input, O: Output>(
     ensures unwritten { (result ≡ Status.Unwritten) ↔ (O.failed output.old < O.failed output.new) }
 
     // What was written is the text of the subcommand, for the bytes that the inputs had left, or a beginning of it, or nothing.
-    ensures exact { (machine loops : List ℕ) → M.left machine_input.old ≡ Some machine → L.left loops_input.old ≡ Some loops
-        → number_of result ≢ 3 → number_of result ≢ 7
-        → (outcome : Outcome) × Bounds (machine_of machine) (loops_in loops) outcome × Ends outcome (O.taken output.old) (O.taken output.new) result }
+    ensures exact { number_of result ≢ 3 → number_of result ≢ 7
+        → Does command.now (M.left machine_input.old) (L.left loops_input.old) (λ outcome. Ends outcome (O.taken output.old) (O.taken output.new) result) }
     ensures silent { number_of result ≢ 0 → number_of result ≢ 6 → O.taken output.new ≡ O.taken output.old }
 
-    // Each input is read to its end, or to one byte past what a text may have.
-    ensures machine_read { number_of result ≢ 3 → number_of result ≢ 7 → IfSome (M.left machine_input.old) (λ bytes. M.left machine_input.new ≡ Some (drop most_read bytes)) }
+    // Each input that the command reads is read to its end, or to one byte past what a text may have. One that it does not read is left alone.
+    ensures machine_read { reads_machine command.now ≡ true → number_of result ≢ 3 → number_of result ≢ 7
+        → IfSome (M.left machine_input.old) (λ bytes. M.left machine_input.new ≡ Some (drop most_read bytes)) }
     ensures loops_read { number_of result ≢ 3 → number_of result ≢ 7 → IfSome (L.left loops_input.old) (λ bytes. L.left loops_input.new ≡ Some (drop most_read bytes)) }
+    ensures untouched { reads_machine command.now ≡ false → machine_input.new ≡ machine_input.old }
 {
     match command {
         Command::Bounds { .. } => bounds(alloc, machine_input, loops_input, output),
+        Command::Plain { trip, .. } => plain(alloc, *trip, loops_input, output),
     }
 }
 
@@ -86,6 +93,36 @@ fn bounds<M: Input, L: Input, O: Output>(
     }
 }
 
+/// The work of `plain`.
+fn plain<L: Input, O: Output>(
+    alloc: Global,
+    trip: Trip,
+    loops_input: &mut L,
+    output: &mut O,
+) -> Status
+    requires loops_fresh { L.failed loops_input.old < 2 ^ 64 - 1 }
+    requires output_fresh { O.failed output.old < 2 ^ 64 - 1 }
+
+    ensures machine_read { ¬ (result ≡ Status.MachineUnread) }
+    ensures loops_unread { (result ≡ Status.LoopsUnread) ↔ (L.failed loops_input.old < L.failed loops_input.new) }
+    ensures unwritten { (result ≡ Status.Unwritten) ↔ (O.failed output.old < O.failed output.new) }
+    ensures exact { (loops : List ℕ) → L.left loops_input.old ≡ Some loops → number_of result ≢ 3 → number_of result ≢ 7
+        → Ends (plain_outcome trip (loops_in loops)) (O.taken output.old) (O.taken output.new) result }
+    ensures silent { number_of result ≢ 0 → number_of result ≢ 6 → O.taken output.new ≡ O.taken output.old }
+    ensures loops_read { number_of result ≢ 3 → number_of result ≢ 7 → IfSome (L.left loops_input.old) (λ bytes. L.left loops_input.new ≡ Some (drop most_read bytes)) }
+{
+    let loops = match read_text(alloc, loops_input) {
+        Ok(loops) => loops,
+        Err(ReadTextError::Fault) => return Status::LoopsUnread,
+        Err(ReadTextError::Memory) => return Status::OutOfMemory,
+    };
+    let text = match plain_text(alloc, loops.as_slice(), trip) {
+        Ok(text) => text,
+        Err(status) => return status,
+    };
+    finish(output, text.as_slice())
+}
+
 /// Writes the whole output and flushes it.
 fn finish<O: Output>(output: &mut O, text: &[u8]) -> Status
     requires { O.failed output.old < 2 ^ 64 - 1 }
@@ -97,3 +134,6 @@ fn finish<O: Output>(output: &mut O, text: &[u8]) -> Status
         Err(_) => Status::Unwritten,
     }
 }
+
+#[cfg(test)]
+mod tests;

@@ -31,11 +31,15 @@ fn run<R: AllocGlobal + Env + Eprint + Files + Print>(rt: &R) -> Result<u8, Usag
     Ok(work(rt, &command))
 }
 
-/// Does the work of a command over its files and the standard output, and tells of a fault.
+/// Does the work of a command over its files and the standard output, and tells of a fault. A file is
+/// opened where its input is first read, so that of a machine only for a command that reads one.
 fn work<R: AllocGlobal + Eprint + Files + Print>(rt: &R, command: &Command) -> u8 {
-    let Command::Bounds { machine, loops } = command;
-    let mut machine = FileInput::new(rt, machine.as_str());
-    let mut loops = FileInput::new(rt, loops.as_str());
+    let (machine, loops) = match command {
+        Command::Bounds { machine, loops } => (machine.as_str(), loops.as_str()),
+        Command::Plain { loops, .. } => ("", loops.as_str()),
+    };
+    let mut machine = FileInput::new(rt, machine);
+    let mut loops = FileInput::new(rt, loops);
     let mut output = StandardOutput::new(rt);
     let status = engine(rt.alloc(), command, &mut machine, &mut loops, &mut output);
     if let Some(line) = status.line() {

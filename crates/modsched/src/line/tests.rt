@@ -13,16 +13,67 @@ fn reads_the_paths(rt: HostRuntime) -> Result<(), Fail> {
         (&["bounds", "bounds", "help"], "bounds", "help"),
     ];
     for (words, first, second) in lines {
-        let Command::Bounds { machine, loops } = parse_line(rt.alloc(), words)?;
-        assert_eq!(rt; machine.as_str(), first);
-        assert_eq!(rt; loops.as_str(), second);
+        match parse_line(rt.alloc(), words)? {
+            Command::Bounds { machine, loops } => {
+                assert_eq!(rt; machine.as_str(), first);
+                assert_eq!(rt; loops.as_str(), second);
+            }
+            other => panic!(rt; "{other:?}"),
+        }
     }
     Ok(())
 }
 
 #[test]
+fn reads_the_trip_count(rt: HostRuntime) -> Result<(), Fail> {
+    let lines: [(&[&str], &str, u64); 8] = [
+        (&["plain", "l.txt", "--trip", "3"], "l.txt", 3),
+        (&["plain", "--trip", "3", "l.txt"], "l.txt", 3),
+        (&["plain", "--trip=0", "l.txt"], "l.txt", 0),
+        (&["plain", "--trip", "100000", "l"], "l", 100_000),
+        (&["plain", "l", "--trip", "+7"], "l", 7),
+        (&["plain", "l", "--trip", "00099999"], "l", 99_999),
+        (&["plain", "--trip", "1", "--", "--trip"], "--trip", 1),
+        (&["plain", "plain", "--trip", "64"], "plain", 64),
+    ];
+    for (words, path, count) in lines {
+        match parse_line(rt.alloc(), words)? {
+            Command::Plain { loops, trip } => {
+                assert_eq!(rt; loops.as_str(), path);
+                assert_eq!(rt; trip.count(), count);
+            }
+            other => panic!(rt; "{other:?}"),
+        }
+    }
+    Ok(())
+}
+
+#[test]
+fn refuses_other_trip_counts(rt: HostRuntime) {
+    let lines: [&[&str]; 14] = [
+        &["plain", "l"],
+        &["plain", "l", "--trip"],
+        &["plain", "--trip", "3"],
+        &["plain", "l", "--trip", "100001"],
+        &["plain", "l", "--trip", "18446744073709551616"],
+        &["plain", "l", "--trip", "-1"],
+        &["plain", "l", "--trip=-0"],
+        &["plain", "l", "--trip", ""],
+        &["plain", "l", "--trip", "three"],
+        &["plain", "l", "--trip", "3.0"],
+        &["plain", "l", "--trip", "0x3"],
+        &["plain", "l", "--trip", "3", "--trip", "3"],
+        &["plain", "m", "l", "--trip", "3"],
+        &["plain", "l", "--trip", "3", "--ratio", "6"],
+    ];
+    for (i, words) in lines.iter().enumerate() {
+        assert!(rt; is_refused(rt.alloc(), words), "line {i}");
+    }
+}
+
+#[test]
 fn refuses_other_lines(rt: HostRuntime) {
-    let lines: [&[&str]; 16] = [
+    let lines: [&[&str]; 14] = [
         &[],
         &["bounds"],
         &["bounds", "m"],
@@ -35,10 +86,8 @@ fn refuses_other_lines(rt: HostRuntime) {
         &["m", "l"],
         &["Bounds", "m", "l"],
         &["bound", "m", "l"],
-        &["plain", "l", "--trip", "3"],
         &["schedule", "m", "l"],
         &["run", "m", "l", "--trip", "3"],
-        &["help", "plain"],
     ];
     for (i, words) in lines.iter().enumerate() {
         assert!(rt; is_refused(rt.alloc(), words), "line {i}");
@@ -64,12 +113,20 @@ fn tells_what_is_wrong(rt: HostRuntime) {
         }
         other => panic!(rt; "{other:?}"),
     }
+    match parse_line(rt.alloc(), &["plain", "l", "--trip", "100001"]) {
+        Err(Usage::Refused(text)) => {
+            assert!(rt; text.contains("'100001' for '--trip <N>'"), "{text}");
+            assert!(rt; text.contains("0..=100000"), "{text}");
+        }
+        other => panic!(rt; "{other:?}"),
+    }
 }
 
 #[test]
 fn helps(rt: HostRuntime) {
     let of_program = [
         "bounds",
+        "plain",
         "Usage: modsched",
         "1,048,576 bytes",
         "Exit status",
@@ -79,11 +136,18 @@ fn helps(rt: HostRuntime) {
         "The file with",
         "1,024 loops",
     ];
-    let lines: [(&[&str], &[&str]); 4] = [
+    let of_plain = [
+        "Usage: modsched plain --trip <N> <LOOPS>",
+        "from 0 to 100000",
+        "trip counts",
+    ];
+    let lines: [(&[&str], &[&str]); 6] = [
         (&["--help"], &of_program),
         (&["help"], &of_program),
         (&["bounds", "--help"], &of_bounds),
         (&["help", "bounds"], &of_bounds),
+        (&["plain", "--help"], &of_plain),
+        (&["help", "plain"], &of_plain),
     ];
     for (words, parts) in lines {
         match parse_line(rt.alloc(), words) {
@@ -99,7 +163,7 @@ fn helps(rt: HostRuntime) {
 
 #[test]
 fn helps_in_short(rt: HostRuntime) {
-    let lines: [&[&str]; 2] = [&["-h"], &["bounds", "-h"]];
+    let lines: [&[&str]; 3] = [&["-h"], &["bounds", "-h"], &["plain", "-h"]];
     for words in lines {
         match parse_line(rt.alloc(), words) {
             Err(Usage::Help(text)) => assert!(rt; text.contains("Usage: modsched"), "{text}"),

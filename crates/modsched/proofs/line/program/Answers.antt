@@ -2,7 +2,7 @@ use Rattle.std.proofs.Common.{◌≡◌, ◌∙◌, ap, ap₂, codes, true}
 use Rattle.std.proofs.lemmas.Result.{IfOk-weaker}
 use Rattle.clap.specs.Simple.{app_of_fields, on_top}
 use Rattle.clap.specs.Words.{App, app_of, new_app, with_subcommand}
-use Rattle.modsched.specs.Lines.{program_line}
+use Rattle.modsched.specs.Lines.{program_line, bounds_line}
 use Rattle.modsched.proofs.line.program.Goals as goal
 
 abbrev bare : App → App
@@ -27,5 +27,7 @@ returns c =
     ap app_of_fields c.subcommand_required.ensures ∙ ap demanding told in
     let empty : app_of c.arg_required_else_help.result ≡ helpful (demanding (bare (new_app (codes "modsched")))) =
     ap app_of_fields c.arg_required_else_help.ensures ∙ ap helpful wants in
-    IfOk-weaker c.subcommand.result _ _ (λ r h. h.shape c.in_ok-bounds.ensures.local
-    ∙ ap₂ with_subcommand empty (ap (λ (a : App). a.top) c.in_ok-bounds.ensures.app)) c.subcommand.ensures
+    let first : app_of c.in_ok-subcommand.field-0 ≡ with_subcommand (helpful (demanding (bare (new_app (codes "modsched"))))) bounds_line.top =
+    c.in_ok-subcommand.ensures.shape c.in_ok-bounds.ensures.local ∙ ap₂ with_subcommand empty (ap (λ (a : App). a.top) c.in_ok-bounds.ensures.app) in
+    IfOk-weaker c.subcommand-2.result _ _ (λ r h. h.shape c.in_ok-plain.ensures.local
+    ∙ ap₂ with_subcommand first (ap (λ (a : App). a.top) c.in_ok-plain.ensures.app)) c.subcommand-2.ensures

@@ -2,7 +2,7 @@ use Rattle.std.proofs.Common.{rules, ◌≡◌, ap, ◌∙◌}
 use Rattle.machine.specs.MachineText.{machine_of}
 use Rattle.loops.specs.Meaning.{loops_in}
 use Rattle.modsched.proofs.Ending.{refusal_ends, machine_of-take, loops_in-take}
-use Rattle.modsched.specs.Bounds.{Written}
+use Rattle.modsched.specs.Outcomes.{Written}
 use Rattle.modsched.proofs.subcommand.bounds.Goals as goal
 
 pub returns-in-Ok-bounds_text-clause-exact : goal.returns-in-Ok-bounds_text-clause-exact

@@ -1,0 +1,55 @@
+//! Trip counts.
+
+ghost use Rattle.std.specs.Prelude.{◌≡◌, ◌≤◌, ◌↔◌, IsSome, IfSome};
+
+use std::fmt;
+use std::marker::Model;
+
+/// The greatest trip count.
+pub const TRIP_LIMIT: u64 = 100_000;
+
+/// How many iterations a loop is run, 0 to 100,000. Contracts see the number.
+#[derive(Clone, Copy, PartialEq, Eq)]
+pub struct Trip {
+    count: u64,
+}
+
+impl Model for Trip {
+    ghost use Rattle.std.specs.Prelude.{ℕ, ◌≤◌};
+
+    ghost Value = { ℕ };
+
+    ghost view = { λ t. t.count };
+
+    ghost inverse = { λ n. record { count = n } };
+
+    ghost invariant = { λ t. t.count ≤ 100000 };
+}
+
+impl Trip {
+    /// The trip count of this number, where it is at most 100,000.
+    pub fn new(count: u64) -> Option<Trip>
+        ensures within { IsSome result ↔ (count ≤ 100000) }
+        ensures value { IfSome result (λ trip. trip ≡ count) }
+    {
+        if count <= TRIP_LIMIT {
+            Some(Trip { count })
+        } else {
+            None
+        }
+    }
+
+    /// The number.
+    pub fn count(self) -> u64
+        ensures value { result ≡ self }
+        ensures within { result ≤ 100000 }
+    {
+        self.count
+    }
+}
+
+impl fmt::Debug for Trip {
+    fn fmt<W: fmt::Write>(&self, f: &mut fmt::Formatter<W>) -> fmt::Result {
+        fmt::Debug::fmt(&self.count, f)
+    }
+}
