@@ -154,3 +154,21 @@ pos-nat_abs low (negsuc n) above = absurd (omega (arith, ints))
 -- an element of a row that is set elsewhere
 pub get_or-set_far : (row : List ℕ) (i p value : ℕ) → p < i → get_or (set row i value) p 0 ≡ get_or row p 0
 get_or-set_far row i p value below = let ne : p ≢ i = omega arith in get_or-set_other row i p value 0 ne
+
+-- the targets of the edges from an operation have small numbers, where all operations have
+pub small-targets : (graph : GraphData) (numbers : List ℕ) → IsGraph graph → ((p : ℕ) → p < length graph.latencies → slice_index numbers p ≤ 8256)
+    → (operation : ℕ) (outgoing : List EdgeData) → outgoing ≡ filter (λ (e : EdgeData). e.from == operation) graph.edges
+    → All (λ (e : EdgeData). (e.to < 128) × (slice_index numbers e.to ≤ 8256)) outgoing
+small-targets graph numbers g small operation outgoing is =
+    let few : length graph.latencies ≤ 128 = g.few in
+    subst (All (λ (e : EdgeData). (e.to < 128) × (slice_index numbers e.to ≤ 8256))) (sym is)
+    (All-filter (λ (e : EdgeData). e.from == operation) (λ (e : EdgeData). (e.to < 128) × (slice_index numbers e.to ≤ 8256)) graph.edges
+    (λ k d h. let to = (g.ends k d h).1 in (omega arith, small _ to)))
+
+-- an edge from an operation, among all edges
+pub edge-outgoing : (graph : GraphData) → IsGraph graph → (operation : ℕ) (outgoing : List EdgeData) → outgoing ≡ filter (λ (e : EdgeData). e.from == operation) graph.edges
+    → (e : EdgeData) → Contains outgoing e → Contains graph.edges e × (e.from ≡ operation) × (e.to < length graph.latencies)
+edge-outgoing graph g operation outgoing is e there =
+    let c = contained-from_filter (λ (e : EdgeData). e.from == operation) graph.edges e (subst (λ l. Contains l e) is there) in
+    let ends = All-contains (λ (e : EdgeData). (e.from < length graph.latencies) × (e.to < length graph.latencies)) graph.edges e g.ends c.0 in
+    (c.0, eqb-true e.from operation c.1, ends.1)

@@ -1,5 +1,5 @@
 -- What it tells of an interval whether a round changes a number.
-use Rattle.std.proofs.Common.{◌≡◌, ◌⊎◌, ℕ, ◌+◌, ◌-◌, ◌==◌, Bool, true, false, filter, take, ◌*◌, ◌<◌, ◌≤◌, ℤ, pos, ◌+ℤ◌, List, [], ◌∷◌, length, refl, sym, ap, ◌∙◌, subst, inl, inr, arith}
+use Rattle.std.proofs.Common.{◌≡◌, ◌⊎◌, ℕ, ◌+◌, ◌-◌, ◌==◌, Bool, true, false, filter, take, ◌*◌, ◌<◌, ◌≤◌, ℤ, pos, ◌+ℤ◌, ◌-ℤ◌, List, [], ◌∷◌, ◌++◌, length, refl, sym, ap, ◌∙◌, subst, inl, inr, arith}
 use Rattle.std.specs.Prelude.{not, ◌≤ℤ◌, ◌<ℤ◌}
 use Rattle.std.specs.List.{slice_index, All, Contains}
 use Rattle.std.proofs.lemmas.Int.{ints}
@@ -13,7 +13,7 @@ use Rattle.graph.specs.Walks.{IsWalk, delay_of, distance_of, length_of, FitsCirc
 use Rattle.graph.specs.Rounds.{IsSettledAt, Settles, IsRounds, TellsFeasible}
 use Rattle.graph.specs.Reaches.{IsReach, AreReaches, IsRaised, IsUnsettled, AreHeights}
 use Rattle.graph.specs.Promises.{SumsAreLimited}
-use Rattle.graph.proofs.Circuits.{exceeds_or_short}
+use Rattle.graph.proofs.Circuits.{exceeds_or_short, IsWalk-append, delay_of-append, distance_of-append}
 use Rattle.graph.proofs.Raises.{reach-raised}
 use Rattle.graph.proofs.Potentials.{KeepsHeight, walk-below, fits-from_heights, fits-at_limit}
 use Rattle.graph.proofs.Recurrences.{fits-longer, bound-le-fitting}
@@ -190,12 +190,12 @@ reaches-more graph ii made numbers next g reaches round = λ p below.
     reach-raised graph ii made p (slice_index next p) numbers g reaches below (round p below)
 
 pub changed-more : (graph : GraphData) (ii made : ℕ) (numbers next : List ℕ) → AreReaches graph ii made numbers → AreReaches graph ii (made + 1) next
-    → (p : ℕ) × (p < length graph.latencies) × (slice_index numbers p < slice_index next p) → HaveChanged graph ii (made + 1) → HaveChanged graph ii (made + 2)
-changed-more graph ii made numbers next old new rise changed = λ fewer from to. elim (cases_lt fewer (made + 1)) [
+    → (p : ℕ) → p < length graph.latencies → slice_index numbers p < slice_index next p → HaveChanged graph ii (made + 1) → HaveChanged graph ii (made + 2)
+changed-more graph ii made numbers next old new p below rise changed = λ fewer from to. elim (cases_lt fewer (made + 1)) [
   | inl before ↦ changed fewer from before
   | inr after ↦ (let at : made + 1 ≡ fewer = omega arith in
       subst (IsUnsettled graph ii) at
-      (unsettled-from_rise graph ii made rise.0 (slice_index numbers rise.0) (slice_index next rise.0) rise.1 (old rise.0 rise.1) (new rise.0 rise.1) rise.2))
+      (unsettled-from_rise graph ii made p (slice_index numbers p) (slice_index next p) below (old p below) (new p below) rise))
 ]
 
 pub rounds-settled : (graph : GraphData) (ii made : ℕ) → 1 ≤ made → made ≤ length graph.latencies → Settles graph ii made → HaveChanged graph ii made
@@ -208,15 +208,14 @@ rounds-settled graph ii made some few settles changed = record {
   never = λ wrong. cc;
 }
 
-pub rounds-never : (graph : GraphData) (ii : ℕ) → IsGraph graph → HaveChanged graph ii (length graph.latencies + 1) → IsRounds graph ii false (length graph.latencies)
-rounds-never graph ii g changed =
+pub rounds-never : (graph : GraphData) (ii : ℕ) → IsGraph graph → Exceeds graph.edges ii → IsRounds graph ii false (length graph.latencies)
+rounds-never graph ii g x =
     let some : 0 < length graph.latencies = g.some in
-    let x : Exceeds graph.edges ii = exceeds-from_unsettled graph ii g (changed (length graph.latencies) (omega arith) (omega arith)) in
     record {
       from_one = omega arith;
       within = omega arith;
       settles = λ wrong. cc;
-      least = λ fewer from to settles. unsettled-not_settled graph ii fewer (changed fewer from (omega arith)) settles;
+      least = λ fewer from to settles. exceeds-not_fits graph.edges ii x (fits-from_settles graph ii fewer g settles);
       never = λ _. (refl, λ more from settles. exceeds-not_fits graph.edges ii x (fits-from_settles graph ii more g settles));
     }
 
@@ -301,3 +300,28 @@ items-are_heights graph ii numbers items g f heights long is =
 pub not_true : (b : Bool) → not b ≡ true → b ≡ false
 not_true true is = cc
 not_true false is = refl
+
+-- a walk of so much more delay than intervals
+pub record IsAlong (edges : List EdgeData) (ii p q : ℕ) (excess : ℤ) : Type 0 where
+  pub walk : List EdgeData
+  pub is_walk : IsWalk edges p walk q
+  pub sum : excess ≡ (delay_of walk -ℤ pos (ii * distance_of walk))
+
+pub IsAlong-none : (edges : List EdgeData) (ii p : ℕ) → IsAlong edges ii p p (pos 0)
+IsAlong-none edges ii p = let zero : ii * 0 ≡ 0 = omega arith in record { walk = []; is_walk = refl; sum = omega (arith, ints) }
+
+pub IsAlong-more : (edges : List EdgeData) (ii p q : ℕ) (excess more : ℤ) (e : EdgeData) → IsAlong edges ii p q excess → Contains edges e → e.from ≡ q
+    → more ≡ (excess +ℤ (e.delay -ℤ pos (ii * e.distance))) → IsAlong edges ii p e.to more
+IsAlong-more edges ii p q excess more e a there from is =
+    let sum : excess ≡ (delay_of a.walk -ℤ pos (ii * distance_of a.walk)) = a.sum in
+    let delay : delay_of (a.walk ++ e ∷ []) ≡ (delay_of a.walk +ℤ (e.delay +ℤ pos 0)) = delay_of-append a.walk (e ∷ []) in
+    let distance : distance_of (a.walk ++ e ∷ []) ≡ distance_of a.walk + (e.distance + 0) = distance_of-append a.walk (e ∷ []) in
+    let product : ii * distance_of (a.walk ++ e ∷ []) ≡ ii * distance_of a.walk + ii * (e.distance + 0)
+    = ap (λ d. ii * d) distance ∙ mul-add ii (distance_of a.walk) (e.distance + 0) in
+    let same : ii * (e.distance + 0) ≡ ii * e.distance = ap (λ d. ii * d) (let s : e.distance + 0 ≡ e.distance = omega arith in s) in
+    record { walk = a.walk ++ e ∷ []; is_walk = IsWalk-append edges p q e.to a.walk (e ∷ []) a.is_walk (there, from, refl); sum = omega (arith, ints) }
+
+pub exceeds-along : (edges : List EdgeData) (ii p : ℕ) (excess : ℤ) → IsAlong edges ii p p excess → pos 0 <ℤ excess → Exceeds edges ii
+exceeds-along edges ii p excess a more =
+    let sum : excess ≡ (delay_of a.walk -ℤ pos (ii * distance_of a.walk)) = a.sum in
+    record { start = p; walk = a.walk; closed = a.is_walk; exceeds = omega (arith, ints) }

@@ -1,7 +1,7 @@
 //! Rounds of relaxation: numbers of operations that grow along edges until a round changes nothing.
 
-ghost use Rattle.std.specs.Prelude.{◌≡◌, ℕ, pos, true, false, ◌*◌, ◌+ℤ◌, ◌-ℤ◌, ◌≤ℤ◌, ◌+◌, ◌<◌, ◌≤◌, ◌==◌, length, filter, slice_index, IfOk, IsOk};
-ghost use Rattle.std.specs.List.{All};
+ghost use Rattle.std.specs.Prelude.{◌≡◌, ℕ, pos, true, false, ◌*◌, ◌+ℤ◌, ◌-ℤ◌, ◌≤ℤ◌, ◌+◌, ◌<◌, ◌≤◌, ◌==◌, length, filter, slice_index, IfOk, IfSome, IsOk, Some, None};
+ghost use Rattle.std.specs.List.{All, Contains};
 ghost use Rattle.graph.specs.declared.edge.Edge.{Edge};
 ghost use Rattle.graph.specs.Graphs.{IsGraph};
 ghost use Rattle.graph.specs.Walks.{FitsCircuits, Exceeds};
@@ -14,6 +14,9 @@ use std::alloc::{AllocError, Global};
 
 /// The most operations that a loop has.
 const MOST: usize = 128;
+
+/// How many rounds are made between two looks for a circuit that does not fit.
+const LOOK: usize = 8;
 
 /// What rounds at an interval come to.
 #[derive(Drop)]
@@ -32,6 +35,7 @@ fn through(edge: Edge, number: u64, interval: u64) -> i64
     requires small { number ≤ 8256 }
     ensures exact { result ≡ ((pos number +ℤ edge.delay) -ℤ pos (interval * edge.distance)) }
     ensures near { result ≤ℤ pos (number + 127) }
+    ensures far { pos number ≤ℤ (result +ℤ pos 4200000) }
 {
     number as i64 + i64::from(edge.delay) - (interval * u64::from(edge.distance)) as i64
 }
@@ -54,24 +58,29 @@ fn raised(own: u64, outgoing: &[Edge], numbers: &[u64; MOST], interval: u64) -> 
     best
 }
 
-/// Raises the number of each operation into the next row. Whether any changes.
-fn round(edges: &Edges, interval: u64, numbers: &[u64; MOST], next: &mut [u64; MOST]) -> bool
+/// Raises the number of each operation into the next row. The last operation whose number rises, if any.
+fn round(
+    edges: &Edges,
+    interval: u64,
+    numbers: &[u64; MOST],
+    next: &mut [u64; MOST],
+) -> Option<usize>
     requires short { interval ≤ 16384 }
     requires small { (p : ℕ) → p < length edges.now.latencies → slice_index numbers.now p ≤ 8256 }
     ensures raised { (p : ℕ) → p < length edges.now.latencies → IsRaised (filter (λ (e : Edge). e.from == p) edges.now.edges) interval numbers.now (slice_index numbers.now p) (slice_index next.new p) }
-    ensures rises { result ≡ true → (p : ℕ) × (p < length edges.now.latencies) × (slice_index numbers.now p < slice_index next.new p) }
-    ensures stays { result ≡ false → (p : ℕ) → p < length edges.now.latencies → slice_index next.new p ≡ slice_index numbers.now p }
+    ensures rises { (p : ℕ) → result ≡ Some p → (p < length edges.now.latencies) × (slice_index numbers.now p < slice_index next.new p) }
+    ensures stays { result ≡ None → (p : ℕ) → p < length edges.now.latencies → slice_index next.new p ≡ slice_index numbers.now p }
 {
-    let mut changed = false;
+    let mut rising = None;
     for operation in 0..edges.operations() {
         let own = numbers[operation];
         let best = raised(own, edges.out_of(operation), numbers, interval);
         next[operation] = best;
         if own < best {
-            changed = true;
+            rising = Some(operation);
         }
     }
-    changed
+    rising
 }
 
 /// The numbers before the first round: the latencies.
@@ -85,7 +94,79 @@ fn first_numbers(edges: &Edges, interval: u64) -> [u64; MOST]
     numbers
 }
 
+/// The edge from an operation that gives it the greatest number, if there are edges from it.
+fn steepest(outgoing: &[Edge], numbers: &[u64; MOST], interval: u64) -> Option<Edge>
+    requires short { interval ≤ 16384 }
+    requires small { All (λ (e : Edge). (e.to < 128) × (slice_index numbers.now e.to ≤ 8256)) outgoing.now }
+    ensures { IfSome result (λ e. Contains outgoing.now e) }
+{
+    let mut best = None;
+    let mut most = i64::MIN;
+    for edge in outgoing {
+        let reached = through(*edge, numbers[edge.to as usize], interval);
+        if reached > most {
+            most = reached;
+            best = Some(*edge);
+        }
+    }
+    best
+}
+
+/// The operation that so many steepest edges lead to, as many as there are operations, if they do.
+fn far_along(edges: &Edges, interval: u64, numbers: &[u64; MOST], start: usize) -> Option<usize>
+    requires short { interval ≤ 16384 }
+    requires there { start < length edges.now.latencies }
+    requires small { (p : ℕ) → p < length edges.now.latencies → slice_index numbers.now p ≤ 8256 }
+    ensures { IfSome result (λ p. p < length edges.now.latencies) }
+{
+    let mut at = start;
+    for _step in 0..edges.operations() {
+        let edge = steepest(edges.out_of(at), numbers, interval)?;
+        at = edge.to as usize;
+    }
+    Some(at)
+}
+
+/// Whether the steepest edges lead from an operation back to it, over more cycles than they have
+/// intervals.
+fn comes_back_late(edges: &Edges, interval: u64, numbers: &[u64; MOST], start: usize) -> bool
+    requires short { interval ≤ 16384 }
+    requires there { start < length edges.now.latencies }
+    requires small { (p : ℕ) → p < length edges.now.latencies → slice_index numbers.now p ≤ 8256 }
+    ensures { result ≡ true → Exceeds edges.now.edges interval }
+{
+    let mut at = start;
+    let mut excess = 0;
+    for _step in 0..edges.operations() {
+        let Some(edge) = steepest(edges.out_of(at), numbers, interval) else {
+            return false;
+        };
+        excess += through(edge, 0, interval);
+        at = edge.to as usize;
+        if at == start {
+            return excess > 0;
+        }
+    }
+    false
+}
+
+/// Whether the steepest edges from an operation go round in a circuit that does not fit.
+fn goes_round(edges: &Edges, interval: u64, numbers: &[u64; MOST], start: usize) -> bool
+    requires short { interval ≤ 16384 }
+    requires there { start < length edges.now.latencies }
+    requires small { (p : ℕ) → p < length edges.now.latencies → slice_index numbers.now p ≤ 8256 }
+    ensures { result ≡ true → Exceeds edges.now.edges interval }
+{
+    match far_along(edges, interval, numbers, start) {
+        Some(operation) => comes_back_late(edges, interval, numbers, operation),
+        None => false,
+    }
+}
+
 /// Rounds at an interval, until one changes nothing, and at most as many as there are operations.
+///
+/// Where they would not settle, a circuit that does not fit is mostly seen long before the last round:
+/// the looks for one only save time.
 pub(crate) fn settle(edges: &Edges, interval: u64) -> Settled
     requires short { interval ≤ 16384 }
     ensures exact { IsRounds edges.now interval result.settled result.rounds }
@@ -97,14 +178,17 @@ pub(crate) fn settle(edges: &Edges, interval: u64) -> Settled
     let mut numbers = first_numbers(edges, interval);
     let mut next = [0; MOST];
     for made in 0..edges.operations() {
-        let changed = round(edges, interval, &numbers, &mut next);
+        let rising = round(edges, interval, &numbers, &mut next);
         numbers = next;
-        if !changed {
+        let Some(operation) = rising else {
             return Settled {
                 settled: true,
                 rounds: made as u64 + 1,
                 numbers,
             };
+        };
+        if made % LOOK == LOOK - 1 && goes_round(edges, interval, &numbers, operation) {
+            break;
         }
     }
     Settled {
@@ -121,7 +205,8 @@ pub(crate) fn settle(edges: &Edges, interval: u64) -> Settled
 /// Each operation has a number, at first its latency. A round raises it to the greatest, over the edges
 /// from the operation, of the target's number in the round before with the edge's delay, less the
 /// interval for each iteration of the edge's distance. Rounds are made until one changes nothing, which
-/// is counted too, and no more than there are operations.
+/// is counted too, and no more than there are operations: as many are told where they do not settle,
+/// also where a circuit that does not fit was seen earlier.
 ///
 /// # Errors
 /// None: no memory is taken.
