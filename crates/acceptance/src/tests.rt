@@ -1,5 +1,7 @@
 //! Rows: a line, the texts of its files, and what has to come of them.
 
+ghost use Rattle.std.specs.Prelude.{◌≡◌};
+
 mod bounds;
 mod dependences;
 mod devices;
@@ -29,7 +31,7 @@ const ALL: usize = 65_536;
 /// How many bytes an input gives a read, and an output takes a write, at most: neither is done in one.
 const STRIDE: usize = 4096;
 
-fn bounds<'a>(machine: &'a str, loops: &'a str) -> Row<'a> {
+fn bounds_row<'a>(machine: &'a str, loops: &'a str) -> Row<'a> {
     Row {
         words: &["bounds", "m.toml", "l.txt"],
         machine: Some(machine),
@@ -38,7 +40,7 @@ fn bounds<'a>(machine: &'a str, loops: &'a str) -> Row<'a> {
     }
 }
 
-fn plain<'a>(words: &'a [&'a str], loops: &'a str) -> Row<'a> {
+fn plain_row<'a>(words: &'a [&'a str], loops: &'a str) -> Row<'a> {
     Row {
         words,
         machine: None,
@@ -52,7 +54,10 @@ fn one_more(text: &mut String) -> Result<(), AllocError> {
     text.push('#')
 }
 
-fn input(text: Option<&str>) -> FaultyInput<'_> {
+/// An input over a text, or one whose first read fails.
+fn input(text: Option<&str>) -> FaultyInput<'_>
+    ensures { result.1 ≡ 0 }
+{
     match text {
         Some(text) => FaultyInput::new(text.as_bytes(), STRIDE, None),
         None => FaultyInput::new(b"", STRIDE, Some(0)),

@@ -7,7 +7,7 @@ use super::given::{
     OFFSET_64_MACHINE, OUT_WITHOUT_INIT, REGISTERS_0_MACHINE, SUBSCRIPT_PLUS_65, UNITS_64,
     UNITS_65, USE_AT_17_2,
 };
-use super::{Row, bounds, ends};
+use super::{Row, bounds_row, ends};
 use std::test::Fail;
 
 #[test]
@@ -19,7 +19,7 @@ fn tells_bounds(rt: HostRuntime) {
         (M1, EMPTY_FILE_BOUNDS, "loops 0\n"),
     ];
     for (machine, loops, want) in rows {
-        ends(&rt, rt.alloc(), &bounds(machine, loops), 0, want, "");
+        ends(&rt, rt.alloc(), &bounds_row(machine, loops), 0, want, "");
     }
 }
 
@@ -39,7 +39,7 @@ fn takes_machines_at_their_limits(rt: HostRuntime) {
         ),
     ];
     for (machine, loops, want) in rows {
-        ends(&rt, rt.alloc(), &bounds(machine, loops), 0, want, "");
+        ends(&rt, rt.alloc(), &bounds_row(machine, loops), 0, want, "");
     }
 }
 
@@ -60,7 +60,7 @@ fn refuses_machine_texts(rt: HostRuntime) {
         (OFFSET_64_MACHINE, ACC, "modsched: machine: limit offset\n"),
     ];
     for (machine, loops, line) in rows {
-        ends(&rt, rt.alloc(), &bounds(machine, loops), 4, "", line);
+        ends(&rt, rt.alloc(), &bounds_row(machine, loops), 4, "", line);
     }
 }
 
@@ -102,7 +102,7 @@ fn refuses_loop_texts(rt: HostRuntime) {
         ),
     ];
     for (machine, loops, line) in rows {
-        ends(&rt, rt.alloc(), &bounds(machine, loops), 5, "", line);
+        ends(&rt, rt.alloc(), &bounds_row(machine, loops), 5, "", line);
     }
 }
 
@@ -117,7 +117,7 @@ fn misses_tables(rt: HostRuntime) {
         (M3, ACC, "modsched: loops: loop acc: no table for load\n"),
     ];
     for (machine, loops, line) in rows {
-        ends(&rt, rt.alloc(), &bounds(machine, loops), 5, "", line);
+        ends(&rt, rt.alloc(), &bounds_row(machine, loops), 5, "", line);
     }
 }
 
@@ -133,7 +133,7 @@ fn can_not_read(rt: HostRuntime) {
         let row = Row {
             machine,
             loops,
-            ..bounds(M1, ACC)
+            ..bounds_row(M1, ACC)
         };
         ends(&rt, rt.alloc(), &row, 3, "", line);
     }
@@ -144,7 +144,7 @@ fn can_not_read(rt: HostRuntime) {
 fn reads_both_files_first(rt: HostRuntime) {
     let row = Row {
         loops: None,
-        ..bounds(REGISTERS_0_MACHINE, ACC)
+        ..bounds_row(REGISTERS_0_MACHINE, ACC)
     };
     ends(
         &rt,
@@ -160,7 +160,7 @@ fn reads_both_files_first(rt: HostRuntime) {
 fn writes_a_beginning(rt: HostRuntime) {
     let row = Row {
         room: 10,
-        ..bounds(M1, ACC)
+        ..bounds_row(M1, ACC)
     };
     ends(
         &rt,
@@ -179,10 +179,10 @@ fn reads_long_texts(rt: HostRuntime) -> Result<(), Fail> {
     for _ in 0..1_048_576 {
         text.push('#')?;
     }
-    let row = bounds(M1, text.as_str());
+    let row = bounds_row(M1, text.as_str());
     ends(&rt, rt.alloc(), &row, 0, "loops 0\n", "");
     text.push('#')?;
-    let row = bounds(M1, text.as_str());
+    let row = bounds_row(M1, text.as_str());
     ends(
         &rt,
         rt.alloc(),

@@ -1,7 +1,7 @@
 //! Inputs and outputs that fail.
 
 use super::given::{ACC, M1};
-use super::{STRIDE, bounds};
+use super::{STRIDE, bounds_row};
 use modsched::{Bytes, FaultyInput, FaultyOutput, Status, engine, parse_line};
 use std::alloc::Global;
 use std::process::Abort;
@@ -11,7 +11,7 @@ const WHOLE: &str = "loop acc ops 3 res 2 rec 1 mii 2\nloops 1\n";
 
 /// The number that `bounds` exits with where its inputs give a byte a read, and fail after so many.
 fn read_to(rt: &impl Abort, alloc: Global, machine: Option<u64>, loops: Option<u64>) -> (u8, bool) {
-    let command = parse_line(alloc, bounds(M1, ACC).words).expect(rt, "a command");
+    let command = parse_line(alloc, bounds_row(M1, ACC).words).expect(rt, "a command");
     let mut machine = FaultyInput::new(M1.as_bytes(), 1, machine);
     let mut loops = FaultyInput::new(ACC.as_bytes(), 1, loops);
     let mut output = FaultyOutput::new(alloc, STRIDE, STRIDE, true).expect(rt, "an output");
@@ -46,7 +46,7 @@ fn fails_to_read(rt: HostRuntime) {
 
 /// `bounds` with an output that takes so many bytes a write and in all; the number that it exits with.
 fn write_to(rt: &impl Abort, alloc: Global, output: &mut FaultyOutput) -> u8 {
-    let command = parse_line(alloc, bounds(M1, ACC).words).expect(rt, "a command");
+    let command = parse_line(alloc, bounds_row(M1, ACC).words).expect(rt, "a command");
     let mut machine = Bytes::new(M1.as_bytes());
     let mut loops = Bytes::new(ACC.as_bytes());
     engine(alloc, &command, &mut machine, &mut loops, output).number()

@@ -5,7 +5,7 @@ use super::given::{
     SHIFT, SUBSCRIPT_MINUS_64, SUBSCRIPT_MINUS_65, SUBSCRIPT_PLUS_64, SUBSCRIPT_PLUS_65, SUM,
     USE_AT_16, USE_AT_17, WRAP,
 };
-use super::{ends, plain};
+use super::{ends, plain_row};
 use modsched::{Usage, parse_line};
 use std::alloc::{AllocError, Global};
 use std::test::Fail;
@@ -33,7 +33,7 @@ fn runs_loops(rt: HostRuntime) {
     ];
     for (loops, trip, want) in rows {
         let words = ["plain", "l.txt", "--trip", trip];
-        ends(&rt, rt.alloc(), &plain(&words, loops), 0, want, "");
+        ends(&rt, rt.alloc(), &plain_row(&words, loops), 0, want, "");
     }
 }
 
@@ -46,7 +46,7 @@ fn runs_other_trips(rt: HostRuntime) {
     ];
     for (loops, trip, want) in rows {
         let words = ["plain", "l.txt", "--trip", trip];
-        ends(&rt, rt.alloc(), &plain(&words, loops), 0, want, "");
+        ends(&rt, rt.alloc(), &plain_row(&words, loops), 0, want, "");
     }
 }
 
@@ -76,7 +76,7 @@ fn runs_recurrences(rt: HostRuntime) {
     ];
     for (loops, trip, want) in rows {
         let words = ["plain", "l.txt", "--trip", trip];
-        ends(&rt, rt.alloc(), &plain(&words, loops), 0, want, "");
+        ends(&rt, rt.alloc(), &plain_row(&words, loops), 0, want, "");
     }
 }
 
@@ -96,7 +96,7 @@ fn stores_under_guards(rt: HostRuntime) {
     ];
     for (loops, trip, want) in rows {
         let words = ["plain", "l.txt", "--trip", trip];
-        ends(&rt, rt.alloc(), &plain(&words, loops), 0, want, "");
+        ends(&rt, rt.alloc(), &plain_row(&words, loops), 0, want, "");
     }
 }
 
@@ -114,7 +114,7 @@ fn tells_live_values(rt: HostRuntime) {
     ];
     for (loops, trip, want) in rows {
         let words = ["plain", "l.txt", "--trip", trip];
-        ends(&rt, rt.alloc(), &plain(&words, loops), 0, want, "");
+        ends(&rt, rt.alloc(), &plain_row(&words, loops), 0, want, "");
     }
 }
 
@@ -128,7 +128,7 @@ fn takes_loops_at_their_limits(rt: HostRuntime) {
     ];
     for (loops, trip, want) in rows {
         let words = ["plain", "l.txt", "--trip", trip];
-        ends(&rt, rt.alloc(), &plain(&words, loops), 0, want, "");
+        ends(&rt, rt.alloc(), &plain_row(&words, loops), 0, want, "");
     }
 }
 
@@ -144,7 +144,7 @@ fn refuses_loops_past_their_limits(rt: HostRuntime) {
         ends(
             &rt,
             rt.alloc(),
-            &plain(&["plain", "l.txt", "--trip", "0"], loops),
+            &plain_row(&["plain", "l.txt", "--trip", "0"], loops),
             5,
             "",
             line,
@@ -161,7 +161,14 @@ fn runs_many_iterations(rt: HostRuntime) -> Result<(), Fail> {
     }
     want.push_str("loops 1\n")?;
     let words = ["plain", "l.txt", "--trip", "100"];
-    ends(&rt, rt.alloc(), &plain(&words, ACC), 0, want.as_str(), "");
+    ends(
+        &rt,
+        rt.alloc(),
+        &plain_row(&words, ACC),
+        0,
+        want.as_str(),
+        "",
+    );
     Ok(())
 }
 
@@ -182,7 +189,7 @@ fn takes_128_statements(rt: HostRuntime) -> Result<(), Fail> {
     ends(
         &rt,
         rt.alloc(),
-        &plain(&words, most.as_str()),
+        &plain_row(&words, most.as_str()),
         0,
         "loop x trip 1\nloops 1\n",
         "",
@@ -191,7 +198,7 @@ fn takes_128_statements(rt: HostRuntime) -> Result<(), Fail> {
     ends(
         &rt,
         rt.alloc(),
-        &plain(&words, more.as_str()),
+        &plain_row(&words, more.as_str()),
         5,
         "",
         "modsched: loops: line 130: limit\n",
