@@ -1,6 +1,6 @@
 -- How runs of `bounds` and `plain` end.
-use Rattle.std.proofs.Common.{◌≡◌, ◌≢◌, ℕ, ◌<◌, ◌≤◌, List, Option, true, refl, sym, ap, ◌∙◌, arith, length, take, inl, inr}
-use Rattle.std.specs.Prelude.{Result, Ok, Err, nat_lt, codes}
+use Rattle.std.proofs.Common.{◌≡◌, ◌≢◌, ℕ, ◌<◌, List, Option, refl, sym, ap, ◌∙◌, arith, length, take, inl, inr}
+use Rattle.std.specs.Prelude.{Err, codes}
 use Rattle.std.proofs.lemmas.List.{take_all, length-take-le}
 use Rattle.std.proofs.lemmas.Bool.{cases_lt, lt-ltb}
 use Rattle.machine.specs.declared.fault.MachineFault.TheVariants.{Limit}

@@ -1,5 +1,5 @@
 -- The line's arguments as `clap` sees them, and what its matches mean.
-use Rattle.std.proofs.Common.{◌≡◌, ◌⊎◌, ◌∙◌, ℕ, length, arith, Ok, Result, IfOk, List, Option, Some, None, Err, option_map, true, codes, refl, sym, ap, ap₂, subst, inl, inr, IfSome, IfNone, string_bytes, String, Global}
+use Rattle.std.proofs.Common.{◌≡◌, ◌⊎◌, ℕ, length, arith, Result, IfOk, List, Option, Some, None, Err, option_map, true, codes, refl, sym, ap, ap₂, subst, inl, inr, IfSome, IfNone}
 use Rattle.clap.specs.Words.{HasKind, IsAmong, Kinds, Row, Text, first_of, is_simple, is_simple_and_free, kind_of, subcommand_name_of, subcommand_rows_of}
 use Rattle.clap.specs.declared.error.Error.{Error}
 use Rattle.clap.specs.declared.error.kind.ErrorKind.{ErrorKind}

@@ -1,9 +1,8 @@
 -- Refusals of `bounds` and `plain`.
-use Rattle.std.proofs.Common.{◌≡◌, ℕ, List, ◌++◌, Option, Some, None, refl, sym, ap, ◌∙◌}
+use Rattle.std.proofs.Common.{◌≡◌, ℕ, List, refl}
 use Rattle.std.specs.Prelude.{Result, Ok, Err}
 use Rattle.machine.specs.Answers.{Answers}
 use Rattle.machine.specs.Machines.{MachineData}
-use Rattle.machine.specs.declared.opcode.Opcode.{Opcode}
 use Rattle.machine.specs.declared.fault.MachineFault.{MachineFault}
 use Rattle.machine.specs.declared.fault.MachineFault.TheVariants as machine_fault
 use Rattle.loops.specs.Loops.{LoopData}
@@ -11,8 +10,8 @@ use Rattle.loops.specs.Meaning as loops_meaning
 use Rattle.loops.specs.declared.fault.LoopFault.{LoopFault}
 use Rattle.loops.specs.declared.fault.LoopFaultKind.{LoopFaultKind}
 use Rattle.loops.specs.declared.fault.LoopFaultKind.TheVariants as kinds
-use Rattle.modsched.specs.Bounds.{Bounds, BoundsIn, BoundsOn, first_lacking}
-use Rattle.modsched.specs.Outcomes.{Outcome, Written, RefusedMachine, RefusedLoops, NoTable as NoTableFor}
+use Rattle.modsched.specs.Bounds.{Bounds, first_lacking}
+use Rattle.modsched.specs.Outcomes.{Outcome, RefusedMachine, RefusedLoops, NoTable as NoTableFor}
 use Rattle.modsched.specs.Plain.{plain_outcome}
 use Rattle.modsched.specs.Refusals.{IsLacking, RefusesBounds, RefusesFor}
 use Rattle.modsched.specs.Statuses.{refusal_of_machine, refusal_of_loops, loops_status}

@@ -1,5 +1,5 @@
 -- The shapes of the memories before and behind a plain run.
-use Rattle.std.proofs.Common.{◌≡◌, ℕ, zero, suc, ℤ, Bool, true, false, List, [], ◌∷◌, length, map, Option, Some, None, refl, ◌∙◌}
+use Rattle.std.proofs.Common.{◌≡◌, ℕ, zero, suc, ℤ, Bool, true, false, List, [], ◌∷◌, length, Option, Some, None, refl, ◌∙◌}
 use Rattle.std.specs.Prelude.{if◌then◌else◌}
 use Rattle.std.proofs.lemmas.List.{length-map, length-set}
 use Rattle.machine.specs.declared.opcode.Opcode.{Opcode}
@@ -7,7 +7,7 @@ use Rattle.machine.specs.declared.opcode.Opcode.TheVariants.{Load, Store, Add, S
 use Rattle.loops.specs.declared.statement.Place.{Place}
 use Rattle.loops.specs.declared.statement.Statement.{Statement}
 use Rattle.loops.specs.Loops.{LoopData}
-use Rattle.loops.specs.Run.{HasShapeOf, MemoryData, RunState, after_iteration, after_iterations, after_statement, after_statements, arrays_after, end_of, opening_of, plain, start, with_cell, writes}
+use Rattle.loops.specs.Run.{HasShapeOf, MemoryData, RunState, after_iteration, after_iterations, after_statement, after_statements, arrays_after, end_of, opening_of, plain, start, writes}
 use Rattle.loops.proofs.Openings.{opening_shape}
 
 either : (b : Bool) (xs ys : List (List ℤ)) → length xs ≡ length ys → length (if b then xs else ys) ≡ length ys

@@ -1,5 +1,5 @@
 -- What `bounds` writes, and when it refuses.
-use Rattle.std.specs.Prelude.{◌≡◌, ℕ, ◌+◌, decimal, codes, max, Bool, List, [], ◌∷◌, ◌++◌, length, Option, Some, None, is_some, find, Result, Ok, Err}
+use Rattle.std.specs.Prelude.{◌≡◌, ℕ, decimal, codes, max, List, [], ◌∷◌, ◌++◌, length, Option, Some, None, Result, Ok, Err}
 use Rattle.std.specs.List.{flat_map, zip, AllZip}
 use Rattle.machine.specs.declared.fault.MachineFault.{MachineFault}
 use Rattle.machine.specs.declared.opcode.Opcode.{Opcode}

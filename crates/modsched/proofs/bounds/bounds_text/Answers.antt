@@ -1,4 +1,3 @@
-use Rattle.std.proofs.Common.{rules, ◌≡◌, sym}
 use Rattle.std.proofs.lemmas.Result.{err_from_is_err_and}
 use Rattle.modsched.proofs.Refusing.{machine_refused, loops_refused, lacking_refused}
 use Rattle.modsched.proofs.bounds.bounds_text.Goals as goal

@@ -1,4 +1,3 @@
-use Rattle.std.proofs.Common.{rules, ◌≡◌, ◌<◌, length, arith}
 use Rattle.std.proofs.lemmas.Result.{err_from_is_err_and}
 use Rattle.modsched.proofs.LinesOfLoops.{lines_step, lacking_step}
 use Rattle.modsched.proofs.bounds.lines.Goals as goal

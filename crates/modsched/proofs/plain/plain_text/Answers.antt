@@ -1,4 +1,3 @@
-use Rattle.std.proofs.Common.{◌≡◌, ◌∙◌, sym, ap}
 use Rattle.std.proofs.lemmas.Result.{err_from_is_err_and}
 use Rattle.modsched.proofs.Refusing.{plain_refused}
 use Rattle.modsched.proofs.plain.plain_text.Goals as goal

@@ -1,4 +1,4 @@
-use Rattle.std.proofs.Common.{◌≡◌, ◌∙◌, ◌<◌, ◌≤◌, ℕ, List, length, get_or, sym, ap, arith}
+use Rattle.std.proofs.Common.{◌≡◌, ◌∙◌, ℕ, List, length, get_or, sym, ap, arith}
 use Rattle.loops.specs.declared.lists.Array.{Array}
 use Rattle.modsched.specs.Plain.{cell_lines}
 use Rattle.modsched.proofs.PlainLines.{array_more, array_all}

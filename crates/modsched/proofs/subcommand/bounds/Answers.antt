@@ -1,4 +1,4 @@
-use Rattle.std.proofs.Common.{rules, ◌≡◌, ap, ◌∙◌}
+use Rattle.std.proofs.Common.{◌≡◌, ap, ◌∙◌}
 use Rattle.machine.specs.MachineText.{machine_of}
 use Rattle.loops.specs.Meaning.{loops_in}
 use Rattle.modsched.proofs.Ending.{refusal_ends, machine_of-take, loops_in-take}

@@ -1,6 +1,5 @@
 use Rattle.std.proofs.Common.{sym, subst}
 use Rattle.modsched.specs.Engine.{Does, Ends}
-use Rattle.modsched.specs.Outcomes.{Outcome}
 use Rattle.modsched.specs.declared.line.Command.{Command}
 use Rattle.modsched.proofs.subcommand.engine.Goals as goal
 
