@@ -31,6 +31,7 @@ pub mod Spelled
 pub mod Splitting
 pub mod Standing
 pub mod Stores
+pub mod Taken
 pub mod Texts
 pub mod Turns
 pub mod Written
