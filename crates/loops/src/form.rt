@@ -71,22 +71,27 @@ fn form_from<'a>(word: &'a [u8], rest: &'a [u8]) -> Form<'a>
     ensures { form_seen result ≡ form_of word.now (pieces_of rest.now) }
 {
     if is_text(word, "loop") {
-        loop_line(rest)
-    } else if is_text(word, "array") {
-        array_line(rest)
-    } else if is_text(word, "param") {
-        param_line(rest)
-    } else if is_text(word, "init") {
-        init_line(rest)
-    } else if is_text(word, "store") {
-        statement_line(store_source(rest))
-    } else if is_text(word, "out") {
-        out_line(rest)
-    } else if is_text(word, "end") {
-        end_line(rest)
-    } else {
-        statement_line(value_source(word, rest))
+        return loop_line(rest);
     }
+    if is_text(word, "array") {
+        return array_line(rest);
+    }
+    if is_text(word, "param") {
+        return param_line(rest);
+    }
+    if is_text(word, "init") {
+        return init_line(rest);
+    }
+    if is_text(word, "store") {
+        return statement_line(store_source(rest));
+    }
+    if is_text(word, "out") {
+        return out_line(rest);
+    }
+    if is_text(word, "end") {
+        return end_line(rest);
+    }
+    statement_line(value_source(word, rest))
 }
 
 /// The line of a statement, if it is one.
