@@ -240,12 +240,12 @@ fn statement_fault<'a>(
     index: &Index<'a>,
     counts: Counts,
     given: &Given,
-    source: Source<'a>,
+    source: &Source<'a>,
 ) -> Option<LoopFaultKind>
     requires room { length given.now.inits ≡ 16 * number_of is_statement (forms_in index.now) }
-    requires near { AllByRecursion IsNearUse (uses_seen source.uses) }
+    requires near { AllByRecursion IsNearUse (uses_seen source.now.uses) }
     ensures { (outs : List Bool) → result
-        ≡ first_in (kinds_at (forms_in index.now) counts given.now.inits outs (StatementLine (source_seen source.entry))) }
+        ≡ first_in (kinds_at (forms_in index.now) counts given.now.inits outs (StatementLine (source_seen source.now))) }
 {
     let Uses {
         first,
@@ -302,20 +302,20 @@ pub(crate) fn line_fault<'a>(
     index: &Index<'a>,
     counts: Counts,
     given: &Given,
-    form: Form<'a>,
+    form: &Form<'a>,
 ) -> Option<LoopFaultKind>
     requires room { length given.now.inits ≡ 16 * number_of is_statement (forms_in index.now) }
     requires flags { length given.now.outs.items ≡ number_of is_statement (forms_in index.now) }
-    requires near { IsNearForm (form_seen form) }
-    ensures { result ≡ first_in (kinds_at (forms_in index.now) counts given.now.inits given.now.outs.items (form_seen form.entry)) }
+    requires near { IsNearForm (form_seen form.now) }
+    ensures { result ≡ first_in (kinds_at (forms_in index.now) counts given.now.inits given.now.outs.items (form_seen form.now)) }
 {
     match form {
         Form::Loop(_) | Form::Malformed => None,
-        Form::Array(name, cells) => array_fault(index, counts, name, cells),
-        Form::Param(name, value) => param_fault(index, counts, name, value),
-        Form::Init(name, number, value) => init_fault(index, given, name, number, value),
+        Form::Array(name, cells) => array_fault(index, counts, *name, *cells),
+        Form::Param(name, value) => param_fault(index, counts, *name, *value),
+        Form::Init(name, number, value) => init_fault(index, given, *name, *number, *value),
         Form::Statement(source) => statement_fault(index, counts, given, source),
-        Form::Out(name) => out_fault(index, given, name),
+        Form::Out(name) => out_fault(index, given, *name),
         Form::End if counts.statements == 0 => Some(LoopFaultKind::Limit),
         Form::End => None,
     }
@@ -370,7 +370,7 @@ pub(crate) fn first_fault<'a>(
 {
     let mut counts = Counts::NONE;
     for entry in &index.lines()[..sound] {
-        if let Some(kind) = line_fault(index, counts, given, entry.form) {
+        if let Some(kind) = line_fault(index, counts, given, &entry.form) {
             return Some(LoopFault {
                 line: entry.line,
                 kind,

@@ -71,7 +71,7 @@ fn read_block<'a>(
         }),
         Stop::End(line, rest) => (line, rest),
     };
-    if let Some(kind) = line_fault(&index, counts, &room.given, Form::End) {
+    if let Some(kind) = line_fault(&index, counts, &room.given, &Form::End) {
         return Err(LoopFault { line, kind });
     }
     let found = build(alloc, name, &index, &room.given)?;
