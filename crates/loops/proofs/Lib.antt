@@ -49,6 +49,7 @@ pub mod Standing
 pub mod StatementForms
 pub mod StatementLines
 pub mod Stores
+pub mod Taken
 pub mod Texts
 pub mod Turns
 pub mod Written

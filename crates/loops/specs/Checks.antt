@@ -27,6 +27,12 @@ is_that (AParam m) (Some (AParam n)) = m == n
 is_that (AValue m) (Some (AValue n)) = m == n
 is_that what _ = false
 
+-- the values at the places that are taken
+abbrev pub values_taken : List Bool → List ℤ → List (Option ℤ)
+values_taken [] values = []
+values_taken (taken ∷ rest) [] = []
+values_taken (taken ∷ rest) (value ∷ values) = (if taken then Some value else None) ∷ values_taken rest values
+
 -- the initial value of a value that is numbered one above this
 abbrev pub slot : List (Option ℤ) → ℕ → ℕ → Option ℤ
 slot inits value m = slice_index_or inits (16 * value + m) None

@@ -46,10 +46,6 @@ source_seen s = record {
   uses = uses_seen s.uses;
 }
 
--- the form of a line that is this statement, if it is one
-abbrev pub source_form : Option Source → spec.Form
-source_form source = spec.formed (option_map (λ s. spec.StatementLine (source_seen s)) source)
-
 -- the integers that a rest of a line writes
 abbrev pub cells_seen : List ℕ → List (Option ℤ)
 cells_seen rest = unwrap_or (ints_of (pieces_of rest)) []

@@ -118,11 +118,11 @@ fn push_operand<'a>(
 fn statement<'a>(
     alloc: Global,
     index: &Index<'a>,
-    source: Source<'a>,
+    source: &Source<'a>,
 ) -> Result<Statement, AllocError>
     requires few { IsFew (forms_in index.now) }
-    requires name { IsNamed (source_seen source).name }
-    ensures { IfOk result (λ s. s ≡ statement_of (forms_in index.now) (source_seen source.entry)) }
+    requires name { IsNamed (source_seen source.now).name }
+    ensures { IfOk result (λ s. s ≡ statement_of (forms_in index.now) (source_seen source.now)) }
 {
     let mut operands = SmallVec::new(alloc);
     push_operand(&mut operands, index, source.uses.first)?;
@@ -138,11 +138,11 @@ fn statement<'a>(
 
 /// Appends the initial values of a statement's value, by number.
 fn push_inits(inits: &mut Vec<Initial>, given: &Given, statement: u8) -> Result<(), AllocError>
-    requires room { 16 * statement + 16 ≤ length given.now.inits.items }
-    ensures { OnOk result (inits.new.items ≡ inits.old.items ++ row_of given.now.inits.items statement 16) }
+    requires room { 16 * statement + 16 ≤ length given.now.inits }
+    ensures { OnOk result (inits.new.items ≡ inits.old.items ++ row_of given.now.inits statement 16) }
 {
     for m in 0..MOST {
-        if let Some(value) = given.inits[MOST * statement as usize + m] {
+        if let Some(value) = given.inits.at(statement as usize, m) {
             inits.push(Initial {
                 statement,
                 number: m as u8 + 1,
@@ -169,25 +169,25 @@ impl Parts {
         alloc: Global,
         index: &Index<'a>,
         given: &Given,
-        form: Form<'a>,
+        form: &Form<'a>,
     ) -> Result<(), AllocError>
         requires few { IsFew (forms_in index.now) }
-        requires name { IsNamed (name_in (form_seen form)) }
-        requires room { length given.now.inits.items ≡ 16 * meaning.number_of is_statement (forms_in index.now) }
-        requires place { length self.old.statements.items + one_if (is_statement (form_seen form)) ≤ meaning.number_of is_statement (forms_in index.now) }
-        ensures arrays { OnOk result (self.new.arrays.items ≡ self.old.arrays.items ++ option_to_list (array_in (form_seen form.entry))) }
-        ensures params { OnOk result (self.new.params.items ≡ self.old.params.items ++ option_to_list (param_in (form_seen form.entry))) }
-        ensures statements { OnOk result (self.new.statements.items ≡ self.old.statements.items ++ map (statement_of (forms_in index.now)) (option_to_list (source_in (form_seen form.entry)))) }
-        ensures inits { OnOk result (self.new.inits.items ≡ self.old.inits.items ++ rows_of given.now.inits.items (length self.old.statements.items) (option_to_list (source_in (form_seen form.entry)))) }
-        ensures outs { OnOk result (self.new.outs.items ≡ self.old.outs.items ++ option_to_list (out_in (forms_in index.now) (form_seen form.entry))) }
+        requires name { IsNamed (name_in (form_seen form.now)) }
+        requires room { length given.now.inits ≡ 16 * meaning.number_of is_statement (forms_in index.now) }
+        requires place { length self.old.statements.items + one_if (is_statement (form_seen form.now)) ≤ meaning.number_of is_statement (forms_in index.now) }
+        ensures arrays { OnOk result (self.new.arrays.items ≡ self.old.arrays.items ++ option_to_list (array_in (form_seen form.now))) }
+        ensures params { OnOk result (self.new.params.items ≡ self.old.params.items ++ option_to_list (param_in (form_seen form.now))) }
+        ensures statements { OnOk result (self.new.statements.items ≡ self.old.statements.items ++ map (statement_of (forms_in index.now)) (option_to_list (source_in (form_seen form.now)))) }
+        ensures inits { OnOk result (self.new.inits.items ≡ self.old.inits.items ++ rows_of given.now.inits (length self.old.statements.items) (option_to_list (source_in (form_seen form.now)))) }
+        ensures outs { OnOk result (self.new.outs.items ≡ self.old.outs.items ++ option_to_list (out_in (forms_in index.now) (form_seen form.now))) }
     {
         match form {
             Form::Array(name, cells) => self.arrays.push(Array {
-                name: name_of(name),
-                cells: Cells::new(cells_of(alloc, cells)?),
+                name: name_of(*name),
+                cells: Cells::new(cells_of(alloc, *cells)?),
             })?,
             Form::Param(name, value) => self.params.push(Param {
-                name: name_of(name),
+                name: name_of(*name),
                 value: value.unwrap_or(0),
             })?,
             Form::Statement(source) => {
@@ -196,7 +196,7 @@ impl Parts {
                 }
                 self.statements.push(statement(alloc, index, source)?)?;
             }
-            Form::Out(name) => self.outs.push(number_of(index.declared(name)))?,
+            Form::Out(name) => self.outs.push(number_of(index.declared(*name)))?,
             _ => {}
         }
         Ok(())
@@ -214,7 +214,7 @@ pub(crate) fn build<'a>(
     requires block { IsBlock (forms_in index.now) }
     requires some { has_statement (forms_in index.now) ≡ true }
     requires faultless { entry_faults (forms_in index.now) [] index.now ≡ [] }
-    requires given { IsGiven (forms_in index.now) (forms_in index.now) given.now.inits.items given.now.outs.items }
+    requires given { IsGiven (forms_in index.now) (forms_in index.now) given.now.inits given.now.outs.items }
     ensures value { IfOk result (λ l. l ≡ loop_of (name.now, forms_in index.now)) }
     ensures well_formed { IfOk result (λ l. IsLoop l) }
 {
@@ -226,7 +226,7 @@ pub(crate) fn build<'a>(
         outs: Vec::new(alloc),
     };
     for line in index.lines() {
-        parts.add(alloc, index, given, line.form)?;
+        parts.add(alloc, index, given, &line.form)?;
     }
     let Parts {
         arrays,

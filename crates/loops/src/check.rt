@@ -75,31 +75,11 @@ fn is_wide(read: Option<Use<'_>>) -> bool
     }
 }
 
-fn is_unknown<'a>(index: &Index<'a>, read: Option<Use<'a>>) -> bool
-    ensures { result ≡ any_use (meaning.is_unknown (forms_in index.now)) read.entry }
-{
-    match read {
-        None | Some(Use::Number(_)) => false,
-        Some(Use::Plain(name)) => !is_readable(index.declared(name)),
-        Some(Use::At(name, _)) => !is_value(index.declared(name)),
-    }
-}
-
-fn is_early<'a>(index: &Index<'a>, statement: usize, read: Option<Use<'a>>) -> bool
-    ensures { result ≡ any_use (meaning.is_early (forms_in index.now) statement) read.entry }
-{
-    match read {
-        Some(Use::Plain(name)) => is_value_from(statement, index.declared(name)),
-        Some(Use::At(name, Some(0))) => is_value_from(statement, index.declared(name)),
-        _ => false,
-    }
-}
-
 /// All initial values of a name from 1 to a distance were given.
 fn covers_name(given: &Given, found: Option<Declared>, distance: u8) -> bool
-    requires below { IsRoomFor (length given.now.inits.items) (option_map declared_seen found) }
+    requires below { IsRoomFor (length given.now.inits) (option_map declared_seen found) }
     requires near { distance ≤ 16 }
-    ensures { result ≡ covers_name given.now.inits.items (option_map declared_seen found) distance }
+    ensures { result ≡ covers_name given.now.inits (option_map declared_seen found) distance }
 {
     match found {
         _ if distance == 0 => true,
@@ -108,14 +88,52 @@ fn covers_name(given: &Given, found: Option<Declared>, distance: u8) -> bool
     }
 }
 
-fn lacks_init<'a>(index: &Index<'a>, given: &Given, read: Option<Use<'a>>) -> bool
-    requires room { length given.now.inits.items ≡ 16 * number_of is_statement (forms_in index.now) }
+/// What is wrong with a use, or with several.
+#[derive(Clone, Copy)]
+struct UseFaults {
+    unknown: bool,
+    early: bool,
+    lacking: bool,
+}
+
+/// What is wrong with a use of this statement. Its name is looked up once for all.
+fn use_faults<'a>(
+    index: &Index<'a>,
+    given: &Given,
+    statement: usize,
+    read: Option<Use<'a>>,
+) -> UseFaults
+    requires room { length given.now.inits ≡ 16 * number_of is_statement (forms_in index.now) }
     requires near { IsNearRead read }
-    ensures { result ≡ any_use (lacks_init (forms_in index.now) given.now.inits.items) read.entry }
+    ensures unknown { result.unknown ≡ any_use (meaning.is_unknown (forms_in index.now)) read.entry }
+    ensures early { result.early ≡ any_use (meaning.is_early (forms_in index.now) statement) read.entry }
+    ensures lacking { result.lacking ≡ any_use (lacks_init (forms_in index.now) given.now.inits) read.entry }
 {
     match read {
-        Some(Use::At(name, Some(distance))) => !covers_name(given, index.declared(name), distance),
-        _ => false,
+        None | Some(Use::Number(_)) => UseFaults {
+            unknown: false,
+            early: false,
+            lacking: false,
+        },
+        Some(Use::Plain(name)) => {
+            let found = index.declared(name);
+            UseFaults {
+                unknown: !is_readable(found),
+                early: is_value_from(statement, found),
+                lacking: false,
+            }
+        }
+        Some(Use::At(name, distance)) => {
+            let found = index.declared(name);
+            UseFaults {
+                unknown: !is_value(found),
+                early: matches!(distance, Some(0)) && is_value_from(statement, found),
+                lacking: match distance {
+                    None => false,
+                    Some(distance) => !covers_name(given, found, distance),
+                },
+            }
+        }
     }
 }
 
@@ -200,17 +218,17 @@ fn init_fault<'a>(
     number: Option<u8>,
     value: Option<i64>,
 ) -> Option<LoopFaultKind>
-    requires room { length given.now.inits.items ≡ 16 * number_of is_statement (forms_in index.now) }
+    requires room { length given.now.inits ≡ 16 * number_of is_statement (forms_in index.now) }
     requires near { IsNear number }
     ensures { (counts : Counts) (outs : List Bool) → result
-        ≡ first_in (kinds_at (forms_in index.now) counts given.now.inits.items outs (InitLine name.now number value)) }
+        ≡ first_in (kinds_at (forms_in index.now) counts given.now.inits outs (InitLine name.now number value)) }
 {
     let number = match number {
         Some(number) if number > 0 && value.is_some() && !is_long(name) => number as usize,
         _ => return Some(LoopFaultKind::Limit),
     };
     match index.declared(name) {
-        Some(Declared::Value(of)) if given.inits[MOST * of + number - 1].is_some() => {
+        Some(Declared::Value(of)) if given.inits.has(of, number - 1) => {
             Some(LoopFaultKind::RepeatedName)
         }
         Some(Declared::Value(_)) => None,
@@ -222,12 +240,12 @@ fn statement_fault<'a>(
     index: &Index<'a>,
     counts: Counts,
     given: &Given,
-    source: Source<'a>,
+    source: &Source<'a>,
 ) -> Option<LoopFaultKind>
-    requires room { length given.now.inits.items ≡ 16 * number_of is_statement (forms_in index.now) }
-    requires near { AllByRecursion IsNearUse (uses_seen source.uses) }
+    requires room { length given.now.inits ≡ 16 * number_of is_statement (forms_in index.now) }
+    requires near { AllByRecursion IsNearUse (uses_seen source.now.uses) }
     ensures { (outs : List Bool) → result
-        ≡ first_in (kinds_at (forms_in index.now) counts given.now.inits.items outs (StatementLine (source_seen source.entry))) }
+        ≡ first_in (kinds_at (forms_in index.now) counts given.now.inits outs (StatementLine (source_seen source.now))) }
 {
     let Uses {
         first,
@@ -247,33 +265,26 @@ fn statement_fault<'a>(
     if is_repeated_value(index, number, source.name) {
         return Some(LoopFaultKind::RepeatedName);
     }
-    if is_unknown_place(index, source.place)
-        || is_unknown(index, first)
-        || is_unknown(index, second)
-        || is_unknown(index, third)
-    {
+    let first = use_faults(index, given, number, first);
+    let second = use_faults(index, given, number, second);
+    let third = use_faults(index, given, number, third);
+    if is_unknown_place(index, source.place) || first.unknown || second.unknown || third.unknown {
         return Some(LoopFaultKind::UnknownName);
     }
-    if is_early(index, number, first)
-        || is_early(index, number, second)
-        || is_early(index, number, third)
-    {
+    if first.early || second.early || third.early {
         return Some(LoopFaultKind::UseBeforeDefinition);
     }
-    if lacks_init(index, given, first)
-        || lacks_init(index, given, second)
-        || lacks_init(index, given, third)
-    {
+    if first.lacking || second.lacking || third.lacking {
         return Some(LoopFaultKind::MissingInit);
     }
     None
 }
 
 fn out_fault<'a>(index: &Index<'a>, given: &Given, name: &'a [u8]) -> Option<LoopFaultKind>
-    requires room { length given.now.inits.items ≡ 16 * number_of is_statement (forms_in index.now) }
+    requires room { length given.now.inits ≡ 16 * number_of is_statement (forms_in index.now) }
     requires flags { length given.now.outs.items ≡ number_of is_statement (forms_in index.now) }
     ensures { (counts : Counts) → result
-        ≡ first_in (kinds_at (forms_in index.now) counts given.now.inits.items given.now.outs.items (OutLine name.now)) }
+        ≡ first_in (kinds_at (forms_in index.now) counts given.now.inits given.now.outs.items (OutLine name.now)) }
 {
     if is_long(name) {
         return Some(LoopFaultKind::Limit);
@@ -291,20 +302,20 @@ pub(crate) fn line_fault<'a>(
     index: &Index<'a>,
     counts: Counts,
     given: &Given,
-    form: Form<'a>,
+    form: &Form<'a>,
 ) -> Option<LoopFaultKind>
-    requires room { length given.now.inits.items ≡ 16 * number_of is_statement (forms_in index.now) }
+    requires room { length given.now.inits ≡ 16 * number_of is_statement (forms_in index.now) }
     requires flags { length given.now.outs.items ≡ number_of is_statement (forms_in index.now) }
-    requires near { IsNearForm (form_seen form) }
-    ensures { result ≡ first_in (kinds_at (forms_in index.now) counts given.now.inits.items given.now.outs.items (form_seen form.entry)) }
+    requires near { IsNearForm (form_seen form.now) }
+    ensures { result ≡ first_in (kinds_at (forms_in index.now) counts given.now.inits given.now.outs.items (form_seen form.now)) }
 {
     match form {
         Form::Loop(_) | Form::Malformed => None,
-        Form::Array(name, cells) => array_fault(index, counts, name, cells),
-        Form::Param(name, value) => param_fault(index, counts, name, value),
-        Form::Init(name, number, value) => init_fault(index, given, name, number, value),
+        Form::Array(name, cells) => array_fault(index, counts, *name, *cells),
+        Form::Param(name, value) => param_fault(index, counts, *name, *value),
+        Form::Init(name, number, value) => init_fault(index, given, *name, *number, *value),
         Form::Statement(source) => statement_fault(index, counts, given, source),
-        Form::Out(name) => out_fault(index, given, name),
+        Form::Out(name) => out_fault(index, given, *name),
         Form::End if counts.statements == 0 => Some(LoopFaultKind::Limit),
         Form::End => None,
     }
@@ -312,9 +323,9 @@ pub(crate) fn line_fault<'a>(
 
 /// Takes down what one more line gives to the block's values.
 fn give<'a>(given: &mut Given, index: &Index<'a>, form: Form<'a>)
-    requires room { length given.old.inits.items ≡ 16 * number_of is_statement (forms_in index.now) }
+    requires room { length given.old.inits ≡ 16 * number_of is_statement (forms_in index.now) }
     requires flags { length given.old.outs.items ≡ number_of is_statement (forms_in index.now) }
-    ensures inits { given.new.inits.items ≡ inits_with (forms_in index.now) given.old.inits.items (form_seen form.entry) }
+    ensures inits { given.new.inits ≡ inits_with (forms_in index.now) given.old.inits (form_seen form.entry) }
     ensures outs { given.new.outs.items ≡ outs_with (forms_in index.now) given.old.outs.items (form_seen form.entry) }
 {
     match form {
@@ -331,15 +342,15 @@ fn give<'a>(given: &mut Given, index: &Index<'a>, form: Form<'a>)
 }
 
 fn give_init(given: &mut Given, found: Option<Declared>, number: u8, value: i64)
-    requires room { IsRoomFor (length given.old.inits.items) (option_map declared_seen found) }
-    ensures inits { given.new.inits.items ≡ with_init given.old.inits.items (option_map declared_seen found) (Some number) (Some value) }
+    requires room { IsRoomFor (length given.old.inits) (option_map declared_seen found) }
+    ensures inits { given.new.inits ≡ with_init given.old.inits (option_map declared_seen found) (Some number) (Some value) }
     ensures outs { given.new.outs.items ≡ given.old.outs.items }
 {
     if let Some(Declared::Value(of)) = found
         && number > 0
         && number as usize <= MOST
     {
-        given.inits[MOST * of + number as usize - 1] = Some(value);
+        given.inits.put(of, number as usize - 1, value);
     }
 }
 
@@ -351,15 +362,15 @@ pub(crate) fn first_fault<'a>(
     given: &mut Given,
 ) -> Option<LoopFault>
     requires sound { sound ≤ length index.now }
-    requires inits { given.old.inits.items ≡ replicate (16 * number_of is_statement (forms_in index.now)) None }
+    requires inits { given.old.inits ≡ replicate (16 * number_of is_statement (forms_in index.now)) None }
     requires outs { given.old.outs.items ≡ replicate (number_of is_statement (forms_in index.now)) false }
     requires block { IsBlock (forms_in index.now) }
     ensures value { result ≡ first_in (entry_faults (forms_in index.now) [] (take sound index.now)) }
-    ensures given { result ≡ None → IsGiven (forms_in index.now) (forms_in (take sound index.now)) given.new.inits.items given.new.outs.items }
+    ensures given { result ≡ None → IsGiven (forms_in index.now) (forms_in (take sound index.now)) given.new.inits given.new.outs.items }
 {
     let mut counts = Counts::NONE;
     for entry in &index.lines()[..sound] {
-        if let Some(kind) = line_fault(index, counts, given, entry.form) {
+        if let Some(kind) = line_fault(index, counts, given, &entry.form) {
             return Some(LoopFault {
                 line: entry.line,
                 kind,

@@ -2,7 +2,7 @@
 
 ghost use Rattle.std.specs.Prelude.{◌≡◌, if◌then◌else◌, is_some, option_map};
 ghost use Rattle.loops.specs.Forms.{Malformed, array_line, compute_line, end_line, form_of, init_line, ints_of, is_memory, line_form, load_line, loop_line, out_line, param_line, store_line, value_line};
-ghost use Rattle.loops.specs.Parsed.{form_seen, source_form};
+ghost use Rattle.loops.specs.Parsed.{form_seen};
 ghost use Rattle.loops.specs.Words.{pieces_of, words_of};
 
 use crate::name::is_name;
@@ -71,32 +71,27 @@ fn form_from<'a>(word: &'a [u8], rest: &'a [u8]) -> Form<'a>
     ensures { form_seen result ≡ form_of word.now (pieces_of rest.now) }
 {
     if is_text(word, "loop") {
-        loop_line(rest)
-    } else if is_text(word, "array") {
-        array_line(rest)
-    } else if is_text(word, "param") {
-        param_line(rest)
-    } else if is_text(word, "init") {
-        init_line(rest)
-    } else if is_text(word, "store") {
-        statement_line(store_source(rest))
-    } else if is_text(word, "out") {
-        out_line(rest)
-    } else if is_text(word, "end") {
-        end_line(rest)
-    } else {
-        statement_line(value_source(word, rest))
+        return loop_line(rest);
     }
-}
-
-/// The line of a statement, if it is one.
-fn statement_line(source: Option<Source<'_>>) -> Form<'_>
-    ensures { form_seen result ≡ source_form source.entry }
-{
-    match source {
-        Some(source) => Form::Statement(source),
-        None => Form::Malformed,
+    if is_text(word, "array") {
+        return array_line(rest);
     }
+    if is_text(word, "param") {
+        return param_line(rest);
+    }
+    if is_text(word, "init") {
+        return init_line(rest);
+    }
+    if is_text(word, "store") {
+        return store_line(rest);
+    }
+    if is_text(word, "out") {
+        return out_line(rest);
+    }
+    if is_text(word, "end") {
+        return end_line(rest);
+    }
+    value_line(word, rest)
 }
 
 /// `loop NAME`
@@ -197,15 +192,25 @@ fn init_line(rest: &[u8]) -> Form<'_>
 
 /// `store NAME[SUB] USE`, and `store NAME[SUB] USE if USE`
 #[tactic(auto, using(crate::proofs::Stores::no_guard, crate::proofs::Stores::no_uses, crate::proofs::Stores::last_nothing, crate::proofs::Stores::store_by_parts))]
-fn store_source(rest: &[u8]) -> Option<Source<'_>>
-    ensures { source_form result ≡ store_line (pieces_of rest.now) }
+fn store_line(rest: &[u8]) -> Form<'_>
+    ensures { form_seen result ≡ store_line (pieces_of rest.now) }
 {
-    let (place, rest) = next_word(rest)?;
-    let (value, rest) = next_word(rest)?;
-    let place = place_of(place)?;
-    let value = use_of(value)?;
-    let guard = guard_of(rest)?;
-    Some(Source {
+    let Some((place, rest)) = next_word(rest) else {
+        return Form::Malformed;
+    };
+    let Some((value, rest)) = next_word(rest) else {
+        return Form::Malformed;
+    };
+    let Some(place) = place_of(place) else {
+        return Form::Malformed;
+    };
+    let Some(value) = use_of(value) else {
+        return Form::Malformed;
+    };
+    let Some(guard) = guard_of(rest) else {
+        return Form::Malformed;
+    };
+    Form::Statement(Source {
         opcode: Opcode::Store,
         name: None,
         place: Some(place),
@@ -218,26 +223,36 @@ fn store_source(rest: &[u8]) -> Option<Source<'_>>
 }
 
 /// A statement that gives a value.
-fn value_source<'a>(name: &'a [u8], rest: &'a [u8]) -> Option<Source<'a>>
-    ensures { source_form result ≡ value_line name.now (pieces_of rest.now) }
+fn value_line<'a>(name: &'a [u8], rest: &'a [u8]) -> Form<'a>
+    ensures { form_seen result ≡ value_line name.now (pieces_of rest.now) }
 {
-    let (equals, rest) = next_word(rest)?;
-    let (opcode, rest) = next_word(rest)?;
+    let Some((equals, rest)) = next_word(rest) else {
+        return Form::Malformed;
+    };
+    let Some((opcode, rest)) = next_word(rest) else {
+        return Form::Malformed;
+    };
     if !is_name(name) || !is_text(equals, "=") {
-        return None;
+        return Form::Malformed;
     }
-    match Opcode::named(opcode)? {
-        Opcode::Load => load_source(name, rest),
-        opcode => compute_source(name, opcode, rest),
+    match Opcode::named(opcode) {
+        None => Form::Malformed,
+        Some(Opcode::Load) => load_line(name, rest),
+        Some(opcode) => compute_line(name, opcode, rest),
     }
 }
 
 /// `NAME = load NAME[SUB]`
-fn load_source<'a>(name: &'a [u8], rest: &'a [u8]) -> Option<Source<'a>>
-    ensures { source_form result ≡ load_line name.now (pieces_of rest.now) }
+fn load_line<'a>(name: &'a [u8], rest: &'a [u8]) -> Form<'a>
+    ensures { form_seen result ≡ load_line name.now (pieces_of rest.now) }
 {
-    let place = place_of(one_word(rest)?)?;
-    Some(Source {
+    let Some(place) = one_word(rest) else {
+        return Form::Malformed;
+    };
+    let Some(place) = place_of(place) else {
+        return Form::Malformed;
+    };
+    Form::Statement(Source {
         opcode: Opcode::Load,
         name: Some(name),
         place: Some(place),
@@ -250,14 +265,16 @@ fn load_source<'a>(name: &'a [u8], rest: &'a [u8]) -> Option<Source<'a>>
 }
 
 /// `NAME = OP USE ..`, with as many uses as the opcode takes
-fn compute_source<'a>(name: &'a [u8], opcode: Opcode, rest: &'a [u8]) -> Option<Source<'a>>
-    ensures { source_form result ≡ (if is_memory opcode then Malformed else compute_line name.now opcode (pieces_of rest.now)) }
+fn compute_line<'a>(name: &'a [u8], opcode: Opcode, rest: &'a [u8]) -> Form<'a>
+    ensures { form_seen result ≡ (if is_memory opcode then Malformed else compute_line name.now opcode (pieces_of rest.now)) }
 {
-    let uses = uses_of(opcode, rest)?;
-    Some(Source {
-        opcode,
-        name: Some(name),
-        place: None,
-        uses,
-    })
+    match uses_of(opcode, rest) {
+        None => Form::Malformed,
+        Some(uses) => Form::Statement(Source {
+            opcode,
+            name: Some(name),
+            place: None,
+            uses,
+        }),
+    }
 }

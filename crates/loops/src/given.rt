@@ -1,24 +1,106 @@
 //! What the lines of a block give to its values.
 
-ghost use Rattle.std.specs.Prelude.{◌≡◌, ◌*◌, ◌+◌, ◌-◌, ◌<◌, ◌≤◌, ◌^◌, OnOk, None, Some, Bool, false, is_some, length, replicate, slice_set};
+ghost use Rattle.std.specs.Prelude.{◌≡◌, ◌*◌, ◌+◌, ◌-◌, ◌<◌, ◌≤◌, ◌^◌, OnOk, None, Some, Bool, false, is_some, length, replicate, slice_index_or, slice_set};
 ghost use Rattle.loops.specs.Checks.{covers, slot};
 
 use std::alloc::{AllocError, Global};
+use std::marker::Model;
 
 /// How many initial values a value may have.
 pub(crate) const MOST: usize = 16;
 
+/// So many flags, and none of them set.
+fn unmark(flags: &mut Vec<bool>, count: usize) -> Result<(), AllocError>
+    ensures items { OnOk result (flags.new.items ≡ replicate count false) }
+    ensures most { length flags.new.items ≤ count }
+{
+    flags.clear();
+    flags.resize(count, false)
+}
+
+/// Initial values in rows of 16 places, of which few are given. Contracts see the list of all places.
+#[derive(Drop)]
+pub(crate) struct Table {
+    taken: Vec<bool>,
+    /// At least as many. A place that is not taken still holds what an earlier block left there.
+    values: Vec<i64>,
+}
+
+impl Model for Table {
+    ghost use Rattle.std.specs.Prelude.{◌≤◌, ℤ, List, Option, length};
+    ghost use Rattle.loops.specs.Checks.{values_taken};
+
+    ghost Value = { List (Option ℤ) };
+
+    ghost view = { λ t. values_taken t.taken.items t.values.items };
+
+    ghost invariant = { λ t. length t.taken.items ≤ length t.values.items };
+}
+
+impl Table {
+    fn new(alloc: Global) -> Table {
+        Table {
+            taken: Vec::new(alloc),
+            values: Vec::new(alloc),
+        }
+    }
+
+    /// So many places, and no value at any of them.
+    #[tactic(auto, using(crate::proofs::Taken::none_taken))]
+    fn reset(&mut self, places: usize) -> Result<(), AllocError>
+        ensures { OnOk result (self.new ≡ replicate places None) }
+    {
+        self.taken.clear();
+        let room = self.values.len().max(places);
+        self.values.resize(room, 0)?;
+        unmark(&mut self.taken, places)?;
+        Ok(())
+    }
+
+    /// A value is given at this place of a row.
+    #[tactic(auto, using(crate::proofs::Taken::length_taken, crate::proofs::Taken::some_taken))]
+    pub(crate) fn has(&self, row: usize, place: usize) -> bool
+        requires { 16 * row + place < length self.now }
+        ensures { result ≡ is_some (slot self.now row place) }
+    {
+        self.taken[MOST * row + place]
+    }
+
+    /// The value at this place of a row, if one is given.
+    #[tactic(auto, using(crate::proofs::Taken::length_taken))]
+    pub(crate) fn at(&self, row: usize, place: usize) -> Option<i64>
+        requires { 16 * row + place < length self.now }
+        ensures { result ≡ slot self.now row place }
+    {
+        if self.taken[MOST * row + place] {
+            Some(self.values[MOST * row + place])
+        } else {
+            None
+        }
+    }
+
+    /// Gives a value at this place of a row.
+    #[tactic(auto, using(crate::proofs::Taken::length_taken, crate::proofs::Taken::set_taken))]
+    pub(crate) fn put(&mut self, row: usize, place: usize, value: i64)
+        requires { 16 * row + place < length self.old }
+        ensures { self.new ≡ slice_set self.old (16 * row + place) (Some value) }
+    {
+        self.taken[MOST * row + place] = true;
+        self.values[MOST * row + place] = value;
+    }
+}
+
 /// The initial values of each statement's value, by number, and whether it has an `out`.
 #[derive(Drop)]
 pub(crate) struct Given {
-    pub(crate) inits: Vec<Option<i64>>,
+    pub(crate) inits: Table,
     pub(crate) outs: Vec<bool>,
 }
 
 impl Given {
     pub(crate) fn new(alloc: Global) -> Given {
         Given {
-            inits: Vec::new(alloc),
+            inits: Table::new(alloc),
             outs: Vec::new(alloc),
         }
     }
@@ -26,25 +108,21 @@ impl Given {
     /// Nothing is given to any of these values.
     pub(crate) fn reset(&mut self, values: usize) -> Result<(), AllocError>
         requires { values < 2 ^ 40 }
-        ensures inits { OnOk result (self.new.inits.items ≡ replicate (16 * values) None) }
+        ensures inits { OnOk result (self.new.inits ≡ replicate (16 * values) None) }
         ensures outs { OnOk result (self.new.outs.items ≡ replicate values false) }
     {
-        self.inits.clear();
-        self.inits.resize(MOST * values, None)?;
-        self.outs.clear();
-        self.outs.resize(values, false)?;
-        Ok(())
+        self.inits.reset(MOST * values)?;
+        unmark(&mut self.outs, values)
     }
 
     /// All initial values from 1 to a distance were given.
     pub(crate) fn covers(&self, value: usize, distance: u8) -> bool
-        requires below { 16 * value + 16 ≤ length self.now.inits.items }
+        requires below { 16 * value + 16 ≤ length self.now.inits }
         requires near { distance ≤ 16 }
-        ensures { result ≡ covers self.now.inits.items value distance }
+        ensures { result ≡ covers self.now.inits value distance }
     {
-        let first = MOST * value;
         for m in 0..distance as usize {
-            if self.inits[first + m].is_none() {
+            if !self.inits.has(value, m) {
                 return false;
             }
         }

@@ -14,11 +14,11 @@ use crate::entry::Entry;
 use crate::fault::{LoopFault, LoopFaultKind};
 use crate::form::{Form, form_of};
 use crate::given::Given;
-use crate::index::{Counts, Index};
+use crate::index::{Declared, Index, index_names};
 use crate::innermost::Loop;
 use crate::words::next_line;
 use std::alloc::{AllocError, Global};
-use std::collections::BTreeSet;
+use std::collections::{BTreeSet, HashMap};
 
 const MOST_BYTES: usize = 1_048_576;
 
@@ -28,6 +28,7 @@ const MOST_LOOPS: usize = 1024;
 #[derive(Drop)]
 struct Room<'a> {
     lines: Vec<Entry<'a>>,
+    names: HashMap<&'a [u8], Declared>,
     given: Given,
 }
 
@@ -53,8 +54,8 @@ fn read_block<'a>(
     ensures { AnswersBlock name.now number text.now result }
 {
     let (sound, stop) = collect_block(&mut room.lines, text, number)?;
-    let index = Index::new(alloc, room.lines.as_slice())?;
-    let counts = index.counts();
+    let counts = index_names(&mut room.names, room.lines.as_slice())?;
+    let index = Index::new(&room.names, room.lines.as_slice());
     room.given.reset(counts.statements)?;
     if let Some(fault) = first_fault(&index, sound, &mut room.given) {
         return Err(fault);
@@ -70,7 +71,7 @@ fn read_block<'a>(
         }),
         Stop::End(line, rest) => (line, rest),
     };
-    if let Some(kind) = line_fault(&index, counts, &room.given, Form::End) {
+    if let Some(kind) = line_fault(&index, counts, &room.given, &Form::End) {
         return Err(LoopFault { line, kind });
     }
     let found = build(alloc, name, &index, &room.given)?;
@@ -116,6 +117,7 @@ pub fn read_loops(alloc: Global, text: &[u8]) -> Result<Vec<Loop>, LoopFault>
     let mut names = BTreeSet::new(alloc);
     let mut room = Room {
         lines: Vec::new(alloc),
+        names: HashMap::new(alloc),
         given: Given::new(alloc),
     };
     let mut rest = text;

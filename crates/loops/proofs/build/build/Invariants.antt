@@ -14,6 +14,6 @@ invariant-loop-line l =
       arrays : l.parts.arrays.items ≡ filter_map array_in done;
       params : l.parts.params.items ≡ filter_map param_in done;
       statements : l.parts.statements.items ≡ map (statement_of block) (filter_map source_in done);
-      inits : l.parts.inits.items ≡ rows_of l.given.inits.items 0 (filter_map source_in done);
+      inits : l.parts.inits.items ≡ rows_of l.given.inits 0 (filter_map source_in done);
       outs : l.parts.outs.items ≡ filter_map (out_in block) done;
     }

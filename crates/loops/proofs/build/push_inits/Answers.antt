@@ -1,6 +1,7 @@
-use Rattle.std.proofs.Common.{◌≡◌, ◌∙◌, ◌+◌, ◌*◌, ◌++◌, ◌∷◌, [], None, Some, sym, ap, arith, append_assoc, List, ℤ, w64, to_z, of_z}
+use Rattle.std.proofs.Common.{◌≡◌, ◌∙◌, ◌+◌, ◌*◌, ◌++◌, ◌∷◌, [], None, Some, option_map, sym, ap, arith, append_assoc, List, ℤ, w64, to_z, of_z}
 use Rattle.std.proofs.lemmas.Int.{ints, to_z-of_z}
-use Rattle.std.proofs.lemmas.List.{get_or_read, append-nil}
+use Rattle.std.specs.Prelude.{option_to_list}
+use Rattle.std.proofs.lemmas.List.{append-nil}
 use Rattle.loops.specs.Building.{row_of}
 use Rattle.loops.specs.declared.lists.Initial.{Initial}
 use Rattle.loops.proofs.Rows.{row-more}
@@ -9,11 +10,10 @@ use Rattle.loops.proofs.build.push_inits.Goals.{in-Some+in_ok-push, in_default}
 
 pub loop-m-preserved : goal.loop-m-preserved
 loop-m-preserved c =
-    let inits = c.args.given.now.inits.items in
-    let at = 16 * c.args.statement + c.loop-m.m in
-    let read = sym (get_or_read inits at _ (omega arith) c.index.ensures None) in
+    let inits = c.args.given.now.inits in
+    let read = sym c.at.ensures in
     let row = row_of inits c.args.statement c.loop-m.m in
-    elim c.match-index.branch [
+    elim c.match-at.branch [
       | in-Some+in_ok-push w ↦
           let one : ℤ → Initial = λ v. record { statement = c.args.statement; number = c.loop-m.m + 1; value = v } in
           let fits : to_z w64 (of_z w64 w.in-Some.value) ≡ w.in-Some.value = grind (arith, ints, to_z-of_z) in

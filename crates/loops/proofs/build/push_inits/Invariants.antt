@@ -3,4 +3,4 @@ use Rattle.loops.specs.Building.{row_of}
 use Rattle.loops.proofs.build.push_inits.Given as goal
 
 abbrev pub invariant-loop-m : goal.invariant-loop-m
-invariant-loop-m l = l.inits.items ≡ l.fn.inits.items ++ row_of l.given.inits.items l.statement l.m
+invariant-loop-m l = l.inits.items ≡ l.fn.inits.items ++ row_of l.given.inits l.statement l.m

@@ -17,7 +17,7 @@ pub loop-entry-init : goal.loop-entry-init
 loop-entry-init c = record {
   items = ap (take c.args.sound) c.lines.ensures;
   faults = refl;
-  given = given-none (forms_in c.args.index.now) c.args.given.now.inits.items c.args.given.now.outs.items c.requires.inits c.requires.outs;
+  given = given-none (forms_in c.args.index.now) c.args.given.now.inits c.args.given.now.outs.items c.requires.inits c.requires.outs;
   arrays = refl;
   params = refl;
   statements = refl;
@@ -36,7 +36,7 @@ unfolding none
 returns-in-Some-clause-value c =
     let v = c.loop-entry.invariant in
     let lines = take c.args.sound c.lines.result.now in
-    let same = line-fault c.args.index.now lines c.args.sound c.loop-entry.entry-index none c.loop-entry.counts c.loop-entry.given.inits.items c.loop-entry.given.outs.items
+    let same = line-fault c.args.index.now lines c.args.sound c.loop-entry.entry-index none c.loop-entry.counts c.loop-entry.given.inits c.loop-entry.given.outs.items
     v.items c.loop-entry-test.true c.requires.block v.arrays v.params v.statements v.given in
     sym (turn-faulty (forms_in c.args.index.now) (forms_in (take c.loop-entry.entry-index lines)) lines c.loop-entry.entry-index none _ c.in-Some.kind c.loop-entry-test.true same (sym c.in-Some.is ∙ c.line_fault.ensures))
     ∙ sym (sym (ap (λ ls. first_in (entry_faults (forms_in c.args.index.now) [] ls)) v.items) ∙ v.faults)
@@ -48,7 +48,7 @@ loop-entry-preserved c =
     let i = c.loop-entry.entry-index in
     let lines = take c.args.sound c.lines.result.now in
     let block = forms_in c.args.index.now in
-    let same = line-fault c.args.index.now lines c.args.sound i none c.loop-entry.counts c.loop-entry.given.inits.items c.loop-entry.given.outs.items
+    let same = line-fault c.args.index.now lines c.args.sound i none c.loop-entry.counts c.loop-entry.given.inits c.loop-entry.given.outs.items
     v.items c.loop-entry-test.true c.requires.block v.arrays v.params v.statements v.given in
     let near = line-near c.args.index.now lines c.args.sound i none v.items c.loop-entry-test.true c.requires.block in
     let clean = sym c.in_default.is ∙ c.line_fault.ensures in
@@ -57,7 +57,7 @@ loop-entry-preserved c =
       items = v.items;
       faults = v.faults ∙ turn-good block lines i none _ c.loop-entry-test.true same clean;
       given = same-given block (forms_in (take (i + 1) lines)) _ _ _ _ c.give.ensures.inits c.give.ensures.outs
-          (turn-given block lines i none _ c.loop-entry.given.inits.items c.loop-entry.given.outs.items c.loop-entry-test.true same clean near v.given);
+          (turn-given block lines i none _ c.loop-entry.given.inits c.loop-entry.given.outs.items c.loop-entry-test.true same clean near v.given);
       arrays = number_of-more is_array lines i none _ _ c.loop-entry-test.true v.arrays h.arrays;
       params = number_of-more is_param lines i none _ _ c.loop-entry-test.true v.params h.params;
       statements = number_of-more is_statement lines i none _ _ c.loop-entry-test.true v.statements h.statements;

@@ -11,7 +11,7 @@ invariant-loop-entry l =
     record {
       items : l.entry-items ≡ take l.sound l.index;
       faults : first_in (entry_faults block [] l.entry-items) ≡ first_in (entry_faults block before (drop l.entry-index l.entry-items));
-      given : IsGiven block before l.given.inits.items l.given.outs.items;
+      given : IsGiven block before l.given.inits l.given.outs.items;
       arrays : l.counts.arrays ≡ number_of is_array before;
       params : l.counts.params ≡ number_of is_param before;
       statements : l.counts.statements ≡ number_of is_statement before;

@@ -1,10 +1,10 @@
-use Rattle.std.proofs.Common.{◌≡◌, ◌∙◌, ◌+◌, ◌++◌, ◌∷◌, [], List, Some, None, sym, ap, subst, arith, length, take}
+use Rattle.std.proofs.Common.{◌≡◌, ◌∙◌, ◌+◌, ◌<◌, ◌≤◌, ◌==◌, ◌++◌, ◌∷◌, [], ℕ, List, Option, Some, None, refl, sym, ap, subst, arith, rules, length, take, true, map}
 use Rattle.std.proofs.lemmas.List.Sums.{count_by-le-length}
 use Rattle.std.proofs.lemmas.List.{length-map}
 use Rattle.loops.specs.Forms.{EndLine}
 use Rattle.loops.specs.declared.entry.Entry.{Entry}
-use Rattle.loops.specs.declared.fault.LoopFaultKind.TheVariants.{Syntax}
-use Rattle.loops.specs.Meaning.{forms_of, faults_of, at_line, is_statement, whole, outside_faults, blocks_of, loop_of}
+use Rattle.loops.specs.declared.fault.LoopFaultKind.TheVariants.{Syntax, NoEnd, Limit}
+use Rattle.loops.specs.Meaning.{number_of, forms_of, faults_of, at_line, is_statement, when, has_statement, whole, inside_faults, outside_faults, blocks_of, loop_of}
 use Rattle.loops.specs.Parsed.{form_seen}
 use Rattle.loops.specs.Blocks.{forms_in, entry_faults, StopsBlock, IsBehind, IsPast}
 use Rattle.loops.specs.declared.fault.LoopFault.{LoopFault}
@@ -15,39 +15,41 @@ use Rattle.loops.proofs.read.read_block.Goals as goal
 
 pub reset-requires : goal.reset-requires
 reset-requires c =
-    let same : c.in_ok-index.index ≡ c.collect_block.new.lines.items = c.in_ok-index.ensures ∙ c.as_slice.ensures.value in
-    let all = count_by-le-length is_statement (forms_in c.in_ok-index.index) in
-    let l : length (forms_in c.in_ok-index.index) ≡ length c.collect_block.new.lines.items = length-map c.in_ok-index.index (λ (e : Entry). form_seen e.form) ∙ ap length same in
-    omega (arith, all, l, c.in_ok-sound.ensures.few, c.counts-counts.ensures.statements)
+    let same : c.new-index.result ≡ c.collect_block.new.lines.items = c.new-index.ensures ∙ c.as_slice-2.ensures.value in
+    let counted : c.in_ok-counts.counts.statements ≡ number_of is_statement (forms_in c.new-index.result) = c.in_ok-counts.ensures.counts.statements ∙ ap (λ ls. number_of is_statement (forms_in ls)) (c.as_slice.ensures.value ∙ sym same) in
+    let all = count_by-le-length is_statement (forms_in c.new-index.result) in
+    let l : length (forms_in c.new-index.result) ≡ length c.collect_block.new.lines.items = length-map c.new-index.result (λ (e : Entry). form_seen e.form) ∙ ap length same in
+    omega (arith, all, l, c.in_ok-sound.ensures.few, counted)
 
 pub returns-in-Some : goal.returns-in-Some
 returns-in-Some c =
-    let same : c.in_ok-index.index ≡ c.collect_block.new.lines.items = c.in_ok-index.ensures ∙ c.as_slice.ensures.value in
-    let first : Some c.in-Some.fault ≡ first_in (entry_faults (forms_in c.in_ok-index.index) [] (take c.in_ok-sound.sound c.in_ok-index.index)) = c.in-Some.ensures.value in
+    let same : c.new-index.result ≡ c.collect_block.new.lines.items = c.new-index.ensures ∙ c.as_slice-2.ensures.value in
+    let first : Some c.in-Some.fault ≡ first_in (entry_faults (forms_in c.new-index.result) [] (take c.in_ok-sound.sound c.new-index.result)) = c.in-Some.ensures.value in
     let stops = subst (λ ls. StopsBlock c.args.number (forms_of c.args.text.now) ls c.in_ok-sound.sound c.in_ok-sound.stop) (sym same) c.in_ok-sound.ensures.stops in
     unless c.in-Some.fault.kind c.in-Some.fault _
-    (entry-kind (forms_in c.in_ok-index.index) [] (take c.in_ok-sound.sound c.in_ok-index.index) c.in-Some.fault first)
+    (entry-kind (forms_in c.new-index.result) [] (take c.in_ok-sound.sound c.new-index.result) c.in-Some.fault first)
     (λ names.
-    let front = stop-front c.args.number (forms_of c.args.text.now) c.in_ok-index.index c.in_ok-sound.sound c.in_ok-sound.stop stops names in
+    let front = stop-front c.args.number (forms_of c.args.text.now) c.new-index.result c.in_ok-sound.sound c.in_ok-sound.stop stops names in
     first-front _ _ front.0 c.in-Some.fault front.1 first)
 
 pub returns-in-Unfit : goal.returns-in-Unfit
 returns-in-Unfit c = λ names.
-    let same : c.in_ok-index.index ≡ c.collect_block.new.lines.items = c.in_ok-index.ensures ∙ c.as_slice.ensures.value in
-    let clean : None ≡ first_in (entry_faults (forms_in c.in_ok-index.index) [] (take c.in_ok-sound.sound c.in_ok-index.index)) = c.in_default.ensures.value in
+    let same : c.new-index.result ≡ c.collect_block.new.lines.items = c.new-index.ensures ∙ c.as_slice-2.ensures.value in
+    let clean : None ≡ first_in (entry_faults (forms_in c.new-index.result) [] (take c.in_ok-sound.sound c.new-index.result)) = c.in_default.ensures.value in
     let h = subst (λ ls. StopsBlock c.args.number (forms_of c.args.text.now) ls c.in_ok-sound.sound c.in_ok-sound.stop) (sym same) c.in_ok-sound.ensures.stops in
-    let at = subst (StopsBlock c.args.number (forms_of c.args.text.now) c.in_ok-index.index c.in_ok-sound.sound) c.in-Unfit.is h in
+    let at = subst (StopsBlock c.args.number (forms_of c.args.text.now) c.new-index.result c.in_ok-sound.sound) c.in-Unfit.is h in
     let others : List LoopFault = (at names).0 in
     ap first_in (after-front _ _ (record { line = c.in-Unfit.line; kind = Syntax } ∷ others) (at names).1 clean)
 
 pub returns-in-Some-line_fault : goal.returns-in-Some-line_fault
 returns-in-Some-line_fault c =
-    let block = forms_in c.in_ok-index.index in
-    let same : c.in_ok-index.index ≡ c.collect_block.new.lines.items = c.in_ok-index.ensures ∙ c.as_slice.ensures.value in
-    let clean : None ≡ first_in (entry_faults block [] (take c.in_ok-sound.sound c.in_ok-index.index)) = c.in_default.ensures.value in
+    let block = forms_in c.new-index.result in
+    let same : c.new-index.result ≡ c.collect_block.new.lines.items = c.new-index.ensures ∙ c.as_slice-2.ensures.value in
+    let counted : c.in_ok-counts.counts.statements ≡ number_of is_statement (forms_in c.new-index.result) = c.in_ok-counts.ensures.counts.statements ∙ ap (λ ls. number_of is_statement (forms_in ls)) (c.as_slice.ensures.value ∙ sym same) in
+    let clean : None ≡ first_in (entry_faults block [] (take c.in_ok-sound.sound c.new-index.result)) = c.in_default.ensures.value in
     let h = subst (λ ls. StopsBlock c.args.number (forms_of c.args.text.now) ls c.in_ok-sound.sound c.in_ok-sound.stop) (sym same) c.in_ok-sound.ensures.stops in
-    let at = subst (StopsBlock c.args.number (forms_of c.args.text.now) c.in_ok-index.index c.in_ok-sound.sound) c.in-End.is h in
-    let first : Some c.in-Some-line_fault.kind ≡ first_in (faults_of block block EndLine) = c.in-Some-line_fault.ensures ∙ ap first_in (end-kinds block c.counts-counts.result.statements c.counts-counts.ensures.statements) in
+    let at = subst (StopsBlock c.args.number (forms_of c.args.text.now) c.new-index.result c.in_ok-sound.sound) c.in-End.is h in
+    let first : Some c.in-Some-line_fault.kind ≡ first_in (faults_of block block EndLine) = c.in-Some-line_fault.ensures ∙ ap first_in (end-kinds block c.in_ok-counts.counts.statements counted) in
     unless c.in-Some-line_fault.kind _ _ (end-kind block c.in-Some-line_fault.kind first)
     (λ names.
     let after = outside_faults (c.in-End.line + 1) names (forms_of c.in-End.rest.now) in
@@ -55,16 +57,20 @@ returns-in-Some-line_fault c =
     ∙ first-end c.in-End.line (faults_of block block EndLine) c.in-Some-line_fault.kind after first)
 
 pub build-requires-clause-some : goal.build-requires-clause-some
-build-requires-clause-some c = statement-there (forms_in c.in_ok-index.index) c.counts-counts.result.statements c.counts-counts.ensures.statements c.in_default-line_fault.ensures
+build-requires-clause-some c =
+    let same : c.new-index.result ≡ c.collect_block.new.lines.items = c.new-index.ensures ∙ c.as_slice-2.ensures.value in
+    let counted : c.in_ok-counts.counts.statements ≡ number_of is_statement (forms_in c.new-index.result) = c.in_ok-counts.ensures.counts.statements ∙ ap (λ ls. number_of is_statement (forms_in ls)) (c.as_slice.ensures.value ∙ sym same) in
+    statement-there (forms_in c.new-index.result) c.in_ok-counts.counts.statements counted c.in_default-line_fault.ensures
 
 pub returns : goal.returns
 returns c =
-    let block = forms_in c.in_ok-index.index in
-    let same : c.in_ok-index.index ≡ c.collect_block.new.lines.items = c.in_ok-index.ensures ∙ c.as_slice.ensures.value in
-    let clean : None ≡ first_in (entry_faults block [] (take c.in_ok-sound.sound c.in_ok-index.index)) = c.in_default.ensures.value in
+    let block = forms_in c.new-index.result in
+    let same : c.new-index.result ≡ c.collect_block.new.lines.items = c.new-index.ensures ∙ c.as_slice-2.ensures.value in
+    let counted : c.in_ok-counts.counts.statements ≡ number_of is_statement (forms_in c.new-index.result) = c.in_ok-counts.ensures.counts.statements ∙ ap (λ ls. number_of is_statement (forms_in ls)) (c.as_slice.ensures.value ∙ sym same) in
+    let clean : None ≡ first_in (entry_faults block [] (take c.in_ok-sound.sound c.new-index.result)) = c.in_default.ensures.value in
     let h = subst (λ ls. StopsBlock c.args.number (forms_of c.args.text.now) ls c.in_ok-sound.sound c.in_ok-sound.stop) (sym same) c.in_ok-sound.ensures.stops in
-    let at = subst (StopsBlock c.args.number (forms_of c.args.text.now) c.in_ok-index.index c.in_ok-sound.sound) c.in-End.is h in
-    let good = no-end-kinds (faults_of block block EndLine) (c.in_default-line_fault.ensures ∙ ap first_in (end-kinds block c.counts-counts.result.statements c.counts-counts.ensures.statements)) in
+    let at = subst (StopsBlock c.args.number (forms_of c.args.text.now) c.new-index.result c.in_ok-sound.sound) c.in-End.is h in
+    let good = no-end-kinds (faults_of block block EndLine) (c.in_default-line_fault.ensures ∙ ap first_in (end-kinds block c.in_ok-counts.counts.statements counted)) in
     let behind = subst (IsBehind (c.args.number + length c.args.text.now)) c.in-End.is c.in_ok-sound.ensures.behind in
     let all : block ≡ whole [] (forms_of c.args.text.now) = ap forms_in same ∙ c.in_ok-sound.ensures.whole in
     record {

@@ -3,4 +3,4 @@ use Rattle.loops.specs.Checks.{covers}
 use Rattle.loops.proofs.given.Given.covers.Given as goal
 
 abbrev pub invariant-loop-m : goal.invariant-loop-m
-invariant-loop-m l = covers l.self.inits.items l.value l.m ≡ true
+invariant-loop-m l = covers l.self.inits l.value l.m ≡ true

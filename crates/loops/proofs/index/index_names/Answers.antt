@@ -1,26 +1,26 @@
-use Rattle.std.proofs.Common.{ℕ, List, Option, refl, ap, sym, ◌∙◌, arith, option_map}
-use Rattle.std.specs.BTreeMap.{BTreeMap, get_by, is_at}
+use Rattle.std.proofs.Common.{◌≡◌, ◌+◌, ◌++◌, ◌∷◌, [], ℕ, List, Option, Some, None, refl, ap, sym, ◌∙◌, arith, take, get_or, length, option_map}
+use Rattle.std.specs.HashMap.{HashMap, get_by}
 use Rattle.std.specs.Map.{lookup}
 use Rattle.std.specs.Borrow.{Bor}
-use Rattle.std.specs.Cmp.Lexicographic.{slice_cmp}
-use Rattle.std.specs.Ordering.{nat_cmp}
+use Rattle.std.specs.Str.{bytes_eq}
 use Rattle.std.specs.Option.{option_or}
 use Rattle.machine.specs.Opcodes.{same_word}
 use Rattle.loops.specs.Meaning.{declared, is_array, is_param, is_statement}
-use Rattle.loops.specs.Blocks.{declared_seen, declared_if}
+use Rattle.loops.specs.Parsed.{form_seen}
+use Rattle.loops.specs.Blocks.{forms_in, declared_seen, declared_if, one_if}
 use Rattle.loops.specs.declared.index.Declared.{Declared}
 use Rattle.loops.proofs.Declared.{declared-more, number_of-more, one_if-le, seen_or, option_or-none}
-use Rattle.loops.proofs.index.Index.new.Goals as goal
-use Rattle.loops.proofs.index.Index.new.Goals.{in-Some+in_ok-add, in_default}
+use Rattle.loops.proofs.index.index_names.Goals as goal
+use Rattle.loops.proofs.index.index_names.Goals.{in-Some+in_ok-add, in_default}
 
 -- what a map has at a name
-abbrev at : BTreeMap (Bor (List ℕ)) Declared → List ℕ → Option Declared
-at m q = get_by (λ k. slice_cmp nat_cmp q k.now) m
+abbrev at : {S : Type 0} → HashMap (Bor (List ℕ)) Declared S → List ℕ → Option Declared
+at m q = get_by (λ k. bytes_eq q k.now) m
 
 pub loop-entry-init : goal.loop-entry-init
 unfolding declared
 loop-entry-init c = record {
-  names = λ q. ap (λ (es : List (Bor (List ℕ) × Declared)). option_map declared_seen (lookup (is_at (λ k. slice_cmp nat_cmp q k.now)) es)) c.new-names.ensures.empty;
+  names = λ q. ap (λ (es : List (Bor (List ℕ) × Declared)). option_map declared_seen (lookup (λ k. bytes_eq q k.now) es)) c.clear.ensures.empty;
   arrays = refl;
   params = refl;
   statements = refl;

@@ -1,0 +1,41 @@
+-- What a table of initial values holds.
+use Rattle.std.proofs.Common.{◌≡◌, ℕ, zero, suc, ℤ, ◌<◌, ◌≤◌, Bool, true, false, if◌then◌else◌, List, [], ◌∷◌, length, Option, Some, None, is_some, refl, sym, ◌∙◌, ap, arith, get_or, set, replicate}
+use Rattle.loops.specs.Checks.{values_taken}
+
+pub length_taken : (taken : List Bool) (values : List ℤ) → length taken ≤ length values → length (values_taken taken values) ≡ length taken
+length_taken [] values h = refl
+length_taken (t ∷ ts) [] h = absurd (omega arith)
+length_taken (t ∷ ts) (v ∷ vs) h = ap suc (length_taken ts vs (omega arith))
+
+-- the value at a place
+pub value_taken : (taken : List Bool) (values : List ℤ) (place : ℕ) (d : ℤ) → length taken ≤ length values
+    → get_or (values_taken taken values) place None ≡ (if get_or taken place false then Some (get_or values place d) else None)
+value_taken [] values place d h = refl
+value_taken (t ∷ ts) [] place d h = absurd (omega arith)
+value_taken (t ∷ ts) (v ∷ vs) zero d h = refl
+value_taken (t ∷ ts) (v ∷ vs) (suc n) d h = value_taken ts vs n d (omega arith)
+
+some-if : (b : Bool) (v : ℤ) → is_some (if b then Some v else None) ≡ b
+some-if true v = refl
+some-if false v = refl
+
+pub some_taken : (taken : List Bool) (values : List ℤ) (place : ℕ) → length taken ≤ length values
+    → is_some (get_or (values_taken taken values) place None) ≡ get_or taken place false
+some_taken [] values place h = refl
+some_taken (t ∷ ts) [] place h = absurd (omega arith)
+some_taken (t ∷ ts) (v ∷ vs) zero h = some-if t v
+some_taken (t ∷ ts) (v ∷ vs) (suc n) h = some_taken ts vs n (omega arith)
+
+-- one more value
+pub set_taken : (taken : List Bool) (values : List ℤ) (place : ℕ) (value : ℤ) → length taken ≤ length values
+    → values_taken (set taken place true) (set values place value) ≡ set (values_taken taken values) place (Some value)
+set_taken [] values place value h = refl
+set_taken (t ∷ ts) [] place value h = absurd (omega arith)
+set_taken (t ∷ ts) (v ∷ vs) zero value h = refl
+set_taken (t ∷ ts) (v ∷ vs) (suc n) value h = ap (λ xs. (if t then Some v else None) ∷ xs) (set_taken ts vs n value (omega arith))
+
+-- no value at any place
+pub none_taken : (n : ℕ) (values : List ℤ) → n ≤ length values → values_taken (replicate n false) values ≡ replicate n None
+none_taken zero values h = refl
+none_taken (suc n) [] h = absurd (omega arith)
+none_taken (suc n) (v ∷ vs) h = ap (λ xs. None ∷ xs) (none_taken n vs (omega arith))
