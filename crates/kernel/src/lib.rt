@@ -5,6 +5,7 @@ mod check;
 mod lists;
 mod operation;
 mod parts;
+mod rules;
 
 pub use check::{BadKernel, Rule};
 pub use lists::{ArrayNames, Operations, Outs, Params, Preloads, Sources};
