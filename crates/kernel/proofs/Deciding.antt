@@ -16,3 +16,7 @@ goes_on P xs i x within is all holds = All-more P xs i x within all (subst P is 
 -- it reaches the end
 pub ends : {X : Type 0} (P : X → Type 0) (xs : List X) (i : ℕ) → length xs ≤ i → All P (take i xs) → IsTrue true ↔ All P xs
 ends P xs i past all = (λ _. subst (All P) (take_all i xs past) all, λ _. refl)
+
+-- what holds of every element holds of one
+pub of_item : {X : Type 0} (P : X → Type 0) (xs : List X) (i : ℕ) (x : X) → i < length xs → x ≡ get_or xs i x → All P xs → P x
+of_item P xs i x within is all = subst P (sym is) (all i x within)

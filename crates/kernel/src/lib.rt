@@ -6,8 +6,10 @@ mod lists;
 mod operation;
 mod parts;
 mod rules;
+mod text;
 
 pub use check::{BadKernel, Rule};
 pub use lists::{ArrayNames, Operations, Outs, Params, Preloads, Sources};
 pub use operation::{Address, Operation, Source};
 pub use parts::{Kernel, Out, Parts, Preload};
+pub use text::kernel_text;
