@@ -6,6 +6,8 @@ mod lists;
 mod operation;
 mod parts;
 mod rules;
+#[cfg(test)]
+mod tests;
 mod text;
 
 pub use check::{BadKernel, Rule};
