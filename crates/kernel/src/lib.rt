@@ -1,0 +1,17 @@
+//! Software-pipelined kernels with rotating registers: their parts, the machine that runs them, and their text.
+#![tactic(auto)]
+
+mod check;
+mod lists;
+mod operation;
+mod parts;
+mod rules;
+#[cfg(test)]
+mod tests;
+mod text;
+
+pub use check::{BadKernel, Rule};
+pub use lists::{ArrayNames, Operations, Outs, Params, Preloads, Sources};
+pub use operation::{Address, Operation, Source};
+pub use parts::{Kernel, Out, Parts, Preload};
+pub use text::kernel_text;
