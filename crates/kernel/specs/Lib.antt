@@ -4,4 +4,6 @@ pub mod Check
 pub mod Kernels
 pub mod Overlapped
 pub mod Rules
+pub mod Stands
+pub mod Steps
 pub mod Text

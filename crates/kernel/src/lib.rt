@@ -2,9 +2,12 @@
 #![tactic(auto)]
 
 mod check;
+mod clock;
+mod flight;
 mod lists;
 mod operation;
 mod parts;
+mod step;
 
 pub use check::{BadKernel, Rule};
 pub use lists::{ArrayNames, Operations, Outs, Params, Preloads, Sources};
