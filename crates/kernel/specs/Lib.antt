@@ -3,6 +3,7 @@ pub use Rattle.machine.specs.Machines
 pub mod Check
 pub mod Kernels
 pub mod Overlapped
+pub mod Prepared
 pub mod Rules
 pub mod Stands
 pub mod Steps
