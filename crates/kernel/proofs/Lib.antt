@@ -1,3 +1,4 @@
+pub mod Issuing
 pub mod Landings
 pub mod Standing
 pub mod Turning
