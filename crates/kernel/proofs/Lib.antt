@@ -1,4 +1,6 @@
 pub mod Issuing
 pub mod Landings
+pub mod Launching
+pub mod Rows
 pub mod Standing
 pub mod Turning

@@ -4,6 +4,8 @@
 mod check;
 mod clock;
 mod flight;
+mod issue;
+mod land;
 mod lists;
 mod operation;
 mod parts;
