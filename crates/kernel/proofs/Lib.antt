@@ -1,3 +1,5 @@
+pub mod Cycles
+pub mod Filling
 pub mod Issuing
 pub mod Landings
 pub mod Launching

@@ -9,6 +9,7 @@ mod land;
 mod lists;
 mod operation;
 mod parts;
+mod prepare;
 mod step;
 
 pub use check::{BadKernel, Rule};
