@@ -10,6 +10,8 @@ mod lists;
 mod operation;
 mod parts;
 mod prepare;
+mod run;
+mod simulate;
 mod step;
 
 pub use check::{BadKernel, Rule};
