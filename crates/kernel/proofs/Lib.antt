@@ -1,4 +1,5 @@
 pub mod Cycles
+pub mod Ending
 pub mod Filling
 pub mod Issuing
 pub mod Landings

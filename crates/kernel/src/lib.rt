@@ -11,10 +11,11 @@ mod operation;
 mod parts;
 mod prepare;
 mod run;
-mod simulate;
+mod simulation;
 mod step;
 
 pub use check::{BadKernel, Rule};
 pub use lists::{ArrayNames, Operations, Outs, Params, Preloads, Sources};
 pub use operation::{Address, Operation, Source};
 pub use parts::{Kernel, Out, Parts, Preload};
+pub use simulation::simulate;
