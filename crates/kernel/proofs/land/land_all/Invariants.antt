@@ -1,5 +1,4 @@
 use Rattle.std.proofs.Common.{◌≡◌, length, take}
-use Rattle.loops.specs.Run.{MemoryData}
 use Rattle.kernel.specs.Steps.{registers_landed, arrays_landed}
 use Rattle.kernel.proofs.land.land_all.Given as goal
 
