@@ -1,5 +1,5 @@
 -- The rules of well-formed kernels one by one, and what the check answers.
-use Rattle.std.specs.Prelude.{◌≡◌, ℕ, ◌<◌, ◌≤◌, List, length, Result, Ok, Err}
+use Rattle.std.specs.Prelude.{◌≡◌, ℕ, ◌<◌, ◌≤◌, length, Result, Ok, Err}
 use Rattle.std.specs.List.{All}
 use Rattle.kernel.specs.declared.check.Rule.{Rule}
 use Rattle.kernel.specs.declared.check.Rule.TheVariants as rule

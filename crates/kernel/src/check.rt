@@ -1,6 +1,7 @@
 //! What makes a kernel well formed.
 
-use crate::parts::Parts;
+use crate::parts::{Kernel, Parts};
+use crate::rules::first_failing;
 use std::fmt;
 use thiserror::Error;
 
@@ -51,4 +52,19 @@ impl fmt::Display for Rule {
 pub struct BadKernel {
     pub rule: Rule,
     pub parts: Parts,
+}
+
+impl Kernel {
+    ghost use Rattle.kernel.specs.Rules.{Checks};
+
+    /// The kernel of these parts, where they keep every rule. Nothing is allocated. A refusal gives
+    /// the parts back and names the first rule that fails.
+    pub fn check(parts: Parts) -> Result<Kernel, BadKernel>
+        ensures exact { Checks parts result }
+    {
+        match first_failing(&parts) {
+            Some(rule) => Err(BadKernel { rule, parts }),
+            None => Ok(Kernel::new(parts)),
+        }
+    }
 }

@@ -10,12 +10,17 @@ mod lists;
 mod operation;
 mod parts;
 mod prepare;
+mod rules;
 mod run;
 mod simulation;
 mod step;
+#[cfg(test)]
+mod tests;
+mod text;
 
 pub use check::{BadKernel, Rule};
 pub use lists::{ArrayNames, Operations, Outs, Params, Preloads, Sources};
 pub use operation::{Address, Operation, Source};
 pub use parts::{Kernel, Out, Parts, Preload};
 pub use simulation::simulate;
+pub use text::kernel_text;

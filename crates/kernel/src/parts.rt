@@ -59,6 +59,14 @@ impl Model for Kernel {
 }
 
 impl Kernel {
+    /// The kernel of these parts.
+    pub(crate) fn new(parts: Parts) -> Kernel
+        requires { IsWellFormed parts }
+        ensures { result ≡ parts }
+    {
+        Kernel { parts }
+    }
+
     /// The kernel's parts.
     pub fn parts(&self) -> &Parts
         ensures value { result.now ≡ self.now }
