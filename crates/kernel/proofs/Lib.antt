@@ -1,5 +1,14 @@
+pub mod Cycles
 pub mod Deciding
+pub mod Ending
+pub mod Filling
 pub mod FirstRule
+pub mod Issuing
 pub mod Joining
+pub mod Landings
+pub mod Launching
 pub mod Preloading
+pub mod RowWrites
 pub mod Rows
+pub mod Standing
+pub mod Turning

@@ -3,5 +3,8 @@ pub use Rattle.machine.specs.Machines
 pub mod Check
 pub mod Kernels
 pub mod Overlapped
+pub mod Prepared
 pub mod Rules
+pub mod Stands
+pub mod Steps
 pub mod Text

@@ -2,10 +2,18 @@
 #![tactic(auto)]
 
 mod check;
+mod clock;
+mod flight;
+mod issue;
+mod land;
 mod lists;
 mod operation;
 mod parts;
+mod prepare;
 mod rules;
+mod run;
+mod simulation;
+mod step;
 #[cfg(test)]
 mod tests;
 mod text;
@@ -14,4 +22,5 @@ pub use check::{BadKernel, Rule};
 pub use lists::{ArrayNames, Operations, Outs, Params, Preloads, Sources};
 pub use operation::{Address, Operation, Source};
 pub use parts::{Kernel, Out, Parts, Preload};
+pub use simulation::simulate;
 pub use text::kernel_text;

@@ -1,0 +1,37 @@
+//! Writes in flight: they were issued and haven't landed.
+
+use std::marker::Model;
+
+/// What a write changes.
+#[derive(Clone, Copy)]
+pub(crate) enum Place {
+    /// This physical register.
+    Register(usize),
+    /// This cell of this array.
+    Cell(usize, i64),
+}
+
+/// A write in flight.
+#[derive(Clone, Copy)]
+pub(crate) struct Pending {
+    pub(crate) place: Place,
+    pub(crate) value: i64,
+}
+
+/// How many slots the writes in flight have: more than the longest latency, and a power of two.
+pub(crate) const SLOTS: usize = 128;
+
+/// The writes that land in one cycle, in the order of their issue. Contracts see the list.
+#[derive(Drop)]
+pub(crate) struct Slot {
+    pub(crate) writes: Vec<Pending>,
+}
+
+impl Model for Slot {
+    ghost use Rattle.std.specs.Prelude.{List};
+    ghost use Rattle.kernel.specs.declared.flight.Pending.{Pending};
+
+    ghost Value = { List Pending };
+
+    ghost view = { λ s. s.writes.items };
+}
