@@ -39,6 +39,13 @@ impl Sources {
     {
         self.list.as_slice()
     }
+
+    /// The sources, given back without taking memory.
+    pub fn into_list(self) -> SmallVec<Source, 3>
+        ensures { result.items ≡ self }
+    {
+        self.list
+    }
 }
 
 impl fmt::Debug for Sources {
@@ -75,6 +82,13 @@ impl Operations {
         ensures { result.now ≡ self.now }
     {
         self.list.as_slice()
+    }
+
+    /// The operations, given back without taking memory.
+    pub fn into_vec(self) -> Vec<Operation>
+        ensures { result.items ≡ self }
+    {
+        self.list
     }
 }
 
@@ -113,6 +127,13 @@ impl Params {
     {
         self.list.as_slice()
     }
+
+    /// The parameters, given back without taking memory.
+    pub fn into_vec(self) -> Vec<Param>
+        ensures { result.items ≡ self }
+    {
+        self.list
+    }
 }
 
 impl fmt::Debug for Params {
@@ -148,6 +169,13 @@ impl ArrayNames {
         ensures { result.now ≡ self.now }
     {
         self.list.as_slice()
+    }
+
+    /// The names, given back without taking memory.
+    pub fn into_vec(self) -> Vec<Name>
+        ensures { result.items ≡ self }
+    {
+        self.list
     }
 }
 
@@ -186,6 +214,13 @@ impl Preloads {
     {
         self.list.as_slice()
     }
+
+    /// The preloads, given back without taking memory.
+    pub fn into_vec(self) -> Vec<Preload>
+        ensures { result.items ≡ self }
+    {
+        self.list
+    }
 }
 
 impl fmt::Debug for Preloads {
@@ -222,6 +257,13 @@ impl Outs {
         ensures { result.now ≡ self.now }
     {
         self.list.as_slice()
+    }
+
+    /// The values, given back without taking memory.
+    pub fn into_vec(self) -> Vec<Out>
+        ensures { result.items ≡ self }
+    {
+        self.list
     }
 }
 

@@ -19,7 +19,7 @@ pub struct Preload {
 #[derive(Debug, Drop)]
 pub struct Out {
     pub name: Name,
-    /// The register's name in the last turn.
+    /// The register's name in turn `N + stages - 2` of a run of `N` iterations, which is the last one.
     pub register: u16,
 }
 
@@ -77,7 +77,8 @@ impl Kernel {
 
     /// The kernel's parts, to be used further.
     pub fn into_parts(self) -> Parts
-        ensures { result ≡ self }
+        ensures value { result ≡ self }
+        ensures well_formed { IsWellFormed self }
     {
         let Kernel { parts } = self;
         parts
