@@ -31,7 +31,7 @@ pub record IsRaised (edges : List EdgeData) (ii : ℕ) (numbers : List ℕ) (own
   pub no_shorter : All (λ (e : EdgeData). (pos (slice_index numbers e.to) +ℤ e.delay) ≤ℤ pos (raised + ii * e.distance)) edges
   pub attained : (raised ≡ own) ⊎ IsThrough edges ii numbers raised
 
--- some walk of so many edges is longer than each one from the same operation that has fewer
+-- some walk of at most so many edges is longer than each one of fewer from the same operation
 pub record IsUnsettled (graph : GraphData) (ii round : ℕ) : Type 0 where
   pub start : ℕ
   pub there : start < length graph.latencies
