@@ -8,6 +8,7 @@ pub mod Joining
 pub mod Landings
 pub mod Launching
 pub mod Preloading
+pub mod Promised
 pub mod RowWrites
 pub mod Rows
 pub mod Standing

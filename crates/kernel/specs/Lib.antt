@@ -4,6 +4,7 @@ pub mod Check
 pub mod Kernels
 pub mod Overlapped
 pub mod Prepared
+pub mod Promises
 pub mod Rules
 pub mod Stands
 pub mod Steps

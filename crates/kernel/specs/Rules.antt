@@ -1,5 +1,5 @@
 -- The rules of well-formed kernels one by one, and what the check answers.
-use Rattle.std.specs.Prelude.{◌≡◌, ℕ, ◌<◌, ◌≤◌, length, Result, Ok, Err}
+use Rattle.std.specs.Prelude.{◌≡◌, ℕ, codes, List, ◌<◌, ◌≤◌, length, Result, Ok, Err}
 use Rattle.std.specs.List.{All}
 use Rattle.kernel.specs.declared.check.Rule.{Rule}
 use Rattle.kernel.specs.declared.check.Rule.TheVariants as rule
@@ -32,6 +32,18 @@ order_of rule.Shape = 5
 order_of rule.Place = 6
 order_of rule.Preload = 7
 order_of rule.Out = 8
+
+-- the word that tells a rule
+abbrev pub told_of : Rule → List ℕ
+told_of rule.Size = codes "size"
+told_of rule.Row = codes "row"
+told_of rule.Stage = codes "stage"
+told_of rule.Latency = codes "latency"
+told_of rule.Register = codes "register"
+told_of rule.Shape = codes "shape"
+told_of rule.Place = codes "place"
+told_of rule.Preload = codes "preload"
+told_of rule.Out = codes "out"
 
 -- a rule fails, and those before it hold
 pub record IsFirstFailing (parts : Parts) (rule : Rule) : Type 0 where

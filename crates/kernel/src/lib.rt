@@ -6,6 +6,7 @@ mod clock;
 mod flight;
 mod issue;
 mod land;
+mod laws;
 mod lists;
 mod operation;
 mod parts;
@@ -19,6 +20,7 @@ mod tests;
 mod text;
 
 pub use check::{BadKernel, Rule};
+pub use laws::{runs_keep_shapes, well_formed_keeps_rules};
 pub use lists::{ArrayNames, Operations, Outs, Params, Preloads, Sources};
 pub use operation::{Address, Operation, Source};
 pub use parts::{Kernel, Out, Parts, Preload};
