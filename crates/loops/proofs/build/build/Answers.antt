@@ -1,4 +1,4 @@
-use Rattle.std.proofs.Common.{◌≡◌, ◌+◌, ◌≤◌, ap, ◌∙◌, sym, subst, length, take, []}
+use Rattle.std.proofs.Common.{ap, ◌∙◌, sym, subst, length, take, []}
 use Rattle.std.proofs.lemmas.List.{length-map, take_all}
 use Rattle.loops.specs.Meaning.{array_in, param_in, source_in, out_in, statement_of}
 use Rattle.loops.specs.Blocks.{forms_in}

@@ -1,4 +1,4 @@
-use Rattle.std.proofs.Common.{◌≡◌, ◌∙◌, ◌+◌, [], ℕ, List, Some, None, refl, sym, ap, arith, take, drop}
+use Rattle.std.proofs.Common.{◌∙◌, ◌+◌, [], refl, sym, ap, arith, take}
 use Rattle.loops.specs.declared.entry.Entry.{Entry}
 use Rattle.loops.specs.declared.form.Form.TheVariants as forms
 use Rattle.loops.specs.Meaning.{is_array, is_param, is_statement}

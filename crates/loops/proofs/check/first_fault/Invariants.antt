@@ -1,4 +1,4 @@
-use Rattle.std.proofs.Common.{◌≡◌, ◌≤◌, ◌+◌, [], take, drop}
+use Rattle.std.proofs.Common.{◌≡◌, ◌≤◌, [], take, drop}
 use Rattle.loops.specs.Meaning.{number_of, is_array, is_param, is_statement}
 use Rattle.loops.specs.Blocks.{forms_in, entry_faults}
 use Rattle.loops.specs.Checks.{first_in, IsGiven}

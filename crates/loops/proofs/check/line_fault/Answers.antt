@@ -1,9 +1,8 @@
-use Rattle.std.proofs.Common.{◌≡◌, ◌∙◌, sym, ap}
+use Rattle.std.proofs.Common.{◌∙◌, sym, ap}
 use Rattle.loops.specs.Parsed.{form_seen}
 use Rattle.loops.specs.Blocks.{forms_in}
 use Rattle.loops.specs.Checks.{first_in, kinds_at}
 use Rattle.loops.specs.declared.form.Form.{Form}
-use Rattle.loops.specs.declared.index.Counts.{Counts}
 use Rattle.loops.proofs.check.line_fault.Goals as goal
 
 pub returns-in-Array : goal.returns-in-Array
