@@ -1,5 +1,5 @@
 -- What a table of initial values holds.
-use Rattle.std.proofs.Common.{◌≡◌, ℕ, zero, suc, ℤ, ◌<◌, ◌≤◌, Bool, true, false, if◌then◌else◌, List, [], ◌∷◌, length, Option, Some, None, is_some, refl, sym, ◌∙◌, ap, arith, get_or, set, replicate}
+use Rattle.std.proofs.Common.{◌≡◌, ℕ, zero, suc, ℤ, ◌≤◌, Bool, true, false, if◌then◌else◌, List, [], ◌∷◌, length, Some, None, is_some, refl, ap, arith, get_or, set, replicate}
 use Rattle.loops.specs.Checks.{values_taken}
 
 pub length_taken : (taken : List Bool) (values : List ℤ) → length taken ≤ length values → length (values_taken taken values) ≡ length taken

@@ -1,4 +1,4 @@
-use Rattle.std.proofs.Common.{◌≡◌, ◌+◌, ◌++◌, ◌∷◌, [], ℕ, List, Option, Some, None, refl, ap, sym, ◌∙◌, arith, take, get_or, length, option_map}
+use Rattle.std.proofs.Common.{ℕ, List, Option, refl, ap, sym, ◌∙◌, arith, option_map}
 use Rattle.std.specs.HashMap.{HashMap, get_by}
 use Rattle.std.specs.Map.{lookup}
 use Rattle.std.specs.Borrow.{Bor}
@@ -6,8 +6,7 @@ use Rattle.std.specs.Str.{bytes_eq}
 use Rattle.std.specs.Option.{option_or}
 use Rattle.machine.specs.Opcodes.{same_word}
 use Rattle.loops.specs.Meaning.{declared, is_array, is_param, is_statement}
-use Rattle.loops.specs.Parsed.{form_seen}
-use Rattle.loops.specs.Blocks.{forms_in, declared_seen, declared_if, one_if}
+use Rattle.loops.specs.Blocks.{declared_seen, declared_if}
 use Rattle.loops.specs.declared.index.Declared.{Declared}
 use Rattle.loops.proofs.Declared.{declared-more, number_of-more, one_if-le, seen_or, option_or-none}
 use Rattle.loops.proofs.index.index_names.Goals as goal

@@ -1,10 +1,10 @@
-use Rattle.std.proofs.Common.{◌≡◌, ◌∙◌, ◌+◌, ◌<◌, ◌≤◌, ◌==◌, ◌++◌, ◌∷◌, [], ℕ, List, Option, Some, None, refl, sym, ap, subst, arith, rules, length, take, true, map}
+use Rattle.std.proofs.Common.{◌≡◌, ◌∙◌, ◌+◌, ◌++◌, ◌∷◌, [], List, Some, None, sym, ap, subst, arith, length, take}
 use Rattle.std.proofs.lemmas.List.Sums.{count_by-le-length}
 use Rattle.std.proofs.lemmas.List.{length-map}
 use Rattle.loops.specs.Forms.{EndLine}
 use Rattle.loops.specs.declared.entry.Entry.{Entry}
-use Rattle.loops.specs.declared.fault.LoopFaultKind.TheVariants.{Syntax, NoEnd, Limit}
-use Rattle.loops.specs.Meaning.{number_of, forms_of, faults_of, at_line, is_statement, when, has_statement, whole, inside_faults, outside_faults, blocks_of, loop_of}
+use Rattle.loops.specs.declared.fault.LoopFaultKind.TheVariants.{Syntax}
+use Rattle.loops.specs.Meaning.{number_of, forms_of, faults_of, at_line, is_statement, whole, outside_faults, blocks_of, loop_of}
 use Rattle.loops.specs.Parsed.{form_seen}
 use Rattle.loops.specs.Blocks.{forms_in, entry_faults, StopsBlock, IsBehind, IsPast}
 use Rattle.loops.specs.declared.fault.LoopFault.{LoopFault}

@@ -1,4 +1,4 @@
-use Rattle.std.proofs.Common.{◌≡◌, ◌∙◌, ◌*◌, ◌+◌, ◌<◌, ◌≤◌, None, Some, Bool, false, true, if◌then◌else◌, length, pos, sym, ap, arith, w64, to_z, of_z, get_or, rules}
+use Rattle.std.proofs.Common.{◌≡◌, ◌∙◌, ◌*◌, ◌+◌, ◌<◌, None, Some, false, true, if◌then◌else◌, length, pos, sym, ap, arith, w64, to_z, of_z, get_or, rules}
 use Rattle.std.proofs.lemmas.Int.{ints, to_z-of_z}
 use Rattle.std.proofs.lemmas.List.{get_or_read}
 use Rattle.loops.specs.Checks.{slot, values_taken}

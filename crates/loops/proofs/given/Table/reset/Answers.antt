@@ -1,4 +1,4 @@
-use Rattle.std.proofs.Common.{◌≡◌, ◌∙◌, ◌≤◌, false, length, replicate, ap, arith, rules}
+use Rattle.std.proofs.Common.{◌∙◌, ◌≤◌, length, ap, arith}
 use Rattle.loops.specs.Checks.{values_taken}
 use Rattle.loops.proofs.Taken.{none_taken}
 use Rattle.loops.proofs.given.Table.reset.Goals as goal
