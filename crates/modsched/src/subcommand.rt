@@ -134,6 +134,3 @@ fn finish<O: Output>(output: &mut O, text: &[u8]) -> Status
         Err(_) => Status::Unwritten,
     }
 }
-
-#[cfg(test)]
-mod tests;
