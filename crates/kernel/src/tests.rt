@@ -1,6 +1,8 @@
 //! What no clause says: that kernels are accepted and refused as the rules are meant, and the very
 //! texts of kernels.
 
+mod runs;
+
 use crate::Source::{Constant, Parameter, Register};
 use crate::{
     Address, ArrayNames, BadKernel, Kernel, Operation, Operations, Out, Outs, Params, Parts,
