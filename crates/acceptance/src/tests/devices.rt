@@ -44,34 +44,34 @@ fn fails_to_read(rt: HostRuntime) {
     }
 }
 
-/// `bounds` with an output that takes so many bytes a write and in all; the number that it exits with.
-fn write_to(rt: &impl Abort, alloc: Global, output: &mut FaultyOutput) -> u8 {
+/// `bounds` with an output that takes 7 bytes a write and so many in all, which is just what went out; the number that it exits with.
+fn write_to(rt: &impl Abort, alloc: Global, room: usize, can_flush: bool, out: &[u8]) -> u8 {
     let command = parse_line(alloc, bounds_row(M1, ACC).words).expect(rt, "a command");
     let mut machine = Bytes::new(M1.as_bytes());
     let mut loops = Bytes::new(ACC.as_bytes());
-    engine(alloc, &command, &mut machine, &mut loops, output).number()
+    let mut output = FaultyOutput::new(alloc, 7, room, can_flush).expect(rt, "an output");
+    let status = engine(alloc, &command, &mut machine, &mut loops, &mut output);
+    assert!(rt; output.as_slice() == out, "room for {room}");
+    status.number()
 }
 
 #[test]
 fn writes_a_beginning_of_each_length(rt: HostRuntime) {
-    let alloc = rt.alloc();
-    for room in 0..WHOLE.len() {
-        let mut output = FaultyOutput::new(alloc, 7, room, true).expect(&rt, "an output");
-        assert_eq!(rt; write_to(&rt, alloc, &mut output), 6, "room for {room}");
-        assert!(rt;
-            output.as_slice() == &WHOLE.as_bytes()[..room],
+    let whole = WHOLE.as_bytes();
+    for room in 0..whole.len() {
+        assert_eq!(rt;
+            write_to(&rt, rt.alloc(), room, true, &whole[..room]),
+            6,
             "room for {room}"
         );
     }
-    let mut output = FaultyOutput::new(alloc, 7, WHOLE.len(), true).expect(&rt, "an output");
-    assert_eq!(rt; write_to(&rt, alloc, &mut output), 0);
-    assert!(rt; output.as_slice() == WHOLE.as_bytes());
+    assert_eq!(rt; write_to(&rt, rt.alloc(), whole.len(), true, whole), 0);
 }
 
 #[test]
 fn fails_to_flush(rt: HostRuntime) {
-    let alloc = rt.alloc();
-    let mut output = FaultyOutput::new(alloc, STRIDE, STRIDE, false).expect(&rt, "an output");
-    assert_eq!(rt; write_to(&rt, alloc, &mut output), 6);
-    assert!(rt; output.as_slice() == WHOLE.as_bytes());
+    assert_eq!(rt;
+        write_to(&rt, rt.alloc(), STRIDE, false, WHOLE.as_bytes()),
+        6
+    );
 }

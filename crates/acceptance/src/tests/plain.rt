@@ -155,10 +155,16 @@ fn refuses_loops_past_their_limits(rt: HostRuntime) {
 #[test]
 fn runs_loops_in_order(rt: HostRuntime) -> Result<(), Fail> {
     let loops = format!(in rt.alloc(); "{ACC}{SHIFT}")?;
-    let want =
-        "loop acc trip 2\nb[0] 1\nb[1] 3\nloop shift trip 2\na[0] 6\na[1] 7\nloops 2\n";
+    let want = "loop acc trip 2\nb[0] 1\nb[1] 3\nloop shift trip 2\na[0] 6\na[1] 7\nloops 2\n";
     let words = ["plain", "l.txt", "--trip", "2"];
-    ends(&rt, rt.alloc(), &plain_row(&words, loops.as_str()), 0, want, "");
+    ends(
+        &rt,
+        rt.alloc(),
+        &plain_row(&words, loops.as_str()),
+        0,
+        want,
+        "",
+    );
     Ok(())
 }
 
