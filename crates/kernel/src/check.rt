@@ -55,7 +55,9 @@ impl fmt::Display for Rule {
 #[derive(Debug, Drop, Error)]
 #[error("not a well-formed kernel: {rule}")]
 pub struct BadKernel {
+    /// The first rule that fails.
     pub rule: Rule,
+    /// The parts, unchanged.
     pub parts: Parts,
 }
 

@@ -41,10 +41,11 @@ pub struct Operation {
     pub row: u16,
     /// The stage, from 0, in turns.
     pub stage: u8,
+    /// What the operation does.
     pub opcode: Opcode,
     /// After how many cycles the write lands, 1 to 64.
     pub latency: u8,
-    /// The number of the alternative by which the operation is issued.
+    /// The number of the alternative by which the operation is issued, from 0.
     pub alternative: u8,
     /// The name of the register that is written; a `store` has none.
     pub destination: Option<u16>,

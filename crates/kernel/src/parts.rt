@@ -12,12 +12,14 @@ use std::marker::Model;
 pub struct Preload {
     /// The physical register, which is also the register's name in turn 0.
     pub register: u16,
+    /// What the register holds before the first turn.
     pub value: i64,
 }
 
 /// A value that is live at the end.
 #[derive(Debug, Drop)]
 pub struct Out {
+    /// The value's name.
     pub name: Name,
     /// The register's name in turn `N + stages - 2` of a run of `N` iterations, which is the last one.
     pub register: u16,
@@ -32,10 +34,15 @@ pub struct Parts {
     pub stages: u64,
     /// How many rotating registers there are.
     pub registers: u64,
+    /// The parameters, which have one value in every turn.
     pub params: Params,
+    /// The names of the arrays, by their numbers.
     pub arrays: ArrayNames,
+    /// The operations, by their numbers: of one row, those of smaller numbers are issued first.
     pub operations: Operations,
+    /// The registers that do not open at 0.
     pub preloads: Preloads,
+    /// The values that are live at the end, in the order of a memory's.
     pub outs: Outs,
 }
 
