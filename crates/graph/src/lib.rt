@@ -26,4 +26,3 @@ pub use laws::{
 pub use recurrence::{feasible, mii, rec_mii};
 pub use relaxation::rounds;
 pub use units::res_mii;
-
