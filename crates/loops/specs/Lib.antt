@@ -3,6 +3,7 @@ pub mod Arithmetic
 pub mod Blocks
 pub mod Building
 pub mod Checks
+pub mod Faults
 pub mod Forms
 pub mod Loops
 pub mod Meaning

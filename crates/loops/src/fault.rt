@@ -12,29 +12,41 @@ use thiserror::Error;
 #[derive(Clone, Copy, Debug, PartialEq, Eq, Error)]
 pub enum LoopFaultKind {
     /// The line has none of the forms, or stands in a wrong place.
-    #[error("syntax")]
     Syntax,
     /// A name, a number or a count is outside its limits.
-    #[error("limit")]
     Limit,
     /// A name, or an initial value, is there already.
-    #[error("repeated name")]
     RepeatedName,
     /// A name is not declared, or not as what it is used.
-    #[error("unknown name")]
     UnknownName,
     /// A value of this iteration is used before its statement.
-    #[error("use before definition")]
     UseBeforeDefinition,
     /// A value of an earlier iteration has no initial value.
-    #[error("missing init")]
     MissingInit,
     /// The text ends inside a loop.
-    #[error("no end")]
     NoEnd,
     /// Memory ran out. This says nothing of the text.
-    #[error("out of memory")]
     Memory,
+}
+
+impl fmt::Display for LoopFaultKind {
+    ghost use Rattle.std.specs.Prelude.{Some};
+    ghost use Rattle.loops.specs.Faults.{kind_text};
+
+    ghost output = { λ kind. Some (kind_text kind) };
+
+    fn fmt<W: fmt::Write>(&self, f: &mut fmt::Formatter<W>) -> fmt::Result {
+        f.write_str(match self {
+            LoopFaultKind::Syntax => "syntax",
+            LoopFaultKind::Limit => "limit",
+            LoopFaultKind::RepeatedName => "repeated name",
+            LoopFaultKind::UnknownName => "unknown name",
+            LoopFaultKind::UseBeforeDefinition => "use before definition",
+            LoopFaultKind::MissingInit => "missing init",
+            LoopFaultKind::NoEnd => "no end",
+            LoopFaultKind::Memory => "out of memory",
+        })
+    }
 }
 
 /// The first line at fault and its first fault.
@@ -58,7 +70,13 @@ impl LoopFault {
     }
 }
 
+/// Prints `line N: ` and the kind, or the kind alone for want of memory.
 impl fmt::Display for LoopFault {
+    ghost use Rattle.std.specs.Prelude.{Some};
+    ghost use Rattle.loops.specs.Faults.{fault_text};
+
+    ghost output = { λ fault. Some (fault_text fault) };
+
     fn fmt<W: fmt::Write>(&self, f: &mut fmt::Formatter<W>) -> fmt::Result {
         let kind = self.kind;
         match kind {
