@@ -9,3 +9,4 @@ pub mod Laws
 pub mod TableFaults
 pub mod Slots
 pub mod Whole
+pub mod Printed

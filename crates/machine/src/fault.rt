@@ -1,6 +1,8 @@
 //! Why a machine text is refused.
 
-ghost use Rattle.std.specs.Prelude.{◌≡◌, string_bytes, IfOk};
+ghost use Rattle.std.specs.Prelude.{◌≡◌, string_bytes, encode_utf8, flat_map, IfOk};
+ghost use Rattle.std.specs.Fmt.{WritesOnOk};
+ghost use Rattle.machine.specs.Faults.{byte_text};
 ghost use Rattle.machine.specs.declared.fault.MachineFault.TheVariants.{Memory};
 
 use std::alloc::{AllocError, AllocFailed, Global};
@@ -47,16 +49,30 @@ impl Key {
 
 /// Prints the key on one line: control characters are escaped as in Rust's literals.
 impl fmt::Display for Key {
+    ghost use Rattle.std.specs.Prelude.{Some};
+    ghost use Rattle.machine.specs.Faults.{key_text};
+
+    ghost output = { λ key. Some (key_text key) };
+
     fn fmt<W: fmt::Write>(&self, f: &mut fmt::Formatter<W>) -> fmt::Result {
         for c in self.as_str().chars() {
-            if c.is_ascii_control() {
-                write!(f, "{}", c.escape_default())?;
-            } else {
-                write!(f, "{c}")?;
-            }
+            write_on_the_line(f, c)?;
         }
         Ok(())
     }
+}
+
+/// Writes a character, escaped where it is a control character.
+fn write_on_the_line<W: fmt::Write>(f: &mut fmt::Formatter<W>, c: char) -> fmt::Result
+    ensures { WritesOnOk W.write_str_gives f.old result (flat_map byte_text (encode_utf8 c)) f.new }
+{
+    if !c.is_ascii_control() {
+        return f.write_char(c);
+    }
+    for part in c.escape_default() {
+        f.write_char(part)?;
+    }
+    Ok(())
 }
 
 impl fmt::Debug for Key {
@@ -69,38 +85,51 @@ impl fmt::Debug for Key {
 #[derive(Debug, Drop, Error)]
 pub enum MachineFault {
     /// The text is not UTF-8.
-    #[error("not UTF-8")]
     NotUtf8,
     /// The text is not TOML.
-    #[error("not TOML")]
     NotToml,
     /// A key that has to be there is missing.
-    #[error("missing key {0}")]
     MissingKey(Key),
     /// The value of a key has another type than it has to have.
-    #[error("wrong type at {0}")]
     WrongType(Key),
     /// A key means nothing.
-    #[error("unknown key {0}")]
     UnknownKey(Key),
     /// A row names a unit that the machine has not.
-    #[error("unknown unit {0}")]
     UnknownUnit(Key),
     /// A table is named after no opcode.
-    #[error("unknown opcode {0}")]
     UnknownOpcode(Key),
     /// A unit is named twice.
-    #[error("repeated unit {0}")]
     RepeatedUnit(Key),
     /// An alternative has a row twice.
-    #[error("repeated row at {0}")]
     RepeatedRow(Key),
     /// A number, a count, a name or the text is outside its limits.
-    #[error("limit {0}")]
     Limit(Key),
     /// Memory ran out. This says nothing of the text.
-    #[error("out of memory")]
     Memory,
+}
+
+/// Prints what is wrong and with which key or name, on one line.
+impl fmt::Display for MachineFault {
+    ghost use Rattle.std.specs.Prelude.{Some};
+    ghost use Rattle.machine.specs.Faults.{fault_text};
+
+    ghost output = { λ fault. Some (fault_text fault) };
+
+    fn fmt<W: fmt::Write>(&self, f: &mut fmt::Formatter<W>) -> fmt::Result {
+        match self {
+            MachineFault::NotUtf8 => f.write_str("not UTF-8"),
+            MachineFault::NotToml => f.write_str("not TOML"),
+            MachineFault::MissingKey(key) => write!(f, "missing key {key}"),
+            MachineFault::WrongType(key) => write!(f, "wrong type at {key}"),
+            MachineFault::UnknownKey(key) => write!(f, "unknown key {key}"),
+            MachineFault::UnknownUnit(unit) => write!(f, "unknown unit {unit}"),
+            MachineFault::UnknownOpcode(word) => write!(f, "unknown opcode {word}"),
+            MachineFault::RepeatedUnit(unit) => write!(f, "repeated unit {unit}"),
+            MachineFault::RepeatedRow(key) => write!(f, "repeated row at {key}"),
+            MachineFault::Limit(name) => write!(f, "limit {name}"),
+            MachineFault::Memory => f.write_str("out of memory"),
+        }
+    }
 }
 
 impl From<AllocError> for MachineFault {

@@ -1,0 +1,27 @@
+-- How the faults of a machine text are told.
+use Rattle.std.specs.Prelude.{ℕ, codes, flat_map, if◌then◌else◌, List, [], ◌∷◌, ◌++◌}
+use Rattle.std.specs.Char.{is_ascii_control}
+use Rattle.std.specs.Char.Escape.{escape_default}
+use Rattle.machine.specs.declared.fault.MachineFault.{MachineFault}
+use Rattle.machine.specs.declared.fault.MachineFault.TheVariants as fault
+
+-- a byte that would leave the line, or would not be seen in it, as in Rust's literals
+abbrev pub byte_text : ℕ → List ℕ
+byte_text byte = if is_ascii_control byte then escape_default byte else byte ∷ []
+
+-- a key on one line
+abbrev pub key_text : List ℕ → List ℕ
+key_text = flat_map byte_text
+
+abbrev pub fault_text : MachineFault → List ℕ
+fault_text fault.NotUtf8 = codes "not UTF-8"
+fault_text fault.NotToml = codes "not TOML"
+fault_text (fault.MissingKey key) = codes "missing key " ++ key_text key
+fault_text (fault.WrongType key) = codes "wrong type at " ++ key_text key
+fault_text (fault.UnknownKey key) = codes "unknown key " ++ key_text key
+fault_text (fault.UnknownUnit unit) = codes "unknown unit " ++ key_text unit
+fault_text (fault.UnknownOpcode word) = codes "unknown opcode " ++ key_text word
+fault_text (fault.RepeatedUnit unit) = codes "repeated unit " ++ key_text unit
+fault_text (fault.RepeatedRow key) = codes "repeated row at " ++ key_text key
+fault_text (fault.Limit name) = codes "limit " ++ key_text name
+fault_text fault.Memory = codes "out of memory"
