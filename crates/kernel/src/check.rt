@@ -53,12 +53,24 @@ impl fmt::Display for Rule {
 
 /// Parts that make no well-formed kernel, with the first rule that fails.
 #[derive(Debug, Drop, Error)]
-#[error("not a well-formed kernel: {rule}")]
 pub struct BadKernel {
     /// The first rule that fails.
     pub rule: Rule,
     /// The parts, unchanged.
     pub parts: Parts,
+}
+
+/// Prints the rule, and nothing of the parts.
+impl fmt::Display for BadKernel {
+    ghost use Rattle.std.specs.Prelude.{◌++◌, codes, Some};
+    ghost use Rattle.kernel.specs.Rules.{told_of};
+
+    ghost output = { λ bad. Some (codes "not a well-formed kernel: " ++ told_of bad.rule) };
+
+    fn fmt<W: fmt::Write>(&self, f: &mut fmt::Formatter<W>) -> fmt::Result {
+        let rule = self.rule;
+        write!(f, "not a well-formed kernel: {rule}")
+    }
 }
 
 impl Kernel {
