@@ -1,10 +1,11 @@
 -- Refusals of `bounds` and `plain`.
-use Rattle.std.proofs.Common.{◌≡◌, ℕ, List, refl}
+use Rattle.std.proofs.Common.{◌≡◌, ℕ, List, Option, arith, refl}
 use Rattle.std.specs.Prelude.{Result, Ok, Err}
 use Rattle.machine.specs.Answers.{Answers}
 use Rattle.machine.specs.Machines.{MachineData}
 use Rattle.machine.specs.declared.fault.MachineFault.{MachineFault}
 use Rattle.machine.specs.declared.fault.MachineFault.TheVariants as machine_fault
+use Rattle.machine.specs.declared.opcode.Opcode.{Opcode}
 use Rattle.loops.specs.Loops.{LoopData}
 use Rattle.loops.specs.Meaning as loops_meaning
 use Rattle.loops.specs.declared.fault.LoopFault.{LoopFault}
@@ -13,8 +14,8 @@ use Rattle.loops.specs.declared.fault.LoopFaultKind.TheVariants as kinds
 use Rattle.modsched.specs.Bounds.{Bounds, first_lacking}
 use Rattle.modsched.specs.Outcomes.{Outcome, RefusedMachine, RefusedLoops, NoTable as NoTableFor}
 use Rattle.modsched.specs.Plain.{plain_outcome}
-use Rattle.modsched.specs.Refusals.{IsLacking, RefusesBounds, RefusesFor}
-use Rattle.modsched.specs.Statuses.{refusal_of_machine, refusal_of_loops, loops_status}
+use Rattle.modsched.specs.Refusals.{HasOneMemory, IsLacking, RefusesBounds, RefusesFor}
+use Rattle.modsched.specs.Statuses.{number_of, refusal_of_machine, refusal_of_loops, loops_status}
 use Rattle.modsched.specs.declared.status.Status.{Status}
 use Rattle.modsched.specs.declared.status.Status.TheVariants.{Done, MachineUnread, LoopsUnread, Machine, Loops, NoTable, Unwritten, OutOfMemory}
 
@@ -81,3 +82,40 @@ plain_refused_at kinds.NoEnd f trip loops h = rw (← h) refl
 -- a loop text that `plain` refuses
 pub plain_refused : (f : LoopFault) (trip : ℕ) (loops : LoopLists) → loops_meaning.Answers (Err f) loops → RefusesFor (plain_outcome trip loops) (refusal_of_loops f)
 plain_refused f trip loops h = plain_refused_at f.kind f trip loops h
+
+-- want of memory has one status in each kind of refusal
+pub machine_memory : (f : MachineFault) → HasOneMemory (refusal_of_machine f)
+machine_memory machine_fault.Memory seven = refl
+machine_memory machine_fault.NotUtf8 seven = absurd (omega (arith, seven))
+machine_memory machine_fault.NotToml seven = absurd (omega (arith, seven))
+machine_memory (machine_fault.MissingKey k) seven = absurd (omega (arith, seven))
+machine_memory (machine_fault.WrongType k) seven = absurd (omega (arith, seven))
+machine_memory (machine_fault.UnknownKey k) seven = absurd (omega (arith, seven))
+machine_memory (machine_fault.UnknownUnit k) seven = absurd (omega (arith, seven))
+machine_memory (machine_fault.UnknownOpcode k) seven = absurd (omega (arith, seven))
+machine_memory (machine_fault.RepeatedUnit k) seven = absurd (omega (arith, seven))
+machine_memory (machine_fault.RepeatedRow k) seven = absurd (omega (arith, seven))
+machine_memory (machine_fault.Limit k) seven = absurd (omega (arith, seven))
+
+loops_memory_at : (kind : LoopFaultKind) (f : LoopFault) → f.kind ≡ kind → HasOneMemory (loops_status kind f)
+loops_memory_at kinds.Memory f is seven = refl
+loops_memory_at kinds.Syntax f is seven = let five : number_of (Loops f) ≡ 5 = rw is refl in absurd (omega (arith, seven, five))
+loops_memory_at kinds.Limit f is seven = let five : number_of (Loops f) ≡ 5 = rw is refl in absurd (omega (arith, seven, five))
+loops_memory_at kinds.RepeatedName f is seven = let five : number_of (Loops f) ≡ 5 = rw is refl in absurd (omega (arith, seven, five))
+loops_memory_at kinds.UnknownName f is seven = let five : number_of (Loops f) ≡ 5 = rw is refl in absurd (omega (arith, seven, five))
+loops_memory_at kinds.UseBeforeDefinition f is seven = let five : number_of (Loops f) ≡ 5 = rw is refl in absurd (omega (arith, seven, five))
+loops_memory_at kinds.MissingInit f is seven = let five : number_of (Loops f) ≡ 5 = rw is refl in absurd (omega (arith, seven, five))
+loops_memory_at kinds.NoEnd f is seven = let five : number_of (Loops f) ≡ 5 = rw is refl in absurd (omega (arith, seven, five))
+
+pub loops_memory : (f : LoopFault) → HasOneMemory (refusal_of_loops f)
+loops_memory f = loops_memory_at f.kind f refl
+
+pub lacking_memory : (status : Status) (lacking : Option (List ℕ × Opcode)) → IsLacking status lacking → HasOneMemory status
+lacking_memory OutOfMemory lacking h seven = refl
+lacking_memory (NoTable name opcode) lacking h seven = absurd (omega (arith, seven))
+lacking_memory Done lacking h seven = absurd h
+lacking_memory MachineUnread lacking h seven = absurd h
+lacking_memory LoopsUnread lacking h seven = absurd h
+lacking_memory (Machine f) lacking h seven = absurd h
+lacking_memory (Loops f) lacking h seven = absurd h
+lacking_memory Unwritten lacking h seven = absurd h

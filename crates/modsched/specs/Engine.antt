@@ -1,5 +1,5 @@
 -- How a run of a subcommand ends, beside what it does with its texts.
-use Rattle.std.specs.Prelude.{◌≡◌, ℕ, Bool, true, false, List, ◌++◌, Option, Some, option_map}
+use Rattle.std.specs.Prelude.{◌≡◌, ◌+◌, ℕ, Bool, true, false, List, ◌++◌, Option, Some, option_map}
 use Rattle.machine.specs.MachineText.{machine_of}
 use Rattle.loops.specs.Meaning.{loops_in}
 use Rattle.modsched.specs.Bounds as bounds
@@ -23,6 +23,11 @@ Ends (Written text) before after ended = EndsWritten text before after ended
 Ends (RefusedMachine fault) before after ended = (ended ≡ status.Machine fault) × (after ≡ before)
 Ends (RefusedLoops fault) before after ended = (ended ≡ status.Loops fault) × (after ≡ before)
 Ends (NoTable name opcode) before after ended = (ended ≡ status.NoTable name opcode) × (after ≡ before)
+
+-- a device's count of faults rose by one where the status tells of its fault, and stayed where it does not
+pub record CountsFault (is_told : Type 0) (before after : ℕ) : Type 0 where
+  pub rose : is_told → after ≡ before + 1
+  pub stayed : ¬ is_told → after ≡ before
 
 -- a command reads a machine's text; each reads a loops' text
 abbrev pub reads_machine : Command → Bool

@@ -74,10 +74,10 @@ IsToldBy (Refused text) k = (k ≢ kind.DisplayHelp) × (k ≢ kind.OutOfMemory)
 IsToldBy Memory k = ⊤
 
 -- a line gives the command that its subcommand means; it is answered with help or refused as `clap` does, or refused
--- where a path is missing
+-- where `clap` takes it and a path is missing
 abbrev pub IsRead : Result Command Usage → Kinds → Option (Text × List Row) → Type 0
 IsRead (Ok c) kinds subcommand = (kinds ≡ []) × Means c subcommand
 IsRead (Err (Help text)) kinds subcommand = IsAmong kind.DisplayHelp kinds
 IsRead (Err (Refused text)) kinds subcommand = ((k : ErrorKind) × IsAmong k kinds × (k ≢ kind.DisplayHelp))
-    ⊎ ((c : Command) → ¬ Means c subcommand)
+    ⊎ ((kinds ≡ []) × ((c : Command) → ¬ Means c subcommand))
 IsRead (Err Memory) kinds subcommand = ⊤

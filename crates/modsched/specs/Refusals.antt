@@ -11,6 +11,7 @@ use Rattle.graph.specs.declared.fault.GraphFault.{GraphFault}
 use Rattle.graph.specs.declared.fault.GraphFault.TheVariants as graph_fault
 use Rattle.modsched.specs.Bounds.{Bounds, AreBounds, IsLines, first_lacking, lacking_or}
 use Rattle.modsched.specs.Outcomes.{Outcome, Written, RefusedMachine, RefusedLoops, NoTable as NoTableFor}
+use Rattle.modsched.specs.Statuses.{number_of}
 use Rattle.modsched.specs.declared.bounds.LowerBounds.{LowerBounds}
 use Rattle.modsched.specs.declared.status.Status.{Status}
 use Rattle.modsched.specs.declared.status.Status.TheVariants.{Machine, Loops, NoTable, OutOfMemory}
@@ -66,3 +67,7 @@ RefusesFor outcome status = Refuses outcome status
 abbrev pub OutcomeAnswers : Outcome → Result (Vec ℕ Global) Status → Type 0
 OutcomeAnswers outcome (Ok text) = outcome ≡ Written text.items
 OutcomeAnswers outcome (Err status) = RefusesFor outcome status
+
+-- want of memory has one status
+abbrev pub HasOneMemory : Status → Type 0
+HasOneMemory status = number_of status ≡ 7 → status ≡ OutOfMemory

@@ -1,10 +1,11 @@
--- The numbers by which a run of the program exits.
-use Rattle.std.specs.Prelude.{ℕ}
+-- The numbers by which a run of the program exits, and the lines that tell of a fault.
+use Rattle.std.specs.Prelude.{ℕ, codes, List, [], ◌++◌, Option, Some, None}
 use Rattle.loops.specs.declared.fault.LoopFault.{LoopFault}
 use Rattle.loops.specs.declared.fault.LoopFaultKind.{LoopFaultKind}
 use Rattle.loops.specs.declared.fault.LoopFaultKind.TheVariants as kind
 use Rattle.machine.specs.declared.fault.MachineFault.{MachineFault}
 use Rattle.machine.specs.declared.fault.MachineFault.TheVariants as fault
+use Rattle.machine.specs.Opcodes.{word_of}
 use Rattle.modsched.specs.declared.status.Status.{Status}
 use Rattle.modsched.specs.declared.status.Status.TheVariants.{Done, MachineUnread, LoopsUnread}
 use Rattle.modsched.specs.declared.status.Status.TheVariants.{Machine, Loops, NoTable, Unwritten}
@@ -43,3 +44,24 @@ loops_status _ f = Loops f
 -- the status of a refused loop text
 abbrev pub refusal_of_loops : LoopFault → Status
 refusal_of_loops f = loops_status f.kind f
+
+-- a refused machine text: what the fault itself says is known to no clause
+abbrev pub machine_line : MachineFault → Option (List ℕ)
+machine_line fault.Memory = Some (codes "out of memory")
+machine_line _ = None
+
+-- a refused loop text: what the fault itself says is known to no clause
+abbrev pub loops_line : LoopFaultKind → Option (List ℕ)
+loops_line kind.Memory = Some (codes "out of memory")
+loops_line _ = None
+
+-- the line for the standard error, where a clause can know it
+abbrev pub line_of : Status → Option (List ℕ)
+line_of Done = Some []
+line_of MachineUnread = Some (codes "machine: cannot read")
+line_of LoopsUnread = Some (codes "loops: cannot read")
+line_of (Machine f) = machine_line f
+line_of (Loops f) = loops_line f.kind
+line_of (NoTable name opcode) = Some (codes "loops: loop " ++ (name ++ (codes ": no table for " ++ word_of opcode)))
+line_of Unwritten = Some (codes "cannot write")
+line_of OutOfMemory = Some (codes "out of memory")

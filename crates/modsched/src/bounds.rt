@@ -1,10 +1,10 @@
 //! What `bounds` writes.
 
-ghost use Rattle.std.specs.Prelude.{◌≡◌, ◌++◌, OnOk};
+ghost use Rattle.std.specs.Prelude.{◌≡◌, ◌++◌, IfErr, OnOk};
 ghost use Rattle.machine.specs.MachineText.{machine_of};
 ghost use Rattle.loops.specs.Meaning.{loops_in};
 ghost use Rattle.modsched.specs.Bounds.{bounds_line, told};
-ghost use Rattle.modsched.specs.Refusals.{BoundsAnswer, LinesAnswer, TextAnswers, status_for};
+ghost use Rattle.modsched.specs.Refusals.{BoundsAnswer, HasOneMemory, LinesAnswer, TextAnswers, status_for};
 
 use crate::lines::{push_last, push_number};
 use crate::status::Status;
@@ -92,7 +92,8 @@ fn lines(alloc: Global, machine: &Machine, loops: &[Loop]) -> Result<Vec<u8>, St
 
 /// What `bounds` writes for a machine text and a loop text, or the status of its refusal.
 pub(crate) fn bounds_text(alloc: Global, machine: &[u8], loops: &[u8]) -> Result<Vec<u8>, Status>
-    ensures { TextAnswers (machine_of machine.now) (loops_in loops.now) result }
+    ensures exact { TextAnswers (machine_of machine.now) (loops_in loops.now) result }
+    ensures memory { IfErr result HasOneMemory }
 {
     let machine = read_machine(alloc, machine)?;
     let loops = read_loops(alloc, loops)?;

@@ -1,13 +1,13 @@
 //! What `plain` writes.
 
-ghost use Rattle.std.specs.Prelude.{◌≡◌, ◌+◌, ◌-ℤ◌, ◌+ℤ◌, ◌<◌, ◌≤◌, ◌≤ℤ◌, ◌<ℤ◌, ℕ, ℤ, pos, neg_ℤ, ◌++◌, length, List, IfOk, OnOk, IsErrOf, Ok};
+ghost use Rattle.std.specs.Prelude.{◌≡◌, ◌+◌, ◌-ℤ◌, ◌+ℤ◌, ◌<◌, ◌≤◌, ◌≤ℤ◌, ◌<ℤ◌, ℕ, ℤ, pos, neg_ℤ, ◌++◌, length, List, IfErr, IfOk, OnOk, IsErrOf, Ok};
 ghost use Rattle.std.specs.List.{flat_map};
 ghost use Rattle.std.specs.Option.{option_and_then, option_map};
 ghost use Rattle.loops.specs.Meaning.{loops_in};
 ghost use Rattle.loops.specs.Run.{HasShapeOf, cell_of, opening_of, plain};
 ghost use Rattle.loops.specs.Text.{value_name};
 ghost use Rattle.modsched.specs.Plain.{run_line, cell_text, cell_line, out_line, changed_line, cell_lines, array_lines, out_lines, run_lines, plain_lines, plain_outcome};
-ghost use Rattle.modsched.specs.Refusals.{OutcomeAnswers};
+ghost use Rattle.modsched.specs.Refusals.{HasOneMemory, OutcomeAnswers};
 
 use crate::lines::{push_last, push_number, push_signed};
 use crate::status::Status;
@@ -17,7 +17,8 @@ use std::alloc::{AllocError, Global};
 
 /// What `plain` writes for a loop text, or the status of its refusal.
 pub(crate) fn plain_text(alloc: Global, loops: &[u8], trip: Trip) -> Result<Vec<u8>, Status>
-    ensures { OutcomeAnswers (plain_outcome trip (loops_in loops.now)) result }
+    ensures exact { OutcomeAnswers (plain_outcome trip (loops_in loops.now)) result }
+    ensures memory { IfErr result HasOneMemory }
 {
     let loops = read_loops(alloc, loops)?;
     let mut text = Vec::new(alloc);

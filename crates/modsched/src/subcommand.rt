@@ -5,7 +5,7 @@ ghost use Rattle.machine.specs.MachineText.{machine_of};
 ghost use Rattle.loops.specs.Meaning.{loops_in};
 ghost use Rattle.modsched.specs.Bounds.{Bounds};
 ghost use Rattle.modsched.specs.Devices.{most_read};
-ghost use Rattle.modsched.specs.Engine.{Does, Ends, EndsWritten, reads_machine};
+ghost use Rattle.modsched.specs.Engine.{CountsFault, Does, Ends, EndsWritten, reads_machine};
 ghost use Rattle.modsched.specs.Outcomes.{Outcome};
 ghost use Rattle.modsched.specs.Plain.{plain_outcome};
 ghost use Rattle.modsched.specs.Statuses.{number_of};
@@ -39,16 +39,30 @@ pub fn engine<M: Input, L: Input, O: Output>(
     ensures loops_unread { (result ≡ Status.LoopsUnread) ↔ (L.failed loops_input.old < L.failed loops_input.new) }
     ensures unwritten { (result ≡ Status.Unwritten) ↔ (O.failed output.old < O.failed output.new) }
 
+    // It rose by one there, and else it stayed.
+    ensures machine_faults { CountsFault (result ≡ Status.MachineUnread) (M.failed machine_input.old) (M.failed machine_input.new) }
+    ensures loops_faults { CountsFault (result ≡ Status.LoopsUnread) (L.failed loops_input.old) (L.failed loops_input.new) }
+    ensures output_faults { CountsFault (result ≡ Status.Unwritten) (O.failed output.old) (O.failed output.new) }
+
+    // Want of memory has one status.
+    ensures memory { number_of result ≡ 7 → result ≡ Status.OutOfMemory }
+
     // What was written is the text of the subcommand, for the bytes that the inputs had left, or a beginning of it, or nothing.
     ensures exact { number_of result ≢ 3 → number_of result ≢ 7
         → Does command.now (M.left machine_input.old) (L.left loops_input.old) (λ outcome. Ends outcome (O.taken output.old) (O.taken output.new) result) }
     ensures silent { number_of result ≢ 0 → number_of result ≢ 6 → O.taken output.new ≡ O.taken output.old }
+    ensures unused { number_of result ≢ 0 → number_of result ≢ 6 → output.new ≡ output.old }
 
     // Each input that the command reads is read to its end, or to one byte past what a text may have. One that it does not read is left alone.
     ensures machine_read { reads_machine command.now ≡ true → number_of result ≢ 3 → number_of result ≢ 7
         → IfSome (M.left machine_input.old) (λ bytes. M.left machine_input.new ≡ Some (drop most_read bytes)) }
     ensures loops_read { number_of result ≢ 3 → number_of result ≢ 7 → IfSome (L.left loops_input.old) (λ bytes. L.left loops_input.new ≡ Some (drop most_read bytes)) }
     ensures untouched { reads_machine command.now ≡ false → machine_input.new ≡ machine_input.old }
+
+    // The machine's input comes first: where it fails the loops' input is left alone, and where that fails the machine's was read.
+    ensures machine_first { result ≡ Status.MachineUnread → loops_input.new ≡ loops_input.old }
+    ensures loops_last { reads_machine command.now ≡ true → result ≡ Status.LoopsUnread
+        → IfSome (M.left machine_input.old) (λ bytes. M.left machine_input.new ≡ Some (drop most_read bytes)) }
 {
     match command {
         Command::Bounds { .. } => bounds(alloc, machine_input, loops_input, output),
@@ -70,12 +84,19 @@ fn bounds<M: Input, L: Input, O: Output>(
     ensures machine_unread { (result ≡ Status.MachineUnread) ↔ (M.failed machine_input.old < M.failed machine_input.new) }
     ensures loops_unread { (result ≡ Status.LoopsUnread) ↔ (L.failed loops_input.old < L.failed loops_input.new) }
     ensures unwritten { (result ≡ Status.Unwritten) ↔ (O.failed output.old < O.failed output.new) }
+    ensures machine_faults { CountsFault (result ≡ Status.MachineUnread) (M.failed machine_input.old) (M.failed machine_input.new) }
+    ensures loops_faults { CountsFault (result ≡ Status.LoopsUnread) (L.failed loops_input.old) (L.failed loops_input.new) }
+    ensures output_faults { CountsFault (result ≡ Status.Unwritten) (O.failed output.old) (O.failed output.new) }
+    ensures memory { number_of result ≡ 7 → result ≡ Status.OutOfMemory }
     ensures exact { (machine loops : List ℕ) → M.left machine_input.old ≡ Some machine → L.left loops_input.old ≡ Some loops
         → number_of result ≢ 3 → number_of result ≢ 7
         → (outcome : Outcome) × Bounds (machine_of machine) (loops_in loops) outcome × Ends outcome (O.taken output.old) (O.taken output.new) result }
     ensures silent { number_of result ≢ 0 → number_of result ≢ 6 → O.taken output.new ≡ O.taken output.old }
+    ensures unused { number_of result ≢ 0 → number_of result ≢ 6 → output.new ≡ output.old }
     ensures machine_read { number_of result ≢ 3 → number_of result ≢ 7 → IfSome (M.left machine_input.old) (λ bytes. M.left machine_input.new ≡ Some (drop most_read bytes)) }
     ensures loops_read { number_of result ≢ 3 → number_of result ≢ 7 → IfSome (L.left loops_input.old) (λ bytes. L.left loops_input.new ≡ Some (drop most_read bytes)) }
+    ensures machine_first { result ≡ Status.MachineUnread → loops_input.new ≡ loops_input.old }
+    ensures loops_last { result ≡ Status.LoopsUnread → IfSome (M.left machine_input.old) (λ bytes. M.left machine_input.new ≡ Some (drop most_read bytes)) }
 {
     let machine = match read_text(alloc, machine_input) {
         Ok(machine) => machine,
@@ -106,9 +127,13 @@ fn plain<L: Input, O: Output>(
     ensures machine_read { ¬ (result ≡ Status.MachineUnread) }
     ensures loops_unread { (result ≡ Status.LoopsUnread) ↔ (L.failed loops_input.old < L.failed loops_input.new) }
     ensures unwritten { (result ≡ Status.Unwritten) ↔ (O.failed output.old < O.failed output.new) }
+    ensures loops_faults { CountsFault (result ≡ Status.LoopsUnread) (L.failed loops_input.old) (L.failed loops_input.new) }
+    ensures output_faults { CountsFault (result ≡ Status.Unwritten) (O.failed output.old) (O.failed output.new) }
+    ensures memory { number_of result ≡ 7 → result ≡ Status.OutOfMemory }
     ensures exact { (loops : List ℕ) → L.left loops_input.old ≡ Some loops → number_of result ≢ 3 → number_of result ≢ 7
         → Ends (plain_outcome trip (loops_in loops)) (O.taken output.old) (O.taken output.new) result }
     ensures silent { number_of result ≢ 0 → number_of result ≢ 6 → O.taken output.new ≡ O.taken output.old }
+    ensures unused { number_of result ≢ 0 → number_of result ≢ 6 → output.new ≡ output.old }
     ensures loops_read { number_of result ≢ 3 → number_of result ≢ 7 → IfSome (L.left loops_input.old) (λ bytes. L.left loops_input.new ≡ Some (drop most_read bytes)) }
 {
     let loops = match read_text(alloc, loops_input) {
@@ -128,6 +153,7 @@ fn finish<O: Output>(output: &mut O, text: &[u8]) -> Status
     requires { O.failed output.old < 2 ^ 64 - 1 }
     ensures ends { EndsWritten text.now (O.taken output.old) (O.taken output.new) result }
     ensures unwritten { (result ≡ Status.Unwritten) ↔ (O.failed output.old < O.failed output.new) }
+    ensures faults { CountsFault (result ≡ Status.Unwritten) (O.failed output.old) (O.failed output.new) }
 {
     match write_text(output, text) {
         Ok(()) => Status::Done,

@@ -49,6 +49,10 @@ impl Trip {
 }
 
 impl fmt::Debug for Trip {
+    ghost use Rattle.std.specs.Prelude.{Some, decimal};
+
+    ghost debug_output = { λ t. Some (decimal t) };
+
     fn fmt<W: fmt::Write>(&self, f: &mut fmt::Formatter<W>) -> fmt::Result {
         fmt::Debug::fmt(&self.count, f)
     }

@@ -1,6 +1,9 @@
 //! The program `modsched`: software pipelining of innermost loops for a described VLIW machine.
 #![tactic(auto)]
 
+ghost use Rattle.std.specs.Prelude.{IfOk};
+ghost use Rattle.program.specs.Exits.{IsExit, IsOfStatus, IsOfUsage};
+
 use modsched::{Command, FileInput, StandardOutput, Usage, engine, parse_line};
 use std::env;
 use std::io::ErrorKind;
@@ -8,14 +11,23 @@ use std::process::ExitCode;
 use std::rt::{Env, Files};
 
 fn main(rt: HostRuntime) -> ExitCode {
-    match run(&rt) {
-        Ok(number) => ExitCode::from(number),
-        Err(usage) => ExitCode::from(tell(&rt, &usage)),
+    ExitCode::from(exit_number(&rt))
+}
+
+/// Does what the command line asks for, or tells why it asks for nothing. Answers the number to exit with.
+fn exit_number<R: AllocGlobal + Env + Eprint + Files + Print>(rt: &R) -> u8
+    ensures { IsExit result }
+{
+    match run(rt) {
+        Ok(number) => number,
+        Err(usage) => tell(rt, &usage),
     }
 }
 
 /// Reads the command line and does what it asks for. Answers the number to exit with.
-fn run<R: AllocGlobal + Env + Eprint + Files + Print>(rt: &R) -> Result<u8, Usage> {
+fn run<R: AllocGlobal + Env + Eprint + Files + Print>(rt: &R) -> Result<u8, Usage>
+    ensures { IfOk result IsOfStatus }
+{
     let alloc = rt.alloc();
     let given = match env::args(rt) {
         Ok(given) => given,
@@ -33,7 +45,9 @@ fn run<R: AllocGlobal + Env + Eprint + Files + Print>(rt: &R) -> Result<u8, Usag
 
 /// Does the work of a command over its files and the standard output, and tells of a fault. A file is
 /// opened where its input is first read, so that of a machine only for a command that reads one.
-fn work<R: AllocGlobal + Eprint + Files + Print>(rt: &R, command: &Command) -> u8 {
+fn work<R: AllocGlobal + Eprint + Files + Print>(rt: &R, command: &Command) -> u8
+    ensures { IsOfStatus result }
+{
     let (machine, loops) = match command {
         Command::Bounds { machine, loops } => (machine.as_str(), loops.as_str()),
         Command::Plain { loops, .. } => ("", loops.as_str()),
@@ -49,7 +63,9 @@ fn work<R: AllocGlobal + Eprint + Files + Print>(rt: &R, command: &Command) -> u
 }
 
 /// Prints a help to the standard output, and what is wrong with a line to the standard error.
-fn tell<R: Eprint + Print>(rt: &R, usage: &Usage) -> u8 {
+fn tell<R: Eprint + Print>(rt: &R, usage: &Usage) -> u8
+    ensures { IsOfUsage usage.now result }
+{
     match usage {
         Usage::Help(text) => match print!(rt; "{text}") {
             Ok(()) => 0,

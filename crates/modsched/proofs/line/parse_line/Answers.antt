@@ -22,7 +22,10 @@ returns-in-Ok c =
     let same : app_of c.in_ok-program.field-0 ≡ program_line = c.in_ok-program.ensures in
     let rows : subcommand_rows_of c.in-Ok.matches ≡ subcommand_of program_line (texts c.args.words.now) =
     (c.in-Ok.ensures.matches (ap is_simple same ∙ program_is_simple)).1 ∙ ap (λ (a : App). subcommand_of a (texts c.args.words.now)) same in
-    inr (Means-nowhere _ _ _ c.in-None.is c.in_ok-command-in-Ok.ensures.none rows)
+    inr (
+      ap (λ (a : App). fault_of a (texts c.args.words.now)) (sym same) ∙ c.in-Ok.ensures.kinds (ap is_simple_and_free same ∙ program_is_free),
+      Means-nowhere _ _ _ c.in-None.is c.in_ok-command-in-Ok.ensures.none rows,
+    )
 
 pub returns : goal.returns
 returns c =

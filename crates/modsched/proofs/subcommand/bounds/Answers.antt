@@ -9,10 +9,10 @@ pub returns-in-Ok-bounds_text-clause-exact : goal.returns-in-Ok-bounds_text-clau
 returns-in-Ok-bounds_text-clause-exact g c machine loops m l read remembered =
     let mm : machine_of c.as_slice.result.now ≡ machine_of machine = ap machine_of (c.as_slice.ensures.value ∙ (rw m at c.in-Ok.ensures.text)) ∙ machine_of-take machine in
     let ll : loops_in c.as_slice-2.result.now ≡ loops_in loops = ap loops_in (c.as_slice-2.ensures.value ∙ (rw l at c.in-Ok-read_text.ensures.text)) ∙ loops_in-take loops in
-    (Written c.in-Ok-bounds_text.text.items, rw (mm, ll) at c.in-Ok-bounds_text.ensures, rw c.as_slice-in-Ok-bounds_text.ensures.value at c.finish.ensures.ends)
+    (Written c.in-Ok-bounds_text.text.items, rw (mm, ll) at c.in-Ok-bounds_text.ensures.exact, rw c.as_slice-in-Ok-bounds_text.ensures.value at c.finish.ensures.ends)
 
 pub returns-clause-exact : goal.returns-clause-exact
 returns-clause-exact g c machine loops m l read remembered =
     let mm : machine_of c.as_slice.result.now ≡ machine_of machine = ap machine_of (c.as_slice.ensures.value ∙ (rw m at c.in-Ok.ensures.text)) ∙ machine_of-take machine in
     let ll : loops_in c.as_slice-2.result.now ≡ loops_in loops = ap loops_in (c.as_slice-2.ensures.value ∙ (rw l at c.in-Ok-read_text.ensures.text)) ∙ loops_in-take loops in
-    refusal_ends c.in-Err.status _ _ _ (rw (mm, ll) at c.in-Err.ensures) remembered
+    refusal_ends c.in-Err.status _ _ _ (rw (mm, ll) at c.in-Err.ensures.exact) remembered
