@@ -16,14 +16,15 @@ pub fn apply(opcode: Opcode, operands: &[i64]) -> i64
 {
     match operands {
         [a] => *a,
-        [a, b] => combined(opcode, *a, *b),
+        [a, b] => apply_two(opcode, *a, *b),
         [condition, a, b] => chosen(*condition, *a, *b),
         _ => unreachable!(),
     }
 }
 
-/// The value of an opcode of two operands, which is 0 for any other.
-pub(crate) fn combined(opcode: Opcode, a: i64, b: i64) -> i64
+/// The value that an opcode of two operands gives of them, as `apply` does, and 0 for any other opcode.
+/// For callers that have the operands apart, and want neither a slice nor a look at its length.
+pub fn apply_two(opcode: Opcode, a: i64, b: i64) -> i64
     ensures { result ≡ apply_two opcode a b }
 {
     match opcode {

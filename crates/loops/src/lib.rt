@@ -27,7 +27,7 @@ mod window;
 mod words;
 mod write;
 
-pub use arithmetic::apply;
+pub use arithmetic::{apply, apply_two};
 pub use fault::{LoopFault, LoopFaultKind};
 pub use innermost::Loop;
 pub use lists::{Array, Cells, Initial, Operands, Param};

@@ -1,6 +1,6 @@
 use Rattle.std.proofs.Common.{rules}
 use Rattle.std.proofs.lemmas.Int.{wraps}
-use Rattle.loops.proofs.arithmetic.combined.Goals as goal
+use Rattle.loops.proofs.arithmetic.apply_two.Goals as goal
 
 pub returns-in-Add : goal.returns-in-Add
 returns-in-Add c = search (rules, wraps)
