@@ -3,12 +3,12 @@
 ghost use Rattle.std.specs.Prelude.{◌≡◌, if◌then◌else◌, is_some, option_map};
 ghost use Rattle.loops.specs.Forms.{Malformed, array_line, compute_line, end_line, form_of, init_line, ints_of, is_memory, line_form, load_line, loop_line, out_line, param_line, store_line, value_line};
 ghost use Rattle.loops.specs.Parsed.{form_seen};
-ghost use Rattle.loops.specs.Words.{pieces_of, words_of};
+ghost use Rattle.loops.specs.Words.{words_of};
 
 use crate::name::is_name;
 use crate::number::int_of;
 use crate::operand::{at_of, guard_of, place_of, use_of, uses_of};
-use crate::words::{is_text, next_word, one_word, three_words, without_comment};
+use crate::words::{is_text, next_word, one_word, three_words};
 use machine::Opcode;
 
 /// A use of a statement. Numbers outside their limits are `None`.
@@ -61,14 +61,14 @@ pub(crate) enum Form<'a> {
 pub(crate) fn form_of(line: &[u8]) -> Option<Form<'_>>
     ensures { option_map form_seen result ≡ line_form (words_of line.now) }
 {
-    let (word, rest) = next_word(without_comment(line))?;
+    let (word, rest) = next_word(line)?;
     Some(form_from(word, rest))
 }
 
 /// The form of a line by its first word and the rest.
 #[tactic(auto, unfolding(crate::specs::Forms::form_of))]
 fn form_from<'a>(word: &'a [u8], rest: &'a [u8]) -> Form<'a>
-    ensures { form_seen result ≡ form_of word.now (pieces_of rest.now) }
+    ensures { form_seen result ≡ form_of word.now (words_of rest.now) }
 {
     if is_text(word, "loop") {
         return loop_line(rest);
@@ -96,7 +96,7 @@ fn form_from<'a>(word: &'a [u8], rest: &'a [u8]) -> Form<'a>
 
 /// `loop NAME`
 fn loop_line(rest: &[u8]) -> Form<'_>
-    ensures { form_seen result ≡ loop_line (pieces_of rest.now) }
+    ensures { form_seen result ≡ loop_line (words_of rest.now) }
 {
     match one_word(rest) {
         Some(name) if is_name(name) => Form::Loop(name),
@@ -106,7 +106,7 @@ fn loop_line(rest: &[u8]) -> Form<'_>
 
 /// `out NAME`
 fn out_line(rest: &[u8]) -> Form<'_>
-    ensures { form_seen result ≡ out_line (pieces_of rest.now) }
+    ensures { form_seen result ≡ out_line (words_of rest.now) }
 {
     match one_word(rest) {
         Some(name) if is_name(name) => Form::Out(name),
@@ -116,7 +116,7 @@ fn out_line(rest: &[u8]) -> Form<'_>
 
 /// `end`
 fn end_line(rest: &[u8]) -> Form<'_>
-    ensures { form_seen result ≡ end_line (pieces_of rest.now) }
+    ensures { form_seen result ≡ end_line (words_of rest.now) }
 {
     match next_word(rest) {
         None => Form::End,
@@ -126,7 +126,7 @@ fn end_line(rest: &[u8]) -> Form<'_>
 
 /// The words are integers.
 fn are_ints(words: &[u8]) -> bool
-    ensures { result ≡ is_some (ints_of (pieces_of words.now)) }
+    ensures { result ≡ is_some (ints_of (words_of words.now)) }
 {
     let mut rest = words;
     while let Some((word, more)) = next_word(rest) {
@@ -140,7 +140,7 @@ fn are_ints(words: &[u8]) -> bool
 
 /// `array NAME = INT INT ..`
 fn array_line(rest: &[u8]) -> Form<'_>
-    ensures { form_seen result ≡ array_line (pieces_of rest.now) }
+    ensures { form_seen result ≡ array_line (words_of rest.now) }
 {
     let Some((name, rest)) = next_word(rest) else {
         return Form::Malformed;
@@ -157,7 +157,7 @@ fn array_line(rest: &[u8]) -> Form<'_>
 
 /// `param NAME = INT`
 fn param_line(rest: &[u8]) -> Form<'_>
-    ensures { form_seen result ≡ param_line (pieces_of rest.now) }
+    ensures { form_seen result ≡ param_line (words_of rest.now) }
 {
     let Some((name, equals, value)) = three_words(rest) else {
         return Form::Malformed;
@@ -173,7 +173,7 @@ fn param_line(rest: &[u8]) -> Form<'_>
 
 /// `init NAME@NUM = INT`
 fn init_line(rest: &[u8]) -> Form<'_>
-    ensures { form_seen result ≡ init_line (pieces_of rest.now) }
+    ensures { form_seen result ≡ init_line (words_of rest.now) }
 {
     let Some((what, equals, value)) = three_words(rest) else {
         return Form::Malformed;
@@ -193,7 +193,7 @@ fn init_line(rest: &[u8]) -> Form<'_>
 /// `store NAME[SUB] USE`, and `store NAME[SUB] USE if USE`
 #[tactic(auto, using(crate::proofs::Stores::no_guard, crate::proofs::Stores::no_uses, crate::proofs::Stores::last_nothing, crate::proofs::Stores::store_by_parts))]
 fn store_line(rest: &[u8]) -> Form<'_>
-    ensures { form_seen result ≡ store_line (pieces_of rest.now) }
+    ensures { form_seen result ≡ store_line (words_of rest.now) }
 {
     let Some((place, rest)) = next_word(rest) else {
         return Form::Malformed;
@@ -224,7 +224,7 @@ fn store_line(rest: &[u8]) -> Form<'_>
 
 /// A statement that gives a value.
 fn value_line<'a>(name: &'a [u8], rest: &'a [u8]) -> Form<'a>
-    ensures { form_seen result ≡ value_line name.now (pieces_of rest.now) }
+    ensures { form_seen result ≡ value_line name.now (words_of rest.now) }
 {
     let Some((equals, rest)) = next_word(rest) else {
         return Form::Malformed;
@@ -244,7 +244,7 @@ fn value_line<'a>(name: &'a [u8], rest: &'a [u8]) -> Form<'a>
 
 /// `NAME = load NAME[SUB]`
 fn load_line<'a>(name: &'a [u8], rest: &'a [u8]) -> Form<'a>
-    ensures { form_seen result ≡ load_line name.now (pieces_of rest.now) }
+    ensures { form_seen result ≡ load_line name.now (words_of rest.now) }
 {
     let Some(place) = one_word(rest) else {
         return Form::Malformed;
@@ -266,7 +266,7 @@ fn load_line<'a>(name: &'a [u8], rest: &'a [u8]) -> Form<'a>
 
 /// `NAME = OP USE ..`, with as many uses as the opcode takes
 fn compute_line<'a>(name: &'a [u8], opcode: Opcode, rest: &'a [u8]) -> Form<'a>
-    ensures { form_seen result ≡ (if is_memory opcode then Malformed else compute_line name.now opcode (pieces_of rest.now)) }
+    ensures { form_seen result ≡ (if is_memory opcode then Malformed else compute_line name.now opcode (words_of rest.now)) }
 {
     match uses_of(opcode, rest) {
         None => Form::Malformed,

@@ -4,7 +4,7 @@ ghost use Rattle.std.specs.Prelude.{◌≡◌, ◌==◌, ◌<◌, if◌then◌el
 ghost use Rattle.std.specs.List.{before_first, after_first, list_any, position_or_len};
 ghost use Rattle.loops.specs.Forms.{at_of, is_memory, operands_of, place_of, use_of, uses_of};
 ghost use Rattle.loops.specs.Parsed.{at_seen, guard_of, guard_seen, subscript_seen, use_seen, uses_seen};
-ghost use Rattle.loops.specs.Words.{pieces_of};
+ghost use Rattle.loops.specs.Words.{words_of};
 
 use crate::form::{Subscript, Use, Uses};
 use crate::name::is_name;
@@ -63,7 +63,7 @@ pub(crate) fn place_of(word: &[u8]) -> Option<Subscript<'_>>
 
 /// The use of a rest that has one word.
 fn one_use(rest: &[u8]) -> Option<Uses<'_>>
-    ensures { option_map uses_seen result ≡ (if length (pieces_of rest.now) == 1 then uses_of (pieces_of rest.now) else None) }
+    ensures { option_map uses_seen result ≡ (if length (words_of rest.now) == 1 then uses_of (words_of rest.now) else None) }
 {
     let first = use_of(one_word(rest)?)?;
     Some(Uses {
@@ -75,7 +75,7 @@ fn one_use(rest: &[u8]) -> Option<Uses<'_>>
 
 /// The uses of a rest that has two words.
 fn two_uses(rest: &[u8]) -> Option<Uses<'_>>
-    ensures { option_map uses_seen result ≡ (if length (pieces_of rest.now) == 2 then uses_of (pieces_of rest.now) else None) }
+    ensures { option_map uses_seen result ≡ (if length (words_of rest.now) == 2 then uses_of (words_of rest.now) else None) }
 {
     let (first, second) = two_words(rest)?;
     let first = use_of(first)?;
@@ -89,7 +89,7 @@ fn two_uses(rest: &[u8]) -> Option<Uses<'_>>
 
 /// The uses of a rest that has three words.
 fn three_uses(rest: &[u8]) -> Option<Uses<'_>>
-    ensures { option_map uses_seen result ≡ (if length (pieces_of rest.now) == 3 then uses_of (pieces_of rest.now) else None) }
+    ensures { option_map uses_seen result ≡ (if length (words_of rest.now) == 3 then uses_of (words_of rest.now) else None) }
 {
     let (first, second, third) = three_words(rest)?;
     let first = use_of(first)?;
@@ -105,7 +105,7 @@ fn three_uses(rest: &[u8]) -> Option<Uses<'_>>
 /// As many uses as an opcode takes that is neither `load` nor `store`.
 pub(crate) fn uses_of(opcode: Opcode, rest: &[u8]) -> Option<Uses<'_>>
     ensures { option_map uses_seen result
-        ≡ (if is_memory opcode then None else (if length (pieces_of rest.now) == operands_of opcode then uses_of (pieces_of rest.now) else None)) }
+        ≡ (if is_memory opcode then None else (if length (words_of rest.now) == operands_of opcode then uses_of (words_of rest.now) else None)) }
 {
     match opcode {
         Opcode::Load | Opcode::Store => None,
@@ -117,7 +117,7 @@ pub(crate) fn uses_of(opcode: Opcode, rest: &[u8]) -> Option<Uses<'_>>
 
 /// What follows the value of a `store`: nothing, or `if USE`. The outer `Option` is whether it does.
 pub(crate) fn guard_of(rest: &[u8]) -> Option<Option<Use<'_>>>
-    ensures { option_map guard_seen result ≡ guard_of (pieces_of rest.now) }
+    ensures { option_map guard_seen result ≡ guard_of (words_of rest.now) }
 {
     let Some((word, rest)) = next_word(rest) else {
         return Some(None);
