@@ -1,14 +1,14 @@
 //! The form of a line, by its words alone.
 
-ghost use Rattle.std.specs.Prelude.{◌≡◌, if◌then◌else◌, is_some, option_map};
-ghost use Rattle.loops.specs.Forms.{Malformed, array_line, compute_line, end_line, form_of, init_line, ints_of, is_memory, line_form, load_line, loop_line, out_line, param_line, store_line, value_line};
+ghost use Rattle.std.specs.Prelude.{◌≡◌, is_some, option_map};
+ghost use Rattle.loops.specs.Forms.{Malformed, array_line, compute_line, end_line, form_of, init_line, ints_of, line_form, load_line, loop_line, operands_of, out_line, param_line, store_line, value_line};
 ghost use Rattle.loops.specs.Parsed.{form_seen};
 ghost use Rattle.loops.specs.Words.{words_of};
 
 use crate::name::is_name;
 use crate::number::int_of;
-use crate::operand::{at_of, guard_of, place_of, use_of, uses_of};
-use crate::words::{is_text, next_word, one_word, three_words};
+use crate::operand::{at_of, guard_of, place_of, use_of};
+use crate::words::{is_text, next_word, one_word, three_words, two_words};
 use machine::Opcode;
 
 /// A use of a statement. Numbers outside their limits are `None`.
@@ -62,36 +62,28 @@ pub(crate) fn form_of(line: &[u8]) -> Option<Form<'_>>
     ensures { option_map form_seen result ≡ line_form (words_of line.now) }
 {
     let (word, rest) = next_word(line)?;
-    Some(form_from(word, rest))
+    let mut form = Form::Malformed;
+    read_form(&mut form, word, rest);
+    Some(form)
 }
 
-/// The form of a line by its first word and the rest.
+/// Writes the form of a line by its first word and the rest. A form is large, so a statement is written
+/// where it is to stand.
 #[tactic(auto, unfolding(crate::specs::Forms::form_of))]
-fn form_from<'a>(word: &'a [u8], rest: &'a [u8]) -> Form<'a>
-    ensures { form_seen result ≡ form_of word.now (words_of rest.now) }
+fn read_form<'a>(form: &mut Form<'a>, word: &'a [u8], rest: &'a [u8])
+    requires { form_seen form.old ≡ Malformed }
+    ensures { form_seen form.new ≡ form_of word.now (words_of rest.now) }
 {
-    if is_text(word, "loop") {
-        return loop_line(rest);
+    match word {
+        [b'l', more @ ..] if is_text(more, "oop") => *form = loop_line(rest),
+        [b'a', more @ ..] if is_text(more, "rray") => *form = array_line(rest),
+        [b'p', more @ ..] if is_text(more, "aram") => *form = param_line(rest),
+        [b'i', more @ ..] if is_text(more, "nit") => *form = init_line(rest),
+        [b's', more @ ..] if is_text(more, "tore") => *form = store_line(rest),
+        [b'o', more @ ..] if is_text(more, "ut") => *form = out_line(rest),
+        [b'e', more @ ..] if is_text(more, "nd") => *form = end_line(rest),
+        _ => value_line(form, word, rest),
     }
-    if is_text(word, "array") {
-        return array_line(rest);
-    }
-    if is_text(word, "param") {
-        return param_line(rest);
-    }
-    if is_text(word, "init") {
-        return init_line(rest);
-    }
-    if is_text(word, "store") {
-        return store_line(rest);
-    }
-    if is_text(word, "out") {
-        return out_line(rest);
-    }
-    if is_text(word, "end") {
-        return end_line(rest);
-    }
-    value_line(word, rest)
 }
 
 /// `loop NAME`
@@ -223,36 +215,40 @@ fn store_line(rest: &[u8]) -> Form<'_>
 }
 
 /// A statement that gives a value.
-fn value_line<'a>(name: &'a [u8], rest: &'a [u8]) -> Form<'a>
-    ensures { form_seen result ≡ value_line name.now (words_of rest.now) }
+fn value_line<'a>(form: &mut Form<'a>, name: &'a [u8], rest: &'a [u8])
+    requires { form_seen form.old ≡ Malformed }
+    ensures { form_seen form.new ≡ value_line name.now (words_of rest.now) }
 {
     let Some((equals, rest)) = next_word(rest) else {
-        return Form::Malformed;
+        return;
     };
     let Some((opcode, rest)) = next_word(rest) else {
-        return Form::Malformed;
+        return;
     };
     if !is_name(name) || !is_text(equals, "=") {
-        return Form::Malformed;
+        return;
     }
     match Opcode::named(opcode) {
-        None => Form::Malformed,
-        Some(Opcode::Load) => load_line(name, rest),
-        Some(opcode) => compute_line(name, opcode, rest),
+        None | Some(Opcode::Store) => {}
+        Some(Opcode::Load) => load_line(form, name, rest),
+        Some(Opcode::Mov) => one_use_line(form, name, Opcode::Mov, rest),
+        Some(Opcode::Sel) => three_uses_line(form, name, Opcode::Sel, rest),
+        Some(opcode) => two_uses_line(form, name, opcode, rest),
     }
 }
 
 /// `NAME = load NAME[SUB]`
-fn load_line<'a>(name: &'a [u8], rest: &'a [u8]) -> Form<'a>
-    ensures { form_seen result ≡ load_line name.now (words_of rest.now) }
+fn load_line<'a>(form: &mut Form<'a>, name: &'a [u8], rest: &'a [u8])
+    requires { form_seen form.old ≡ Malformed }
+    ensures { form_seen form.new ≡ load_line name.now (words_of rest.now) }
 {
     let Some(place) = one_word(rest) else {
-        return Form::Malformed;
+        return;
     };
     let Some(place) = place_of(place) else {
-        return Form::Malformed;
+        return;
     };
-    Form::Statement(Source {
+    *form = Form::Statement(Source {
         opcode: Opcode::Load,
         name: Some(name),
         place: Some(place),
@@ -261,20 +257,86 @@ fn load_line<'a>(name: &'a [u8], rest: &'a [u8]) -> Form<'a>
             second: None,
             third: None,
         },
-    })
+    });
 }
 
-/// `NAME = OP USE ..`, with as many uses as the opcode takes
-fn compute_line<'a>(name: &'a [u8], opcode: Opcode, rest: &'a [u8]) -> Form<'a>
-    ensures { form_seen result ≡ (if is_memory opcode then Malformed else compute_line name.now opcode (words_of rest.now)) }
+/// `NAME = OP USE`
+fn one_use_line<'a>(form: &mut Form<'a>, name: &'a [u8], opcode: Opcode, rest: &'a [u8])
+    requires malformed { form_seen form.old ≡ Malformed }
+    requires one { operands_of opcode ≡ 1 }
+    ensures { form_seen form.new ≡ compute_line name.now opcode (words_of rest.now) }
 {
-    match uses_of(opcode, rest) {
-        None => Form::Malformed,
-        Some(uses) => Form::Statement(Source {
-            opcode,
-            name: Some(name),
-            place: None,
-            uses,
-        }),
-    }
+    let Some(first) = one_word(rest) else {
+        return;
+    };
+    let Some(first) = use_of(first) else {
+        return;
+    };
+    *form = Form::Statement(Source {
+        opcode,
+        name: Some(name),
+        place: None,
+        uses: Uses {
+            first: Some(first),
+            second: None,
+            third: None,
+        },
+    });
+}
+
+/// `NAME = OP USE USE`
+fn two_uses_line<'a>(form: &mut Form<'a>, name: &'a [u8], opcode: Opcode, rest: &'a [u8])
+    requires malformed { form_seen form.old ≡ Malformed }
+    requires two { operands_of opcode ≡ 2 }
+    ensures { form_seen form.new ≡ compute_line name.now opcode (words_of rest.now) }
+{
+    let Some((first, second)) = two_words(rest) else {
+        return;
+    };
+    let Some(first) = use_of(first) else {
+        return;
+    };
+    let Some(second) = use_of(second) else {
+        return;
+    };
+    *form = Form::Statement(Source {
+        opcode,
+        name: Some(name),
+        place: None,
+        uses: Uses {
+            first: Some(first),
+            second: Some(second),
+            third: None,
+        },
+    });
+}
+
+/// `NAME = OP USE USE USE`
+fn three_uses_line<'a>(form: &mut Form<'a>, name: &'a [u8], opcode: Opcode, rest: &'a [u8])
+    requires malformed { form_seen form.old ≡ Malformed }
+    requires three { operands_of opcode ≡ 3 }
+    ensures { form_seen form.new ≡ compute_line name.now opcode (words_of rest.now) }
+{
+    let Some((first, second, third)) = three_words(rest) else {
+        return;
+    };
+    let Some(first) = use_of(first) else {
+        return;
+    };
+    let Some(second) = use_of(second) else {
+        return;
+    };
+    let Some(third) = use_of(third) else {
+        return;
+    };
+    *form = Form::Statement(Source {
+        opcode,
+        name: Some(name),
+        place: None,
+        uses: Uses {
+            first: Some(first),
+            second: Some(second),
+            third: Some(third),
+        },
+    });
 }

@@ -2,17 +2,14 @@
 
 ghost use Rattle.std.specs.Prelude.{◌≡◌, ◌==◌, ◌<◌, if◌then◌else◌, None, length, MatchOption, option_map};
 ghost use Rattle.std.specs.List.{before_first, after_first, list_any, position_or_len};
-ghost use Rattle.loops.specs.Forms.{at_of, is_memory, operands_of, place_of, use_of, uses_of};
-ghost use Rattle.loops.specs.Parsed.{at_seen, guard_of, guard_seen, subscript_seen, use_seen, uses_seen};
+ghost use Rattle.loops.specs.Forms.{at_of, place_of, use_of};
+ghost use Rattle.loops.specs.Parsed.{at_seen, guard_of, guard_seen, subscript_seen, use_seen};
 ghost use Rattle.loops.specs.Words.{words_of};
 
 use crate::form::{Subscript, Use, Uses};
 use crate::name::is_name;
 use crate::number::{int_of, small_of, subscript_of};
-use crate::words::{
-    before_byte, is_text, next_word, one_word, split_at_byte, three_words, two_words,
-};
-use machine::Opcode;
+use crate::words::{before_byte, is_text, next_word, one_word, split_at_byte};
 
 /// The name and the number of `NAME@NUM`. A number above 16 is `None`.
 #[tactic(auto, using(crate::proofs::AtSigns::any_there))]
@@ -59,60 +56,6 @@ pub(crate) fn place_of(word: &[u8]) -> Option<Subscript<'_>>
     }
     let offset = subscript_of(inner)?;
     Some(Subscript { array, offset })
-}
-
-/// The use of a rest that has one word.
-fn one_use(rest: &[u8]) -> Option<Uses<'_>>
-    ensures { option_map uses_seen result ≡ (if length (words_of rest.now) == 1 then uses_of (words_of rest.now) else None) }
-{
-    let first = use_of(one_word(rest)?)?;
-    Some(Uses {
-        first: Some(first),
-        second: None,
-        third: None,
-    })
-}
-
-/// The uses of a rest that has two words.
-fn two_uses(rest: &[u8]) -> Option<Uses<'_>>
-    ensures { option_map uses_seen result ≡ (if length (words_of rest.now) == 2 then uses_of (words_of rest.now) else None) }
-{
-    let (first, second) = two_words(rest)?;
-    let first = use_of(first)?;
-    let second = use_of(second)?;
-    Some(Uses {
-        first: Some(first),
-        second: Some(second),
-        third: None,
-    })
-}
-
-/// The uses of a rest that has three words.
-fn three_uses(rest: &[u8]) -> Option<Uses<'_>>
-    ensures { option_map uses_seen result ≡ (if length (words_of rest.now) == 3 then uses_of (words_of rest.now) else None) }
-{
-    let (first, second, third) = three_words(rest)?;
-    let first = use_of(first)?;
-    let second = use_of(second)?;
-    let third = use_of(third)?;
-    Some(Uses {
-        first: Some(first),
-        second: Some(second),
-        third: Some(third),
-    })
-}
-
-/// As many uses as an opcode takes that is neither `load` nor `store`.
-pub(crate) fn uses_of(opcode: Opcode, rest: &[u8]) -> Option<Uses<'_>>
-    ensures { option_map uses_seen result
-        ≡ (if is_memory opcode then None else (if length (words_of rest.now) == operands_of opcode then uses_of (words_of rest.now) else None)) }
-{
-    match opcode {
-        Opcode::Load | Opcode::Store => None,
-        Opcode::Mov => one_use(rest),
-        Opcode::Sel => three_uses(rest),
-        _ => two_uses(rest),
-    }
 }
 
 /// What follows the value of a `store`: nothing, or `if USE`. The outer `Option` is whether it does.
