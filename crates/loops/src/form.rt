@@ -67,52 +67,56 @@ pub(crate) fn form_of(line: &[u8]) -> Option<Form<'_>>
     Some(form)
 }
 
-/// Writes the form of a line by its first word and the rest. A form is large, so a statement is written
-/// where it is to stand.
+/// Writes the form of a line by its first word and the rest. A form is large, so each line function
+/// writes it where it is to stand, and leaves it malformed where the words are not of its form.
 #[tactic(auto, unfolding(crate::specs::Forms::form_of))]
 fn read_form<'a>(form: &mut Form<'a>, word: &'a [u8], rest: &'a [u8])
     requires { form_seen form.old ≡ Malformed }
     ensures { form_seen form.new ≡ form_of word.now (words_of rest.now) }
 {
     match word {
-        [b'l', more @ ..] if is_text(more, "oop") => *form = loop_line(rest),
-        [b'a', more @ ..] if is_text(more, "rray") => *form = array_line(rest),
-        [b'p', more @ ..] if is_text(more, "aram") => *form = param_line(rest),
-        [b'i', more @ ..] if is_text(more, "nit") => *form = init_line(rest),
-        [b's', more @ ..] if is_text(more, "tore") => *form = store_line(rest),
-        [b'o', more @ ..] if is_text(more, "ut") => *form = out_line(rest),
-        [b'e', more @ ..] if is_text(more, "nd") => *form = end_line(rest),
+        [b'l', more @ ..] if is_text(more, "oop") => loop_line(form, rest),
+        [b'a', more @ ..] if is_text(more, "rray") => array_line(form, rest),
+        [b'p', more @ ..] if is_text(more, "aram") => param_line(form, rest),
+        [b'i', more @ ..] if is_text(more, "nit") => init_line(form, rest),
+        [b's', more @ ..] if is_text(more, "tore") => store_line(form, rest),
+        [b'o', more @ ..] if is_text(more, "ut") => out_line(form, rest),
+        [b'e', more @ ..] if is_text(more, "nd") => end_line(form, rest),
         _ => value_line(form, word, rest),
     }
 }
 
 /// `loop NAME`
-fn loop_line(rest: &[u8]) -> Form<'_>
-    ensures { form_seen result ≡ loop_line (words_of rest.now) }
+fn loop_line<'a>(form: &mut Form<'a>, rest: &'a [u8])
+    requires { form_seen form.old ≡ Malformed }
+    ensures { form_seen form.new ≡ loop_line (words_of rest.now) }
 {
-    match one_word(rest) {
-        Some(name) if is_name(name) => Form::Loop(name),
-        _ => Form::Malformed,
+    if let Some(name) = one_word(rest)
+        && is_name(name)
+    {
+        *form = Form::Loop(name);
     }
 }
 
 /// `out NAME`
-fn out_line(rest: &[u8]) -> Form<'_>
-    ensures { form_seen result ≡ out_line (words_of rest.now) }
+fn out_line<'a>(form: &mut Form<'a>, rest: &'a [u8])
+    requires { form_seen form.old ≡ Malformed }
+    ensures { form_seen form.new ≡ out_line (words_of rest.now) }
 {
-    match one_word(rest) {
-        Some(name) if is_name(name) => Form::Out(name),
-        _ => Form::Malformed,
+    if let Some(name) = one_word(rest)
+        && is_name(name)
+    {
+        *form = Form::Out(name);
     }
 }
 
 /// `end`
-fn end_line(rest: &[u8]) -> Form<'_>
-    ensures { form_seen result ≡ end_line (words_of rest.now) }
+fn end_line<'a>(form: &mut Form<'a>, rest: &'a [u8])
+    requires { form_seen form.old ≡ Malformed }
+    ensures { form_seen form.new ≡ end_line (words_of rest.now) }
 {
-    match next_word(rest) {
-        None => Form::End,
-        Some(_) => Form::Malformed,
+    if next_word(rest).is_none() {
+        *form = Form::End;
     }
 }
 
@@ -131,78 +135,78 @@ fn are_ints(words: &[u8]) -> bool
 }
 
 /// `array NAME = INT INT ..`
-fn array_line(rest: &[u8]) -> Form<'_>
-    ensures { form_seen result ≡ array_line (words_of rest.now) }
+fn array_line<'a>(form: &mut Form<'a>, rest: &'a [u8])
+    requires { form_seen form.old ≡ Malformed }
+    ensures { form_seen form.new ≡ array_line (words_of rest.now) }
 {
     let Some((name, rest)) = next_word(rest) else {
-        return Form::Malformed;
+        return;
     };
     let Some((equals, cells)) = next_word(rest) else {
-        return Form::Malformed;
+        return;
     };
     if is_name(name) && is_text(equals, "=") && are_ints(cells) {
-        Form::Array(name, cells)
-    } else {
-        Form::Malformed
+        *form = Form::Array(name, cells);
     }
 }
 
 /// `param NAME = INT`
-fn param_line(rest: &[u8]) -> Form<'_>
-    ensures { form_seen result ≡ param_line (words_of rest.now) }
+fn param_line<'a>(form: &mut Form<'a>, rest: &'a [u8])
+    requires { form_seen form.old ≡ Malformed }
+    ensures { form_seen form.new ≡ param_line (words_of rest.now) }
 {
     let Some((name, equals, value)) = three_words(rest) else {
-        return Form::Malformed;
+        return;
     };
     if !is_name(name) || !is_text(equals, "=") {
-        return Form::Malformed;
+        return;
     }
-    match int_of(value) {
-        Some(value) => Form::Param(name, value),
-        None => Form::Malformed,
+    if let Some(value) = int_of(value) {
+        *form = Form::Param(name, value);
     }
 }
 
 /// `init NAME@NUM = INT`
-fn init_line(rest: &[u8]) -> Form<'_>
-    ensures { form_seen result ≡ init_line (words_of rest.now) }
+fn init_line<'a>(form: &mut Form<'a>, rest: &'a [u8])
+    requires { form_seen form.old ≡ Malformed }
+    ensures { form_seen form.new ≡ init_line (words_of rest.now) }
 {
     let Some((what, equals, value)) = three_words(rest) else {
-        return Form::Malformed;
+        return;
     };
     if !is_text(equals, "=") {
-        return Form::Malformed;
+        return;
     }
     let Some((name, number)) = at_of(what) else {
-        return Form::Malformed;
+        return;
     };
-    match int_of(value) {
-        Some(value) => Form::Init(name, number, value),
-        None => Form::Malformed,
+    if let Some(value) = int_of(value) {
+        *form = Form::Init(name, number, value);
     }
 }
 
 /// `store NAME[SUB] USE`, and `store NAME[SUB] USE if USE`
 #[tactic(auto, using(crate::proofs::Stores::no_guard, crate::proofs::Stores::no_uses, crate::proofs::Stores::last_nothing, crate::proofs::Stores::store_by_parts))]
-fn store_line(rest: &[u8]) -> Form<'_>
-    ensures { form_seen result ≡ store_line (words_of rest.now) }
+fn store_line<'a>(form: &mut Form<'a>, rest: &'a [u8])
+    requires { form_seen form.old ≡ Malformed }
+    ensures { form_seen form.new ≡ store_line (words_of rest.now) }
 {
     let Some((place, rest)) = next_word(rest) else {
-        return Form::Malformed;
+        return;
     };
     let Some((value, rest)) = next_word(rest) else {
-        return Form::Malformed;
+        return;
     };
     let Some(place) = place_of(place) else {
-        return Form::Malformed;
+        return;
     };
     let Some(value) = use_of(value) else {
-        return Form::Malformed;
+        return;
     };
     let Some(guard) = guard_of(rest) else {
-        return Form::Malformed;
+        return;
     };
-    Form::Statement(Source {
+    *form = Form::Statement(Source {
         opcode: Opcode::Store,
         name: None,
         place: Some(place),
@@ -211,7 +215,7 @@ fn store_line(rest: &[u8]) -> Form<'_>
             second: guard,
             third: None,
         },
-    })
+    });
 }
 
 /// A statement that gives a value.
