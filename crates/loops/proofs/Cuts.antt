@@ -49,7 +49,7 @@ blank_no_hash c h = grind (arith, nat_tests)
 position_next : (p : ℕ → Bool) (c : ℕ) (cs : List ℕ) → p c ≡ false → position_or_len p (c ∷ cs) ≡ 1 + position_or_len p cs
 position_next p c cs h = rw h refl
 
-before_next : (p : ℕ → Bool) (c : ℕ) (cs : List ℕ) → p c ≡ false → before_first p (c ∷ cs) ≡ c ∷ before_first p cs
+pub before_next : (p : ℕ → Bool) (c : ℕ) (cs : List ℕ) → p c ≡ false → before_first p (c ∷ cs) ≡ c ∷ before_first p cs
 before_next p c cs h =
     let one : 1 + position_or_len p cs ≡ suc (position_or_len p cs) = omega arith in
     ap (λ n. take n (c ∷ cs)) (position_next p c cs h ∙ one)

@@ -1,13 +1,13 @@
 //! The words of a statement: its cell and what it uses.
 
-ghost use Rattle.std.specs.Prelude.{◌≡◌, ◌==◌, ◌<◌, if◌then◌else◌, None, length, MatchOption, option_map};
-ghost use Rattle.std.specs.List.{before_first, after_first, list_any, position_or_len};
-ghost use Rattle.loops.specs.Forms.{at_of, place_of, use_of};
+ghost use Rattle.std.specs.Prelude.{◌≡◌, ◌==◌, ◌<◌, if◌then◌else◌, true, None, length, MatchOption, option_map};
+ghost use Rattle.std.specs.List.{before_first, after_first, list_all, list_any, position_or_len};
+ghost use Rattle.loops.specs.Forms.{at_of, is_name_byte, named_use_of, place_of, use_of};
 ghost use Rattle.loops.specs.Parsed.{at_seen, guard_of, guard_seen, subscript_seen, use_seen};
 ghost use Rattle.loops.specs.Words.{words_of};
 
 use crate::form::{Subscript, Use, Uses};
-use crate::name::is_name;
+use crate::name::{begins_name, count_name, is_name};
 use crate::number::{int_of, small_of, subscript_of};
 use crate::words::{before_byte, is_text, next_word, one_word, split_at_byte};
 
@@ -26,21 +26,47 @@ pub(crate) fn at_of(word: &[u8]) -> Option<(&[u8], Option<u8>)>
     }
 }
 
+/// The use `NAME@NUM` by its parts. All bytes of the first may stand in a name.
+fn use_at<'a>(name: &'a [u8], digits: &[u8]) -> Option<Use<'a>>
+    requires { list_all is_name_byte name.now ≡ true }
+    ensures { option_map use_seen result ≡ at_of name.now digits.now }
+{
+    let number = small_of(digits)?;
+    if begins_name(name) {
+        Some(Use::At(name, number))
+    } else {
+        None
+    }
+}
+
+/// A use that is no integer: a name or `NAME@NUM`.
+#[tactic(auto, using(crate::proofs::NameBytes::front_taken, crate::proofs::NameBytes::all_stand, crate::proofs::NameBytes::plain_use_taken, crate::proofs::NameBytes::at_use_taken, crate::proofs::NameBytes::no_use_taken))]
+fn named_use_of(word: &[u8]) -> Option<Use<'_>>
+    ensures { option_map use_seen result ≡ named_use_of word.now }
+{
+    let (name, rest) = word.split_at(count_name(word));
+    match rest {
+        [] => if begins_name(word) {
+            Some(Use::Plain(word))
+        } else {
+            None
+        },
+        [b'@', digits @ ..] => use_at(name, digits),
+        _ => None,
+    }
+}
+
 /// A use: an integer, a name or `NAME@NUM`.
-#[tactic(auto, using(crate::proofs::AtSigns::name_has_no_at), unfolding(crate::specs::Forms::use_of))]
+#[tactic(auto, using(crate::proofs::NameBytes::no_number, crate::proofs::NameBytes::no_number_empty, crate::proofs::NameBytes::no_named), unfolding(crate::specs::Forms::use_of))]
 pub(crate) fn use_of(word: &[u8]) -> Option<Use<'_>>
     ensures { option_map use_seen result ≡ use_of word.now }
 {
-    if let Some(value) = int_of(word) {
-        return Some(Use::Number(value));
-    }
-    if let Some((name, distance)) = at_of(word) {
-        return Some(Use::At(name, distance));
-    }
-    if is_name(word) {
-        Some(Use::Plain(word))
-    } else {
-        None
+    match word {
+        [first, ..] if *first == b'-' || first.is_ascii_digit() => {
+            let value = int_of(word)?;
+            Some(Use::Number(value))
+        }
+        _ => named_use_of(word),
     }
 }
 
