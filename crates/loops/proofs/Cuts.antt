@@ -1,8 +1,11 @@
 -- How a text falls into lines and a line into words, at a cut.
-use Rattle.std.proofs.Common.{◌≡◌, ◌==◌, ℕ, suc, ◌+◌, ◌-◌, ◌<◌, ◌≤◌, Bool, true, false, List, [], ◌∷◌, length, get_or, take, drop, refl, sym, ◌∙◌, ap, arith}
+use Rattle.std.proofs.Common.{◌≡◌, ◌==◌, ℕ, suc, ◌+◌, ◌-◌, ◌<◌, Bool, true, false, List, [], ◌∷◌, length, get_or, take, drop, refl, sym, ◌∙◌, ap, arith}
 use Rattle.std.proofs.lemmas.List.{take_rest, drop_more, take_all, drop_all}
 use Rattle.std.specs.List.{before_first, after_first, position_or_len}
-use Rattle.loops.specs.Words.{is_blank, ends_word, lines_of, onto_first, pieces_of, starts_blank}
+use Rattle.std.proofs.lemmas.Bool.{false_from_ne_true}
+use Rattle.std.proofs.lemmas.Bool.Decides.{nat_tests}
+use Rattle.std.proofs.lemmas.List.Sums.{position_or_len_is}
+use Rattle.loops.specs.Words.{is_blank, lines_of, onto_first, pieces_of, starts_blank, stops_word, words_of}
 
 -- a list that is not empty is its head and the rest, as a slice pattern takes them
 pub head_and_rest : (xs : List ℕ) → 0 < length xs → xs ≡ get_or xs 0 0 ∷ take (length xs - 1) (drop 1 xs)
@@ -27,34 +30,96 @@ line_cut [] h = absurd (omega arith)
 line_cut (c ∷ cs) h = line_cut-at c cs (c == 10) refl (line_cut cs)
 
 -- as slices take them
-pub line_taken : (text : List ℕ) (n : ℕ) → 0 < length text → n ≡ position_or_len (λ x. x == 10) text → lines_of text ≡ take n text ∷ lines_of (take (length text - (n + 1)) (drop (n + 1) text))
-line_taken text n h e = rw (take_rest text (n + 1), e) (line_cut text h)
+pub line_taken : (text : List ℕ) (n : ℕ) → n < length text → (get_or text n 0 == 10) ≡ true → ((k : ℕ) → k < n → (get_or text k 0 == 10) ≡ true → ⊥) → lines_of text ≡ take n text ∷ lines_of (take (length text - (n + 1)) (drop (n + 1) text))
+line_taken text n h at before =
+    let some : 0 < length text = omega arith in
+    let e = position_or_len_is (λ x. x == 10) text n 0 (omega arith) (λ k lt. false_from_ne_true (get_or text k 0 == 10) (before k lt)) (λ _. at) in
+    rw (take_rest text (n + 1), ← e) (line_cut text some)
 
-pub line_whole : (text : List ℕ) (n : ℕ) → 0 < length text → n ≡ position_or_len (λ x. x == 10) text → length text ≤ n → lines_of text ≡ text ∷ []
-line_whole text n h e past =
-    line_taken text n h e ∙ rw (take_rest text (n + 1), take_all n text past, drop_all (n + 1) text (omega arith)) refl
+pub line_whole : (text : List ℕ) → 0 < length text → ((k : ℕ) → k < length text → (get_or text k 0 == 10) ≡ true → ⊥) → lines_of text ≡ text ∷ []
+line_whole text h none =
+    let e = position_or_len_is (λ x. x == 10) text (length text) 0 (omega arith) (λ k lt. false_from_ne_true (get_or text k 0 == 10) (none k lt)) (λ lt. absurd (omega arith)) in
+    line_cut text h ∙ rw (e, take_all (length text) text (omega arith), drop_all (length text + 1) text (omega arith)) refl
 
 -- words
 
-word_longer : (c : ℕ) (cs : List ℕ) (p : ℕ) → pieces_of cs ≡ take p cs ∷ pieces_of (drop p cs) → onto_first c (pieces_of cs) ≡ take (1 + p) (c ∷ cs) ∷ pieces_of (drop (1 + p) (c ∷ cs))
+blank_no_hash : (c : ℕ) → is_blank c ≡ true → (c == 35) ≡ false
+blank_no_hash c h = grind (arith, nat_tests)
+
+position_next : (p : ℕ → Bool) (c : ℕ) (cs : List ℕ) → p c ≡ false → position_or_len p (c ∷ cs) ≡ 1 + position_or_len p cs
+position_next p c cs h = rw h refl
+
+pub before_next : (p : ℕ → Bool) (c : ℕ) (cs : List ℕ) → p c ≡ false → before_first p (c ∷ cs) ≡ c ∷ before_first p cs
+before_next p c cs h =
+    let one : 1 + position_or_len p cs ≡ suc (position_or_len p cs) = omega arith in
+    ap (λ n. take n (c ∷ cs)) (position_next p c cs h ∙ one)
+
+-- a blank in front is passed over
+words_of-blank : (c : ℕ) (cs : List ℕ) → is_blank c ≡ true → words_of (c ∷ cs) ≡ words_of cs
+words_of-blank c cs h = ap pieces_of (before_next (λ x. x == 35) c cs (blank_no_hash c h)) ∙ rw h refl
+
+-- as a slice pattern takes it
+pub blank_passed : (rest : List ℕ) → 0 < length rest → is_blank (get_or rest 0 0) ≡ true → words_of (take (length rest - 1) (drop 1 rest)) ≡ words_of rest
+blank_passed rest h blank =
+    let tail = take (length rest - 1) (drop 1 rest) in
+    sym (ap words_of (head_and_rest rest h) ∙ words_of-blank (get_or rest 0 0) tail blank)
+
+words_none-at : (c : ℕ) (cs : List ℕ) (hash : Bool) → (c == 35) ≡ hash → is_blank c ≡ false → position_or_len stops_word (c ∷ cs) ≡ 0 → words_of (c ∷ cs) ≡ []
+words_none-at c cs true e f h = rw e refl
+words_none-at c cs false e f h = let one = rw (f, e) at h in absurd (omega arith)
+
+-- nothing but a comment stands where neither a blank nor a word does
+pub words_none : (rest : List ℕ) → starts_blank rest ≡ false → position_or_len stops_word rest ≡ 0 → words_of rest ≡ []
+words_none [] f h = refl
+words_none (c ∷ cs) f h = words_none-at c cs (c == 35) refl f h
+
+word_longer : (c : ℕ) (cs : List ℕ) (p : ℕ) → words_of cs ≡ take p cs ∷ words_of (drop p cs) → onto_first c (words_of cs) ≡ take (1 + p) (c ∷ cs) ∷ words_of (drop (1 + p) (c ∷ cs))
 word_longer c cs p h = let one : 1 + p ≡ suc p = omega arith in rw (h, one) refl
 
-word_cut_more : (c : ℕ) (cs : List ℕ) → is_blank c ≡ false → ends_word cs ≡ false → pieces_of cs ≡ before_first is_blank cs ∷ pieces_of (drop (position_or_len is_blank cs) cs) → pieces_of (c ∷ cs) ≡ before_first is_blank (c ∷ cs) ∷ pieces_of (drop (position_or_len is_blank (c ∷ cs)) (c ∷ cs))
-word_cut_more c cs e f h = rw (e, f) (word_longer c cs (position_or_len is_blank cs) h)
+one_letter : (c d : ℕ) (xs : List ℕ) → is_blank c ≡ false → is_blank d ≡ true → pieces_of (c ∷ d ∷ xs) ≡ (c ∷ []) ∷ pieces_of (d ∷ xs)
+one_letter c d xs f h = rw (f, h) refl
 
-word_cut_end : (c : ℕ) (cs : List ℕ) → is_blank c ≡ false → ends_word cs ≡ true → position_or_len is_blank cs ≡ 0 → pieces_of (c ∷ cs) ≡ before_first is_blank (c ∷ cs) ∷ pieces_of (drop (position_or_len is_blank (c ∷ cs)) (c ∷ cs))
-word_cut_end c cs e f none = rw (e, f, none) refl
+more_letters : (c d : ℕ) (xs : List ℕ) → is_blank c ≡ false → is_blank d ≡ false → pieces_of (c ∷ d ∷ xs) ≡ onto_first c (pieces_of (d ∷ xs))
+more_letters c d xs f h = rw (f, h) refl
 
-word_cut-at : (c : ℕ) (cs : List ℕ) → is_blank c ≡ false → (starts_blank cs ≡ false → 0 < length cs → pieces_of cs ≡ before_first is_blank cs ∷ pieces_of (drop (position_or_len is_blank cs) cs)) → (b : Bool) → starts_blank cs ≡ b → pieces_of (c ∷ cs) ≡ before_first is_blank (c ∷ cs) ∷ pieces_of (drop (position_or_len is_blank (c ∷ cs)) (c ∷ cs))
-word_cut-at c [] e ih b f = rw e refl
-word_cut-at c (d ∷ ds) e ih true f = word_cut_end c (d ∷ ds) e f (rw f refl)
-word_cut-at c (d ∷ ds) e ih false f = word_cut_more c (d ∷ ds) e f (ih f (omega arith))
+word_cut-next : (c d : ℕ) (ds : List ℕ) (hash blank : Bool) → (c == 35) ≡ false → is_blank c ≡ false → (d == 35) ≡ hash → is_blank d ≡ blank
+    → (0 < position_or_len stops_word (d ∷ ds) → words_of (d ∷ ds) ≡ before_first stops_word (d ∷ ds) ∷ words_of (drop (position_or_len stops_word (d ∷ ds)) (d ∷ ds)))
+    → words_of (c ∷ d ∷ ds) ≡ before_first stops_word (c ∷ d ∷ ds) ∷ words_of (drop (position_or_len stops_word (c ∷ d ∷ ds)) (c ∷ d ∷ ds))
+word_cut-next c d ds true true e f g h ih = simp (e, f, g, h)
+word_cut-next c d ds true false e f g h ih = simp (e, f, g, h)
+word_cut-next c d ds false true e f g h ih =
+    let is_hash = λ (x : ℕ). x == 35 in
+    let one : position_or_len stops_word (c ∷ d ∷ ds) ≡ 1 = rw (f, e, h) refl in
+    ap pieces_of (before_next is_hash c (d ∷ ds) e ∙ ap (λ xs. c ∷ xs) (before_next is_hash d ds g))
+    ∙ one_letter c d (before_first is_hash ds) f h
+    ∙ ap (λ xs. (c ∷ []) ∷ pieces_of xs) (sym (before_next is_hash d ds g))
+    ∙ ap (λ n. take n (c ∷ d ∷ ds) ∷ words_of (drop n (c ∷ d ∷ ds))) (sym one)
+word_cut-next c d ds false false e f g h ih =
+    let is_hash = λ (x : ℕ). x == 35 in
+    let more : 0 < position_or_len stops_word (d ∷ ds) = rw (g, h) (omega arith) in
+    let goes_on : stops_word c ≡ false = rw (e, f) refl in
+    ap pieces_of (before_next is_hash c (d ∷ ds) e ∙ ap (λ xs. c ∷ xs) (before_next is_hash d ds g))
+    ∙ more_letters c d (before_first is_hash ds) f h
+    ∙ ap (λ xs. onto_first c (pieces_of xs)) (sym (before_next is_hash d ds g))
+    ∙ word_longer c (d ∷ ds) (position_or_len stops_word (d ∷ ds)) (ih more)
+    ∙ ap (λ n. take n (c ∷ d ∷ ds) ∷ words_of (drop n (c ∷ d ∷ ds))) (sym (position_next stops_word c (d ∷ ds) goes_on))
+
+word_cut-at : (c : ℕ) (cs : List ℕ) (hash blank : Bool) → (c == 35) ≡ hash → is_blank c ≡ blank → 0 < position_or_len stops_word (c ∷ cs)
+    → (0 < position_or_len stops_word cs → words_of cs ≡ before_first stops_word cs ∷ words_of (drop (position_or_len stops_word cs) cs))
+    → words_of (c ∷ cs) ≡ before_first stops_word (c ∷ cs) ∷ words_of (drop (position_or_len stops_word (c ∷ cs)) (c ∷ cs))
+word_cut-at c cs true true e f h ih = let none = rw f at h in absurd (omega arith)
+word_cut-at c cs true false e f h ih = let none = rw (f, e) at h in absurd (omega arith)
+word_cut-at c cs false true e f h ih = let none = rw f at h in absurd (omega arith)
+word_cut-at c [] false false e f h ih = rw (e, f) refl
+word_cut-at c (d ∷ ds) false false e f h ih = word_cut-next c d ds (d == 35) (is_blank d) e f refl refl ih
 
 -- the first word of a rest that begins with one, and the others
-word_cut : (rest : List ℕ) → starts_blank rest ≡ false → 0 < length rest → pieces_of rest ≡ before_first is_blank rest ∷ pieces_of (drop (position_or_len is_blank rest) rest)
-word_cut [] e h = absurd (omega arith)
-word_cut (c ∷ cs) e h = word_cut-at c cs e (word_cut cs) (starts_blank cs) refl
+word_cut : (rest : List ℕ) → 0 < position_or_len stops_word rest → words_of rest ≡ before_first stops_word rest ∷ words_of (drop (position_or_len stops_word rest) rest)
+word_cut [] h = absurd (omega arith)
+word_cut (c ∷ cs) h = word_cut-at c cs (c == 35) (is_blank c) refl refl h (word_cut cs)
 
 -- as slices take them
-pub word_taken : (line rest front back : List ℕ) (n : ℕ) → pieces_of rest ≡ pieces_of line → starts_blank rest ≡ false → 0 < length rest → n ≡ position_or_len is_blank rest → front ≡ take n rest → back ≡ drop n rest → pieces_of line ≡ front ∷ pieces_of back
-word_taken line rest front back n same start h e f b = sym same ∙ word_cut rest start h ∙ rw (f, b, e) refl
+pub word_taken : (line rest front back : List ℕ) (n : ℕ) → words_of rest ≡ words_of line → 0 < n → n ≡ position_or_len stops_word rest → front ≡ take n rest → back ≡ drop n rest → words_of line ≡ front ∷ words_of back
+word_taken line rest front back n same h e f b =
+    let some : 0 < position_or_len stops_word rest = omega arith in
+    sym same ∙ word_cut rest some ∙ rw (f, b, e) refl

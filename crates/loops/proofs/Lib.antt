@@ -22,6 +22,7 @@ pub mod Lookups
 pub mod LoopNames
 pub mod Made
 pub mod Memoryless
+pub mod NameBytes
 pub mod Names
 pub mod Naming
 pub mod Numbered

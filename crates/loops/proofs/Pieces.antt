@@ -1,11 +1,11 @@
 -- The words of a rest of a line.
-use Rattle.std.proofs.Common.{◌≡◌, ℕ, suc, ℤ, ◌≤◌, ◌||◌, not, is_some, is_none, Bool, true, false, cond, List, [], ◌∷◌, ◌++◌, length, Option, Some, None, option_map, refl, sym, ◌∙◌, ap, arith, append_assoc}
+use Rattle.std.proofs.Common.{◌≡◌, ◌==◌, ℕ, suc, ℤ, ◌≤◌, ◌||◌, not, is_some, is_none, Bool, true, false, cond, List, [], ◌∷◌, ◌++◌, length, Option, Some, None, option_map, refl, sym, ◌∙◌, ap, arith, append_assoc, length-take}
 use Rattle.std.specs.Option.{unwrap_or}
-use Rattle.std.specs.List.{list_any}
+use Rattle.std.specs.List.{before_first, list_any, position_or_len}
 use Rattle.std.proofs.lemmas.List.Folds.{list_any-append}
 use Rattle.std.proofs.lemmas.List.{append-nil}
 use Rattle.loops.specs.Forms.{int_of, ints_of, with_int}
-use Rattle.loops.specs.Words.{pieces_of, onto_first, is_blank, ends_word}
+use Rattle.loops.specs.Words.{pieces_of, onto_first, is_blank, ends_word, words_of}
 
 length-onto_first : (c : ℕ) (ps : List (List ℕ)) (n : ℕ) → length ps ≤ n → length (onto_first c ps) ≤ suc n
 length-onto_first c [] n h = omega arith
@@ -20,9 +20,14 @@ length-blank true d c ps n h = omega arith
 length-blank false d c ps n h = length-more d c ps n h
 
 -- there are no more words than bytes
-pub length-pieces_of : (rest : List ℕ) → length (pieces_of rest) ≤ length rest
+length-pieces_of : (rest : List ℕ) → length (pieces_of rest) ≤ length rest
 length-pieces_of [] = omega arith
 length-pieces_of (c ∷ cs) = length-blank (is_blank c) (ends_word cs) c (pieces_of cs) (length cs) (length-pieces_of cs)
+
+pub length-words_of : (rest : List ℕ) → length (words_of rest) ≤ length rest
+length-words_of rest =
+    let line = before_first (λ c. c == 35) rest in
+    omega (arith, length-pieces_of line, length-take (position_or_len (λ c. c == 35) rest) rest)
 
 -- integers in front of others
 abbrev pub behind : List (Option ℤ) → Option (List (Option ℤ)) → Option (List (Option ℤ))

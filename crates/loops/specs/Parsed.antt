@@ -4,7 +4,7 @@ use Rattle.std.specs.Borrow.{Bor}
 use Rattle.machine.specs.Opcodes.{same_word}
 use Rattle.loops.specs.Forms as spec
 use Rattle.loops.specs.Forms.{ints_of}
-use Rattle.loops.specs.Words.{pieces_of}
+use Rattle.loops.specs.Words.{words_of}
 use Rattle.loops.specs.declared.form.Form.{Form}
 use Rattle.loops.specs.declared.form.Form.TheVariants as forms
 use Rattle.loops.specs.declared.form.Use.{Use}
@@ -48,7 +48,7 @@ source_seen s = record {
 
 -- the integers that a rest of a line writes
 abbrev pub cells_seen : List ℕ → List (Option ℤ)
-cells_seen rest = unwrap_or (ints_of (pieces_of rest)) []
+cells_seen rest = unwrap_or (ints_of (words_of rest)) []
 
 abbrev pub form_seen : Form → spec.Form
 form_seen (forms.Loop name) = spec.LoopLine name.now

@@ -34,3 +34,7 @@ pieces_of (c ∷ cs) = if is_blank c then pieces_of cs else if ends_word cs then
 -- the words of a line: `#` and what follows it on the line is a comment
 abbrev pub words_of : List ℕ → List (List ℕ)
 words_of line = pieces_of (before_first (λ c. c == 35) line)
+
+-- a blank or `#` ends a word of a line
+abbrev pub stops_word : ℕ → Bool
+stops_word c = is_blank c || (c == 35)

@@ -1,8 +1,8 @@
 //! Names.
 
-ghost use Rattle.std.specs.Prelude.{◌≡◌};
-ghost use Rattle.std.specs.List.{list_all};
-ghost use Rattle.loops.specs.Forms.{is_letter, is_name, is_name_byte, is_reserved, starts_name};
+ghost use Rattle.std.specs.Prelude.{◌≡◌, not, true};
+ghost use Rattle.std.specs.List.{list_all, position_or_len};
+ghost use Rattle.loops.specs.Forms.{is_letter, is_name, is_name_byte, is_reserved};
 
 use crate::words::is_text;
 
@@ -20,21 +20,16 @@ fn is_name_byte(byte: u8) -> bool
     is_letter(byte) || byte.is_ascii_digit()
 }
 
-fn are_name_bytes(bytes: &[u8]) -> bool
-    ensures { result ≡ list_all is_name_byte bytes.now }
+/// How many bytes in front may stand in a name.
+pub(crate) fn count_name(word: &[u8]) -> usize
+    ensures { result ≡ position_or_len (λ c. not (is_name_byte c)) word.now }
 {
-    bytes.iter().all(|b| is_name_byte(*b))
-}
-
-/// A letter or `_`, then letters, digits and `_`.
-#[tactic(auto, using(crate::proofs::Cuts::head_and_rest))]
-fn starts_name(word: &[u8]) -> bool
-    ensures { result ≡ starts_name word.now }
-{
-    match word {
-        [] => false,
-        [first, rest @ ..] => is_letter(*first) && are_name_bytes(rest),
+    for (i, b) in word.iter().enumerate() {
+        if !is_name_byte(*b) {
+            return i;
+        }
     }
+    word.len()
 }
 
 /// The word is a keyword or an opcode. The first byte leaves few of them to compare.
@@ -61,10 +56,26 @@ fn is_reserved(word: &[u8]) -> bool
     }
 }
 
+/// These bytes, which may all stand in a name, are one: the first is a letter or `_`, and they are not
+/// reserved.
+#[tactic(auto, using(crate::proofs::NameBytes::starts_by_first), unfolding(crate::specs::Forms::is_name))]
+pub(crate) fn begins_name(word: &[u8]) -> bool
+    requires { list_all is_name_byte word.now ≡ true }
+    ensures { result ≡ is_name word.now }
+{
+    match word {
+        [] => false,
+        [first, ..] => is_letter(*first) && !is_reserved(word),
+    }
+}
+
 /// The word is a name: a letter or `_`, then letters, digits and `_`, and not reserved.
-#[tactic(auto, unfolding(crate::specs::Forms::is_name))]
+#[tactic(auto, using(crate::proofs::NameBytes::all_stand, crate::proofs::NameBytes::no_name_short))]
 pub(crate) fn is_name(word: &[u8]) -> bool
     ensures { result ≡ is_name word.now }
 {
-    starts_name(word) && !is_reserved(word)
+    if count_name(word) < word.len() {
+        return false;
+    }
+    begins_name(word)
 }

@@ -1,18 +1,15 @@
 //! The words of a statement: its cell and what it uses.
 
-ghost use Rattle.std.specs.Prelude.{◌≡◌, ◌==◌, ◌<◌, if◌then◌else◌, None, length, MatchOption, option_map};
-ghost use Rattle.std.specs.List.{before_first, after_first, list_any, position_or_len};
-ghost use Rattle.loops.specs.Forms.{at_of, is_memory, operands_of, place_of, use_of, uses_of};
-ghost use Rattle.loops.specs.Parsed.{at_seen, guard_of, guard_seen, subscript_seen, use_seen, uses_seen};
-ghost use Rattle.loops.specs.Words.{pieces_of};
+ghost use Rattle.std.specs.Prelude.{◌≡◌, ◌==◌, ◌<◌, if◌then◌else◌, true, None, length, MatchOption, option_map};
+ghost use Rattle.std.specs.List.{before_first, after_first, list_all, list_any, position_or_len};
+ghost use Rattle.loops.specs.Forms.{at_of, is_name_byte, named_use_of, place_of, use_of};
+ghost use Rattle.loops.specs.Parsed.{at_seen, guard_of, guard_seen, subscript_seen, use_seen};
+ghost use Rattle.loops.specs.Words.{words_of};
 
 use crate::form::{Subscript, Use, Uses};
-use crate::name::is_name;
+use crate::name::{begins_name, count_name, is_name};
 use crate::number::{int_of, small_of, subscript_of};
-use crate::words::{
-    before_byte, is_text, next_word, one_word, split_at_byte, three_words, two_words,
-};
-use machine::Opcode;
+use crate::words::{before_byte, is_text, next_word, one_word, split_at_byte};
 
 /// The name and the number of `NAME@NUM`. A number above 16 is `None`.
 #[tactic(auto, using(crate::proofs::AtSigns::any_there))]
@@ -29,21 +26,47 @@ pub(crate) fn at_of(word: &[u8]) -> Option<(&[u8], Option<u8>)>
     }
 }
 
+/// The use `NAME@NUM` by its parts. All bytes of the first may stand in a name.
+fn use_at<'a>(name: &'a [u8], digits: &[u8]) -> Option<Use<'a>>
+    requires { list_all is_name_byte name.now ≡ true }
+    ensures { option_map use_seen result ≡ at_of name.now digits.now }
+{
+    let number = small_of(digits)?;
+    if begins_name(name) {
+        Some(Use::At(name, number))
+    } else {
+        None
+    }
+}
+
+/// A use that is no integer: a name or `NAME@NUM`.
+#[tactic(auto, using(crate::proofs::NameBytes::front_taken, crate::proofs::NameBytes::all_stand, crate::proofs::NameBytes::plain_use_taken, crate::proofs::NameBytes::at_use_taken, crate::proofs::NameBytes::no_use_taken))]
+fn named_use_of(word: &[u8]) -> Option<Use<'_>>
+    ensures { option_map use_seen result ≡ named_use_of word.now }
+{
+    let (name, rest) = word.split_at(count_name(word));
+    match rest {
+        [] => if begins_name(word) {
+            Some(Use::Plain(word))
+        } else {
+            None
+        },
+        [b'@', digits @ ..] => use_at(name, digits),
+        _ => None,
+    }
+}
+
 /// A use: an integer, a name or `NAME@NUM`.
-#[tactic(auto, using(crate::proofs::AtSigns::name_has_no_at), unfolding(crate::specs::Forms::use_of))]
+#[tactic(auto, using(crate::proofs::NameBytes::no_number, crate::proofs::NameBytes::no_number_empty, crate::proofs::NameBytes::no_named), unfolding(crate::specs::Forms::use_of))]
 pub(crate) fn use_of(word: &[u8]) -> Option<Use<'_>>
     ensures { option_map use_seen result ≡ use_of word.now }
 {
-    if let Some(value) = int_of(word) {
-        return Some(Use::Number(value));
-    }
-    if let Some((name, distance)) = at_of(word) {
-        return Some(Use::At(name, distance));
-    }
-    if is_name(word) {
-        Some(Use::Plain(word))
-    } else {
-        None
+    match word {
+        [first, ..] if *first == b'-' || first.is_ascii_digit() => {
+            let value = int_of(word)?;
+            Some(Use::Number(value))
+        }
+        _ => named_use_of(word),
     }
 }
 
@@ -61,63 +84,9 @@ pub(crate) fn place_of(word: &[u8]) -> Option<Subscript<'_>>
     Some(Subscript { array, offset })
 }
 
-/// The use of a rest that has one word.
-fn one_use(rest: &[u8]) -> Option<Uses<'_>>
-    ensures { option_map uses_seen result ≡ (if length (pieces_of rest.now) == 1 then uses_of (pieces_of rest.now) else None) }
-{
-    let first = use_of(one_word(rest)?)?;
-    Some(Uses {
-        first: Some(first),
-        second: None,
-        third: None,
-    })
-}
-
-/// The uses of a rest that has two words.
-fn two_uses(rest: &[u8]) -> Option<Uses<'_>>
-    ensures { option_map uses_seen result ≡ (if length (pieces_of rest.now) == 2 then uses_of (pieces_of rest.now) else None) }
-{
-    let (first, second) = two_words(rest)?;
-    let first = use_of(first)?;
-    let second = use_of(second)?;
-    Some(Uses {
-        first: Some(first),
-        second: Some(second),
-        third: None,
-    })
-}
-
-/// The uses of a rest that has three words.
-fn three_uses(rest: &[u8]) -> Option<Uses<'_>>
-    ensures { option_map uses_seen result ≡ (if length (pieces_of rest.now) == 3 then uses_of (pieces_of rest.now) else None) }
-{
-    let (first, second, third) = three_words(rest)?;
-    let first = use_of(first)?;
-    let second = use_of(second)?;
-    let third = use_of(third)?;
-    Some(Uses {
-        first: Some(first),
-        second: Some(second),
-        third: Some(third),
-    })
-}
-
-/// As many uses as an opcode takes that is neither `load` nor `store`.
-pub(crate) fn uses_of(opcode: Opcode, rest: &[u8]) -> Option<Uses<'_>>
-    ensures { option_map uses_seen result
-        ≡ (if is_memory opcode then None else (if length (pieces_of rest.now) == operands_of opcode then uses_of (pieces_of rest.now) else None)) }
-{
-    match opcode {
-        Opcode::Load | Opcode::Store => None,
-        Opcode::Mov => one_use(rest),
-        Opcode::Sel => three_uses(rest),
-        _ => two_uses(rest),
-    }
-}
-
 /// What follows the value of a `store`: nothing, or `if USE`. The outer `Option` is whether it does.
 pub(crate) fn guard_of(rest: &[u8]) -> Option<Option<Use<'_>>>
-    ensures { option_map guard_seen result ≡ guard_of (pieces_of rest.now) }
+    ensures { option_map guard_seen result ≡ guard_of (words_of rest.now) }
 {
     let Some((word, rest)) = next_word(rest) else {
         return Some(None);

@@ -3,7 +3,9 @@
 ghost use Rattle.std.specs.Prelude.{◌≡◌, ◌≢◌, ◌==◌, ◌-◌, ◌<◌, ◌&&◌, nat_lt, ℕ, List, [], ◌∷◌, length, take, slice_index, false, true, MatchOption};
 ghost use Rattle.std.specs.List.{before_first, after_first, position_or_len};
 ghost use Rattle.machine.specs.Opcodes.{same_word};
-ghost use Rattle.loops.specs.Words.{is_blank, lines_of, pieces_of, starts_blank};
+ghost use Rattle.loops.specs.Words.{is_blank, lines_of, starts_blank, stops_word, words_of};
+
+use memchr::memchr;
 
 /// The bytes are those of this text.
 pub(crate) fn is_text(bytes: &[u8], text: &str) -> bool
@@ -70,19 +72,10 @@ pub(crate) fn next_line(text: &[u8]) -> (&[u8], &[u8])
     ensures lines { lines_of text.now ≡ result.0.now ∷ lines_of result.1.now }
     ensures shorter { length result.1.now < length text.now }
 {
-    let end = count_before(text, b'\n');
-    if end < text.len() {
-        (&text[..end], &text[end + 1..])
-    } else {
-        (text, &[])
+    match memchr(b'\n', text) {
+        Some(end) => (&text[..end], &text[end + 1..]),
+        None => (text, &[]),
     }
-}
-
-/// A line up to its comment.
-pub(crate) fn without_comment(line: &[u8]) -> &[u8]
-    ensures { result.now ≡ before_first (λ c. c == 35) line.now }
-{
-    &line[..count_before(line, b'#')]
 }
 
 /// A space, a tab or a carriage return.
@@ -92,9 +85,17 @@ fn is_blank(byte: u8) -> bool
     byte == b' ' || byte == b'\t' || byte == b'\r'
 }
 
+/// A blank, or `#`, with which a comment begins. The bytes of names, numbers and signs are all above.
+fn ends_word(byte: u8) -> bool
+    ensures { result ≡ stops_word byte }
+{
+    byte <= b'#' && (is_blank(byte) || byte == b'#')
+}
+
 /// What follows the blanks in front.
+#[tactic(auto, using(crate::proofs::Cuts::blank_passed))]
 fn without_blanks(text: &[u8]) -> &[u8]
-    ensures same_words { pieces_of result.now ≡ pieces_of text.now }
+    ensures same_words { words_of result.now ≡ words_of text.now }
     ensures no_blank { starts_blank result.now ≡ false }
 {
     let mut rest = text;
@@ -107,33 +108,35 @@ fn without_blanks(text: &[u8]) -> &[u8]
     rest
 }
 
-/// How many bytes stand before the first blank.
-fn count_unblank(text: &[u8]) -> usize
-    ensures { result ≡ position_or_len is_blank text.now }
+/// How many bytes stand before the first blank or `#`.
+fn count_word(text: &[u8]) -> usize
+    ensures { result ≡ position_or_len stops_word text.now }
 {
     for (i, b) in text.iter().enumerate() {
-        if is_blank(*b) {
+        if ends_word(*b) {
             return i;
         }
     }
     text.len()
 }
 
-/// The next word of a rest of a line without its comment, and what follows it.
+/// The next word of a rest of a line, and what follows it.
+#[tactic(auto, using(crate::proofs::Cuts::words_none))]
 pub(crate) fn next_word(rest: &[u8]) -> Option<(&[u8], &[u8])>
-    ensures { MatchOption result (pieces_of rest.now ≡ []) (λ x. pieces_of rest.now ≡ x.0.now ∷ pieces_of x.1.now) }
+    ensures { MatchOption result (words_of rest.now ≡ []) (λ x. words_of rest.now ≡ x.0.now ∷ words_of x.1.now) }
 {
     let rest = without_blanks(rest);
-    if rest.is_empty() {
+    let end = count_word(rest);
+    if end == 0 {
         None
     } else {
-        Some(rest.split_at(count_unblank(rest)))
+        Some(rest.split_at(end))
     }
 }
 
 /// The word of a rest that has one word.
 pub(crate) fn one_word(rest: &[u8]) -> Option<&[u8]>
-    ensures { MatchOption result (length (pieces_of rest.now) ≢ 1) (λ x. pieces_of rest.now ≡ x.now ∷ []) }
+    ensures { MatchOption result (length (words_of rest.now) ≢ 1) (λ x. words_of rest.now ≡ x.now ∷ []) }
 {
     let (first, rest) = next_word(rest)?;
     match next_word(rest) {
@@ -144,7 +147,7 @@ pub(crate) fn one_word(rest: &[u8]) -> Option<&[u8]>
 
 /// The words of a rest that has two.
 pub(crate) fn two_words(rest: &[u8]) -> Option<(&[u8], &[u8])>
-    ensures { MatchOption result (length (pieces_of rest.now) ≢ 2) (λ x. pieces_of rest.now ≡ x.0.now ∷ (x.1.now ∷ [])) }
+    ensures { MatchOption result (length (words_of rest.now) ≢ 2) (λ x. words_of rest.now ≡ x.0.now ∷ (x.1.now ∷ [])) }
 {
     let (first, rest) = next_word(rest)?;
     let second = one_word(rest)?;
@@ -153,7 +156,7 @@ pub(crate) fn two_words(rest: &[u8]) -> Option<(&[u8], &[u8])>
 
 /// The words of a rest that has three.
 pub(crate) fn three_words(rest: &[u8]) -> Option<(&[u8], &[u8], &[u8])>
-    ensures { MatchOption result (length (pieces_of rest.now) ≢ 3) (λ x. pieces_of rest.now ≡ x.0.now ∷ (x.1.now ∷ (x.2.now ∷ []))) }
+    ensures { MatchOption result (length (words_of rest.now) ≢ 3) (λ x. words_of rest.now ≡ x.0.now ∷ (x.1.now ∷ (x.2.now ∷ []))) }
 {
     let (first, rest) = next_word(rest)?;
     let (second, third) = two_words(rest)?;

@@ -1,11 +1,11 @@
 use Rattle.std.proofs.Common.{◌≡◌, is_some, length}
 use Rattle.loops.specs.Forms.{ints_of}
-use Rattle.loops.specs.Words.{pieces_of}
+use Rattle.loops.specs.Words.{words_of}
 use Rattle.loops.proofs.form.are_ints.Given as goal
 
 -- the words so far are integers, so the others decide
 abbrev pub invariant-loop-word : goal.invariant-loop-word
-invariant-loop-word l = is_some (ints_of (pieces_of l.rest)) ≡ is_some (ints_of (pieces_of l.fn.words))
+invariant-loop-word l = is_some (ints_of (words_of l.rest)) ≡ is_some (ints_of (words_of l.fn.words))
 
 abbrev pub decreases-loop-word : goal.decreases-loop-word
-decreases-loop-word l = length (pieces_of l.rest)
+decreases-loop-word l = length (words_of l.rest)
