@@ -1,5 +1,5 @@
 -- The canonical text of a loop is read back as that loop alone.
-use Rattle.std.proofs.Common.{◌≡◌, ℕ, ◌<◌, ◌≤◌, false, cond, ltb, List, [], ◌∷◌, length, map, Some, ap, ◌∙◌, refl}
+use Rattle.std.proofs.Common.{◌≡◌, false, ltb, List, [], ◌∷◌, length, map, Some, ap, ◌∙◌}
 use Rattle.std.specs.Prelude.{Result, Ok, Err}
 use Rattle.std.proofs.lemmas.Bool.{le-ltb, cond-false}
 use Rattle.loops.specs.declared.fault.LoopFault.{LoopFault}
