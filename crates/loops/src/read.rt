@@ -75,7 +75,7 @@ fn read_block<'a>(
     if let Some(kind) = line_fault(&index, counts, &room.given, &Form::End) {
         return Err(LoopFault { line, kind });
     }
-    let found = build(alloc, name, &index, &room.given)?;
+    let found = build(alloc, name, &index, counts, &room.given)?;
     Ok(Block {
         found,
         rest,
