@@ -1,6 +1,7 @@
 pub mod AtSigns
 pub mod BlockStanding
 pub mod Blocking
+pub mod Buckets
 pub mod Built
 pub mod Checking
 pub mod Covering

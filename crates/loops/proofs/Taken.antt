@@ -1,6 +1,7 @@
 -- What a table of initial values holds.
-use Rattle.std.proofs.Common.{◌≡◌, ℕ, zero, suc, ℤ, ◌≤◌, Bool, true, false, if◌then◌else◌, List, [], ◌∷◌, length, Some, None, is_some, refl, ap, arith, get_or, set, replicate}
-use Rattle.loops.specs.Checks.{values_taken}
+use Rattle.std.proofs.Common.{◌≡◌, ℕ, zero, suc, ℤ, pos, ◌+◌, ◌*◌, ◌<◌, ◌≤◌, Bool, true, false, if◌then◌else◌, List, [], ◌∷◌, length, Some, None, is_some, IsTrue, not, refl, sym, ap, ◌∙◌, arith, get_or, set, replicate}
+use Rattle.std.proofs.lemmas.Bool.{both_ways}
+use Rattle.loops.specs.Checks.{values_taken, slot, IsTable}
 
 pub length_taken : (taken : List Bool) (values : List ℤ) → length taken ≤ length values → length (values_taken taken values) ≡ length taken
 length_taken [] values h = refl
@@ -39,3 +40,13 @@ pub none_taken : (n : ℕ) (values : List ℤ) → n ≤ length values → value
 none_taken zero values h = refl
 none_taken (suc n) [] h = absurd (omega arith)
 none_taken (suc n) (v ∷ vs) h = ap (λ xs. None ∷ xs) (none_taken n vs (omega arith))
+
+-- no value in a row that is not marked
+pub bare_row : (taken : List Bool) (values : List ℤ) (rows : List Bool) (row place : ℕ) → IsTable taken values rows → get_or rows row false ≡ false → place < 16
+    → slot (values_taken taken values) row place ≡ None
+bare_row taken values rows row place t h low =
+    value_taken taken values (16 * row + place) (pos 0) t.room ∙ ap (λ b. if b then Some (get_or values (16 * row + place) (pos 0)) else None) (t.bare row place low h)
+
+pub not-true : (b : Bool) → IsTrue (not b) → b ≡ false
+not-true true h = absurd (both_ways true (sym h) refl)
+not-true false h = refl

@@ -33,6 +33,12 @@ values_taken [] values = []
 values_taken (taken ∷ rest) [] = []
 values_taken (taken ∷ rest) (value ∷ values) = (if taken then Some value else None) ∷ values_taken rest values
 
+-- as many values at least, and the rows of 16 places of which one is taken are marked
+pub record IsTable (taken : List Bool) (values : List ℤ) (rows : List Bool) : Type 0 where
+  pub room : length taken ≤ length values
+  pub rowed : length taken ≤ 16 * length rows
+  pub bare : (row place : ℕ) → place < 16 → slice_index_or rows row false ≡ false → slice_index_or taken (16 * row + place) false ≡ false
+
 -- the initial value of a value that is numbered one above this
 abbrev pub slot : List (Option ℤ) → ℕ → ℕ → Option ℤ
 slot inits value m = slice_index_or inits (16 * value + m) None

@@ -14,7 +14,7 @@ ghost use Rattle.loops.specs.Building.{IsFew, IsFewNumber, IsNamed, name_in, row
 use crate::cells::cells_of;
 use crate::form::{Form, Source, Subscript, Use};
 use crate::given::{Given, MOST};
-use crate::index::{Declared, Index};
+use crate::index::{Counts, Declared, Index};
 use crate::innermost::Loop;
 use crate::lists::{Array, Cells, Initial, Operands, Param};
 use crate::statement::{Operand, Place, Statement};
@@ -27,7 +27,8 @@ fn name_of(bytes: &[u8]) -> Name
     requires name { IsName bytes.now }
     ensures { result ≡ bytes.now }
 {
-    let text = std::str::from_utf8(bytes).unwrap();
+    // SAFETY: a name is of letters, digits and `_`.
+    let text = unsafe { std::str::from_utf8_unchecked(bytes) };
     Name::new(text).unwrap()
 }
 
@@ -141,6 +142,9 @@ fn push_inits(inits: &mut Vec<Initial>, given: &Given, statement: u8) -> Result<
     requires room { 16 * statement + 16 ≤ length given.now.inits }
     ensures { OnOk result (inits.new.items ≡ inits.old.items ++ row_of given.now.inits statement 16) }
 {
+    if given.inits.is_bare(statement as usize) {
+        return Ok(());
+    }
     for m in 0..MOST {
         if let Some(value) = given.inits.at(statement as usize, m) {
             inits.push(Initial {
@@ -208,6 +212,7 @@ pub(crate) fn build<'a>(
     alloc: Global,
     name: &'a [u8],
     index: &Index<'a>,
+    counts: Counts,
     given: &Given,
 ) -> Result<Loop, AllocError>
     requires name { IsName name.now }
@@ -219,9 +224,9 @@ pub(crate) fn build<'a>(
     ensures well_formed { IfOk result (λ l. IsLoop l) }
 {
     let mut parts = Parts {
-        arrays: Vec::new(alloc),
-        params: Vec::new(alloc),
-        statements: Vec::new(alloc),
+        arrays: Vec::with_capacity(alloc, counts.arrays)?,
+        params: Vec::with_capacity(alloc, counts.params)?,
+        statements: Vec::with_capacity(alloc, counts.statements)?,
         inits: Vec::new(alloc),
         outs: Vec::new(alloc),
     };

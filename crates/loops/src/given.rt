@@ -1,6 +1,6 @@
 //! What the lines of a block give to its values.
 
-ghost use Rattle.std.specs.Prelude.{◌≡◌, ◌*◌, ◌+◌, ◌-◌, ◌<◌, ◌≤◌, ◌^◌, OnOk, None, Some, Bool, false, is_some, length, replicate, slice_index_or, slice_set};
+ghost use Rattle.std.specs.Prelude.{◌≡◌, ◌*◌, ◌+◌, ◌-◌, ◌<◌, ◌≤◌, ◌^◌, ℕ, OnOk, IsTrue, None, Some, Bool, false, is_some, length, replicate, slice_index_or, slice_set};
 ghost use Rattle.loops.specs.Checks.{covers, slot};
 
 use std::alloc::{AllocError, Global};
@@ -12,6 +12,7 @@ pub(crate) const MOST: usize = 16;
 /// So many flags, and none of them set.
 fn unmark(flags: &mut Vec<bool>, count: usize) -> Result<(), AllocError>
     ensures items { OnOk result (flags.new.items ≡ replicate count false) }
+    ensures none { flags.new.items ≡ replicate (length flags.new.items) false }
     ensures most { length flags.new.items ≤ count }
 {
     flags.clear();
@@ -24,17 +25,19 @@ pub(crate) struct Table {
     taken: Vec<bool>,
     /// At least as many. A place that is not taken still holds what an earlier block left there.
     values: Vec<i64>,
+    /// For each row whether one of its places is taken.
+    rows: Vec<bool>,
 }
 
 impl Model for Table {
-    ghost use Rattle.std.specs.Prelude.{◌≤◌, ℤ, List, Option, length};
-    ghost use Rattle.loops.specs.Checks.{values_taken};
+    ghost use Rattle.std.specs.Prelude.{ℤ, List, Option};
+    ghost use Rattle.loops.specs.Checks.{values_taken, IsTable};
 
     ghost Value = { List (Option ℤ) };
 
     ghost view = { λ t. values_taken t.taken.items t.values.items };
 
-    ghost invariant = { λ t. length t.taken.items ≤ length t.values.items };
+    ghost invariant = { λ t. IsTable t.taken.items t.values.items t.rows.items };
 }
 
 impl Table {
@@ -42,19 +45,32 @@ impl Table {
         Table {
             taken: Vec::new(alloc),
             values: Vec::new(alloc),
+            rows: Vec::new(alloc),
         }
     }
 
-    /// So many places, and no value at any of them.
+    /// So many rows, and no value in any of them.
     #[tactic(auto, using(crate::proofs::Taken::none_taken))]
-    fn reset(&mut self, places: usize) -> Result<(), AllocError>
-        ensures { OnOk result (self.new ≡ replicate places None) }
+    fn reset(&mut self, rows: usize) -> Result<(), AllocError>
+        requires { rows < 2 ^ 40 }
+        ensures { OnOk result (self.new ≡ replicate (16 * rows) None) }
     {
         self.taken.clear();
+        let places = MOST * rows;
         let room = self.values.len().max(places);
         self.values.resize(room, 0)?;
+        unmark(&mut self.rows, rows)?;
         unmark(&mut self.taken, places)?;
         Ok(())
+    }
+
+    /// A row without a value.
+    #[tactic(auto, using(crate::proofs::Taken::length_taken))]
+    pub(crate) fn is_bare(&self, row: usize) -> bool
+        requires { 16 * row + 16 ≤ length self.now }
+        ensures { IsTrue result → (place : ℕ) → place < 16 → slot self.now row place ≡ None }
+    {
+        !self.rows[row]
     }
 
     /// A value is given at this place of a row.
@@ -82,11 +98,13 @@ impl Table {
     /// Gives a value at this place of a row.
     #[tactic(auto, using(crate::proofs::Taken::length_taken, crate::proofs::Taken::set_taken))]
     pub(crate) fn put(&mut self, row: usize, place: usize, value: i64)
-        requires { 16 * row + place < length self.old }
+        requires room { 16 * row + place < length self.old }
+        requires place { place < 16 }
         ensures { self.new ≡ slice_set self.old (16 * row + place) (Some value) }
     {
         self.taken[MOST * row + place] = true;
         self.values[MOST * row + place] = value;
+        self.rows[row] = true;
     }
 }
 
@@ -111,7 +129,7 @@ impl Given {
         ensures inits { OnOk result (self.new.inits ≡ replicate (16 * values) None) }
         ensures outs { OnOk result (self.new.outs.items ≡ replicate values false) }
     {
-        self.inits.reset(MOST * values)?;
+        self.inits.reset(values)?;
         unmark(&mut self.outs, values)
     }
 

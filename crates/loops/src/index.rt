@@ -1,18 +1,15 @@
 //! What the names of a block stand for.
 
 ghost use Rattle.std.specs.Prelude.{◌≡◌, ◌+◌, ◌^◌, ◌<◌, ℕ, List, IfOk, OnOk, None, Some, if◌then◌else◌, option_map};
-ghost use Rattle.std.specs.HashMap.{get_by};
-ghost use Rattle.std.specs.Option.{option_or};
-ghost use Rattle.std.specs.Str.{bytes_eq};
-ghost use Rattle.machine.specs.Opcodes.{same_word};
+ghost use Rattle.loops.specs.Known.{known_as};
 ghost use Rattle.loops.specs.Meaning.{declared, declared_by, is_array, is_param, is_statement};
 ghost use Rattle.loops.specs.Parsed.{form_seen};
 ghost use Rattle.loops.specs.Blocks.{declared_seen, declared_if, forms_in, one_if, IsCounts};
 
 use crate::entry::Entry;
 use crate::form::Form;
+use crate::known::Names;
 use std::alloc::AllocError;
-use std::collections::HashMap;
 use std::marker::Model;
 
 /// What a name stands for: an array, a parameter or the value of a statement, by its number from 0.
@@ -79,35 +76,20 @@ fn declaration<'a>(form: Form<'a>, before: Counts) -> Option<(&'a [u8], Declared
     }
 }
 
-/// Adds a name, unless it is there already.
-fn add<'a>(
-    names: &mut HashMap<&'a [u8], Declared>,
-    name: &'a [u8],
-    what: Declared,
-) -> Result<(), AllocError>
-    ensures { OnOk result ((q : List ℕ) → get_by (λ k. bytes_eq q k.now) names.new
-        ≡ option_or (get_by (λ k. bytes_eq q k.now) names.old) (if same_word q name.now then Some what else None)) }
-{
-    if let Some(first) = names.insert(name, what)? {
-        names.insert(name, first)?;
-    }
-    Ok(())
-}
-
 /// Fills a table with the names that the lines of a block declare, each with its first declaration.
 /// The result is how many lines of each form there are. The table's room is used again.
 pub(crate) fn index_names<'a>(
-    names: &mut HashMap<&'a [u8], Declared>,
+    names: &mut Names<'a>,
     lines: &[Entry<'a>],
 ) -> Result<Counts, AllocError>
-    ensures names { OnOk result ((q : List ℕ) → option_map declared_seen (get_by (λ k. bytes_eq q k.now) names.new) ≡ declared (forms_in lines.now) q) }
+    ensures names { OnOk result ((q : List ℕ) → option_map declared_seen (known_as names.new q) ≡ declared (forms_in lines.now) q) }
     ensures counts { IfOk result (λ counts. IsCounts (forms_in lines.now) counts) }
 {
     names.clear();
     let mut counts = Counts::NONE;
     for entry in lines {
         if let Some((name, what)) = declaration(entry.form, counts) {
-            add(names, name, what)?;
+            names.add(name, what)?;
         }
         counts = counts.with(entry.form);
     }
@@ -118,13 +100,12 @@ pub(crate) fn index_names<'a>(
 #[derive(Drop)]
 pub(crate) struct Index<'a> {
     lines: &'a [Entry<'a>],
-    names: &'a HashMap<&'a [u8], Declared>,
+    names: &'a Names<'a>,
 }
 
 impl<'a> Model for Index<'a> {
     ghost use Rattle.std.specs.Prelude.{◌≡◌, ℕ, List, option_map};
-    ghost use Rattle.std.specs.HashMap.{get_by};
-    ghost use Rattle.std.specs.Str.{bytes_eq};
+    ghost use Rattle.loops.specs.Known.{known_as};
     ghost use Rattle.loops.specs.declared.entry.Entry.{Entry};
     ghost use Rattle.loops.specs.Meaning.{declared};
     ghost use Rattle.loops.specs.Blocks.{forms_in, declared_seen};
@@ -133,20 +114,19 @@ impl<'a> Model for Index<'a> {
 
     ghost view = { λ a. a.lines.now };
 
-    ghost invariant = { λ a. (q : List ℕ) → option_map declared_seen (get_by (λ k. bytes_eq q k.now) a.names.now) ≡ declared (forms_in a.lines.now) q };
+    ghost invariant = { λ a. (q : List ℕ) → option_map declared_seen (known_as a.names.now q) ≡ declared (forms_in a.lines.now) q };
 }
 
 impl<'a> Index<'a> {
     ghost use Rattle.std.specs.Prelude.{◌≡◌, ℕ, List, option_map};
-    ghost use Rattle.std.specs.HashMap.{get_by};
-    ghost use Rattle.std.specs.Str.{bytes_eq};
+    ghost use Rattle.loops.specs.Known.{known_as};
     ghost use Rattle.loops.specs.Meaning.{declared};
     ghost use Rattle.loops.specs.Blocks.{forms_in, declared_seen};
     ghost use Rattle.loops.specs.Checks.{IsCounted};
 
     /// An index of these lines by the table of their names.
-    pub(crate) fn new(names: &'a HashMap<&'a [u8], Declared>, lines: &'a [Entry<'a>]) -> Index<'a>
-        requires names { (q : List ℕ) → option_map declared_seen (get_by (λ k. bytes_eq q k.now) names.now) ≡ declared (forms_in lines.now) q }
+    pub(crate) fn new(names: &'a Names<'a>, lines: &'a [Entry<'a>]) -> Index<'a>
+        requires names { (q : List ℕ) → option_map declared_seen (known_as names.now q) ≡ declared (forms_in lines.now) q }
         ensures { result ≡ lines.now }
     {
         Index { lines, names }
@@ -160,10 +140,10 @@ impl<'a> Index<'a> {
     }
 
     /// The first declaration of a name.
-    pub(crate) fn declared(&self, name: &'a [u8]) -> Option<Declared>
+    pub(crate) fn declared(&self, name: &[u8]) -> Option<Declared>
         ensures value { option_map declared_seen result ≡ declared (forms_in self.now) name.now }
         ensures counted { IsCounted (forms_in self.now) (option_map declared_seen result) }
     {
-        self.names.get(name).copied()
+        self.names.get(name)
     }
 }

@@ -13,6 +13,7 @@ mod given;
 mod index;
 mod innermost;
 mod iterate;
+mod known;
 mod lists;
 mod memory;
 mod name;

@@ -14,11 +14,12 @@ use crate::entry::Entry;
 use crate::fault::{LoopFault, LoopFaultKind};
 use crate::form::{Form, form_of};
 use crate::given::Given;
-use crate::index::{Declared, Index, index_names};
+use crate::index::{Index, index_names};
 use crate::innermost::Loop;
+use crate::known::Names;
 use crate::words::next_line;
 use std::alloc::{AllocError, Global};
-use std::collections::{BTreeSet, HashMap};
+use std::collections::BTreeSet;
 
 const MOST_BYTES: usize = 1_048_576;
 
@@ -28,7 +29,7 @@ const MOST_LOOPS: usize = 1024;
 #[derive(Drop)]
 struct Room<'a> {
     lines: Vec<Entry<'a>>,
-    names: HashMap<&'a [u8], Declared>,
+    names: Names<'a>,
     given: Given,
 }
 
@@ -74,7 +75,7 @@ fn read_block<'a>(
     if let Some(kind) = line_fault(&index, counts, &room.given, &Form::End) {
         return Err(LoopFault { line, kind });
     }
-    let found = build(alloc, name, &index, &room.given)?;
+    let found = build(alloc, name, &index, counts, &room.given)?;
     Ok(Block {
         found,
         rest,
@@ -117,7 +118,7 @@ pub fn read_loops(alloc: Global, text: &[u8]) -> Result<Vec<Loop>, LoopFault>
     let mut names = BTreeSet::new(alloc);
     let mut room = Room {
         lines: Vec::new(alloc),
-        names: HashMap::new(alloc),
+        names: Names::new(alloc)?,
         given: Given::new(alloc),
     };
     let mut rest = text;

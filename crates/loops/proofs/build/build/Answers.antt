@@ -34,8 +34,8 @@ loop-line-preserved c =
       outs = extend-lines (out_in (forms_in c.args.index.now)) _ _ _ _ _ h inv.outs add.outs;
     }
 
-pub new-requires-6 : goal.new-requires-6
-new-requires-6 c =
+pub new-requires-3 : goal.new-requires-3
+new-requires-3 c =
     subst IsLoop (sym (made-of c.name_of.result c.args.name.now (forms_in c.args.index.now) (forms_in (take c.loop-line.line-index c.lines-line-items.result.now)) c.args.given.now.inits _ _ _ _ _
     c.name_of.ensures (ap forms_in (take_all _ _ c.loop-line-test.false ∙ c.loop-line.invariant.items)) c.loop-line.invariant.arrays c.loop-line.invariant.params c.loop-line.invariant.statements c.loop-line.invariant.inits c.loop-line.invariant.outs
     (inits-given (forms_in c.args.index.now) c.args.given.now.inits c.args.given.now.outs.items c.requires.block (entries-faultless (forms_in c.args.index.now) [] c.args.index.now c.requires.faultless) c.requires.given)))
@@ -43,13 +43,13 @@ new-requires-6 c =
 
 pub returns-clause-value : goal.returns-clause-value
 returns-clause-value c =
-    c.new-6.ensures ∙ made-of c.name_of.result c.args.name.now (forms_in c.args.index.now) (forms_in (take c.loop-line.line-index c.lines-line-items.result.now)) c.args.given.now.inits _ _ _ _ _
+    c.new-3.ensures ∙ made-of c.name_of.result c.args.name.now (forms_in c.args.index.now) (forms_in (take c.loop-line.line-index c.lines-line-items.result.now)) c.args.given.now.inits _ _ _ _ _
     c.name_of.ensures (ap forms_in (take_all _ _ c.loop-line-test.false ∙ c.loop-line.invariant.items)) c.loop-line.invariant.arrays c.loop-line.invariant.params c.loop-line.invariant.statements c.loop-line.invariant.inits c.loop-line.invariant.outs
     (inits-given (forms_in c.args.index.now) c.args.given.now.inits c.args.given.now.outs.items c.requires.block (entries-faultless (forms_in c.args.index.now) [] c.args.index.now c.requires.faultless) c.requires.given)
 
 pub returns-clause-well_formed : goal.returns-clause-well_formed
 returns-clause-well_formed c =
-    subst IsLoop (sym (c.new-6.ensures ∙ made-of c.name_of.result c.args.name.now (forms_in c.args.index.now) (forms_in (take c.loop-line.line-index c.lines-line-items.result.now)) c.args.given.now.inits _ _ _ _ _
+    subst IsLoop (sym (c.new-3.ensures ∙ made-of c.name_of.result c.args.name.now (forms_in c.args.index.now) (forms_in (take c.loop-line.line-index c.lines-line-items.result.now)) c.args.given.now.inits _ _ _ _ _
     c.name_of.ensures (ap forms_in (take_all _ _ c.loop-line-test.false ∙ c.loop-line.invariant.items)) c.loop-line.invariant.arrays c.loop-line.invariant.params c.loop-line.invariant.statements c.loop-line.invariant.inits c.loop-line.invariant.outs
     (inits-given (forms_in c.args.index.now) c.args.given.now.inits c.args.given.now.outs.items c.requires.block (entries-faultless (forms_in c.args.index.now) [] c.args.index.now c.requires.faultless) c.requires.given)))
     (lawful c.args.name.now (forms_in c.args.index.now) c.requires.name c.requires.block c.requires.some (entries-faultless (forms_in c.args.index.now) [] c.args.index.now c.requires.faultless))

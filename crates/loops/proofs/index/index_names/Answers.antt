@@ -1,25 +1,18 @@
-use Rattle.std.proofs.Common.{ℕ, List, Option, refl, ap, sym, ◌∙◌, arith, option_map}
-use Rattle.std.specs.HashMap.{HashMap, get_by}
-use Rattle.std.specs.Map.{lookup}
-use Rattle.std.specs.Borrow.{Bor}
-use Rattle.std.specs.Str.{bytes_eq}
+use Rattle.std.proofs.Common.{List, refl, ap, sym, ◌∙◌, arith, option_map}
 use Rattle.std.specs.Option.{option_or}
 use Rattle.machine.specs.Opcodes.{same_word}
 use Rattle.loops.specs.Meaning.{declared, is_array, is_param, is_statement}
 use Rattle.loops.specs.Blocks.{declared_seen, declared_if}
-use Rattle.loops.specs.declared.index.Declared.{Declared}
+use Rattle.loops.specs.declared.known.Known.{Known}
+use Rattle.loops.specs.Known.{known_as}
 use Rattle.loops.proofs.Declared.{declared-more, number_of-more, one_if-le, seen_or, option_or-none}
 use Rattle.loops.proofs.index.index_names.Goals as goal
 use Rattle.loops.proofs.index.index_names.Goals.{in-Some+in_ok-add, in_default}
 
--- what a map has at a name
-abbrev at : {S : Type 0} → HashMap (Bor (List ℕ)) Declared S → List ℕ → Option Declared
-at m q = get_by (λ k. bytes_eq q k.now) m
-
 pub loop-entry-init : goal.loop-entry-init
 unfolding declared
 loop-entry-init c = record {
-  names = λ q. ap (λ (es : List (Bor (List ℕ) × Declared)). option_map declared_seen (lookup (λ k. bytes_eq q k.now) es)) c.clear.ensures.empty;
+  names = λ q. ap (λ (ks : List Known). option_map declared_seen (known_as ks q)) c.clear.ensures;
   arrays = refl;
   params = refl;
   statements = refl;
@@ -35,16 +28,16 @@ loop-entry-preserved c =
     let h = c.with-counts.ensures in
     let v = c.loop-entry.invariant in
     record {
-      names = declared-more lines i _ (λ q. option_map declared_seen (at c.loop-entry.names q)) (λ q. option_map declared_seen (at c.match-declaration.names q)) _ _ _ c.loop-entry-test.true v.names v.arrays v.params v.statements
+      names = declared-more lines i _ (λ q. option_map declared_seen (known_as c.loop-entry.names q)) (λ q. option_map declared_seen (known_as c.match-declaration.names q)) _ _ _ c.loop-entry-test.true v.names v.arrays v.params v.statements
           (λ q. elim c.match-declaration.branch [
             | in-Some+in_ok-add w ↦
-                ap (λ m. option_map declared_seen (at m q)) w.names-is
+                ap (λ m. option_map declared_seen (known_as m q)) w.names-is
                 ∙ ap (option_map declared_seen) (w.in_ok-add.ensures q)
-                ∙ seen_or (at c.loop-entry.names q) (same_word q w.in-Some.name.now) w.in-Some.what
-                ∙ ap (option_or (option_map declared_seen (at c.loop-entry.names q))) (sym (c.declaration.ensures q ∙ ap (declared_if q) w.in-Some.is))
+                ∙ seen_or (known_as c.loop-entry.names q) (same_word q w.in-Some.name.now) w.in-Some.what
+                ∙ ap (option_or (option_map declared_seen (known_as c.loop-entry.names q))) (sym (c.declaration.ensures q ∙ ap (declared_if q) w.in-Some.is))
             | in_default w ↦
-                ap (λ m. option_map declared_seen (at m q)) w.names-is
-                ∙ sym (ap (option_or (option_map declared_seen (at c.loop-entry.names q))) (c.declaration.ensures q ∙ ap (declared_if q) w.in_default.is) ∙ option_or-none (option_map declared_seen (at c.loop-entry.names q)))
+                ap (λ m. option_map declared_seen (known_as m q)) w.names-is
+                ∙ sym (ap (option_or (option_map declared_seen (known_as c.loop-entry.names q))) (c.declaration.ensures q ∙ ap (declared_if q) w.in_default.is) ∙ option_or-none (option_map declared_seen (known_as c.loop-entry.names q)))
           ]);
       arrays = number_of-more is_array lines i _ _ _ c.loop-entry-test.true v.arrays h.arrays;
       params = number_of-more is_param lines i _ _ _ c.loop-entry-test.true v.params h.params;

@@ -1,6 +1,5 @@
 use Rattle.std.proofs.Common.{◌≡◌, ℕ, ◌≤◌, List, take, option_map}
-use Rattle.std.specs.HashMap.{get_by}
-use Rattle.std.specs.Str.{bytes_eq}
+use Rattle.loops.specs.Known.{known_as}
 use Rattle.loops.specs.Blocks.{forms_in, declared_seen}
 use Rattle.loops.specs.Meaning.{declared, number_of, is_array, is_param, is_statement}
 use Rattle.loops.proofs.index.index_names.Given as goal
@@ -9,7 +8,7 @@ abbrev pub invariant-loop-entry : goal.invariant-loop-entry
 invariant-loop-entry l =
     let before = forms_in (take l.entry-index l.lines) in
     record {
-      names : (q : List ℕ) → option_map declared_seen (get_by (λ k. bytes_eq q k.now) l.names) ≡ declared before q;
+      names : (q : List ℕ) → option_map declared_seen (known_as l.names q) ≡ declared before q;
       arrays : l.counts.arrays ≡ number_of is_array before;
       params : l.counts.params ≡ number_of is_param before;
       statements : l.counts.statements ≡ number_of is_statement before;

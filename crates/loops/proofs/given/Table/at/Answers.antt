@@ -11,11 +11,11 @@ returns-then-index c =
     let vs = c.self.inside.values.items in
     let k = 16 * c.args.row + c.args.place in
     let view : c.args.self.now ≡ values_taken ts vs = search rules in
-    let within : k < length ts = omega (arith, c.requires, length_taken ts vs c.self.invariant, ap length view) in
+    let within : k < length ts = omega (arith, c.requires, length_taken ts vs c.self.invariant.room, ap length view) in
     let here : get_or ts k false ≡ true = sym (get_or_read ts k _ within c.index.ensures false) ∙ c.if-index.true in
     let fits : to_z w64 (of_z w64 c.index-then-index.result.now) ≡ c.index-then-index.result.now = grind (arith, ints, to_z-of_z) in
-    let read = get_or_read vs k _ (omega (arith, within, c.self.invariant)) c.index-then-index.ensures (pos 0) in
-    ap Some (fits ∙ read) ∙ sym (ap (λ t. slot t c.args.row c.args.place) view ∙ value_taken ts vs k (pos 0) c.self.invariant ∙ ap (λ b. if b then Some (get_or vs k (pos 0)) else None) here)
+    let read = get_or_read vs k _ (omega (arith, within, c.self.invariant.room)) c.index-then-index.ensures (pos 0) in
+    ap Some (fits ∙ read) ∙ sym (ap (λ t. slot t c.args.row c.args.place) view ∙ value_taken ts vs k (pos 0) c.self.invariant.room ∙ ap (λ b. if b then Some (get_or vs k (pos 0)) else None) here)
 
 pub returns-else-index : goal.returns-else-index
 returns-else-index c =
@@ -23,6 +23,6 @@ returns-else-index c =
     let vs = c.self.inside.values.items in
     let k = 16 * c.args.row + c.args.place in
     let view : c.args.self.now ≡ values_taken ts vs = search rules in
-    let within : k < length ts = omega (arith, c.requires, length_taken ts vs c.self.invariant, ap length view) in
+    let within : k < length ts = omega (arith, c.requires, length_taken ts vs c.self.invariant.room, ap length view) in
     let here : get_or ts k false ≡ false = sym (get_or_read ts k _ within c.index.ensures false) ∙ c.if-index.false in
-    sym (ap (λ t. slot t c.args.row c.args.place) view ∙ value_taken ts vs k (pos 0) c.self.invariant ∙ ap (λ b. if b then Some (get_or vs k (pos 0)) else None) here)
+    sym (ap (λ t. slot t c.args.row c.args.place) view ∙ value_taken ts vs k (pos 0) c.self.invariant.room ∙ ap (λ b. if b then Some (get_or vs k (pos 0)) else None) here)

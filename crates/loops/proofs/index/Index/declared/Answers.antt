@@ -6,5 +6,5 @@ use Rattle.loops.proofs.index.Index.declared.Goals as goal
 
 pub returns-clause-counted : goal.returns-clause-counted
 returns-clause-counted c =
-    let e : option_map declared_seen c.copied.result ≡ declared (forms_in c.args.self.now) c.args.name.now = search rules in
-    counted-as (forms_in c.args.self.now) c.args.name.now (option_map declared_seen c.copied.result) e
+    let e : option_map declared_seen c.get.result ≡ declared (forms_in c.args.self.now) c.args.name.now = search rules in
+    counted-as (forms_in c.args.self.now) c.args.name.now (option_map declared_seen c.get.result) e
