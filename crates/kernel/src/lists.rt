@@ -180,6 +180,10 @@ impl ArrayNames {
 }
 
 impl fmt::Debug for ArrayNames {
+    ghost use Rattle.std.specs.Fmt.{debug_list, debug_str};
+
+    ghost debug_output = { debug_list debug_str };
+
     fn fmt<W: fmt::Write>(&self, f: &mut fmt::Formatter<W>) -> fmt::Result {
         fmt::Debug::fmt(self.as_slice(), f)
     }

@@ -77,6 +77,11 @@ impl Cells {
 }
 
 impl fmt::Debug for Cells {
+    ghost use Rattle.std.specs.Prelude.{Some};
+    ghost use Rattle.std.specs.Fmt.{debug_list, signed_decimal};
+
+    ghost debug_output = { debug_list (λ cell. Some (signed_decimal cell)) };
+
     fn fmt<W: fmt::Write>(&self, f: &mut fmt::Formatter<W>) -> fmt::Result {
         fmt::Debug::fmt(self.as_slice(), f)
     }

@@ -76,6 +76,10 @@ fn write_on_the_line<W: fmt::Write>(f: &mut fmt::Formatter<W>, c: char) -> fmt::
 }
 
 impl fmt::Debug for Key {
+    ghost use Rattle.std.specs.Fmt.{debug_str};
+
+    ghost debug_output = { debug_str };
+
     fn fmt<W: fmt::Write>(&self, f: &mut fmt::Formatter<W>) -> fmt::Result {
         fmt::Debug::fmt(self.as_str(), f)
     }

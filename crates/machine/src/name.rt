@@ -57,7 +57,10 @@ impl Name {
 impl fmt::Display for Name {
     ghost output = { λ n. Some n };
 
+    ghost styled_output = { λ n style. Some (styled_text style n) };
+
     ghost use Rattle.std.specs.Prelude.{Some};
+    ghost use Rattle.std.specs.Fmt.{styled_text};
 
     fn fmt<W: fmt::Write>(&self, f: &mut fmt::Formatter<W>) -> fmt::Result {
         f.pad(self.as_str())
@@ -65,6 +68,10 @@ impl fmt::Display for Name {
 }
 
 impl fmt::Debug for Name {
+    ghost use Rattle.std.specs.Fmt.{debug_str};
+
+    ghost debug_output = { debug_str };
+
     fn fmt<W: fmt::Write>(&self, f: &mut fmt::Formatter<W>) -> fmt::Result {
         fmt::Debug::fmt(self.as_str(), f)
     }
