@@ -13,3 +13,4 @@ pub mod RowWrites
 pub mod Rows
 pub mod Standing
 pub mod Turning
+pub mod Twofold

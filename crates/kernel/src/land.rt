@@ -4,12 +4,14 @@ ghost use Rattle.std.specs.Prelude.{◌≡◌, ◌%◌, ◌≤◌, ◌<◌, [], 
 ghost use Rattle.kernel.specs.Stands.{IsRing};
 ghost use Rattle.kernel.specs.Steps.{AreThere, arrays_landed, registers_landed, slot_at};
 
+use crate::file::RegisterFile;
 use crate::flight::{Pending, Place, SLOTS, Slot};
 use loops::Memory;
 
 /// Lands the writes of a cycle, which leaves their slot empty.
-pub(crate) fn land(registers: &mut [i64], memory: &mut Memory, ring: &mut [Slot], cycle: u64)
+pub(crate) fn land(registers: &mut RegisterFile, memory: &mut Memory, ring: &mut [Slot], cycle: u64)
     requires ring { IsRing (length registers.old) (length memory.old.arrays) memory.old.trip ring.old }
+    ensures many { length registers.new ≡ length registers.old }
     ensures registers { registers.new ≡ registers_landed registers.old (slot_at ring.old cycle) }
     ensures memory { memory.new ≡ record memory.old { arrays = arrays_landed memory.old.arrays (slot_at ring.old cycle) } }
     ensures ring { ring.new ≡ slice_set ring.old (cycle % 128) [] }
@@ -20,15 +22,18 @@ pub(crate) fn land(registers: &mut [i64], memory: &mut Memory, ring: &mut [Slot]
 }
 
 /// Lands writes, in order.
-fn land_all(registers: &mut [i64], memory: &mut Memory, writes: &[Pending])
+fn land_all(registers: &mut RegisterFile, memory: &mut Memory, writes: &[Pending])
     requires { AreThere (length registers.old) (length memory.old.arrays) memory.old.trip writes.now }
+    ensures many { length registers.new ≡ length registers.old }
     ensures registers { registers.new ≡ registers_landed registers.old writes.now }
     ensures memory { memory.new ≡ record memory.old { arrays = arrays_landed memory.old.arrays writes.now } }
 {
     for write in writes {
         match write.place {
-            Place::Register(register) => registers[register] = write.value,
-            Place::Cell(array, cell) => memory.set_cell(array, cell, write.value),
+            Place::Register(register) => registers.set(register, write.value),
+            Place::Cell(array, cell) => {
+                memory.set_cell(array as usize, i64::from(cell), write.value);
+            }
         }
     }
 }

@@ -3,6 +3,7 @@
 
 mod check;
 mod clock;
+mod file;
 mod flight;
 mod issue;
 mod land;

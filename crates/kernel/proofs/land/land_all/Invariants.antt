@@ -7,3 +7,4 @@ invariant-loop-write l =
     (l.registers ≡ registers_landed l.initial.registers (take l.write-index l.writes))
     × (l.memory ≡ record l.initial.memory { arrays = arrays_landed l.initial.memory.arrays (take l.write-index l.writes) })
     × (length l.memory.arrays ≡ length l.initial.memory.arrays)
+    × (length l.registers ≡ length l.initial.registers)
