@@ -1,16 +1,21 @@
 -- The bytes of names, and what a word is by the first byte that stands in none.
-use Rattle.std.proofs.Common.{◌≡◌, ◌==◌, ℕ, ◌+◌, ◌-◌, ◌<◌, ◌≤◌, ◌&&◌, Bool, true, false, not, cond, List, [], ◌∷◌, length, get_or, take, drop, Option, Some, None, refl, sym, ◌∙◌, ap, subst, arith, eqb, eq-eqb, inl, inr}
+use Rattle.std.proofs.Common.{◌≡◌, ◌==◌, ℕ, ◌+◌, ◌-◌, ◌^◌, ◌<◌, ◌≤◌, ◌&&◌, Bool, true, false, not, cond, List, [], ◌∷◌, length, get_or, map, take, drop, Option, Some, None, refl, sym, ◌∙◌, ap, subst, arith, eqb, eq-eqb, inl, inr}
 use Rattle.std.proofs.lemmas.Bool.{and_left, and_parts, and_right, cases_lt, cond-false, eqb-true, ne_eqb, false_from_ne_true, true≢false}
 use Rattle.std.proofs.lemmas.List.{get_or-drop, get_or-take, length-drop, length-take, drop-drop, take_all, take_rest}
 use Rattle.std.proofs.lemmas.List.Folds.{list_all_at}
 use Rattle.std.proofs.lemmas.List.Sums.{fails_before_first, passes_at_first, position_or_len_is}
+use Rattle.std.proofs.lemmas.List.FromFn.{get_or-map-range_with_len}
 use Rattle.std.specs.Char.{is_ascii_digit}
-use Rattle.std.specs.List.{before_first, list_all, list_any, position_or_len}
+use Rattle.std.specs.List.{before_first, list_all, list_any, position_or_len, range_with_len}
 use Rattle.std.specs.Str.{all_ascii_digits}
 use Rattle.std.specs.Str.Parse.{digits_value}
 use Rattle.loops.specs.Forms.{Use, Plain, at_of, int_of, is_letter, is_name, is_name_byte, is_number, named_use_of, signed_of, starts_name}
 use Rattle.loops.proofs.AtSigns.{any_there, name_bytes, name_starts, no_at, none_at}
 use Rattle.loops.proofs.Cuts.{before_next}
+
+-- a table of which bytes stand in names says it of each
+pub by_table : (table : List Bool) (b : ℕ) → b < 2 ^ 8 → table ≡ map is_name_byte (range_with_len 0 256) → get_or table b false ≡ is_name_byte b
+by_table table b h e = ap (λ bs. get_or bs b false) e ∙ get_or-map-range_with_len is_name_byte 0 256 b b false (omega arith) (omega arith)
 
 -- a byte that stands in no name
 abbrev pub stands_in_none : ℕ → Bool
