@@ -69,19 +69,9 @@ words_none-at c cs true e f h = rw e refl
 words_none-at c cs false e f h = let one = rw (f, e) at h in absurd (omega arith)
 
 -- nothing but a comment stands where neither a blank nor a word does
-words_none : (rest : List ℕ) → starts_blank rest ≡ false → position_or_len stops_word rest ≡ 0 → words_of rest ≡ []
+pub words_none : (rest : List ℕ) → starts_blank rest ≡ false → position_or_len stops_word rest ≡ 0 → words_of rest ≡ []
 words_none [] f h = refl
 words_none (c ∷ cs) f h = words_none-at c cs (c == 35) refl f h
-
--- as a slice pattern takes its first byte
-pub words_end : (rest : List ℕ) → 0 < length rest → starts_blank rest ≡ false → stops_word (get_or rest 0 0) ≡ true → words_of rest ≡ []
-words_end [] some f h = refl
-words_end (c ∷ cs) some f h = words_none (c ∷ cs) f (rw h refl)
-
-pub count_first : (rest : List ℕ) (n : ℕ) → 0 < length rest → stops_word (get_or rest 0 0) ≡ false → n ≡ position_or_len stops_word (take (length rest - 1) (drop 1 rest)) → 1 + n ≡ position_or_len stops_word rest
-count_first rest n some h e =
-    let tail = take (length rest - 1) (drop 1 rest) in
-    ap (λ m. 1 + m) e ∙ sym (ap (position_or_len stops_word) (head_and_rest rest some) ∙ position_next stops_word (get_or rest 0 0) tail h)
 
 word_longer : (c : ℕ) (cs : List ℕ) (p : ℕ) → words_of cs ≡ take p cs ∷ words_of (drop p cs) → onto_first c (words_of cs) ≡ take (1 + p) (c ∷ cs) ∷ words_of (drop (1 + p) (c ∷ cs))
 word_longer c cs p h = let one : 1 + p ≡ suc p = omega arith in rw (h, one) refl

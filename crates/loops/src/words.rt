@@ -1,6 +1,6 @@
 //! Lines of a text and words of a line.
 
-ghost use Rattle.std.specs.Prelude.{◌≡◌, ◌≢◌, ◌==◌, ◌-◌, ◌<◌, ◌≤◌, ◌&&◌, nat_lt, ℕ, List, [], ◌∷◌, length, take, slice_index, false, true, MatchOption};
+ghost use Rattle.std.specs.Prelude.{◌≡◌, ◌≢◌, ◌==◌, ◌-◌, ◌<◌, ◌&&◌, nat_lt, ℕ, List, [], ◌∷◌, length, take, slice_index, false, true, MatchOption};
 ghost use Rattle.std.specs.List.{before_first, after_first, position_or_len};
 ghost use Rattle.machine.specs.Opcodes.{same_word};
 ghost use Rattle.loops.specs.Words.{is_blank, lines_of, starts_blank, stops_word, words_of};
@@ -110,8 +110,7 @@ fn without_blanks(text: &[u8]) -> &[u8]
 
 /// How many bytes stand before the first blank or `#`.
 fn count_word(text: &[u8]) -> usize
-    ensures value { result ≡ position_or_len stops_word text.now }
-    ensures within { result ≤ length text.now }
+    ensures { result ≡ position_or_len stops_word text.now }
 {
     for (i, b) in text.iter().enumerate() {
         if ends_word(*b) {
@@ -122,14 +121,16 @@ fn count_word(text: &[u8]) -> usize
 }
 
 /// The next word of a rest of a line, and what follows it.
-#[tactic(auto, using(crate::proofs::Cuts::words_end))]
+#[tactic(auto, using(crate::proofs::Cuts::words_none))]
 pub(crate) fn next_word(rest: &[u8]) -> Option<(&[u8], &[u8])>
     ensures { MatchOption result (words_of rest.now ≡ []) (λ x. words_of rest.now ≡ x.0.now ∷ words_of x.1.now) }
 {
     let rest = without_blanks(rest);
-    match rest {
-        [first, more @ ..] if !ends_word(*first) => Some(rest.split_at(1 + count_word(more))),
-        _ => None,
+    let end = count_word(rest);
+    if end == 0 {
+        None
+    } else {
+        Some(rest.split_at(end))
     }
 }
 
@@ -145,7 +146,6 @@ pub(crate) fn one_word(rest: &[u8]) -> Option<&[u8]>
 }
 
 /// The words of a rest that has two.
-#[inline(always)]
 pub(crate) fn two_words(rest: &[u8]) -> Option<(&[u8], &[u8])>
     ensures { MatchOption result (length (words_of rest.now) ≢ 2) (λ x. words_of rest.now ≡ x.0.now ∷ (x.1.now ∷ [])) }
 {

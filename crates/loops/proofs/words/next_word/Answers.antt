@@ -1,10 +1,13 @@
-use Rattle.std.proofs.Common.{◌<◌, ◌+◌, length, arith, sym, ◌∙◌}
-use Rattle.loops.proofs.Cuts.{count_first, word_taken}
+use Rattle.std.proofs.Common.{◌<◌, arith, not}
+use Rattle.std.proofs.lemmas.List.Sums.{prefix_len-le-length}
+use Rattle.loops.specs.Words.{stops_word}
+use Rattle.loops.proofs.Cuts.{word_taken}
 use Rattle.loops.proofs.words.next_word.Goals as goal
 
-pub returns-in-len1-up : goal.returns-in-len1-up
-returns-in-len1-up c =
-    let rest = c.without_blanks-rest.result.now in
-    let some : 0 < length rest = omega arith in
-    let n = count_first rest c.count_word.result some (sym c.ends_word.ensures ∙ c.if-not-ends_word.true) c.count_word.ensures.value in
-    word_taken c.args.rest.now rest _ _ (1 + c.count_word.result) c.without_blanks-rest.ensures.same_words (omega arith) n c.split_at.ensures.front c.split_at.ensures.back
+pub split_at-requires : goal.split_at-requires
+split_at-requires c = omega (arith, prefix_len-le-length (λ x. not (stops_word x)) c.without_blanks-rest.result.now)
+
+pub returns-else-end-eq0 : goal.returns-else-end-eq0
+returns-else-end-eq0 c =
+    let some : 0 < c.count_word-end.result = omega arith in
+    word_taken c.args.rest.now c.without_blanks-rest.result.now _ _ c.count_word-end.result c.without_blanks-rest.ensures.same_words some c.count_word-end.ensures c.split_at.ensures.front c.split_at.ensures.back
