@@ -1,6 +1,6 @@
 //! Names.
 
-ghost use Rattle.std.specs.Prelude.{◌≡◌, not, true};
+ghost use Rattle.std.specs.Prelude.{◌≡◌, ◌≤◌, not, true, length};
 ghost use Rattle.std.specs.List.{list_all, position_or_len};
 ghost use Rattle.loops.specs.Forms.{is_letter, is_name, is_name_byte, is_reserved};
 
@@ -13,16 +13,40 @@ fn is_letter(byte: u8) -> bool
     byte.is_ascii_alphabetic() || byte == b'_'
 }
 
+/// Which bytes may stand in a name, by their values: letters, digits and `_`.
+static NAME_BYTES: [bool; 256] = [
+    false, false, false, false, false, false, false, false, false, false, false, false, false,
+    false, false, false, false, false, false, false, false, false, false, false, false, false,
+    false, false, false, false, false, false, false, false, false, false, false, false, false,
+    false, false, false, false, false, false, false, false, false, true, true, true, true, true,
+    true, true, true, true, true, false, false, false, false, false, false, false, true, true,
+    true, true, true, true, true, true, true, true, true, true, true, true, true, true, true, true,
+    true, true, true, true, true, true, true, true, false, false, false, false, true, false, true,
+    true, true, true, true, true, true, true, true, true, true, true, true, true, true, true, true,
+    true, true, true, true, true, true, true, true, true, false, false, false, false, false, false,
+    false, false, false, false, false, false, false, false, false, false, false, false, false,
+    false, false, false, false, false, false, false, false, false, false, false, false, false,
+    false, false, false, false, false, false, false, false, false, false, false, false, false,
+    false, false, false, false, false, false, false, false, false, false, false, false, false,
+    false, false, false, false, false, false, false, false, false, false, false, false, false,
+    false, false, false, false, false, false, false, false, false, false, false, false, false,
+    false, false, false, false, false, false, false, false, false, false, false, false, false,
+    false, false, false, false, false, false, false, false, false, false, false, false, false,
+    false, false, false, false, false, false, false, false, false, false, false, false, false,
+    false, false, false, false, false, false, false, false, false, false,
+];
+
 /// A letter, a digit or `_`.
 fn is_name_byte(byte: u8) -> bool
     ensures { result ≡ is_name_byte byte }
 {
-    is_letter(byte) || byte.is_ascii_digit()
+    NAME_BYTES[byte as usize]
 }
 
 /// How many bytes in front may stand in a name.
 pub(crate) fn count_name(word: &[u8]) -> usize
-    ensures { result ≡ position_or_len (λ c. not (is_name_byte c)) word.now }
+    ensures value { result ≡ position_or_len (λ c. not (is_name_byte c)) word.now }
+    ensures within { result ≤ length word.now }
 {
     for (i, b) in word.iter().enumerate() {
         if !is_name_byte(*b) {
