@@ -4,6 +4,7 @@ pub mod Blocks
 pub mod Building
 pub mod Checks
 pub mod Forms
+pub mod Found
 pub mod Known
 pub mod Loops
 pub mod Meaning
