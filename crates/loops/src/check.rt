@@ -103,6 +103,7 @@ struct Looked {
 }
 
 /// Looks a use of this statement up. Its name is looked up once for all.
+#[inline(always)]
 fn look_up<'a>(index: &Index<'a>, given: &Given, statement: usize, read: &Option<Use<'a>>) -> Looked
     requires room { length given.now.inits ≡ 16 * number_of is_statement (forms_in index.now) }
     requires near { IsNearRead read.now }
@@ -155,6 +156,7 @@ struct Spot {
     number: u8,
 }
 
+#[inline(always)]
 fn look_up_place<'a>(index: &Index<'a>, place: &Option<Subscript<'a>>) -> Spot
     ensures unknown { result.unknown ≡ meaning.is_unknown_place (forms_in index.now) (option_map subscript_seen place.now) }
     ensures number { IsFew (forms_in index.now) → result.number ≡ array_in (forms_in index.now) place.now }
@@ -265,6 +267,7 @@ fn init_fault<'a>(
 }
 
 /// The first fault of a statement behind so many lines; else what its names stand for.
+#[inline(always)]
 fn check_statement<'a>(
     index: &Index<'a>,
     counts: Counts,
@@ -346,6 +349,7 @@ fn nothing_unless(fault: Option<LoopFaultKind>) -> Result<Found, LoopFaultKind>
 
 /// The first fault of a line behind so many others, which gave this to the block's values; else what the
 /// names stand for that it uses.
+#[inline(always)]
 pub(crate) fn check_line<'a>(
     index: &Index<'a>,
     counts: Counts,
