@@ -9,6 +9,7 @@ pub mod Cuts
 pub mod Declared
 pub mod Faultless
 pub mod Few
+pub mod Finding
 pub mod Forming
 pub mod Giving
 pub mod HeadLines

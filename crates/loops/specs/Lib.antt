@@ -5,6 +5,7 @@ pub mod Building
 pub mod Checks
 pub mod Faults
 pub mod Forms
+pub mod Found
 pub mod Known
 pub mod Loops
 pub mod Meaning

@@ -1,21 +1,26 @@
 //! The faults of a block's lines.
 
-ghost use Rattle.std.specs.Prelude.{◌≡◌, ◌*◌, ◌≤◌, ℕ, ℤ, Bool, false, Option, None, Some, List, [], not, option_map, length, replicate, take};
+ghost use Rattle.std.specs.Prelude.{◌≡◌, ◌*◌, ◌≤◌, ℕ, ℤ, Bool, false, Option, None, Some, Ok, IfOk, List, [], not, option_map, length, replicate, take};
 ghost use Rattle.std.specs.Borrow.{Bor};
 ghost use Rattle.std.specs.List.{AllByRecursion};
 ghost use Rattle.loops.specs.declared.index.Counts.{Counts};
 ghost use Rattle.loops.specs.Forms.{ArrayLine, ParamLine, InitLine, StatementLine, OutLine};
 ghost use Rattle.loops.specs.Meaning as meaning;
-ghost use Rattle.loops.specs.Meaning.{any_name, declared, number_of, is_statement, AValue};
+ghost use Rattle.loops.specs.Meaning.{any_name, declared, number_of, number_at, is_statement, AValue};
 ghost use Rattle.loops.specs.Parsed.{cells_seen, form_seen, source_seen, subscript_seen, uses_seen};
 ghost use Rattle.loops.specs.Blocks.{declared_seen, entry_faults, forms_in};
+ghost use Rattle.loops.specs.Building.{IsFew};
+ghost use Rattle.loops.specs.Found.{array_in, fault_in, operand_in, AreFound, IsFoundFor, IsFoundIn};
 ghost use Rattle.loops.specs.Checks.{any_use, covers_name, first_in, inits_with, is_that, kinds_at, lacks_init, outs_with, with_init, IsBlock, IsGiven, IsNear, IsNearForm, IsNearRead, IsNearUse, IsRoomFor};
 
 use crate::cells::are_wide;
 use crate::fault::{LoopFault, LoopFaultKind};
-use crate::form::{Form, Source, Subscript, Use, Uses};
+use crate::form::{Form, Source, Subscript, Use};
+use crate::found::{self, Found, reads};
 use crate::given::{Given, MOST};
 use crate::index::{Counts, Declared, Index};
+use crate::statement::Operand;
+use std::alloc::AllocError;
 
 const MOST_BYTES: usize = 16;
 
@@ -64,14 +69,14 @@ fn is_value_from(statement: usize, found: Option<Declared>) -> bool
     }
 }
 
-fn is_wide(read: Option<Use<'_>>) -> bool
-    ensures { result ≡ any_use meaning.is_wide read.entry }
+fn is_wide(read: &Option<Use<'_>>) -> bool
+    ensures { result ≡ any_use meaning.is_wide read.now }
 {
     match read {
         None => false,
         Some(Use::Number(value)) => value.is_none(),
-        Some(Use::Plain(name)) => is_long(name),
-        Some(Use::At(name, distance)) => is_long(name) || distance.is_none(),
+        Some(Use::Plain(name)) => is_long(*name),
+        Some(Use::At(name, distance)) => is_long(*name) || distance.is_none(),
     }
 }
 
@@ -88,50 +93,84 @@ fn covers_name(given: &Given, found: Option<Declared>, distance: u8) -> bool
     }
 }
 
-/// What is wrong with a use, or with several.
+/// A use that was looked up: what is wrong with it, and what it reads.
 #[derive(Clone, Copy)]
-struct UseFaults {
+struct Looked {
     unknown: bool,
     early: bool,
     lacking: bool,
+    operand: Operand,
 }
 
-/// What is wrong with a use of this statement. Its name is looked up once for all.
-fn use_faults<'a>(
-    index: &Index<'a>,
-    given: &Given,
-    statement: usize,
-    read: Option<Use<'a>>,
-) -> UseFaults
+/// Looks a use of this statement up. Its name is looked up once for all.
+#[inline(always)]
+fn look_up<'a>(index: &Index<'a>, given: &Given, statement: usize, read: &Option<Use<'a>>) -> Looked
     requires room { length given.now.inits ≡ 16 * number_of is_statement (forms_in index.now) }
-    requires near { IsNearRead read }
-    ensures unknown { result.unknown ≡ any_use (meaning.is_unknown (forms_in index.now)) read.entry }
-    ensures early { result.early ≡ any_use (meaning.is_early (forms_in index.now) statement) read.entry }
-    ensures lacking { result.lacking ≡ any_use (lacks_init (forms_in index.now) given.now.inits) read.entry }
+    requires near { IsNearRead read.now }
+    ensures unknown { result.unknown ≡ any_use (meaning.is_unknown (forms_in index.now)) read.now }
+    ensures early { result.early ≡ any_use (meaning.is_early (forms_in index.now) statement) read.now }
+    ensures lacking { result.lacking ≡ any_use (lacks_init (forms_in index.now) given.now.inits) read.now }
+    ensures operand { IsFew (forms_in index.now) → result.operand ≡ operand_in (forms_in index.now) read.now }
 {
     match read {
-        None | Some(Use::Number(_)) => UseFaults {
+        None => Looked {
             unknown: false,
             early: false,
             lacking: false,
+            operand: Operand::Constant(0),
+        },
+        Some(Use::Number(value)) => Looked {
+            unknown: false,
+            early: false,
+            lacking: false,
+            operand: Operand::Constant(value.unwrap_or(0)),
         },
         Some(Use::Plain(name)) => {
-            let found = index.declared(name);
-            UseFaults {
+            let found = index.declared(*name);
+            Looked {
                 unknown: !is_readable(found),
                 early: is_value_from(statement, found),
                 lacking: false,
+                operand: reads(found, 0),
             }
         }
         Some(Use::At(name, distance)) => {
-            let found = index.declared(name);
-            UseFaults {
+            let found = index.declared(*name);
+            Looked {
                 unknown: !is_value(found),
                 early: matches!(distance, Some(0)) && is_value_from(statement, found),
                 lacking: match distance {
                     None => false,
-                    Some(distance) => !covers_name(given, found, distance),
+                    Some(distance) => !covers_name(given, found, *distance),
                 },
+                operand: reads(found, distance.unwrap_or(0)),
+            }
+        }
+    }
+}
+
+/// A place that was looked up: whether it is of no array, and its array's number.
+#[derive(Clone, Copy)]
+struct Spot {
+    unknown: bool,
+    number: u8,
+}
+
+#[inline(always)]
+fn look_up_place<'a>(index: &Index<'a>, place: &Option<Subscript<'a>>) -> Spot
+    ensures unknown { result.unknown ≡ meaning.is_unknown_place (forms_in index.now) (option_map subscript_seen place.now) }
+    ensures number { IsFew (forms_in index.now) → result.number ≡ array_in (forms_in index.now) place.now }
+{
+    match place {
+        None => Spot {
+            unknown: false,
+            number: 0,
+        },
+        Some(place) => {
+            let found = index.declared(place.array);
+            Spot {
+                unknown: !matches!(found, Some(Declared::Array(_))),
+                number: found::number_of(found),
             }
         }
     }
@@ -156,17 +195,8 @@ fn is_repeated_value<'a>(index: &Index<'a>, statement: usize, name: Option<&'a [
     }
 }
 
-fn is_unknown_place<'a>(index: &Index<'a>, place: Option<Subscript<'a>>) -> bool
-    ensures { result ≡ meaning.is_unknown_place (forms_in index.now) (option_map subscript_seen place.entry) }
-{
-    match place {
-        None => false,
-        Some(place) => !matches!(index.declared(place.array), Some(Declared::Array(_))),
-    }
-}
-
-fn is_wide_place(place: Option<Subscript<'_>>) -> bool
-    ensures { result ≡ meaning.is_wide_place (option_map subscript_seen place.entry) }
+fn is_wide_place(place: &Option<Subscript<'_>>) -> bool
+    ensures { result ≡ meaning.is_wide_place (option_map subscript_seen place.now) }
 {
     match place {
         None => false,
@@ -236,104 +266,129 @@ fn init_fault<'a>(
     }
 }
 
-fn statement_fault<'a>(
+/// The first fault of a statement behind so many lines; else what its names stand for.
+#[inline(always)]
+fn check_statement<'a>(
     index: &Index<'a>,
     counts: Counts,
     given: &Given,
     source: &Source<'a>,
-) -> Option<LoopFaultKind>
+) -> Result<Found, LoopFaultKind>
     requires room { length given.now.inits ≡ 16 * number_of is_statement (forms_in index.now) }
     requires near { AllByRecursion IsNearUse (uses_seen source.now.uses) }
-    ensures { (outs : List Bool) → result
+    ensures fault { (outs : List Bool) → fault_in result
         ≡ first_in (kinds_at (forms_in index.now) counts given.now.inits outs (StatementLine (source_seen source.now))) }
+    ensures found { IfOk result (λ found. IsFew (forms_in index.now) → IsFoundIn (forms_in index.now) source.now found) }
 {
-    let Uses {
-        first,
-        second,
-        third,
-    } = source.uses;
+    let uses = &source.uses;
     let number = counts.statements;
     if is_long_name(source.name)
-        || is_wide_place(source.place)
-        || is_wide(first)
-        || is_wide(second)
-        || is_wide(third)
+        || is_wide_place(&source.place)
+        || is_wide(&uses.first)
+        || is_wide(&uses.second)
+        || is_wide(&uses.third)
         || number >= MOST_STATEMENTS
     {
-        return Some(LoopFaultKind::Limit);
+        return Err(LoopFaultKind::Limit);
     }
     if is_repeated_value(index, number, source.name) {
-        return Some(LoopFaultKind::RepeatedName);
+        return Err(LoopFaultKind::RepeatedName);
     }
-    let first = use_faults(index, given, number, first);
-    let second = use_faults(index, given, number, second);
-    let third = use_faults(index, given, number, third);
-    if is_unknown_place(index, source.place) || first.unknown || second.unknown || third.unknown {
-        return Some(LoopFaultKind::UnknownName);
+    let first = look_up(index, given, number, &uses.first);
+    let second = look_up(index, given, number, &uses.second);
+    let third = look_up(index, given, number, &uses.third);
+    let place = look_up_place(index, &source.place);
+    if place.unknown || first.unknown || second.unknown || third.unknown {
+        return Err(LoopFaultKind::UnknownName);
     }
     if first.early || second.early || third.early {
-        return Some(LoopFaultKind::UseBeforeDefinition);
+        return Err(LoopFaultKind::UseBeforeDefinition);
     }
     if first.lacking || second.lacking || third.lacking {
-        return Some(LoopFaultKind::MissingInit);
+        return Err(LoopFaultKind::MissingInit);
     }
-    None
+    Ok(Found {
+        number: place.number,
+        first: first.operand,
+        second: second.operand,
+        third: third.operand,
+    })
 }
 
-fn out_fault<'a>(index: &Index<'a>, given: &Given, name: &'a [u8]) -> Option<LoopFaultKind>
+fn check_out<'a>(index: &Index<'a>, given: &Given, name: &'a [u8]) -> Result<Found, LoopFaultKind>
     requires room { length given.now.inits ≡ 16 * number_of is_statement (forms_in index.now) }
     requires flags { length given.now.outs.items ≡ number_of is_statement (forms_in index.now) }
-    ensures { (counts : Counts) → result
+    ensures fault { (counts : Counts) → fault_in result
         ≡ first_in (kinds_at (forms_in index.now) counts given.now.inits given.now.outs.items (OutLine name.now)) }
+    ensures found { IfOk result (λ found. IsFew (forms_in index.now) → found.number ≡ number_at (declared (forms_in index.now) name.now)) }
 {
     if is_long(name) {
-        return Some(LoopFaultKind::Limit);
+        return Err(LoopFaultKind::Limit);
     }
-    match index.declared(name) {
-        Some(Declared::Value(value)) if given.outs[value] => Some(LoopFaultKind::RepeatedName),
-        Some(Declared::Value(value)) if given.covers(value, 1) => None,
-        Some(Declared::Value(_)) => Some(LoopFaultKind::MissingInit),
-        _ => Some(LoopFaultKind::UnknownName),
+    let found = index.declared(name);
+    match found {
+        Some(Declared::Value(value)) if given.outs[value] => Err(LoopFaultKind::RepeatedName),
+        Some(Declared::Value(value)) if given.covers(value, 1) => Ok(Found {
+            number: found::number_of(found),
+            ..Found::NOTHING
+        }),
+        Some(Declared::Value(_)) => Err(LoopFaultKind::MissingInit),
+        _ => Err(LoopFaultKind::UnknownName),
     }
 }
 
-/// The first fault of a line behind so many others, which gave this to the block's values.
-pub(crate) fn line_fault<'a>(
+/// A line that uses no name.
+fn nothing_unless(fault: Option<LoopFaultKind>) -> Result<Found, LoopFaultKind>
+    ensures { fault_in result ≡ fault }
+{
+    match fault {
+        None => Ok(Found::NOTHING),
+        Some(kind) => Err(kind),
+    }
+}
+
+/// The first fault of a line behind so many others, which gave this to the block's values; else what the
+/// names stand for that it uses.
+#[inline(always)]
+pub(crate) fn check_line<'a>(
     index: &Index<'a>,
     counts: Counts,
     given: &Given,
     form: &Form<'a>,
-) -> Option<LoopFaultKind>
+) -> Result<Found, LoopFaultKind>
     requires room { length given.now.inits ≡ 16 * number_of is_statement (forms_in index.now) }
     requires flags { length given.now.outs.items ≡ number_of is_statement (forms_in index.now) }
     requires near { IsNearForm (form_seen form.now) }
-    ensures { result ≡ first_in (kinds_at (forms_in index.now) counts given.now.inits given.now.outs.items (form_seen form.now)) }
+    ensures fault { fault_in result ≡ first_in (kinds_at (forms_in index.now) counts given.now.inits given.now.outs.items (form_seen form.now)) }
+    ensures found { IfOk result (λ found. IsFew (forms_in index.now) → IsFoundFor (forms_in index.now) form.now found) }
 {
     match form {
-        Form::Loop(_) | Form::Malformed => None,
-        Form::Array(name, cells) => array_fault(index, counts, *name, *cells),
-        Form::Param(name, value) => param_fault(index, counts, *name, *value),
-        Form::Init(name, number, value) => init_fault(index, given, *name, *number, *value),
-        Form::Statement(source) => statement_fault(index, counts, given, source),
-        Form::Out(name) => out_fault(index, given, *name),
-        Form::End if counts.statements == 0 => Some(LoopFaultKind::Limit),
-        Form::End => None,
+        Form::Loop(_) | Form::Malformed => Ok(Found::NOTHING),
+        Form::Array(name, cells) => nothing_unless(array_fault(index, counts, *name, *cells)),
+        Form::Param(name, value) => nothing_unless(param_fault(index, counts, *name, *value)),
+        Form::Init(name, number, value) => {
+            nothing_unless(init_fault(index, given, *name, *number, *value))
+        }
+        Form::Statement(source) => check_statement(index, counts, given, source),
+        Form::Out(name) => check_out(index, given, *name),
+        Form::End if counts.statements == 0 => Err(LoopFaultKind::Limit),
+        Form::End => Ok(Found::NOTHING),
     }
 }
 
 /// Takes down what one more line gives to the block's values.
-fn give<'a>(given: &mut Given, index: &Index<'a>, form: Form<'a>)
+fn give<'a>(given: &mut Given, index: &Index<'a>, form: &Form<'a>)
     requires room { length given.old.inits ≡ 16 * number_of is_statement (forms_in index.now) }
     requires flags { length given.old.outs.items ≡ number_of is_statement (forms_in index.now) }
-    ensures inits { given.new.inits ≡ inits_with (forms_in index.now) given.old.inits (form_seen form.entry) }
-    ensures outs { given.new.outs.items ≡ outs_with (forms_in index.now) given.old.outs.items (form_seen form.entry) }
+    ensures inits { given.new.inits ≡ inits_with (forms_in index.now) given.old.inits (form_seen form.now) }
+    ensures outs { given.new.outs.items ≡ outs_with (forms_in index.now) given.old.outs.items (form_seen form.now) }
 {
     match form {
         Form::Init(name, Some(number), Some(value)) => {
-            give_init(given, index.declared(name), number, value);
+            give_init(given, index.declared(*name), *number, *value);
         }
         Form::Out(name) => {
-            if let Some(Declared::Value(value)) = index.declared(name) {
+            if let Some(Declared::Value(value)) = index.declared(*name) {
                 given.outs[value] = true;
             }
         }
@@ -355,29 +410,35 @@ fn give_init(given: &mut Given, found: Option<Declared>, number: u8, value: i64)
 }
 
 /// The first fault of the first so many lines of a block. Where they have none, `given` is left with
-/// what they give to the block's values.
+/// what they give to the block's values, and `found` with what the names stand for that they use.
 pub(crate) fn first_fault<'a>(
     index: &Index<'a>,
     sound: usize,
     given: &mut Given,
-) -> Option<LoopFault>
+    found: &mut Vec<Found>,
+) -> Result<Option<LoopFault>, AllocError>
     requires sound { sound ≤ length index.now }
     requires inits { given.old.inits ≡ replicate (16 * number_of is_statement (forms_in index.now)) None }
     requires outs { given.old.outs.items ≡ replicate (number_of is_statement (forms_in index.now)) false }
     requires block { IsBlock (forms_in index.now) }
-    ensures value { result ≡ first_in (entry_faults (forms_in index.now) [] (take sound index.now)) }
-    ensures given { result ≡ None → IsGiven (forms_in index.now) (forms_in (take sound index.now)) given.new.inits given.new.outs.items }
+    ensures value { IfOk result (λ fault. fault ≡ first_in (entry_faults (forms_in index.now) [] (take sound index.now))) }
+    ensures given { result ≡ Ok None → IsGiven (forms_in index.now) (forms_in (take sound index.now)) given.new.inits given.new.outs.items }
+    ensures found { result ≡ Ok None → IsFew (forms_in index.now) → AreFound (forms_in index.now) (take sound index.now) found.new.items }
 {
+    found.clear();
     let mut counts = Counts::NONE;
     for entry in &index.lines()[..sound] {
-        if let Some(kind) = line_fault(index, counts, given, &entry.form) {
-            return Some(LoopFault {
-                line: entry.line,
-                kind,
-            });
+        match check_line(index, counts, given, &entry.form) {
+            Ok(line) => found.push(line)?,
+            Err(kind) => {
+                return Ok(Some(LoopFault {
+                    line: entry.line,
+                    kind,
+                }));
+            }
         }
-        give(given, index, entry.form);
-        counts = counts.with(entry.form);
+        give(given, index, &entry.form);
+        counts = counts.with(&entry.form);
     }
-    None
+    Ok(None)
 }

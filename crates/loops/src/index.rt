@@ -36,13 +36,13 @@ impl Counts {
     };
 
     /// The counts with one more line.
-    pub(crate) fn with(self, form: Form<'_>) -> Counts
+    pub(crate) fn with(self, form: &Form<'_>) -> Counts
         requires arrays { self.arrays + 1 < 2 ^ 64 }
         requires params { self.params + 1 < 2 ^ 64 }
         requires statements { self.statements + 1 < 2 ^ 64 }
-        ensures arrays { result.arrays ≡ self.arrays + one_if (is_array (form_seen form.entry)) }
-        ensures params { result.params ≡ self.params + one_if (is_param (form_seen form.entry)) }
-        ensures statements { result.statements ≡ self.statements + one_if (is_statement (form_seen form.entry)) }
+        ensures arrays { result.arrays ≡ self.arrays + one_if (is_array (form_seen form.now)) }
+        ensures params { result.params ≡ self.params + one_if (is_param (form_seen form.now)) }
+        ensures statements { result.statements ≡ self.statements + one_if (is_statement (form_seen form.now)) }
     {
         let Counts {
             mut arrays,
@@ -64,13 +64,13 @@ impl Counts {
 }
 
 /// The name that a line declares behind so many others, and what it stands for.
-fn declaration<'a>(form: Form<'a>, before: Counts) -> Option<(&'a [u8], Declared)>
-    ensures { (q : List ℕ) → declared_by q before.arrays before.params before.statements (form_seen form.entry)
+fn declaration<'a>(form: &Form<'a>, before: Counts) -> Option<(&'a [u8], Declared)>
+    ensures { (q : List ℕ) → declared_by q before.arrays before.params before.statements (form_seen form.now)
         ≡ declared_if q result }
 {
     match form {
-        Form::Array(name, _) => Some((name, Declared::Array(before.arrays))),
-        Form::Param(name, _) => Some((name, Declared::Param(before.params))),
+        Form::Array(name, _) => Some((*name, Declared::Array(before.arrays))),
+        Form::Param(name, _) => Some((*name, Declared::Param(before.params))),
         Form::Statement(source) => Some((source.name?, Declared::Value(before.statements))),
         _ => None,
     }
@@ -88,10 +88,10 @@ pub(crate) fn index_names<'a>(
     names.clear();
     let mut counts = Counts::NONE;
     for entry in lines {
-        if let Some((name, what)) = declaration(entry.form, counts) {
+        if let Some((name, what)) = declaration(&entry.form, counts) {
             names.add(name, what)?;
         }
-        counts = counts.with(entry.form);
+        counts = counts.with(&entry.form);
     }
     Ok(counts)
 }

@@ -9,6 +9,7 @@ mod collect;
 mod entry;
 mod fault;
 mod form;
+mod found;
 mod given;
 mod index;
 mod innermost;

@@ -8,11 +8,12 @@ ghost use Rattle.loops.specs.Meaning.{forms_of, loops_in, Answers};
 ghost use Rattle.loops.specs.Texts.{seen, AnswersBlock, AnswersOpening};
 
 use crate::build::build;
-use crate::check::{first_fault, is_long, line_fault};
+use crate::check::{check_line, first_fault, is_long};
 use crate::collect::{Stop, collect_block};
 use crate::entry::Entry;
 use crate::fault::{LoopFault, LoopFaultKind};
 use crate::form::{Form, form_of};
+use crate::found::Found;
 use crate::given::Given;
 use crate::index::{Index, index_names};
 use crate::innermost::Loop;
@@ -31,6 +32,7 @@ struct Room<'a> {
     lines: Vec<Entry<'a>>,
     names: Names<'a>,
     given: Given,
+    found: Vec<Found>,
 }
 
 /// A block that was read: its loop, the text behind it and the number of that text's first line.
@@ -58,7 +60,8 @@ fn read_block<'a>(
     let counts = index_names(&mut room.names, room.lines.as_slice())?;
     let index = Index::new(&room.names, room.lines.as_slice());
     room.given.reset(counts.statements)?;
-    if let Some(fault) = first_fault(&index, sound, &mut room.given) {
+    let first = first_fault(&index, sound, &mut room.given, &mut room.found)?;
+    if let Some(fault) = first {
         return Err(fault);
     }
     let (line, rest) = match stop {
@@ -72,10 +75,17 @@ fn read_block<'a>(
         }),
         Stop::End(line, rest) => (line, rest),
     };
-    if let Some(kind) = line_fault(&index, counts, &room.given, &Form::End) {
+    if let Err(kind) = check_line(&index, counts, &room.given, &Form::End) {
         return Err(LoopFault { line, kind });
     }
-    let found = build(alloc, name, &index, counts, &room.given)?;
+    let found = build(
+        alloc,
+        name,
+        &index,
+        counts,
+        &room.given,
+        room.found.as_slice(),
+    )?;
     Ok(Block {
         found,
         rest,
@@ -120,6 +130,7 @@ pub fn read_loops(alloc: Global, text: &[u8]) -> Result<Vec<Loop>, LoopFault>
         lines: Vec::new(alloc),
         names: Names::new(alloc)?,
         given: Given::new(alloc),
+        found: Vec::new(alloc),
     };
     let mut rest = text;
     let mut line = 1;

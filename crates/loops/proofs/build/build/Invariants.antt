@@ -5,12 +5,12 @@ use Rattle.loops.specs.Blocks.{forms_in}
 use Rattle.loops.specs.Building.{rows_of}
 use Rattle.loops.proofs.build.build.Given as goal
 
-abbrev pub invariant-loop-line : goal.invariant-loop-line
-invariant-loop-line l =
+abbrev pub invariant-loop-i : goal.invariant-loop-i
+invariant-loop-i l =
     let block = forms_in l.index in
-    let done = forms_in (take l.line-index l.line-items) in
+    let done = forms_in (take l.i l.lines) in
     record {
-      items : l.line-items ≡ l.index;
+      items : l.lines ≡ l.index;
       arrays : l.parts.arrays.items ≡ filter_map array_in done;
       params : l.parts.params.items ≡ filter_map param_in done;
       statements : l.parts.statements.items ≡ map (statement_of block) (filter_map source_in done);

@@ -1,10 +1,12 @@
-use Rattle.std.proofs.Common.{◌∙◌, ◌+◌, [], refl, sym, ap, arith, take}
+use Rattle.std.proofs.Common.{◌∙◌, ◌+◌, [], refl, sym, ap, subst, arith, take}
 use Rattle.loops.specs.declared.entry.Entry.{Entry}
 use Rattle.loops.specs.declared.form.Form.TheVariants as forms
 use Rattle.loops.specs.Meaning.{is_array, is_param, is_statement}
 use Rattle.loops.specs.Blocks.{forms_in, entry_faults}
 use Rattle.loops.specs.Checks.{first_in}
 use Rattle.loops.proofs.Declared.{number_of-more, one_if-le}
+use Rattle.loops.specs.Found.{AreFound}
+use Rattle.loops.proofs.Finding.{found-none, found-more, found-all}
 use Rattle.loops.proofs.Giving.{given-none}
 use Rattle.loops.proofs.Turns.{line-fault, line-near, turn-faulty, turn-good, turn-given, same-given}
 use Rattle.loops.proofs.check.first_fault.Goals as goal
@@ -18,6 +20,7 @@ loop-entry-init c = record {
   items = ap (take c.args.sound) c.lines.ensures;
   faults = refl;
   given = given-none (forms_in c.args.index.now) c.args.given.now.inits c.args.given.now.outs.items c.requires.inits c.requires.outs;
+  found = λ few. subst (AreFound (forms_in c.args.index.now) (take 0 (take c.args.sound c.lines.result.now))) (sym c.clear.ensures.items) (found-none (forms_in c.args.index.now) (take c.args.sound c.lines.result.now));
   arrays = refl;
   params = refl;
   statements = refl;
@@ -26,19 +29,19 @@ loop-entry-init c = record {
   few_statements = omega arith;
 }
 
-pub line_fault-requires-clause-near : goal.line_fault-requires-clause-near
+pub check_line-requires-clause-near : goal.check_line-requires-clause-near
 unfolding none
-line_fault-requires-clause-near c =
+check_line-requires-clause-near c =
     line-near c.args.index.now (take c.args.sound c.lines.result.now) c.args.sound c.loop-entry.entry-index none c.loop-entry.invariant.items c.loop-entry-test.true c.requires.block
 
-pub returns-in-Some-clause-value : goal.returns-in-Some-clause-value
+pub returns-in-Err-clause-value : goal.returns-in-Err-clause-value
 unfolding none
-returns-in-Some-clause-value c =
+returns-in-Err-clause-value c =
     let v = c.loop-entry.invariant in
     let lines = take c.args.sound c.lines.result.now in
     let same = line-fault c.args.index.now lines c.args.sound c.loop-entry.entry-index none c.loop-entry.counts c.loop-entry.given.inits c.loop-entry.given.outs.items
     v.items c.loop-entry-test.true c.requires.block v.arrays v.params v.statements v.given in
-    sym (turn-faulty (forms_in c.args.index.now) (forms_in (take c.loop-entry.entry-index lines)) lines c.loop-entry.entry-index none _ c.in-Some.kind c.loop-entry-test.true same (sym c.in-Some.is ∙ c.line_fault.ensures))
+    sym (turn-faulty (forms_in c.args.index.now) (forms_in (take c.loop-entry.entry-index lines)) lines c.loop-entry.entry-index none _ c.in-Err.kind c.loop-entry-test.true same c.in-Err.ensures.fault)
     ∙ sym (sym (ap (λ ls. first_in (entry_faults (forms_in c.args.index.now) [] ls)) v.items) ∙ v.faults)
 
 pub loop-entry-preserved : goal.loop-entry-preserved
@@ -51,13 +54,15 @@ loop-entry-preserved c =
     let same = line-fault c.args.index.now lines c.args.sound i none c.loop-entry.counts c.loop-entry.given.inits c.loop-entry.given.outs.items
     v.items c.loop-entry-test.true c.requires.block v.arrays v.params v.statements v.given in
     let near = line-near c.args.index.now lines c.args.sound i none v.items c.loop-entry-test.true c.requires.block in
-    let clean = sym c.in_default.is ∙ c.line_fault.ensures in
+    let clean = c.in-Ok.ensures.fault in
     let h = c.with-counts.ensures in
     record {
       items = v.items;
       faults = v.faults ∙ turn-good block lines i none _ c.loop-entry-test.true same clean;
       given = same-given block (forms_in (take (i + 1) lines)) _ _ _ _ c.give.ensures.inits c.give.ensures.outs
           (turn-given block lines i none _ c.loop-entry.given.inits c.loop-entry.given.outs.items c.loop-entry-test.true same clean near v.given);
+      found = λ few. subst (AreFound block (take (i + 1) lines)) (sym c.in_ok-push-in-Ok.ensures.items)
+          (found-more block lines i none c.loop-entry.found.items c.in-Ok.line c.loop-entry-test.true (v.found few) (c.in-Ok.ensures.found few));
       arrays = number_of-more is_array lines i none _ _ c.loop-entry-test.true v.arrays h.arrays;
       params = number_of-more is_param lines i none _ _ c.loop-entry-test.true v.params h.params;
       statements = number_of-more is_statement lines i none _ _ c.loop-entry-test.true v.statements h.statements;
@@ -65,3 +70,9 @@ loop-entry-preserved c =
       few_params = omega (arith, h.params, v.few_params, one_if-le);
       few_statements = omega (arith, h.statements, v.few_statements, one_if-le);
     }
+
+pub returns-clause-found : goal.returns-clause-found
+returns-clause-found c = λ same few.
+    let v = c.loop-entry.invariant in
+    subst (λ ls. AreFound (forms_in c.args.index.now) ls c.loop-entry.found.items) v.items
+    (found-all (forms_in c.args.index.now) (take c.args.sound c.lines.result.now) c.loop-entry.entry-index c.loop-entry.found.items c.loop-entry-test.false (v.found few))

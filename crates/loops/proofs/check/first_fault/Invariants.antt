@@ -1,7 +1,9 @@
 use Rattle.std.proofs.Common.{◌≡◌, ◌≤◌, [], take, drop}
 use Rattle.loops.specs.Meaning.{number_of, is_array, is_param, is_statement}
 use Rattle.loops.specs.Blocks.{forms_in, entry_faults}
+use Rattle.loops.specs.Building.{IsFew}
 use Rattle.loops.specs.Checks.{first_in, IsGiven}
+use Rattle.loops.specs.Found.{AreFound}
 use Rattle.loops.proofs.check.first_fault.Given as goal
 
 abbrev pub invariant-loop-entry : goal.invariant-loop-entry
@@ -12,6 +14,7 @@ invariant-loop-entry l =
       items : l.entry-items ≡ take l.sound l.index;
       faults : first_in (entry_faults block [] l.entry-items) ≡ first_in (entry_faults block before (drop l.entry-index l.entry-items));
       given : IsGiven block before l.given.inits l.given.outs.items;
+      found : IsFew block → AreFound block (take l.entry-index l.entry-items) l.found.items;
       arrays : l.counts.arrays ≡ number_of is_array before;
       params : l.counts.params ≡ number_of is_param before;
       statements : l.counts.statements ≡ number_of is_statement before;

@@ -24,7 +24,7 @@ reset-requires c =
 pub returns-in-Some : goal.returns-in-Some
 returns-in-Some c =
     let same : c.new-index.result ≡ c.collect_block.new.lines.items = c.new-index.ensures ∙ c.as_slice-2.ensures.value in
-    let first : Some c.in-Some.fault ≡ first_in (entry_faults (forms_in c.new-index.result) [] (take c.in_ok-sound.sound c.new-index.result)) = c.in-Some.ensures.value in
+    let first : Some c.in-Some.fault ≡ first_in (entry_faults (forms_in c.new-index.result) [] (take c.in_ok-sound.sound c.new-index.result)) = sym c.in-Some.is ∙ c.in_ok-first.ensures.value in
     let stops = subst (λ ls. StopsBlock c.args.number (forms_of c.args.text.now) ls c.in_ok-sound.sound c.in_ok-sound.stop) (sym same) c.in_ok-sound.ensures.stops in
     unless c.in-Some.fault.kind c.in-Some.fault _
     (entry-kind (forms_in c.new-index.result) [] (take c.in_ok-sound.sound c.new-index.result) c.in-Some.fault first)
@@ -35,42 +35,42 @@ returns-in-Some c =
 pub returns-in-Unfit : goal.returns-in-Unfit
 returns-in-Unfit c = λ names.
     let same : c.new-index.result ≡ c.collect_block.new.lines.items = c.new-index.ensures ∙ c.as_slice-2.ensures.value in
-    let clean : None ≡ first_in (entry_faults (forms_in c.new-index.result) [] (take c.in_ok-sound.sound c.new-index.result)) = c.in_default.ensures.value in
+    let clean : None ≡ first_in (entry_faults (forms_in c.new-index.result) [] (take c.in_ok-sound.sound c.new-index.result)) = sym c.in_default.is ∙ c.in_ok-first.ensures.value in
     let h = subst (λ ls. StopsBlock c.args.number (forms_of c.args.text.now) ls c.in_ok-sound.sound c.in_ok-sound.stop) (sym same) c.in_ok-sound.ensures.stops in
     let at = subst (StopsBlock c.args.number (forms_of c.args.text.now) c.new-index.result c.in_ok-sound.sound) c.in-Unfit.is h in
     let others : List LoopFault = (at names).0 in
     ap first_in (after-front _ _ (record { line = c.in-Unfit.line; kind = Syntax } ∷ others) (at names).1 clean)
 
-pub returns-in-Some-line_fault : goal.returns-in-Some-line_fault
-returns-in-Some-line_fault c =
+pub returns-in-Err : goal.returns-in-Err
+returns-in-Err c =
     let block = forms_in c.new-index.result in
     let same : c.new-index.result ≡ c.collect_block.new.lines.items = c.new-index.ensures ∙ c.as_slice-2.ensures.value in
     let counted : c.in_ok-counts.counts.statements ≡ number_of is_statement (forms_in c.new-index.result) = c.in_ok-counts.ensures.counts.statements ∙ ap (λ ls. number_of is_statement (forms_in ls)) (c.as_slice.ensures.value ∙ sym same) in
-    let clean : None ≡ first_in (entry_faults block [] (take c.in_ok-sound.sound c.new-index.result)) = c.in_default.ensures.value in
+    let clean : None ≡ first_in (entry_faults block [] (take c.in_ok-sound.sound c.new-index.result)) = sym c.in_default.is ∙ c.in_ok-first.ensures.value in
     let h = subst (λ ls. StopsBlock c.args.number (forms_of c.args.text.now) ls c.in_ok-sound.sound c.in_ok-sound.stop) (sym same) c.in_ok-sound.ensures.stops in
     let at = subst (StopsBlock c.args.number (forms_of c.args.text.now) c.new-index.result c.in_ok-sound.sound) c.in-End.is h in
-    let first : Some c.in-Some-line_fault.kind ≡ first_in (faults_of block block EndLine) = c.in-Some-line_fault.ensures ∙ ap first_in (end-kinds block c.in_ok-counts.counts.statements counted) in
-    unless c.in-Some-line_fault.kind _ _ (end-kind block c.in-Some-line_fault.kind first)
+    let first : Some c.in-Err.kind ≡ first_in (faults_of block block EndLine) = c.in-Err.ensures.fault ∙ ap first_in (end-kinds block c.in_ok-counts.counts.statements counted) in
+    unless c.in-Err.kind _ _ (end-kind block c.in-Err.kind first)
     (λ names.
     let after = outside_faults (c.in-End.line + 1) names (forms_of c.in-End.rest.now) in
     ap first_in (after-front _ _ (at_line c.in-End.line (faults_of block block EndLine) ++ after) (at.1 names) clean)
-    ∙ first-end c.in-End.line (faults_of block block EndLine) c.in-Some-line_fault.kind after first)
+    ∙ first-end c.in-End.line (faults_of block block EndLine) c.in-Err.kind after first)
 
 pub build-requires-clause-some : goal.build-requires-clause-some
 build-requires-clause-some c =
     let same : c.new-index.result ≡ c.collect_block.new.lines.items = c.new-index.ensures ∙ c.as_slice-2.ensures.value in
     let counted : c.in_ok-counts.counts.statements ≡ number_of is_statement (forms_in c.new-index.result) = c.in_ok-counts.ensures.counts.statements ∙ ap (λ ls. number_of is_statement (forms_in ls)) (c.as_slice.ensures.value ∙ sym same) in
-    statement-there (forms_in c.new-index.result) c.in_ok-counts.counts.statements counted c.in_default-line_fault.ensures
+    statement-there (forms_in c.new-index.result) c.in_ok-counts.counts.statements counted c.in_default-check_line.ensures.fault
 
 pub returns : goal.returns
 returns c =
     let block = forms_in c.new-index.result in
     let same : c.new-index.result ≡ c.collect_block.new.lines.items = c.new-index.ensures ∙ c.as_slice-2.ensures.value in
     let counted : c.in_ok-counts.counts.statements ≡ number_of is_statement (forms_in c.new-index.result) = c.in_ok-counts.ensures.counts.statements ∙ ap (λ ls. number_of is_statement (forms_in ls)) (c.as_slice.ensures.value ∙ sym same) in
-    let clean : None ≡ first_in (entry_faults block [] (take c.in_ok-sound.sound c.new-index.result)) = c.in_default.ensures.value in
+    let clean : None ≡ first_in (entry_faults block [] (take c.in_ok-sound.sound c.new-index.result)) = sym c.in_default.is ∙ c.in_ok-first.ensures.value in
     let h = subst (λ ls. StopsBlock c.args.number (forms_of c.args.text.now) ls c.in_ok-sound.sound c.in_ok-sound.stop) (sym same) c.in_ok-sound.ensures.stops in
     let at = subst (StopsBlock c.args.number (forms_of c.args.text.now) c.new-index.result c.in_ok-sound.sound) c.in-End.is h in
-    let good = no-end-kinds (faults_of block block EndLine) (c.in_default-line_fault.ensures ∙ ap first_in (end-kinds block c.in_ok-counts.counts.statements counted)) in
+    let good = no-end-kinds (faults_of block block EndLine) (c.in_default-check_line.ensures.fault ∙ ap first_in (end-kinds block c.in_ok-counts.counts.statements counted)) in
     let behind = subst (IsBehind (c.args.number + length c.args.text.now)) c.in-End.is c.in_ok-sound.ensures.behind in
     let all : block ≡ whole [] (forms_of c.args.text.now) = ap forms_in same ∙ c.in_ok-sound.ensures.whole in
     record {
