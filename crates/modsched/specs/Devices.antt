@@ -1,5 +1,6 @@
 -- What inputs and outputs give and take, where their bytes are known.
-use Rattle.std.specs.Prelude.{◌≡◌, ℕ, ◌<◌, ◌≤◌, List, [], ◌++◌, length, take, drop, Option, Some, option_map}
+use Rattle.std.specs.Prelude.{◌≡◌, ◌≢◌, ℕ, ◌+◌, ◌-◌, ◌<◌, ◌≤◌, Bool, true, false, min, List, [], ◌++◌, length, take, drop, Option, Some, None, option_map, Result, Ok, Err}
+use Rattle.modsched.specs.declared.device.Fault.{Fault}
 
 -- n bytes were read into a buffer: they are the beginning of what was left, and none were only where there was no room or
 -- nothing left. What an input has left stays known
@@ -28,3 +29,46 @@ pub record HoldsText (left after : Option (List ℕ)) (buffer : List ℕ) (n : �
 abbrev pub TakesBeginning : Option (List ℕ) → Option (List ℕ) → List ℕ → Type 0
 TakesBeginning taken after bytes =
     (n : ℕ) × (n ≤ length bytes) × (after ≡ option_map (λ before. before ++ take n bytes) taken)
+
+-- how an input that fails reads: how many bytes it gives at most, and after how many reads one fails
+pub record Reading : Type 0 where
+  pub most : ℕ
+  pub countdown : Option ℕ
+
+-- the bytes that such an input has left, how many of its reads failed, and how it reads on
+abbrev pub FaultyLeft : Type 0
+FaultyLeft = List ℕ × ℕ × Reading
+
+-- one more read is done
+abbrev pub counted : Option ℕ → Option ℕ
+counted None = None
+counted (Some reads) = Some (reads - 1)
+
+-- a read into a buffer of this room fails where the fault is due, and never again; else it gives as many bytes as there are and fit
+abbrev pub FaultyReads : FaultyLeft → FaultyLeft → ℕ → Result ℕ Fault → Type 0
+FaultyReads before after room (Err fault) = (before.2.countdown ≡ Some 0)
+    × (after ≡ (before.0, before.1 + 1, record { most = before.2.most; countdown = None }))
+FaultyReads before after room (Ok n) = (before.2.countdown ≢ Some 0)
+    × (n ≡ min (min room (length before.0)) before.2.most)
+    × (after ≡ (drop n before.0, before.1, record { most = before.2.most; countdown = counted before.2.countdown }))
+
+-- how an output that fails writes: how many bytes it takes at most, how many more in all, and whether its flushes succeed
+pub record Writing : Type 0 where
+  pub most : ℕ
+  pub space : ℕ
+  pub flushes : Bool
+
+-- the bytes that such an output took, how many of its calls failed, and how it writes on
+abbrev pub FaultyTaken : Type 0
+FaultyTaken = List ℕ × ℕ × Writing
+
+-- a write takes as many bytes as there are and fit; where it fails nothing but the count changes
+abbrev pub FaultyWrites : FaultyTaken → FaultyTaken → List ℕ → Result ℕ Fault → Type 0
+FaultyWrites before after bytes (Err fault) = after ≡ (before.0, before.1 + 1, before.2)
+FaultyWrites before after bytes (Ok n) = (n ≡ min (min (length bytes) before.2.space) before.2.most)
+    × (after ≡ (before.0 ++ take n bytes, before.1, record before.2 { space = before.2.space - n }))
+
+-- a flush succeeds where flushes do
+abbrev pub FaultyFlushes : FaultyTaken → FaultyTaken → Result (Unit {0}) Fault → Type 0
+FaultyFlushes before after (Err fault) = (before.2.flushes ≡ false) × (after ≡ (before.0, before.1 + 1, before.2))
+FaultyFlushes before after (Ok done) = (before.2.flushes ≡ true) × (after ≡ before)

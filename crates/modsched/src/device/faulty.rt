@@ -1,14 +1,14 @@
 //! Devices in memory that fail, for tests.
 
-ghost use Rattle.std.specs.Prelude.{◌≡◌, ◌<◌, [], Some, None, IfOk};
-ghost use Rattle.modsched.specs.Devices.{Reads, Writes};
+ghost use Rattle.std.specs.Prelude.{◌≡◌, ◌+◌, ◌-◌, ◌^◌, ◌<◌, ◌≤◌, length, [], Some, None, IfOk, OnOk, OnErr};
+ghost use Rattle.modsched.specs.Devices.{FaultyFlushes, FaultyReads, FaultyWrites, Reads, Writes};
 
 use super::{Fault, Input, Output};
 use std::alloc::{AllocError, Global};
 use std::marker::Model;
 
 /// An input over bytes in memory that gives a few bytes a read, and of whose reads one may fail.
-/// Contracts see the bytes that are left and how many reads failed.
+/// Contracts see the bytes that are left, how many reads failed, and how it reads on.
 #[derive(Drop)]
 pub struct FaultyInput<'a> {
     rest: &'a [u8],
@@ -18,11 +18,12 @@ pub struct FaultyInput<'a> {
 }
 
 impl<'a> Model for FaultyInput<'a> {
-    ghost use Rattle.std.specs.Prelude.{◌<◌, ℕ, List};
+    ghost use Rattle.std.specs.Prelude.{◌<◌};
+    ghost use Rattle.modsched.specs.Devices.{FaultyLeft};
 
-    ghost Value = { List ℕ × ℕ };
+    ghost Value = { FaultyLeft };
 
-    ghost view = { λ i. (i.rest.now, i.faults) };
+    ghost view = { λ i. (i.rest.now, i.faults, record { most = i.stride; countdown = i.reads_to_fault }) };
 
     ghost invariant = { λ i. 0 < i.stride };
 }
@@ -32,7 +33,7 @@ impl<'a> FaultyInput<'a> {
     /// after as many reads as `reads_to_fault` says, or never.
     pub fn new(bytes: &'a [u8], stride: usize, reads_to_fault: Option<u64>) -> FaultyInput<'a>
         requires { 0 < stride }
-        ensures { result ≡ (bytes.entry.now, 0) }
+        ensures { result ≡ (bytes.entry.now, 0, record { most = stride; countdown = reads_to_fault }) }
     {
         FaultyInput {
             rest: bytes,
@@ -55,7 +56,14 @@ impl Input for FaultyInput<'_> {
 
     ghost failed = { λ i. i.1 };
 
-    fn read(&mut self, buffer: &mut [u8]) -> Result<usize, Fault> {
+    fn read(&mut self, buffer: &mut [u8]) -> Result<usize, Fault>
+        requires { self.old.1 < 2 ^ 64 - 1 }
+        ensures room { IfOk result (λ n. n ≤ length buffer.old) }
+        ensures reads { IfOk result (λ n. Reads (Some self.old.0) (Some self.new.0) buffer.new n) }
+        ensures fine { OnOk result (self.new.1 ≡ self.old.1) }
+        ensures fault { OnErr result (self.new.1 ≡ self.old.1 + 1) }
+        ensures exact { FaultyReads self.old self.new (length buffer.old) result }
+    {
         match self.reads_to_fault {
             Some(0) => {
                 self.reads_to_fault = None;
@@ -78,7 +86,7 @@ impl Input for FaultyInput<'_> {
 }
 
 /// An output in memory that takes a few bytes a write, and whose room or flush may fail. Contracts
-/// see the bytes that it took and how many calls failed.
+/// see the bytes that it took, how many calls failed, and how it writes on.
 #[derive(Drop)]
 pub struct FaultyOutput {
     bytes: Vec<u8>,
@@ -89,11 +97,12 @@ pub struct FaultyOutput {
 }
 
 impl Model for FaultyOutput {
-    ghost use Rattle.std.specs.Prelude.{◌<◌, ℕ, List};
+    ghost use Rattle.std.specs.Prelude.{◌<◌};
+    ghost use Rattle.modsched.specs.Devices.{FaultyTaken};
 
-    ghost Value = { List ℕ × ℕ };
+    ghost Value = { FaultyTaken };
 
-    ghost view = { λ o. (o.bytes.items, o.faults) };
+    ghost view = { λ o. (o.bytes.items, o.faults, record { most = o.stride; space = o.room; flushes = o.can_flush }) };
 
     ghost invariant = { λ o. 0 < o.stride };
 }
@@ -108,7 +117,7 @@ impl FaultyOutput {
         can_flush: bool,
     ) -> Result<FaultyOutput, AllocError>
         requires { 0 < stride }
-        ensures { IfOk result (λ o. o ≡ ([], 0)) }
+        ensures { IfOk result (λ o. o ≡ ([], 0, record { most = stride; space = room; flushes = can_flush })) }
     {
         Ok(FaultyOutput {
             bytes: Vec::with_capacity(alloc, room)?,
@@ -132,7 +141,14 @@ impl Output for FaultyOutput {
 
     ghost failed = { λ o. o.1 };
 
-    fn write(&mut self, bytes: &[u8]) -> Result<usize, Fault> {
+    fn write(&mut self, bytes: &[u8]) -> Result<usize, Fault>
+        requires { self.old.1 < 2 ^ 64 - 1 }
+        ensures writes { IfOk result (λ n. Writes (Some self.old.0) (Some self.new.0) bytes.now n) }
+        ensures fine { OnOk result (self.new.1 ≡ self.old.1) }
+        ensures fault { OnErr result (self.new.1 ≡ self.old.1 + 1) }
+        ensures unchanged { OnErr result (Some self.new.0 ≡ Some self.old.0) }
+        ensures exact { FaultyWrites self.old self.new bytes.now result }
+    {
         let n = bytes.len().min(self.room).min(self.stride);
         let is_full = n == 0 && !bytes.is_empty();
         if is_full || self.bytes.extend_from_slice(&bytes[..n]).is_err() {
@@ -143,7 +159,13 @@ impl Output for FaultyOutput {
         Ok(n)
     }
 
-    fn flush(&mut self) -> Result<(), Fault> {
+    fn flush(&mut self) -> Result<(), Fault>
+        requires { self.old.1 < 2 ^ 64 - 1 }
+        ensures unchanged { Some self.new.0 ≡ Some self.old.0 }
+        ensures fine { OnOk result (self.new.1 ≡ self.old.1) }
+        ensures fault { OnErr result (self.new.1 ≡ self.old.1 + 1) }
+        ensures exact { FaultyFlushes self.old self.new result }
+    {
         if !self.can_flush {
             self.faults += 1;
             return Err(Fault);

@@ -1,6 +1,6 @@
 //! Devices in memory.
 
-ghost use Rattle.std.specs.Prelude.{◌≡◌, [], Some, None, IfOk};
+ghost use Rattle.std.specs.Prelude.{◌≡◌, ◌+◌, ◌-◌, ◌^◌, ◌<◌, ◌≤◌, length, min, [], Some, None, IfOk, IsOk, OnOk, OnErr};
 ghost use Rattle.modsched.specs.Devices.{Reads, Writes};
 
 use super::{Fault, Input, Output};
@@ -42,7 +42,12 @@ impl Input for Bytes<'_> {
 
     ghost failed = { λ _. 0 };
 
-    fn read(&mut self, buffer: &mut [u8]) -> Result<usize, Fault> {
+    fn read(&mut self, buffer: &mut [u8]) -> Result<usize, Fault>
+        ensures room { IfOk result (λ n. n ≤ length buffer.old) }
+        ensures reads { IfOk result (λ n. Reads (Some self.old) (Some self.new) buffer.new n) }
+        ensures never { IsOk result }
+        ensures exact { IfOk result (λ n. n ≡ min (length buffer.old) (length self.old)) }
+    {
         let (now, later) = self.rest.split_at(buffer.len().min(self.rest.len()));
         buffer[..now.len()].copy_from_slice(now);
         self.rest = later;
@@ -94,7 +99,14 @@ impl Output for TakenBytes {
 
     ghost failed = { λ t. t.1 };
 
-    fn write(&mut self, bytes: &[u8]) -> Result<usize, Fault> {
+    fn write(&mut self, bytes: &[u8]) -> Result<usize, Fault>
+        requires { self.old.1 < 2 ^ 64 - 1 }
+        ensures writes { IfOk result (λ n. Writes (Some self.old.0) (Some self.new.0) bytes.now n) }
+        ensures fine { OnOk result (self.new.1 ≡ self.old.1) }
+        ensures fault { OnErr result (self.new.1 ≡ self.old.1 + 1) }
+        ensures unchanged { OnErr result (Some self.new.0 ≡ Some self.old.0) }
+        ensures exact { IfOk result (λ n. n ≡ length bytes.now) }
+    {
         match self.bytes.extend_from_slice(bytes) {
             Ok(()) => Ok(bytes.len()),
             Err(AllocError) => {
@@ -104,7 +116,10 @@ impl Output for TakenBytes {
         }
     }
 
-    fn flush(&mut self) -> Result<(), Fault> {
+    fn flush(&mut self) -> Result<(), Fault>
+        ensures unchanged { self.new ≡ self.old }
+        ensures never { IsOk result }
+    {
         Ok(())
     }
 
