@@ -1,8 +1,10 @@
 -- The numbers by which a run of the program exits, and the lines that tell of a fault.
-use Rattle.std.specs.Prelude.{ℕ, codes, List, [], ◌++◌, Option, Some, None}
+use Rattle.std.specs.Prelude.{ℕ, codes, List, [], ◌++◌}
+use Rattle.loops.specs.Faults.{fault_text as loops_text}
 use Rattle.loops.specs.declared.fault.LoopFault.{LoopFault}
 use Rattle.loops.specs.declared.fault.LoopFaultKind.{LoopFaultKind}
 use Rattle.loops.specs.declared.fault.LoopFaultKind.TheVariants as kind
+use Rattle.machine.specs.Faults.{fault_text as machine_text}
 use Rattle.machine.specs.declared.fault.MachineFault.{MachineFault}
 use Rattle.machine.specs.declared.fault.MachineFault.TheVariants as fault
 use Rattle.machine.specs.Opcodes.{word_of}
@@ -45,23 +47,23 @@ loops_status _ f = Loops f
 abbrev pub refusal_of_loops : LoopFault → Status
 refusal_of_loops f = loops_status f.kind f
 
--- a refused machine text: what the fault itself says is known to no clause
-abbrev pub machine_line : MachineFault → Option (List ℕ)
-machine_line fault.Memory = Some (codes "out of memory")
-machine_line _ = None
+-- a refused machine text
+abbrev pub machine_line : MachineFault → List ℕ
+machine_line fault.Memory = codes "out of memory"
+machine_line f = codes "machine: " ++ machine_text f
 
--- a refused loop text: what the fault itself says is known to no clause
-abbrev pub loops_line : LoopFaultKind → Option (List ℕ)
-loops_line kind.Memory = Some (codes "out of memory")
-loops_line _ = None
+-- a refused loop text
+abbrev pub loops_line : LoopFaultKind → LoopFault → List ℕ
+loops_line kind.Memory f = codes "out of memory"
+loops_line _ f = codes "loops: " ++ loops_text f
 
--- the line for the standard error, where a clause can know it
-abbrev pub line_of : Status → Option (List ℕ)
-line_of Done = Some []
-line_of MachineUnread = Some (codes "machine: cannot read")
-line_of LoopsUnread = Some (codes "loops: cannot read")
+-- the line for the standard error
+abbrev pub line_of : Status → List ℕ
+line_of Done = []
+line_of MachineUnread = codes "machine: cannot read"
+line_of LoopsUnread = codes "loops: cannot read"
 line_of (Machine f) = machine_line f
-line_of (Loops f) = loops_line f.kind
-line_of (NoTable name opcode) = Some (codes "loops: loop " ++ (name ++ (codes ": no table for " ++ word_of opcode)))
-line_of Unwritten = Some (codes "cannot write")
-line_of OutOfMemory = Some (codes "out of memory")
+line_of (Loops f) = loops_line f.kind f
+line_of (NoTable name opcode) = codes "loops: loop " ++ (name ++ (codes ": no table for " ++ word_of opcode))
+line_of Unwritten = codes "cannot write"
+line_of OutOfMemory = codes "out of memory"

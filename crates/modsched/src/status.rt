@@ -113,9 +113,10 @@ impl<'a> Model for Line<'a> {
 }
 
 impl fmt::Display for Line<'_> {
+    ghost use Rattle.std.specs.Prelude.{Some};
     ghost use Rattle.modsched.specs.Statuses.{line_of};
 
-    ghost output = { λ line. line_of line };
+    ghost output = { λ line. Some (line_of line) };
 
     fn fmt<W: fmt::Write>(&self, f: &mut fmt::Formatter<W>) -> fmt::Result {
         match self.status {
