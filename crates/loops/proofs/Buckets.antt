@@ -31,6 +31,18 @@ known-here (one ∷ rest) zero q b e h =
 known-here (one ∷ rest) (suc i) q b e h =
     ap (λ o. option_or o (if same_word q one.name.now then Some one.what else None)) (known-here rest i q (omega arith) e (λ j a b e. h (suc j) (omega arith) (omega arith) e))
 
+or-none : (o : Option Declared) (b : Bool) (what : Declared) → option_or o (if b then Some what else None) ≡ None → (o ≡ None) × (b ≡ true → ⊥)
+or-none None true what h = cc
+or-none None false what h = (refl, λ e. both_ways false refl e)
+or-none (Some first) b what h = cc
+
+pub known-absent : (known : List Known) (q : List ℕ) → known_as known q ≡ None → (i : ℕ) → i < length known → name_at known i ≡ q → ⊥
+known-absent [] q none i low e = absurd (omega arith)
+known-absent (one ∷ rest) q none zero low e =
+    (or-none (known_as rest q) (same_word q one.name.now) one.what none).1 (ap (same_word q) e ∙ same_word-here q)
+known-absent (one ∷ rest) q none (suc i) low e =
+    known-absent rest q (or-none (known_as rest q) (same_word q one.name.now) one.what none).0 i (omega arith) e
+
 -- one more name
 pub known-push : (known : List Known) (one : Known) (q : List ℕ) → known_as (known ++ one ∷ []) q ≡ option_or (if same_word q one.name.now then Some one.what else None) (known_as known q)
 known-push [] one q = sym (option_or-none (if same_word q one.name.now then Some one.what else None))
@@ -149,11 +161,12 @@ chained-none n h = record {
   size = length-replicate n 0 ∙ h;
   latest = λ b low. let e = get_or-replicate {A = ℕ} n b 0 0 (omega arith) in record { within = omega (arith, e); here = λ some. absurd (omega (arith, e)); others = λ j a b. absurd (omega arith) };
   links = λ i low. absurd (omega arith);
+  distinct = λ i j low high. absurd (omega arith);
 }
 
 pub chained-more : (known : List Known) (buckets : List ℕ) (one : Known) (b : ℕ) → b ≡ bucket_of one.name.now → b < 1024 → one.before ≡ get_or buckets b 0
-    → IsChained known buckets → IsChained (known ++ one ∷ []) (set buckets b (length (known ++ one ∷ [])))
-chained-more known buckets one b is low link v = record {
+    → known_as known one.name.now ≡ None → IsChained known buckets → IsChained (known ++ one ∷ []) (set buckets b (length (known ++ one ∷ [])))
+chained-more known buckets one b is low link none v = record {
   size = length-set buckets b _ ∙ v.size;
   latest = λ d high. elim (eqb_tells d b) [
     | inl e ↦ rw e.1 (rw (get_or-set_same buckets b (length (known ++ one ∷ [])) 0 (omega (arith, v.size))) (latest-one known one b is))
@@ -167,6 +180,17 @@ chained-more known buckets one b is low link v = record {
         latest-as (known ++ one ∷ []) i (bucket_of (name_at known i)) _ (get_or known i nothing).before _ (latest-more known one i (bucket_of (name_at known i)) (get_or known i nothing).before (omega arith) (v.links i within))
         (ap (λ (k : Known). bucket_of k.name.now) (get_or_append_left known (one ∷ []) nothing i within))
         (ap (λ (k : Known). k.before) (get_or_append_left known (one ∷ []) nothing i within))
+  ];
+  distinct = λ i j low high e. elim (eqb_tells j (length known)) [
+    | inl f ↦
+        let left : i < length known = omega (arith, f.1) in
+        known-absent known one.name.now none i left
+        (sym (name-left known one i left) ∙ e ∙ ap (λ (k : Known). k.name.now) (get_or_push known one nothing j (sym f.1)))
+    | inr f ↦
+        let n = f.1 in
+        let l = length_push known one in
+        let right : j < length known = omega (arith, l) in
+        v.distinct i j low right (sym (name-left known one i (omega arith)) ∙ e ∙ name-left known one j right)
   ];
 }
 
@@ -209,4 +233,5 @@ emptied-all known i buckets all v = record {
       let e : get_or buckets b 0 ≡ 0 = elim (v.left b low) [ inl n ↦ n | inr p ↦ let above = p.1 in let below = p.2 in absurd (omega (arith, above, below, all)) ] in
       record { within = omega (arith, e); here = λ some. absurd (omega (arith, e)); others = λ j a b. absurd (omega arith) };
   links = λ i low. absurd (omega arith);
+  distinct = λ i j low high. absurd (omega arith);
 }

@@ -34,8 +34,9 @@ pub record IsLatest (known : List Known) (bound bucket at : ℕ) : Type 0 where
 abbrev pub IsLinked : List Known → Type 0
 IsLinked known = (i : ℕ) → i < length known → IsLatest known i (bucket_of (name_at known i)) (slice_index_or known i nothing).before
 
--- and the buckets have their latest names
+-- and the buckets have their latest names; no name is there twice
 pub record IsChained (known : List Known) (buckets : List ℕ) : Type 0 where
   pub size : length buckets ≡ 1024
   pub latest : (b : ℕ) → b < 1024 → IsLatest known (length known) b (slice_index_or buckets b 0)
   pub links : IsLinked known
+  pub distinct : (i j : ℕ) → i < j → j < length known → name_at known i ≡ name_at known j → ⊥

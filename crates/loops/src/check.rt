@@ -185,13 +185,16 @@ fn is_long_name(name: Option<&[u8]>) -> bool
     }
 }
 
-/// The name stands for another thing than the value of this statement.
-fn is_repeated_value<'a>(index: &Index<'a>, statement: usize, name: Option<&'a [u8]>) -> bool
-    ensures { result ≡ any_name (λ name. not (is_that (AValue statement) (declared (forms_in index.now) name))) (option_map (λ (n : Bor (List ℕ)). n.now) name.entry) }
+/// The name stands for another thing than the value of the statement behind so many lines.
+fn is_repeated_value(index: &Index<'_>, before: Counts, name: Option<&[u8]>) -> bool
+    ensures { result ≡ any_name (λ name. not (is_that (AValue before.statements) (declared (forms_in index.now) name))) (option_map (λ (n : Bor (List ℕ)). n.now) name.entry) }
 {
     match name {
         None => false,
-        Some(name) => !is_that(Declared::Value(statement), index.declared(name)),
+        Some(name) => !is_that(
+            Declared::Value(before.statements),
+            index.declared_behind(before, name),
+        ),
     }
 }
 
@@ -217,7 +220,10 @@ fn array_fault<'a>(
     if is_long(name) || are_wide(cells) || counts.arrays >= MOST_ARRAYS {
         return Some(LoopFaultKind::Limit);
     }
-    if !is_that(Declared::Array(counts.arrays), index.declared(name)) {
+    if !is_that(
+        Declared::Array(counts.arrays),
+        index.declared_behind(counts, name),
+    ) {
         return Some(LoopFaultKind::RepeatedName);
     }
     None
@@ -235,7 +241,10 @@ fn param_fault<'a>(
     if is_long(name) || value.is_none() || counts.params >= MOST_PARAMS {
         return Some(LoopFaultKind::Limit);
     }
-    if !is_that(Declared::Param(counts.params), index.declared(name)) {
+    if !is_that(
+        Declared::Param(counts.params),
+        index.declared_behind(counts, name),
+    ) {
         return Some(LoopFaultKind::RepeatedName);
     }
     None
@@ -291,7 +300,7 @@ fn check_statement<'a>(
     {
         return Err(LoopFaultKind::Limit);
     }
-    if is_repeated_value(index, number, source.name) {
+    if is_repeated_value(index, counts, source.name) {
         return Err(LoopFaultKind::RepeatedName);
     }
     let first = look_up(index, given, number, &uses.first);

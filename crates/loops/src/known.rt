@@ -98,10 +98,22 @@ impl<'a> Names<'a> {
     }
 
     /// What a name stands for.
+    #[inline(always)]
     pub(crate) fn get(&self, name: &[u8]) -> Option<Declared>
         ensures { result ≡ known_as self.now name.now }
     {
         find(self.known.as_slice(), self.buckets[bucket_of(name)], name)
+    }
+
+    /// What a name stands for. It takes no look at the buckets where it is the name of this number.
+    #[inline]
+    pub(crate) fn get_near(&self, number: usize, name: &[u8]) -> Option<Declared>
+        ensures { result ≡ known_as self.now name.now }
+    {
+        match self.known.get(number) {
+            Some(one) if one.name == name => Some(one.what),
+            _ => self.get(name),
+        }
     }
 
     /// Adds a name, unless it is there already.
