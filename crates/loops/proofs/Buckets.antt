@@ -156,7 +156,7 @@ latest-other known one b d at is other v =
 latest-as : (known : List Known) (bound b d at to : ℕ) → IsLatest known bound b at → d ≡ b → to ≡ at → IsLatest known bound d to
 latest-as known bound b d at to v e f = rw e (rw f v)
 
-pub chained-none : (n : ℕ) → n ≡ 1024 → IsChained [] (replicate n 0)
+pub chained-none : (n : ℕ) → n ≡ 4096 → IsChained [] (replicate n 0)
 chained-none n h = record {
   size = length-replicate n 0 ∙ h;
   latest = λ b low. let e = get_or-replicate {A = ℕ} n b 0 0 (omega arith) in record { within = omega (arith, e); here = λ some. absurd (omega (arith, e)); others = λ j a b. absurd (omega arith) };
@@ -164,7 +164,7 @@ chained-none n h = record {
   distinct = λ i j low high. absurd (omega arith);
 }
 
-pub chained-more : (known : List Known) (buckets : List ℕ) (one : Known) (b : ℕ) → b ≡ bucket_of one.name.now → b < 1024 → one.before ≡ get_or buckets b 0
+pub chained-more : (known : List Known) (buckets : List ℕ) (one : Known) (b : ℕ) → b ≡ bucket_of one.name.now → b < 4096 → one.before ≡ get_or buckets b 0
     → known_as known one.name.now ≡ None → IsChained known buckets → IsChained (known ++ one ∷ []) (set buckets b (length (known ++ one ∷ [])))
 chained-more known buckets one b is low link none v = record {
   size = length-set buckets b _ ∙ v.size;
@@ -196,8 +196,8 @@ chained-more known buckets one b is low link none v = record {
 
 -- a table that is being emptied: the buckets that still have a name are those of the names from this number on
 pub record IsEmptied (known : List Known) (i : ℕ) (buckets : List ℕ) : Type 0 where
-  pub size : length buckets ≡ 1024
-  pub left : (b : ℕ) → b < 1024 → (get_or buckets b 0 ≡ 0) ⊎ ((j : ℕ) × (i ≤ j) × (j < length known) × (bucket_of (name_at known j) ≡ b))
+  pub size : length buckets ≡ 4096
+  pub left : (b : ℕ) → b < 4096 → (get_or buckets b 0 ≡ 0) ⊎ ((j : ℕ) × (i ≤ j) × (j < length known) × (bucket_of (name_at known j) ≡ b))
 
 pub emptied-none : (known : List Known) (buckets : List ℕ) → IsChained known buckets → IsEmptied known 0 buckets
 emptied-none known buckets v = record {
@@ -211,7 +211,7 @@ emptied-none known buckets v = record {
       ];
 }
 
-pub emptied-more : (known : List Known) (i : ℕ) (buckets : List ℕ) (b : ℕ) → b ≡ bucket_of (name_at known i) → b < 1024 → IsEmptied known i buckets → IsEmptied known (i + 1) (set buckets b 0)
+pub emptied-more : (known : List Known) (i : ℕ) (buckets : List ℕ) (b : ℕ) → b ≡ bucket_of (name_at known i) → b < 4096 → IsEmptied known i buckets → IsEmptied known (i + 1) (set buckets b 0)
 emptied-more known i buckets b is low v = record {
   size = length-set buckets b 0 ∙ v.size;
   left = λ d high. elim (eqb_tells d b) [

@@ -9,12 +9,14 @@ use Rattle.loops.specs.declared.form.Form as code
 use Rattle.loops.specs.declared.found.Found.{Found}
 use Rattle.loops.specs.Forms.{Form}
 use Rattle.loops.specs.Parsed.{form_seen, source_seen, subscript_seen, use_seen, uses_seen}
-use Rattle.loops.specs.Meaning.{operand_of, out_in, place_at, source_in, statement_of}
-use Rattle.loops.specs.Found.{AreFound, IsFoundFor, IsFoundIn, array_in, operand_if, operand_in, operands_with, out_by, place_with, statement_by, statement_with}
+use Rattle.loops.specs.Meaning.{Declared, AnArray, AParam, AValue, declared, reads, operand_of, out_in, place_at, source_in, statement_of}
+use Rattle.loops.specs.Found.{AreFound, IsFoundFor, IsFoundIn, array_in, operand_if, operands_with, reads_at, target_at, target_in, out_by, place_with, statement_by, statement_with}
 use Rattle.loops.specs.declared.form.Form.TheVariants as forms
 use Rattle.loops.specs.declared.form.Source.{Source}
 use Rattle.loops.specs.declared.form.Subscript.{Subscript}
 use Rattle.loops.specs.declared.form.Use.{Use}
+use Rattle.loops.specs.declared.form.Use.TheVariants as code_uses
+use Rattle.loops.specs.declared.found.Target.{Target}
 use Rattle.loops.specs.declared.form.Uses.{Uses}
 use Rattle.loops.specs.declared.statement.Operand.{Operand}
 
@@ -53,21 +55,31 @@ found-all block lines i found all v = subst (λ ls. AreFound block ls found) (ta
 
 -- a statement by what was found for it
 
-operands-with : (block : List Form) (uses : Uses) (found : Found) → found.first ≡ operand_in block uses.first → found.second ≡ operand_in block uses.second → found.third ≡ operand_in block uses.third
+reads-at : (d : Option Declared) (distance : ℕ) → reads_at (target_at d) distance ≡ reads d distance
+reads-at None distance = refl
+reads-at (Some (AnArray number)) distance = refl
+reads-at (Some (AParam number)) distance = refl
+reads-at (Some (AValue number)) distance = refl
+
+operand-if : (block : List Form) (o : Option Use) (target : Target) → target ≡ target_in block o → operand_if o target ≡ map (operand_of block) (map use_seen (option_to_list o))
+operand-if block None target h = refl
+operand-if block (Some (code_uses.Number value)) target h = refl
+operand-if block (Some (code_uses.Plain name)) target h =
+    ap (λ t. reads_at t 0 ∷ []) h ∙ ap (λ x. x ∷ []) (reads-at (declared block name.now) 0)
+operand-if block (Some (code_uses.At name distance)) target h =
+    ap (λ t. reads_at t (unwrap_or distance 0) ∷ []) h ∙ ap (λ x. x ∷ []) (reads-at (declared block name.now) (unwrap_or distance 0))
+
+operands-with : (block : List Form) (uses : Uses) (found : Found) → found.first ≡ target_in block uses.first → found.second ≡ target_in block uses.second → found.third ≡ target_in block uses.third
     → operands_with uses found ≡ map (operand_of block) (uses_seen uses)
 operands-with block uses found e f g =
-    let part : (o : Option Use) (x : Operand) → x ≡ operand_in block o → operand_if o x ≡ map (operand_of block) (map use_seen (option_to_list o)) = λ o. elim o as (λ o. (x : Operand) → x ≡ operand_in block o → operand_if o x ≡ map (operand_of block) (map use_seen (option_to_list o))) [
-      | None ↦ λ x h. refl
-      | Some u ↦ λ x h. ap (λ y. y ∷ []) h
-    ] in
     let first = option_to_list uses.first in
     let second = option_to_list uses.second in
     let third = option_to_list uses.third in
     let seen : List Use → List Operand = λ us. map (operand_of block) (map use_seen us) in
     let joined : (xs ys : List Use) → seen (xs ++ ys) ≡ seen xs ++ seen ys = λ xs ys. ap (map (operand_of block)) (map-append use_seen xs ys) ∙ map-append (operand_of block) (map use_seen xs) (map use_seen ys) in
-    ap (λ xs. (xs ++ operand_if uses.second found.second) ++ operand_if uses.third found.third) (part uses.first found.first e)
-    ∙ ap (λ xs. (seen first ++ xs) ++ operand_if uses.third found.third) (part uses.second found.second f)
-    ∙ ap (λ xs. (seen first ++ seen second) ++ xs) (part uses.third found.third g)
+    ap (λ xs. (xs ++ operand_if uses.second found.second) ++ operand_if uses.third found.third) (operand-if block uses.first found.first e)
+    ∙ ap (λ xs. (seen first ++ xs) ++ operand_if uses.third found.third) (operand-if block uses.second found.second f)
+    ∙ ap (λ xs. (seen first ++ seen second) ++ xs) (operand-if block uses.third found.third g)
     ∙ append_assoc (seen first) (seen second) (seen third)
     ∙ sym (joined first (second ++ third) ∙ ap (λ xs. seen first ++ xs) (joined second third))
 

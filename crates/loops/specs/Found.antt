@@ -2,18 +2,20 @@
 use Rattle.std.specs.Prelude.{◌≡◌, ℕ, pos, ◌<◌, List, [], ◌∷◌, ◌++◌, length, Option, Some, None, option_map, unwrap_or, Result, Ok, Err, slice_index_or}
 use Rattle.std.specs.Borrow.{Bor}
 use Rattle.loops.specs.Forms.{Form}
-use Rattle.loops.specs.Meaning.{declared, number_at, operand_of}
-use Rattle.loops.specs.Parsed.{use_seen}
+use Rattle.loops.specs.Meaning.{Declared, AParam, declared, number_at}
 use Rattle.loops.specs.declared.entry.Entry.{Entry}
 use Rattle.loops.specs.declared.form.Form as code
 use Rattle.loops.specs.declared.form.Form.TheVariants as forms
 use Rattle.loops.specs.declared.form.Source.{Source}
 use Rattle.loops.specs.declared.form.Subscript.{Subscript}
 use Rattle.loops.specs.declared.form.Use.{Use}
+use Rattle.loops.specs.declared.form.Use.TheVariants as uses
 use Rattle.loops.specs.declared.form.Uses.{Uses}
 use Rattle.loops.specs.declared.found.Found.{Found}
+use Rattle.loops.specs.declared.found.Target.{Target}
+use Rattle.loops.specs.declared.found.Target.TheVariants as targets
 use Rattle.loops.specs.declared.statement.Operand.{Operand}
-use Rattle.loops.specs.declared.statement.Operand.TheVariants.{Constant}
+use Rattle.loops.specs.declared.statement.Operand.TheVariants.{Constant, Parameter, Value}
 use Rattle.loops.specs.declared.statement.Place.{Place}
 use Rattle.loops.specs.declared.statement.Statement.{Statement}
 
@@ -22,10 +24,16 @@ abbrev pub fault_in : {F K : Type 0} → Result F K → Option K
 fault_in (Ok found) = None
 fault_in (Err kind) = Some kind
 
--- what a use that may be there reads
-abbrev pub operand_in : List Form → Option Use → Operand
-operand_in block None = Constant (pos 0)
-operand_in block (Some u) = operand_of block (use_seen u)
+-- what a name stands for that is read
+abbrev pub target_at : Option Declared → Target
+target_at (Some (AParam number)) = targets.Param number
+target_at declaration = targets.Value (number_at declaration)
+
+-- what the name of a use stands for, if there is one
+abbrev pub target_in : List Form → Option Use → Target
+target_in block (Some (uses.Plain name)) = target_at (declared block name.now)
+target_in block (Some (uses.At name distance)) = target_at (declared block name.now)
+target_in block _ = targets.Value 0
 
 -- the number of a place's array
 abbrev pub array_in : List Form → Option Subscript → ℕ
@@ -35,9 +43,9 @@ array_in block (Some place) = number_at (declared block place.array.now)
 -- what is found for a statement
 pub record IsFoundIn (block : List Form) (source : Source) (found : Found) : Type 0 where
   pub number : found.number ≡ array_in block source.place
-  pub first : found.first ≡ operand_in block source.uses.first
-  pub second : found.second ≡ operand_in block source.uses.second
-  pub third : found.third ≡ operand_in block source.uses.third
+  pub first : found.first ≡ target_in block source.uses.first
+  pub second : found.second ≡ target_in block source.uses.second
+  pub third : found.third ≡ target_in block source.uses.third
 
 -- what is found for a line
 abbrev pub IsFoundFor : List Form → code.Form → Found → Type 0
@@ -52,12 +60,21 @@ pub record AreFound (block : List Form) (lines : List Entry) (found : List Found
 
 -- a statement by what was found for it
 
-abbrev pub operand_if : Option Use → Operand → List Operand
-operand_if None operand = []
-operand_if (Some u) operand = operand ∷ []
+abbrev pub reads_at : Target → ℕ → Operand
+reads_at (targets.Param number) distance = Parameter number
+reads_at (targets.Value number) distance = Value number distance
+
+abbrev pub operand_with : Use → Target → Operand
+operand_with (uses.Number value) target = Constant (unwrap_or value (pos 0))
+operand_with (uses.Plain name) target = reads_at target 0
+operand_with (uses.At name distance) target = reads_at target (unwrap_or distance 0)
+
+abbrev pub operand_if : Option Use → Target → List Operand
+operand_if None target = []
+operand_if (Some u) target = operand_with u target ∷ []
 
 abbrev pub operands_with : Uses → Found → List Operand
-operands_with uses found = (operand_if uses.first found.first ++ operand_if uses.second found.second) ++ operand_if uses.third found.third
+operands_with us found = (operand_if us.first found.first ++ operand_if us.second found.second) ++ operand_if us.third found.third
 
 abbrev pub place_with : Option Subscript → ℕ → Option Place
 place_with None array = None

@@ -12,9 +12,9 @@ abbrev pub known_as : List Known → List ℕ → Option Declared
 known_as [] q = None
 known_as (one ∷ rest) q = option_or (known_as rest q) (if same_word q one.name.now then Some one.what else None)
 
--- the bucket of a name, below 1024
+-- the bucket of a name, below 4096
 unfoldable pub bucket_of : List ℕ → ℕ
-bucket_of name = folding.finish (folding.write folding.initial name) % 1024
+bucket_of name = folding.finish (folding.write folding.initial name) % 4096
 
 -- what stands past the last name
 abbrev pub nothing : Known
@@ -36,7 +36,7 @@ IsLinked known = (i : ℕ) → i < length known → IsLatest known i (bucket_of 
 
 -- and the buckets have their latest names; no name is there twice
 pub record IsChained (known : List Known) (buckets : List ℕ) : Type 0 where
-  pub size : length buckets ≡ 1024
-  pub latest : (b : ℕ) → b < 1024 → IsLatest known (length known) b (slice_index_or buckets b 0)
+  pub size : length buckets ≡ 4096
+  pub latest : (b : ℕ) → b < 4096 → IsLatest known (length known) b (slice_index_or buckets b 0)
   pub links : IsLinked known
   pub distinct : (i j : ℕ) → i < j → j < length known → name_at known i ≡ name_at known j → ⊥

@@ -8,11 +8,11 @@ ghost use Rattle.loops.specs.Parsed.{form_seen, source_seen};
 ghost use Rattle.loops.specs.Blocks.{entry_faults, forms_in, one_if};
 ghost use Rattle.loops.specs.Checks.{IsBlock, IsGiven};
 ghost use Rattle.loops.specs.Building.{IsFew, IsNamed, name_in, row_of, rows_of};
-ghost use Rattle.loops.specs.Found.{AreFound, operand_if, out_by, place_with, statement_by, statement_with};
+ghost use Rattle.loops.specs.Found.{AreFound, operand_if, operand_with, out_by, place_with, statement_by, statement_with};
 
 use crate::cells::cells_of;
 use crate::form::{Form, Source, Subscript, Use};
-use crate::found::Found;
+use crate::found::{Found, Target};
 use crate::given::{Given, MOST};
 use crate::index::{Counts, Index};
 use crate::innermost::Loop;
@@ -42,17 +42,36 @@ fn maybe_name(name: Option<&[u8]>) -> Option<Name>
     }
 }
 
+/// What a use reads, whose name stands for this.
+#[inline]
+fn operand(read: &Use<'_>, target: Target) -> Operand
+    ensures { result ≡ operand_with read.now target }
+{
+    let distance = match read {
+        Use::Number(value) => return Operand::Constant(value.unwrap_or(0)),
+        Use::Plain(_) => 0,
+        Use::At(_, distance) => distance.unwrap_or(0),
+    };
+    match target {
+        Target::Param(number) => Operand::Parameter(number),
+        Target::Value(number) => Operand::Value {
+            statement: number,
+            distance,
+        },
+    }
+}
+
 /// Appends what a use reads, if it is there.
 #[inline]
 fn push_operand(
     operands: &mut SmallVec<Operand, 3>,
     read: &Option<Use<'_>>,
-    operand: Operand,
+    target: Target,
 ) -> Result<(), AllocError>
-    ensures { OnOk result (operands.new.items ≡ operands.old.items ++ operand_if read.now operand) }
+    ensures { OnOk result (operands.new.items ≡ operands.old.items ++ operand_if read.now target) }
 {
-    if read.is_some() {
-        operands.push(operand)?;
+    if let Some(read) = read {
+        operands.push(operand(read, target))?;
     }
     Ok(())
 }

@@ -10,16 +10,15 @@ ghost use Rattle.loops.specs.Meaning.{any_name, declared, number_of, number_at, 
 ghost use Rattle.loops.specs.Parsed.{cells_seen, form_seen, source_seen, subscript_seen, uses_seen};
 ghost use Rattle.loops.specs.Blocks.{declared_seen, entry_faults, forms_in};
 ghost use Rattle.loops.specs.Building.{IsFew};
-ghost use Rattle.loops.specs.Found.{array_in, fault_in, operand_in, AreFound, IsFoundFor, IsFoundIn};
+ghost use Rattle.loops.specs.Found.{array_in, fault_in, target_in, AreFound, IsFoundFor, IsFoundIn};
 ghost use Rattle.loops.specs.Checks.{any_use, covers_name, first_in, inits_with, is_that, kinds_at, lacks_init, outs_with, with_init, IsBlock, IsGiven, IsNear, IsNearForm, IsNearRead, IsNearUse, IsRoomFor};
 
 use crate::cells::are_wide;
 use crate::fault::{LoopFault, LoopFaultKind};
 use crate::form::{Form, Source, Subscript, Use};
-use crate::found::{self, Found, reads};
+use crate::found::{self, Found, Target, target_of};
 use crate::given::{Given, MOST};
 use crate::index::{Counts, Declared, Index};
-use crate::statement::Operand;
 use std::alloc::AllocError;
 
 const MOST_BYTES: usize = 16;
@@ -93,13 +92,13 @@ fn covers_name(given: &Given, found: Option<Declared>, distance: u8) -> bool
     }
 }
 
-/// A use that was looked up: what is wrong with it, and what it reads.
+/// A use that was looked up: what is wrong with it, and what its name stands for.
 #[derive(Clone, Copy)]
 struct Looked {
     unknown: bool,
     early: bool,
     lacking: bool,
-    operand: Operand,
+    target: Target,
 }
 
 /// Looks a use of this statement up. Its name is looked up once for all.
@@ -110,20 +109,14 @@ fn look_up<'a>(index: &Index<'a>, given: &Given, statement: usize, read: &Option
     ensures unknown { result.unknown ≡ any_use (meaning.is_unknown (forms_in index.now)) read.now }
     ensures early { result.early ≡ any_use (meaning.is_early (forms_in index.now) statement) read.now }
     ensures lacking { result.lacking ≡ any_use (lacks_init (forms_in index.now) given.now.inits) read.now }
-    ensures operand { IsFew (forms_in index.now) → result.operand ≡ operand_in (forms_in index.now) read.now }
+    ensures target { IsFew (forms_in index.now) → result.target ≡ target_in (forms_in index.now) read.now }
 {
     match read {
-        None => Looked {
+        None | Some(Use::Number(_)) => Looked {
             unknown: false,
             early: false,
             lacking: false,
-            operand: Operand::Constant(0),
-        },
-        Some(Use::Number(value)) => Looked {
-            unknown: false,
-            early: false,
-            lacking: false,
-            operand: Operand::Constant(value.unwrap_or(0)),
+            target: Target::Value(0),
         },
         Some(Use::Plain(name)) => {
             let found = index.declared(*name);
@@ -131,7 +124,7 @@ fn look_up<'a>(index: &Index<'a>, given: &Given, statement: usize, read: &Option
                 unknown: !is_readable(found),
                 early: is_value_from(statement, found),
                 lacking: false,
-                operand: reads(found, 0),
+                target: target_of(found),
             }
         }
         Some(Use::At(name, distance)) => {
@@ -143,7 +136,7 @@ fn look_up<'a>(index: &Index<'a>, given: &Given, statement: usize, read: &Option
                     None => false,
                     Some(distance) => !covers_name(given, found, *distance),
                 },
-                operand: reads(found, distance.unwrap_or(0)),
+                target: target_of(found),
             }
         }
     }
@@ -318,9 +311,9 @@ fn check_statement<'a>(
     }
     Ok(Found {
         number: place.number,
-        first: first.operand,
-        second: second.operand,
-        third: third.operand,
+        first: first.target,
+        second: second.target,
+        third: third.target,
     })
 }
 

@@ -1,31 +1,37 @@
 //! What the names of a line stand for.
 
 ghost use Rattle.std.specs.Prelude.{◌≡◌, option_map};
-ghost use Rattle.loops.specs.Meaning as meaning;
 ghost use Rattle.loops.specs.Meaning.{number_at};
 ghost use Rattle.loops.specs.Blocks.{declared_seen};
 ghost use Rattle.loops.specs.Building.{IsFewNumber};
+ghost use Rattle.loops.specs.Found.{target_at};
 
 use crate::index::Declared;
-use crate::statement::Operand;
 
-/// What the names that a line uses stand for, as a loop has it. What the line lacks is a 0 here.
+/// What a name stands for that is read: a parameter or the value of a statement, by its number.
+#[derive(Clone, Copy)]
+pub(crate) enum Target {
+    Param(u8),
+    Value(u8),
+}
+
+/// What the names that a line uses stand for. What the line lacks is a 0 here.
 #[derive(Clone, Copy)]
 pub(crate) struct Found {
     /// The number of the array of a statement's place, or that of the statement of an `out`.
     pub(crate) number: u8,
-    pub(crate) first: Operand,
-    pub(crate) second: Operand,
-    pub(crate) third: Operand,
+    pub(crate) first: Target,
+    pub(crate) second: Target,
+    pub(crate) third: Target,
 }
 
 impl Found {
     /// What is found for a line that uses no name.
     pub(crate) const NOTHING: Found = Found {
         number: 0,
-        first: Operand::Constant(0),
-        second: Operand::Constant(0),
-        third: Operand::Constant(0),
+        first: Target::Value(0),
+        second: Target::Value(0),
+        third: Target::Value(0),
     };
 }
 
@@ -42,17 +48,14 @@ pub(crate) fn number_of(found: Option<Declared>) -> u8
     }
 }
 
-/// What a name stands for that is read at a distance.
+/// What a name stands for that is read, unless its number is too great for a loop.
 #[inline]
-pub(crate) fn reads(found: Option<Declared>, distance: u8) -> Operand
-    ensures { IsFewNumber (option_map declared_seen found) → result ≡ meaning.reads (option_map declared_seen found) distance }
+pub(crate) fn target_of(found: Option<Declared>) -> Target
+    ensures { IsFewNumber (option_map declared_seen found) → result ≡ target_at (option_map declared_seen found) }
 {
     let number = number_of(found);
     match found {
-        Some(Declared::Param(_)) => Operand::Parameter(number),
-        _ => Operand::Value {
-            statement: number,
-            distance,
-        },
+        Some(Declared::Param(_)) => Target::Param(number),
+        _ => Target::Value(number),
     }
 }

@@ -22,7 +22,7 @@ pub(crate) struct Known<'a> {
 
 /// How many buckets a table has. A text has fewer than 100,000 names, so that even those take few
 /// steps each.
-const BUCKETS: usize = 1024;
+const BUCKETS: usize = 4096;
 
 /// Names, each with what it stands for. Contracts see the list of them.
 #[derive(Drop)]
@@ -49,7 +49,7 @@ impl<'a> Model for Names<'a> {
 #[tactic(auto, unfolding(crate::specs::Known::bucket_of))]
 fn bucket_of(name: &[u8]) -> usize
     ensures value { result ≡ bucket_of name.now }
-    ensures bound { result < 1024 }
+    ensures bound { result < 4096 }
 {
     let mut hasher = FoldHasher::default();
     hasher.write(name);

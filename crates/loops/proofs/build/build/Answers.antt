@@ -1,4 +1,4 @@
-use Rattle.std.proofs.Common.{ap, ◌∙◌, ◌++◌, sym, subst, length, take, [], pos, arith}
+use Rattle.std.proofs.Common.{ap, ◌∙◌, ◌++◌, sym, subst, length, take, [], arith}
 use Rattle.std.proofs.lemmas.List.{length-map, take_all}
 use Rattle.loops.specs.Meaning.{array_in, param_in, source_in, out_in, statement_of, number_of, is_statement}
 use Rattle.loops.specs.Blocks.{forms_in}
@@ -8,7 +8,7 @@ use Rattle.loops.specs.Found.{AreFound}
 use Rattle.loops.specs.declared.entry.Entry.{Entry}
 use Rattle.loops.specs.declared.form.Form.TheVariants as forms
 use Rattle.loops.specs.declared.found.Found.{Found}
-use Rattle.loops.specs.declared.statement.Operand.TheVariants.{Constant}
+use Rattle.loops.specs.declared.found.Target.TheVariants as targets
 use Rattle.loops.proofs.Finding.{statement-by, out-by}
 use Rattle.loops.proofs.Few.{few, line-named}
 use Rattle.loops.proofs.Inits.{inits-given, entries-faultless}
@@ -22,7 +22,7 @@ no-line = record { line = 0; form = forms.Loop (record { ref_ptr = (0, 0); now =
 
 -- and past what was found for it
 abbrev none : Found
-none = record { number = 0; first = Constant (pos 0); second = Constant (pos 0); third = Constant (pos 0) }
+none = record { number = 0; first = targets.Param 0; second = targets.Param 0; third = targets.Param 0 }
 
 pub bounds-found-i : goal.bounds-found-i
 bounds-found-i c =
