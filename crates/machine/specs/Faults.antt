@@ -5,7 +5,7 @@ use Rattle.std.specs.Char.Escape.{escape_default}
 use Rattle.machine.specs.declared.fault.MachineFault.{MachineFault}
 use Rattle.machine.specs.declared.fault.MachineFault.TheVariants as fault
 
--- a byte that would leave the line, or would not be seen in it, as in Rust's literals
+-- a control character as in Rust's literals, and any other byte as it is
 abbrev pub byte_text : ℕ → List ℕ
 byte_text byte = if is_ascii_control byte then escape_default byte else byte ∷ []
 
