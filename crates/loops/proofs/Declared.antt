@@ -1,5 +1,5 @@
 -- The first declaration of a name in a block.
-use Rattle.std.proofs.Common.{◌≡◌, ℕ, ◌+◌, ◌<◌, ◌≤◌, Bool, true, false, List, [], ◌∷◌, ◌++◌, Option, Some, None, refl, sym, ◌∙◌, ap, arith, append_assoc}
+use Rattle.std.proofs.Common.{◌≡◌, ℕ, ◌+◌, ◌<◌, ◌≤◌, Bool, true, false, cond, List, [], ◌∷◌, ◌++◌, Option, Some, None, refl, sym, ◌∙◌, ap, arith, append_assoc}
 use Rattle.std.proofs.Common.{Decides, if◌then◌else◌}
 use Rattle.std.specs.Option.{option_or}
 use Rattle.std.proofs.Common.{take, get_or, length}
@@ -11,6 +11,8 @@ use Rattle.loops.specs.Blocks.{forms_in, one_if, declared_seen}
 use Rattle.std.proofs.Common.{option_map, zero-add}
 use Rattle.loops.specs.Meaning as meaning
 use Rattle.loops.specs.declared.index.Declared as code
+use Rattle.std.specs.Map.{update}
+use Rattle.std.specs.Str.{bytes_eq}
 use Rattle.std.proofs.lemmas.Slice.Eq.{bytes_eq-Decides}
 use Rattle.std.proofs.lemmas.Bool.Decides.{same_from_decides}
 use Rattle.std.proofs.lemmas.List.Sums.{sum_by-append}
@@ -63,6 +65,31 @@ same_word-yes xs ys h = (same_word-Decides xs ys).0 h
 
 pub same_word-sym : (xs ys : List ℕ) → same_word xs ys ≡ same_word ys xs
 same_word-sym xs ys = same_from_decides _ _ (same_word-Decides xs ys) ((λ h. sym ((same_word-Decides ys xs).0 h)), (λ h. (same_word-Decides ys xs).1 (sym h)))
+
+-- a name that was not there is added
+pub added : {X : Type 0} (old new : List ℕ → Option X) (name : List ℕ) (what : X) → None ≡ old name
+    → ((q : List ℕ) → new q ≡ update bytes_eq old name (Some what) q)
+    → (q : List ℕ) → new q ≡ option_or (old q) (if same_word q name then Some what else None)
+added {X} old new name what none is q =
+    let by_case : (b : Bool) → same_word q name ≡ b → new q ≡ option_or (old q) (if b then Some what else None) = λ b.
+    elim b as (λ b. same_word q name ≡ b → new q ≡ option_or (old q) (if b then Some what else None)) [
+      | true ↦ λ h. is q ∙ ap (λ t. cond t (Some what) (old q)) (same_word-sym name q ∙ h) ∙ ap (λ o. option_or o (Some what)) (none ∙ ap old (sym (same_word-yes q name h)))
+      | false ↦ λ h. is q ∙ ap (λ t. cond t (Some what) (old q)) (same_word-sym name q ∙ h) ∙ sym (option_or-none (old q))
+    ] in
+    by_case (same_word q name) refl
+
+-- a name that was there is put back
+pub kept : {X : Type 0} (old new again : List ℕ → Option X) (name : List ℕ) (what first : X) → Some first ≡ old name
+    → ((q : List ℕ) → new q ≡ update bytes_eq old name (Some what) q)
+    → ((q : List ℕ) → again q ≡ update bytes_eq new name (Some first) q)
+    → (q : List ℕ) → again q ≡ option_or (old q) (if same_word q name then Some what else None)
+kept {X} old new again name what first some is was q =
+    let by_case : (b : Bool) → same_word q name ≡ b → again q ≡ option_or (old q) (if b then Some what else None) = λ b.
+    elim b as (λ b. same_word q name ≡ b → again q ≡ option_or (old q) (if b then Some what else None)) [
+      | true ↦ λ h. was q ∙ ap (λ t. cond t (Some first) (new q)) (same_word-sym name q ∙ h) ∙ ap (λ o. option_or o (Some what)) (some ∙ ap old (sym (same_word-yes q name h)))
+      | false ↦ λ h. was q ∙ ap (λ t. cond t (Some first) (new q)) (same_word-sym name q ∙ h) ∙ is q ∙ ap (λ t. cond t (Some what) (old q)) (same_word-sym name q ∙ h) ∙ sym (option_or-none (old q))
+    ] in
+    by_case (same_word q name) refl
 
 -- the forms of one more line
 pub forms-more : (lines : List Entry) (i : ℕ) (d : Entry) → i < length lines → forms_in (take (i + 1) lines) ≡ forms_in (take i lines) ++ form_seen (get_or lines i d).form ∷ []

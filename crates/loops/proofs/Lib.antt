@@ -1,7 +1,6 @@
 pub mod AtSigns
 pub mod BlockStanding
 pub mod Blocking
-pub mod Buckets
 pub mod Built
 pub mod Checking
 pub mod Covering
@@ -40,6 +39,7 @@ pub mod Placing
 pub mod PlainWords
 pub mod ReadBack
 pub mod Reading
+pub mod Remembered
 pub mod Returned
 pub mod Rings
 pub mod Rows

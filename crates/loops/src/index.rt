@@ -157,6 +157,6 @@ impl<'a> Index<'a> {
             .arrays
             .wrapping_add(before.params)
             .wrapping_add(before.statements);
-        self.names.get_near(number, name)
+        self.names.get(name)
     }
 }

@@ -128,7 +128,7 @@ pub fn read_loops(alloc: Global, text: &[u8]) -> Result<Vec<Loop>, LoopFault>
     let mut names = BTreeSet::new(alloc);
     let mut room = Room {
         lines: Vec::new(alloc),
-        names: Names::new(alloc)?,
+        names: Names::new(alloc),
         given: Given::new(alloc),
         found: Vec::new(alloc),
     };
