@@ -1,7 +1,6 @@
 -- The bytes of names, and what a word is by the first byte that stands in none.
 use Rattle.std.proofs.Common.{◌≡◌, ◌==◌, ℕ, ◌+◌, ◌-◌, ◌^◌, ◌<◌, ◌≤◌, ◌&&◌, Bool, true, false, not, cond, List, [], ◌∷◌, length, get_or, map, take, drop, Option, Some, None, refl, sym, ◌∙◌, ap, subst, arith, eqb, eq-eqb, inl, inr}
 use Rattle.std.proofs.lemmas.Bool.{and_left, and_parts, and_right, cases_lt, cond-false, eqb-true, ne_eqb, false_from_ne_true, true≢false}
-use Rattle.std.proofs.lemmas.Bool.Decides.{nat_tests}
 use Rattle.std.proofs.lemmas.List.{get_or-drop, get_or-take, length-drop, length-take, drop-drop, take_all, take_rest}
 use Rattle.std.proofs.lemmas.List.Folds.{list_all_at}
 use Rattle.std.proofs.lemmas.List.Sums.{fails_before_first, passes_at_first, position_or_len_is}
@@ -11,7 +10,6 @@ use Rattle.std.specs.List.{before_first, list_all, list_any, position_or_len, ra
 use Rattle.std.specs.Str.{all_ascii_digits}
 use Rattle.std.specs.Str.Parse.{digits_value}
 use Rattle.loops.specs.Forms.{Use, Plain, at_of, int_of, is_letter, is_name, is_name_byte, is_number, named_use_of, signed_of, starts_name}
-use Rattle.loops.specs.Words.{stops_word}
 use Rattle.loops.proofs.AtSigns.{any_there, name_bytes, name_starts, no_at, none_at}
 use Rattle.loops.proofs.Cuts.{before_next}
 
@@ -166,51 +164,3 @@ letterless c cs letter at =
 pub no_named : (word : List ℕ) → 0 < length word → is_letter (get_or word 0 0) ≡ false → (get_or word 0 0 == 64) ≡ false → named_use_of word ≡ None
 no_named [] some letter at = absurd (omega arith)
 no_named (c ∷ cs) some letter at = letterless c cs letter at
-
--- words
-
-name_goes_on : (c : ℕ) → is_name_byte c ≡ true → stops_word c ≡ false
-name_goes_on c h = grind (arith, nat_tests)
-
-goes_on_in : (rest back : List ℕ) (front more k : ℕ) → front ≡ position_or_len stands_in_none rest → back ≡ drop front rest → more ≡ position_or_len stops_word back → k < front + more → stops_word (get_or rest k 0) ≡ false
-goes_on_in rest back front more k f b m h = elim (cases_lt k front) [
-  | inl before ↦ name_goes_on (get_or rest k 0) (stands_before rest front k f before)
-  | inr behind ↦
-      let at : front + (k - front) ≡ k = omega arith in
-      let same : get_or back (k - front) 0 ≡ get_or rest k 0 = ap (λ xs. get_or xs (k - front) 0) b ∙ get_or-drop front rest (k - front) 0 ∙ ap (λ i. get_or rest i 0) at in
-      ap stops_word (sym same) ∙ fails_before_first stops_word back (k - front) 0 (omega arith)
-]
-
-stops_at : (rest back : List ℕ) (front more : ℕ) → back ≡ drop front rest → more ≡ position_or_len stops_word back → more < length back → stops_word (get_or rest (front + more) 0) ≡ true
-stops_at rest back front more b m h =
-    let same : get_or back more 0 ≡ get_or rest (front + more) 0 = ap (λ xs. get_or xs more 0) b ∙ get_or-drop front rest more 0 in
-    let here : get_or back more 0 ≡ get_or back (position_or_len stops_word back) 0 = ap (λ i. get_or back i 0) m in
-    ap stops_word (sym same ∙ here) ∙ passes_at_first stops_word back 0 (subst (λ (n : ℕ). n < length back) m h)
-
--- a word ends behind the bytes in its front that may stand in names, and those up to the byte that ends it
-pub word_end : (rest back : List ℕ) (front more : ℕ) → front ≡ position_or_len stands_in_none rest → front ≤ length rest → back ≡ drop front rest → more ≡ position_or_len stops_word back → more ≤ length back → front + more ≡ position_or_len stops_word rest
-word_end rest back front more f fits b m within =
-    let size : length back ≡ length rest - front = ap length b ∙ length-drop front rest in
-    sym (position_or_len_is stops_word rest (front + more) 0 (omega arith) (λ k h. goes_on_in rest back front more k f b m h) (λ h. stops_at rest back front more b m (omega arith)))
-
--- a word is of such bytes alone where none is left behind them
-pub word_stands : (rest word : List ℕ) (front end : ℕ) → front ≡ position_or_len stands_in_none rest → end ≤ length rest → front ≤ end → word ≡ take end rest → (end == front) ≡ list_all is_name_byte word
-word_stands rest word front end f within behind w = elim (cases_lt front end) [
-  | inl past ↦
-      let there : front < length word = omega (arith, ap length w, length-take end rest) in
-      let other : is_name_byte (get_or word front 0) ≡ false = ap (λ xs. is_name_byte (get_or xs front 0)) w ∙ ap is_name_byte (get_or-take end rest front 0 past) ∙ other_at rest front f (omega arith) in
-      ne_eqb end front (λ e. absurd (omega arith)) ∙ sym (list_all_at is_name_byte word front 0 there other)
-  | inr whole ↦
-      let same : end ≡ front = omega arith in
-      eq-eqb end front same ∙ sym (ap (list_all is_name_byte) (w ∙ ap (λ n. take n rest) same) ∙ front_taken rest front f)
-]
-
-pub all_or_not : (word : List ℕ) (n : ℕ) → n ≡ position_or_len stands_in_none word → n ≤ length word → (length word == n) ≡ list_all is_name_byte word
-all_or_not word n e within = word_stands word word n (length word) e (omega arith) within (sym (take_all (length word) word (omega arith)))
-
-pub plain_use_all : (word : List ℕ) → list_all is_name_byte word ≡ true → named_use_of word ≡ cond (is_name word) (Some (Plain word)) None
-plain_use_all word all = rw (no_at word all) refl
-
-pub other_no_name : (word : List ℕ) → list_all is_name_byte word ≡ false → is_name word ≡ false
-other_no_name word h =
-    false_from_ne_true (is_name word) (λ name. true≢false (sym (name_bytes word (name_starts word name)) ∙ h))

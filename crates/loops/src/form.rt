@@ -1,15 +1,14 @@
 //! The form of a line, by its words alone.
 
 ghost use Rattle.std.specs.Prelude.{◌≡◌, is_some, option_map};
-ghost use Rattle.std.specs.List.{list_all};
-ghost use Rattle.loops.specs.Forms.{Malformed, array_line, compute_line, end_line, form_of, init_line, ints_of, is_name_byte, line_form, load_line, loop_line, operands_of, out_line, param_line, store_line, value_line};
+ghost use Rattle.loops.specs.Forms.{Malformed, array_line, compute_line, end_line, form_of, init_line, ints_of, line_form, load_line, loop_line, operands_of, out_line, param_line, store_line, value_line};
 ghost use Rattle.loops.specs.Parsed.{form_seen};
 ghost use Rattle.loops.specs.Words.{words_of};
 
-use crate::name::{begins_name, is_name};
+use crate::name::is_name;
 use crate::number::int_of;
-use crate::operand::{at_of, checked_use_of, guard_of, place_of, use_of};
-use crate::words::{is_text, next_checked_word, next_word, one_word, three_words};
+use crate::operand::{at_of, guard_of, place_of, use_of};
+use crate::words::{is_text, next_word, one_word, three_words, two_words};
 use machine::Opcode;
 
 /// A use of a statement. Numbers outside their limits are `None`.
@@ -62,19 +61,17 @@ pub(crate) enum Form<'a> {
 pub(crate) fn form_of(line: &[u8]) -> Option<Form<'_>>
     ensures { option_map form_seen result ≡ line_form (words_of line.now) }
 {
-    let (word, plain, rest) = next_checked_word(line)?;
+    let (word, rest) = next_word(line)?;
     let mut form = Form::Malformed;
-    read_form(&mut form, word, plain, rest);
+    read_form(&mut form, word, rest);
     Some(form)
 }
 
-/// Writes the form of a line by its first word, whether all bytes of that may stand in a name, and the
-/// rest. A form is large, so each line function writes it where it is to stand, and leaves it malformed
-/// where the words are not of its form.
+/// Writes the form of a line by its first word and the rest. A form is large, so each line function
+/// writes it where it is to stand, and leaves it malformed where the words are not of its form.
 #[tactic(auto, unfolding(crate::specs::Forms::form_of))]
-fn read_form<'a>(form: &mut Form<'a>, word: &'a [u8], plain: bool, rest: &'a [u8])
-    requires malformed { form_seen form.old ≡ Malformed }
-    requires plain { plain ≡ list_all is_name_byte word.now }
+fn read_form<'a>(form: &mut Form<'a>, word: &'a [u8], rest: &'a [u8])
+    requires { form_seen form.old ≡ Malformed }
     ensures { form_seen form.new ≡ form_of word.now (words_of rest.now) }
 {
     match word {
@@ -85,7 +82,7 @@ fn read_form<'a>(form: &mut Form<'a>, word: &'a [u8], plain: bool, rest: &'a [u8
         [b's', more @ ..] if is_text(more, "tore") => store_line(form, rest),
         [b'o', more @ ..] if is_text(more, "ut") => out_line(form, rest),
         [b'e', more @ ..] if is_text(more, "nd") => end_line(form, rest),
-        _ => value_line(form, word, plain, rest),
+        _ => value_line(form, word, rest),
     }
 }
 
@@ -222,10 +219,8 @@ fn store_line<'a>(form: &mut Form<'a>, rest: &'a [u8])
 }
 
 /// A statement that gives a value.
-#[tactic(auto, using(crate::proofs::NameBytes::other_no_name))]
-fn value_line<'a>(form: &mut Form<'a>, name: &'a [u8], plain: bool, rest: &'a [u8])
-    requires malformed { form_seen form.old ≡ Malformed }
-    requires plain { plain ≡ list_all is_name_byte name.now }
+fn value_line<'a>(form: &mut Form<'a>, name: &'a [u8], rest: &'a [u8])
+    requires { form_seen form.old ≡ Malformed }
     ensures { form_seen form.new ≡ value_line name.now (words_of rest.now) }
 {
     let Some((equals, rest)) = next_word(rest) else {
@@ -234,7 +229,7 @@ fn value_line<'a>(form: &mut Form<'a>, name: &'a [u8], plain: bool, rest: &'a [u
     let Some((opcode, rest)) = next_word(rest) else {
         return;
     };
-    if !plain || !begins_name(name) || !is_text(equals, "=") {
+    if !is_name(name) || !is_text(equals, "=") {
         return;
     }
     match Opcode::named(opcode) {
@@ -299,19 +294,13 @@ fn two_uses_line<'a>(form: &mut Form<'a>, name: &'a [u8], opcode: Opcode, rest: 
     requires two { operands_of opcode ≡ 2 }
     ensures { form_seen form.new ≡ compute_line name.now opcode (words_of rest.now) }
 {
-    let Some((first, first_plain, rest)) = next_checked_word(rest) else {
+    let Some((first, second)) = two_words(rest) else {
         return;
     };
-    let Some((second, second_plain, rest)) = next_checked_word(rest) else {
+    let Some(first) = use_of(first) else {
         return;
     };
-    if next_word(rest).is_some() {
-        return;
-    }
-    let Some(first) = checked_use_of(first, first_plain) else {
-        return;
-    };
-    let Some(second) = checked_use_of(second, second_plain) else {
+    let Some(second) = use_of(second) else {
         return;
     };
     *form = Form::Statement(Source {

@@ -1,6 +1,6 @@
 //! Names.
 
-ghost use Rattle.std.specs.Prelude.{◌≡◌, ◌≤◌, not, true, length};
+ghost use Rattle.std.specs.Prelude.{◌≡◌, not, true};
 ghost use Rattle.std.specs.List.{list_all, position_or_len};
 ghost use Rattle.loops.specs.Forms.{is_letter, is_name, is_name_byte, is_reserved};
 
@@ -45,8 +45,7 @@ fn is_name_byte(byte: u8) -> bool
 
 /// How many bytes in front may stand in a name.
 pub(crate) fn count_name(word: &[u8]) -> usize
-    ensures value { result ≡ position_or_len (λ c. not (is_name_byte c)) word.now }
-    ensures within { result ≤ length word.now }
+    ensures { result ≡ position_or_len (λ c. not (is_name_byte c)) word.now }
 {
     for (i, b) in word.iter().enumerate() {
         if !is_name_byte(*b) {

@@ -56,11 +56,9 @@ fn named_use_of(word: &[u8]) -> Option<Use<'_>>
     }
 }
 
-/// A use: an integer, a name or `NAME@NUM`. The second argument is whether all bytes of the word may
-/// stand in a name.
-#[tactic(auto, using(crate::proofs::NameBytes::no_number, crate::proofs::NameBytes::no_number_empty, crate::proofs::NameBytes::no_named, crate::proofs::NameBytes::plain_use_all), unfolding(crate::specs::Forms::use_of))]
-pub(crate) fn checked_use_of(word: &[u8], plain: bool) -> Option<Use<'_>>
-    requires { plain ≡ list_all is_name_byte word.now }
+/// A use: an integer, a name or `NAME@NUM`.
+#[tactic(auto, using(crate::proofs::NameBytes::no_number, crate::proofs::NameBytes::no_number_empty, crate::proofs::NameBytes::no_named), unfolding(crate::specs::Forms::use_of))]
+pub(crate) fn use_of(word: &[u8]) -> Option<Use<'_>>
     ensures { option_map use_seen result ≡ use_of word.now }
 {
     match word {
@@ -68,18 +66,8 @@ pub(crate) fn checked_use_of(word: &[u8], plain: bool) -> Option<Use<'_>>
             let value = int_of(word)?;
             Some(Use::Number(value))
         }
-        _ if !plain => named_use_of(word),
-        _ if begins_name(word) => Some(Use::Plain(word)),
-        _ => None,
+        _ => named_use_of(word),
     }
-}
-
-/// A use: an integer, a name or `NAME@NUM`.
-#[tactic(auto, using(crate::proofs::NameBytes::all_or_not))]
-pub(crate) fn use_of(word: &[u8]) -> Option<Use<'_>>
-    ensures { option_map use_seen result ≡ use_of word.now }
-{
-    checked_use_of(word, word.len() == count_name(word))
 }
 
 /// A place: `NAME[SUB]`.

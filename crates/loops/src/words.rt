@@ -1,12 +1,10 @@
 //! Lines of a text and words of a line.
 
-ghost use Rattle.std.specs.Prelude.{◌≡◌, ◌≢◌, ◌==◌, ◌-◌, ◌<◌, ◌≤◌, ◌&&◌, nat_lt, ℕ, List, [], ◌∷◌, length, take, slice_index, false, true, MatchOption};
-ghost use Rattle.std.specs.List.{before_first, after_first, list_all, position_or_len};
+ghost use Rattle.std.specs.Prelude.{◌≡◌, ◌≢◌, ◌==◌, ◌-◌, ◌<◌, ◌&&◌, nat_lt, ℕ, List, [], ◌∷◌, length, take, slice_index, false, true, MatchOption};
+ghost use Rattle.std.specs.List.{before_first, after_first, position_or_len};
 ghost use Rattle.machine.specs.Opcodes.{same_word};
-ghost use Rattle.loops.specs.Forms.{is_name_byte};
 ghost use Rattle.loops.specs.Words.{is_blank, lines_of, starts_blank, stops_word, words_of};
 
-use crate::name::count_name;
 use memchr::memchr;
 
 /// The bytes are those of this text.
@@ -112,8 +110,7 @@ fn without_blanks(text: &[u8]) -> &[u8]
 
 /// How many bytes stand before the first blank or `#`.
 fn count_word(text: &[u8]) -> usize
-    ensures value { result ≡ position_or_len stops_word text.now }
-    ensures within { result ≤ length text.now }
+    ensures { result ≡ position_or_len stops_word text.now }
 {
     for (i, b) in text.iter().enumerate() {
         if ends_word(*b) {
@@ -137,23 +134,6 @@ pub(crate) fn next_word(rest: &[u8]) -> Option<(&[u8], &[u8])>
     }
 }
 
-/// The next word of a rest of a line, whether all its bytes may stand in a name, and what follows it.
-#[tactic(auto, using(crate::proofs::Cuts::words_none))]
-pub(crate) fn next_checked_word(rest: &[u8]) -> Option<(&[u8], bool, &[u8])>
-    ensures { MatchOption result (words_of rest.now ≡ [])
-        (λ x. (words_of rest.now ≡ x.0.now ∷ words_of x.2.now) × (x.1 ≡ list_all is_name_byte x.0.now)) }
-{
-    let rest = without_blanks(rest);
-    let front = count_name(rest);
-    let end = front + count_word(&rest[front..]);
-    if end == 0 {
-        None
-    } else {
-        let (word, after) = rest.split_at(end);
-        Some((word, end == front, after))
-    }
-}
-
 /// The word of a rest that has one word.
 pub(crate) fn one_word(rest: &[u8]) -> Option<&[u8]>
     ensures { MatchOption result (length (words_of rest.now) ≢ 1) (λ x. words_of rest.now ≡ x.now ∷ []) }
@@ -166,7 +146,7 @@ pub(crate) fn one_word(rest: &[u8]) -> Option<&[u8]>
 }
 
 /// The words of a rest that has two.
-fn two_words(rest: &[u8]) -> Option<(&[u8], &[u8])>
+pub(crate) fn two_words(rest: &[u8]) -> Option<(&[u8], &[u8])>
     ensures { MatchOption result (length (words_of rest.now) ≢ 2) (λ x. words_of rest.now ≡ x.0.now ∷ (x.1.now ∷ [])) }
 {
     let (first, rest) = next_word(rest)?;
