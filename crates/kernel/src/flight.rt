@@ -2,13 +2,13 @@
 
 use std::marker::Model;
 
-/// What a write changes.
+/// What a write changes. Both forms take no more than a word, since all writes in flight have one size.
 #[derive(Clone, Copy)]
 pub(crate) enum Place {
     /// This physical register.
     Register(usize),
     /// This cell of this array.
-    Cell(usize, i64),
+    Cell(u32, i32),
 }
 
 /// A write in flight.

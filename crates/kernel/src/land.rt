@@ -31,7 +31,9 @@ fn land_all(registers: &mut RegisterFile, memory: &mut Memory, writes: &[Pending
     for write in writes {
         match write.place {
             Place::Register(register) => registers.set(register, write.value),
-            Place::Cell(array, cell) => memory.set_cell(array, cell, write.value),
+            Place::Cell(array, cell) => {
+                memory.set_cell(array as usize, i64::from(cell), write.value);
+            }
         }
     }
 }
