@@ -1,10 +1,8 @@
 -- How a text falls into lines and a line into words, at a cut.
-use Rattle.std.proofs.Common.{◌≡◌, ◌==◌, ℕ, suc, ◌+◌, ◌-◌, ◌<◌, Bool, true, false, List, [], ◌∷◌, length, get_or, take, drop, refl, sym, ◌∙◌, ap, arith}
+use Rattle.std.proofs.Common.{◌≡◌, ◌==◌, ℕ, suc, ◌+◌, ◌-◌, ◌<◌, ◌≤◌, Bool, true, false, List, [], ◌∷◌, length, get_or, take, drop, refl, sym, ◌∙◌, ap, arith}
 use Rattle.std.proofs.lemmas.List.{take_rest, drop_more, take_all, drop_all}
 use Rattle.std.specs.List.{before_first, after_first, position_or_len}
-use Rattle.std.proofs.lemmas.Bool.{false_from_ne_true}
 use Rattle.std.proofs.lemmas.Bool.Decides.{nat_tests}
-use Rattle.std.proofs.lemmas.List.Sums.{position_or_len_is}
 use Rattle.loops.specs.Words.{is_blank, lines_of, onto_first, pieces_of, starts_blank, stops_word, words_of}
 
 -- a list that is not empty is its head and the rest, as a slice pattern takes them
@@ -30,16 +28,12 @@ line_cut [] h = absurd (omega arith)
 line_cut (c ∷ cs) h = line_cut-at c cs (c == 10) refl (line_cut cs)
 
 -- as slices take them
-pub line_taken : (text : List ℕ) (n : ℕ) → n < length text → (get_or text n 0 == 10) ≡ true → ((k : ℕ) → k < n → (get_or text k 0 == 10) ≡ true → ⊥) → lines_of text ≡ take n text ∷ lines_of (take (length text - (n + 1)) (drop (n + 1) text))
-line_taken text n h at before =
-    let some : 0 < length text = omega arith in
-    let e = position_or_len_is (λ x. x == 10) text n 0 (omega arith) (λ k lt. false_from_ne_true (get_or text k 0 == 10) (before k lt)) (λ _. at) in
-    rw (take_rest text (n + 1), ← e) (line_cut text some)
+pub line_taken : (text : List ℕ) (n : ℕ) → 0 < length text → n ≡ position_or_len (λ x. x == 10) text → lines_of text ≡ take n text ∷ lines_of (take (length text - (n + 1)) (drop (n + 1) text))
+line_taken text n h e = rw (take_rest text (n + 1), e) (line_cut text h)
 
-pub line_whole : (text : List ℕ) → 0 < length text → ((k : ℕ) → k < length text → (get_or text k 0 == 10) ≡ true → ⊥) → lines_of text ≡ text ∷ []
-line_whole text h none =
-    let e = position_or_len_is (λ x. x == 10) text (length text) 0 (omega arith) (λ k lt. false_from_ne_true (get_or text k 0 == 10) (none k lt)) (λ lt. absurd (omega arith)) in
-    line_cut text h ∙ rw (e, take_all (length text) text (omega arith), drop_all (length text + 1) text (omega arith)) refl
+pub line_whole : (text : List ℕ) (n : ℕ) → 0 < length text → n ≡ position_or_len (λ x. x == 10) text → length text ≤ n → lines_of text ≡ text ∷ []
+line_whole text n h e past =
+    line_taken text n h e ∙ rw (take_rest text (n + 1), take_all n text past, drop_all (n + 1) text (omega arith)) refl
 
 -- words
 

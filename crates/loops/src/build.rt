@@ -27,8 +27,7 @@ fn name_of(bytes: &[u8]) -> Name
     requires name { IsName bytes.now }
     ensures { result ≡ bytes.now }
 {
-    // SAFETY: a name is of letters, digits and `_`.
-    let text = unsafe { std::str::from_utf8_unchecked(bytes) };
+    let text = std::str::from_utf8(bytes).unwrap();
     Name::new(text).unwrap()
 }
 

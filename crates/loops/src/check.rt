@@ -184,10 +184,7 @@ fn is_repeated_value(index: &Index<'_>, before: Counts, name: Option<&[u8]>) -> 
 {
     match name {
         None => false,
-        Some(name) => !is_that(
-            Declared::Value(before.statements),
-            index.declared_behind(before, name),
-        ),
+        Some(name) => !is_that(Declared::Value(before.statements), index.declared(name)),
     }
 }
 
@@ -213,10 +210,7 @@ fn array_fault<'a>(
     if is_long(name) || are_wide(cells) || counts.arrays >= MOST_ARRAYS {
         return Some(LoopFaultKind::Limit);
     }
-    if !is_that(
-        Declared::Array(counts.arrays),
-        index.declared_behind(counts, name),
-    ) {
+    if !is_that(Declared::Array(counts.arrays), index.declared(name)) {
         return Some(LoopFaultKind::RepeatedName);
     }
     None
@@ -234,10 +228,7 @@ fn param_fault<'a>(
     if is_long(name) || value.is_none() || counts.params >= MOST_PARAMS {
         return Some(LoopFaultKind::Limit);
     }
-    if !is_that(
-        Declared::Param(counts.params),
-        index.declared_behind(counts, name),
-    ) {
+    if !is_that(Declared::Param(counts.params), index.declared(name)) {
         return Some(LoopFaultKind::RepeatedName);
     }
     None

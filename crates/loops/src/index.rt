@@ -147,16 +147,4 @@ impl<'a> Index<'a> {
     {
         self.names.get(name)
     }
-    /// The first declaration of a name that is declared behind so many lines. Where each statement before
-    /// it has a name and no name is repeated, it is found at once.
-    #[inline]
-    pub(crate) fn declared_behind(&self, before: Counts, name: &[u8]) -> Option<Declared>
-        ensures { option_map declared_seen result ≡ declared (forms_in self.now) name.now }
-    {
-        let number = before
-            .arrays
-            .wrapping_add(before.params)
-            .wrapping_add(before.statements);
-        self.names.get(name)
-    }
 }

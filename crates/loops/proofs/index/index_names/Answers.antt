@@ -1,9 +1,8 @@
-use Rattle.std.proofs.Common.{List, refl, ap, sym, ◌∙◌, arith, option_map}
+use Rattle.std.proofs.Common.{refl, ap, sym, ◌∙◌, arith, option_map}
 use Rattle.std.specs.Option.{option_or}
 use Rattle.machine.specs.Opcodes.{same_word}
 use Rattle.loops.specs.Meaning.{declared, is_array, is_param, is_statement}
 use Rattle.loops.specs.Blocks.{declared_seen, declared_if}
-use Rattle.loops.specs.declared.known.Known.{Known}
 use Rattle.loops.specs.Known.{known_as}
 use Rattle.loops.proofs.Declared.{declared-more, number_of-more, one_if-le, seen_or, option_or-none}
 use Rattle.loops.proofs.index.index_names.Goals as goal
@@ -12,7 +11,7 @@ use Rattle.loops.proofs.index.index_names.Goals.{in-Some+in_ok-add, in_default}
 pub loop-entry-init : goal.loop-entry-init
 unfolding declared
 loop-entry-init c = record {
-  names = λ q. ap (λ (ks : List Known). option_map declared_seen (known_as ks q)) c.clear.ensures;
+  names = λ q. ap (option_map declared_seen) (c.clear.ensures q);
   arrays = refl;
   params = refl;
   statements = refl;

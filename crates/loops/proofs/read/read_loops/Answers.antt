@@ -68,8 +68,8 @@ returns-in_err-block-in-Loop-clause-exact c =
     let reads = reads-as text (names_of loops) loops c.loop-rest.line (forms_of c.loop-rest.rest.now) (Some (LoopLine name) ∷ forms_of c.next_line.result.1.now) next v.reads in
     let many : length (names_of loops) ≡ c.len.result = search (rules, length-map) in
     let opened = c.in_default-open.ensures (names_of loops) v.names many in
-    let e : IsErrAnd c.from_residual-in_err-block-in-Loop.result (λ e. e ≡ fault) = c.from_residual-in_err-block-in-Loop.ensures.1 in
-    handed-on c.from_residual-in_err-block-in-Loop.result fault (loops_in text) e
+    let e : IsErrAnd c.from_residual.result (λ e. e ≡ fault) = c.from_residual.ensures.1 in
+    handed-on c.from_residual.result fault (loops_in text) e
     (answer fault.kind fault _ (loops_in text)
     (λ h. reads-inside text (names_of loops) loops c.loop-rest.line name fault (forms_of c.next_line.result.1.now) (omega arith) reads opened.0 (h (names_of loops ++ name ∷ [])))
     c.in_err-block-in-Loop.ensures)
