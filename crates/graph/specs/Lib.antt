@@ -2,6 +2,7 @@ pub use Rattle.loops.specs.Loops
 pub use Rattle.machine.specs.Machines
 pub mod Answers
 pub mod Dependences
+pub mod Faults
 pub mod Graphs
 pub mod Layout
 pub mod Promises

@@ -5,17 +5,33 @@ ghost use Rattle.graph.specs.declared.fault.GraphFault.TheVariants.{Memory};
 
 use machine::Opcode;
 use std::alloc::{AllocError, AllocFailed};
+use std::fmt;
 use thiserror::Error;
 
 /// Why a loop has no bounds on a machine.
 #[derive(Debug, Drop, Error)]
 pub enum GraphFault {
     /// The machine has no table for the opcode of a statement: of the first such statement.
-    #[error("no table for {}", .0.word())]
     NoTable(Opcode),
     /// Memory ran out. This says nothing of the loop.
-    #[error("out of memory")]
     Memory,
+}
+
+impl fmt::Display for GraphFault {
+    ghost use Rattle.std.specs.Prelude.{Some};
+    ghost use Rattle.graph.specs.Faults.{fault_text};
+
+    ghost output = { λ fault. Some (fault_text fault) };
+
+    fn fmt<W: fmt::Write>(&self, f: &mut fmt::Formatter<W>) -> fmt::Result {
+        match self {
+            GraphFault::NoTable(opcode) => {
+                let word = opcode.word();
+                write!(f, "no table for {word}")
+            }
+            GraphFault::Memory => f.write_str("out of memory"),
+        }
+    }
 }
 
 impl From<AllocError> for GraphFault {

@@ -1,6 +1,8 @@
 -- What inputs and outputs give and take, where their bytes are known.
-use Rattle.std.specs.Prelude.{◌≡◌, ◌≢◌, ℕ, ◌+◌, ◌-◌, ◌<◌, ◌≤◌, Bool, true, false, min, List, [], ◌++◌, length, take, drop, Option, Some, None, option_map, Result, Ok, Err}
+use Rattle.std.specs.Prelude.{◌≡◌, ◌≢◌, ℕ, ◌+◌, ◌-◌, ◌<◌, ◌≤◌, Bool, true, false, codes, min, List, [], ◌++◌, length, take, drop, Option, Some, None, option_map, Result, Ok, Err}
 use Rattle.modsched.specs.declared.device.Fault.{Fault}
+use Rattle.modsched.specs.declared.text.ReadTextError.{ReadTextError}
+use Rattle.modsched.specs.declared.text.ReadTextError.TheVariants as error
 
 -- n bytes were read into a buffer: they are the beginning of what was left, and none were only where there was no room or
 -- nothing left. What an input has left stays known
@@ -24,6 +26,11 @@ most_read = 1048577
 pub record HoldsText (left after : Option (List ℕ)) (buffer : List ℕ) (n : ℕ) : Type 0 where
   pub text : (bytes : List ℕ) → left ≡ Some bytes → take n buffer ≡ take most_read bytes
   pub rest : (bytes : List ℕ) → left ≡ Some bytes → after ≡ Some (drop most_read bytes)
+
+-- how it is told why a text was not read
+abbrev pub told_of : ReadTextError → List ℕ
+told_of error.Fault = codes "cannot read"
+told_of error.Memory = codes "out of memory"
 
 -- an output took a beginning of these bytes, the whole of them or less
 abbrev pub TakesBeginning : Option (List ℕ) → Option (List ℕ) → List ℕ → Type 0

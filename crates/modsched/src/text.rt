@@ -7,6 +7,7 @@ ghost use Rattle.modsched.specs.declared.text.ReadTextError.TheVariants.{Fault a
 
 use crate::device::{Fault, Input, Output};
 use std::alloc::{AllocError, Global};
+use std::fmt;
 use thiserror::Error;
 
 /// The greatest number of bytes of a text, 1,048,576: a longer one is refused.
@@ -22,11 +23,23 @@ const FIRST_READ: usize = 65_536;
 #[derive(Clone, Copy, Debug, PartialEq, Eq, Error)]
 pub enum ReadTextError {
     /// A read failed.
-    #[error("cannot read")]
     Fault,
     /// Memory ran out. This says nothing of the input.
-    #[error("out of memory")]
     Memory,
+}
+
+impl fmt::Display for ReadTextError {
+    ghost use Rattle.std.specs.Prelude.{Some};
+    ghost use Rattle.modsched.specs.Devices.{told_of};
+
+    ghost output = { λ error. Some (told_of error) };
+
+    fn fmt<W: fmt::Write>(&self, f: &mut fmt::Formatter<W>) -> fmt::Result {
+        f.write_str(match self {
+            ReadTextError::Fault => "cannot read",
+            ReadTextError::Memory => "out of memory",
+        })
+    }
 }
 
 impl From<Fault> for ReadTextError {

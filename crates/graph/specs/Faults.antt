@@ -1,0 +1,9 @@
+-- How the faults of a loop on a machine are told.
+use Rattle.std.specs.Prelude.{ℕ, codes, List, ◌++◌}
+use Rattle.machine.specs.Opcodes.{word_of}
+use Rattle.graph.specs.declared.fault.GraphFault.{GraphFault}
+use Rattle.graph.specs.declared.fault.GraphFault.TheVariants.{NoTable, Memory}
+
+abbrev pub fault_text : GraphFault → List ℕ
+fault_text (NoTable opcode) = codes "no table for " ++ word_of opcode
+fault_text Memory = codes "out of memory"
