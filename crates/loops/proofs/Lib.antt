@@ -17,6 +17,7 @@ pub mod Initials
 pub mod Inits
 pub mod InitsBack
 pub mod Insides
+pub mod Lanes
 pub mod Lawful
 pub mod Lines
 pub mod Lookups

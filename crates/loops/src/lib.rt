@@ -8,6 +8,7 @@ mod check;
 mod collect;
 mod entry;
 mod fault;
+mod feeds;
 mod form;
 mod found;
 mod given;

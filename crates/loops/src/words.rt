@@ -5,6 +5,8 @@ ghost use Rattle.std.specs.List.{before_first, after_first, position_or_len};
 ghost use Rattle.machine.specs.Opcodes.{same_word};
 ghost use Rattle.loops.specs.Words.{is_blank, lines_of, starts_blank, stops_word, words_of};
 
+use crate::feeds::count_line;
+
 /// The bytes are those of this text.
 pub(crate) fn is_text(bytes: &[u8], text: &str) -> bool
     ensures value { result ≡ same_word bytes.now text.now }
@@ -70,7 +72,7 @@ pub(crate) fn next_line(text: &[u8]) -> (&[u8], &[u8])
     ensures lines { lines_of text.now ≡ result.0.now ∷ lines_of result.1.now }
     ensures shorter { length result.1.now < length text.now }
 {
-    let end = count_before(text, b'\n');
+    let end = count_line(text);
     if end < text.len() {
         (&text[..end], &text[end + 1..])
     } else {

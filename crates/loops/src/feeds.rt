@@ -1,0 +1,57 @@
+//! The end of a line, found by sixteen bytes at a time.
+
+ghost use Rattle.std.specs.Prelude.{◌≡◌, ◌==◌, ◌+◌, ◌<◌, ◌≤◌, ℕ, false, true, length, slice_index};
+ghost use Rattle.std.specs.Int.{bit_at};
+ghost use Rattle.std.specs.List.{position_or_len};
+
+use std::simd::prelude::*;
+
+/// How many bytes are looked at at once.
+const LANES: usize = 16;
+
+/// Sixteen bytes from a place on.
+#[inline(always)]
+fn load(text: &[u8], at: usize) -> u8x16
+    requires { at + 16 ≤ length text.now }
+    ensures long { length result ≡ 16 }
+    ensures each { (k : ℕ) → k < 16 → slice_index result k ≡ slice_index text.now (at + k) }
+{
+    u8x16::from_slice(&text[at..])
+}
+
+/// Which of sixteen bytes are line feeds, that of the lowest bit first.
+#[inline(always)]
+fn feeds(bytes: u8x16) -> u64
+    ensures { (k : ℕ) → k < 16 → (bit_at result k == 1) ≡ (slice_index bytes k == 10) }
+{
+    bytes.simd_eq(u8x16::splat(b'\n')).to_bitmask()
+}
+
+/// How many of the sixteen bytes from a place on stand before the first line feed.
+#[inline(always)]
+fn count_ahead(text: &[u8], at: usize) -> usize
+    requires { at + 16 ≤ length text.now }
+    ensures few { result ≤ 16 }
+    ensures before { (k : ℕ) → k < result → (slice_index text.now (at + k) == 10) ≡ false }
+    ensures here { result < 16 → (slice_index text.now (at + result) == 10) ≡ true }
+{
+    feeds(load(text, at)).trailing_zeros().min(16) as usize
+}
+
+/// How many bytes stand before the first line feed: all of them where there is none.
+pub(crate) fn count_line(text: &[u8]) -> usize
+    ensures { result ≡ position_or_len (λ c. c == 10) text.now }
+{
+    let mut at = 0;
+    while text.len() - at >= LANES {
+        let ahead = count_ahead(text, at);
+        if ahead < LANES {
+            return at + ahead;
+        }
+        at += LANES;
+    }
+    while at < text.len() && text[at] != b'\n' {
+        at += 1;
+    }
+    at
+}
