@@ -4,9 +4,11 @@ ghost use Rattle.std.specs.Prelude.{◌≡◌};
 
 mod bounds;
 mod dependences;
-mod devices;
+mod failing_devices;
 mod faults;
 mod given;
+mod kernels;
+mod library;
 mod matrices;
 mod plain;
 mod runs;

@@ -1,8 +1,6 @@
 -- One pass takes in another, and what is left at the end.
-use Rattle.std.proofs.Common.{◌≡◌, ℕ, zero, suc, ◌+◌, ◌<◌, ◌≤◌, List, [], ◌∷◌, ◌++◌, map, length, set, slice_index, slice_index_or, sym, refl, ap, ◌∙◌, subst, ⊎_elim, arith}
-use Rattle.std.proofs.lemmas.Bool.{cases_lt, ltb-true}
+use Rattle.std.proofs.Common.{◌≡◌, ℕ, zero, suc, ◌+◌, ◌<◌, ◌≤◌, List, [], ◌∷◌, ◌++◌, map, length, set, slice_index, slice_index_or, sym, refl, ap, ◌∙◌, subst, arith}
 use Rattle.std.specs.Prelude.{All, Any, IsTrue, Contains, Option}
-use Rattle.std.proofs.lemmas.Bool.Decides.{nat_tests}
 use Rattle.std.proofs.lemmas.List.Elements.{All-append, All-nil, All-map, All-contains, All-contains_itself, Contains-append_left, Contains-append_right}
 use mathlib.Core.Option.{some, some-injective, some-ne-none}
 use lib.ListN.{get_elem?}
@@ -11,11 +9,13 @@ use Rattle.atomic_table.proofs.Lists.{set_else}
 use Rattle.board.specs.declared.view.View.{View}
 use Rattle.board.specs.declared.view.Terms.{Terms}
 use Rattle.board.specs.Views.{blank, beyond, is_dry}
-use Rattle.board.specs.Rule.{total, times, times_posted, times_drawn, least_of, IsTrueAnswer, IsWithinParts, Rule}
+use Rattle.board.specs.Rule.{total, times, times_posted, least_of, IsTrueAnswer, IsWithinParts, Rule}
 use Rattle.board.specs.Steps.{Keeps, both}
 use Rattle.board.specs.Together.{IsTogether}
 use Rattle.board.specs.declared.word.WordPass.{WordPass}
 use Rattle.board.specs.Boards.{view_of}
+use Rattle.board.specs.Drawing.{EachPieceOnce, SomeIsDry}
+use Rattle.board.proofs.Drawing.{nothing_left}
 use Rattle.board.proofs.Totals.{total_set, total_at, times-append, times_posted-append, beyond-append, all_at, all_set, all_by}
 use Rattle.board.proofs.Steps.{least_moves, answers_move, all_one}
 
@@ -146,28 +146,12 @@ index_at [] i x e = absurd (some-ne-none x (sym e))
 index_at (y ∷ l) zero x e = some-injective y x e
 index_at (y ∷ l) (suc i) x e = index_at l i x e
 
--- a dry view has a number past the pieces
-past_drawn : (pieces : ℕ) (xs : List ℕ) → 0 < beyond pieces xs → (n : ℕ) × (pieces ≤ n) × (0 < times n xs)
-past_drawn pieces [] h = absurd (omega arith)
-past_drawn pieces (x ∷ xs) h = ⊎_elim
-    (λ (inside : x < pieces). let r = past_drawn pieces xs (grind (arith, nat_tests)) in (r.0, r.1, let p = r.2 in omega arith))
-    (λ (past : pieces ≤ x). (x, past, grind (arith, nat_tests)))
-    (cases_lt x pieces)
-
-total_of_one : (f : View → ℕ) (ps : List WordPass) (k : ℕ) (p : WordPass) → k < length ps → slice_index_or ps k p ≡ p → f (view_of p) ≤ total f (map view_of ps)
-total_of_one f [] k p near is = absurd (omega arith)
-total_of_one f (q ∷ ps) zero p near is = let e : f (view_of q) ≡ f (view_of p) = ap (λ (x : WordPass). f (view_of x)) is in omega arith
-total_of_one f (q ∷ ps) (suc k) p near is = let r = total_of_one f ps k p (omega arith) is in omega arith
+-- a dry pass is a dry view
+dry_view : (pieces : ℕ) (ps : List WordPass) (k : ℕ) (p : WordPass) → k < length ps → slice_index_or ps k p ≡ p → IsTrue (is_dry pieces (view_of p)) → SomeIsDry pieces (map view_of ps)
+dry_view pieces [] k p near is dry = absurd (omega arith)
+dry_view pieces (q ∷ ps) zero p near is dry = (0, view_of q, (omega arith), refl, subst (λ (x : WordPass). IsTrue (is_dry pieces (view_of x))) (sym is) dry)
+dry_view pieces (q ∷ ps) (suc k) p near is dry = let r = dry_view pieces ps k p (omega arith) is dry in (suc r.0, r.1, (let n = r.2 in omega arith), r.3, r.4)
 
 pub dry_once : (terms : Terms) (words : List ℕ) (ps : List WordPass) → Rule terms words (map view_of ps) → Any (λ p. IsTrue (is_dry terms.pieces (view_of p))) ps
-    → (x : ℕ) → x < terms.pieces → times_drawn (map view_of ps) x ≡ 1
-dry_once terms words ps rule dry x inside =
-    let p = dry.1 in
-    let past = past_drawn terms.pieces (view_of p).drawn (ltb-true 0 (beyond terms.pieces (view_of p).drawn) dry.4) in
-    let n : ℕ = past.0 in
-    let some_n = total_of_one (λ v. times n v.drawn) ps dry.0 p dry.2 dry.3 in
-    let a = rule.drawn n in
-    let b = rule.drawn x in
-    let c = past.1 in
-    let d = past.2 in
-    grind (arith, nat_tests)
+    → EachPieceOnce terms.pieces (map view_of ps)
+dry_once terms words ps rule dry = nothing_left terms words (map view_of ps) rule (dry_view terms.pieces ps dry.0 dry.1 dry.2 dry.3 dry.4)

@@ -8,3 +8,4 @@ pub mod Together
 pub mod Closes
 pub mod Last
 pub mod Events
+pub mod Drawing

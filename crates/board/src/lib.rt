@@ -14,7 +14,7 @@ mod tests;
 mod view;
 mod word;
 
-pub use law::words_follow_events;
+pub use law::{draws_end, dry_leaves_nothing, words_follow_events};
 pub use locked::{LockedBoard, LockedPass};
 pub use view::{Terms, View};
 pub use word::{Closed, Stranger, WordBoard, WordPass};

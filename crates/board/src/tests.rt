@@ -2,8 +2,9 @@ ghost use Rattle.std.specs.Prelude.{◌≡◌, ◌≤◌, IfOk};
 ghost use Rattle.board.specs.Boards.{IsPassOf, tag_of, sizes_of};
 ghost use Rattle.board.specs.Names.{terms_of};
 
-use crate::{Board, OutOfMemory, Stranger, WordBoard, WordPass};
+use crate::{Board, LockedBoard, LockedPass, OutOfMemory, Stranger, WordBoard, WordPass};
 use std::alloc::Global;
+use std::sync::Wait;
 use std::test::Fail;
 
 fn with_one_pass(alloc: Global, tag: u64, pieces: u64) -> Result<(WordBoard, WordPass), OutOfMemory>
@@ -100,5 +101,60 @@ fn a_stranger_is_handed_back(rt: HostRuntime) -> Result<(), Fail> {
 fn no_pass_is_too_few(rt: HostRuntime) -> Result<(), Fail> {
     let (board, _pass) = with_one_pass(rt.alloc(), 1, 3)?;
     assert!(rt; board.close(Vec::new(rt.alloc())).is_err());
+    Ok(())
+}
+
+fn locked_with_one_pass<R: Wait + Drop>(
+    rt: R,
+    alloc: Global,
+    pieces: u64,
+) -> Result<(LockedBoard<R>, LockedPass), OutOfMemory>
+    requires { pieces ≤ 262144 }
+    ensures loops { IfOk result (λ r. r.0.loops ≡ 2) }
+    ensures pieces { IfOk result (λ r. r.0.pieces ≡ pieces) }
+{
+    let (board, mut passes) = LockedBoard::new(rt, alloc, 2, pieces, 1)?;
+    let Some(pass) = passes.pop() else {
+        unreachable!()
+    };
+    Ok((board, pass))
+}
+
+#[test]
+fn a_locked_board_gives_each_piece_once(rt: HostRuntime) -> Result<(), Fail> {
+    let alloc = rt.alloc();
+    let (board, mut passes) = LockedBoard::new(&rt, alloc, 1, 3, 2)?;
+    let (Some(mut one), Some(mut two), None) = (passes.pop(), passes.pop(), passes.pop()) else {
+        panic!(rt; "two passes were asked for")
+    };
+    let drawn = [
+        board.draw(&mut one),
+        board.draw(&mut two),
+        board.draw(&mut one),
+        board.draw(&mut two),
+        board.draw(&mut one),
+        board.draw(&mut two),
+    ];
+    assert!(rt; drawn == [Some(0), Some(1), Some(2), None, None, None]);
+    Ok(())
+}
+
+#[test]
+fn a_locked_look_sees_the_least_post(rt: HostRuntime) -> Result<(), Fail> {
+    let (board, mut pass) = locked_with_one_pass(&rt, rt.alloc(), 3)?;
+    assert!(rt; board.look(&mut pass, 0) == None && board.look(&mut pass, 1) == None);
+    for (interval, least) in [(16_384, 16_384), (9, 9), (12, 9), (3, 3), (0, 0), (1, 0)] {
+        board.post(&mut pass, 1, interval);
+        assert!(rt; board.look(&mut pass, 1) == Some(least), "after {interval}");
+    }
+    assert!(rt; board.look(&mut pass, 0) == None);
+    assert!(rt; board.draw(&mut pass) == Some(0));
+    Ok(())
+}
+
+#[test]
+fn a_locked_board_without_pieces_is_dry_at_once(rt: HostRuntime) -> Result<(), Fail> {
+    let (board, mut pass) = locked_with_one_pass(&rt, rt.alloc(), 0)?;
+    assert!(rt; board.draw(&mut pass) == None && board.draw(&mut pass) == None);
     Ok(())
 }

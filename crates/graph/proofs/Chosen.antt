@@ -6,8 +6,8 @@ use Rattle.std.proofs.lemmas.Bool.{eq-eqb, ne_eqb}
 use Rattle.machine.specs.declared.alternative.Row.{Row}
 use Rattle.machine.specs.declared.opcode.Opcode.{Opcode}
 use Rattle.machine.specs.Machines.{MachineData, table_of}
-use Rattle.loops.specs.declared.statement.Statement.{Statement}
-use Rattle.loops.specs.Loops.{LoopData}
+use Rattle.iterations.specs.declared.language.statement.Statement.{Statement}
+use Rattle.iterations.specs.Loops.{LoopData}
 use Rattle.graph.specs.Units.{IsBest, AreBest, chosen_rows, opcodes_of, operations_of, alternatives_in}
 use Rattle.graph.specs.Uses.{Tallies, TakesBest, Progress}
 

@@ -5,8 +5,8 @@ use Rattle.std.specs.List.{find}
 use Rattle.std.specs.Option.{is_none}
 use Rattle.machine.specs.declared.opcode.Opcode.{Opcode}
 use Rattle.machine.specs.Machines.{MachineData, OperationData, table_of}
-use Rattle.loops.specs.declared.statement.Statement.{Statement}
-use Rattle.loops.specs.Loops.{LoopData}
+use Rattle.iterations.specs.declared.language.statement.Statement.{Statement}
+use Rattle.iterations.specs.Loops.{LoopData}
 use Rattle.graph.specs.Answers.{Answers}
 use Rattle.graph.specs.Units.{opcodes_of, first_without_table}
 use Rattle.graph.specs.Dependences.{latencies_of, latency_in}

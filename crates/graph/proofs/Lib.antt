@@ -12,7 +12,9 @@ pub mod Potentials
 pub mod Promised
 pub mod Raises
 pub mod Recurrences
+pub mod SameArrays
 pub mod Settling
 pub mod Slices
+pub mod Sweeps
 pub mod Tally
 pub mod UnitBound

@@ -73,33 +73,33 @@ length_of-cons latencies ii e walk end =
     let s : ii * (e.distance + distance_of walk) ≡ ii * e.distance + ii * distance_of walk = mul-add ii e.distance (distance_of walk) in
     omega (arith, ints)
 
-reach-walk : (graph : GraphData) (ii most p raised : ℕ) (numbers : List ℕ) → IsGraph graph → AreReaches graph ii most numbers → p < length graph.latencies
+reach-walk : (graph : GraphData) (ii long most p raised : ℕ) (numbers : List ℕ) → IsGraph graph → AreReaches graph ii long most numbers → p < length graph.latencies
     → IsRaised (filter (λ (e : EdgeData). e.from == p) graph.edges) ii numbers (slice_index numbers p) raised
-    → (walk : List EdgeData) × (end : ℕ) × IsWalk graph.edges p walk end × (length walk ≤ most + 1) × (pos raised ≡ length_of graph.latencies ii walk end)
-reach-walk graph ii most p raised numbers g reaches below r = elim r.attained [
-  | inl same ↦ (let h : IsReach graph ii most p (slice_index numbers p) = reaches p below in
-      let few : length h.walk ≤ most = h.few in
+    → (walk : List EdgeData) × (end : ℕ) × IsWalk graph.edges p walk end × (length walk ≤ long + 1) × (pos raised ≡ length_of graph.latencies ii walk end)
+reach-walk graph ii long most p raised numbers g reaches below r = elim r.attained [
+  | inl same ↦ (let h : IsReach graph ii long most p (slice_index numbers p) = reaches p below in
+      let few : length h.walk ≤ long = h.few in
       (h.walk, h.end, h.is_walk, omega arith, ap pos same ∙ h.as_long))
   | inr t ↦ (let c = contained-from_filter (λ (e : EdgeData). e.from == p) graph.edges t.edge t.there in
       let from : t.edge.from ≡ p = eqb-true t.edge.from p c.1 in
       let to : t.edge.to < length graph.latencies = (All-contains (λ (e : EdgeData). (e.from < length graph.latencies) × (e.to < length graph.latencies)) graph.edges t.edge g.ends c.0).1 in
-      let h : IsReach graph ii most t.edge.to (slice_index numbers t.edge.to) = reaches t.edge.to to in
-      let few : length h.walk ≤ most = h.few in
-      let long : pos (slice_index numbers t.edge.to) ≡ length_of graph.latencies ii h.walk h.end = h.as_long in
+      let h : IsReach graph ii long most t.edge.to (slice_index numbers t.edge.to) = reaches t.edge.to to in
+      let few : length h.walk ≤ long = h.few in
+      let sum : pos (slice_index numbers t.edge.to) ≡ length_of graph.latencies ii h.walk h.end = h.as_long in
       let is : (pos (slice_index numbers t.edge.to) +ℤ t.edge.delay) ≡ pos (raised + ii * t.edge.distance) = t.as_long in
       let more : length_of graph.latencies ii (t.edge ∷ h.walk) h.end ≡ ((t.edge.delay -ℤ pos (ii * t.edge.distance)) +ℤ length_of graph.latencies ii h.walk h.end)
       = length_of-cons graph.latencies ii t.edge h.walk h.end in
       (t.edge ∷ h.walk, h.end, (c.0, from, h.is_walk), omega arith, omega (arith, ints)))
 ]
 
-reach-longest : (graph : GraphData) (ii most p raised : ℕ) (numbers : List ℕ) → IsGraph graph → AreReaches graph ii most numbers → p < length graph.latencies
+reach-longest : (graph : GraphData) (ii long most p raised : ℕ) (numbers : List ℕ) → IsGraph graph → AreReaches graph ii long most numbers → p < length graph.latencies
     → IsRaised (filter (λ (e : EdgeData). e.from == p) graph.edges) ii numbers (slice_index numbers p) raised
     → (other : List EdgeData) (last : ℕ) → IsWalk graph.edges p other last → length other ≤ most + 1 → length_of graph.latencies ii other last ≤ℤ pos raised
-reach-longest graph ii most p raised numbers g reaches below r [] last w few =
+reach-longest graph ii long most p raised numbers g reaches below r [] last w few =
     let up : slice_index numbers p ≤ raised = r.no_lower in
     let h : length_of graph.latencies ii [] last ≤ℤ pos (slice_index numbers p) = (reaches p below).longest [] last w (omega arith) in
     omega (arith, ints)
-reach-longest graph ii most p raised numbers g reaches below r (e ∷ other) last w few =
+reach-longest graph ii long most p raised numbers g reaches below r (e ∷ other) last w few =
     let to : e.to < length graph.latencies = (All-contains (λ (e : EdgeData). (e.from < length graph.latencies) × (e.to < length graph.latencies)) graph.edges e g.ends w.0).1 in
     let h : length_of graph.latencies ii other last ≤ℤ pos (slice_index numbers e.to) = (reaches e.to to).longest other last w.2 (omega arith) in
     let k : (pos (slice_index numbers e.to) +ℤ e.delay) ≤ℤ pos (raised + ii * e.distance)
@@ -111,11 +111,11 @@ reach-longest graph ii most p raised numbers g reaches below r (e ∷ other) las
     omega (arith, ints)
 
 -- a raised number is that of walks with one edge more
-pub reach-raised : (graph : GraphData) (ii most p raised : ℕ) (numbers : List ℕ) → IsGraph graph → AreReaches graph ii most numbers → p < length graph.latencies
-    → IsRaised (filter (λ (e : EdgeData). e.from == p) graph.edges) ii numbers (slice_index numbers p) raised → IsReach graph ii (most + 1) p raised
-reach-raised graph ii most p raised numbers g reaches below r =
-    let w = reach-walk graph ii most p raised numbers g reaches below r in
-    record { walk = w.0; end = w.1; is_walk = w.2; few = w.3; as_long = w.4; longest = reach-longest graph ii most p raised numbers g reaches below r }
+pub reach-raised : (graph : GraphData) (ii long most p raised : ℕ) (numbers : List ℕ) → IsGraph graph → AreReaches graph ii long most numbers → p < length graph.latencies
+    → IsRaised (filter (λ (e : EdgeData). e.from == p) graph.edges) ii numbers (slice_index numbers p) raised → IsReach graph ii (long + 1) (most + 1) p raised
+reach-raised graph ii long most p raised numbers g reaches below r =
+    let w = reach-walk graph ii long most p raised numbers g reaches below r in
+    record { walk = w.0; end = w.1; is_walk = w.2; few = w.3; as_long = w.4; longest = reach-longest graph ii long most p raised numbers g reaches below r }
 
 first-longest : (graph : GraphData) (ii p number : ℕ) → number ≡ slice_index graph.latencies p → (other : List EdgeData) (last : ℕ) → IsWalk graph.edges p other last
     → length other ≤ 0 → length_of graph.latencies ii other last ≤ℤ pos number
@@ -126,7 +126,7 @@ first-longest graph ii p number is [] last w few =
 first-longest graph ii p number is (e ∷ other) last w few = absurd (omega arith)
 
 -- the walks without edges
-pub reach-first : (graph : GraphData) (ii p number : ℕ) → number ≡ slice_index graph.latencies p → IsReach graph ii 0 p number
+pub reach-first : (graph : GraphData) (ii p number : ℕ) → number ≡ slice_index graph.latencies p → IsReach graph ii 0 0 p number
 reach-first graph ii p number is =
     let zero : ii * 0 ≡ 0 = omega arith in
     record { walk = []; end = p; is_walk = refl; few = omega arith; as_long = omega (arith, ints); longest = first-longest graph ii p number is }
@@ -156,13 +156,13 @@ pub get_or-set_far : (row : List ℕ) (i p value : ℕ) → p < i → get_or (se
 get_or-set_far row i p value below = let ne : p ≢ i = omega arith in get_or-set_other row i p value 0 ne
 
 -- the targets of the edges from an operation have small numbers, where all operations have
-pub small-targets : (graph : GraphData) (numbers : List ℕ) → IsGraph graph → ((p : ℕ) → p < length graph.latencies → slice_index numbers p ≤ 8256)
+pub small-targets : (graph : GraphData) (numbers : List ℕ) → IsGraph graph → ((p : ℕ) → p < length graph.latencies → slice_index numbers p ≤ 2097152)
     → (operation : ℕ) (outgoing : List EdgeData) → outgoing ≡ filter (λ (e : EdgeData). e.from == operation) graph.edges
-    → All (λ (e : EdgeData). (e.to < 128) × (slice_index numbers e.to ≤ 8256)) outgoing
+    → All (λ (e : EdgeData). (e.to < 128) × (slice_index numbers e.to ≤ 2097152)) outgoing
 small-targets graph numbers g small operation outgoing is =
     let few : length graph.latencies ≤ 128 = g.few in
-    subst (All (λ (e : EdgeData). (e.to < 128) × (slice_index numbers e.to ≤ 8256))) (sym is)
-    (All-filter (λ (e : EdgeData). e.from == operation) (λ (e : EdgeData). (e.to < 128) × (slice_index numbers e.to ≤ 8256)) graph.edges
+    subst (All (λ (e : EdgeData). (e.to < 128) × (slice_index numbers e.to ≤ 2097152))) (sym is)
+    (All-filter (λ (e : EdgeData). e.from == operation) (λ (e : EdgeData). (e.to < 128) × (slice_index numbers e.to ≤ 2097152)) graph.edges
     (λ k d h. let to = (g.ends k d h).1 in (omega arith, small _ to)))
 
 -- an edge from an operation, among all edges

@@ -13,9 +13,9 @@ use Rattle.graph.specs.Walks.{IsWalk, delay_of, distance_of, length_of, FitsCirc
 use Rattle.graph.specs.Rounds.{IsSettledAt, Settles, IsRounds, TellsFeasible}
 use Rattle.graph.specs.Reaches.{IsReach, AreReaches, IsRaised, IsUnsettled, AreHeights}
 use Rattle.graph.specs.Promises.{SumsAreLimited}
-use Rattle.graph.proofs.Circuits.{exceeds_or_short, IsWalk-append, delay_of-append, distance_of-append}
+use Rattle.graph.proofs.Circuits.{exceeds_or_short}
 use Rattle.graph.proofs.Raises.{reach-raised}
-use Rattle.graph.proofs.Potentials.{KeepsHeight, walk-below, fits-from_heights, fits-at_limit}
+use Rattle.graph.proofs.Potentials.{KeepsHeight, fits-from_heights, fits-at_limit}
 use Rattle.graph.proofs.Recurrences.{fits-longer, bound-le-fitting}
 
 ends-walk : (graph : GraphData) → IsGraph graph → (p q : ℕ) (walk : List EdgeData) → p < length graph.latencies → IsWalk graph.edges p walk q → q < length graph.latencies
@@ -38,16 +38,16 @@ sums-are_limited graph ii g p q walk below w =
     omega (arith, ints)
 
 -- no number is greater than 64 cycles for each edge, and 64 more
-pub reach-limited : (graph : GraphData) (ii most p number : ℕ) → IsGraph graph → p < length graph.latencies → IsReach graph ii most p number → number ≤ 64 * most + 64
-reach-limited graph ii most p number g below r =
-    let few : length r.walk ≤ most = r.few in
-    let long : pos number ≡ length_of graph.latencies ii r.walk r.end = r.as_long in
+pub reach-limited : (graph : GraphData) (ii long most p number : ℕ) → IsGraph graph → p < length graph.latencies → IsReach graph ii long most p number → number ≤ 64 * long + 64
+reach-limited graph ii long most p number g below r =
+    let few : length r.walk ≤ long = r.few in
+    let sum : pos number ≡ length_of graph.latencies ii r.walk r.end = r.as_long in
     let limit : length_of graph.latencies ii r.walk r.end ≤ℤ pos (64 * length r.walk + 64) = sums-are_limited graph ii g p r.end r.walk below r.is_walk in
     omega (arith, ints)
 
 -- a number that rises in a round
-pub unsettled-from_rise : (graph : GraphData) (ii most p number next : ℕ) → p < length graph.latencies → IsReach graph ii most p number
-    → IsReach graph ii (most + 1) p next → number < next → IsUnsettled graph ii (most + 1)
+pub unsettled-from_rise : (graph : GraphData) (ii most p number next : ℕ) → p < length graph.latencies → IsReach graph ii most most p number
+    → IsReach graph ii (most + 1) (most + 1) p next → number < next → IsUnsettled graph ii (most + 1)
 unsettled-from_rise graph ii most p number next below old new more = record {
   start = p;
   there = below;
@@ -62,10 +62,10 @@ unsettled-from_rise graph ii most p number next below old new more = record {
 }
 
 -- no number rises in a round
-pub settles-from_same : (graph : GraphData) (ii most : ℕ) (numbers next : List ℕ) → AreReaches graph ii most numbers → AreReaches graph ii (most + 1) next
+pub settles-from_same : (graph : GraphData) (ii most : ℕ) (numbers next : List ℕ) → AreReaches graph ii most most numbers → AreReaches graph ii (most + 1) (most + 1) next
     → ((p : ℕ) → p < length graph.latencies → slice_index next p ≡ slice_index numbers p) → Settles graph ii (most + 1)
 settles-from_same graph ii most numbers next old new same = λ p below.
-    let r : IsReach graph ii most p (slice_index numbers p) = old p below in
+    let r : IsReach graph ii most most p (slice_index numbers p) = old p below in
     let few : length r.walk ≤ most = r.few in
     record {
       walk = r.walk;
@@ -152,29 +152,6 @@ exceeds-not_fits edges ii x fits =
     let b : pos (ii * distance_of x.walk) <ℤ delay_of x.walk = x.exceeds in
     omega (arith, ints)
 
--- where rounds settle, no walk is longer than those of so many edges
-longest-settled : (graph : GraphData) (ii round : ℕ) → IsGraph graph → Settles graph ii round → (p number : ℕ) → p < length graph.latencies
-    → IsReach graph ii round p number → (other : List EdgeData) (last : ℕ) → IsWalk graph.edges p other last → length_of graph.latencies ii other last ≤ℤ pos number
-longest-settled graph ii round g settles p number below r other last w =
-    let n : ℕ = length graph.latencies in
-    let H : ℕ → ℤ = height_of graph ii round settles in
-    let end : last < n = ends-walk graph g p last other below w in
-    let zero : ii * 0 ≡ 0 = omega arith in
-    let low : length_of graph.latencies ii [] last ≤ℤ H last = highest graph ii round settles last (cases_lt last n) end [] last refl (omega arith) in
-    let a : Attains graph ii round p (H p) = attains graph ii round settles p (cases_lt p n) below in
-    let few : length a.walk < round = a.few in
-    let long : H p ≡ length_of graph.latencies ii a.walk a.end = a.as_long in
-    let high : length_of graph.latencies ii a.walk a.end ≤ℤ pos number = r.longest a.walk a.end a.is_walk (omega arith) in
-    let on : (H last +ℤ delay_of other) ≤ℤ (H p +ℤ pos (ii * distance_of other))
-    = walk-below graph.edges ii H (keeps-from_settles graph ii round g settles) p last other w in
-    omega (arith, ints)
-
-pub heights-from_settles : (graph : GraphData) (ii round : ℕ) (numbers : List ℕ) → IsGraph graph → Settles graph ii round → AreReaches graph ii round numbers
-    → AreHeights graph ii numbers
-heights-from_settles graph ii round numbers g settles reaches = λ p below.
-    let r : IsReach graph ii round p (slice_index numbers p) = reaches p below in
-    record { walk = r.walk; end = r.end; is_walk = r.is_walk; as_long = r.as_long; longest = longest-settled graph ii round g settles p (slice_index numbers p) below r }
-
 -- what every round so far has changed
 abbrev pub HaveChanged : GraphData → ℕ → ℕ → Type 0
 HaveChanged graph ii next = (fewer : ℕ) → 1 ≤ fewer → fewer < next → IsUnsettled graph ii fewer
@@ -184,12 +161,12 @@ abbrev pub IsRound : GraphData → ℕ → List ℕ → List ℕ → Type 0
 IsRound graph ii numbers next = (p : ℕ) → p < length graph.latencies
     → IsRaised (filter (λ (e : EdgeData). e.from == p) graph.edges) ii numbers (slice_index numbers p) (slice_index next p)
 
-pub reaches-more : (graph : GraphData) (ii made : ℕ) (numbers next : List ℕ) → IsGraph graph → AreReaches graph ii made numbers
-    → IsRound graph ii numbers next → AreReaches graph ii (made + 1) next
+pub reaches-more : (graph : GraphData) (ii made : ℕ) (numbers next : List ℕ) → IsGraph graph → AreReaches graph ii made made numbers
+    → IsRound graph ii numbers next → AreReaches graph ii (made + 1) (made + 1) next
 reaches-more graph ii made numbers next g reaches round = λ p below.
-    reach-raised graph ii made p (slice_index next p) numbers g reaches below (round p below)
+    reach-raised graph ii made made p (slice_index next p) numbers g reaches below (round p below)
 
-pub changed-more : (graph : GraphData) (ii made : ℕ) (numbers next : List ℕ) → AreReaches graph ii made numbers → AreReaches graph ii (made + 1) next
+pub changed-more : (graph : GraphData) (ii made : ℕ) (numbers next : List ℕ) → AreReaches graph ii made made numbers → AreReaches graph ii (made + 1) (made + 1) next
     → (p : ℕ) → p < length graph.latencies → slice_index numbers p < slice_index next p → HaveChanged graph ii (made + 1) → HaveChanged graph ii (made + 2)
 changed-more graph ii made numbers next old new p below rise changed = λ fewer from to. elim (cases_lt fewer (made + 1)) [
   | inl before ↦ changed fewer from before
@@ -247,17 +224,6 @@ pub settled-at_feasible : (edges : List EdgeData) (ii : ℕ) (answer : Bool) →
 settled-at_feasible edges ii true f exceeds = refl
 settled-at_feasible edges ii false f exceeds = absurd (exceeds-not_fits edges ii (exceeds refl) f)
 
--- the least interval that fits
-pub bound-from_ends : (edges : List EdgeData) (low high : ℕ) → low + 1 ≡ high → (low ≡ 0) ⊎ Exceeds edges low → FitsCircuits edges high → IsRecurrenceBound edges high
-bound-from_ends edges low high next above fits = record {
-  from_one = omega arith;
-  fits = fits;
-  least = elim above [
-    | inl none ↦ inl (omega arith)
-    | inr x ↦ inr (let at : low ≡ high - 1 = omega arith in subst (Exceeds edges) at x)
-  ];
-}
-
 -- a height is 1 to 64 cycles for each operation
 pub height-range : (graph : GraphData) (ii p height : ℕ) → IsGraph graph → FitsCircuits graph.edges ii → p < length graph.latencies
     → IsHeight graph.edges graph.latencies ii p height → (1 ≤ height) × (height ≤ 64 * length graph.latencies)
@@ -296,32 +262,3 @@ items-are_heights graph ii numbers items g f heights long is =
           subst (λ h. (1 ≤ h) × (h ≤ 64 * n)) (get_or_default items p 0 d below)
           (height-range graph ii p (slice_index items p) g f within (each p within)),
     )
-
-pub not_true : (b : Bool) → not b ≡ true → b ≡ false
-not_true true is = cc
-not_true false is = refl
-
--- a walk of so much more delay than intervals
-pub record IsAlong (edges : List EdgeData) (ii p q : ℕ) (excess : ℤ) : Type 0 where
-  pub walk : List EdgeData
-  pub is_walk : IsWalk edges p walk q
-  pub sum : excess ≡ (delay_of walk -ℤ pos (ii * distance_of walk))
-
-pub IsAlong-none : (edges : List EdgeData) (ii p : ℕ) → IsAlong edges ii p p (pos 0)
-IsAlong-none edges ii p = let zero : ii * 0 ≡ 0 = omega arith in record { walk = []; is_walk = refl; sum = omega (arith, ints) }
-
-pub IsAlong-more : (edges : List EdgeData) (ii p q : ℕ) (excess more : ℤ) (e : EdgeData) → IsAlong edges ii p q excess → Contains edges e → e.from ≡ q
-    → more ≡ (excess +ℤ (e.delay -ℤ pos (ii * e.distance))) → IsAlong edges ii p e.to more
-IsAlong-more edges ii p q excess more e a there from is =
-    let sum : excess ≡ (delay_of a.walk -ℤ pos (ii * distance_of a.walk)) = a.sum in
-    let delay : delay_of (a.walk ++ e ∷ []) ≡ (delay_of a.walk +ℤ (e.delay +ℤ pos 0)) = delay_of-append a.walk (e ∷ []) in
-    let distance : distance_of (a.walk ++ e ∷ []) ≡ distance_of a.walk + (e.distance + 0) = distance_of-append a.walk (e ∷ []) in
-    let product : ii * distance_of (a.walk ++ e ∷ []) ≡ ii * distance_of a.walk + ii * (e.distance + 0)
-    = ap (λ d. ii * d) distance ∙ mul-add ii (distance_of a.walk) (e.distance + 0) in
-    let same : ii * (e.distance + 0) ≡ ii * e.distance = ap (λ d. ii * d) (let s : e.distance + 0 ≡ e.distance = omega arith in s) in
-    record { walk = a.walk ++ e ∷ []; is_walk = IsWalk-append edges p q e.to a.walk (e ∷ []) a.is_walk (there, from, refl); sum = omega (arith, ints) }
-
-pub exceeds-along : (edges : List EdgeData) (ii p : ℕ) (excess : ℤ) → IsAlong edges ii p p excess → pos 0 <ℤ excess → Exceeds edges ii
-exceeds-along edges ii p excess a more =
-    let sum : excess ≡ (delay_of a.walk -ℤ pos (ii * distance_of a.walk)) = a.sum in
-    record { start = p; walk = a.walk; closed = a.is_walk; exceeds = omega (arith, ints) }

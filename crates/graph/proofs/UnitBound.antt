@@ -10,7 +10,7 @@ use Rattle.machine.specs.declared.alternative.Row.{Row}
 use Rattle.machine.specs.declared.opcode.Opcode.{Opcode}
 use Rattle.machine.specs.Alternative.{AreAlternatives, rows_meet}
 use Rattle.machine.specs.Machines.{MachineData, OperationData, IsMachine, table_of}
-use Rattle.loops.specs.Loops.{LoopData}
+use Rattle.iterations.specs.Loops.{LoopData}
 use Rattle.graph.specs.Units.{use_of, greatest_of, greatest_use, AreBest, chosen_rows, by_freedom, IsUnitBound, operations_of, opcodes_of, alternatives_in, first_without_table}
 use Rattle.graph.specs.Schedules.{IsPlan, KeepsUnits, issued_rows}
 use Rattle.graph.specs.Uses.{Progress}

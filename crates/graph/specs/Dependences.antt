@@ -4,10 +4,10 @@ use Rattle.std.specs.List.{Contains}
 use Rattle.machine.specs.declared.opcode.Opcode.{Opcode}
 use Rattle.machine.specs.declared.opcode.Opcode.TheVariants.{Load, Store}
 use Rattle.machine.specs.Machines.{MachineData, OperationData, table_of}
-use Rattle.loops.specs.declared.statement.Statement.{Statement}
-use Rattle.loops.specs.declared.statement.Place.{Place}
-use Rattle.loops.specs.declared.statement.Operand.TheVariants.{Value}
-use Rattle.loops.specs.Loops.{LoopData}
+use Rattle.iterations.specs.declared.language.statement.Statement.{Statement}
+use Rattle.iterations.specs.declared.language.statement.Place.{Place}
+use Rattle.iterations.specs.declared.language.statement.Operand.TheVariants.{Value}
+use Rattle.iterations.specs.Loops.{LoopData}
 use Rattle.graph.specs.declared.edge.Edge.{Edge}
 
 -- an edge demands t(to) + ii * distance ≥ t(from) + delay of the issue times t, in cycles, at an interval ii

@@ -2,7 +2,7 @@
 use Rattle.std.specs.Prelude.{◌≡◌, ℕ, pos, ◌<◌, ◌≤◌, ◌≤ℤ◌, List, length}
 use Rattle.std.specs.List.{All, AllPairs, Contains}
 use Rattle.machine.specs.Machines.{MachineData}
-use Rattle.loops.specs.Loops.{LoopData}
+use Rattle.iterations.specs.Loops.{LoopData}
 use Rattle.graph.specs.Dependences.{EdgeData, Precedes, Dependence, latencies_of}
 
 -- the edges, and the latency of each operation in cycles

@@ -1,4 +1,4 @@
-pub use Rattle.loops.specs.Loops
+pub use Rattle.iterations.specs.Loops
 pub use Rattle.machine.specs.Machines
 pub mod Answers
 pub mod Dependences
@@ -8,6 +8,7 @@ pub mod Layout
 pub mod Promises
 pub mod Reaches
 pub mod Rounds
+pub mod SameArrays
 pub mod Schedules
 pub mod Subscripts
 pub mod Units

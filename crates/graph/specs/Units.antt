@@ -4,8 +4,8 @@ use Rattle.std.specs.List.{slice_index_or, flat_map}
 use Rattle.machine.specs.declared.alternative.Row.{Row}
 use Rattle.machine.specs.declared.opcode.Opcode.{Opcode}
 use Rattle.machine.specs.Machines.{MachineData, OperationData, table_of}
-use Rattle.loops.specs.declared.statement.Statement.{Statement}
-use Rattle.loops.specs.Loops.{LoopData}
+use Rattle.iterations.specs.declared.language.statement.Statement.{Statement}
+use Rattle.iterations.specs.Loops.{LoopData}
 
 -- the opcodes of a loop's statements
 abbrev pub opcodes_of : LoopData → List Opcode
@@ -14,6 +14,15 @@ opcodes_of loop = map (λ (s : Statement). s.opcode) loop.statements
 -- the opcode of the first statement whose opcode the machine has no table for
 abbrev pub first_without_table : MachineData → LoopData → Option Opcode
 first_without_table machine loop = find (λ opcode. is_none (table_of machine opcode)) (opcodes_of loop)
+
+abbrev pub lacking_or : List ℕ → Option Opcode → Option (List ℕ × Opcode) → Option (List ℕ × Opcode)
+lacking_or name None rest = rest
+lacking_or name (Some opcode) rest = Some (name, opcode)
+
+-- the name of the first of these loops that has a statement whose opcode the machine has no table for, with that opcode
+abbrev pub first_lacking : MachineData → List LoopData → Option (List ℕ × Opcode)
+first_lacking machine [] = None
+first_lacking machine (loop ∷ loops) = lacking_or loop.name (first_without_table machine loop) (first_lacking machine loops)
 
 -- the alternatives that a table gives
 abbrev pub alternatives_in : Option OperationData → List (List Row)

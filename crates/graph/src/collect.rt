@@ -1,13 +1,14 @@
 //! The dependences of a loop, found by the subscripts of its statements.
 
-ghost use Rattle.loops.specs.declared.statement.Statement.{Statement};
+ghost use Rattle.iterations.specs.declared.language.statement.Statement.{Statement};
 ghost use Rattle.std.specs.Prelude.{slice_get, pos, ◌+ℤ◌, ◌≡◌, ℕ, ℤ, ◌+◌, ◌<◌, ◌≤◌, List, ◌++◌, length, slice_index, Some, IfSome, IfOk, OnErr};
 ghost use Rattle.std.specs.List.{All, Contains};
 ghost use Rattle.graph.specs.Dependences.{EdgeData};
 ghost use Rattle.graph.specs.Subscripts.{IsDelay, IsMemoryEdge, ReadsBelow, AreLatencies, IsFound, Gains, HasUses, HasMeetings, HasAll};
+ghost use Rattle.graph.specs.SameArrays.{AreLinked};
 
 use crate::edge::Edge;
-use loops::{Operand, Statement};
+use iterations::{Operand, Statement};
 use machine::Opcode;
 use std::alloc::{AllocError, Global};
 
@@ -105,28 +106,59 @@ fn push_uses(
     Ok(())
 }
 
-/// Appends the dependences of an operation on all operations through memory.
+/// The statements that touch each array, in their order: the first one, and behind each the next. At the
+/// end of an array's stands the number of statements.
+#[derive(Drop)]
+struct SameArrays {
+    first: [u8; 256],
+    next: [u8; 128],
+}
+
+/// The statements that touch each array.
+fn same_arrays(statements: &[Statement]) -> SameArrays
+    requires few { length statements.now ≤ 128 }
+    ensures { AreLinked statements.now 0 result.first result.next }
+{
+    let end = statements.len() as u8;
+    let mut first = [end; 256];
+    let mut next = [end; 128];
+    for i in (0..statements.len()).rev() {
+        let statement = &statements[i];
+        if let Some(place) = statement.place {
+            next[i] = first[place.array as usize];
+            first[place.array as usize] = i as u8;
+        }
+    }
+    SameArrays { first, next }
+}
+
+/// Appends the dependences of an operation through memory, on the operations that touch the same array.
 fn push_meetings(
     statements: &[Statement],
     to: usize,
     latencies: &[u8],
+    same: &SameArrays,
     list: &mut Vec<Edge>,
 ) -> Result<(), AllocError>
     requires few { length statements.now ≤ 128 }
     requires to_in { to < length statements.now }
     requires latencies { AreLatencies latencies.now }
     requires same { length latencies.now ≡ length statements.now }
+    requires linked { AreLinked statements.now 0 same.now.first same.now.next }
     ensures gains { IfOk result (λ _. Gains statements.now latencies.now list.old.items list.new.items) }
     ensures complete { IfOk result (λ _. HasMeetings statements.now latencies.now to (length statements.now) list.new.items) }
 {
     let second = &statements[to];
-    if second.place.is_none() {
+    let Some(place) = second.place else {
         return Ok(());
-    }
-    for (from, first) in statements.iter().enumerate() {
-        if let Some(edge) = memory_edge(first, from as u8, second, to as u8, latencies) {
+    };
+    let mut from = same.first[place.array as usize];
+    while (from as usize) < statements.len() {
+        let first = &statements[from as usize];
+        if let Some(edge) = memory_edge(first, from, second, to as u8, latencies) {
             list.push(edge)?;
         }
+        from = same.next[from as usize];
     }
     Ok(())
 }
@@ -145,9 +177,10 @@ pub fn collect(
     ensures complete { IfOk result (λ v. (e : EdgeData) → IsFound statements.now latencies.now e → Contains v.items e) }
 {
     let mut list = Vec::new(alloc);
+    let same = same_arrays(statements);
     for to in 0..statements.len() {
         push_uses(statements, to, latencies, &mut list)?;
-        push_meetings(statements, to, latencies, &mut list)?;
+        push_meetings(statements, to, latencies, &same, &mut list)?;
     }
     Ok(list)
 }

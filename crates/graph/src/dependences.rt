@@ -13,7 +13,7 @@ use crate::collect::collect;
 use crate::edge::Edge;
 use crate::fault::GraphFault;
 use crate::graph::Edges;
-use loops::Loop;
+use iterations::Loop;
 use machine::Machine;
 use std::alloc::{AllocError, Global};
 

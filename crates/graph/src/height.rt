@@ -5,7 +5,7 @@ ghost use Rattle.std.specs.List.{All};
 ghost use Rattle.graph.specs.Walks.{FitsCircuits, IsHeight};
 
 use crate::graph::Edges;
-use crate::relaxation::settle;
+use crate::relaxation::{Relaxed, relax};
 use std::alloc::{AllocError, Global};
 
 /// The height of each operation at an interval, in cycles, 1 to 64 for each operation: HeightR of
@@ -26,6 +26,8 @@ pub fn heights(alloc: Global, edges: &Edges, ii: u64) -> Result<Vec<u64>, AllocE
     ensures exact { IfOk result (λ v. (p : ℕ) → p < length edges.now.latencies → IsHeight edges.now.edges edges.now.latencies ii p (slice_index v.items p)) }
     ensures range { IfOk result (λ v. All (λ h. (1 ≤ h) × (h ≤ 64 * length edges.now.latencies)) v.items) }
 {
-    let reached = settle(edges, ii);
-    Vec::from_slice(alloc, &reached.numbers[..edges.operations()])
+    match relax(edges, ii) {
+        Relaxed::Heights(numbers) => Vec::from_slice(alloc, &numbers[..edges.operations()]),
+        Relaxed::Above(_) => unreachable!(),
+    }
 }

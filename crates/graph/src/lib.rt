@@ -10,6 +10,7 @@ mod height;
 mod laws;
 mod recurrence;
 mod relaxation;
+mod round_count;
 mod starts;
 mod units;
 
@@ -24,5 +25,5 @@ pub use laws::{
     walks_are_short,
 };
 pub use recurrence::{feasible, mii, rec_mii};
-pub use relaxation::rounds;
-pub use units::res_mii;
+pub use round_count::rounds;
+pub use units::{missing_table, res_mii};

@@ -1,11 +1,12 @@
 //! The recurrence-constrained lower bound of the initiation interval.
 
-ghost use Rattle.std.specs.Prelude.{◌≡◌, ◌⊎◌, ◌+◌, ◌*◌, ◌<◌, ◌≤◌, length, max, true, IfOk, IsOk};
+ghost use Rattle.std.specs.Prelude.{◌≡◌, ◌⊎◌, ◌-◌, ◌*◌, ◌≤◌, length, max, true, IfOk, IsOk};
+ghost use Rattle.graph.specs.Graphs.{IsGraph};
 ghost use Rattle.graph.specs.Walks.{FitsCircuits, Exceeds, IsRecurrenceBound};
 ghost use Rattle.graph.specs.Rounds.{TellsFeasible};
 
 use crate::graph::Edges;
-use crate::relaxation::settle;
+use crate::relaxation::{Relaxed, longer_interval, relax};
 use std::alloc::{AllocError, Global};
 
 /// Whether an interval, in cycles, is at or above the recurrence-constrained lower bound: whether no
@@ -20,33 +21,39 @@ pub fn feasible(_alloc: Global, edges: &Edges, ii: u64) -> Result<bool, AllocErr
     ensures fits { IfOk result (λ answer. answer ≡ true → FitsCircuits edges.now.edges ii) }
     ensures no_memory { IsOk result }
 {
-    Ok(settle(edges, ii).settled)
+    match relax(edges, ii) {
+        Relaxed::Heights(_) => Ok(true),
+        Relaxed::Above(_) => Ok(false),
+    }
 }
 
-/// The bound, which is above one interval and at most another one.
-fn bound_between(edges: &Edges, mut low: u64, mut high: u64) -> u64
-    requires order { low < high }
-    requires limit { high ≤ 16384 }
-    requires above { (low ≡ 0) ⊎ Exceeds edges.now.edges low }
-    requires fits { FitsCircuits edges.now.edges high }
-    ensures { IsRecurrenceBound edges.now.edges result }
+/// The least interval, from 1, that each edge of an operation on itself fits.
+fn interval_of_self_edges(edges: &Edges) -> u64
+    ensures from_one { 1 ≤ result }
+    ensures asked_for { (result ≡ 1) ⊎ Exceeds edges.now.edges (result - 1) }
+    ensures well_formed { IsGraph edges.now }
 {
-    while low + 1 < high {
-        let middle = (low + high) / 2;
-        if settle(edges, middle).settled {
-            high = middle;
-        } else {
-            low = middle;
+    let mut interval = 1;
+    for edge in edges.all() {
+        if edge.from == edge.to
+            && let Some(longer) = longer_interval(
+                i64::from(edge.delay),
+                u64::from(edge.distance),
+                interval,
+            )
+        {
+            interval = longer;
         }
     }
-    high
+    interval
 }
 
 /// The recurrence-constrained lower bound of the initiation interval, in cycles: RecMII of B. R. Rau,
 /// "Iterative Modulo Scheduling", HPL-94-115. It is at least 1 and at most 64 for each operation.
 ///
 /// It is the least interval, from 1, at which no circuit of the edges takes more cycles than it has
-/// intervals. Intervals are doubled until one is no lower, and halved between the last two then.
+/// intervals. An interval that is too short is raised to the least one that a circuit fits which does not
+/// fit it, until all circuits fit: each interval on the way is one that some circuit asks for.
 ///
 /// # Errors
 /// None: no memory is taken.
@@ -55,13 +62,13 @@ pub fn rec_mii(_alloc: Global, edges: &Edges) -> Result<u64, AllocError>
     ensures range { IfOk result (λ bound. bound ≤ 64 * length edges.now.latencies) }
     ensures no_memory { IsOk result }
 {
-    let mut low = 0;
-    let mut high = 1;
-    while !settle(edges, high).settled {
-        low = high;
-        high *= 2;
+    let mut interval = interval_of_self_edges(edges);
+    loop {
+        match relax(edges, interval) {
+            Relaxed::Heights(_) => return Ok(interval),
+            Relaxed::Above(longer) => interval = longer,
+        }
     }
-    Ok(bound_between(edges, low, high))
 }
 
 /// The lower bound of the initiation interval, in cycles: the greater of the resource-constrained and

@@ -1,91 +1,72 @@
-//! Rounds of relaxation: numbers of operations that grow along edges until a round changes nothing.
+//! Relaxation at an interval: numbers of operations that are raised in place, along edges, until they
+//! are the heights or a circuit is seen that does not fit.
 
-ghost use Rattle.std.specs.Prelude.{◌≡◌, ℕ, pos, true, false, ◌*◌, ◌+ℤ◌, ◌-ℤ◌, ◌≤ℤ◌, ◌+◌, ◌<◌, ◌≤◌, ◌==◌, length, filter, slice_index, IfOk, IfSome, IsOk, Some, None};
+ghost use Rattle.std.specs.Prelude.{◌≡◌, ℕ, pos, ◌*◌, ◌+ℤ◌, ◌-ℤ◌, ◌≤ℤ◌, ◌<ℤ◌, ◌+◌, ◌-◌, ◌<◌, ◌≤◌, length, slice_index, IfSome, Some, None};
 ghost use Rattle.std.specs.List.{All, Contains};
 ghost use Rattle.graph.specs.declared.edge.Edge.{Edge};
 ghost use Rattle.graph.specs.Graphs.{IsGraph};
-ghost use Rattle.graph.specs.Walks.{FitsCircuits, Exceeds};
-ghost use Rattle.graph.specs.Rounds.{IsRounds, TellsFeasible};
-ghost use Rattle.graph.specs.Reaches.{AreReaches, IsRaised, AreHeights};
+ghost use Rattle.graph.specs.Reaches.{AreReaches, AreVias, IsRaised, IsRise, KeepsNumbers, IsAbove, Relaxes};
 
 use crate::edge::Edge;
 use crate::graph::Edges;
-use std::alloc::{AllocError, Global};
 
 /// The most operations that a loop has.
-const MOST: usize = 128;
+pub(crate) const MOST: usize = 128;
 
-/// How many rounds are made between two looks for a circuit that does not fit.
-const LOOK: usize = 8;
+/// What an operation's number comes to by the edges from it.
+#[derive(Clone, Copy)]
+pub(crate) struct Climb {
+    pub(crate) number: u64,
+    /// The edge that gives the number, where it rises.
+    pub(crate) via: Option<Edge>,
+}
 
-/// What rounds at an interval come to.
+/// What relaxation at an interval comes to.
 #[derive(Drop)]
-pub(crate) struct Settled {
-    /// Whether a round changed nothing.
-    pub(crate) settled: bool,
-    /// How many rounds were made.
-    pub(crate) rounds: u64,
-    /// The number of each operation after them.
-    pub(crate) numbers: [u64; MOST],
+pub(crate) enum Relaxed {
+    /// Every circuit fits: the height of each operation.
+    Heights([u64; MOST]),
+    /// Some circuit does not fit, nor at any interval below this one, which is longer.
+    Above(u64),
 }
 
 /// What an edge makes of its target's number.
+///
+/// Numbers stay below 2^21: each edge adds 64 cycles at most, and 128 sweeps raise each of 128
+/// operations.
 fn through(edge: Edge, number: u64, interval: u64) -> i64
     requires short { interval ≤ 16384 }
-    requires small { number ≤ 8256 }
+    requires small { number ≤ 2097152 }
     ensures exact { result ≡ ((pos number +ℤ edge.delay) -ℤ pos (interval * edge.distance)) }
     ensures near { result ≤ℤ pos (number + 127) }
-    ensures far { pos number ≤ℤ (result +ℤ pos 4200000) }
 {
     number as i64 + i64::from(edge.delay) - (interval * u64::from(edge.distance)) as i64
 }
 
 /// The greatest of an operation's own number and of what the edges from it make of their targets'
 /// numbers.
-fn raised(own: u64, outgoing: &[Edge], numbers: &[u64; MOST], interval: u64) -> u64
+pub(crate) fn raised(own: u64, outgoing: &[Edge], numbers: &[u64; MOST], interval: u64) -> Climb
     requires short { interval ≤ 16384 }
-    requires own_small { own ≤ 8256 }
-    requires small { All (λ (e : Edge). (e.to < 128) × (slice_index numbers.now e.to ≤ 8256)) outgoing.now }
-    ensures { IsRaised outgoing.now interval numbers.now own result }
+    requires own_small { own ≤ 2097152 }
+    requires small { All (λ (e : Edge). (e.to < 128) × (slice_index numbers.now e.to ≤ 2097152)) outgoing.now }
+    ensures raised { IsRaised outgoing.now interval numbers.now own result.number }
+    ensures via { IfSome result.via (λ e. Contains outgoing.now e) }
 {
-    let mut best = own;
+    let mut number = own;
+    let mut via = None;
     for edge in outgoing {
         let reached = through(*edge, numbers[edge.to as usize], interval);
-        if reached > best as i64 {
-            best = reached as u64;
+        if reached > number as i64 {
+            number = reached as u64;
+            via = Some(*edge);
         }
     }
-    best
+    Climb { number, via }
 }
 
-/// Raises the number of each operation into the next row. The last operation whose number rises, if any.
-fn round(
-    edges: &Edges,
-    interval: u64,
-    numbers: &[u64; MOST],
-    next: &mut [u64; MOST],
-) -> Option<usize>
-    requires short { interval ≤ 16384 }
-    requires small { (p : ℕ) → p < length edges.now.latencies → slice_index numbers.now p ≤ 8256 }
-    ensures raised { (p : ℕ) → p < length edges.now.latencies → IsRaised (filter (λ (e : Edge). e.from == p) edges.now.edges) interval numbers.now (slice_index numbers.now p) (slice_index next.new p) }
-    ensures rises { (p : ℕ) → result ≡ Some p → (p < length edges.now.latencies) × (slice_index numbers.now p < slice_index next.new p) }
-    ensures stays { result ≡ None → (p : ℕ) → p < length edges.now.latencies → slice_index next.new p ≡ slice_index numbers.now p }
-{
-    let mut rising = None;
-    for operation in 0..edges.operations() {
-        let own = numbers[operation];
-        let best = raised(own, edges.out_of(operation), numbers, interval);
-        next[operation] = best;
-        if own < best {
-            rising = Some(operation);
-        }
-    }
-    rising
-}
-
-/// The numbers before the first round: the latencies.
-fn first_numbers(edges: &Edges, interval: u64) -> [u64; MOST]
-    ensures { AreReaches edges.now interval 0 result }
+/// The numbers at first: the latencies.
+pub(crate) fn first_numbers(edges: &Edges, interval: u64) -> [u64; MOST]
+    ensures { AreReaches edges.now interval 0 0 result }
 {
     let mut numbers = [0; MOST];
     for operation in 0..edges.operations() {
@@ -94,130 +75,128 @@ fn first_numbers(edges: &Edges, interval: u64) -> [u64; MOST]
     numbers
 }
 
-/// The edge from an operation that gives it the greatest number, if there are edges from it.
-fn steepest(outgoing: &[Edge], numbers: &[u64; MOST], interval: u64) -> Option<Edge>
+/// Raises the number of each operation, from the last one to the first, after so many sweeps before, and
+/// keeps the edge by which it rose. The last operation whose number rises, if any.
+fn sweep(
+    edges: &Edges,
+    interval: u64,
+    made: usize,
+    numbers: &mut [u64; MOST],
+    via: &mut [Option<Edge>; MOST],
+) -> Option<usize>
     requires short { interval ≤ 16384 }
-    requires small { All (λ (e : Edge). (e.to < 128) × (slice_index numbers.now e.to ≤ 8256)) outgoing.now }
-    ensures { IfSome result (λ e. Contains outgoing.now e) }
+    requires few { made < length edges.now.latencies }
+    requires reaches { AreReaches edges.now interval (128 * made) made numbers.old }
+    requires via { AreVias edges.now via.old }
+    ensures reaches { AreReaches edges.now interval (128 * (made + 1)) (made + 1) numbers.new }
+    ensures via { AreVias edges.now via.new }
+    ensures rises { (p : ℕ) → result ≡ Some p → IsRise edges.now interval made p }
+    ensures stays { result ≡ None → KeepsNumbers edges.now interval numbers.new }
 {
-    let mut best = None;
-    let mut most = i64::MIN;
-    for edge in outgoing {
-        let reached = through(*edge, numbers[edge.to as usize], interval);
-        if reached > most {
-            most = reached;
-            best = Some(*edge);
+    let mut rising = None;
+    for operation in (0..edges.operations()).rev() {
+        let own = numbers[operation];
+        let raised = raised(own, edges.out_of(operation), numbers, interval);
+        if own < raised.number {
+            numbers[operation] = raised.number;
+            via[operation] = raised.via;
+            rising = Some(operation);
         }
     }
-    best
+    rising
 }
 
-/// The operation that so many steepest edges lead to, as many as there are operations, if they do.
-fn far_along(edges: &Edges, interval: u64, numbers: &[u64; MOST], start: usize) -> Option<usize>
-    requires short { interval ≤ 16384 }
+/// The operation that so many steps along kept edges lead to, as many as there are operations, if they do.
+fn far_along(edges: &Edges, via: &[Option<Edge>; MOST], start: usize) -> Option<usize>
     requires there { start < length edges.now.latencies }
-    requires small { (p : ℕ) → p < length edges.now.latencies → slice_index numbers.now p ≤ 8256 }
+    requires via { AreVias edges.now via.now }
     ensures { IfSome result (λ p. p < length edges.now.latencies) }
 {
     let mut at = start;
     for _step in 0..edges.operations() {
-        let edge = steepest(edges.out_of(at), numbers, interval)?;
+        let Some(edge) = via[at] else {
+            return None;
+        };
         at = edge.to as usize;
     }
     Some(at)
 }
 
-/// Whether the steepest edges lead from an operation back to it, over more cycles than they have
-/// intervals.
-fn comes_back_late(edges: &Edges, interval: u64, numbers: &[u64; MOST], start: usize) -> bool
+/// The least interval that a circuit of so many cycles and iterations fits, where it is longer than this one.
+///
+/// A circuit is of at most 128 edges, each over at most 255 iterations: the bound on its distance only
+/// keeps the product within 64 bits.
+pub(crate) fn longer_interval(delay: i64, distance: u64, interval: u64) -> Option<u64>
+    requires short { interval ≤ 16384 }
+    requires near { distance ≤ 32768 }
+    ensures { IfSome result (λ next. (interval < next) × (pos ((next - 1) * distance) <ℤ delay)) }
+{
+    if distance == 0 || delay <= (interval * distance) as i64 {
+        return None;
+    }
+    Some((delay as u64 - 1) / distance + 1)
+}
+
+/// The least interval that the circuit of kept edges through an operation fits, where there is one that
+/// does not fit this interval.
+fn around(edges: &Edges, interval: u64, via: &[Option<Edge>; MOST], start: usize) -> Option<u64>
     requires short { interval ≤ 16384 }
     requires there { start < length edges.now.latencies }
-    requires small { (p : ℕ) → p < length edges.now.latencies → slice_index numbers.now p ≤ 8256 }
-    ensures { result ≡ true → Exceeds edges.now.edges interval }
+    requires via { AreVias edges.now via.now }
+    ensures { IfSome result (IsAbove edges.now.edges interval) }
 {
     let mut at = start;
-    let mut excess = 0;
+    let mut delay = 0;
+    let mut distance = 0;
     for _step in 0..edges.operations() {
-        let Some(edge) = steepest(edges.out_of(at), numbers, interval) else {
-            return false;
+        let Some(edge) = via[at] else {
+            return None;
         };
-        excess += through(edge, 0, interval);
+        delay += i64::from(edge.delay);
+        distance += u64::from(edge.distance);
         at = edge.to as usize;
         if at == start {
-            return excess > 0;
+            return longer_interval(delay, distance, interval);
         }
     }
-    false
+    None
 }
 
-/// Whether the steepest edges from an operation go round in a circuit that does not fit.
-fn goes_round(edges: &Edges, interval: u64, numbers: &[u64; MOST], start: usize) -> bool
+/// The least interval that the circuit fits which kept edges lead to from an operation, where it does not
+/// fit this interval.
+fn circuit(edges: &Edges, interval: u64, via: &[Option<Edge>; MOST], start: usize) -> Option<u64>
     requires short { interval ≤ 16384 }
     requires there { start < length edges.now.latencies }
-    requires small { (p : ℕ) → p < length edges.now.latencies → slice_index numbers.now p ≤ 8256 }
-    ensures { result ≡ true → Exceeds edges.now.edges interval }
+    requires via { AreVias edges.now via.now }
+    ensures { IfSome result (IsAbove edges.now.edges interval) }
 {
-    match far_along(edges, interval, numbers, start) {
-        Some(operation) => comes_back_late(edges, interval, numbers, operation),
-        None => false,
+    match far_along(edges, via, start) {
+        Some(operation) => around(edges, interval, via, operation),
+        None => None,
     }
 }
 
-/// Rounds at an interval, until one changes nothing, and at most as many as there are operations.
+/// The heights at an interval, or an interval that is nearer to the recurrence-constrained lower bound.
 ///
-/// Where they would not settle, a circuit that does not fit is mostly seen long before the last round:
-/// the looks for one only save time.
-pub(crate) fn settle(edges: &Edges, interval: u64) -> Settled
+/// Each sweep raises the numbers of all operations along their edges. They are the heights once a sweep
+/// changes nothing, and they never settle where a circuit does not fit. The edges by which numbers last
+/// rose lead to such a circuit, mostly after a sweep or two, and none of the intervals below its cycles
+/// for each of its iterations is the bound. Without it the sweeps end when there were as many as there
+/// are operations, and only this interval is known to be too short.
+pub(crate) fn relax(edges: &Edges, interval: u64) -> Relaxed
     requires short { interval ≤ 16384 }
-    ensures exact { IsRounds edges.now interval result.settled result.rounds }
+    ensures exact { Relaxes edges.now interval result }
     ensures well_formed { IsGraph edges.now }
-    ensures heights { result.settled ≡ true → AreHeights edges.now interval result.numbers }
-    ensures fits { result.settled ≡ true → FitsCircuits edges.now.edges interval }
-    ensures exceeds { result.settled ≡ false → Exceeds edges.now.edges interval }
 {
     let mut numbers = first_numbers(edges, interval);
-    let mut next = [0; MOST];
+    let mut via = [None; MOST];
     for made in 0..edges.operations() {
-        let rising = round(edges, interval, &numbers, &mut next);
-        numbers = next;
-        let Some(operation) = rising else {
-            return Settled {
-                settled: true,
-                rounds: made as u64 + 1,
-                numbers,
-            };
+        let Some(operation) = sweep(edges, interval, made, &mut numbers, &mut via) else {
+            return Relaxed::Heights(numbers);
         };
-        if made % LOOK == LOOK - 1 && goes_round(edges, interval, &numbers, operation) {
-            break;
+        if let Some(next) = circuit(edges, interval, &via, operation) {
+            return Relaxed::Above(next);
         }
     }
-    Settled {
-        settled: false,
-        rounds: edges.operations() as u64,
-        numbers,
-    }
-}
-
-/// Rounds of relaxation at an interval, in cycles: whether they settle, and how many are made, from 1 to
-/// the number of operations. They settle where the interval is at or above the recurrence-constrained
-/// lower bound.
-///
-/// Each operation has a number, at first its latency. A round raises it to the greatest, over the edges
-/// from the operation, of the target's number in the round before with the edge's delay, less the
-/// interval for each iteration of the edge's distance. Rounds are made until one changes nothing, which
-/// is counted too, and no more than there are operations: as many are told where they do not settle,
-/// also where a circuit that does not fit was seen earlier.
-///
-/// # Errors
-/// None: no memory is taken.
-pub fn rounds(_alloc: Global, edges: &Edges, ii: u64) -> Result<(bool, u64), AllocError>
-    requires from_one { 1 ≤ ii }
-    requires limit { ii ≤ 16384 }
-    ensures exact { IfOk result (λ r. IsRounds edges.now ii r.0 r.1) }
-    ensures feasible { IfOk result (λ r. TellsFeasible edges.now.edges ii r.0) }
-    ensures fits { IfOk result (λ r. r.0 ≡ true → FitsCircuits edges.now.edges ii) }
-    ensures no_memory { IsOk result }
-{
-    let reached = settle(edges, ii);
-    Ok((reached.settled, reached.rounds))
+    Relaxed::Above(interval + 1)
 }

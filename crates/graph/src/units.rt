@@ -5,16 +5,19 @@ ghost use Rattle.std.specs.List.{All};
 ghost use Rattle.machine.specs.declared.alternative.Row.{Row};
 ghost use Rattle.machine.specs.Alternative.{AreAlternatives};
 ghost use Rattle.machine.specs.Machines.{IsMachine};
-ghost use Rattle.loops.specs.Loops.{IsLoop};
+ghost use Rattle.iterations.specs.Loops.{IsLoop};
 ghost use Rattle.graph.specs.Answers.{Answers};
 ghost use Rattle.graph.specs.Units.{first_without_table, operations_of, IsUnitBound};
 ghost use Rattle.graph.specs.Uses.{AtMost, Tallies, TakesBest, Progress, IsBelowLawful};
 
 use crate::fault::GraphFault;
-use loops::Loop;
+use iterations::Loop;
 use machine::{Alternative, Machine, Opcode, Row};
 
 /// How many rows use each unit, and the use of the most used unit.
+///
+/// Each of 8 passes takes at most 16 rows for each of 128 operations, so no counter is above 16,384. The
+/// bounds that the functions below ask for only keep its sums within 16 bits.
 #[derive(Clone, Copy)]
 struct Uses {
     counts: [u16; 64],
@@ -83,8 +86,8 @@ impl Uses {
     }
 }
 
-/// The opcode of the first statement whose opcode the machine has no table for.
-fn missing_table(machine: &Machine, innermost: &Loop) -> Option<Opcode>
+/// The opcode of the first statement whose opcode the machine has no table for, if there is one.
+pub fn missing_table(machine: &Machine, innermost: &Loop) -> Option<Opcode>
     ensures { result ≡ first_without_table machine.now innermost.now }
 {
     innermost

@@ -1,4 +1,4 @@
-pub use Rattle.loops.specs.Loops
+pub use Rattle.iterations.specs.Loops
 pub use Rattle.machine.specs.Machines
 pub mod Check
 pub mod Kernels

@@ -1,11 +1,11 @@
 -- A kernel as text.
-use Rattle.std.specs.Prelude.{ℕ, ℤ, pos, negsuc, zero, suc, ◌+◌, ◌==◌, codes, decimal, if◌then◌else◌, List, [], ◌∷◌, ◌++◌, map, filter, Option, Some, None}
+use Rattle.std.specs.Prelude.{ℕ, ℤ, pos, negsuc, zero, suc, ◌+◌, ◌*◌, ◌==◌, codes, decimal, if◌then◌else◌, List, [], ◌∷◌, ◌++◌, map, filter, length, Option, Some, None}
 use Rattle.std.specs.List.{flat_map, slice_index_or}
 use Rattle.std.specs.Fmt.{signed_decimal}
 use Rattle.machine.specs.declared.opcode.Opcode.{Opcode}
 use Rattle.machine.specs.declared.opcode.Opcode.TheVariants.{Store}
 use Rattle.machine.specs.Opcodes.{word_of}
-use Rattle.loops.specs.declared.lists.Param.{Param}
+use Rattle.iterations.specs.declared.language.lists.Param.{Param}
 use Rattle.kernel.specs.declared.operation.Operation.{Operation}
 use Rattle.kernel.specs.declared.operation.Address.{Address}
 use Rattle.kernel.specs.declared.operation.Source.{Source}
@@ -81,3 +81,7 @@ out_text o = ((codes "out " ++ o.name) ++ spaced (register_text o.register)) ++ 
 -- the preloads, the rows and the outs, a line each
 unfoldable pub text_of : Parts → List ℕ
 text_of parts = (flat_map preload_text parts.preloads ++ rows_text parts 0 parts.ii) ++ flat_map out_text parts.outs
+
+-- bytes enough for the text: a row without operations has at most 7, an operation 86, a preload 30, an out 26
+abbrev pub room_of : Parts → ℕ
+room_of parts = parts.ii * 8 + length parts.operations * 96 + length parts.preloads * 32 + length parts.outs * 32

@@ -6,7 +6,7 @@ ghost use Rattle.kernel.specs.Steps.{AreThere, arrays_landed, registers_landed, 
 
 use crate::file::RegisterFile;
 use crate::flight::{Pending, Place, SLOTS, Slot};
-use loops::Memory;
+use iterations::Memory;
 
 /// Lands the writes of a cycle, which leaves their slot empty.
 pub(crate) fn land(registers: &mut RegisterFile, memory: &mut Memory, ring: &mut [Slot], cycle: u64)

@@ -16,8 +16,6 @@ mod rules;
 mod run;
 mod simulation;
 mod step;
-#[cfg(test)]
-mod tests;
 mod text;
 
 pub use check::{BadKernel, Rule};
@@ -26,4 +24,4 @@ pub use lists::{ArrayNames, Operations, Outs, Params, Preloads, Sources};
 pub use operation::{Address, Operation, Source};
 pub use parts::{Kernel, Out, Parts, Preload};
 pub use simulation::simulate;
-pub use text::kernel_text;
+pub use text::{kernel_text, text_room, write_kernel};

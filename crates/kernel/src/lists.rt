@@ -4,7 +4,7 @@ ghost use Rattle.std.specs.Prelude.{◌≡◌};
 
 use crate::operation::{Operation, Source};
 use crate::parts::{Out, Preload};
-use loops::Param;
+use iterations::Param;
 use machine::Name;
 use smallvec::SmallVec;
 use std::fmt;
@@ -106,7 +106,7 @@ pub struct Params {
 
 impl Model for Params {
     ghost use Rattle.std.specs.Prelude.{List};
-    ghost use Rattle.loops.specs.declared.lists.Param.{Param};
+    ghost use Rattle.iterations.specs.declared.language.lists.Param.{Param};
 
     ghost Value = { List Param };
 

@@ -2,7 +2,7 @@
 
 ghost use Rattle.std.specs.Prelude.{◌≡◌, ◌<◌, ◌≤◌, ◌↔◌, ℕ, IsTrue, MatchOption, length};
 ghost use Rattle.std.specs.List.{All};
-ghost use Rattle.loops.specs.Forms.{operands_of};
+ghost use Rattle.iterations.specs.Arithmetic.{operands_of};
 ghost use Rattle.kernel.specs.declared.operation.Operation.{Operation};
 ghost use Rattle.kernel.specs.declared.parts.Out.{Out};
 ghost use Rattle.kernel.specs.Kernels.{HasShape};

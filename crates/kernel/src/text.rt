@@ -6,8 +6,8 @@ ghost use Rattle.std.specs.Fmt.{decimal, signed_decimal};
 ghost use Rattle.kernel.specs.declared.operation.Address.{Address};
 ghost use Rattle.kernel.specs.declared.operation.Operation.{Operation};
 ghost use Rattle.kernel.specs.declared.operation.Source.{Source};
-ghost use Rattle.kernel.specs.Check.{HasSize, ParameterIsThere, IsShaped, IsPlaced, IsWellFormed};
-ghost use Rattle.kernel.specs.Text.{with_sign, register_text, address_text, source_text, spaced, spaced_option, sources_text, alternative_text, operation_text, joined, row_text, rows_text, preload_text, out_text, text_of};
+ghost use Rattle.kernel.specs.Check.{ParameterIsThere, IsShaped, IsPlaced, IsWellFormed};
+ghost use Rattle.kernel.specs.Text.{with_sign, register_text, address_text, source_text, spaced, spaced_option, sources_text, alternative_text, operation_text, joined, row_text, rows_text, preload_text, out_text, text_of, room_of};
 
 use crate::operation::{Address, Operation, Source};
 use crate::parts::{Kernel, Out, Parts, Preload};
@@ -17,22 +17,32 @@ use std::alloc::Global;
 
 /// The text of a kernel: a line for each preload, each row of a turn and each value that is live at
 /// the end. A row without operations has its line too.
-#[tactic(auto, unfolding(crate::specs::Text::text_of))]
 pub fn kernel_text(alloc: Global, kernel: &Kernel) -> Result<String, OutOfMemory>
     ensures text { IfOk result (λ text. string_bytes text ≡ text_of kernel.now) }
 {
-    let parts = kernel.parts();
-    let mut text = String::with_capacity(alloc, room(parts))?;
-    write_preloads(&mut text, parts.preloads.as_slice())?;
-    write_rows(&mut text, parts)?;
-    write_outs(&mut text, parts.outs.as_slice())?;
+    let mut text = String::with_capacity(alloc, text_room(kernel))?;
+    write_kernel(&mut text, kernel)?;
     Ok(text)
 }
 
-/// Bytes that are enough for the text.
-fn room(parts: &Parts) -> usize
-    requires { HasSize parts.now }
+/// Appends the text of a kernel, as [`kernel_text`] makes it. Where memory runs out the text is left with
+/// a part of it.
+#[tactic(auto, unfolding(crate::specs::Text::text_of))]
+pub fn write_kernel(text: &mut String, kernel: &Kernel) -> Result<(), OutOfMemory>
+    ensures text { IfOk result (λ _. string_bytes text.new ≡ string_bytes text.old ++ text_of kernel.now) }
 {
+    let parts = kernel.parts();
+    write_preloads(text, parts.preloads.as_slice())?;
+    write_rows(text, parts)?;
+    write_outs(text, parts.outs.as_slice())
+}
+
+/// How many bytes to reserve for the text of a kernel, so that it need not grow.
+pub fn text_room(kernel: &Kernel) -> usize
+    ensures value { result ≡ room_of kernel.now }
+    ensures few { result ≤ 155648 }
+{
+    let parts = kernel.parts();
     parts.ii as usize * 8
         + parts.operations.as_slice().len() * 96
         + parts.preloads.as_slice().len() * 32

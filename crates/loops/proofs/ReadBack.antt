@@ -2,16 +2,16 @@
 use Rattle.std.proofs.Common.{◌≡◌, false, ltb, List, [], ◌∷◌, length, map, Some, ap, ◌∙◌}
 use Rattle.std.specs.Prelude.{Result, Ok, Err}
 use Rattle.std.proofs.lemmas.Bool.{le-ltb, cond-false}
-use Rattle.loops.specs.declared.fault.LoopFault.{LoopFault}
-use Rattle.loops.specs.declared.fault.LoopFaultKind.TheVariants.{Limit}
-use Rattle.loops.specs.Loops.{LoopData, IsLoop}
-use Rattle.loops.specs.Meaning.{forms_of, outside_faults, blocks_of, loop_of, first_fault, loops_in}
+use Rattle.loop_reader.specs.declared.fault.LoopFault.{LoopFault}
+use Rattle.loop_reader.specs.declared.fault.LoopFaultKind.TheVariants.{Limit}
+use Rattle.iterations.specs.Loops.{LoopData, IsLoop}
+use Rattle.loop_reader.specs.Meaning.{forms_of, outside_faults, blocks_of, loop_of, first_fault, loops_in}
 use Rattle.loops.specs.Text.{text_of}
-use Rattle.loops.proofs.Written.{written_forms}
-use Rattle.loops.proofs.Spelling.{forms-written}
+use Rattle.loops.proofs.returned.Written.{written_forms}
+use Rattle.loops.proofs.spelling.Spelling.{forms-written}
 use Rattle.loops.proofs.Sizes.{text-fits}
-use Rattle.loops.proofs.Faultless.{faultless-written}
-use Rattle.loops.proofs.Returned.{loop-written}
+use Rattle.loops.proofs.faultless.Faultless.{faultless-written}
+use Rattle.loops.proofs.returned.Returned.{loop-written}
 
 pub read_back : (l : LoopData) → IsLoop l → loops_in (text_of l) ≡ Ok (l ∷ [])
 unfolding loops_in

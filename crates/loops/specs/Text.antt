@@ -5,14 +5,14 @@ use Rattle.std.specs.Option.{option_and_then, option_map}
 use Rattle.std.specs.Fmt.{decimal, signed_decimal}
 use Rattle.machine.specs.declared.opcode.Opcode.{Opcode}
 use Rattle.machine.specs.Opcodes.{word_of}
-use Rattle.loops.specs.declared.lists.Array.{Array}
-use Rattle.loops.specs.declared.lists.Param.{Param}
-use Rattle.loops.specs.declared.lists.Initial.{Initial}
-use Rattle.loops.specs.declared.statement.Operand.{Operand}
-use Rattle.loops.specs.declared.statement.Operand.TheVariants.{Constant, Parameter, Value}
-use Rattle.loops.specs.declared.statement.Place.{Place}
-use Rattle.loops.specs.declared.statement.Statement.{Statement}
-use Rattle.loops.specs.Loops.{LoopData}
+use Rattle.iterations.specs.declared.language.lists.Array.{Array}
+use Rattle.iterations.specs.declared.language.lists.Param.{Param}
+use Rattle.iterations.specs.declared.language.lists.Initial.{Initial}
+use Rattle.iterations.specs.declared.language.statement.Operand.{Operand}
+use Rattle.iterations.specs.declared.language.statement.Operand.TheVariants.{Constant, Parameter, Value}
+use Rattle.iterations.specs.declared.language.statement.Place.{Place}
+use Rattle.iterations.specs.declared.language.statement.Statement.{Statement}
+use Rattle.iterations.specs.Loops.{LoopData}
 
 -- names by their numbers
 

@@ -4,14 +4,12 @@ ghost use Rattle.std.specs.Prelude.{◌≡◌, ◌+◌, ◌<◌, ◌≤◌, ℕ,
 ghost use Rattle.std.specs.List.{All, flat_map};
 ghost use Rattle.std.specs.Fmt.{decimal, signed_decimal};
 ghost use Rattle.machine.specs.Opcodes.{word_of};
-ghost use Rattle.loops.specs.declared.statement.Operand.{Operand};
-ghost use Rattle.loops.specs.Loops.{IsLoop, IsPlace, IsStatement, MayRead};
-ghost use Rattle.loops.specs.Meaning.{loops_in};
+ghost use Rattle.iterations.specs.declared.language.statement.Operand.{Operand};
+ghost use Rattle.iterations.specs.Loops.{IsLoop, IsPlace, IsStatement, MayRead};
+ghost use Rattle.loop_reader.specs.Meaning.{loops_in};
 ghost use Rattle.loops.specs.Text.{array_name, param_name, value_name, at_distance, operand_word, offset_text, place_word, array_words, param_words, init_words, place_words, stored_words, statement_words, out_words, following, line_text, text_of};
 
-use crate::innermost::Loop;
-use crate::lists::{Array, Initial, Param};
-use crate::statement::{Operand, Place, Statement};
+use iterations::{Array, Initial, Loop, Operand, Param, Place, Statement};
 use itoa::Buffer;
 use machine::OutOfMemory;
 use std::alloc::Global;

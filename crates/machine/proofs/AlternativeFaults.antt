@@ -1,5 +1,5 @@
 -- The checks of alternatives and of one alternative.
-use Rattle.std.proofs.Common.{◌≡◌, ℕ, Bool, true, false, ◌&&◌, List, [], ◌∷◌, ◌++◌, length, map, Option, Some, None, codes, refl, sym, ap, ◌∙◌}
+use Rattle.std.proofs.Common.{◌≡◌, ℕ, true, false, List, [], length, map, Some, None, codes, refl}
 use Rattle.std.specs.List.{flat_map}
 use Rattle.toml.specs.Data.{Data, string, integer, float, boolean, datetime, array, table, Items, as_array}
 use Rattle.machine.specs.declared.fault.MachineFault.TheVariants.{MissingKey, WrongType, Limit}

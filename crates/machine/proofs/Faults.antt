@@ -1,17 +1,16 @@
 -- The first fault of checks that stand one after another, and the checks of a value by its kind.
-use Rattle.std.proofs.Common.{◌≡◌, ◌≢◌, IsErrAnd, ℕ, ◌<◌, ◌≤◌, ◌^◌, Bool, true, false, not, nat_lt, ◌&&◌, ltb, nat_abs, inl, inr, List, [], ◌∷◌, ◌++◌, length, map, Option, Some, None, option_map, Result, Ok, Err, ℤ, pos, negsuc, codes, position, unwrap_or, refl, sym, ap, ◌∙◌, arith, rules, le-ltb, lt-ltb}
-use Rattle.std.proofs.lemmas.Bool.{false≢true, true≢false, not_from_false, and_right, ltb-true, ltb-false, cases_lt}
+use Rattle.std.proofs.Common.{◌≡◌, ◌≢◌, IsErrAnd, ℕ, ◌<◌, ◌^◌, Bool, true, false, not, ltb, nat_abs, inl, inr, List, [], ◌∷◌, ◌++◌, length, map, Some, None, Result, Ok, Err, ℤ, pos, negsuc, codes, refl, sym, ap, arith, lt-ltb}
+use Rattle.std.proofs.lemmas.Bool.{and_right, cases_lt}
 use Rattle.std.proofs.lemmas.Option.{same_Some}
 use Rattle.std.specs.Int.{FitsUnsignedBits}
 use Rattle.std.specs.Result.{OkIff, result_unwrap_or}
-use Rattle.std.specs.List.{list_any, flat_map}
+use Rattle.std.specs.List.{list_any}
 use Rattle.toml.specs.Data.{Data, string, integer, float, boolean, datetime, array, table, Items, Members, as_str, as_integer, as_array, as_table}
-use Rattle.machine.specs.declared.alternative.Row.{Row}
 use Rattle.machine.specs.declared.fault.MachineFault.{MachineFault}
-use Rattle.machine.specs.declared.fault.MachineFault.TheVariants.{MissingKey, WrongType, UnknownKey, UnknownUnit, UnknownOpcode, RepeatedUnit, RepeatedRow, Limit, Memory}
+use Rattle.machine.specs.declared.fault.MachineFault.TheVariants.{MissingKey, WrongType, RepeatedUnit, Limit, Memory}
 use Rattle.machine.specs.Opcodes.{same_word}
 use Rattle.machine.specs.Reads.{first_fault, Reads}
-use Rattle.machine.specs.MachineText.{Faults, unless, within, is_unit_name, unit_faults, text_of, data_of, faults_in_turn, faults_of_units, names_of, faults_of_number, number_in, words_in, row_of, row_in, same_row, row_faults, alternative_faults, rows_of, faults_of_alternatives, alternatives_of, path_of, table_faults, operation_of, faults_of_tables}
+use Rattle.machine.specs.MachineText.{Faults, unless, within, is_unit_name, unit_faults, text_of, data_of, faults_in_turn, faults_of_units, names_of, faults_of_number, number_in}
 
 -- checks one after another
 

@@ -1,15 +1,14 @@
 -- A loop's turn over the keys of a table.
-use Rattle.std.proofs.Common.{◌≡◌, ℕ, Bool, true, false, List, [], ◌∷◌, ◌++◌, map, Option, Some, None, Bor, String, Global, string_bytes, refl, sym, ap, ◌∙◌}
-use Rattle.std.specs.List.{list_any, flat_map}
-use Rattle.toml.specs.Data.{Data, Members}
-use Rattle.toml.specs.View.{view, members_view}
+use Rattle.std.proofs.Common.{◌≡◌, ℕ, Bool, true, false, List, [], ◌∷◌, ◌++◌, map, Some, Bor, String, Global, string_bytes, sym, ◌∙◌}
+use Rattle.std.specs.List.{list_any}
+use Rattle.toml.specs.Data.{Members}
+use Rattle.toml.specs.View.{members_view}
 use Rattle.toml.specs.declared.value.Value.{Value}
 use Rattle.toml.proofs.Views.{Entry}
-use Rattle.machine.specs.declared.fault.MachineFault.{MachineFault}
 use Rattle.machine.specs.declared.fault.MachineFault.TheVariants.{UnknownKey}
 use Rattle.machine.specs.Opcodes.{same_word}
 use Rattle.machine.specs.Reads.{first_fault}
-use Rattle.machine.specs.MachineText.{Faults, unless, unknown_keys}
+use Rattle.machine.specs.MachineText.{unless, unknown_keys}
 use Rattle.machine.proofs.Texts.{list_any-map}
 
 module _ (path : List ℕ) (known : List (Bor (List ℕ))) (all : Members) (es : List Entry) where

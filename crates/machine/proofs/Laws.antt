@@ -1,5 +1,5 @@
 -- A machine text without a fault describes a machine.
-use Rattle.std.proofs.Common.{◌≡◌, ◌≢◌, ℕ, ◌+◌, ◌<◌, ◌≤◌, Bool, true, false, not, ◌&&◌, ltb, cond, List, [], ◌∷◌, ◌++◌, length, get_or, map, Option, Some, None, option_map, position, pos, negsuc, refl, sym, ap, ◌∙◌, inl, inr, arith, rules, eq-eqb, le-ltb, lt-ltb, subst, Ordering, Less, Equal, Greater, nat_cmp}
+use Rattle.std.proofs.Common.{◌≡◌, ◌≢◌, ℕ, ◌<◌, ◌≤◌, Bool, true, false, not, ltb, List, [], ◌∷◌, ◌++◌, length, get_or, map, Option, Some, None, option_map, pos, negsuc, refl, sym, ◌∙◌, inl, inr, arith, eq-eqb, lt-ltb, subst, Ordering, Less, Equal, Greater, nat_cmp}
 use Rattle.std.specs.List.{All, AllPairs, list_any, flat_map, position_or_len}
 use Rattle.std.specs.Ordering.{match_ordering}
 use Rattle.std.specs.Cmp.Lexicographic.{slice_cmp}
@@ -9,14 +9,14 @@ use Rattle.std.proofs.lemmas.List.Elements.{All-nil, All-cons, All-push, All-wea
 use Rattle.std.proofs.lemmas.List.Folds.{list_any_at}
 use Rattle.std.proofs.lemmas.List.Quantifiers.{all_pairs_push}
 use Rattle.std.proofs.lemmas.Slice.Eq.{bytes_eq-Decides}
-use Rattle.toml.specs.Data.{Data, string, integer, float, boolean, datetime, array, table, Items, Members, no_members, member, get_member}
+use Rattle.toml.specs.Data.{Data, string, integer, float, boolean, datetime, array, table, Members, no_members, member, get_member}
 use Rattle.machine.specs.declared.alternative.Row.{Row}
 use Rattle.machine.specs.declared.opcode.Opcode.{Opcode}
 use Rattle.machine.specs.declared.opcode.Opcode.TheVariants.{Load, Store, Add, Sub, Mul, And, Or, Xor, Min, Max, Lt, Sel, Mov}
 use Rattle.machine.specs.Alternative.{IsAlternative, AreAlternatives}
-use Rattle.machine.specs.Machines.{OperationData, MachineData, IsOperation, UsesUnits, IsUnitName, IsMachine, table_of}
+use Rattle.machine.specs.Machines.{OperationData, IsOperation, UsesUnits, IsUnitName, IsMachine, table_of}
 use Rattle.machine.specs.Opcodes.{same_word, word_of}
-use Rattle.machine.specs.MachineText.{Faults, within, is_unit_name, text_of, unit_faults, faults_in_turn, faults_of_units, names_of, data_of, faults_of_number, number_in, words_in, row_of, row_in, same_row, faults_of_words, row_faults, alternative_faults, rows_of, faults_of_alternatives, alternatives_of, table_faults, operation_of, entries_of, entry_faults, faults_of_tables, keys_in, tables_of, tree_faults, tree_machine}
+use Rattle.machine.specs.MachineText.{within, text_of, unit_faults, faults_in_turn, faults_of_units, names_of, data_of, faults_of_number, number_in, words_in, row_of, row_in, same_row, faults_of_words, row_faults, alternative_faults, rows_of, faults_of_alternatives, alternatives_of, table_faults, operation_of, entries_of, entry_faults, faults_of_tables, keys_in, tables_of, tree_faults, tree_machine}
 use Rattle.machine.proofs.Faults.{none-parts, unless-passed}
 use Rattle.machine.proofs.Words.{any-not_found}
 

@@ -1,14 +1,13 @@
 -- The checks of a row of an alternative.
-use Rattle.std.proofs.Common.{◌≡◌, ℕ, ◌<◌, ◌≤◌, Bool, true, false, not, ◌&&◌, nat_lt, ltb, cond, List, [], ◌∷◌, ◌++◌, length, Option, Some, None, codes, position, unwrap_or, refl, sym, ap, ◌∙◌, inl, inr, arith, le-ltb, lt-ltb}
+use Rattle.std.proofs.Common.{◌≡◌, ℕ, ◌<◌, ◌≤◌, Bool, true, false, not, ltb, List, [], length, Some, None, codes, position, refl, inl, inr, arith, le-ltb, lt-ltb}
 use Rattle.std.specs.List.{list_any, position_or_len}
 use Rattle.std.proofs.lemmas.Bool.{cases_lt, and_right}
 use Rattle.toml.specs.Data.{Data}
 use Rattle.machine.specs.declared.alternative.Row.{Row}
-use Rattle.machine.specs.declared.fault.MachineFault.{MachineFault}
 use Rattle.machine.specs.declared.fault.MachineFault.TheVariants.{WrongType, UnknownUnit, RepeatedRow, Limit}
 use Rattle.machine.specs.Opcodes.{same_word}
 use Rattle.machine.specs.Reads.{first_fault}
-use Rattle.machine.specs.MachineText.{within, words_in, row_of, row_in, same_row, row_faults}
+use Rattle.machine.specs.MachineText.{within, words_in, row_in, same_row, row_faults}
 use Rattle.machine.proofs.Words.{any-found, any-not_found}
 
 pub any-from_None : {A : Type 0} (p : A → Bool) (xs : List A) → position p xs ≡ None → list_any p xs ≡ false

@@ -1,5 +1,5 @@
 -- The tables of opcodes by their numbers, filled as the keys of `ops` are gone through in order.
-use Rattle.std.proofs.Common.{◌≡◌, ◌≢◌, ℕ, zero, suc, ◌<◌, ◌≤◌, Bool, true, false, cond, List, [], ◌∷◌, ◌++◌, length, get_or, set, replicate, map, Option, Some, None, option_map, String, Global, string_bytes, Ordering, Less, Equal, Greater, nat_cmp, is_eq, refl, sym, ap, ◌∙◌, subst, inl, inr, arith, length-set, get_or-set_same, get_or-set_other}
+use Rattle.std.proofs.Common.{◌≡◌, ◌≢◌, ℕ, zero, suc, ◌<◌, Bool, true, false, cond, List, [], ◌∷◌, ◌++◌, length, get_or, set, replicate, map, Option, Some, None, option_map, String, Global, string_bytes, Ordering, Less, Equal, Greater, nat_cmp, is_eq, refl, sym, ap, ◌∙◌, inl, inr, arith, length-set, get_or-set_same, get_or-set_other}
 use Rattle.std.specs.List.{AllByRecursion, find, flat_map}
 use Rattle.std.specs.List.Sorted.{IsStrictlySortedBy}
 use Rattle.std.specs.Map.{keys_of}
@@ -7,11 +7,11 @@ use Rattle.std.specs.String.{string_cmp}
 use Rattle.std.specs.Ordering.{match_ordering}
 use Rattle.std.specs.Cmp.Lexicographic.{slice_cmp}
 use Rattle.std.proofs.lemmas.Bool.{cases_Bool, false≢true}
-use Rattle.std.proofs.lemmas.List.{get_or-replicate, ext_get_or, get_or-map, length-map}
+use Rattle.std.proofs.lemmas.List.{get_or-replicate, ext_get_or, get_or-map}
 use Rattle.std.proofs.lemmas.Map.Text.{is_eq-slice_cmp}
 use Rattle.std.proofs.lemmas.Option.{same_Some}
 use Rattle.std.proofs.lemmas.Slice.Eq.{bytes_eq-Decides}
-use Rattle.toml.specs.Data.{Data, Members, no_members, member, get_member}
+use Rattle.toml.specs.Data.{Data, Members, member, get_member}
 use Rattle.toml.specs.View.{view, members_view}
 use Rattle.toml.specs.declared.value.Value.{Value}
 use Rattle.toml.proofs.Views.{Entry}
@@ -22,7 +22,7 @@ use Rattle.machine.specs.declared.opcode.Opcode.TheVariants.{Load, Store, Add, S
 use Rattle.machine.specs.Machines.{OperationData}
 use Rattle.machine.specs.Opcodes.{word_of, number_of, all_opcodes, same_word, opcode_named}
 use Rattle.machine.specs.Reads.{first_fault}
-use Rattle.machine.specs.MachineText.{Faults, operation_of, entries_of, entry_faults, table_faults, keys_in, tables_of}
+use Rattle.machine.specs.MachineText.{operation_of, entries_of, entry_faults, table_faults, keys_in, tables_of}
 use Rattle.machine.proofs.Faults.{first-append}
 
 -- opcodes, their words and their numbers

@@ -1,11 +1,10 @@
 -- The checks of the table of an opcode, of the tables, and of the tree.
-use Rattle.std.proofs.Common.{◌≡◌, ℕ, List, [], ◌∷◌, ◌++◌, Option, Some, None, codes, refl, sym, ap, ◌∙◌}
+use Rattle.std.proofs.Common.{◌≡◌, ℕ, List, [], ◌∷◌, ◌++◌, Some, None, codes, refl}
 use Rattle.std.specs.List.{flat_map}
 use Rattle.toml.specs.Data.{Data, string, integer, float, boolean, datetime, array, table, Members, as_table, get_member}
 use Rattle.machine.specs.declared.fault.MachineFault.TheVariants.{MissingKey, WrongType}
-use Rattle.machine.specs.Machines.{OperationData, MachineData}
 use Rattle.machine.specs.Reads.{first_fault}
-use Rattle.machine.specs.MachineText.{Faults, unknown_keys, path_of, path_in, faults_of_number, number_in, faults_of_alternatives, alternatives_of, table_faults, operation_of, entries_of, entry_faults, faults_of_units, names_of, faults_of_tables, tables_of, keys_in, tree_faults, tree_machine}
+use Rattle.machine.specs.MachineText.{unknown_keys, path_of, path_in, faults_of_number, number_in, faults_of_alternatives, alternatives_of, table_faults, operation_of, entries_of, entry_faults, faults_of_units, names_of, faults_of_tables, tables_of, keys_in, tree_faults, tree_machine}
 use Rattle.machine.proofs.Faults.{table-at}
 
 module _ (units : List (List ℕ)) (opcode : List ℕ) (d : Data) where

@@ -1,8 +1,8 @@
 -- A loop's turn over the elements of an array, whose faults come one after another.
-use Rattle.std.proofs.Common.{◌≡◌, ℕ, suc, ◌+◌, ◌<◌, ◌≤◌, List, [], ◌∷◌, ◌++◌, length, get_or, take, drop, map, Some, Vec, Global, vec_len, refl, sym, ap, ◌∙◌, arith, rules}
+use Rattle.std.proofs.Common.{◌≡◌, ℕ, suc, ◌+◌, ◌<◌, ◌≤◌, List, [], ◌∷◌, ◌++◌, length, get_or, take, drop, map, Some, Vec, Global, vec_len, refl, sym, ap, ◌∙◌, arith}
 use Rattle.std.specs.List.{flat_map}
-use Rattle.std.proofs.lemmas.List.{drop_more, drop_all, take_more, take_all, map_push, append-nil}
-use Rattle.toml.specs.Data.{Data, Items}
+use Rattle.std.proofs.lemmas.List.{drop_more, drop_all, take_more, take_all, map_push}
+use Rattle.toml.specs.Data.{Data}
 use Rattle.toml.specs.View.{view, items_view}
 use Rattle.toml.specs.declared.value.Value.{Value}
 use Rattle.machine.specs.declared.fault.MachineFault.{MachineFault}

@@ -1,11 +1,11 @@
 -- The words of a row's text.
-use Rattle.std.proofs.Common.{◌≡◌, ℕ, ◌+◌, ◌<◌, ◌≤◌, Bool, true, false, ◌==◌, ◌&&◌, ◌||◌, nat_lt, ltb, cond, List, [], ◌∷◌, length, Option, Some, None, Bor, refl, ap, inl, inr, ◌⊎◌, sym, ◌∙◌, arith, rules}
+use Rattle.std.proofs.Common.{◌≡◌, ℕ, ◌<◌, ◌≤◌, Bool, true, false, ◌==◌, ◌&&◌, nat_lt, cond, List, [], ◌∷◌, length, Option, Some, None, Bor, refl, inl, inr, arith}
 use Rattle.std.specs.List.{list_any, position_or_len, before_first, after_first}
 use Rattle.std.specs.Str.{all_ascii_digits}
 use Rattle.std.specs.Str.Parse.{digits_value}
-use Rattle.std.proofs.lemmas.Bool.{cases_Bool, and_right}
+use Rattle.std.proofs.lemmas.Bool.{cases_Bool}
 use Rattle.std.proofs.lemmas.Str.Pattern.{IsSplitOnceResult, split_once_first}
-use Rattle.toml.specs.Data.{Data, string, as_str}
+use Rattle.toml.specs.Data.{Data, as_str}
 use Rattle.machine.specs.MachineText.{is_unit_name, row_words, words_in}
 use Rattle.machine.proofs.Faults.{string-at}
 

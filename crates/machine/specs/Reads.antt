@@ -1,5 +1,5 @@
 -- What a reader of a part of a machine text answers, beside the faults of that part.
-use Rattle.std.specs.Prelude.{◌≡◌, ◌≢◌, List, [], ◌∷◌, Option, Some, None, Result, MatchResult}
+use Rattle.std.specs.Prelude.{◌≡◌, ◌≢◌, [], ◌∷◌, Option, Some, None, Result, MatchResult}
 use Rattle.machine.specs.declared.fault.MachineFault.{MachineFault}
 use Rattle.machine.specs.declared.fault.MachineFault.TheVariants.{Memory}
 use Rattle.machine.specs.MachineText.{Faults}

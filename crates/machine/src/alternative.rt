@@ -1,10 +1,12 @@
 //! Reservation tables.
 
-ghost use Rattle.std.specs.Prelude.{◌≡◌, ◌<◌, ◌≤◌, length};
+ghost use Rattle.std.specs.Prelude.{◌≡◌, ◌<◌, ◌≤◌, length, IfOk, IsOk};
 ghost use Rattle.std.specs.List.{All};
 ghost use Rattle.machine.specs.Alternative.{IsAlternative, AreAlternatives};
 
+use crate::OutOfMemory;
 use smallvec::SmallVec;
+use std::alloc::Global;
 use std::marker::Model;
 
 /// A row of a reservation table: the operation holds the unit in the cycle that comes `offset`
@@ -53,6 +55,15 @@ impl Alternative {
     {
         self.rows.as_slice()
     }
+
+    /// The same alternative once more. One of up to 4 rows takes no memory.
+    pub fn copied(&self, alloc: Global) -> Result<Alternative, OutOfMemory>
+        ensures same { IfOk result (λ copy. copy ≡ self.now) }
+        ensures small { length self.now ≤ 4 → IsOk result }
+    {
+        let rows = SmallVec::from_slice(alloc, self.rows())?;
+        Ok(Alternative::new(rows))
+    }
 }
 
 /// The 1 to 8 alternatives by which operations of one opcode may be issued, in the order of the
@@ -91,4 +102,23 @@ impl Alternatives {
     {
         self.list.as_slice()
     }
+
+    /// The same alternatives once more.
+    pub fn copied(&self, alloc: Global) -> Result<Alternatives, OutOfMemory>
+        ensures { IfOk result (λ copy. copy ≡ self.now) }
+    {
+        let list = copied_all(alloc, self.as_slice())?;
+        Ok(Alternatives::new(list))
+    }
+}
+
+/// Copies of these alternatives.
+fn copied_all(alloc: Global, alternatives: &[Alternative]) -> Result<Vec<Alternative>, OutOfMemory>
+    ensures { IfOk result (λ copies. copies.items ≡ alternatives.now) }
+{
+    let mut copies = Vec::with_capacity(alloc, alternatives.len())?;
+    for alternative in alternatives {
+        copies.push(alternative.copied(alloc)?)?;
+    }
+    Ok(copies)
 }

@@ -4,23 +4,20 @@
 
 mod alternative;
 mod fault;
+pub mod limits;
 mod name;
 mod opcode;
-mod operation;
-mod path;
+mod opcode_table;
 mod processor;
 mod read;
-mod rows;
-mod tables;
 #[cfg(test)]
 mod tests;
-mod units;
 
 pub use alternative::{Alternative, Alternatives, Row};
 pub use fault::{Key, MachineFault};
 pub use name::Name;
 pub use opcode::Opcode;
-pub use operation::Operation;
+pub use opcode_table::OpcodeTable;
 pub use processor::Machine;
 pub use read::read_machine;
 

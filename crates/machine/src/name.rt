@@ -2,6 +2,7 @@
 
 ghost use Rattle.std.specs.Prelude.{◌≡◌, ◌<◌, ◌≤◌, ◌↔◌, length, IsSome, IfSome};
 
+use crate::limits::MAX_NAME;
 use arrayvec::ArrayString;
 use std::fmt;
 use std::marker::Model;
@@ -9,7 +10,7 @@ use std::marker::Model;
 /// A name of 1 to 16 bytes, of a unit or of a part of a loop. Contracts see its bytes.
 #[derive(Drop)]
 pub struct Name {
-    text: ArrayString<16>,
+    text: ArrayString<MAX_NAME>,
 }
 
 impl Model for Name {

@@ -5,7 +5,7 @@ ghost use Rattle.machine.specs.Machines.{MachineData, IsMachine, table_of};
 
 use crate::name::Name;
 use crate::opcode::Opcode;
-use crate::operation::Operation;
+use crate::opcode_table::OpcodeTable;
 use std::marker::Model;
 
 /// A VLIW machine: 1 to 64 functional units, 1 to 256 rotating registers and, for each opcode that
@@ -14,7 +14,7 @@ use std::marker::Model;
 pub struct Machine {
     units: Vec<Name>,
     registers: u16,
-    tables: Vec<Option<Operation>>,
+    tables: Vec<Option<OpcodeTable>>,
 }
 
 impl Model for Machine {
@@ -30,7 +30,7 @@ impl Model for Machine {
 impl Machine {
     /// The machine with these units, this number of registers and, by the opcodes' numbers, these
     /// tables.
-    pub(crate) fn new(units: Vec<Name>, registers: u16, tables: Vec<Option<Operation>>) -> Machine
+    pub(crate) fn new(units: Vec<Name>, registers: u16, tables: Vec<Option<OpcodeTable>>) -> Machine
         requires { IsMachine (record { units = units.items; registers = registers; tables = tables.items }) }
         ensures { result ≡ record { units = units.items; registers = registers; tables = tables.items } }
     {
@@ -58,7 +58,7 @@ impl Machine {
     }
 
     /// How operations of this opcode are issued, where loops may use it on this machine.
-    pub fn table(&self, opcode: Opcode) -> Option<&Operation>
+    pub fn table(&self, opcode: Opcode) -> Option<&OpcodeTable>
         ensures value { option_copied result ≡ table_of self.now opcode }
         ensures well_formed { IsMachine self.now }
     {

@@ -9,15 +9,18 @@ ghost use Rattle.machine.specs.Reads.{Reads};
 ghost use Rattle.machine.specs.MachineText.{within, unknown_keys, faults_of_number, number_in, tree_faults, tree_machine, machine_of};
 
 use crate::fault::{Key, MachineFault};
-use crate::path::Path;
+use crate::limits::{MAX_REGISTERS, MAX_TEXT};
 use crate::processor::Machine;
-use crate::tables::read_tables;
-use crate::units::read_units;
+use path::Path;
 use std::alloc::Global;
+use tables::read_tables;
 use toml::{Table, Value};
+use units::read_units;
 
-/// The most bytes that a machine text may have.
-const MAX_TEXT: usize = 1_048_576;
+mod path;
+mod rows;
+mod tables;
+mod units;
 
 /// Reads a machine text, which is TOML: the machine that it describes, or the first of the checks
 /// that it fails, in the order of the text's parts `units`, `registers` and `ops`. Keys that mean
@@ -50,7 +53,13 @@ fn read_tree(alloc: Global, tree: &Table) -> Result<Machine, MachineFault>
     check_keys(alloc, &Path::top(""), &["ops", "registers", "units"], tree)?;
     let units = read_units(alloc, tree.get("units"))?;
     let path = Path::top("registers");
-    let registers = read_number(alloc, &path, "registers", 256, tree.get("registers"))?;
+    let registers = read_number(
+        alloc,
+        &path,
+        "registers",
+        MAX_REGISTERS,
+        tree.get("registers"),
+    )?;
     let tables = read_tables(alloc, units.as_slice(), tree.get("ops"))?;
     Ok(Machine::new(units, registers, tables))
 }

@@ -1,6 +1,6 @@
 //! The worked machines, and a text for each fault.
 
-use super::{Key, Machine, MachineFault, Name, Opcode, Operation, Row, read_machine};
+use super::{Key, Machine, MachineFault, Name, Opcode, OpcodeTable, Row, read_machine};
 use std::alloc::Global;
 use std::test::Fail;
 
@@ -30,7 +30,7 @@ fn push_table(
     text: &mut String,
     machine: &Machine,
     opcode: Opcode,
-    table: &Operation,
+    table: &OpcodeTable,
 ) -> Result<(), Fail> {
     let head = format!(in alloc; "; {} {}:", opcode.word(), table.latency())?;
     text.push_str(head.as_str())?;
@@ -173,6 +173,28 @@ fn takes_up_to_64_units(rt: HostRuntime) -> Result<(), Fail> {
         text.push_str("]\n")?;
         assert_eq!(rt; line_of(alloc, text.as_bytes())?.as_str(), wanted);
     }
+    Ok(())
+}
+
+#[test]
+fn copies_alternatives(rt: HostRuntime) -> Result<(), Fail> {
+    let alloc = rt.alloc();
+    let text =
+        "units = [\"a\", \"b\"]\nregisters = 1\n[ops.add]\nlatency = 1\nalts = [[\"b@63\"], [\"a@0\", \"b@1\", \"a@2\", \"a@3\", \"a@4\"]]\n";
+    let machine = read_machine(alloc, text.as_bytes())?;
+    let table = machine.table(Opcode::Add).ok_or("a table")?;
+    let copy = table.alternatives().copied(alloc)?;
+    let mut rows = Vec::new(alloc);
+    for alternative in copy.as_slice() {
+        for row in alternative.rows() {
+            rows.push((row.unit, row.offset))?;
+        }
+    }
+    assert_eq!(rt; copy.as_slice().len(), 2);
+    assert_eq!(rt;
+        rows.as_slice(),
+        [(1, 63), (0, 0), (1, 1), (0, 2), (0, 3), (0, 4)].as_slice()
+    );
     Ok(())
 }
 

@@ -1,51 +1,43 @@
 -- How runs of `bounds` and `plain` end.
-use Rattle.std.proofs.Common.{◌≡◌, ◌≢◌, ℕ, ◌<◌, List, Option, refl, sym, ap, ◌∙◌, arith, length, take, inl, inr}
+use Rattle.std.proofs.Common.{◌≡◌, ℕ, ◌<◌, List, Option, refl, sym, ap, ◌∙◌, arith, length, take, inl, inr}
 use Rattle.std.specs.Prelude.{Err, codes}
 use Rattle.std.proofs.lemmas.List.{take_all, length-take-le}
 use Rattle.std.proofs.lemmas.Bool.{cases_lt, lt-ltb}
 use Rattle.machine.specs.declared.fault.MachineFault.TheVariants.{Limit}
 use Rattle.machine.specs.MachineText.{machine_of}
-use Rattle.loops.specs.declared.fault.LoopFaultKind.TheVariants as kinds
+use Rattle.loops.specs.LoopFaultKind.TheVariants as kinds
 use Rattle.loops.specs.Meaning.{loops_in}
-use Rattle.modsched.proofs.Refusing.{Machines, LoopLists}
-use Rattle.modsched.specs.Bounds.{Bounds}
+use Rattle.command_line.specs.declared.line.Command.{Command}
+use Rattle.command_line.specs.declared.line.Command.TheVariants.{Bounds, Plain}
 use Rattle.modsched.specs.Outcomes.{Outcome, Written, RefusedMachine, RefusedLoops, NoTable as NoTableFor}
 use Rattle.modsched.specs.Devices.{most_read}
-use Rattle.modsched.specs.Engine.{Ends}
-use Rattle.modsched.specs.Refusals.{Refuses, RefusesBounds, RefusesFor}
-use Rattle.modsched.specs.Statuses.{number_of}
+use Rattle.modsched.specs.Engine.{Brings, Ends}
+use Rattle.modsched.specs.Refusals.{IsRefusal, Refuses}
+use Rattle.modsched.specs.Statuses.{HasAnswered}
 use Rattle.modsched.specs.declared.status.Status.{Status}
-use Rattle.modsched.specs.declared.status.Status.TheVariants.{Done, MachineUnread, LoopsUnread, Machine, Loops, NoTable, Unwritten, OutOfMemory}
+use Rattle.modsched.specs.declared.status.Status.TheVariants.{Done, Unmet, MachineUnread, LoopsUnread, Machine, Loops, NoTable, Unwritten, OutOfMemory}
 
-abbrev pub Ended : Machines → LoopLists → Option (List ℕ) → Option (List ℕ) → Status → Type 0
-Ended machine loops before after status = (outcome : Outcome) × Bounds machine loops outcome × Ends outcome before after status
+-- the run ended as an outcome like that says
+abbrev pub Ended : (Outcome → Type 0) → Option (List ℕ) → Option (List ℕ) → Status → Type 0
+Ended IsOutcome before after status = (outcome : Outcome) × IsOutcome outcome × Ends outcome before after status
 
 refused_ends : (outcome : Outcome) (status : Status) (before : Option (List ℕ)) → Refuses outcome status → Ends outcome before before status
-refused_ends (Written text) status before h = absurd h
+refused_ends (Written text all_met) status before h = absurd h
 refused_ends (RefusedMachine fault) status before h = (h, refl)
 refused_ends (RefusedLoops fault) status before h = (h, refl)
 refused_ends (NoTableFor name opcode) status before h = (h, refl)
 
 -- a refusal that is not for want of memory
-pub refusal_ends : (status : Status) (machine : Machines) (loops : LoopLists) (before : Option (List ℕ)) → RefusesBounds status machine loops → number_of status ≢ 7 → Ended machine loops before before status
-refusal_ends OutOfMemory machine loops before h some = absurd (some refl)
-refusal_ends Done machine loops before h some = (h.0, h.1, refused_ends h.0 Done before h.2)
-refusal_ends MachineUnread machine loops before h some = (h.0, h.1, refused_ends h.0 MachineUnread before h.2)
-refusal_ends LoopsUnread machine loops before h some = (h.0, h.1, refused_ends h.0 LoopsUnread before h.2)
-refusal_ends (Machine f) machine loops before h some = (h.0, h.1, refused_ends h.0 (Machine f) before h.2)
-refusal_ends (Loops f) machine loops before h some = (h.0, h.1, refused_ends h.0 (Loops f) before h.2)
-refusal_ends (NoTable name opcode) machine loops before h some = (h.0, h.1, refused_ends h.0 (NoTable name opcode) before h.2)
-refusal_ends Unwritten machine loops before h some = (h.0, h.1, refused_ends h.0 Unwritten before h.2)
-
-pub outcome_ends : (status : Status) (outcome : Outcome) (before : Option (List ℕ)) → RefusesFor outcome status → number_of status ≢ 7 → Ends outcome before before status
-outcome_ends OutOfMemory outcome before h some = absurd (some refl)
-outcome_ends Done outcome before h some = refused_ends outcome Done before h
-outcome_ends MachineUnread outcome before h some = refused_ends outcome MachineUnread before h
-outcome_ends LoopsUnread outcome before h some = refused_ends outcome LoopsUnread before h
-outcome_ends (Machine f) outcome before h some = refused_ends outcome (Machine f) before h
-outcome_ends (Loops f) outcome before h some = refused_ends outcome (Loops f) before h
-outcome_ends (NoTable name opcode) outcome before h some = refused_ends outcome (NoTable name opcode) before h
-outcome_ends Unwritten outcome before h some = refused_ends outcome Unwritten before h
+pub refusal_ends : (IsOutcome : Outcome → Type 0) (status : Status) (before : Option (List ℕ)) → IsRefusal IsOutcome status → HasAnswered status → Ended IsOutcome before before status
+refusal_ends P OutOfMemory before h some = absurd some
+refusal_ends P Done before h some = (h.0, h.1, refused_ends h.0 Done before h.2)
+refusal_ends P Unmet before h some = (h.0, h.1, refused_ends h.0 Unmet before h.2)
+refusal_ends P MachineUnread before h some = absurd some
+refusal_ends P LoopsUnread before h some = absurd some
+refusal_ends P (Machine f) before h some = (h.0, h.1, refused_ends h.0 (Machine f) before h.2)
+refusal_ends P (Loops f) before h some = (h.0, h.1, refused_ends h.0 (Loops f) before h.2)
+refusal_ends P (NoTable name opcode) before h some = (h.0, h.1, refused_ends h.0 (NoTable name opcode) before h.2)
+refusal_ends P Unwritten before h some = (h.0, h.1, refused_ends h.0 Unwritten before h.2)
 
 machine_too_long : (text : List ℕ) → 1048576 < length text → machine_of text ≡ Err (Limit (codes "text"))
 unfolding machine_of
@@ -72,3 +64,12 @@ loops_in-take bytes = elim (cases_lt most_read (length bytes)) [
   | inl h ↦ let long = taken_too_long bytes h in loops_too_long (take most_read bytes) long.0 ∙ sym (loops_too_long bytes long.1)
   | inr h ↦ ap loops_in (take_all most_read bytes h)
 ]
+
+brings-take : (command : Command) (machine loops : List ℕ) (outcome : Outcome) → Brings command (take most_read machine) (take most_read loops) outcome → Brings command machine loops outcome
+brings-take (Bounds m l) machine loops outcome h = rw (machine_of-take machine, loops_in-take loops) at h
+brings-take (Plain l trip) machine loops outcome h = rw (loops_in-take loops) at h
+
+-- what was read of texts brings about what the whole texts do
+pub brings-read : (command : Command) (machine loops machine_read loops_read : List ℕ) (outcome : Outcome)
+    → machine_read ≡ take most_read machine → loops_read ≡ take most_read loops → Brings command machine_read loops_read outcome → Brings command machine loops outcome
+brings-read command machine loops machine_read loops_read outcome m l h = brings-take command machine loops outcome (rw (m, l) at h)

@@ -10,7 +10,7 @@ use Rattle.modsched.specs.Bounds.{AreBounds, first_lacking, lacking_or, IsLines,
 use Rattle.modsched.specs.Refusals.{IsLacking, lacking_in}
 use Rattle.modsched.specs.declared.bounds.LowerBounds.{LowerBounds}
 use Rattle.modsched.specs.declared.status.Status.{Status}
-use Rattle.modsched.specs.declared.status.Status.TheVariants.{Done, MachineUnread, LoopsUnread, Machine, Loops, NoTable, Unwritten, OutOfMemory}
+use Rattle.modsched.specs.declared.status.Status.TheVariants.{Done, Unmet, MachineUnread, LoopsUnread, Machine, Loops, NoTable, Unwritten, OutOfMemory}
 
 -- nothing is lacking in front, so nothing is lacking in the first loop
 pub lacking_or-none : (name : List ℕ) (o : Option Opcode) (rest : Option (List ℕ × Opcode)) → lacking_or name o rest ≡ None → (o ≡ None) × (rest ≡ None)
@@ -36,6 +36,7 @@ is_lacking-or : (status : Status) (name : List ℕ) (o : Option Opcode) (rest : 
 is_lacking-or OutOfMemory name o rest h = tt
 is_lacking-or (NoTable n opcode) name o rest h = found_or name o rest (n, opcode) h
 is_lacking-or Done name o rest h = h
+is_lacking-or Unmet name o rest h = h
 is_lacking-or MachineUnread name o rest h = h
 is_lacking-or LoopsUnread name o rest h = h
 is_lacking-or (Machine f) name o rest h = h

@@ -7,7 +7,7 @@ use Rattle.std.proofs.lemmas.Bool.Decides.{Decides-int_eq}
 use Rattle.std.proofs.lemmas.List.{take_all, take_more, flat_map_more}
 use Rattle.std.proofs.lemmas.List.FromFn.{length-enumerate_from, get_or-enumerate_from, get_or-map-range_with_len, length-map-range_with_len}
 use Rattle.std.proofs.lemmas.Slice.Zip.{get_or-zip, length-zip}
-use Rattle.loops.specs.declared.lists.Array.{Array}
+use Rattle.loops.specs.Array.{Array}
 use Rattle.loops.specs.Run.{MemoryData, cell_of}
 use Rattle.modsched.specs.Plain.{cell_line, cells_of, is_changed, changed_line, cell_lines}
 

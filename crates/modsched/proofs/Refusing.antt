@@ -8,16 +8,16 @@ use Rattle.machine.specs.declared.fault.MachineFault.TheVariants as machine_faul
 use Rattle.machine.specs.declared.opcode.Opcode.{Opcode}
 use Rattle.loops.specs.Loops.{LoopData}
 use Rattle.loops.specs.Meaning as loops_meaning
-use Rattle.loops.specs.declared.fault.LoopFault.{LoopFault}
-use Rattle.loops.specs.declared.fault.LoopFaultKind.{LoopFaultKind}
-use Rattle.loops.specs.declared.fault.LoopFaultKind.TheVariants as kinds
+use Rattle.loops.specs.LoopFault.{LoopFault}
+use Rattle.loops.specs.LoopFaultKind.{LoopFaultKind}
+use Rattle.loops.specs.LoopFaultKind.TheVariants as kinds
 use Rattle.modsched.specs.Bounds.{Bounds, first_lacking}
 use Rattle.modsched.specs.Outcomes.{Outcome, RefusedMachine, RefusedLoops, NoTable as NoTableFor}
 use Rattle.modsched.specs.Plain.{plain_outcome}
-use Rattle.modsched.specs.Refusals.{HasOneMemory, IsLacking, RefusesBounds, RefusesFor}
+use Rattle.modsched.specs.Refusals.{HasOneMemory, IsLacking, IsRefusal}
 use Rattle.modsched.specs.Statuses.{number_of, refusal_of_machine, refusal_of_loops, loops_status}
 use Rattle.modsched.specs.declared.status.Status.{Status}
-use Rattle.modsched.specs.declared.status.Status.TheVariants.{Done, MachineUnread, LoopsUnread, Machine, Loops, NoTable, Unwritten, OutOfMemory}
+use Rattle.modsched.specs.declared.status.Status.TheVariants.{Done, Unmet, MachineUnread, LoopsUnread, Machine, Loops, NoTable, Unwritten, OutOfMemory}
 
 abbrev pub Machines : Type 0
 Machines = Result MachineData MachineFault
@@ -25,11 +25,8 @@ Machines = Result MachineData MachineFault
 abbrev pub LoopLists : Type 0
 LoopLists = Result (List LoopData) LoopFault
 
-refuses_machine : (f : MachineFault) (machine : Machines) (loops : LoopLists) → Err f ≡ machine → (outcome : Outcome) × Bounds machine loops outcome × (Machine f ≡ Machine f)
-refuses_machine f machine loops e = (RefusedMachine f, rw (← e) refl, refl)
-
 -- a machine text that is refused
-pub machine_refused : (f : MachineFault) (machine : Machines) (loops : LoopLists) → Answers (Err f) machine → RefusesBounds (refusal_of_machine f) machine loops
+pub machine_refused : (f : MachineFault) (machine : Machines) (loops : LoopLists) → Answers (Err f) machine → IsRefusal (Bounds machine loops) (refusal_of_machine f)
 machine_refused machine_fault.Memory machine loops h = tt
 machine_refused machine_fault.NotUtf8 machine loops h = (RefusedMachine machine_fault.NotUtf8, rw (← h) refl, refl)
 machine_refused machine_fault.NotToml machine loops h = (RefusedMachine machine_fault.NotToml, rw (← h) refl, refl)
@@ -43,7 +40,7 @@ machine_refused (machine_fault.RepeatedRow k) machine loops h = (RefusedMachine 
 machine_refused (machine_fault.Limit k) machine loops h = (RefusedMachine (machine_fault.Limit k), rw (← h) refl, refl)
 
 loops_refused_at : (kind : LoopFaultKind) (f : LoopFault) (m : MachineData) (loops : LoopLists)
-    → loops_meaning.AnswersFault kind f loops → RefusesBounds (loops_status kind f) (Ok m) loops
+    → loops_meaning.AnswersFault kind f loops → IsRefusal (Bounds (Ok m) loops) (loops_status kind f)
 loops_refused_at kinds.Memory f m loops h = tt
 loops_refused_at kinds.Syntax f m loops h = (RefusedLoops f, rw (← h) refl, refl)
 loops_refused_at kinds.Limit f m loops h = (RefusedLoops f, rw (← h) refl, refl)
@@ -54,33 +51,38 @@ loops_refused_at kinds.MissingInit f m loops h = (RefusedLoops f, rw (← h) ref
 loops_refused_at kinds.NoEnd f m loops h = (RefusedLoops f, rw (← h) refl, refl)
 
 -- a loop text that is refused, behind a machine text that is not
-pub loops_refused : (f : LoopFault) (m : MachineData) (loops : LoopLists) → loops_meaning.Answers (Err f) loops → RefusesBounds (refusal_of_loops f) (Ok m) loops
+pub loops_refused : (f : LoopFault) (m : MachineData) (loops : LoopLists) → loops_meaning.Answers (Err f) loops → IsRefusal (Bounds (Ok m) loops) (refusal_of_loops f)
 loops_refused f m loops h = loops_refused_at f.kind f m loops h
 
 -- a loop that lacks a table
-pub lacking_refused : (status : Status) (m : MachineData) (loops : List LoopData) → IsLacking status (first_lacking m loops) → RefusesBounds status (Ok m) (Ok loops)
+pub lacking_refused : (status : Status) (m : MachineData) (loops : List LoopData) → IsLacking status (first_lacking m loops) → IsRefusal (Bounds (Ok m) (Ok loops)) status
 lacking_refused OutOfMemory m loops h = tt
 lacking_refused (NoTable name opcode) m loops h = (NoTableFor name opcode, rw h refl, refl)
 lacking_refused Done m loops h = absurd h
+lacking_refused Unmet m loops h = absurd h
 lacking_refused MachineUnread m loops h = absurd h
 lacking_refused LoopsUnread m loops h = absurd h
 lacking_refused (Machine f) m loops h = absurd h
 lacking_refused (Loops f) m loops h = absurd h
 lacking_refused Unwritten m loops h = absurd h
 
+-- what `plain` does, as a property of outcomes
+abbrev IsPlain : ℕ → LoopLists → Outcome → Type 0
+IsPlain trip loops outcome = outcome ≡ plain_outcome trip loops
+
 plain_refused_at : (kind : LoopFaultKind) (f : LoopFault) (trip : ℕ) (loops : LoopLists)
-    → loops_meaning.AnswersFault kind f loops → RefusesFor (plain_outcome trip loops) (loops_status kind f)
+    → loops_meaning.AnswersFault kind f loops → IsRefusal (IsPlain trip loops) (loops_status kind f)
 plain_refused_at kinds.Memory f trip loops h = tt
-plain_refused_at kinds.Syntax f trip loops h = rw (← h) refl
-plain_refused_at kinds.Limit f trip loops h = rw (← h) refl
-plain_refused_at kinds.RepeatedName f trip loops h = rw (← h) refl
-plain_refused_at kinds.UnknownName f trip loops h = rw (← h) refl
-plain_refused_at kinds.UseBeforeDefinition f trip loops h = rw (← h) refl
-plain_refused_at kinds.MissingInit f trip loops h = rw (← h) refl
-plain_refused_at kinds.NoEnd f trip loops h = rw (← h) refl
+plain_refused_at kinds.Syntax f trip loops h = (RefusedLoops f, rw (← h) refl, refl)
+plain_refused_at kinds.Limit f trip loops h = (RefusedLoops f, rw (← h) refl, refl)
+plain_refused_at kinds.RepeatedName f trip loops h = (RefusedLoops f, rw (← h) refl, refl)
+plain_refused_at kinds.UnknownName f trip loops h = (RefusedLoops f, rw (← h) refl, refl)
+plain_refused_at kinds.UseBeforeDefinition f trip loops h = (RefusedLoops f, rw (← h) refl, refl)
+plain_refused_at kinds.MissingInit f trip loops h = (RefusedLoops f, rw (← h) refl, refl)
+plain_refused_at kinds.NoEnd f trip loops h = (RefusedLoops f, rw (← h) refl, refl)
 
 -- a loop text that `plain` refuses
-pub plain_refused : (f : LoopFault) (trip : ℕ) (loops : LoopLists) → loops_meaning.Answers (Err f) loops → RefusesFor (plain_outcome trip loops) (refusal_of_loops f)
+pub plain_refused : (f : LoopFault) (trip : ℕ) (loops : LoopLists) → loops_meaning.Answers (Err f) loops → IsRefusal (IsPlain trip loops) (refusal_of_loops f)
 plain_refused f trip loops h = plain_refused_at f.kind f trip loops h
 
 -- want of memory has one status in each kind of refusal
@@ -114,6 +116,7 @@ pub lacking_memory : (status : Status) (lacking : Option (List ℕ × Opcode)) �
 lacking_memory OutOfMemory lacking h seven = refl
 lacking_memory (NoTable name opcode) lacking h seven = absurd (omega (arith, seven))
 lacking_memory Done lacking h seven = absurd h
+lacking_memory Unmet lacking h seven = absurd h
 lacking_memory MachineUnread lacking h seven = absurd h
 lacking_memory LoopsUnread lacking h seven = absurd h
 lacking_memory (Machine f) lacking h seven = absurd h

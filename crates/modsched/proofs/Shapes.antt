@@ -4,8 +4,8 @@ use Rattle.std.specs.Prelude.{if◌then◌else◌}
 use Rattle.std.proofs.lemmas.List.{length-map, length-set}
 use Rattle.machine.specs.declared.opcode.Opcode.{Opcode}
 use Rattle.machine.specs.declared.opcode.Opcode.TheVariants.{Load, Store, Add, Sub, Mul, And, Or, Xor, Min, Max, Lt, Sel, Mov}
-use Rattle.loops.specs.declared.statement.Place.{Place}
-use Rattle.loops.specs.declared.statement.Statement.{Statement}
+use Rattle.loops.specs.Place.{Place}
+use Rattle.loops.specs.Statement.{Statement}
 use Rattle.loops.specs.Loops.{LoopData}
 use Rattle.loops.specs.Run.{HasShapeOf, MemoryData, RunState, after_iteration, after_iterations, after_statement, after_statements, arrays_after, end_of, opening_of, plain, start, writes}
 use Rattle.loops.proofs.Openings.{opening_shape}

@@ -1,10 +1,10 @@
 -- What `bounds` writes, and when it refuses.
-use Rattle.std.specs.Prelude.{◌≡◌, ℕ, decimal, codes, max, List, [], ◌∷◌, ◌++◌, length, Option, Some, None, Result, Ok, Err}
+use Rattle.std.specs.Prelude.{◌≡◌, ℕ, true, decimal, codes, max, List, [], ◌∷◌, ◌++◌, length, Option, Some, None, Result, Ok, Err}
 use Rattle.std.specs.List.{flat_map, zip, AllZip}
 use Rattle.machine.specs.declared.fault.MachineFault.{MachineFault}
 use Rattle.machine.specs.declared.opcode.Opcode.{Opcode}
 use Rattle.machine.specs.Machines.{MachineData}
-use Rattle.loops.specs.declared.fault.LoopFault.{LoopFault}
+use Rattle.loops.specs.LoopFault.{LoopFault}
 use Rattle.loops.specs.Loops.{LoopData}
 use Rattle.graph.specs.Graphs.{GraphData, IsGraphOf}
 use Rattle.graph.specs.Units.{IsUnitBound, operations_of, first_without_table}
@@ -54,7 +54,7 @@ IsBoundsText machine loops text = (lines : List ℕ) × IsLines machine loops li
 
 -- what `bounds` does with loops on a machine
 abbrev pub BoundsOn : MachineData → List LoopData → Option (List ℕ × Opcode) → Outcome → Type 0
-BoundsOn machine loops None (Written text) = IsBoundsText machine loops text
+BoundsOn machine loops None (Written text all_met) = (all_met ≡ true) × IsBoundsText machine loops text
 BoundsOn machine loops None other = ⊥
 BoundsOn machine loops (Some lacking) outcome = outcome ≡ NoTable lacking.0 lacking.1
 

@@ -1,25 +1,48 @@
--- How a run of a subcommand ends, beside what it does with its texts.
-use Rattle.std.specs.Prelude.{◌≡◌, ◌+◌, ℕ, Bool, true, false, List, ◌++◌, Option, Some, option_map}
+-- What a command does with its texts, and how a run of it ends.
+use Rattle.std.specs.Prelude.{◌≡◌, ◌+◌, ℕ, Bool, true, false, List, [], ◌++◌, Option, Some, option_map}
+use Rattle.command_line.specs.declared.line.Command.{Command}
+use Rattle.command_line.specs.declared.line.Command.TheVariants.{Bounds, Plain}
 use Rattle.machine.specs.MachineText.{machine_of}
 use Rattle.loops.specs.Meaning.{loops_in}
 use Rattle.modsched.specs.Bounds as bounds
+use Rattle.modsched.specs.Devices.{TakesBeginning}
 use Rattle.modsched.specs.Outcomes.{Outcome, Written, RefusedMachine, RefusedLoops, NoTable}
 use Rattle.modsched.specs.Plain.{plain_outcome}
-use Rattle.modsched.specs.Devices.{TakesBeginning}
-use Rattle.modsched.specs.declared.line.Command.{Command}
-use Rattle.modsched.specs.declared.line.Command.TheVariants.{Bounds, Plain}
 use Rattle.modsched.specs.declared.status.Status.{Status}
 use Rattle.modsched.specs.declared.status.Status.TheVariants as status
 
--- a text was written whole, or the output failed and took a beginning of it
-abbrev pub EndsWritten : List ℕ → Option (List ℕ) → Option (List ℕ) → Status → Type 0
-EndsWritten text before after status.Done = after ≡ option_map (λ taken. taken ++ text) before
-EndsWritten text before after status.Unwritten = TakesBeginning before after text
-EndsWritten text before after _ = ⊥
+-- a command reads a machine's text; each reads a loops' text
+abbrev pub reads_machine : Command → Bool
+reads_machine (Bounds machine loops) = true
+reads_machine (Plain loops trip) = false
+
+-- what a command has of a machine's text: what the input had left, or nothing where it reads none
+abbrev pub machine_for : Command → Option (List ℕ) → Option (List ℕ)
+machine_for (Bounds machine loops) left = left
+machine_for (Plain loops trip) left = Some []
+
+-- an outcome of a command for the bytes of its texts: `bounds` speaks of what both mean, `plain` of what the loops' text
+-- means and its trip count
+abbrev pub Brings : Command → List ℕ → List ℕ → Outcome → Type 0
+Brings (Bounds machine_path loops_path) machine loops outcome = bounds.Bounds (machine_of machine) (loops_in loops) outcome
+Brings (Plain loops_path trip) machine loops outcome = outcome ≡ plain_outcome trip (loops_in loops)
+
+-- a command brings about an outcome like that, for the bytes that its inputs had left
+abbrev pub Does : Command → Option (List ℕ) → Option (List ℕ) → (Outcome → Type 0) → Type 0
+Does command machine loops IsBrought =
+    (machine_bytes loops_bytes : List ℕ) → machine_for command machine ≡ Some machine_bytes → loops ≡ Some loops_bytes
+    → (outcome : Outcome) × Brings command machine_bytes loops_bytes outcome × IsBrought outcome
+
+-- a text was written whole, with the status of whether every loop is met; or the output failed and took a beginning of it
+abbrev pub EndsWritten : List ℕ → Bool → Option (List ℕ) → Option (List ℕ) → Status → Type 0
+EndsWritten text all_met before after status.Done = (all_met ≡ true) × (after ≡ option_map (λ taken. taken ++ text) before)
+EndsWritten text all_met before after status.Unmet = (all_met ≡ false) × (after ≡ option_map (λ taken. taken ++ text) before)
+EndsWritten text all_met before after status.Unwritten = TakesBeginning before after text
+EndsWritten text all_met before after _ = ⊥
 
 -- the run ended as its outcome says: with a text that is written, or with a refusal and nothing written
 abbrev pub Ends : Outcome → Option (List ℕ) → Option (List ℕ) → Status → Type 0
-Ends (Written text) before after ended = EndsWritten text before after ended
+Ends (Written text all_met) before after ended = EndsWritten text all_met before after ended
 Ends (RefusedMachine fault) before after ended = (ended ≡ status.Machine fault) × (after ≡ before)
 Ends (RefusedLoops fault) before after ended = (ended ≡ status.Loops fault) × (after ≡ before)
 Ends (NoTable name opcode) before after ended = (ended ≡ status.NoTable name opcode) × (after ≡ before)
@@ -28,17 +51,3 @@ Ends (NoTable name opcode) before after ended = (ended ≡ status.NoTable name o
 pub record CountsFault (is_told : Type 0) (before after : ℕ) : Type 0 where
   pub rose : is_told → after ≡ before + 1
   pub stayed : ¬ is_told → after ≡ before
-
--- a command reads a machine's text; each reads a loops' text
-abbrev pub reads_machine : Command → Bool
-reads_machine (Bounds machine loops) = true
-reads_machine (Plain loops trip) = false
-
--- an outcome of a command is brought about, for the bytes that the inputs had left: `bounds` speaks of what both texts mean,
--- `plain` of what the loops' text means and its trip count
-abbrev pub Does : Command → Option (List ℕ) → Option (List ℕ) → (Outcome → Type 0) → Type 0
-Does (Bounds machine_path loops_path) machine loops IsBrought =
-    (machine_bytes loops_bytes : List ℕ) → machine ≡ Some machine_bytes → loops ≡ Some loops_bytes
-    → (outcome : Outcome) × bounds.Bounds (machine_of machine_bytes) (loops_in loops_bytes) outcome × IsBrought outcome
-Does (Plain loops_path trip) machine loops IsBrought =
-    (loops_bytes : List ℕ) → loops ≡ Some loops_bytes → IsBrought (plain_outcome trip (loops_in loops_bytes))

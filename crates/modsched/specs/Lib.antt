@@ -1,7 +1,7 @@
+pub use Rattle.command_line.specs.Lines
+pub use Rattle.devices.specs.Devices
 pub mod Bounds
-pub mod Devices
 pub mod Engine
-pub mod Lines
 pub mod Outcomes
 pub mod Plain
 pub mod Refusals

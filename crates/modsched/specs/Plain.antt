@@ -1,10 +1,10 @@
 -- What `plain` writes, and when it refuses.
-use Rattle.std.specs.Prelude.{ℕ, ℤ, pos, ◌+◌, ◌-ℤ◌, decimal, codes, Bool, not, if◌then◌else◌, List, [], ◌++◌, length, map, Result, Ok, Err}
+use Rattle.std.specs.Prelude.{ℕ, ℤ, pos, ◌+◌, ◌-ℤ◌, decimal, codes, Bool, true, not, if◌then◌else◌, List, [], ◌++◌, length, map, Result, Ok, Err}
 use Rattle.std.specs.List.{enumerate_from, filter, flat_map, range_with_len, zip}
 use Rattle.std.specs.Fmt.{signed_decimal}
 use Rattle.std.specs.Ordering.{int_eq}
-use Rattle.loops.specs.declared.fault.LoopFault.{LoopFault}
-use Rattle.loops.specs.declared.lists.Array.{Array}
+use Rattle.loops.specs.LoopFault.{LoopFault}
+use Rattle.loops.specs.Array.{Array}
 use Rattle.loops.specs.Loops.{LoopData}
 use Rattle.loops.specs.Run.{MemoryData, cell_of, opening_of, plain}
 use Rattle.loops.specs.Text.{value_name}
@@ -71,4 +71,4 @@ plain_text trip loops = flat_map (plain_lines trip) loops ++ last_line (length l
 -- what `plain` does with what its text means
 abbrev pub plain_outcome : ℕ → Result (List LoopData) LoopFault → Outcome
 plain_outcome trip (Err fault) = RefusedLoops fault
-plain_outcome trip (Ok loops) = Written (plain_text trip loops)
+plain_outcome trip (Ok loops) = Written (plain_text trip loops) true

@@ -1,18 +1,17 @@
 -- What the parts of subcommands answer, where they may refuse.
 use Rattle.std.specs.Prelude.{◌≡◌, ℕ, List, Option, Some, None, Vec, Result, Ok, Err}
 use Rattle.std.specs.declared.alloc.Global.{Global}
-use Rattle.machine.specs.declared.fault.MachineFault.{MachineFault}
 use Rattle.machine.specs.declared.opcode.Opcode.{Opcode}
 use Rattle.machine.specs.Machines.{MachineData}
-use Rattle.loops.specs.declared.fault.LoopFault.{LoopFault}
 use Rattle.loops.specs.Loops.{LoopData}
 use Rattle.graph.specs.Units.{first_without_table}
 use Rattle.graph.specs.declared.fault.GraphFault.{GraphFault}
 use Rattle.graph.specs.declared.fault.GraphFault.TheVariants as graph_fault
-use Rattle.modsched.specs.Bounds.{Bounds, AreBounds, IsLines, first_lacking, lacking_or}
+use Rattle.modsched.specs.Bounds.{AreBounds, IsLines, first_lacking, lacking_or}
 use Rattle.modsched.specs.Outcomes.{Outcome, Written, RefusedMachine, RefusedLoops, NoTable as NoTableFor}
 use Rattle.modsched.specs.Statuses.{number_of}
 use Rattle.modsched.specs.declared.bounds.LowerBounds.{LowerBounds}
+use Rattle.modsched.specs.declared.printout.Printout.{Printout}
 use Rattle.modsched.specs.declared.status.Status.{Status}
 use Rattle.modsched.specs.declared.status.Status.TheVariants.{Machine, Loops, NoTable, OutOfMemory}
 
@@ -43,30 +42,20 @@ LinesAnswer machine loops (Err status) = IsLacking status (first_lacking machine
 
 -- the status is the outcome's
 abbrev pub Refuses : Outcome → Status → Type 0
-Refuses (Written text) status = ⊥
+Refuses (Written text all_met) status = ⊥
 Refuses (RefusedMachine fault) status = status ≡ Machine fault
 Refuses (RefusedLoops fault) status = status ≡ Loops fault
 Refuses (NoTableFor name opcode) status = status ≡ NoTable name opcode
 
--- the status is for want of memory, or that of what `bounds` does
-abbrev pub RefusesBounds : Status → Result MachineData MachineFault → Result (List LoopData) LoopFault → Type 0
-RefusesBounds OutOfMemory machine loops = Unit {0}
-RefusesBounds status machine loops = (outcome : Outcome) × Bounds machine loops outcome × Refuses outcome status
+-- the status is for want of memory, or that of an outcome like that
+abbrev pub IsRefusal : (Outcome → Type 0) → Status → Type 0
+IsRefusal IsOutcome OutOfMemory = Unit {0}
+IsRefusal IsOutcome status = (outcome : Outcome) × IsOutcome outcome × Refuses outcome status
 
--- the text of `bounds`, or the status of its refusal
-abbrev pub TextAnswers : Result MachineData MachineFault → Result (List LoopData) LoopFault → Result (Vec ℕ Global) Status → Type 0
-TextAnswers machine loops (Ok text) = Bounds machine loops (Written text.items)
-TextAnswers machine loops (Err status) = RefusesBounds status machine loops
-
--- the status is for want of memory, or the outcome's
-abbrev pub RefusesFor : Outcome → Status → Type 0
-RefusesFor outcome OutOfMemory = Unit {0}
-RefusesFor outcome status = Refuses outcome status
-
--- the text that the outcome writes, or the status of its refusal
-abbrev pub OutcomeAnswers : Outcome → Result (Vec ℕ Global) Status → Type 0
-OutcomeAnswers outcome (Ok text) = outcome ≡ Written text.items
-OutcomeAnswers outcome (Err status) = RefusesFor outcome status
+-- what is written in an outcome like that, or the status of its refusal
+abbrev pub Answers : (Outcome → Type 0) → Result Printout Status → Type 0
+Answers IsOutcome (Ok printout) = IsOutcome (Written printout.text.items printout.all_met)
+Answers IsOutcome (Err status) = IsRefusal IsOutcome status
 
 -- want of memory has one status
 abbrev pub HasOneMemory : Status → Type 0

@@ -1,15 +1,15 @@
 -- The numbers by which a run of the program exits, and the lines that tell of a fault.
 use Rattle.std.specs.Prelude.{ℕ, codes, List, [], ◌++◌}
 use Rattle.loops.specs.Faults.{fault_text as loops_text}
-use Rattle.loops.specs.declared.fault.LoopFault.{LoopFault}
-use Rattle.loops.specs.declared.fault.LoopFaultKind.{LoopFaultKind}
-use Rattle.loops.specs.declared.fault.LoopFaultKind.TheVariants as kind
+use Rattle.loops.specs.LoopFault.{LoopFault}
+use Rattle.loops.specs.LoopFaultKind.{LoopFaultKind}
+use Rattle.loops.specs.LoopFaultKind.TheVariants as kind
 use Rattle.machine.specs.Faults.{fault_text as machine_text}
 use Rattle.machine.specs.declared.fault.MachineFault.{MachineFault}
 use Rattle.machine.specs.declared.fault.MachineFault.TheVariants as fault
 use Rattle.machine.specs.Opcodes.{word_of}
 use Rattle.modsched.specs.declared.status.Status.{Status}
-use Rattle.modsched.specs.declared.status.Status.TheVariants.{Done, MachineUnread, LoopsUnread}
+use Rattle.modsched.specs.declared.status.Status.TheVariants.{Done, Unmet, MachineUnread, LoopsUnread}
 use Rattle.modsched.specs.declared.status.Status.TheVariants.{Machine, Loops, NoTable, Unwritten}
 use Rattle.modsched.specs.declared.status.Status.TheVariants.{OutOfMemory}
 
@@ -23,9 +23,10 @@ abbrev pub loops_number : LoopFaultKind → ℕ
 loops_number kind.Memory = 7
 loops_number _ = 5
 
--- 0 done, 3 a file can't be read, 4 machine refused, 5 loops refused, 6 output can't be written, 7 out of memory
+-- 0 done, 1 a loop is not met, 3 a file can't be read, 4 machine refused, 5 loops refused, 6 output can't be written, 7 out of memory
 abbrev pub number_of : Status → ℕ
 number_of Done = 0
+number_of Unmet = 1
 number_of MachineUnread = 3
 number_of LoopsUnread = 3
 number_of (Machine f) = machine_number f
@@ -33,6 +34,26 @@ number_of (Loops f) = loops_number f.kind
 number_of (NoTable name opcode) = 5
 number_of Unwritten = 6
 number_of OutOfMemory = 7
+
+-- the output was written whole
+abbrev pub IsComplete : Status → Type 0
+IsComplete Done = Unit {0}
+IsComplete Unmet = Unit {0}
+IsComplete _ = ⊥
+
+-- the output was written, whole or, where it failed, a beginning of it
+abbrev pub HasWritten : Status → Type 0
+HasWritten Done = Unit {0}
+HasWritten Unmet = Unit {0}
+HasWritten Unwritten = Unit {0}
+HasWritten _ = ⊥
+
+-- the texts were read and memory sufficed: the status says what they bring about
+abbrev pub HasAnswered : Status → Type 0
+HasAnswered MachineUnread = ⊥
+HasAnswered LoopsUnread = ⊥
+HasAnswered OutOfMemory = ⊥
+HasAnswered _ = Unit {0}
 
 -- the status of a refused machine text
 abbrev pub refusal_of_machine : MachineFault → Status
@@ -60,6 +81,7 @@ loops_line _ f = codes "loops: " ++ loops_text f
 -- the line for the standard error
 abbrev pub line_of : Status → List ℕ
 line_of Done = []
+line_of Unmet = []
 line_of MachineUnread = codes "machine: cannot read"
 line_of LoopsUnread = codes "loops: cannot read"
 line_of (Machine f) = machine_line f

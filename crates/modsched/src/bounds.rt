@@ -3,10 +3,11 @@
 ghost use Rattle.std.specs.Prelude.{◌≡◌, ◌++◌, IfErr, OnOk};
 ghost use Rattle.machine.specs.MachineText.{machine_of};
 ghost use Rattle.loops.specs.Meaning.{loops_in};
-ghost use Rattle.modsched.specs.Bounds.{bounds_line, told};
-ghost use Rattle.modsched.specs.Refusals.{BoundsAnswer, HasOneMemory, LinesAnswer, TextAnswers, status_for};
+ghost use Rattle.modsched.specs.Bounds.{Bounds, bounds_line, told};
+ghost use Rattle.modsched.specs.Refusals.{Answers, BoundsAnswer, HasOneMemory, LinesAnswer, status_for};
 
 use crate::lines::{push_last, push_number};
+use crate::printout::Printout;
 use crate::status::Status;
 use graph::{GraphFault, edges, mii, rec_mii, res_mii};
 use loops::{Loop, read_loops};
@@ -91,13 +92,16 @@ fn lines(alloc: Global, machine: &Machine, loops: &[Loop]) -> Result<Vec<u8>, St
 }
 
 /// What `bounds` writes for a machine text and a loop text, or the status of its refusal.
-pub(crate) fn bounds_text(alloc: Global, machine: &[u8], loops: &[u8]) -> Result<Vec<u8>, Status>
-    ensures exact { TextAnswers (machine_of machine.now) (loops_in loops.now) result }
+pub(crate) fn bounds_text(alloc: Global, machine: &[u8], loops: &[u8]) -> Result<Printout, Status>
+    ensures exact { Answers (Bounds (machine_of machine.now) (loops_in loops.now)) result }
     ensures memory { IfErr result HasOneMemory }
 {
     let machine = read_machine(alloc, machine)?;
     let loops = read_loops(alloc, loops)?;
     let mut text = lines(alloc, &machine, loops.as_slice())?;
     push_last(&mut text, loops.len() as u64)?;
-    Ok(text)
+    Ok(Printout {
+        text,
+        all_met: true,
+    })
 }

@@ -2,20 +2,16 @@
 #![tactic(auto)]
 
 mod bounds;
-mod device;
-mod line;
 mod lines;
 mod plain;
+mod printout;
 mod status;
 mod subcommand;
-mod text;
-mod trip;
 
-pub use device::{
-    Bytes, Fault, FaultyInput, FaultyOutput, FileInput, Input, Output, StandardOutput, TakenBytes,
+pub use command_line::{Command, TRIP_LIMIT, Trip, Usage, parse_line};
+pub use devices::{
+    Bytes, Fault, FaultyInput, FaultyOutput, FileInput, Input, Output, ReadTextError,
+    StandardOutput, TEXT_LIMIT, TakenBytes, read_text, write_text,
 };
-pub use line::{Command, Usage, parse_line};
 pub use status::{Line, Status};
 pub use subcommand::engine;
-pub use text::{ReadTextError, TEXT_LIMIT, read_text, write_text};
-pub use trip::{TRIP_LIMIT, Trip};

@@ -7,24 +7,28 @@ ghost use Rattle.loops.specs.Meaning.{loops_in};
 ghost use Rattle.loops.specs.Run.{HasShapeOf, cell_of, opening_of, plain};
 ghost use Rattle.loops.specs.Text.{value_name};
 ghost use Rattle.modsched.specs.Plain.{run_line, cell_text, cell_line, out_line, changed_line, cell_lines, array_lines, out_lines, run_lines, plain_lines, plain_outcome};
-ghost use Rattle.modsched.specs.Refusals.{HasOneMemory, OutcomeAnswers};
+ghost use Rattle.modsched.specs.Refusals.{Answers, HasOneMemory};
 
 use crate::lines::{push_last, push_number, push_signed};
+use crate::printout::Printout;
 use crate::status::Status;
-use crate::trip::Trip;
-use loops::{Loop, Memory, RunFault, opening, read_loops, run_plain};
+use command_line::Trip;
+use loops::{Loop, Memory, RunFault, opening, read_loops, run_from};
 use std::alloc::{AllocError, Global};
 
 /// What `plain` writes for a loop text, or the status of its refusal.
-pub(crate) fn plain_text(alloc: Global, loops: &[u8], trip: Trip) -> Result<Vec<u8>, Status>
-    ensures exact { OutcomeAnswers (plain_outcome trip (loops_in loops.now)) result }
+pub(crate) fn plain_text(alloc: Global, loops: &[u8], trip: Trip) -> Result<Printout, Status>
+    ensures exact { Answers (λ outcome. outcome ≡ plain_outcome trip (loops_in loops.now)) result }
     ensures memory { IfErr result HasOneMemory }
 {
     let loops = read_loops(alloc, loops)?;
     let mut text = Vec::new(alloc);
     push_loops(alloc, &mut text, loops.as_slice(), trip)?;
     push_last(&mut text, loops.len() as u64)?;
-    Ok(text)
+    Ok(Printout {
+        text,
+        all_met: true,
+    })
 }
 
 /// Appends the lines of all loops, in order.
@@ -52,7 +56,8 @@ fn push_plain(
     ensures { OnOk result (text.new.items ≡ text.old.items ++ plain_lines trip innermost.now) }
 {
     let before = within_limits(opening(alloc, innermost, trip.count()))?;
-    let after = within_limits(run_plain(alloc, innermost, trip.count()))?;
+    let copy = before.copied(alloc)?;
+    let after = within_limits(run_from(alloc, innermost, copy))?;
     push_run(text, innermost, &before, &after)
 }
 

@@ -16,6 +16,8 @@ use std::marker::Model;
 pub enum Status {
     /// The work is done and its output is written.
     Done,
+    /// The output is written, and it tells of a loop that is not met.
+    Unmet,
     /// The machine's file can't be read.
     MachineUnread,
     /// The loops' file can't be read.
@@ -39,6 +41,7 @@ impl Status {
     {
         match self {
             Status::Done => 0,
+            Status::Unmet => 1,
             Status::MachineUnread | Status::LoopsUnread => 3,
             Status::Machine(MachineFault::Memory) => 7,
             Status::Machine(_) => 4,
@@ -59,7 +62,7 @@ impl Status {
         ensures own { IfSome result (λ line. line ≡ self.now) }
     {
         match self {
-            Status::Done => None,
+            Status::Done | Status::Unmet => None,
             _ => Some(Line { status: self }),
         }
     }
@@ -120,7 +123,7 @@ impl fmt::Display for Line<'_> {
 
     fn fmt<W: fmt::Write>(&self, f: &mut fmt::Formatter<W>) -> fmt::Result {
         match self.status {
-            Status::Done => Ok(()),
+            Status::Done | Status::Unmet => Ok(()),
             Status::MachineUnread => f.write_str("machine: cannot read"),
             Status::LoopsUnread => f.write_str("loops: cannot read"),
             Status::Machine(MachineFault::Memory) | Status::OutOfMemory => {

@@ -1,28 +1,20 @@
-//! The work of the subcommands.
+//! The work of a command.
 
-ghost use Rattle.std.specs.Prelude.{◌≡◌, ◌≢◌, ◌+◌, ◌-◌, ◌^◌, ◌<◌, ◌↔◌, ℕ, List, Some, drop, true, false, IfSome};
-ghost use Rattle.machine.specs.MachineText.{machine_of};
-ghost use Rattle.loops.specs.Meaning.{loops_in};
-ghost use Rattle.modsched.specs.Bounds.{Bounds};
+ghost use Rattle.std.specs.Prelude.{◌≡◌, ◌+◌, ◌-◌, ◌^◌, ◌<◌, ◌↔◌, Some, take, drop, true, false, IfOk, IfSome, OnOk, IsErrOf};
 ghost use Rattle.modsched.specs.Devices.{most_read};
-ghost use Rattle.modsched.specs.Engine.{CountsFault, Does, Ends, EndsWritten, reads_machine};
-ghost use Rattle.modsched.specs.Outcomes.{Outcome};
-ghost use Rattle.modsched.specs.Plain.{plain_outcome};
-ghost use Rattle.modsched.specs.Statuses.{number_of};
+ghost use Rattle.modsched.specs.Engine.{CountsFault, Does, Ends, EndsWritten, machine_for, reads_machine};
+ghost use Rattle.modsched.specs.Statuses.{HasAnswered, HasWritten, IsComplete, number_of};
 
-use crate::bounds::bounds_text;
-use crate::device::{Input, Output};
-use crate::line::Command;
-use crate::plain::plain_text;
+use crate::printout::{Printout, printout_of};
 use crate::status::Status;
-use crate::text::{ReadTextError, read_text, write_text};
-use crate::trip::Trip;
+use command_line::Command;
+use devices::{Input, Output, ReadTextError, read_text, write_text};
 use std::alloc::Global;
 
 /// Does the work of a command: reads the texts that it needs, makes the output whole, writes it and
-/// flushes it. `bounds` reads the machine's text and the loops' text, both before either is looked at,
-/// and `plain` the loops' text alone. After a fault no further call is made on that device, and after
-/// a refusal nothing is written.
+/// flushes it. Both texts are read before either is looked at, the machine's first; a command that needs
+/// no machine leaves the machine's input alone. After a fault no further call is made on that device, and
+/// after a refusal the output is left alone.
 pub fn engine<M: Input, L: Input, O: Output>(
     alloc: Global,
     command: &Command,
@@ -47,16 +39,15 @@ pub fn engine<M: Input, L: Input, O: Output>(
     // Want of memory has one status.
     ensures memory { number_of result ≡ 7 → result ≡ Status.OutOfMemory }
 
-    // What was written is the text of the subcommand, for the bytes that the inputs had left, or a beginning of it, or nothing.
-    ensures exact { number_of result ≢ 3 → number_of result ≢ 7
-        → Does command.now (M.left machine_input.old) (L.left loops_input.old) (λ outcome. Ends outcome (O.taken output.old) (O.taken output.new) result) }
-    ensures silent { number_of result ≢ 0 → number_of result ≢ 6 → O.taken output.new ≡ O.taken output.old }
-    ensures unused { number_of result ≢ 0 → number_of result ≢ 6 → output.new ≡ output.old }
+    // What was written is the text of the command for the bytes that its inputs had left, or a beginning of it where the output
+    // failed; and nothing after a refusal. All of a whole text is handed on.
+    ensures exact { HasAnswered result → Does command.now (M.left machine_input.old) (L.left loops_input.old) (λ outcome. Ends outcome (O.taken output.old) (O.taken output.new) result) }
+    ensures handed { IsComplete result → O.handed output.new ≡ O.taken output.new }
+    ensures unused { ¬ HasWritten result → output.new ≡ output.old }
 
     // Each input that the command reads is read to its end, or to one byte past what a text may have. One that it does not read is left alone.
-    ensures machine_read { reads_machine command.now ≡ true → number_of result ≢ 3 → number_of result ≢ 7
-        → IfSome (M.left machine_input.old) (λ bytes. M.left machine_input.new ≡ Some (drop most_read bytes)) }
-    ensures loops_read { number_of result ≢ 3 → number_of result ≢ 7 → IfSome (L.left loops_input.old) (λ bytes. L.left loops_input.new ≡ Some (drop most_read bytes)) }
+    ensures machine_read { reads_machine command.now ≡ true → HasAnswered result → IfSome (M.left machine_input.old) (λ bytes. M.left machine_input.new ≡ Some (drop most_read bytes)) }
+    ensures loops_read { HasAnswered result → IfSome (L.left loops_input.old) (λ bytes. L.left loops_input.new ≡ Some (drop most_read bytes)) }
     ensures untouched { reads_machine command.now ≡ false → machine_input.new ≡ machine_input.old }
 
     // The machine's input comes first: where it fails the loops' input is left alone, and where that fails the machine's was read.
@@ -64,41 +55,7 @@ pub fn engine<M: Input, L: Input, O: Output>(
     ensures loops_last { reads_machine command.now ≡ true → result ≡ Status.LoopsUnread
         → IfSome (M.left machine_input.old) (λ bytes. M.left machine_input.new ≡ Some (drop most_read bytes)) }
 {
-    match command {
-        Command::Bounds { .. } => bounds(alloc, machine_input, loops_input, output),
-        Command::Plain { trip, .. } => plain(alloc, *trip, loops_input, output),
-    }
-}
-
-/// The work of `bounds`.
-fn bounds<M: Input, L: Input, O: Output>(
-    alloc: Global,
-    machine_input: &mut M,
-    loops_input: &mut L,
-    output: &mut O,
-) -> Status
-    requires machine_fresh { M.failed machine_input.old < 2 ^ 64 - 1 }
-    requires loops_fresh { L.failed loops_input.old < 2 ^ 64 - 1 }
-    requires output_fresh { O.failed output.old < 2 ^ 64 - 1 }
-
-    ensures machine_unread { (result ≡ Status.MachineUnread) ↔ (M.failed machine_input.old < M.failed machine_input.new) }
-    ensures loops_unread { (result ≡ Status.LoopsUnread) ↔ (L.failed loops_input.old < L.failed loops_input.new) }
-    ensures unwritten { (result ≡ Status.Unwritten) ↔ (O.failed output.old < O.failed output.new) }
-    ensures machine_faults { CountsFault (result ≡ Status.MachineUnread) (M.failed machine_input.old) (M.failed machine_input.new) }
-    ensures loops_faults { CountsFault (result ≡ Status.LoopsUnread) (L.failed loops_input.old) (L.failed loops_input.new) }
-    ensures output_faults { CountsFault (result ≡ Status.Unwritten) (O.failed output.old) (O.failed output.new) }
-    ensures memory { number_of result ≡ 7 → result ≡ Status.OutOfMemory }
-    ensures exact { (machine loops : List ℕ) → M.left machine_input.old ≡ Some machine → L.left loops_input.old ≡ Some loops
-        → number_of result ≢ 3 → number_of result ≢ 7
-        → (outcome : Outcome) × Bounds (machine_of machine) (loops_in loops) outcome × Ends outcome (O.taken output.old) (O.taken output.new) result }
-    ensures silent { number_of result ≢ 0 → number_of result ≢ 6 → O.taken output.new ≡ O.taken output.old }
-    ensures unused { number_of result ≢ 0 → number_of result ≢ 6 → output.new ≡ output.old }
-    ensures machine_read { number_of result ≢ 3 → number_of result ≢ 7 → IfSome (M.left machine_input.old) (λ bytes. M.left machine_input.new ≡ Some (drop most_read bytes)) }
-    ensures loops_read { number_of result ≢ 3 → number_of result ≢ 7 → IfSome (L.left loops_input.old) (λ bytes. L.left loops_input.new ≡ Some (drop most_read bytes)) }
-    ensures machine_first { result ≡ Status.MachineUnread → loops_input.new ≡ loops_input.old }
-    ensures loops_last { result ≡ Status.LoopsUnread → IfSome (M.left machine_input.old) (λ bytes. M.left machine_input.new ≡ Some (drop most_read bytes)) }
-{
-    let machine = match read_text(alloc, machine_input) {
+    let machine = match machine_text(alloc, command, machine_input) {
         Ok(machine) => machine,
         Err(ReadTextError::Fault) => return Status::MachineUnread,
         Err(ReadTextError::Memory) => return Status::OutOfMemory,
@@ -108,55 +65,43 @@ fn bounds<M: Input, L: Input, O: Output>(
         Err(ReadTextError::Fault) => return Status::LoopsUnread,
         Err(ReadTextError::Memory) => return Status::OutOfMemory,
     };
-    match bounds_text(alloc, machine.as_slice(), loops.as_slice()) {
-        Ok(text) => finish(output, text.as_slice()),
+    match printout_of(alloc, command, machine.as_slice(), loops.as_slice()) {
+        Ok(printout) => finish(output, &printout),
         Err(status) => status,
     }
 }
 
-/// The work of `plain`.
-fn plain<L: Input, O: Output>(
+/// The machine's text, which is empty where the command reads none.
+fn machine_text<M: Input>(
     alloc: Global,
-    trip: Trip,
-    loops_input: &mut L,
-    output: &mut O,
-) -> Status
-    requires loops_fresh { L.failed loops_input.old < 2 ^ 64 - 1 }
-    requires output_fresh { O.failed output.old < 2 ^ 64 - 1 }
-
-    ensures machine_read { ¬ (result ≡ Status.MachineUnread) }
-    ensures loops_unread { (result ≡ Status.LoopsUnread) ↔ (L.failed loops_input.old < L.failed loops_input.new) }
-    ensures unwritten { (result ≡ Status.Unwritten) ↔ (O.failed output.old < O.failed output.new) }
-    ensures loops_faults { CountsFault (result ≡ Status.LoopsUnread) (L.failed loops_input.old) (L.failed loops_input.new) }
-    ensures output_faults { CountsFault (result ≡ Status.Unwritten) (O.failed output.old) (O.failed output.new) }
-    ensures memory { number_of result ≡ 7 → result ≡ Status.OutOfMemory }
-    ensures exact { (loops : List ℕ) → L.left loops_input.old ≡ Some loops → number_of result ≢ 3 → number_of result ≢ 7
-        → Ends (plain_outcome trip (loops_in loops)) (O.taken output.old) (O.taken output.new) result }
-    ensures silent { number_of result ≢ 0 → number_of result ≢ 6 → O.taken output.new ≡ O.taken output.old }
-    ensures unused { number_of result ≢ 0 → number_of result ≢ 6 → output.new ≡ output.old }
-    ensures loops_read { number_of result ≢ 3 → number_of result ≢ 7 → IfSome (L.left loops_input.old) (λ bytes. L.left loops_input.new ≡ Some (drop most_read bytes)) }
+    command: &Command,
+    input: &mut M,
+) -> Result<Vec<u8>, ReadTextError>
+    requires { M.failed input.old < 2 ^ 64 - 1 }
+    ensures text { IfOk result (λ text. IfSome (machine_for command.now (M.left input.old)) (λ bytes. text.items ≡ take most_read bytes)) }
+    ensures rest { reads_machine command.now ≡ true → OnOk result (IfSome (M.left input.old) (λ bytes. M.left input.new ≡ Some (drop most_read bytes))) }
+    ensures untouched { reads_machine command.now ≡ false → input.new ≡ input.old }
+    ensures fine { OnOk result (M.failed input.new ≡ M.failed input.old) }
+    ensures fault { IsErrOf result ReadTextError.Fault ↔ (M.failed input.new ≡ M.failed input.old + 1) }
+    ensures memory { IsErrOf result ReadTextError.Memory → M.failed input.new ≡ M.failed input.old }
 {
-    let loops = match read_text(alloc, loops_input) {
-        Ok(loops) => loops,
-        Err(ReadTextError::Fault) => return Status::LoopsUnread,
-        Err(ReadTextError::Memory) => return Status::OutOfMemory,
-    };
-    let text = match plain_text(alloc, loops.as_slice(), trip) {
-        Ok(text) => text,
-        Err(status) => return status,
-    };
-    finish(output, text.as_slice())
+    match command {
+        Command::Bounds { .. } => read_text(alloc, input),
+        Command::Plain { .. } => Ok(Vec::new(alloc)),
+    }
 }
 
 /// Writes the whole output and flushes it.
-fn finish<O: Output>(output: &mut O, text: &[u8]) -> Status
+fn finish<O: Output>(output: &mut O, printout: &Printout) -> Status
     requires { O.failed output.old < 2 ^ 64 - 1 }
-    ensures ends { EndsWritten text.now (O.taken output.old) (O.taken output.new) result }
+    ensures ends { EndsWritten printout.now.text.items printout.now.all_met (O.taken output.old) (O.taken output.new) result }
+    ensures handed { IsComplete result → O.handed output.new ≡ O.taken output.new }
     ensures unwritten { (result ≡ Status.Unwritten) ↔ (O.failed output.old < O.failed output.new) }
     ensures faults { CountsFault (result ≡ Status.Unwritten) (O.failed output.old) (O.failed output.new) }
 {
-    match write_text(output, text) {
-        Ok(()) => Status::Done,
+    match write_text(output, printout.text.as_slice()) {
+        Ok(()) if printout.all_met => Status::Done,
+        Ok(()) => Status::Unmet,
         Err(_) => Status::Unwritten,
     }
 }

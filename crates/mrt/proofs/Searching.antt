@@ -1,26 +1,25 @@
 -- The least cycle and the first alternative there.
-use Rattle.std.proofs.Common.{◌≡◌, ℕ, ◌+◌, ◌-◌, ◌^◌, ◌<◌, ◌≤◌, ◌↔◌, inl, inr, Bool, false, not, eqb, min, length, Some, None, refl, sym, ap, subst, ◌∙◌, arith, eq-eqb, below_more, w64}
+use Rattle.std.proofs.Common.{◌≡◌, ℕ, ◌+◌, ◌-◌, ◌^◌, ◌<◌, ◌≤◌, inl, inr, Bool, true, false, not, eqb, min, length, Some, None, refl, sym, ap, subst, ◌∙◌, arith, eq-eqb, below_more, w64}
 use Rattle.std.specs.Int.{bit_at, trailing_zeros}
-use Rattle.std.proofs.lemmas.Bool.{cases_eq, cases_lt, eqb-true}
+use Rattle.std.proofs.lemmas.Bool.{cases_eq, cases_lt, eqb-true, true≢false}
 use Rattle.std.proofs.lemmas.Nat.Bits.{bit_at-trailing_zeros, bit_at-zero}
 use lib.Count.{count_trailing_zeros}
 use Rattle.machine.specs.Alternative.{collides}
 use Rattle.std.specs.List.{All}
 use Rattle.mrt.specs.Slots.{meets_held, Occupies}
 use Rattle.mrt.proofs.Taking.{free_from_unmet}
-use Rattle.mrt.specs.Placements.{Operations, Placements, alternatives_of, rows_of, IsFree}
-use Rattle.mrt.specs.Searches.{IsFirstWithin}
+use Rattle.mrt.specs.Placements.{Operations, Placements, alternatives_of, rows_of, IsFree, IsFirstSlot}
 
--- the least cycle below 8 at which one of so many alternatives serves, and the first that does, or 8
-pub record IsBest (F : ℕ → ℕ → Type 0) (first best alternatives : ℕ) : Type 0 where
-  pub few : first ≤ 8
+-- the least cycle below a bound at which one of so many alternatives serves, and the first that does, or the bound
+pub record IsBest (F : ℕ → ℕ → Type 0) (bound first best alternatives : ℕ) : Type 0 where
+  pub few : first ≤ bound
   pub none_sooner : (alternative : ℕ) → alternative < alternatives → (sooner : ℕ) → sooner < first → F sooner alternative → ⊥
-  pub free : first < 8 → F first best
-  pub none_before : first < 8 → (before : ℕ) → before < best → F first before → ⊥
-  pub there : first < 8 → best < alternatives
+  pub free : first < bound → F first best
+  pub none_before : first < bound → (before : ℕ) → before < best → F first before → ⊥
+  pub there : first < bound → best < alternatives
 
-module _ (F : ℕ → ℕ → Type 0) where
-  pub IsBest-none : IsBest F 8 0 0
+module _ (F : ℕ → ℕ → Type 0) (bound : ℕ) where
+  pub IsBest-none : IsBest F bound bound 0 0
   IsBest-none = record {
     few = omega arith;
     none_sooner = λ alternative lt. absurd (omega arith);
@@ -30,17 +29,17 @@ module _ (F : ℕ → ℕ → Type 0) where
   }
 
   -- one alternative more, that serves sooner
-  pub IsBest-taken : (first best k cycle : ℕ) → IsBest F first best k → cycle < first → ((sooner : ℕ) → sooner < cycle → F sooner k → ⊥) → (cycle < 8 → F cycle k) → IsBest F cycle k (k + 1)
+  pub IsBest-taken : (first best k cycle : ℕ) → IsBest F bound first best k → cycle < first → ((sooner : ℕ) → sooner < cycle → F sooner k → ⊥) → F cycle k → IsBest F bound cycle k (k + 1)
   IsBest-taken first best k cycle b lt none free = record {
     few = omega (arith, b.few);
     none_sooner = below_more (λ a. (sooner : ℕ) → sooner < cycle → F sooner a → ⊥) k (λ a la sooner ls. b.none_sooner a la sooner (omega arith)) none;
-    free = free;
+    free = λ _. free;
     none_before = λ _ before lb. b.none_sooner before lb cycle lt;
     there = λ _. omega arith;
   }
 
   -- one alternative more, that serves no sooner
-  pub IsBest-kept : (first best k cycle : ℕ) → IsBest F first best k → first ≤ cycle → ((sooner : ℕ) → sooner < cycle → F sooner k → ⊥) → IsBest F first best (k + 1)
+  pub IsBest-kept : (first best k cycle : ℕ) → IsBest F bound first best k → first ≤ cycle → ((sooner : ℕ) → sooner < cycle → F sooner k → ⊥) → IsBest F bound first best (k + 1)
   IsBest-kept first best k cycle b le none = record {
     few = b.few;
     none_sooner = below_more (λ a. (sooner : ℕ) → sooner < first → F sooner a → ⊥) k b.none_sooner (λ sooner ls. none sooner (omega arith));
@@ -49,20 +48,24 @@ module _ (F : ℕ → ℕ → Type 0) where
     there = λ lt. omega (arith, b.there lt);
   }
 
-module _ (ii : ℕ) (operations : Operations) (placed : Placements) (op time : ℕ) where
+module _ (ii : ℕ) (operations : Operations) (placed : Placements) (op start : ℕ) where
   -- the operation can be issued by an alternative some cycles later
   abbrev pub is_free_after : ℕ → ℕ → Type 0
-  is_free_after cycle alternative = IsFree ii operations placed op (time + cycle) alternative
+  is_free_after cycle alternative = IsFree ii operations placed op (start + cycle) alternative
 
-  pub first_within_some : (first best alternatives : ℕ) → IsBest is_free_after first best alternatives → length (alternatives_of operations op) ≤ alternatives → first < 8
-      → IsFirstWithin 8 ii operations placed op time (Some (first, best))
-  first_within_some first best alternatives b all lt =
-      (lt, (b.free lt, b.none_before lt), λ sooner alternative ls f. let there : alternative < alternatives = omega (arith, f.there) in b.none_sooner alternative there sooner ls f)
+  module _ (first best alternatives : ℕ) (b : IsBest is_free_after ii first best alternatives) (all : length (alternatives_of operations op) ≤ alternatives) where
+    none_before_first : (time alternative : ℕ) → start ≤ time → time < start + first → IsFree ii operations placed op time alternative → ⊥
+    none_before_first time alternative from to f =
+        let P : ℕ → Type 0 = λ t. IsFree ii operations placed op t alternative in
+        let whole : time ≡ start + (time - start) = omega arith in
+        let there : alternative < alternatives = omega (arith, f.there) in
+        b.none_sooner alternative there (time - start) (omega arith) (subst P whole f)
 
-  pub first_within_none : (first best alternatives : ℕ) → IsBest is_free_after first best alternatives → length (alternatives_of operations op) ≤ alternatives → 8 ≤ first
-      → IsFirstWithin 8 ii operations placed op time None
-  first_within_none first best alternatives b all le =
-      λ cycle alternative lc f. let there : alternative < alternatives = omega (arith, f.there) in b.none_sooner alternative there cycle (omega arith) f
+    pub first_slot_some : first < ii → IsFirstSlot ii operations placed op start (Some (start + first, best))
+    first_slot_some lt = ((omega arith), (omega arith), (b.free lt, b.none_before lt), λ sooner alternative from ls. none_before_first sooner alternative from ls)
+
+    pub first_slot_none : ii ≤ first → IsFirstSlot ii operations placed op start None
+    first_slot_none le = λ time alternative from to. none_before_first time alternative from (omega arith)
 
 -- the lowest bit that is set
 pub lowest_bit : (n r : ℕ) → n < 2 ^ 64 → r ≡ min (trailing_zeros w64 n) 8 → ((k : ℕ) → k < r → bit_at n k ≡ 1 → ⊥) × (r < 8 → bit_at n r ≡ 1)
@@ -79,28 +82,36 @@ lowest_bit n r fits is =
           )
     ]
 
--- a bit that tells whether the operation can be issued by an alternative some cycles later
-pub free_from_bit : (ii : ℕ) (operations : Operations) (placed : Placements) (held : ℕ → ℕ → Bool) (op alternative time n k : ℕ) → 0 < ii → Occupies ii 64 operations placed held
-    → alternative < length (alternatives_of operations op) → All (λ r. r.unit < 64) (rows_of operations op alternative) → collides ii (rows_of operations op alternative) ≡ false
-    → eqb (bit_at n k) 1 ≡ not (meets_held ii held (rows_of operations op alternative) (time + k))
-    → (bit_at n k ≡ 1) ↔ IsFree ii operations placed op (time + k) alternative
-free_from_bit ii operations placed held op alternative time n k some o there covered sound tells =
-    let met = meets_held ii held (rows_of operations op alternative) (time + k) in
-    let both = free_from_unmet ii operations placed 64 held some o op alternative (time + k) met there covered sound refl in (
-      λ one. both.0 (sym tells ∙ eq-eqb (bit_at n k) 1 one),
-      λ f. eqb-true (bit_at n k) 1 (tells ∙ both.1 f),
-    )
+-- a bit that is set where a slot is not held
+pub unmet_from_bit : (n k : ℕ) (met : Bool) → eqb (bit_at n k) 1 ≡ not met → bit_at n k ≡ 1 → met ≡ false
+unmet_from_bit n k true tells one = absurd (true≢false (sym (eq-eqb (bit_at n k) 1 one) ∙ tells))
+unmet_from_bit n k false tells one = refl
 
-module _ (ii : ℕ) (operations : Operations) (placed : Placements) (op start time : ℕ) where
-  -- at no time before one, nor within some cycles from it
-  pub none_until : (cycles : ℕ) → ((sooner : ℕ) → sooner < time → (alternative : ℕ) → start ≤ sooner → IsFree ii operations placed op sooner alternative → ⊥)
-      → ((cycle alternative : ℕ) → cycle < cycles → IsFree ii operations placed op (time + cycle) alternative → ⊥)
-      → (sooner : ℕ) → sooner < time + cycles → (alternative : ℕ) → start ≤ sooner → IsFree ii operations placed op sooner alternative → ⊥
-  none_until cycles before within sooner lt alternative from free =
-      elim (cases_lt sooner time) [
-        | inl early ↦ before sooner early alternative from free
-        | inr late ↦
-            let P : ℕ → Type 0 = λ t. IsFree ii operations placed op t alternative in
-            let whole : sooner ≡ time + (sooner - time) = omega arith in
-            within (sooner - time) alternative (omega arith) (subst P whole free)
-      ]
+pub met_from_bit : (n k : ℕ) (met : Bool) → eqb (bit_at n k) 1 ≡ not met → (bit_at n k ≡ 1 → ⊥) → met ≡ true
+met_from_bit n k true tells zero = refl
+met_from_bit n k false tells zero = absurd (zero (eqb-true (bit_at n k) 1 tells))
+
+-- what holds in the cycles before one, and in some cycles from it, holds before the last of them
+pub met_until : (M : ℕ → Bool) (time passed cycles : ℕ) → ((sooner : ℕ) → sooner < passed → M (time + sooner) ≡ true)
+    → ((cycle : ℕ) → cycle < cycles → M (time + passed + cycle) ≡ true) → (sooner : ℕ) → sooner < passed + cycles → M (time + sooner) ≡ true
+met_until M time passed cycles before within sooner lt =
+    elim (cases_lt sooner passed) [
+      | inl early ↦ before sooner early
+      | inr late ↦
+          let whole : time + passed + (sooner - passed) ≡ time + sooner = omega arith in
+          subst (λ t. M t ≡ true) whole (within (sooner - passed) (omega arith))
+    ]
+
+-- whether rows meet a slot that is held tells whether an operation can be issued by them
+module _ (ii : ℕ) (operations : Operations) (placed : Placements) (held : ℕ → ℕ → Bool) (some : 0 < ii) (o : Occupies ii 64 operations placed held) (op alternative : ℕ)
+    (there : alternative < length (alternatives_of operations op)) (covered : All (λ r. r.unit < 64) (rows_of operations op alternative)) (sound : collides ii (rows_of operations op alternative) ≡ false) where
+  pub free_from_met : (time : ℕ) → meets_held ii held (rows_of operations op alternative) time ≡ false → IsFree ii operations placed op time alternative
+  free_from_met time unmet =
+      let met = meets_held ii held (rows_of operations op alternative) time in
+      (free_from_unmet ii operations placed 64 held some o op alternative time met there covered sound refl).0 (ap not unmet)
+
+  pub taken_from_met : (time : ℕ) → meets_held ii held (rows_of operations op alternative) time ≡ true → IsFree ii operations placed op time alternative → ⊥
+  taken_from_met time is f =
+      let met = meets_held ii held (rows_of operations op alternative) time in
+      let free : not met ≡ true = (free_from_unmet ii operations placed 64 held some o op alternative time met there covered sound refl).1 f in
+      true≢false (sym free ∙ ap not is)

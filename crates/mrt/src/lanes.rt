@@ -1,6 +1,6 @@
 //! Eight consecutive words of a table of masks at once.
 
-ghost use Rattle.std.specs.Prelude.{◌≡◌, ◌+◌, ◌%◌, ◌<◌, ◌≤◌, ◌==◌, ℕ, not, length, slice_index, bit_and, bit_or};
+ghost use Rattle.std.specs.Prelude.{◌≡◌, ◌+◌, ◌%◌, ◌<◌, ◌≤◌, ◌==◌, ℕ, not, true, false, length, slice_index, bit_and, bit_or};
 ghost use Rattle.std.specs.Int.{bit_at};
 ghost use Rattle.std.specs.List.{All};
 ghost use Rattle.mrt.specs.Slots.{IsSlot, rows_in, meets_held};
@@ -10,9 +10,69 @@ ghost use Rattle.mrt.specs.Lanes.{HasLanes};
 use crate::slot::Slot;
 use std::simd::prelude::*;
 
+/// After how many cycles, counted from one whose residue is `base`, no slot is held; `limit` where one
+/// is held in each cycle before that.
+pub(crate) fn first_unmet(busy: &[u64], slots: &[Slot], ii: usize, base: usize, limit: u64) -> u64
+    requires long { 8 ≤ ii }
+    requires few { ii ≤ 16384 }
+    requires words { length busy.now ≡ ii + 7 }
+    requires repeats { Repeats ii busy.now }
+    requires slots { All (IsSlot ii) slots.now }
+    requires base { base < ii }
+    requires limit { limit ≤ ii }
+    ensures few { result ≤ limit }
+    ensures met { (time sooner : ℕ) → time % ii ≡ base → sooner < result
+        → meets_held ii (is_held busy.now) (rows_in slots.now) (time + sooner) ≡ true }
+    ensures unmet { (time : ℕ) → time % ii ≡ base → result < limit
+        → meets_held ii (is_held busy.now) (rows_in slots.now) (time + result) ≡ false }
+{
+    let mut at = base;
+    let mut passed = 0;
+    while passed < limit {
+        let cycles = first_of_eight(busy, slots, ii, at);
+        if cycles < 8 {
+            return limit.min(passed + cycles);
+        }
+        passed += 8;
+        at = eight_later(at, ii);
+    }
+    limit
+}
+
+/// The residue of a time eight cycles after one whose residue is `base`.
+fn eight_later(base: usize, ii: usize) -> usize
+    requires base { base < ii }
+    requires long { 8 ≤ ii }
+    requires few { ii ≤ 16384 }
+    ensures below { result < ii }
+    ensures value { (time : ℕ) → time % ii ≡ base → result ≡ (time + 8) % ii }
+{
+    let sum = base + 8;
+    if sum < ii { sum } else { sum - ii }
+}
+
+/// After how many of eight cycles, counted from one whose residue is `base`, no slot is held; 8 where
+/// one is held in each of them.
+fn first_of_eight(busy: &[u64], slots: &[Slot], ii: usize, base: usize) -> u64
+    requires long { 8 ≤ ii }
+    requires few { ii ≤ 16384 }
+    requires words { length busy.now ≡ ii + 7 }
+    requires repeats { Repeats ii busy.now }
+    requires slots { All (IsSlot ii) slots.now }
+    requires base { base < ii }
+    ensures few { result ≤ 8 }
+    ensures met { (time sooner : ℕ) → time % ii ≡ base → sooner < result
+        → meets_held ii (is_held busy.now) (rows_in slots.now) (time + sooner) ≡ true }
+    ensures unmet { (time : ℕ) → time % ii ≡ base → result < 8
+        → meets_held ii (is_held busy.now) (rows_in slots.now) (time + result) ≡ false }
+{
+    let cycles = free_cycles(busy, slots, ii, base);
+    u64::from(cycles.trailing_zeros().min(8))
+}
+
 /// At which of eight consecutive cycles, from one whose residue is `base`, no slot is held: bit `k` is
 /// set where that is so `k` cycles later.
-pub(crate) fn free_cycles(busy: &[u64], slots: &[Slot], ii: usize, base: usize) -> u64
+fn free_cycles(busy: &[u64], slots: &[Slot], ii: usize, base: usize) -> u64
     requires long { 8 ≤ ii }
     requires few { ii ≤ 16384 }
     requires words { length busy.now ≡ ii + 7 }

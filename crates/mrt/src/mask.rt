@@ -4,12 +4,11 @@ ghost use Rattle.std.specs.Prelude.{◌≡◌, ◌↔◌, ◌+◌, ◌*◌, ◌%
 ghost use Rattle.std.specs.Int.{bit_at};
 ghost use Rattle.std.specs.List.{All};
 ghost use Rattle.machine.specs.Alternative.{residue_of};
-ghost use Rattle.mrt.specs.Placements.{alternatives_of, IsFree, IsFirstFree};
-ghost use Rattle.mrt.specs.Searches.{IsFirstWithin};
+ghost use Rattle.mrt.specs.Placements.{alternatives_of, IsFree, IsFirstFree, IsFirstSlot};
 ghost use Rattle.mrt.specs.Slots.{IsSlot, rows_in, takes, meets_held};
 ghost use Rattle.mrt.specs.MaskTables.{is_held, Repeats};
 
-use crate::lanes::free_cycles;
+use crate::lanes::first_unmet;
 use crate::roster::{Issue, Roster};
 use crate::slot::Slot;
 use crate::table::ModuloTable;
@@ -40,14 +39,6 @@ impl Model for MaskTable {
 }
 
 impl MaskTable {
-    /// A time modulo the interval.
-    fn residue(&self, time: u64) -> usize
-        ensures value { result ≡ time % self.now.interval }
-        ensures below { result < self.now.interval }
-    {
-        (time % self.roster.ii() as u64) as usize
-    }
-
     /// Whether an operation can be issued by one of its alternatives at the times with a residue.
     fn is_free(&self, op: usize, alternative: usize, base: usize) -> bool
         requires there { op < length self.now.operations }
@@ -56,10 +47,9 @@ impl MaskTable {
         ensures { (time : ℕ) → time % self.now.interval ≡ base
             → IsTrue result ↔ IsFree self.now.interval self.now.operations self.now.placed op time alternative }
     {
-        if self.roster.collides(op, alternative) {
+        let Some(slots) = self.roster.usable(op, alternative) else {
             return false;
-        }
-        let slots = self.roster.slots(op, alternative);
+        };
         !is_met(&self.busy, slots, self.roster.ii(), base)
     }
 
@@ -79,62 +69,68 @@ impl MaskTable {
     }
 
     /// After how many cycles, counted from one whose residue is `base`, an operation can first be
-    /// issued by an alternative; 8 where it cannot within eight.
-    fn first_cycle(&self, op: usize, alternative: usize, base: usize) -> u64
+    /// issued by an alternative; `limit` where it cannot sooner.
+    fn first_cycle(&self, op: usize, alternative: usize, base: usize, limit: u64) -> u64
         requires there { op < length self.now.operations }
         requires alternative { alternative < length (alternatives_of self.now.operations op) }
         requires base { base < self.now.interval }
         requires eight { 8 ≤ self.now.interval }
-        ensures few { result ≤ 8 }
+        requires limit { limit ≤ self.now.interval }
+        ensures few { result ≤ limit }
         ensures none_sooner { (time sooner : ℕ) → time % self.now.interval ≡ base → sooner < result
             → IsFree self.now.interval self.now.operations self.now.placed op (time + sooner) alternative → ⊥ }
-        ensures free { (time : ℕ) → time % self.now.interval ≡ base → result < 8
+        ensures free { (time : ℕ) → time % self.now.interval ≡ base → result < limit
             → IsFree self.now.interval self.now.operations self.now.placed op (time + result) alternative }
     {
-        if self.roster.collides(op, alternative) {
-            return 8;
-        }
-        let slots = self.roster.slots(op, alternative);
-        let cycles = free_cycles(&self.busy, slots, self.roster.ii(), base);
-        u64::from(cycles.trailing_zeros().min(8))
+        let Some(slots) = self.roster.usable(op, alternative) else {
+            return limit;
+        };
+        first_unmet(&self.busy, slots, self.roster.ii(), base, limit)
     }
 
-    /// After how many of eight cycles, counted from one whose residue is `base`, an operation can first
-    /// be issued, and the first alternative there.
-    fn first_of_eight(&self, op: usize, base: usize) -> Option<(u64, usize)>
+    /// [`ModuloTable::first_free`] from an interval of 8 on: each alternative is searched in turn, up to
+    /// the least time found so far, eight times at once.
+    fn first_by_lanes(&self, op: usize, start: u64) -> Option<(u64, usize)>
         requires there { op < length self.now.operations }
-        requires base { base < self.now.interval }
+        requires time { start + self.now.interval ≤ 2 ^ 32 }
         requires eight { 8 ≤ self.now.interval }
-        ensures { (time : ℕ) → time % self.now.interval ≡ base
-            → IsFirstWithin 8 self.now.interval self.now.operations self.now.placed op time result }
+        ensures { IsFirstSlot self.now.interval self.now.operations self.now.placed op start result }
     {
-        let mut first = 8;
+        let base = self.roster.residue(start);
+        let cycles = self.roster.ii() as u64;
+        let mut first = cycles;
         let mut best = 0;
         for alternative in 0..self.roster.count(op) {
-            let cycle = self.first_cycle(op, alternative, base);
+            let cycle = self.first_cycle(op, alternative, base, first);
             if cycle < first {
                 first = cycle;
                 best = alternative;
             }
         }
-        if first < 8 { Some((first, best)) } else { None }
+        if first < cycles {
+            Some((start + first, best))
+        } else {
+            None
+        }
+    }
+
+    /// [`ModuloTable::first_free`] at any interval, one time after another.
+    fn first_one_by_one(&self, op: usize, start: u64) -> Option<(u64, usize)>
+        requires there { op < length self.now.operations }
+        requires time { start + self.now.interval ≤ 2 ^ 32 }
+        ensures { IsFirstSlot self.now.interval self.now.operations self.now.placed op start result }
+    {
+        for time in start..start + self.roster.ii() as u64 {
+            if let Some(alternative) = self.first_alternative(op, self.roster.residue(time)) {
+                return Some((time, alternative));
+            }
+        }
+        None
     }
 }
 
-/// The residue of a time some cycles after one whose residue is `base`.
-fn later(base: usize, cycles: usize, ii: usize) -> usize
-    requires base { base < ii }
-    requires cycles { cycles ≤ ii }
-    requires few { ii ≤ 16384 }
-    ensures below { result < ii }
-    ensures value { (time : ℕ) → time % ii ≡ base → result ≡ (time + cycles) % ii }
-{
-    let sum = base + cycles;
-    if sum < ii { sum } else { sum - ii }
-}
-
 impl ModuloTable for MaskTable {
-    ghost use Rattle.mrt.specs.Placements.{Operations, Placements, IsFirstSlot, IsHolder};
+    ghost use Rattle.mrt.specs.Placements.{Operations, Placements, IsHolder};
 
     ghost placed = { λ t. t.placed };
 
@@ -158,34 +154,20 @@ impl ModuloTable for MaskTable {
     }
 
     fn free(&self, op: usize, time: u64) -> Option<usize> {
-        self.first_alternative(op, self.residue(time))
+        self.first_alternative(op, self.roster.residue(time))
     }
 
     fn first_free(&self, op: usize, start: u64) -> Option<(u64, usize)> {
-        let ii = self.roster.ii();
-        let end = start + ii as u64;
-        let mut time = start;
-        let mut base = self.residue(start);
-        while time + 8 <= end {
-            if let Some((cycle, alternative)) = self.first_of_eight(op, base) {
-                return Some((time + cycle, alternative));
-            }
-            time += 8;
-            base = later(base, 8, ii);
+        if self.roster.ii() < 8 {
+            self.first_one_by_one(op, start)
+        } else {
+            self.first_by_lanes(op, start)
         }
-        while time < end {
-            if let Some(alternative) = self.first_alternative(op, base) {
-                return Some((time, alternative));
-            }
-            time += 1;
-            base = later(base, 1, ii);
-        }
-        None
     }
 
     fn holder(&self, op: usize, alternative: usize, row: usize, time: u64) -> Option<usize> {
         let slot = self.roster.slots(op, alternative)[row];
-        let residue = slot.residue(self.residue(time), self.roster.ii());
+        let residue = slot.residue(self.roster.residue(time), self.roster.ii());
         if self.busy[residue] & slot.mask == 0 {
             return None;
         }
@@ -194,7 +176,7 @@ impl ModuloTable for MaskTable {
 
     fn claim(&mut self, op: usize, time: u64, alternative: usize) {
         let ii = self.roster.ii();
-        let base = self.residue(time);
+        let base = self.roster.residue(time);
         let slots = self.roster.slots(op, alternative);
         mark(&mut self.busy, slots, ii, base, true);
         self.roster.place(

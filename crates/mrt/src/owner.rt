@@ -40,14 +40,6 @@ impl Model for OwnerTable {
 }
 
 impl OwnerTable {
-    /// A time modulo the interval.
-    fn residue(&self, time: u64) -> usize
-        ensures value { result ≡ time % self.now.interval }
-        ensures below { result < self.now.interval }
-    {
-        (time % self.roster.ii() as u64) as usize
-    }
-
     /// Whether an operation can be issued by one of its alternatives at the times with a residue.
     fn is_free(&self, op: usize, alternative: usize, base: usize) -> bool
         requires there { op < length self.now.operations }
@@ -56,10 +48,9 @@ impl OwnerTable {
         ensures { (time : ℕ) → time % self.now.interval ≡ base
             → IsTrue result ↔ IsFree self.now.interval self.now.operations self.now.placed op time alternative }
     {
-        if self.roster.collides(op, alternative) {
+        let Some(slots) = self.roster.usable(op, alternative) else {
             return false;
-        }
-        let slots = self.roster.slots(op, alternative);
+        };
         !is_met(&self.owners, slots, self.roster.ii(), self.units, base)
     }
 }
@@ -93,7 +84,7 @@ impl ModuloTable for OwnerTable {
     }
 
     fn free(&self, op: usize, time: u64) -> Option<usize> {
-        let base = self.residue(time);
+        let base = self.roster.residue(time);
         for alternative in 0..self.roster.count(op) {
             if self.is_free(op, alternative, base) {
                 return Some(alternative);
@@ -104,13 +95,18 @@ impl ModuloTable for OwnerTable {
 
     fn holder(&self, op: usize, alternative: usize, row: usize, time: u64) -> Option<usize> {
         let slot = self.roster.slots(op, alternative)[row];
-        let owner = self.owners[place(&slot, self.roster.ii(), self.units, self.residue(time))];
+        let owner = self.owners[place(
+            &slot,
+            self.roster.ii(),
+            self.units,
+            self.roster.residue(time),
+        )];
         if owner == FREE { None } else { Some(owner) }
     }
 
     fn claim(&mut self, op: usize, time: u64, alternative: usize) {
         let ii = self.roster.ii();
-        let base = self.residue(time);
+        let base = self.roster.residue(time);
         let slots = self.roster.slots(op, alternative);
         mark(&mut self.owners, slots, ii, self.units, base, op);
         self.roster.place(

@@ -1,6 +1,6 @@
 //! Operations with their alternatives at one initiation interval, and their placements.
 
-ghost use Rattle.std.specs.Prelude.{◌≡◌, ◌++◌, ◌%◌, ◌^◌, ◌<◌, ◌≤◌, ℕ, List, length, replicate, Some, None, IfOk, IfSome, MatchOption, option_map, slice_set};
+ghost use Rattle.std.specs.Prelude.{◌≡◌, ◌++◌, ◌%◌, ◌^◌, ◌<◌, ◌≤◌, ℕ, List, length, replicate, Some, None, IfOk, IfSome, MatchOption, true, false, option_map, slice_set};
 ghost use Rattle.std.specs.List.{All};
 ghost use Rattle.machine.specs.Alternative.{IsAlternative, collides};
 ghost use Rattle.mrt.specs.Placements.{placement_of, alternatives_of, rows_of};
@@ -86,6 +86,14 @@ impl Roster {
         self.choices.ii()
     }
 
+    /// A time modulo the interval.
+    pub(crate) fn residue(&self, time: u64) -> usize
+        ensures value { result ≡ time % self.now.interval }
+        ensures below { result < self.now.interval }
+    {
+        (time % self.ii() as u64) as usize
+    }
+
     /// How many operations there are.
     pub(crate) fn len(&self) -> usize
         ensures value { result ≡ length self.now.operations }
@@ -112,7 +120,7 @@ impl Roster {
     }
 
     /// Whether two rows of an alternative meet.
-    pub(crate) fn collides(&self, op: usize, alternative: usize) -> bool
+    fn collides(&self, op: usize, alternative: usize) -> bool
         requires there { op < length self.now.operations }
         requires alternative { alternative < length (alternatives_of self.now.operations op) }
         ensures { result ≡ collides self.now.interval (rows_of self.now.operations op alternative) }
@@ -130,6 +138,20 @@ impl Roster {
     {
         let group = self.groups[op];
         self.choices.slots(group.first + alternative)
+    }
+
+    /// The slots of an alternative, unless two of its rows meet: then nothing can be issued by it.
+    pub(crate) fn usable(&self, op: usize, alternative: usize) -> Option<&[Slot]>
+        requires there { op < length self.now.operations }
+        requires alternative { alternative < length (alternatives_of self.now.operations op) }
+        ensures sound { let met = collides self.now.interval (rows_of self.now.operations op alternative) in MatchOption result (met ≡ true) (λ _. met ≡ false) }
+        ensures rows { IfSome result (λ s. rows_in s.now ≡ rows_of self.now.operations op alternative) }
+        ensures slots { IfSome result (λ s. All (IsSlot self.now.interval) s.now) }
+    {
+        if self.collides(op, alternative) {
+            return None;
+        }
+        Some(self.slots(op, alternative))
     }
 
     /// Where an operation is placed.

@@ -1,1 +1,1 @@
-pub mod Exits
+pub mod Endings

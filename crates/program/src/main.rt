@@ -1,83 +1,95 @@
 //! The program `modsched`: software pipelining of innermost loops for a described VLIW machine.
 #![tactic(auto)]
 
-ghost use Rattle.std.specs.Prelude.{IfOk};
-ghost use Rattle.program.specs.Exits.{IsExit, IsOfStatus, IsOfUsage};
+ghost use Rattle.std.specs.Prelude.{◌≡◌, ◌-◌, ◌^◌, ◌<◌, true, map, IfErr};
+ghost use Rattle.clap.specs.Words.{fault_of, subcommand_of};
+ghost use Rattle.modsched.specs.Engine.{EndsWritten};
+ghost use Rattle.modsched.specs.Lines.{loops_path, program_line};
+ghost use Rattle.modsched.specs.Statuses.{IsComplete};
+ghost use Rattle.program.specs.Endings.{IsHeeded, IsNoRequest, machine_file};
 
-use modsched::{Command, FileInput, StandardOutput, Usage, engine, parse_line};
+mod ending;
+
+use ending::{Told, exit_number};
+use modsched::{
+    Command, FileInput, Output, StandardOutput, Status, Usage, engine, parse_line, write_text,
+};
 use std::env;
 use std::io::ErrorKind;
 use std::process::ExitCode;
 use std::rt::{Env, Files};
 
 fn main(rt: HostRuntime) -> ExitCode {
-    ExitCode::from(exit_number(&rt))
+    let ending = run(&rt);
+    let told = Told::new(&ending);
+    let _ = eprint!(rt; "{told}");
+    ExitCode::from(exit_number(&ending))
 }
 
-/// Does what the command line asks for, or tells why it asks for nothing. Answers the number to exit with.
-fn exit_number<R: AllocGlobal + Env + Eprint + Files + Print>(rt: &R) -> u8
-    ensures { IsExit result }
+/// Reads the command line and does what it asks for.
+fn run<R: AllocGlobal + Env + Files + Print>(rt: &R) -> Result<Status, Usage>
+    ensures { IfErr result IsNoRequest }
 {
-    match run(rt) {
-        Ok(number) => number,
-        Err(usage) => tell(rt, &usage),
-    }
+    let given = words(rt)?;
+    let words: Vec<&str> = given.iter().map(|word| word.as_str()).collect(rt.alloc())?;
+    answer(rt, words.as_slice())
 }
 
-/// Reads the command line and does what it asks for. Answers the number to exit with.
-fn run<R: AllocGlobal + Env + Eprint + Files + Print>(rt: &R) -> Result<u8, Usage>
-    ensures { IfOk result IsOfStatus }
+/// The words of the command line behind the program's name.
+fn words<R: AllocGlobal + Env>(rt: &R) -> Result<Vec<String>, Usage>
+    ensures { IfErr result IsNoRequest }
 {
-    let alloc = rt.alloc();
-    let given = match env::args(rt) {
-        Ok(given) => given,
-        Err(e) if e.kind() == ErrorKind::OutOfMemory => return Err(Usage::Memory),
+    match env::args(rt) {
+        Ok(given) => Ok(given.skip(1).collect(rt.alloc())?),
+        Err(e) if e.kind() == ErrorKind::OutOfMemory => Err(Usage::Memory),
         Err(_) => {
             let why = "error: a word of the line is not text\n";
-            return Err(Usage::Refused(String::from_str(alloc, why)?));
+            Err(Usage::Refused(String::from_str(rt.alloc(), why)?))
         }
-    };
-    let given: Vec<String> = given.skip(1).collect(alloc)?;
-    let words: Vec<&str> = given.iter().map(|word| word.as_str()).collect(alloc)?;
-    let command = parse_line(alloc, words.as_slice())?;
-    Ok(work(rt, &command))
-}
-
-/// Does the work of a command over its files and the standard output, and tells of a fault. A file is
-/// opened where its input is first read, so that of a machine only for a command that reads one.
-fn work<R: AllocGlobal + Eprint + Files + Print>(rt: &R, command: &Command) -> u8
-    ensures { IsOfStatus result }
-{
-    let (machine, loops) = match command {
-        Command::Bounds { machine, loops } => (machine.as_str(), loops.as_str()),
-        Command::Plain { loops, .. } => ("", loops.as_str()),
-    };
-    let mut machine = FileInput::new(rt, machine);
-    let mut loops = FileInput::new(rt, loops);
-    let mut output = StandardOutput::new(rt);
-    let status = engine(rt.alloc(), command, &mut machine, &mut loops, &mut output);
-    if let Some(line) = status.line() {
-        let _ = eprintln!(rt; "modsched: {line}");
     }
-    status.number()
 }
 
-/// Prints a help to the standard output, and what is wrong with a line to the standard error.
-fn tell<R: Eprint + Print>(rt: &R, usage: &Usage) -> u8
-    ensures { IsOfUsage usage.now result }
+/// Does what these words ask for. Help and the version are shown on the standard output.
+fn answer<R: AllocGlobal + Files + Print>(rt: &R, words: &[&str]) -> Result<Status, Usage>
+    ensures shown { IfErr result IsNoRequest }
+    ensures heeded { let texts = map (λ w. w.now) words.entry.now in
+        IsHeeded result (fault_of program_line texts) (subcommand_of program_line texts) }
 {
-    match usage {
-        Usage::Help(text) => match print!(rt; "{text}") {
-            Ok(()) => 0,
-            Err(_) => 6,
-        },
-        Usage::Refused(text) => {
-            let _ = eprint!(rt; "{text}");
-            2
-        }
-        Usage::Memory => {
-            let _ = eprintln!(rt; "modsched: out of memory");
-            7
-        }
+    match parse_line(rt.alloc(), words) {
+        Ok(command) => Ok(work(rt, &command)),
+        Err(Usage::Help(text)) => Ok(show(&mut StandardOutput::new(rt), text.as_str())),
+        Err(usage) => Err(usage),
+    }
+}
+
+/// Does the work of a command over its files and the standard output.
+fn work<R: AllocGlobal + Files + Print>(rt: &R, command: &Command) -> Status {
+    let (mut machine, mut loops) = files(rt, command);
+    let mut output = StandardOutput::new(rt);
+    engine(rt.alloc(), command, &mut machine, &mut loops, &mut output)
+}
+
+/// The file of a command's machine and that of its loops. Nothing is opened yet: a file is opened where
+/// it is first read, so that of a machine only for a command that reads one.
+fn files<'a, R: Files>(rt: &'a R, command: &'a Command) -> (FileInput<'a, R>, FileInput<'a, R>)
+    ensures machine { result.0 ≡ (machine_file command.entry.now, 0) }
+    ensures loops { result.1 ≡ (loops_path command.entry.now, 0) }
+{
+    let machine = command.machine_path().unwrap_or("");
+    (
+        FileInput::new(rt, machine),
+        FileInput::new(rt, command.loops_path()),
+    )
+}
+
+/// Shows the help or the version that was asked for.
+fn show<O: Output>(output: &mut O, text: &str) -> Status
+    requires { O.failed output.old < 2 ^ 64 - 1 }
+    ensures ends { EndsWritten text.now true (O.taken output.old) (O.taken output.new) result }
+    ensures handed { IsComplete result → O.handed output.new ≡ O.taken output.new }
+{
+    match write_text(output, text.as_bytes()) {
+        Ok(()) => Status::Done,
+        Err(_) => Status::Unwritten,
     }
 }

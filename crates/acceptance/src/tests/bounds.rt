@@ -2,10 +2,10 @@
 
 use super::given::{
     ACC, ACC_CUT_AFTER_LINE_4, ACC_CUT_AFTER_LINE_7, ACC_CUT_AFTER_LOOP_A, ACC_CUT_IN_ADD,
-    ACC_CUT_IN_STORE, ACC_WITHOUT_INIT, ALTS, EMPTY_FILE_BOUNDS, FORCE, LATENCY_64_MACHINE,
-    LOAD_LATENCY_65_MACHINE, M1, M2, M3, M6, MUL_WITHOUT_TABLE, OFFSET_63_MACHINE,
-    OFFSET_64_MACHINE, OUT_WITHOUT_INIT, REGISTERS_0_MACHINE, SUBSCRIPT_PLUS_65, UNITS_64,
-    UNITS_65, USE_AT_17_2,
+    ACC_CUT_IN_STORE, ACC_WITHOUT_INIT, ALTS, CHAIN, EMPTY_FILE_BOUNDS, FAR, FORCE, HOLD, KEEP,
+    LATE, LATENCY_64_MACHINE, LOAD_LATENCY_65_MACHINE, LONE, M1, M2, M3, M4, M5, M6, M7, M8,
+    MUL_WITHOUT_TABLE, OFFSET_63_MACHINE, OFFSET_64_MACHINE, OUT_WITHOUT_INIT, POW,
+    REGISTERS_0_MACHINE, SHIFT, SUBSCRIPT_PLUS_65, UNITS_64, UNITS_65, USE_AT_17_2,
 };
 use super::{Row, bounds_row, ends};
 use std::test::Fail;
@@ -14,8 +14,16 @@ use std::test::Fail;
 fn tells_bounds(rt: HostRuntime) {
     let rows = [
         (M1, ACC, "loop acc ops 3 res 2 rec 1 mii 2\nloops 1\n"),
+        (M1, CHAIN, "loop chain ops 3 res 2 rec 5 mii 5\nloops 1\n"),
+        (M1, SHIFT, "loop shift ops 2 res 2 rec 1 mii 2\nloops 1\n"),
         (M2, FORCE, "loop force ops 3 res 4 rec 1 mii 4\nloops 1\n"),
+        (M3, LONE, "loop lone ops 1 res 2 rec 1 mii 2\nloops 1\n"),
+        (M4, LATE, "loop late ops 3 res 2 rec 1 mii 2\nloops 1\n"),
+        (M5, POW, "loop pow ops 2 res 1 rec 3 mii 3\nloops 1\n"),
         (M6, ALTS, "loop alts ops 3 res 2 rec 1 mii 2\nloops 1\n"),
+        (M7, FAR, "loop far ops 2 res 1 rec 1 mii 1\nloops 1\n"),
+        (M8, KEEP, "loop keep ops 3 res 2 rec 1 mii 2\nloops 1\n"),
+        (M8, HOLD, "loop hold ops 4 res 2 rec 5 mii 5\nloops 1\n"),
         (M1, EMPTY_FILE_BOUNDS, "loops 0\n"),
     ];
     for (machine, loops, want) in rows {

@@ -490,6 +490,36 @@ latency = 1
 alts = [["mem@0"]]
 "#;
 
+/// Two units on which `add` takes long.
+pub(super) const M7: &str = r#"registers = 8
+units = ["a0", "a1"]
+
+[ops.add]
+latency = 64
+alts = [["a0@0"], ["a1@0"]]
+"#;
+
+/// Two units, and `lt` beside `add`.
+pub(super) const M8: &str = r#"registers = 8
+units = ["mem", "alu"]
+
+[ops.load]
+latency = 3
+alts = [["mem@0"]]
+
+[ops.store]
+latency = 1
+alts = [["mem@0"]]
+
+[ops.add]
+latency = 1
+alts = [["alu@0"]]
+
+[ops.lt]
+latency = 1
+alts = [["alu@0"]]
+"#;
+
 /// Two stores to one array, the second of which stores to a cell first.
 pub(super) const TWO: &str = "loop two
 array b =

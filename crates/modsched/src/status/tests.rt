@@ -68,7 +68,10 @@ fn tells_of_files_and_memory(rt: HostRuntime) -> Result<(), Fail> {
         let line = status.line().ok_or("a line")?;
         assert_eq!(rt; line.to_string(alloc)?.as_str(), want);
     }
-    assert!(rt; Status::Done.line().is_none());
+    for (status, number) in [(Status::Done, 0), (Status::Unmet, 1)] {
+        assert!(rt; status.line().is_none());
+        assert_eq!(rt; status.number(), number);
+    }
     Ok(())
 }
 

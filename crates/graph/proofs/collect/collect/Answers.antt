@@ -1,6 +1,6 @@
 use Rattle.std.proofs.Common.{◌≡◌, ◌<◌, ◌≤◌, [], length, get_or, Some, None, arith}
 use Rattle.std.specs.List.{slice_get}
-use Rattle.loops.specs.declared.statement.Statement.{Statement}
+use Rattle.iterations.specs.declared.language.statement.Statement.{Statement}
 use Rattle.graph.specs.Subscripts.{Gains, HasUses}
 use Rattle.std.proofs.lemmas.Option.{slice_get-get_or}
 use Rattle.machine.specs.declared.opcode.Opcode.TheVariants.{Load}

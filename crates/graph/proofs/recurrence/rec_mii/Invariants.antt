@@ -1,13 +1,13 @@
-use Rattle.std.proofs.Common.{◌≡◌, ◌⊎◌, ◌-◌, ◌<◌, ◌≤◌}
+use Rattle.std.proofs.Common.{◌≡◌, ◌⊎◌, ◌-◌, ◌≤◌}
 use Rattle.graph.specs.Walks.{Exceeds}
 use Rattle.graph.proofs.recurrence.rec_mii.Given as goal
 
-abbrev pub invariant-loop-low : goal.invariant-loop-low
-invariant-loop-low l = record {
-  order : l.low < l.high;
-  limit : l.high ≤ 16384;
-  above : (l.low ≡ 0) ⊎ Exceeds l.edges.edges l.low;
+abbrev pub invariant-loop-longer : goal.invariant-loop-longer
+invariant-loop-longer l = record {
+  from_one : 1 ≤ l.interval;
+  limit : l.interval ≤ 8192;
+  asked_for : (l.interval ≡ 1) ⊎ Exceeds l.edges.edges (l.interval - 1);
 }
 
-abbrev pub decreases-loop-low : goal.decreases-loop-low
-decreases-loop-low l = 16384 - l.low
+abbrev pub decreases-loop-longer : goal.decreases-loop-longer
+decreases-loop-longer l = 8192 - l.interval

@@ -1,6 +1,6 @@
 use Rattle.std.proofs.Common.{◌*◌, ◌-◌, ◌<◌}
 use Rattle.machine.specs.Machines.{IsMachine}
-use Rattle.loops.specs.Loops.{IsLoop}
+use Rattle.iterations.specs.Loops.{IsLoop}
 use Rattle.graph.specs.Units.{operations_of}
 use Rattle.graph.specs.Uses.{AtMost, Progress}
 use Rattle.graph.proofs.Passes.{passes}

@@ -1,5 +1,5 @@
 use Rattle.std.proofs.Common.{sym, ap, ◌∙◌}
-use Rattle.loops.specs.Meaning.{loops_in}
+use Rattle.loop_reader.specs.Meaning.{loops_in}
 use Rattle.loops.proofs.ReadBack.{read_back}
 use Rattle.loops.proofs.Texts.{text_of-is}
 use Rattle.loops.proofs.write.write_loop.Goals as goal

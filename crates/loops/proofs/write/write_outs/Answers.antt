@@ -1,8 +1,8 @@
 use Rattle.std.proofs.Common.{sym, subst, arith}
 use Rattle.std.proofs.lemmas.List.Elements.{All-get_or}
-use Rattle.loops.specs.Loops.{GivesValue, HasInitial}
+use Rattle.iterations.specs.Loops.{GivesValue, HasInitial}
 use Rattle.std.specs.List.{All}
-use Rattle.loops.proofs.Standing.{GivesValue_within}
+use Rattle.iterations.proofs.Standing.{GivesValue_within}
 use Rattle.loops.proofs.write.write_outs.Goals as goal
 
 pub write_out-requires : goal.write_out-requires

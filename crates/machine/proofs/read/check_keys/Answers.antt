@@ -1,4 +1,4 @@
-use Rattle.std.proofs.Common.{◌≡◌, refl, sym}
+use Rattle.std.proofs.Common.{refl}
 use Rattle.toml.specs.View.{table_view}
 use Rattle.machine.proofs.Keys.{keys-all, keys-fault, keys-more}
 use Rattle.machine.proofs.read.check_keys.Goals as goal

@@ -1,4 +1,4 @@
-use Rattle.std.proofs.Common.{◌≡◌, sym}
+use Rattle.std.proofs.Common.{sym}
 use Rattle.std.proofs.lemmas.Bool.{false≢true}
 use Rattle.machine.proofs.Whole.{Answers-from_Reads, text-long, text-not_utf8, text-not_toml, text-tree}
 use Rattle.machine.proofs.read.read_machine.Goals as goal

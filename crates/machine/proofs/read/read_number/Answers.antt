@@ -1,4 +1,4 @@
-use Rattle.std.proofs.Common.{◌≡◌, ◌∙◌, sym, rules, SFits, w64, arith}
+use Rattle.std.proofs.Common.{sym, rules, SFits, w64}
 use Rattle.std.proofs.lemmas.Int.{to_z-of_z}
 use Rattle.std.proofs.lemmas.List.{append-nil}
 use Rattle.machine.proofs.Faults.{number-missing, number-wrong_type, number-limit, number-fine}

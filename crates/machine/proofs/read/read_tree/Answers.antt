@@ -1,4 +1,4 @@
-use Rattle.std.proofs.Common.{◌≡◌, ◌≤◌, length, [], codes, sym, ◌∙◌, arith}
+use Rattle.std.proofs.Common.{codes, ◌∙◌}
 use Rattle.toml.proofs.Views.{table_get}
 use Rattle.machine.proofs.Faults.{Reads-err, first-append, first-then, none-append}
 use Rattle.machine.proofs.Laws.{units-law, machine-law}

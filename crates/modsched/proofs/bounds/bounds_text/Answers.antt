@@ -15,7 +15,7 @@ returns-in_err-loops-clause-exact c =
 pub returns-in_err-text-clause-exact : goal.returns-in_err-text-clause-exact
 returns-in_err-text-clause-exact c =
     let p = err_from_is_err_and c.from_residual-in_err-text.result c.from_residual-in_err-text.ensures.1 in
-    rw (p.1, p.2, ← c.in_ok-machine.ensures.exact, ← c.in_ok-loops.ensures.exact) (lacking_refused _ _ _ (rw c.as_slice.ensures.value at c.in_err-text.ensures))
+    rw (p.1, p.2, ← c.in_ok-machine.ensures.exact, ← c.in_ok-loops.ensures.exact) (lacking_refused _ c.in_ok-machine.machine c.in_ok-loops.loops.items (rw c.as_slice.ensures.value at c.in_err-text.ensures))
 
 pub returns-in_err-machine-clause-memory : goal.returns-in_err-machine-clause-memory
 returns-in_err-machine-clause-memory c =

@@ -1,5 +1,5 @@
 use Rattle.std.proofs.Common.{◌≡◌, ◌∙◌, ℕ, List, length, get_or, sym, ap, arith}
-use Rattle.loops.specs.declared.lists.Array.{Array}
+use Rattle.loops.specs.Array.{Array}
 use Rattle.modsched.specs.Plain.{cell_lines}
 use Rattle.modsched.proofs.PlainLines.{array_more, array_all}
 use Rattle.modsched.proofs.plain.push_arrays.Goals as goal

@@ -1,6 +1,6 @@
 use Rattle.std.proofs.Common.{◌≡◌, ℕ, ◌++◌, take}
 use Rattle.std.specs.List.{enumerate_from, flat_map}
-use Rattle.loops.specs.declared.lists.Array.{Array}
+use Rattle.loops.specs.Array.{Array}
 use Rattle.modsched.specs.Plain.{cell_lines}
 use Rattle.modsched.proofs.plain.push_arrays.Given as goal
 

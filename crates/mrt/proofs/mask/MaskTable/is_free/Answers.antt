@@ -1,4 +1,4 @@
-use Rattle.std.proofs.Common.{◌≡◌, ◌%◌, ◌<◌, length, sym}
+use Rattle.std.proofs.Common.{◌≡◌, ◌%◌, ◌<◌, length}
 use Rattle.mrt.specs.Placements.{alternatives_of}
 use Rattle.mrt.specs.MaskTables.{is_held}
 use Rattle.mrt.proofs.Choosing.{slot_units}
@@ -11,6 +11,6 @@ returns c time base =
     let i = c.self.invariant in
     let b : time % t.interval ≡ c.args.base = rw c.self.view_is base in
     let there : c.args.alternative < length (alternatives_of t.operations c.args.op) = rw c.self.view_is c.requires.alternative in
-    let met = rw (c.ii.ensures.value, c.deref.ensures.value, c.slots-slots.ensures.rows) at (c.is_met.ensures time (rw c.ii.ensures.value b)) in
+    let met = rw (c.ii.ensures.value, c.deref.ensures.value, c.in-Some.ensures.rows) at (c.is_met.ensures time (rw c.ii.ensures.value b)) in
     rw (← c.self.view_is) (free_from_unmet t.interval t.operations t.placed 64 (is_held c.self.inside.busy.items) c.ii.ensures.some i.occupied
-    c.args.op c.args.alternative time c.is_met.result there (slot_units t.interval c.slots-slots.result.now _ c.slots-slots.ensures.rows c.slots-slots.ensures.slots) (sym c.if-collides.ensures) met)
+    c.args.op c.args.alternative time c.is_met.result there (slot_units t.interval c.in-Some.slots.now _ c.in-Some.ensures.rows c.in-Some.ensures.slots) c.in-Some.ensures.sound met)

@@ -9,7 +9,7 @@ pub invariant_of-self : goal.invariant_of-self
 invariant_of-self c =
     let t = c.self.inside.roster in
     let at : Placement = record { time = c.args.time; alternative = c.args.alternative } in
-    let base : c.args.time % t.interval ≡ c.residue-base.result = rw c.self.view_is (sym c.residue-base.ensures.value) in
+    let base : c.args.time % t.interval ≡ c.residue-base.result = sym c.residue-base.ensures.value in
     let there : c.args.op < length t.operations = rw c.self.view_is c.requires.there in
     let unplaced : placement_of t.placed c.args.op ≡ None = rw c.self.view_is c.requires.unplaced in
     let free : IsFree t.interval t.operations t.placed c.args.op c.args.time c.args.alternative = rw c.self.view_is c.requires.free in

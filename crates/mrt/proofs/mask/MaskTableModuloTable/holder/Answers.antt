@@ -24,7 +24,7 @@ returns-then-index-slot-eq0 c r here =
     let within = row_within _ _ c.args.row c.slots.ensures.rows (slice_get_within _ c.args.row r at_row) in
     let same = row_at c.slots.result.now _ c.args.row r zero c.slots.ensures.rows at_row in
     let slot = c.slots.ensures.slots c.args.row zero within in
-    let base : c.args.time % c.ii.result ≡ c.residue.result = rw c.ii.ensures.value (rw c.self.view_is (sym c.residue.ensures.value)) in
+    let base : c.args.time % c.ii.result ≡ c.residue.result = rw c.ii.ensures.value (sym c.residue.ensures.value) in
     let at : c.residue-residue.result ≡ residue_of t.interval r c.args.time = rw (c.ii.ensures.value, same) at (c.residue-residue.ensures.value c.args.time base) in
     let word = get_or_read busy c.residue-residue.result c.index.result.now (omega (arith, c.residue-residue.ensures.below, c.ii.ensures.value, c.self.invariant.least)) c.index.ensures 0 in
     let clear = test_clear c.index.result.now (get_or c.slots.result.now c.args.row zero).mask (get_or c.slots.result.now c.args.row zero).row.unit slot.mask c.if-index-slot-eq0.true in
@@ -39,6 +39,6 @@ returns c r here =
     let t = c.self.inside.roster in
     let at_row : slice_get (rows_of t.operations c.args.op c.args.alternative) c.args.row ≡ Some r = rw c.self.view_is here in
     let same = row_at c.slots.result.now _ c.args.row r zero c.slots.ensures.rows at_row in
-    let base : c.args.time % c.ii.result ≡ c.residue.result = rw c.ii.ensures.value (rw c.self.view_is (sym c.residue.ensures.value)) in
+    let base : c.args.time % c.ii.result ≡ c.residue.result = rw c.ii.ensures.value (sym c.residue.ensures.value) in
     let at : c.residue-residue.result ≡ residue_of t.interval r c.args.time = rw (c.ii.ensures.value, same) at (c.residue-residue.ensures.value c.args.time base) in
     rw (← c.self.view_is) (holder_of_taker t.interval t.operations t.placed r c.args.time c.self.invariant.apart c.taker.result (rw (at, same) at c.taker.ensures))

@@ -24,7 +24,7 @@ read c r here =
     let t = c.self.inside.roster in
     let zero : Slot = record { row = record { unit = 0; offset = 0 }; turn = 0; mask = 0 } in
     let same = row_at c.slots.result.now _ c.args.row r zero c.slots.ensures.rows here in
-    let base : c.args.time % c.ii.result ≡ c.residue.result = rw c.ii.ensures.value (rw c.self.view_is (sym c.residue.ensures.value)) in
+    let base : c.args.time % c.ii.result ≡ c.residue.result = rw c.ii.ensures.value (sym c.residue.ensures.value) in
     let at : c.place.result ≡ residue_of t.interval r c.args.time * c.self.inside.units + r.unit = rw (c.ii.ensures.value, same) at (c.place.ensures.value c.args.time base) in
     let within : c.place.result < length c.self.inside.owners.items = omega (arith, c.place.ensures.within, ap (λ n. n * c.self.inside.units) c.ii.ensures.value, c.self.invariant.long) in
     let unit = covered_slots c.self.inside.units _ _ c.slots.ensures.rows (c.self.invariant.covered c.args.op c.args.alternative) c.args.row zero (row_within _ _ c.args.row c.slots.ensures.rows (slice_get_within _ c.args.row r here)) in

@@ -1,0 +1,6 @@
+pub mod Covering
+pub mod OneChoices
+pub mod OneOutcomes
+pub mod Promised
+pub mod Rising
+mod Rowing

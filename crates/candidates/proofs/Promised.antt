@@ -1,0 +1,114 @@
+-- What listings promise.
+use Rattle.std.proofs.Common.{◌≡◌, ℕ, ◌≤◌, List, [], ◌∷◌, refl, sym, ap, ◌∙◌, subst}
+use Rattle.std.specs.List.{AllZip}
+use Rattle.machine.specs.Machines.{MachineData}
+use Rattle.machine.specs.declared.alternative.Row.{Row}
+use Rattle.iterations.specs.Loops.{LoopData}
+use Rattle.iterations.specs.Run.{plain}
+use Rattle.graph.specs.Schedules.{IsLawful}
+use Rattle.ims.specs.Problems.{ProblemData, IsProblem, IsProblemOf}
+use Rattle.ims.specs.Schedules.{ScheduleData, IsSchedule}
+use Rattle.ims.proofs.OneProblems.{one-problem}
+use Rattle.ims.proofs.Promised.{problems-have}
+use Rattle.kernel.specs.declared.parts.Parts.{Parts}
+use Rattle.kernel.specs.Overlapped.{overlapped}
+use Rattle.overlap.specs.Allotments.{AllotmentData, IsAllotment, Suits}
+use Rattle.overlap.specs.Emission.{emitted}
+use Rattle.overlap.specs.Lifetimes.{lifetimes_of}
+use Rattle.overlap.specs.Overlap.{times_of, alternatives_of, RunsAsLoop}
+use Rattle.overlap.proofs.End.{overlap-is_sequence}
+use Rattle.overlap.proofs.Kept.{kernels-keep_schedules}
+use Rattle.overlap.proofs.Least.{least-is_lawful}
+use Rattle.candidates.specs.declared.choices.Choice.{Choice}
+use Rattle.candidates.specs.declared.choices.Choice.TheVariants.{Met, Failed}
+use Rattle.candidates.specs.declared.listings.Row as row
+use Rattle.candidates.specs.Outcomes.{IsPlaced, HasKernel, GivesKernel}
+use Rattle.candidates.specs.Choices.{IsChoice}
+use Rattle.candidates.specs.Listings.{rows_of}
+use Rattle.candidates.specs.Promises.{IsRightChoice, KernelsKeepLoops, KernelsRunAsLoops, ListingsAreRight, OneListing}
+use Rattle.candidates.proofs.OneChoices.{one_choice}
+
+emitted-ii : (s : ScheduleData) (a : AllotmentData) → (emitted s a).ii ≡ s.ii
+unfolding emitted
+emitted-ii s a = refl
+
+-- what a schedule's kernel keeps
+kept : (s : ScheduleData) (k : Parts) → IsSchedule s → HasKernel s k → (k.ii ≡ s.ii) × (times_of k ≡ s.times) × (alternatives_of k ≡ s.choices)
+kept s k is h =
+    let e = kernels-keep_schedules s h.allotment is in
+    (ap (λ (x : Parts). x.ii) h.is_kernel ∙ emitted-ii s h.allotment, ap times_of h.is_kernel ∙ e.0, ap alternatives_of h.is_kernel ∙ e.1)
+
+lawful_as : (ii : ℕ) (operations : List (List (List Row))) (s : ScheduleData) (k : Parts) → IsSchedule s → HasKernel s k → s.problem.operations ≡ operations
+    → IsLawful k.ii operations s.problem.graph.edges (times_of k) (alternatives_of k)
+lawful_as ii operations s k is h same =
+    let e = kept s k is h in
+    subst (λ cs. IsLawful k.ii operations s.problem.graph.edges (times_of k) cs) (sym e.2)
+    (subst (λ ts. IsLawful k.ii operations s.problem.graph.edges ts s.choices) (sym e.1)
+    (subst (λ i. IsLawful i operations s.problem.graph.edges s.times s.choices) (sym e.0)
+    (subst (λ os. IsLawful s.ii os s.problem.graph.edges s.times s.choices) same is.lawful)))
+
+pub kernels-keep : KernelsKeepLoops
+kernels-keep machine loop ratio ceiling ii problem kernel is g = record {
+  graph = problem.graph;
+  is_graph = problems-have machine loop ratio ceiling problem is;
+  lawful = subst (λ (q : ProblemData). IsLawful kernel.ii _ q.graph.edges (times_of kernel) (alternatives_of kernel)) g.is_schedule.2
+      (lawful_as ii _ g.schedule kernel g.is_schedule.4 g.has_kernel (ap (λ (q : ProblemData). q.operations) g.is_schedule.2 ∙ is.alternatives));
+}
+
+allotted : (s : ScheduleData) (a : AllotmentData) → 1 ≤ a.registers → a.registers ≤ 256 → Suits s a → IsAllotment a
+allotted s a some few suits = record { some = some; few = few; there = suits.there }
+
+runs : (s : ScheduleData) (k : Parts) → IsSchedule s → HasKernel s k → RunsAsLoop k s.problem.loop
+runs s k is h memory is_memory shape =
+    let suits = least-is_lawful s.ii h.allotment.registers (lifetimes_of s) h.allotment.numbers h.is_least in
+    let some = subst (λ r. 1 ≤ r) (sym h.same_registers) is.problem.registers_some in
+    let few = subst (λ r. r ≤ 256) (sym h.same_registers) is.problem.registers_few in
+    ap (λ (x : Parts). overlapped x memory) h.is_kernel
+    ∙ overlap-is_sequence s h.allotment memory (record { belong = record { scheduled = is; allotted = allotted s h.allotment some few suits; suits = suits }; is_memory = is_memory; shape = shape })
+
+pub kernels-run : KernelsRunAsLoops
+kernels-run machine loop ratio ceiling ii problem kernel is g =
+    subst (RunsAsLoop kernel) (ap (λ (q : ProblemData). q.loop) g.is_schedule.2 ∙ is.same_loop) (runs g.schedule kernel g.is_schedule.4 g.has_kernel)
+
+right_choice : (machine : MachineData) (loop : LoopData) (ratio ceiling : ℕ) (problem : ProblemData) (choice : Choice) → IsProblemOf machine loop ratio ceiling problem → IsChoice problem choice → IsRightChoice machine loop choice
+right_choice machine loop ratio ceiling problem (Met ii kernel) is c = (
+  (kept c.is_kernel.schedule kernel c.is_kernel.is_schedule.4 c.is_kernel.has_kernel).0 ∙ c.is_kernel.is_schedule.3,
+  kernels-keep machine loop ratio ceiling ii problem kernel is c.is_kernel,
+  kernels-run machine loop ratio ceiling ii problem kernel is c.is_kernel,
+)
+right_choice machine loop ratio ceiling problem (Failed cause) is c = tt
+
+right_rows : (machine : MachineData) (ratio ceiling : ℕ) (loops : List LoopData) (problems : List ProblemData) (choices : List Choice)
+    → AllZip (λ loop problem. IsProblemOf machine loop ratio ceiling problem) loops problems → AllZip IsChoice problems choices
+    → AllZip (λ loop (r : row.Row). IsRightChoice machine loop r.choice) loops (rows_of problems choices)
+right_rows machine ratio ceiling [] [] [] ps cs = tt
+right_rows machine ratio ceiling [] [] (c ∷ choices) ps cs = absurd cs
+right_rows machine ratio ceiling [] (p ∷ problems) choices ps cs = absurd ps
+right_rows machine ratio ceiling (l ∷ loops) [] choices ps cs = absurd ps
+right_rows machine ratio ceiling (l ∷ loops) (p ∷ problems) [] ps cs = absurd cs
+right_rows machine ratio ceiling (l ∷ loops) (p ∷ problems) (c ∷ choices) ps cs = (right_choice machine l ratio ceiling p c ps.0 cs.0, right_rows machine ratio ceiling loops problems choices ps.1 cs.1)
+
+pub listings-are_right : ListingsAreRight
+listings-are_right machine loops ratio ceiling listing is =
+    subst (λ rows. AllZip (λ loop (r : row.Row). IsRightChoice machine loop r.choice) loops rows) (sym (ap (λ l. l.rows) is.is_listing)) (right_rows machine ratio ceiling loops is.problems is.choices is.each_problem is.each_choice)
+
+same_rows : (machine : MachineData) (ratio ceiling : ℕ) (loops : List LoopData) (ps qs : List ProblemData) (cs ds : List Choice)
+    → AllZip (λ loop problem. IsProblemOf machine loop ratio ceiling problem) loops ps → AllZip IsChoice ps cs
+    → AllZip (λ loop problem. IsProblemOf machine loop ratio ceiling problem) loops qs → AllZip IsChoice qs ds → rows_of ps cs ≡ rows_of qs ds
+same_rows machine ratio ceiling [] [] [] cs ds a b c d = refl
+same_rows machine ratio ceiling [] [] (q ∷ qs) cs ds a b c d = absurd c
+same_rows machine ratio ceiling [] (p ∷ ps) qs cs ds a b c d = absurd a
+same_rows machine ratio ceiling (l ∷ loops) [] qs cs ds a b c d = absurd a
+same_rows machine ratio ceiling (l ∷ loops) (p ∷ ps) [] cs ds a b c d = absurd c
+same_rows machine ratio ceiling (l ∷ loops) (p ∷ ps) (q ∷ qs) [] ds a b c d = absurd b
+same_rows machine ratio ceiling (l ∷ loops) (p ∷ ps) (q ∷ qs) (x ∷ cs) [] a b c d = absurd d
+same_rows machine ratio ceiling (l ∷ loops) (p ∷ ps) (q ∷ qs) (x ∷ cs) (y ∷ ds) a b c d =
+    let problem : p ≡ q = one-problem machine l ratio ceiling p q a.0 c.0 in
+    let choice : x ≡ y = one_choice p x y a.0.is_problem b.0 (subst (λ r. IsChoice r y) (sym problem) d.0) in
+    let rest = same_rows machine ratio ceiling loops ps qs cs ds a.1 b.1 c.1 d.1 in
+    cc
+
+pub one-listing : OneListing
+one-listing machine loops ratio ceiling one other a b =
+    let rows = same_rows machine ratio ceiling loops a.problems b.problems a.choices b.choices a.each_problem a.each_choice b.each_problem b.each_choice in
+    a.is_listing ∙ ap (λ rs. record { ceiling = ceiling; rows = rs }) rows ∙ sym b.is_listing

@@ -1,0 +1,5 @@
+use Rattle.candidates.proofs.Rising.{Risen}
+use Rattle.candidates.proofs.choices.first_success.Given as goal
+
+abbrev pub invariant-loop-above : goal.invariant-loop-above
+invariant-loop-above l = Risen l.prepared l.above l.last

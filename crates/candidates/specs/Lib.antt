@@ -1,0 +1,9 @@
+pub use Rattle.ims.specs.Problems
+pub use Rattle.overlap.specs.Overlap
+pub mod Choices
+pub mod Listings
+pub mod Outcomes
+pub mod Pieces
+pub mod Promises
+pub mod Settings
+pub mod Texts

@@ -1,0 +1,49 @@
+-- A listing: what is told of each loop of a file.
+use Rattle.std.specs.Prelude.{ℕ, ◌≤◌, Bool, true, false, List, [], ◌∷◌, length}
+use Rattle.std.specs.List.{All}
+use Rattle.ims.specs.Problems.{ProblemData}
+use Rattle.candidates.specs.declared.choices.Choice.{Choice}
+use Rattle.candidates.specs.declared.choices.Choice.TheVariants.{Met, Failed}
+use Rattle.candidates.specs.declared.listings.Row.{Row}
+
+abbrev pub is_met : Choice → Bool
+is_met (Met ii kernel) = true
+is_met (Failed cause) = false
+
+abbrev pub is_failed : Choice → Bool
+is_failed (Met ii kernel) = false
+is_failed (Failed cause) = true
+
+-- how many intervals above the least one are tried at most, and a row for each loop
+pub record ListingData : Type 0 where
+  pub ceiling : ℕ
+  pub rows : List Row
+
+-- what is told of a loop with its choice
+abbrev pub row_of : ProblemData → Choice → Row
+row_of problem choice = record {
+  name = problem.loop.name;
+  operations = length problem.loop.statements;
+  outs = length problem.loop.outs;
+  resources = problem.resources;
+  recurrences = problem.recurrences;
+  choice = choice;
+}
+
+-- each loop with its choice, in order
+abbrev pub rows_of : List ProblemData → List Choice → List Row
+rows_of [] choices = []
+rows_of (p ∷ ps) [] = []
+rows_of (p ∷ ps) (c ∷ cs) = row_of p c ∷ rows_of ps cs
+
+abbrev pub listing_of : ℕ → List ProblemData → List Choice → ListingData
+listing_of ceiling problems choices = record { ceiling = ceiling; rows = rows_of problems choices }
+
+-- the two bounds are within their limits
+pub record IsRow (row : Row) : Type 0 where
+  pub resources_few : row.resources ≤ 2048
+  pub recurrences_few : row.recurrences ≤ 8192
+
+pub record IsListing (listing : ListingData) : Type 0 where
+  pub ceiling_few : listing.ceiling ≤ 255
+  pub rows : All IsRow listing.rows

@@ -1,0 +1,21 @@
+//! From one interval of one loop to the listing of a file, on one thread.
+#![tactic(auto)]
+
+mod choices;
+mod laws;
+mod listings;
+mod outcomes;
+mod pieces;
+mod settings;
+mod texts;
+
+pub use choices::{Choice, first_success};
+pub use laws::{
+    choice_laws, interval_laws, kernels_keep_loops, kernels_run_as_loops, listings_are_right,
+    one_listing, pieces_cover,
+};
+pub use listings::{Listing, Row};
+pub use outcomes::{Cause, Outcome, try_interval};
+pub use pieces::{Piece, Pieces};
+pub use settings::{OutOfRange, Settings, prepare};
+pub use texts::{listing_text, write_row};

@@ -1,0 +1,105 @@
+//! What an interval gives.
+
+ghost use Rattle.std.specs.Prelude.{◌≡◌, ◌≤◌, IfOk, MatchOption};
+ghost use Rattle.ims.specs.Problems.{IsProblem, budget_of, mii_of};
+ghost use Rattle.overlap.specs.Allotments.{NoneFor};
+ghost use Rattle.candidates.specs.Choices.{last_of};
+ghost use Rattle.candidates.specs.Outcomes.{Gives, HasKernel, cause_of};
+ghost use Rattle.candidates.specs.Texts.{cause_word};
+
+use ims::{Failure, Prepared, Schedule, Try, attempt};
+use kernel::Kernel;
+use machine::OutOfMemory;
+use mrt::MaskTable;
+use rotating::{allot, emit};
+use std::alloc::Global;
+
+/// Why an interval gives no kernel, in the order in which the causes are tested.
+#[derive(Clone, Copy, Debug, PartialEq, Eq)]
+pub enum Cause {
+    /// All alternatives of some operation collide with themselves.
+    Table,
+    /// The placements that the budget allows are used up.
+    Budget,
+    /// An operation is in stage 64 or later.
+    Stages,
+    /// Some value has no register.
+    Registers,
+}
+
+impl Cause {
+    /// The word that tells it in a listing.
+    pub fn word(self) -> &'static str
+        ensures value { result.now ≡ cause_word self }
+    {
+        match self {
+            Cause::Table => "table",
+            Cause::Budget => "budget",
+            Cause::Stages => "stages",
+            Cause::Registers => "registers",
+        }
+    }
+}
+
+/// What an interval gives.
+#[derive(Debug, Drop)]
+pub enum Outcome {
+    /// A kernel.
+    Met(Kernel),
+    /// None, and why.
+    Failed(Cause),
+}
+
+/// What a loop gives at an interval, in cycles, from its least one on and at most as far above it as its
+/// ceiling says: the kernel of one budgeted attempt and of the least registers of its values, or why there
+/// is none.
+///
+/// # Errors
+/// Memory ran out.
+pub fn try_interval(alloc: Global, prepared: &Prepared, ii: u64) -> Result<Outcome, OutOfMemory>
+    requires from_mii { mii_of prepared.now ≤ ii }
+    requires to_last { ii ≤ last_of prepared.now }
+    ensures exact { IfOk result (Gives prepared.now ii) }
+{
+    match attempt::<MaskTable>(alloc, prepared, ii, budget(prepared))? {
+        Try::Placed(schedule) => match kernel_of(alloc, &schedule)? {
+            Some(kernel) => Ok(Outcome::Met(kernel)),
+            None => Ok(Outcome::Failed(Cause::Registers)),
+        },
+        Try::Failed(failure) => Ok(Outcome::Failed(cause_of(failure))),
+    }
+}
+
+/// How many placements an attempt may make.
+fn budget(prepared: &Prepared) -> u64
+    ensures value { result ≡ budget_of prepared.now }
+    ensures few { result ≤ 8192 }
+    ensures well_formed { IsProblem prepared.now }
+{
+    let operations = prepared.operations() as u64;
+    prove!(operations <= 128);
+    prepared.ratio() * operations
+}
+
+/// The cause that a failed attempt is.
+fn cause_of(failure: Failure) -> Cause
+    ensures { result ≡ cause_of failure }
+{
+    match failure {
+        Failure::Table => Cause::Table,
+        Failure::Budget => Cause::Budget,
+        Failure::Stages => Cause::Stages,
+    }
+}
+
+/// The kernel of a schedule, with the least registers of its values, where each of them has one.
+fn kernel_of(alloc: Global, schedule: &Schedule) -> Result<Option<Kernel>, OutOfMemory>
+    ensures { IfOk result (λ found. MatchOption found (NoneFor schedule.now schedule.now.problem.registers) (HasKernel schedule.now)) }
+{
+    let prepared = schedule.prepared();
+    let Some(allotment) = allot(alloc, schedule, u64::from(prepared.registers()))? else {
+        return Ok(None);
+    };
+    let kernel = emit(alloc, prepared.innermost(), schedule, &allotment)?;
+    Ok(Some(kernel))
+}

@@ -1,0 +1,171 @@
+//! Listings as text.
+
+ghost use Rattle.std.specs.Prelude.{◌≡◌, ◌≤◌, ◌++◌, decimal, codes, IfOk, string_bytes};
+ghost use Rattle.std.specs.List.{All, flat_map};
+ghost use Rattle.candidates.specs.declared.choices.Choice.TheVariants.{Failed, Met};
+ghost use Rattle.candidates.specs.Listings.{IsRow};
+ghost use Rattle.candidates.specs.Texts.{cause_word, choice_text, has_outs, head_of, last_line, listing_text_of, mii_in, number_failed, number_met, row_text, version_text};
+
+use crate::choices::Choice;
+use crate::listings::{Listing, Row};
+use crate::outcomes::Cause;
+use itoa::Buffer;
+use kernel::{Kernel, text_room, write_kernel};
+use machine::OutOfMemory;
+use std::alloc::Global;
+
+/// How many bytes are reserved for the line of a loop.
+const LINE_ROOM: usize = 128;
+
+/// The text of a listing: a line and the kernel's text for each loop, and a last line with their numbers.
+/// Where some loop has a value that is live at the end, the line `version 2` comes first.
+#[tactic(auto, unfolding(crate::specs::Texts::listing_text_of))]
+pub fn listing_text(alloc: Global, listing: &Listing) -> Result<String, OutOfMemory>
+    ensures text { IfOk result (λ text. string_bytes text ≡ listing_text_of listing.now) }
+{
+    let rows = listing.rows();
+    let mut text = String::with_capacity(alloc, room(rows))?;
+    write_version(&mut text, rows)?;
+    write_rows(&mut text, listing.ceiling(), rows)?;
+    write_last(&mut text, rows)?;
+    Ok(text)
+}
+
+/// Bytes to reserve, so that the text need not grow.
+fn room(rows: &[Row]) -> usize {
+    let mut room = LINE_ROOM;
+    for row in rows {
+        room = room.saturating_add(row_room(row));
+    }
+    room
+}
+
+/// Bytes to reserve for a loop.
+fn row_room(row: &Row) -> usize
+    ensures { result ≤ 155776 }
+{
+    match &row.choice {
+        Choice::Met(_, kernel) => LINE_ROOM + text_room(kernel),
+        Choice::Failed(_) => LINE_ROOM,
+    }
+}
+
+/// Writes the line that tells that some loop has a value that is live at the end.
+fn write_version(text: &mut String, rows: &[Row]) -> Result<(), OutOfMemory>
+    ensures { IfOk result (λ _. string_bytes text.new ≡ string_bytes text.old ++ version_text rows.now) }
+{
+    if has_outs(rows) {
+        text.push_str("version 2\n")?;
+    }
+    Ok(())
+}
+
+/// Whether some loop has a value that is live at the end.
+fn has_outs(rows: &[Row]) -> bool
+    ensures { result ≡ has_outs rows.now }
+{
+    rows.iter().any(|row| row.outs > 0)
+}
+
+/// Writes what is told of each loop.
+fn write_rows(text: &mut String, ceiling: u64, rows: &[Row]) -> Result<(), OutOfMemory>
+    requires ceiling { ceiling ≤ 255 }
+    requires rows { All IsRow rows.now }
+    ensures { IfOk result (λ _. string_bytes text.new ≡ string_bytes text.old ++ flat_map (row_text ceiling) rows.now) }
+{
+    for row in rows {
+        write_row(text, ceiling, row)?;
+    }
+    Ok(())
+}
+
+/// Appends what is told of a loop: its line, and its kernel's text. The ceiling, 0 to 255, is how many
+/// intervals above the least one were tried. Where memory runs out the text is left with a part of it.
+pub fn write_row(text: &mut String, ceiling: u64, row: &Row) -> Result<(), OutOfMemory>
+    requires ceiling { ceiling ≤ 255 }
+    requires row { IsRow row.now }
+    ensures text { IfOk result (λ _. string_bytes text.new ≡ string_bytes text.old ++ row_text ceiling row.now) }
+{
+    let least = row.resources.max(row.recurrences);
+    write_head(text, row, least)?;
+    match &row.choice {
+        Choice::Met(ii, kernel) => write_met(text, *ii, kernel),
+        Choice::Failed(cause) => write_failed(text, least + ceiling, *cause),
+    }
+}
+
+/// Writes the line's beginning, up to the least interval that is tried.
+fn write_head(text: &mut String, row: &Row, least: u64) -> Result<(), OutOfMemory>
+    requires { least ≡ mii_in row.now }
+    ensures { IfOk result (λ _. string_bytes text.new ≡ string_bytes text.old ++ head_of row.now) }
+{
+    text.push_str("loop ")?;
+    text.push_str(row.name.as_str())?;
+    write_number(text, " ops ", row.operations as u64)?;
+    write_number(text, " res ", row.resources)?;
+    write_number(text, " rec ", row.recurrences)?;
+    write_number(text, " mii ", least)
+}
+
+/// Writes the rest of the line of a loop that has a kernel, and the kernel's text.
+fn write_met(text: &mut String, ii: u64, kernel: &Kernel) -> Result<(), OutOfMemory>
+    ensures { IfOk result (λ _. string_bytes text.new ≡ string_bytes text.old ++ choice_text 0 (Met ii kernel.now)) }
+{
+    write_number(text, " ii ", ii)?;
+    write_number(text, " stages ", kernel.parts().stages)?;
+    text.push_str("\n")?;
+    write_kernel(text, kernel)
+}
+
+/// Writes the rest of the line of a loop that has none.
+fn write_failed(text: &mut String, last: u64, cause: Cause) -> Result<(), OutOfMemory>
+    ensures { IfOk result (λ _. string_bytes text.new ≡ string_bytes text.old ++ choice_text last (Failed cause)) }
+{
+    write_number(text, " failed to ", last)?;
+    write_cause(text, cause)
+}
+
+/// Writes a cause, and ends the line.
+fn write_cause(text: &mut String, cause: Cause) -> Result<(), OutOfMemory>
+    ensures { IfOk result (λ _. string_bytes text.new ≡ string_bytes text.old ++ ((codes ": " ++ cause_word cause) ++ codes "\n")) }
+{
+    text.push_str(": ")?;
+    text.push_str(cause.word())?;
+    text.push_str("\n")?;
+    Ok(())
+}
+
+/// Writes the last line.
+fn write_last(text: &mut String, rows: &[Row]) -> Result<(), OutOfMemory>
+    ensures { IfOk result (λ _. string_bytes text.new ≡ string_bytes text.old ++ last_line rows.now) }
+{
+    write_number(text, "loops ", rows.len() as u64)?;
+    write_number(text, " met ", number_met(rows) as u64)?;
+    write_number(text, " failed ", number_failed(rows) as u64)?;
+    text.push_str("\n")?;
+    Ok(())
+}
+
+/// How many loops have a kernel.
+fn number_met(rows: &[Row]) -> usize
+    ensures { result ≡ number_met rows.now }
+{
+    rows.iter().filter(|row| row.choice.is_met()).count()
+}
+
+/// How many loops have none.
+fn number_failed(rows: &[Row]) -> usize
+    ensures { result ≡ number_failed rows.now }
+{
+    rows.iter().filter(|row| row.choice.is_failed()).count()
+}
+
+/// Writes a number behind some text.
+fn write_number(text: &mut String, before: &str, number: u64) -> Result<(), OutOfMemory>
+    ensures { IfOk result (λ _. string_bytes text.new ≡ string_bytes text.old ++ (before.now ++ decimal number)) }
+{
+    text.push_str(before)?;
+    let mut buffer = Buffer::new();
+    text.push_str(buffer.format(number))?;
+    Ok(())
+}

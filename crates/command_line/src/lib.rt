@@ -1,0 +1,8 @@
+//! The program's command line: the commands, their words, and the help.
+#![tactic(auto)]
+
+mod line;
+mod trip;
+
+pub use line::{Command, Usage, parse_line};
+pub use trip::{TRIP_LIMIT, Trip};

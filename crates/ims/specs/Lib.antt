@@ -1,0 +1,13 @@
+pub use Rattle.graph.specs.Graphs
+pub use Rattle.mrt.specs.Placements
+pub mod Problems
+pub mod Schedules
+pub mod Scheduling
+pub mod Waiting
+pub mod Numbering
+pub mod Progress
+pub mod Evictions
+pub mod Placings
+pub mod Listed
+pub mod Attempts
+pub mod Promises

@@ -1,0 +1,56 @@
+//! Copies of the alternatives that a machine offers for the operations of a loop.
+
+ghost use Rattle.std.specs.Prelude.{◌≡◌, List, IfOk, Vec};
+ghost use Rattle.std.specs.Global.{Global};
+ghost use Rattle.std.specs.List.{All};
+ghost use Rattle.machine.specs.declared.alternative.Row.{Row};
+ghost use Rattle.machine.specs.Alternative.{AreAlternatives};
+ghost use Rattle.machine.specs.Machines.{IsMachine};
+ghost use Rattle.iterations.specs.Loops.{IsLoop};
+ghost use Rattle.graph.specs.Answers.{Answers};
+ghost use Rattle.graph.specs.Units.{first_without_table, operations_of};
+
+use graph::GraphFault;
+use iterations::Loop;
+use machine::{Alternative, Alternatives, Machine, OutOfMemory};
+use smallvec::SmallVec;
+use std::alloc::Global;
+
+/// A copy of one alternative.
+fn copied(alloc: Global, alternative: &Alternative) -> Result<Alternative, OutOfMemory>
+    ensures { IfOk result (λ copy. copy ≡ alternative.now) }
+{
+    Ok(Alternative::new(SmallVec::from_slice(alloc, alternative.rows())?))
+}
+
+/// A copy of some alternatives.
+fn all_copied(alloc: Global, alternatives: &Alternatives) -> Result<Alternatives, OutOfMemory>
+    ensures value { IfOk result (λ copy. copy ≡ alternatives.now) }
+    ensures well_formed { AreAlternatives alternatives.now }
+{
+    let mut list = Vec::new(alloc);
+    for alternative in alternatives.as_slice() {
+        list.push(copied(alloc, alternative)?)?;
+    }
+    Ok(Alternatives::new(list))
+}
+
+/// The alternatives of each operation of a loop, in text order.
+pub(crate) fn offers(
+    alloc: Global,
+    machine: &Machine,
+    innermost: &Loop,
+) -> Result<Vec<Alternatives>, GraphFault>
+    ensures exact { Answers (first_without_table machine.now innermost.now) (λ (v : Vec (List (List Row)) Global). v.items ≡ operations_of machine.now innermost.now) result }
+    ensures offered { IfOk result (λ v. All AreAlternatives v.items) }
+    ensures innermost { IsLoop innermost.now }
+{
+    let mut list = Vec::new(alloc);
+    for statement in innermost.statements() {
+        match machine.table(statement.opcode) {
+            Some(table) => list.push(all_copied(alloc, table.alternatives())?)?,
+            None => return Err(GraphFault::NoTable(statement.opcode)),
+        }
+    }
+    Ok(list)
+}

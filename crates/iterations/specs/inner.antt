@@ -1,0 +1,2 @@
+-- How a run is carried out: what the clauses of private functions cite.
+pub mod Steps

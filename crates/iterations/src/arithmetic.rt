@@ -1,0 +1,49 @@
+//! What the opcodes compute.
+
+ghost use Rattle.std.specs.Prelude.{◌≡◌, false, length, if◌then◌else◌};
+ghost use Rattle.iterations.specs.Arithmetic.{apply_to, apply_two, is_zero};
+ghost use Rattle.iterations.specs.Arithmetic.{is_memory, operands_of};
+
+use machine::Opcode;
+
+/// The value that an opcode gives of its operands: sums, differences and products modulo 2^64, signed
+/// comparisons, and 1 or 0 for `lt`. `sel` gives its second operand where its first isn't 0, and else
+/// its third.
+pub fn apply(opcode: Opcode, operands: &[i64]) -> i64
+    requires computes { is_memory opcode ≡ false }
+    requires count { length operands.now ≡ operands_of opcode }
+    ensures { result ≡ apply_to opcode operands.now }
+{
+    match operands {
+        [a] => *a,
+        [a, b] => apply_two(opcode, *a, *b),
+        [condition, a, b] => chosen(*condition, *a, *b),
+        _ => unreachable!(),
+    }
+}
+
+/// The value that an opcode of two operands gives of them, as `apply` does, and 0 for any other opcode.
+/// For callers that have the operands apart, and want neither a slice nor a look at its length.
+pub fn apply_two(opcode: Opcode, a: i64, b: i64) -> i64
+    ensures { result ≡ apply_two opcode a b }
+{
+    match opcode {
+        Opcode::Add => a.wrapping_add(b),
+        Opcode::Sub => a.wrapping_sub(b),
+        Opcode::Mul => a.wrapping_mul(b),
+        Opcode::And => a & b,
+        Opcode::Or => a | b,
+        Opcode::Xor => a ^ b,
+        Opcode::Min => a.min(b),
+        Opcode::Max => a.max(b),
+        Opcode::Lt => i64::from(a < b),
+        _ => 0,
+    }
+}
+
+/// The second value where the first isn't 0, and else the third.
+pub(crate) fn chosen(condition: i64, a: i64, b: i64) -> i64
+    ensures { result ≡ (if is_zero condition then b else a) }
+{
+    if condition == 0 { b } else { a }
+}

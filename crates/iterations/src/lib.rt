@@ -1,0 +1,15 @@
+//! The language of loops as data, and what its iterations do. It serves the crates of this repository:
+//! other users take the crate `loops`, which passes all of it on.
+#![tactic(auto)]
+
+mod arithmetic;
+mod language;
+mod memory;
+mod running;
+
+pub use arithmetic::{apply, apply_two};
+pub use language::innermost::Loop;
+pub use language::lists::{Array, Cells, Initial, Operands, Param};
+pub use language::statement::{Operand, Place, Statement};
+pub use memory::Memory;
+pub use running::run::{RunFault, opening, run_from, run_plain};

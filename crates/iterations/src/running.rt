@@ -1,0 +1,7 @@
+//! The plain run of a loop.
+
+mod iterate;
+mod resolve;
+pub(crate) mod run;
+mod step;
+mod window;

@@ -1,0 +1,21 @@
+use Rattle.std.proofs.Common.{◌≡◌, ◌==◌, ◌<◌, ◌≤◌, ℕ, false, get_or, length, ◌-◌}
+use Rattle.loop_lines.proofs.feeds.count_line.Given as goal
+
+-- no line feed stands before this place
+abbrev pub invariant-loop-at : goal.invariant-loop-at
+invariant-loop-at l = record {
+  within : l.at ≤ length l.text;
+  none : (k : ℕ) → k < l.at → (get_or l.text k 0 == 10) ≡ false;
+}
+
+abbrev pub decreases-loop-at : goal.decreases-loop-at
+decreases-loop-at l = length l.text - l.at
+
+abbrev pub invariant-loop-at-2 : goal.invariant-loop-at-2
+invariant-loop-at-2 l = record {
+  within : l.at ≤ length l.text;
+  none : (k : ℕ) → k < l.at → (get_or l.text k 0 == 10) ≡ false;
+}
+
+abbrev pub decreases-loop-at-2 : goal.decreases-loop-at-2
+decreases-loop-at-2 l = length l.text - l.at

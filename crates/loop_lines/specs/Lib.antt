@@ -1,0 +1,6 @@
+pub use Rattle.iterations.specs.Arithmetic
+pub use Rattle.iterations.specs.Names
+pub use Rattle.machine.specs.Opcodes
+pub mod Forms
+pub mod Parsed
+pub mod Words

@@ -1,0 +1,347 @@
+//! The form of a line, by its words alone.
+
+ghost use Rattle.std.specs.Prelude.{◌≡◌, is_some, option_map};
+ghost use Rattle.loop_lines.specs.Forms.{Malformed, array_line, compute_line, end_line, form_of, init_line, ints_of, line_form, load_line, loop_line, out_line, param_line, store_line, value_line};
+ghost use Rattle.iterations.specs.Arithmetic.{operands_of};
+ghost use Rattle.loop_lines.specs.Parsed.{form_seen};
+ghost use Rattle.loop_lines.specs.Words.{words_of};
+
+use crate::name::is_name;
+use crate::number::int_of;
+use crate::operand::{at_of, guard_of, place_of, use_of};
+use crate::words::{is_text, next_word, one_word, three_words, two_words};
+use machine::Opcode;
+
+/// A use of a statement. Numbers outside their limits are `None`.
+#[derive(Clone, Copy)]
+pub enum Use<'a> {
+    Number(Option<i64>),
+    Plain(&'a [u8]),
+    At(&'a [u8], Option<u8>),
+}
+
+/// An array's name and the constant of a subscript.
+#[derive(Clone, Copy)]
+pub struct Subscript<'a> {
+    pub array: &'a [u8],
+    pub offset: Option<i8>,
+}
+
+/// The uses of a statement, from the left on: behind a `None` stand no others.
+#[derive(Clone, Copy)]
+pub struct Uses<'a> {
+    pub first: Option<Use<'a>>,
+    pub second: Option<Use<'a>>,
+    pub third: Option<Use<'a>>,
+}
+
+/// A statement by its words.
+#[derive(Clone, Copy)]
+pub struct Source<'a> {
+    pub opcode: Opcode,
+    pub name: Option<&'a [u8]>,
+    pub place: Option<Subscript<'a>>,
+    pub uses: Uses<'a>,
+}
+
+/// A line that has words.
+#[derive(Clone, Copy)]
+pub enum Form<'a> {
+    Loop(&'a [u8]),
+    /// The name, and the rest of the line behind `=`, whose words are integers.
+    Array(&'a [u8], &'a [u8]),
+    Param(&'a [u8], Option<i64>),
+    Init(&'a [u8], Option<u8>, Option<i64>),
+    Statement(Source<'a>),
+    Out(&'a [u8]),
+    End,
+    Malformed,
+}
+
+/// The form of a line, which has none where it has no words.
+pub fn form_of(line: &[u8]) -> Option<Form<'_>>
+    ensures { option_map form_seen result ≡ line_form (words_of line.now) }
+{
+    let (word, rest) = next_word(line)?;
+    let mut form = Form::Malformed;
+    read_form(&mut form, word, rest);
+    Some(form)
+}
+
+/// Writes the form of a line by its first word and the rest. A form is large, so each line function
+/// writes it where it is to stand, and leaves it malformed where the words are not of its form.
+#[tactic(auto, unfolding(crate::specs::Forms::form_of))]
+fn read_form<'a>(form: &mut Form<'a>, word: &'a [u8], rest: &'a [u8])
+    requires { form_seen form.old ≡ Malformed }
+    ensures { form_seen form.new ≡ form_of word.now (words_of rest.now) }
+{
+    match word {
+        [b'l', more @ ..] if is_text(more, "oop") => loop_line(form, rest),
+        [b'a', more @ ..] if is_text(more, "rray") => array_line(form, rest),
+        [b'p', more @ ..] if is_text(more, "aram") => param_line(form, rest),
+        [b'i', more @ ..] if is_text(more, "nit") => init_line(form, rest),
+        [b's', more @ ..] if is_text(more, "tore") => store_line(form, rest),
+        [b'o', more @ ..] if is_text(more, "ut") => out_line(form, rest),
+        [b'e', more @ ..] if is_text(more, "nd") => end_line(form, rest),
+        _ => value_line(form, word, rest),
+    }
+}
+
+/// `loop NAME`
+fn loop_line<'a>(form: &mut Form<'a>, rest: &'a [u8])
+    requires { form_seen form.old ≡ Malformed }
+    ensures { form_seen form.new ≡ loop_line (words_of rest.now) }
+{
+    if let Some(name) = one_word(rest)
+        && is_name(name)
+    {
+        *form = Form::Loop(name);
+    }
+}
+
+/// `out NAME`
+fn out_line<'a>(form: &mut Form<'a>, rest: &'a [u8])
+    requires { form_seen form.old ≡ Malformed }
+    ensures { form_seen form.new ≡ out_line (words_of rest.now) }
+{
+    if let Some(name) = one_word(rest)
+        && is_name(name)
+    {
+        *form = Form::Out(name);
+    }
+}
+
+/// `end`
+fn end_line<'a>(form: &mut Form<'a>, rest: &'a [u8])
+    requires { form_seen form.old ≡ Malformed }
+    ensures { form_seen form.new ≡ end_line (words_of rest.now) }
+{
+    if next_word(rest).is_none() {
+        *form = Form::End;
+    }
+}
+
+/// The words are integers.
+fn are_ints(words: &[u8]) -> bool
+    ensures { result ≡ is_some (ints_of (words_of words.now)) }
+{
+    let mut rest = words;
+    while let Some((word, more)) = next_word(rest) {
+        if int_of(word).is_none() {
+            return false;
+        }
+        rest = more;
+    }
+    true
+}
+
+/// `array NAME = INT INT ..`
+fn array_line<'a>(form: &mut Form<'a>, rest: &'a [u8])
+    requires { form_seen form.old ≡ Malformed }
+    ensures { form_seen form.new ≡ array_line (words_of rest.now) }
+{
+    let Some((name, rest)) = next_word(rest) else {
+        return;
+    };
+    let Some((equals, cells)) = next_word(rest) else {
+        return;
+    };
+    if is_name(name) && is_text(equals, "=") && are_ints(cells) {
+        *form = Form::Array(name, cells);
+    }
+}
+
+/// `param NAME = INT`
+fn param_line<'a>(form: &mut Form<'a>, rest: &'a [u8])
+    requires { form_seen form.old ≡ Malformed }
+    ensures { form_seen form.new ≡ param_line (words_of rest.now) }
+{
+    let Some((name, equals, value)) = three_words(rest) else {
+        return;
+    };
+    if !is_name(name) || !is_text(equals, "=") {
+        return;
+    }
+    if let Some(value) = int_of(value) {
+        *form = Form::Param(name, value);
+    }
+}
+
+/// `init NAME@NUM = INT`
+fn init_line<'a>(form: &mut Form<'a>, rest: &'a [u8])
+    requires { form_seen form.old ≡ Malformed }
+    ensures { form_seen form.new ≡ init_line (words_of rest.now) }
+{
+    let Some((what, equals, value)) = three_words(rest) else {
+        return;
+    };
+    if !is_text(equals, "=") {
+        return;
+    }
+    let Some((name, number)) = at_of(what) else {
+        return;
+    };
+    if let Some(value) = int_of(value) {
+        *form = Form::Init(name, number, value);
+    }
+}
+
+/// `store NAME[SUB] USE`, and `store NAME[SUB] USE if USE`
+#[tactic(auto, using(crate::proofs::Stores::no_guard, crate::proofs::Stores::no_uses, crate::proofs::Stores::last_nothing, crate::proofs::Stores::store_by_parts))]
+fn store_line<'a>(form: &mut Form<'a>, rest: &'a [u8])
+    requires { form_seen form.old ≡ Malformed }
+    ensures { form_seen form.new ≡ store_line (words_of rest.now) }
+{
+    let Some((place, rest)) = next_word(rest) else {
+        return;
+    };
+    let Some((value, rest)) = next_word(rest) else {
+        return;
+    };
+    let Some(place) = place_of(place) else {
+        return;
+    };
+    let Some(value) = use_of(value) else {
+        return;
+    };
+    let Some(guard) = guard_of(rest) else {
+        return;
+    };
+    *form = Form::Statement(Source {
+        opcode: Opcode::Store,
+        name: None,
+        place: Some(place),
+        uses: Uses {
+            first: Some(value),
+            second: guard,
+            third: None,
+        },
+    });
+}
+
+/// A statement that gives a value.
+fn value_line<'a>(form: &mut Form<'a>, name: &'a [u8], rest: &'a [u8])
+    requires { form_seen form.old ≡ Malformed }
+    ensures { form_seen form.new ≡ value_line name.now (words_of rest.now) }
+{
+    let Some((equals, rest)) = next_word(rest) else {
+        return;
+    };
+    let Some((opcode, rest)) = next_word(rest) else {
+        return;
+    };
+    if !is_name(name) || !is_text(equals, "=") {
+        return;
+    }
+    match Opcode::named(opcode) {
+        None | Some(Opcode::Store) => {}
+        Some(Opcode::Load) => load_line(form, name, rest),
+        Some(Opcode::Mov) => one_use_line(form, name, Opcode::Mov, rest),
+        Some(Opcode::Sel) => three_uses_line(form, name, Opcode::Sel, rest),
+        Some(opcode) => two_uses_line(form, name, opcode, rest),
+    }
+}
+
+/// `NAME = load NAME[SUB]`
+fn load_line<'a>(form: &mut Form<'a>, name: &'a [u8], rest: &'a [u8])
+    requires { form_seen form.old ≡ Malformed }
+    ensures { form_seen form.new ≡ load_line name.now (words_of rest.now) }
+{
+    let Some(place) = one_word(rest) else {
+        return;
+    };
+    let Some(place) = place_of(place) else {
+        return;
+    };
+    *form = Form::Statement(Source {
+        opcode: Opcode::Load,
+        name: Some(name),
+        place: Some(place),
+        uses: Uses {
+            first: None,
+            second: None,
+            third: None,
+        },
+    });
+}
+
+/// `NAME = OP USE`
+fn one_use_line<'a>(form: &mut Form<'a>, name: &'a [u8], opcode: Opcode, rest: &'a [u8])
+    requires malformed { form_seen form.old ≡ Malformed }
+    requires one { operands_of opcode ≡ 1 }
+    ensures { form_seen form.new ≡ compute_line name.now opcode (words_of rest.now) }
+{
+    let Some(first) = one_word(rest) else {
+        return;
+    };
+    let Some(first) = use_of(first) else {
+        return;
+    };
+    *form = Form::Statement(Source {
+        opcode,
+        name: Some(name),
+        place: None,
+        uses: Uses {
+            first: Some(first),
+            second: None,
+            third: None,
+        },
+    });
+}
+
+/// `NAME = OP USE USE`
+fn two_uses_line<'a>(form: &mut Form<'a>, name: &'a [u8], opcode: Opcode, rest: &'a [u8])
+    requires malformed { form_seen form.old ≡ Malformed }
+    requires two { operands_of opcode ≡ 2 }
+    ensures { form_seen form.new ≡ compute_line name.now opcode (words_of rest.now) }
+{
+    let Some((first, second)) = two_words(rest) else {
+        return;
+    };
+    let Some(first) = use_of(first) else {
+        return;
+    };
+    let Some(second) = use_of(second) else {
+        return;
+    };
+    *form = Form::Statement(Source {
+        opcode,
+        name: Some(name),
+        place: None,
+        uses: Uses {
+            first: Some(first),
+            second: Some(second),
+            third: None,
+        },
+    });
+}
+
+/// `NAME = OP USE USE USE`
+fn three_uses_line<'a>(form: &mut Form<'a>, name: &'a [u8], opcode: Opcode, rest: &'a [u8])
+    requires malformed { form_seen form.old ≡ Malformed }
+    requires three { operands_of opcode ≡ 3 }
+    ensures { form_seen form.new ≡ compute_line name.now opcode (words_of rest.now) }
+{
+    let Some((first, second, third)) = three_words(rest) else {
+        return;
+    };
+    let Some(first) = use_of(first) else {
+        return;
+    };
+    let Some(second) = use_of(second) else {
+        return;
+    };
+    let Some(third) = use_of(third) else {
+        return;
+    };
+    *form = Form::Statement(Source {
+        opcode,
+        name: Some(name),
+        place: None,
+        uses: Uses {
+            first: Some(first),
+            second: Some(second),
+            third: Some(third),
+        },
+    });
+}

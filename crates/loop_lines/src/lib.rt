@@ -1,0 +1,15 @@
+//! One line of a loop text: its words, and the form that they have. It serves the reader of loop texts
+//! alone: other users take the crate `loops`.
+#![tactic(auto)]
+
+mod cells;
+mod feeds;
+mod form;
+mod name;
+mod number;
+mod operand;
+mod words;
+
+pub use cells::{are_wide, cells_of};
+pub use form::{Form, Source, Subscript, Use, Uses, form_of};
+pub use words::next_line;

@@ -1,0 +1,4 @@
+pub mod blocks
+pub mod faults
+pub mod lookups
+pub mod making

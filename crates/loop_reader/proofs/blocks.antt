@@ -1,0 +1,6 @@
+-- The lines of a block, and where it stops.
+pub mod BlockStanding
+pub mod Blocking
+pub mod Memoryless
+pub mod OpeningLines
+pub mod Reading

@@ -1,0 +1,10 @@
+-- The loop of a block without a fault.
+pub mod Built
+pub mod Few
+pub mod Initials
+pub mod Inits
+pub mod Lawful
+pub mod Lines
+pub mod Made
+pub mod Numbered
+pub mod Spelled

@@ -1,0 +1,47 @@
+-- What the reader answers for a text, for a block of it and for a line that opens a block.
+use Rattle.std.specs.Prelude.{◌≡◌, ℕ, ◌+◌, ◌<◌, ◌≤◌, List, [], ◌∷◌, ◌++◌, length, Some, Result, Ok, Err}
+use Rattle.std.specs.Borrow.{Bor}
+use Rattle.std.specs.BTreeSet.{BTreeSet, contains_by}
+use Rattle.std.specs.Cmp.Lexicographic.{slice_cmp}
+use Rattle.std.specs.List.{list_any}
+use Rattle.std.specs.Ordering.{nat_cmp}
+use Rattle.machine.specs.Opcodes.{same_word}
+use Rattle.iterations.specs.Loops.{IsLoop}
+use Rattle.loop_reader.specs.Meaning.{whole, forms_of, inside_faults, outside_faults, blocks_from, blocks_of, opening_faults, loop_of}
+use Rattle.loop_reader.specs.inner.Checks.{first_in}
+use Rattle.loop_reader.specs.declared.fault.LoopFault.{LoopFault}
+use Rattle.loop_reader.specs.declared.fault.LoopFaultKind.{LoopFaultKind}
+use Rattle.loop_reader.specs.declared.fault.LoopFaultKind.TheVariants.{Memory}
+use Rattle.loop_reader.specs.declared.read.Block.{Block}
+
+-- a fault of line 0 for want of memory, or another of which this holds
+abbrev pub UnlessMemory : LoopFaultKind → LoopFault → Type 0 → Type 0
+UnlessMemory Memory fault P = fault.line ≡ 0
+UnlessMemory kind fault P = P
+
+abbrev pub UnlessMemoryKind : LoopFaultKind → Type 0 → Type 0
+UnlessMemoryKind Memory P = Unit {0}
+UnlessMemoryKind kind P = P
+
+-- a block without a fault, its loop and what follows it
+pub record IsRead (name : List ℕ) (number : ℕ) (text : List ℕ) (block : Block) : Type 0 where
+  pub faults : (names : List (List ℕ)) → inside_faults number names [] (forms_of text) ≡ outside_faults block.line names (forms_of block.rest.now)
+  pub following : blocks_from name [] (forms_of text) ≡ (name, whole [] (forms_of text)) ∷ blocks_of (forms_of block.rest.now)
+  pub found : block.found ≡ loop_of (name, whole [] (forms_of text))
+  pub well_formed : IsLoop block.found
+  pub past : number < block.line
+  pub behind : block.line + length block.rest.now ≤ number + length text
+
+-- the answer for a block whose lines have numbers from this one on
+abbrev pub AnswersBlock : List ℕ → ℕ → List ℕ → Result Block LoopFault → Type 0
+AnswersBlock name number text (Ok block) = IsRead name number text block
+AnswersBlock name number text (Err fault) = UnlessMemory fault.kind fault ((names : List (List ℕ)) → first_in (inside_faults number names [] (forms_of text)) ≡ Some fault)
+
+-- a set has these names
+abbrev pub HasNames : BTreeSet (Bor (List ℕ)) → List (List ℕ) → Type 0
+HasNames set names = (q : List ℕ) → contains_by (λ k. slice_cmp nat_cmp q k.now) set ≡ list_any (same_word q) names
+
+-- the answer for a line that opens a block behind those of so many other names
+abbrev pub AnswersOpening : BTreeSet (Bor (List ℕ)) → BTreeSet (Bor (List ℕ)) → ℕ → List ℕ → Result (Unit {0}) LoopFaultKind → Type 0
+AnswersOpening old new loops name (Ok done) = (names : List (List ℕ)) → HasNames old names → length names ≡ loops → (opening_faults names name ≡ []) × HasNames new (names ++ name ∷ [])
+AnswersOpening old new loops name (Err kind) = (names : List (List ℕ)) → HasNames old names → length names ≡ loops → UnlessMemoryKind kind (first_in (opening_faults names name) ≡ Some kind)

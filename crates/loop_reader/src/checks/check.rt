@@ -1,0 +1,436 @@
+//! The faults of a block's lines.
+
+ghost use Rattle.std.specs.Prelude.{◌≡◌, ◌*◌, ◌≤◌, ℕ, ℤ, Bool, false, Option, None, Some, Ok, IfOk, List, [], not, option_map, length, replicate, take};
+ghost use Rattle.std.specs.Borrow.{Bor};
+ghost use Rattle.std.specs.List.{AllByRecursion};
+ghost use Rattle.loop_reader.specs.declared.names.index.Counts.{Counts};
+ghost use Rattle.loop_lines.specs.Forms.{ArrayLine, ParamLine, InitLine, StatementLine, OutLine};
+ghost use Rattle.loop_reader.specs.Meaning as meaning;
+ghost use Rattle.loop_reader.specs.Meaning.{any_name, declared, number_of, number_at, is_statement, AValue};
+ghost use Rattle.loop_lines.specs.Parsed.{cells_seen, form_seen, source_seen, subscript_seen, uses_seen};
+ghost use Rattle.loop_reader.specs.inner.Blocks.{declared_seen, entry_faults, forms_in};
+ghost use Rattle.loop_reader.specs.inner.Building.{IsFew};
+ghost use Rattle.loop_reader.specs.inner.Found.{array_in, fault_in, target_in, AreFound, IsFoundFor, IsFoundIn};
+ghost use Rattle.loop_reader.specs.inner.Checks.{any_use, covers_name, first_in, inits_with, is_that, kinds_at, lacks_init, outs_with, with_init, IsBlock, IsGiven, IsNear, IsNearForm, IsNearRead, IsNearUse, IsRoomFor};
+
+use crate::checks::given::{Given, MOST};
+use crate::fault::{LoopFault, LoopFaultKind};
+use crate::names::found::{self, Found, Target, target_of};
+use crate::names::index::{Counts, Declared, Index};
+use loop_lines::{Form, Source, Subscript, Use, are_wide};
+use std::alloc::AllocError;
+
+const MOST_BYTES: usize = 16;
+
+const MOST_ARRAYS: usize = 32;
+
+const MOST_PARAMS: usize = 64;
+
+const MOST_STATEMENTS: usize = 128;
+
+pub(crate) fn is_long(name: &[u8]) -> bool
+    ensures { result ≡ meaning.is_long name.now }
+{
+    name.len() > MOST_BYTES
+}
+
+fn is_that(what: Declared, found: Option<Declared>) -> bool
+    ensures { result ≡ is_that (declared_seen what) (option_map declared_seen found) }
+{
+    match (what, found) {
+        (Declared::Array(m), Some(Declared::Array(n))) => m == n,
+        (Declared::Param(m), Some(Declared::Param(n))) => m == n,
+        (Declared::Value(m), Some(Declared::Value(n))) => m == n,
+        _ => false,
+    }
+}
+
+fn is_value(found: Option<Declared>) -> bool
+    ensures { result ≡ meaning.is_value (option_map declared_seen found) }
+{
+    matches!(found, Some(Declared::Value(_)))
+}
+
+fn is_readable(found: Option<Declared>) -> bool
+    ensures { result ≡ meaning.is_readable (option_map declared_seen found) }
+{
+    matches!(found, Some(Declared::Value(_) | Declared::Param(_)))
+}
+
+/// The value of a statement from this one on.
+fn is_value_from(statement: usize, found: Option<Declared>) -> bool
+    ensures { result ≡ meaning.is_value_from statement (option_map declared_seen found) }
+{
+    match found {
+        Some(Declared::Value(number)) => statement <= number,
+        _ => false,
+    }
+}
+
+fn is_wide(read: &Option<Use<'_>>) -> bool
+    ensures { result ≡ any_use meaning.is_wide read.now }
+{
+    match read {
+        None => false,
+        Some(Use::Number(value)) => value.is_none(),
+        Some(Use::Plain(name)) => is_long(*name),
+        Some(Use::At(name, distance)) => is_long(*name) || distance.is_none(),
+    }
+}
+
+/// All initial values of a name from 1 to a distance were given.
+fn covers_name(given: &Given, found: Option<Declared>, distance: u8) -> bool
+    requires below { IsRoomFor (length given.now.inits) (option_map declared_seen found) }
+    requires near { distance ≤ 16 }
+    ensures { result ≡ covers_name given.now.inits (option_map declared_seen found) distance }
+{
+    match found {
+        _ if distance == 0 => true,
+        Some(Declared::Value(value)) => given.covers(value, distance),
+        _ => false,
+    }
+}
+
+/// A use that was looked up: what is wrong with it, and what its name stands for.
+#[derive(Clone, Copy)]
+struct Looked {
+    unknown: bool,
+    early: bool,
+    lacking: bool,
+    target: Target,
+}
+
+/// Looks a use of this statement up. Its name is looked up once for all.
+#[inline(always)]
+fn look_up<'a>(index: &Index<'a>, given: &Given, statement: usize, read: &Option<Use<'a>>) -> Looked
+    requires room { length given.now.inits ≡ 16 * number_of is_statement (forms_in index.now) }
+    requires near { IsNearRead read.now }
+    ensures unknown { result.unknown ≡ any_use (meaning.is_unknown (forms_in index.now)) read.now }
+    ensures early { result.early ≡ any_use (meaning.is_early (forms_in index.now) statement) read.now }
+    ensures lacking { result.lacking ≡ any_use (lacks_init (forms_in index.now) given.now.inits) read.now }
+    ensures target { IsFew (forms_in index.now) → result.target ≡ target_in (forms_in index.now) read.now }
+{
+    match read {
+        None | Some(Use::Number(_)) => Looked {
+            unknown: false,
+            early: false,
+            lacking: false,
+            target: Target::Value(0),
+        },
+        Some(Use::Plain(name)) => {
+            let found = index.declared(*name);
+            Looked {
+                unknown: !is_readable(found),
+                early: is_value_from(statement, found),
+                lacking: false,
+                target: target_of(found),
+            }
+        }
+        Some(Use::At(name, distance)) => {
+            let found = index.declared(*name);
+            Looked {
+                unknown: !is_value(found),
+                early: matches!(distance, Some(0)) && is_value_from(statement, found),
+                lacking: match distance {
+                    None => false,
+                    Some(distance) => !covers_name(given, found, *distance),
+                },
+                target: target_of(found),
+            }
+        }
+    }
+}
+
+/// A place that was looked up: whether it is of no array, and its array's number.
+#[derive(Clone, Copy)]
+struct Spot {
+    unknown: bool,
+    number: u8,
+}
+
+#[inline(always)]
+fn look_up_place<'a>(index: &Index<'a>, place: &Option<Subscript<'a>>) -> Spot
+    ensures unknown { result.unknown ≡ meaning.is_unknown_place (forms_in index.now) (option_map subscript_seen place.now) }
+    ensures number { IsFew (forms_in index.now) → result.number ≡ array_in (forms_in index.now) place.now }
+{
+    match place {
+        None => Spot {
+            unknown: false,
+            number: 0,
+        },
+        Some(place) => {
+            let found = index.declared(place.array);
+            Spot {
+                unknown: !matches!(found, Some(Declared::Array(_))),
+                number: found::number_of(found),
+            }
+        }
+    }
+}
+
+fn is_long_name(name: Option<&[u8]>) -> bool
+    ensures { result ≡ any_name meaning.is_long (option_map (λ (n : Bor (List ℕ)). n.now) name.entry) }
+{
+    match name {
+        None => false,
+        Some(name) => is_long(name),
+    }
+}
+
+/// The name stands for another thing than the value of the statement behind so many lines.
+fn is_repeated_value(index: &Index<'_>, before: Counts, name: Option<&[u8]>) -> bool
+    ensures { result ≡ any_name (λ name. not (is_that (AValue before.statements) (declared (forms_in index.now) name))) (option_map (λ (n : Bor (List ℕ)). n.now) name.entry) }
+{
+    match name {
+        None => false,
+        Some(name) => !is_that(Declared::Value(before.statements), index.declared(name)),
+    }
+}
+
+fn is_wide_place(place: &Option<Subscript<'_>>) -> bool
+    ensures { result ≡ meaning.is_wide_place (option_map subscript_seen place.now) }
+{
+    match place {
+        None => false,
+        Some(place) => is_long(place.array) || place.offset.is_none(),
+    }
+}
+
+/// The first fault of an array behind so many lines.
+fn array_fault<'a>(
+    index: &Index<'a>,
+    counts: Counts,
+    name: &'a [u8],
+    cells: &[u8],
+) -> Option<LoopFaultKind>
+    ensures { (inits : List (Option ℤ)) (outs : List Bool) → result
+        ≡ first_in (kinds_at (forms_in index.now) counts inits outs (ArrayLine name.now (cells_seen cells.now))) }
+{
+    if is_long(name) || are_wide(cells) || counts.arrays >= MOST_ARRAYS {
+        return Some(LoopFaultKind::Limit);
+    }
+    if !is_that(Declared::Array(counts.arrays), index.declared(name)) {
+        return Some(LoopFaultKind::RepeatedName);
+    }
+    None
+}
+
+fn param_fault<'a>(
+    index: &Index<'a>,
+    counts: Counts,
+    name: &'a [u8],
+    value: Option<i64>,
+) -> Option<LoopFaultKind>
+    ensures { (inits : List (Option ℤ)) (outs : List Bool) → result
+        ≡ first_in (kinds_at (forms_in index.now) counts inits outs (ParamLine name.now value)) }
+{
+    if is_long(name) || value.is_none() || counts.params >= MOST_PARAMS {
+        return Some(LoopFaultKind::Limit);
+    }
+    if !is_that(Declared::Param(counts.params), index.declared(name)) {
+        return Some(LoopFaultKind::RepeatedName);
+    }
+    None
+}
+
+fn init_fault<'a>(
+    index: &Index<'a>,
+    given: &Given,
+    name: &'a [u8],
+    number: Option<u8>,
+    value: Option<i64>,
+) -> Option<LoopFaultKind>
+    requires room { length given.now.inits ≡ 16 * number_of is_statement (forms_in index.now) }
+    requires near { IsNear number }
+    ensures { (counts : Counts) (outs : List Bool) → result
+        ≡ first_in (kinds_at (forms_in index.now) counts given.now.inits outs (InitLine name.now number value)) }
+{
+    let number = match number {
+        Some(number) if number > 0 && value.is_some() && !is_long(name) => number as usize,
+        _ => return Some(LoopFaultKind::Limit),
+    };
+    match index.declared(name) {
+        Some(Declared::Value(of)) if given.inits.has(of, number - 1) => {
+            Some(LoopFaultKind::RepeatedName)
+        }
+        Some(Declared::Value(_)) => None,
+        _ => Some(LoopFaultKind::UnknownName),
+    }
+}
+
+/// The first fault of a statement behind so many lines; else what its names stand for.
+#[inline(always)]
+fn check_statement<'a>(
+    index: &Index<'a>,
+    counts: Counts,
+    given: &Given,
+    source: &Source<'a>,
+) -> Result<Found, LoopFaultKind>
+    requires room { length given.now.inits ≡ 16 * number_of is_statement (forms_in index.now) }
+    requires near { AllByRecursion IsNearUse (uses_seen source.now.uses) }
+    ensures fault { (outs : List Bool) → fault_in result
+        ≡ first_in (kinds_at (forms_in index.now) counts given.now.inits outs (StatementLine (source_seen source.now))) }
+    ensures found { IfOk result (λ found. IsFew (forms_in index.now) → IsFoundIn (forms_in index.now) source.now found) }
+{
+    let uses = &source.uses;
+    let number = counts.statements;
+    if is_long_name(source.name)
+        || is_wide_place(&source.place)
+        || is_wide(&uses.first)
+        || is_wide(&uses.second)
+        || is_wide(&uses.third)
+        || number >= MOST_STATEMENTS
+    {
+        return Err(LoopFaultKind::Limit);
+    }
+    if is_repeated_value(index, counts, source.name) {
+        return Err(LoopFaultKind::RepeatedName);
+    }
+    let first = look_up(index, given, number, &uses.first);
+    let second = look_up(index, given, number, &uses.second);
+    let third = look_up(index, given, number, &uses.third);
+    let place = look_up_place(index, &source.place);
+    if place.unknown || first.unknown || second.unknown || third.unknown {
+        return Err(LoopFaultKind::UnknownName);
+    }
+    if first.early || second.early || third.early {
+        return Err(LoopFaultKind::UseBeforeDefinition);
+    }
+    if first.lacking || second.lacking || third.lacking {
+        return Err(LoopFaultKind::MissingInit);
+    }
+    Ok(Found {
+        number: place.number,
+        first: first.target,
+        second: second.target,
+        third: third.target,
+    })
+}
+
+fn check_out<'a>(index: &Index<'a>, given: &Given, name: &'a [u8]) -> Result<Found, LoopFaultKind>
+    requires room { length given.now.inits ≡ 16 * number_of is_statement (forms_in index.now) }
+    requires flags { length given.now.outs.items ≡ number_of is_statement (forms_in index.now) }
+    ensures fault { (counts : Counts) → fault_in result
+        ≡ first_in (kinds_at (forms_in index.now) counts given.now.inits given.now.outs.items (OutLine name.now)) }
+    ensures found { IfOk result (λ found. IsFew (forms_in index.now) → found.number ≡ number_at (declared (forms_in index.now) name.now)) }
+{
+    if is_long(name) {
+        return Err(LoopFaultKind::Limit);
+    }
+    let found = index.declared(name);
+    match found {
+        Some(Declared::Value(value)) if given.outs[value] => Err(LoopFaultKind::RepeatedName),
+        Some(Declared::Value(value)) if given.covers(value, 1) => Ok(Found {
+            number: found::number_of(found),
+            ..Found::NOTHING
+        }),
+        Some(Declared::Value(_)) => Err(LoopFaultKind::MissingInit),
+        _ => Err(LoopFaultKind::UnknownName),
+    }
+}
+
+/// A line that uses no name.
+fn nothing_unless(fault: Option<LoopFaultKind>) -> Result<Found, LoopFaultKind>
+    ensures { fault_in result ≡ fault }
+{
+    match fault {
+        None => Ok(Found::NOTHING),
+        Some(kind) => Err(kind),
+    }
+}
+
+/// The first fault of a line behind so many others, which gave this to the block's values; else what the
+/// names stand for that it uses.
+#[inline(always)]
+pub(crate) fn check_line<'a>(
+    index: &Index<'a>,
+    counts: Counts,
+    given: &Given,
+    form: &Form<'a>,
+) -> Result<Found, LoopFaultKind>
+    requires room { length given.now.inits ≡ 16 * number_of is_statement (forms_in index.now) }
+    requires flags { length given.now.outs.items ≡ number_of is_statement (forms_in index.now) }
+    requires near { IsNearForm (form_seen form.now) }
+    ensures fault { fault_in result ≡ first_in (kinds_at (forms_in index.now) counts given.now.inits given.now.outs.items (form_seen form.now)) }
+    ensures found { IfOk result (λ found. IsFew (forms_in index.now) → IsFoundFor (forms_in index.now) form.now found) }
+{
+    match form {
+        Form::Loop(_) | Form::Malformed => Ok(Found::NOTHING),
+        Form::Array(name, cells) => nothing_unless(array_fault(index, counts, *name, *cells)),
+        Form::Param(name, value) => nothing_unless(param_fault(index, counts, *name, *value)),
+        Form::Init(name, number, value) => {
+            nothing_unless(init_fault(index, given, *name, *number, *value))
+        }
+        Form::Statement(source) => check_statement(index, counts, given, source),
+        Form::Out(name) => check_out(index, given, *name),
+        Form::End if counts.statements == 0 => Err(LoopFaultKind::Limit),
+        Form::End => Ok(Found::NOTHING),
+    }
+}
+
+/// Takes down what one more line gives to the block's values.
+fn give<'a>(given: &mut Given, index: &Index<'a>, form: &Form<'a>)
+    requires room { length given.old.inits ≡ 16 * number_of is_statement (forms_in index.now) }
+    requires flags { length given.old.outs.items ≡ number_of is_statement (forms_in index.now) }
+    ensures inits { given.new.inits ≡ inits_with (forms_in index.now) given.old.inits (form_seen form.now) }
+    ensures outs { given.new.outs.items ≡ outs_with (forms_in index.now) given.old.outs.items (form_seen form.now) }
+{
+    match form {
+        Form::Init(name, Some(number), Some(value)) => {
+            give_init(given, index.declared(*name), *number, *value);
+        }
+        Form::Out(name) => {
+            if let Some(Declared::Value(value)) = index.declared(*name) {
+                given.outs[value] = true;
+            }
+        }
+        _ => {}
+    }
+}
+
+fn give_init(given: &mut Given, found: Option<Declared>, number: u8, value: i64)
+    requires room { IsRoomFor (length given.old.inits) (option_map declared_seen found) }
+    ensures inits { given.new.inits ≡ with_init given.old.inits (option_map declared_seen found) (Some number) (Some value) }
+    ensures outs { given.new.outs.items ≡ given.old.outs.items }
+{
+    if let Some(Declared::Value(of)) = found
+        && number > 0
+        && number as usize <= MOST
+    {
+        given.inits.put(of, number as usize - 1, value);
+    }
+}
+
+/// The first fault of the first so many lines of a block. Where they have none, `given` is left with
+/// what they give to the block's values, and `found` with what the names stand for that they use.
+pub(crate) fn first_fault<'a>(
+    index: &Index<'a>,
+    sound: usize,
+    given: &mut Given,
+    found: &mut Vec<Found>,
+) -> Result<Option<LoopFault>, AllocError>
+    requires sound { sound ≤ length index.now }
+    requires inits { given.old.inits ≡ replicate (16 * number_of is_statement (forms_in index.now)) None }
+    requires outs { given.old.outs.items ≡ replicate (number_of is_statement (forms_in index.now)) false }
+    requires block { IsBlock (forms_in index.now) }
+    ensures value { IfOk result (λ fault. fault ≡ first_in (entry_faults (forms_in index.now) [] (take sound index.now))) }
+    ensures given { result ≡ Ok None → IsGiven (forms_in index.now) (forms_in (take sound index.now)) given.new.inits given.new.outs.items }
+    ensures found { result ≡ Ok None → IsFew (forms_in index.now) → AreFound (forms_in index.now) (take sound index.now) found.new.items }
+{
+    found.clear();
+    let mut counts = Counts::NONE;
+    for entry in &index.lines()[..sound] {
+        match check_line(index, counts, given, &entry.form) {
+            Ok(line) => found.push(line)?,
+            Err(kind) => {
+                return Ok(Some(LoopFault {
+                    line: entry.line,
+                    kind,
+                }));
+            }
+        }
+        give(given, index, &entry.form);
+        counts = counts.with(&entry.form);
+    }
+    Ok(None)
+}

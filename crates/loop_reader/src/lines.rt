@@ -1,0 +1,4 @@
+//! The lines of a block.
+
+pub(crate) mod collect;
+pub(crate) mod entry;

@@ -1,0 +1,5 @@
+//! The names of a block.
+
+pub(crate) mod found;
+pub(crate) mod index;
+pub(crate) mod known;

@@ -1,0 +1,150 @@
+//! What the names of a block stand for.
+
+ghost use Rattle.std.specs.Prelude.{◌≡◌, ◌+◌, ◌^◌, ◌<◌, ℕ, List, IfOk, OnOk, None, Some, if◌then◌else◌, option_map};
+ghost use Rattle.loop_reader.specs.inner.Known.{known_as};
+ghost use Rattle.loop_reader.specs.Meaning.{declared, declared_by, is_array, is_param, is_statement};
+ghost use Rattle.loop_lines.specs.Parsed.{form_seen};
+ghost use Rattle.loop_reader.specs.inner.Blocks.{declared_seen, declared_if, forms_in, one_if, IsCounts};
+
+use crate::lines::entry::Entry;
+use crate::names::known::Names;
+use loop_lines::Form;
+use std::alloc::AllocError;
+use std::marker::Model;
+
+/// What a name stands for: an array, a parameter or the value of a statement, by its number from 0.
+#[derive(Clone, Copy, Drop)]
+pub(crate) enum Declared {
+    Array(usize),
+    Param(usize),
+    Value(usize),
+}
+
+/// How many lines of each form stand in a part of a block.
+#[derive(Clone, Copy)]
+pub(crate) struct Counts {
+    pub(crate) arrays: usize,
+    pub(crate) params: usize,
+    pub(crate) statements: usize,
+}
+
+impl Counts {
+    pub(crate) const NONE: Counts = Counts {
+        arrays: 0,
+        params: 0,
+        statements: 0,
+    };
+
+    /// The counts with one more line.
+    pub(crate) fn with(self, form: &Form<'_>) -> Counts
+        requires arrays { self.arrays + 1 < 2 ^ 64 }
+        requires params { self.params + 1 < 2 ^ 64 }
+        requires statements { self.statements + 1 < 2 ^ 64 }
+        ensures arrays { result.arrays ≡ self.arrays + one_if (is_array (form_seen form.now)) }
+        ensures params { result.params ≡ self.params + one_if (is_param (form_seen form.now)) }
+        ensures statements { result.statements ≡ self.statements + one_if (is_statement (form_seen form.now)) }
+    {
+        let Counts {
+            mut arrays,
+            mut params,
+            mut statements,
+        } = self;
+        match form {
+            Form::Array(_, _) => arrays += 1,
+            Form::Param(_, _) => params += 1,
+            Form::Statement(_) => statements += 1,
+            _ => {}
+        }
+        Counts {
+            arrays,
+            params,
+            statements,
+        }
+    }
+}
+
+/// The name that a line declares behind so many others, and what it stands for.
+fn declaration<'a>(form: &Form<'a>, before: Counts) -> Option<(&'a [u8], Declared)>
+    ensures { (q : List ℕ) → declared_by q before.arrays before.params before.statements (form_seen form.now)
+        ≡ declared_if q result }
+{
+    match form {
+        Form::Array(name, _) => Some((*name, Declared::Array(before.arrays))),
+        Form::Param(name, _) => Some((*name, Declared::Param(before.params))),
+        Form::Statement(source) => Some((source.name?, Declared::Value(before.statements))),
+        _ => None,
+    }
+}
+
+/// Fills a table with the names that the lines of a block declare, each with its first declaration.
+/// The result is how many lines of each form there are. The table's room is used again.
+pub(crate) fn index_names<'a>(
+    names: &mut Names<'a>,
+    lines: &[Entry<'a>],
+) -> Result<Counts, AllocError>
+    ensures names { OnOk result ((q : List ℕ) → option_map declared_seen (known_as names.new q) ≡ declared (forms_in lines.now) q) }
+    ensures counts { IfOk result (λ counts. IsCounts (forms_in lines.now) counts) }
+{
+    names.clear();
+    let mut counts = Counts::NONE;
+    for entry in lines {
+        if let Some((name, what)) = declaration(&entry.form, counts) {
+            names.add(name, what)?;
+        }
+        counts = counts.with(&entry.form);
+    }
+    Ok(counts)
+}
+
+/// The lines of a block with an index of their names. Contracts see the lines.
+#[derive(Drop)]
+pub(crate) struct Index<'a> {
+    lines: &'a [Entry<'a>],
+    names: &'a Names<'a>,
+}
+
+impl<'a> Model for Index<'a> {
+    ghost use Rattle.std.specs.Prelude.{◌≡◌, ℕ, List, option_map};
+    ghost use Rattle.loop_reader.specs.inner.Known.{known_as};
+    ghost use Rattle.loop_reader.specs.declared.lines.entry.Entry.{Entry};
+    ghost use Rattle.loop_reader.specs.Meaning.{declared};
+    ghost use Rattle.loop_reader.specs.inner.Blocks.{forms_in, declared_seen};
+
+    ghost Value = { List Entry };
+
+    ghost view = { λ a. a.lines.now };
+
+    ghost invariant = { λ a. (q : List ℕ) → option_map declared_seen (known_as a.names.now q) ≡ declared (forms_in a.lines.now) q };
+}
+
+impl<'a> Index<'a> {
+    ghost use Rattle.std.specs.Prelude.{◌≡◌, ℕ, List, option_map};
+    ghost use Rattle.loop_reader.specs.inner.Known.{known_as};
+    ghost use Rattle.loop_reader.specs.Meaning.{declared};
+    ghost use Rattle.loop_reader.specs.inner.Blocks.{forms_in, declared_seen};
+    ghost use Rattle.loop_reader.specs.inner.Checks.{IsCounted};
+
+    /// An index of these lines by the table of their names.
+    pub(crate) fn new(names: &'a Names<'a>, lines: &'a [Entry<'a>]) -> Index<'a>
+        requires names { (q : List ℕ) → option_map declared_seen (known_as names.now q) ≡ declared (forms_in lines.now) q }
+        ensures { result ≡ lines.now }
+    {
+        Index { lines, names }
+    }
+
+    /// The lines.
+    pub(crate) fn lines(&self) -> &'a [Entry<'a>]
+        ensures { result.now ≡ self.now }
+    {
+        self.lines
+    }
+
+    /// The first declaration of a name.
+    #[inline(always)]
+    pub(crate) fn declared(&self, name: &[u8]) -> Option<Declared>
+        ensures value { option_map declared_seen result ≡ declared (forms_in self.now) name.now }
+        ensures counted { IsCounted (forms_in self.now) (option_map declared_seen result) }
+    {
+        self.names.get(name)
+    }
+}

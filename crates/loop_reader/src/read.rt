@@ -1,0 +1,163 @@
+//! Reading a loop text.
+
+ghost use Rattle.std.specs.Prelude.{◌≡◌, ◌+◌, ◌*◌, ◌≤◌, ◌<◌, ◌^◌, true, List, ℕ, length, IfOk};
+ghost use Rattle.std.specs.List.{All};
+ghost use Rattle.iterations.specs.Names.{is_name};
+ghost use Rattle.iterations.specs.Loops.{IsLoop};
+ghost use Rattle.loop_reader.specs.Meaning.{forms_of, loops_in, seen, Answers};
+ghost use Rattle.loop_reader.specs.inner.Texts.{AnswersBlock, AnswersOpening};
+
+use crate::build::build;
+use crate::checks::check::{check_line, first_fault, is_long};
+use crate::checks::given::Given;
+use crate::fault::{LoopFault, LoopFaultKind};
+use crate::lines::collect::{Stop, collect_block};
+use crate::lines::entry::Entry;
+use crate::names::found::Found;
+use crate::names::index::{Index, index_names};
+use crate::names::known::Names;
+use iterations::Loop;
+use loop_lines::{Form, form_of, next_line};
+use std::alloc::{AllocError, Global};
+use std::collections::BTreeSet;
+
+const MOST_BYTES: usize = 1_048_576;
+
+const MOST_LOOPS: usize = 1024;
+
+/// What is kept from block to block.
+#[derive(Drop)]
+struct Room<'a> {
+    lines: Vec<Entry<'a>>,
+    names: Names<'a>,
+    given: Given,
+    found: Vec<Found>,
+}
+
+/// A block that was read: its loop, the text behind it and the number of that text's first line.
+#[derive(Drop)]
+struct Block<'a> {
+    found: Loop,
+    rest: &'a [u8],
+    line: usize,
+}
+
+/// Reads a block from the line of this number on, which is the one behind the block's first.
+fn read_block<'a>(
+    alloc: Global,
+    room: &mut Room<'a>,
+    name: &'a [u8],
+    text: &'a [u8],
+    number: usize,
+) -> Result<Block<'a>, LoopFault>
+    requires name { is_name name.now ≡ true }
+    requires short { length name.now ≤ 16 }
+    requires room { number + length text.now < 2 ^ 32 }
+    ensures { AnswersBlock name.now number text.now result }
+{
+    let (sound, stop) = collect_block(&mut room.lines, text, number)?;
+    let counts = index_names(&mut room.names, room.lines.as_slice())?;
+    let index = Index::new(&room.names, room.lines.as_slice());
+    room.given.reset(counts.statements)?;
+    let first = first_fault(&index, sound, &mut room.given, &mut room.found)?;
+    if let Some(fault) = first {
+        return Err(fault);
+    }
+    let (line, rest) = match stop {
+        Stop::Unfit(line, _) => return Err(LoopFault {
+            line,
+            kind: LoopFaultKind::Syntax,
+        }),
+        Stop::Open(line) => return Err(LoopFault {
+            line,
+            kind: LoopFaultKind::NoEnd,
+        }),
+        Stop::End(line, rest) => (line, rest),
+    };
+    if let Err(kind) = check_line(&index, counts, &room.given, &Form::End) {
+        return Err(LoopFault { line, kind });
+    }
+    let found = build(
+        alloc,
+        name,
+        &index,
+        counts,
+        &room.given,
+        room.found.as_slice(),
+    )?;
+    Ok(Block {
+        found,
+        rest,
+        line: line + 1,
+    })
+}
+
+/// The first fault of a line that opens a block behind so many others; else its name is added to theirs.
+fn open<'a>(
+    names: &mut BTreeSet<&'a [u8]>,
+    loops: usize,
+    name: &'a [u8],
+) -> Result<(), LoopFaultKind>
+    ensures { AnswersOpening names.old names.new loops name.now result }
+{
+    if is_long(name) || loops >= MOST_LOOPS {
+        return Err(LoopFaultKind::Limit);
+    }
+    if !names.insert(name)? {
+        return Err(LoopFaultKind::RepeatedName);
+    }
+    Ok(())
+}
+
+/// Reads a loop text of at most 1,048,576 bytes and 1,024 loops.
+///
+/// The loops come in text order. The fault is that of the first line that has one, and of its faults
+/// the first in the order of [`LoopFaultKind`].
+pub fn read_loops(alloc: Global, text: &[u8]) -> Result<Vec<Loop>, LoopFault>
+    ensures exact { Answers (seen result) (loops_in text.now) }
+    ensures well_formed { IfOk result (λ loops. All IsLoop loops.items × (length loops.items ≤ 1024)) }
+{
+    if text.len() > MOST_BYTES {
+        return Err(LoopFault {
+            line: 0,
+            kind: LoopFaultKind::Limit,
+        });
+    }
+    let mut loops = Vec::new(alloc);
+    let mut names = BTreeSet::new(alloc);
+    let mut room = Room {
+        lines: Vec::new(alloc),
+        names: Names::new(alloc),
+        given: Given::new(alloc),
+        found: Vec::new(alloc),
+    };
+    let mut rest = text;
+    let mut line = 1;
+    while !rest.is_empty() {
+        let (this, after) = next_line(rest);
+        match form_of(this) {
+            None => {
+                rest = after;
+                line += 1;
+            }
+            Some(form) => match form {
+                Form::Loop(name) => {
+                    if let Err(kind) = open(&mut names, loops.len(), name) {
+                        return Err(LoopFault::at(line, kind));
+                    }
+                    let block = read_block(alloc, &mut room, name, after, line + 1)?;
+                    loops.push(block.found)?;
+                    rest = block.rest;
+                    line = block.line;
+                }
+                _ => {
+                    return Err(LoopFault {
+                        line,
+                        kind: LoopFaultKind::Syntax,
+                    });
+                }
+            },
+        }
+    }
+    Ok(loops)
+}

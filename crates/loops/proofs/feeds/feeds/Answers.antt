@@ -1,9 +1,0 @@
-use Rattle.std.proofs.Common.{eqb, ap, ◌∙◌, arith, w8}
-use Rattle.std.specs.Int.{bit_at}
-use Rattle.std.proofs.lemmas.Simd.{bitmask_splat}
-use Rattle.loops.proofs.Lanes.{bit_of_lanes}
-use Rattle.loops.proofs.feeds.feeds.Goals as goal
-
-pub returns : goal.returns
-returns c k l =
-    ap (λ m. eqb (bit_at m k) 1) (bitmask_splat w8 eqb c.args.bytes 16 10 c.fits-bytes.0 (omega arith)) ∙ bit_of_lanes c.args.bytes k c.fits-bytes.0 l

@@ -1,9 +1,0 @@
-use Rattle.std.proofs.Common.{◌≡◌, is_some, sym, false, rules}
-use Rattle.loops.specs.Checks.{slot}
-use Rattle.loops.proofs.Covering.{covers-false}
-use Rattle.loops.proofs.given.Given.covers.Goals as goal
-
-pub returns-then-not-has : goal.returns-then-not-has
-returns-then-not-has c =
-    let none : is_some (slot c.args.self.now.inits c.args.value c.loop-m.m) ≡ false = search rules in
-    sym (covers-false c.args.self.now.inits c.args.value c.loop-m.m c.args.distance c.loop-m-test.true none)

@@ -1,7 +1,0 @@
-use Rattle.std.proofs.Common.{◌≡◌, map, take}
-use Rattle.loops.specs.declared.lists.Array.{Array}
-use Rattle.loops.specs.Run.{opening_cells}
-use Rattle.loops.proofs.run.opening_arrays.Given as goal
-
-abbrev pub invariant-loop-array : goal.invariant-loop-array
-invariant-loop-array l = l.blocks.items ≡ map (λ (a : Array). opening_cells l.trip a.cells) (take l.array-index l.arrays)

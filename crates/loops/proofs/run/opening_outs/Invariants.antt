@@ -1,6 +1,0 @@
-use Rattle.std.proofs.Common.{◌≡◌, map, take}
-use Rattle.loops.specs.Steps.{initial_in}
-use Rattle.loops.proofs.run.opening_outs.Given as goal
-
-abbrev pub invariant-loop-statement : goal.invariant-loop-statement
-invariant-loop-statement l = l.outs.items ≡ map (λ s. initial_in l.innermost.inits s 1) (take l.statement-index l.statements)

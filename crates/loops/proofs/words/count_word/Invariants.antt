@@ -1,7 +1,0 @@
-use Rattle.std.proofs.Common.{◌≡◌, ◌<◌, ℕ, false, get_or}
-use Rattle.loops.specs.Words.{stops_word}
-use Rattle.loops.proofs.words.count_word.Given as goal
-
--- none of the bytes so far is one that ends a word
-abbrev pub invariant-loop-i : goal.invariant-loop-i
-invariant-loop-i l = (k : ℕ) → k < l.i → stops_word (get_or l.text k 0) ≡ false

@@ -1,0 +1,143 @@
+//! Reading the reservation tables of a machine text.
+
+ghost use Rattle.std.specs.Prelude.{◌≡◌, ◌<◌, ◌≤◌, ◌&&◌, nat_lt, true, position, length, option_map, IfSome, SomeIff};
+ghost use Rattle.std.specs.Str.{all_ascii_digits};
+ghost use Rattle.std.specs.Str.Parse.{digits_value};
+ghost use Rattle.machine.specs.Opcodes.{same_word};
+ghost use Rattle.toml.specs.View.{view};
+ghost use Rattle.machine.specs.Reads.{Reads};
+ghost use Rattle.machine.specs.MachineText.{words_in, row_faults, row_in, alternative_faults, rows_of, faults_of_alternatives, alternatives_of};
+
+use crate::alternative::{Alternative, Alternatives, Row};
+use crate::fault::{Key, MachineFault};
+use crate::limits::{MAX_ALTERNATIVES, MAX_OFFSET, MAX_ROWS};
+use crate::name::Name;
+use crate::read::is_within;
+use crate::read::path::Path;
+use crate::read::units::is_unit_name;
+use smallvec::SmallVec;
+use std::alloc::Global;
+use toml::Value;
+
+/// The alternatives of an opcode, at this path.
+pub(crate) fn read_alternatives(
+    alloc: Global,
+    path: &Path,
+    units: &[Name],
+    value: Option<&Value>,
+) -> Result<Alternatives, MachineFault>
+    requires { length units.now ≤ 64 }
+    ensures { let found = option_map (λ v. view v.now) value.entry in Reads (faults_of_alternatives path.now units.now found) (λ alternatives. alternatives ≡ alternatives_of units.now found) result }
+{
+    let Some(value) = value else {
+        return Err(MachineFault::MissingKey(path.to_key(alloc, "")?));
+    };
+    let Some(values) = value.as_array() else {
+        return Err(MachineFault::WrongType(path.to_key(alloc, "")?));
+    };
+    if !is_within(values.len(), MAX_ALTERNATIVES) {
+        return Err(MachineFault::Limit(Key::of(alloc, "alternatives")?));
+    }
+    let mut alternatives = Vec::with_capacity(alloc, values.len())?;
+    for value in values {
+        alternatives.push(read_alternative(alloc, path, units, value)?)?;
+    }
+    Ok(Alternatives::new(alternatives))
+}
+
+/// An alternative, of the alternatives at this path.
+fn read_alternative(
+    alloc: Global,
+    path: &Path,
+    units: &[Name],
+    value: &Value,
+) -> Result<Alternative, MachineFault>
+    requires { length units.now ≤ 64 }
+    ensures { Reads (alternative_faults path.now units.now (view value.now)) (λ rows. rows ≡ rows_of units.now (view value.now)) result }
+{
+    let Some(values) = value.as_array() else {
+        return Err(MachineFault::WrongType(path.to_key(alloc, "")?));
+    };
+    if !is_within(values.len(), MAX_ROWS) {
+        return Err(MachineFault::Limit(Key::of(alloc, "rows")?));
+    }
+    let mut rows = SmallVec::new(alloc);
+    for value in values {
+        let row = read_row(alloc, path, units, rows.as_slice(), value)?;
+        rows.push(row)?;
+    }
+    Ok(Alternative::new(rows))
+}
+
+/// A row behind others of its alternative.
+fn read_row(
+    alloc: Global,
+    path: &Path,
+    units: &[Name],
+    before: &[Row],
+    value: &Value,
+) -> Result<Row, MachineFault>
+    requires { length units.now ≤ 64 }
+    ensures { Reads (row_faults path.now units.now before.now (view value.now)) (λ row. row ≡ row_in units.now (view value.now)) result }
+{
+    let Some((unit, digits)) = row_words(value) else {
+        return Err(MachineFault::WrongType(path.to_key(alloc, "")?));
+    };
+    let Some(offset) = small_offset(digits) else {
+        return Err(MachineFault::Limit(Key::of(alloc, "offset")?));
+    };
+    let Some(number) = unit_number(unit, units) else {
+        return Err(MachineFault::UnknownUnit(Key::of(alloc, unit)?));
+    };
+    let row = Row {
+        unit: number as u8,
+        offset,
+    };
+    if before.contains(&row) {
+        return Err(MachineFault::RepeatedRow(path.to_key(alloc, "")?));
+    }
+    Ok(row)
+}
+
+/// The number of the unit that has this name.
+fn unit_number(name: &str, units: &[Name]) -> Option<usize>
+    ensures { result ≡ position (same_word name.now) units.now }
+{
+    units.iter().position(|unit| name == unit.as_str())
+}
+
+/// The unit's name and the digits of the offset of a row's text `UNIT@NUM`.
+fn row_words(value: &Value) -> Option<(&str, &str)>
+    ensures digits { IfSome result (λ p. (0 < length p.1.now) × (all_ascii_digits p.1.now ≡ true)) }
+    ensures value { option_map (λ p. (p.0.now, digits_value 10 p.1.now)) result ≡ words_in (view value.now) }
+{
+    let (unit, digits) = value.as_str()?.split_once('@')?;
+    if is_unit_name(unit) && is_number(digits) {
+        Some((unit, digits))
+    } else {
+        None
+    }
+}
+
+/// Whether a text is a number: one or more digits.
+fn is_number(text: &str) -> bool
+    ensures { result ≡ (nat_lt 0 (length text.now) && all_ascii_digits text.now) }
+{
+    !text.is_empty() && text.bytes().all(|c| c.is_ascii_digit())
+}
+
+/// The offset that these digits write, where it is at most 63.
+fn small_offset(digits: &str) -> Option<u8>
+    requires some { 0 < length digits.now }
+    requires digits { all_ascii_digits digits.now ≡ true }
+    ensures { SomeIff result (digits_value 10 digits.now ≤ 63) (digits_value 10 digits.now) }
+{
+    let Ok(offset) = digits.parse::<u8>() else {
+        return None;
+    };
+    if offset <= MAX_OFFSET {
+        Some(offset)
+    } else {
+        None
+    }
+}

@@ -1,0 +1,36 @@
+//! What commands write.
+
+ghost use Rattle.std.specs.Prelude.{IfErr};
+ghost use Rattle.modsched.specs.Engine.{Brings};
+ghost use Rattle.modsched.specs.Refusals.{Answers, HasOneMemory};
+
+use crate::bounds::bounds_text;
+use crate::plain::plain_text;
+use crate::status::Status;
+use command_line::Command;
+use std::alloc::Global;
+
+/// What a command writes, whole.
+#[derive(Drop)]
+pub(crate) struct Printout {
+    pub(crate) text: Vec<u8>,
+    /// Whether every loop is met. A command that looks for no schedule leaves none unmet.
+    pub(crate) all_met: bool,
+}
+
+/// What a command writes for the bytes of its texts, or the status of its refusal. A command that reads
+/// no machine pays no heed to the machine's bytes.
+pub(crate) fn printout_of(
+    alloc: Global,
+    command: &Command,
+    machine: &[u8],
+    loops: &[u8],
+) -> Result<Printout, Status>
+    ensures exact { Answers (Brings command.now machine.now loops.now) result }
+    ensures memory { IfErr result HasOneMemory }
+{
+    match command {
+        Command::Bounds { .. } => bounds_text(alloc, machine, loops),
+        Command::Plain { trip, .. } => plain_text(alloc, loops, *trip),
+    }
+}

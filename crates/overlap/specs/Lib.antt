@@ -1,0 +1,7 @@
+pub use Rattle.iterations.specs.Loops
+pub use Rattle.machine.specs.Machines
+pub mod Lifetimes
+pub mod Allotments
+pub mod Emission
+pub mod Sequence
+pub mod Overlap

@@ -1,0 +1,10 @@
+pub mod Shifts
+pub mod More
+pub mod Marking
+pub mod Marked
+pub mod Filled
+pub mod Spans
+pub mod Greatest
+pub mod Ranks
+pub mod Stated
+pub mod Emitted

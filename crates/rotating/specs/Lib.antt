@@ -1,0 +1,10 @@
+pub use Rattle.iterations.specs.Loops
+pub use Rattle.machine.specs.Machines
+pub use Rattle.overlap.specs.Lifetimes
+pub use Rattle.overlap.specs.Allotments
+pub use Rattle.overlap.specs.Emission
+pub use Rattle.overlap.specs.Overlap
+pub mod Answers
+pub mod Naming
+pub mod Residues
+pub mod Uses

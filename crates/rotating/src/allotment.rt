@@ -1,0 +1,140 @@
+//! Registers for values.
+
+ghost use Rattle.std.specs.Prelude.{◌≡◌, ◌<◌, ◌≤◌, IfOk, MatchOption, true, false, length, slice_index, vec_len};
+ghost use Rattle.std.specs.List.{All};
+ghost use Rattle.overlap.specs.Allotments.{IsAllotment, AreLeast, HaveNone, LeastFor, NoneFor, Suits};
+ghost use Rattle.rotating.specs.Answers.{CheckAnswers};
+ghost use Rattle.rotating.specs.Residues.{IsSpan};
+
+use crate::lawful::are_lawful;
+use crate::lifetime::{fill_lifetimes, lifetimes};
+use crate::number::least_number;
+use ims::Schedule;
+use machine::OutOfMemory;
+use overlap::Lifetime;
+use std::alloc::Global;
+use std::marker::Model;
+
+/// An allotment of rotating registers: for each value of a schedule, in text order, the number of the
+/// register in which its instance of iteration 0 stands. The instance of iteration `j` stands in the
+/// register `number - j`, modulo the number of registers. Contracts see both as data.
+#[derive(Debug, Drop)]
+pub struct Allotment {
+    registers: u64,
+    numbers: Vec<usize>,
+}
+
+impl Model for Allotment {
+    ghost use Rattle.overlap.specs.Allotments.{AllotmentData, IsAllotment};
+
+    ghost Value = { AllotmentData };
+
+    ghost view = { λ a. record { registers = a.registers; numbers = a.numbers.items } };
+
+    ghost invariant = { λ a. IsAllotment (record { registers = a.registers; numbers = a.numbers.items }) };
+}
+
+impl Allotment {
+    /// How many rotating registers there are, 1 to 256.
+    pub fn registers(&self) -> u64
+        ensures value { result ≡ self.now.registers }
+        ensures well_formed { IsAllotment self.now }
+    {
+        self.registers
+    }
+
+    /// The number of each value's register, in text order; each is below the number of registers.
+    pub fn numbers(&self) -> &[usize]
+        ensures value { result.now ≡ self.now.numbers }
+        ensures well_formed { IsAllotment self.now }
+    {
+        self.numbers.as_slice()
+    }
+
+    /// The allotment of these numbers, where they are lawful: one for each value, each below the number
+    /// of registers, and no two different instances of values ever in one register in one cycle.
+    /// Instances of every iteration count, those before the first and behind the last ones too. Nothing
+    /// is allocated.
+    ///
+    /// # Errors
+    /// The numbers, unchanged, where they are not lawful.
+    pub fn check(
+        schedule: &Schedule,
+        registers: u64,
+        numbers: Vec<usize>,
+    ) -> Result<Allotment, Vec<usize>>
+        requires some { 1 ≤ registers }
+        requires few { registers ≤ 256 }
+        ensures exact { CheckAnswers schedule.now registers numbers.items result }
+    {
+        let ii = schedule.ii();
+        let mut lives = [Lifetime::default(); 128];
+        let count = fill_lifetimes(schedule, &mut lives);
+        if are_lawful(ii, registers as usize, &lives[..count], numbers.as_slice()) {
+            Ok(Allotment { registers, numbers })
+        } else {
+            Err(numbers)
+        }
+    }
+}
+
+/// Writes the least numbers of these values, and says whether each of them has one.
+fn fill_least(ii: u64, registers: usize, lives: &[Lifetime], numbers: &mut [usize]) -> bool
+    requires some { 1 ≤ ii }
+    requires few { ii ≤ 16384 }
+    requires registers_some { 1 ≤ registers }
+    requires registers_few { registers ≤ 256 }
+    requires lives { All IsSpan lives.now }
+    requires each { length numbers.old ≡ length lives.now }
+    ensures each { length numbers.new ≡ length lives.now }
+    ensures least { result ≡ true → AreLeast ii registers lives.now numbers.new }
+    ensures none { result ≡ false → HaveNone ii registers lives.now }
+{
+    for k in 0..lives.len() {
+        match least_number(ii, registers, &lives[..k], &numbers[..k], lives[k]) {
+            Some(number) => numbers[k] = number,
+            None => return false,
+        }
+    }
+    true
+}
+
+/// So many zeros.
+fn zeros(alloc: Global, count: usize) -> Result<Vec<usize>, OutOfMemory>
+    ensures { IfOk result (λ v. vec_len v ≡ count) }
+{
+    vec![in alloc; 0; count]
+}
+
+/// The allotment in which each value, in text order, has the least number that is lawful beside itself
+/// and the values before it; none where some value has no such number. There may be more or fewer
+/// registers than the machine has.
+///
+/// Lifetimes in rotating registers are those of B. R. Rau, M. Lee, P. P. Tirumalai and M. S.
+/// Schlansker, "Register allocation for software pipelined loops" (1992); the order is first fit.
+///
+/// # Errors
+/// [`OutOfMemory`] where memory ran out.
+pub fn allot(
+    alloc: Global,
+    schedule: &Schedule,
+    registers: u64,
+) -> Result<Option<Allotment>, OutOfMemory>
+    requires some { 1 ≤ registers }
+    requires few { registers ≤ 256 }
+    ensures exact { IfOk result (λ found. MatchOption found (NoneFor schedule.now registers) (λ a. (a.registers ≡ registers) × LeastFor schedule.now a)) }
+    ensures lawful { IfOk result (λ found. MatchOption found (Unit {0}) (Suits schedule.now)) }
+{
+    let lives = lifetimes(alloc, schedule)?;
+    let mut numbers = zeros(alloc, lives.len())?;
+    if fill_least(
+        schedule.ii(),
+        registers as usize,
+        lives.as_slice(),
+        numbers.as_mut_slice(),
+    ) {
+        Ok(Some(Allotment { registers, numbers }))
+    } else {
+        Ok(None)
+    }
+}

@@ -1,0 +1,21 @@
+//! Lifetimes, rotating registers and kernels of scheduled loops.
+#![tactic(auto)]
+
+mod allotment;
+mod emission;
+mod lawful;
+mod laws;
+mod lifetime;
+mod lists;
+mod naming;
+mod number;
+mod operations;
+mod preloads;
+mod shift;
+mod uses;
+
+pub use allotment::{Allotment, allot};
+pub use emission::emit;
+pub use laws::{forbids_between, lawful_more, shifts_are_between};
+pub use lifetime::lifetimes;
+pub use overlap::Lifetime;

@@ -1,0 +1,12 @@
+pub mod Members
+pub mod Turning
+pub mod Bound
+pub mod Working
+pub mod Open
+pub mod Nothing
+pub mod Left
+pub mod Filling
+pub mod Climbing
+pub mod Choosing
+pub mod Preparing
+pub mod Answering

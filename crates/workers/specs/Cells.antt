@@ -1,0 +1,81 @@
+-- What is known of each interval of each loop: a cell for each, in a row for each loop.
+use Rattle.std.specs.Prelude.{◌≡◌, ℕ, zero, suc, ◌+◌, ◌≤◌, ◌++◌, Bool, true, false, List, [], ◌∷◌, length, Option, Some, None, if◌then◌else◌, replicate}
+use Rattle.ims.specs.Problems.{ProblemData, mii_of}
+use Rattle.candidates.specs.Outcomes.{GivesKernel, FailsBy}
+use Rattle.candidates.specs.Choices.{IsChoice}
+use Rattle.workers.specs.Gathered.{tried}
+use Rattle.candidates.specs.declared.choices.Choice.{Choice}
+use Rattle.workers.specs.declared.cells.Settled.{Settled}
+use Rattle.workers.specs.declared.cells.Settled.TheVariants.{Won, Failed}
+use Rattle.workers.specs.declared.cells.Row.{Row}
+use Rattle.workers.specs.declared.entry.Found.{Found}
+use Rattle.workers.specs.declared.entry.Found.TheVariants as found
+
+abbrev pub is_full : Option Settled → Bool
+is_full None = false
+is_full (Some s) = true
+
+-- what a cell has is so
+abbrev pub IsTrueCell : ProblemData → ℕ → Option Settled → Type 0
+IsTrueCell p ii None = Unit {0}
+IsTrueCell p ii (Some (Won kernel)) = GivesKernel p ii kernel.value
+IsTrueCell p ii (Some (Failed cause)) = FailsBy p ii cause
+
+-- what is kept of an entry
+abbrev pub kept_of : Found → Option Settled
+kept_of (found.Won kernel) = Some (Won kernel)
+kept_of (found.Failed cause) = Some (Failed cause)
+kept_of found.Beaten = None
+kept_of found.Unsettled = None
+
+abbrev pub cell_at : List (Option Settled) → ℕ → Option Settled
+cell_at [] above = None
+cell_at (c ∷ cs) zero = c
+cell_at (c ∷ cs) (suc above) = cell_at cs above
+
+abbrev pub cell_in : List Row → ℕ → ℕ → Option Settled
+cell_in [] l above = None
+cell_in (r ∷ rs) zero above = cell_at r.cells.items above
+cell_in (r ∷ rs) (suc l) above = cell_in rs l above
+
+-- a cell for each interval of the loop, each of them true
+pub record IsRowOf (p : ProblemData) (row : Row) : Type 0 where
+  pub long : length row.cells.items ≡ p.ceiling + 1
+  pub truth : (above : ℕ) → IsTrueCell p (mii_of p + above) (cell_at row.cells.items above)
+
+-- how many of so many cells, from one on, are empty
+abbrev pub empty_from : List (Option Settled) → ℕ → ℕ → ℕ
+empty_from cells above zero = 0
+empty_from cells above (suc n) = (if is_full (cell_at cells above) then 0 else 1) + empty_from cells (above + 1) n
+
+-- a choice for each of the first loops, as many as there are choices, and how many of their cells were empty up to it
+abbrev pub IsFirst : List ProblemData → List Row → List Choice → ℕ → Type 0
+IsFirst ps rs [] retried = retried ≡ 0
+IsFirst [] rs (c ∷ cs) retried = ⊥
+IsFirst (p ∷ ps) [] (c ∷ cs) retried = ⊥
+IsFirst (p ∷ ps) (r ∷ rs) (c ∷ cs) retried = IsChoice p c × ((rest : ℕ) × (retried ≡ empty_from r.cells.items 0 (tried p c) + rest) × IsFirst ps rs cs rest)
+
+-- the choices of loops, and how many intervals were tried for them
+pub record ChosenData : Type 0 where
+  pub choices : List Choice
+  pub retried : ℕ
+
+-- a loop's choice is added
+pub record AddsChoice (p : ProblemData) (row : Row) (before after : ChosenData) : Type 0 where
+  pub choice : Choice
+  pub is_choice : IsChoice p choice
+  pub choices : after.choices ≡ before.choices ++ choice ∷ []
+  pub retried : after.retried ≡ before.retried + empty_from row.cells.items 0 (tried p choice)
+  pub few : after.retried ≤ before.retried + 256
+
+-- empty rows for the first loops, as many as there are rows
+abbrev pub AreEmptyRows : List ProblemData → List Row → Type 0
+AreEmptyRows ps [] = Unit {0}
+AreEmptyRows [] (r ∷ rs) = ⊥
+AreEmptyRows (p ∷ ps) (r ∷ rs) = (r.cells.items ≡ replicate (p.ceiling + 1) None) × AreEmptyRows ps rs
+
+-- an empty row more
+pub record AddsEmpty (p : ProblemData) (before after : List Row) : Type 0 where
+  pub row : Row
+  pub empty : row.cells.items ≡ replicate (p.ceiling + 1) None
+  pub rows : after ≡ before ++ row ∷ []

@@ -1,0 +1,9 @@
+pub use Rattle.candidates.specs.Choices
+pub mod Entries
+pub mod Worked
+pub mod Turns
+pub mod Gathered
+pub mod Settled
+pub mod Places
+pub mod Cells
+pub mod Files

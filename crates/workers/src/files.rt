@@ -1,0 +1,172 @@
+//! From the texts of a machine and of loops to their listing.
+
+ghost use Rattle.std.specs.Prelude.{◌≡◌, ◌≤◌, [], None, length, vec_capacity, vec_len, IfOk};
+ghost use Rattle.machine.specs.MachineText.{machine_of};
+ghost use Rattle.loops.specs.Meaning.{loops_in};
+ghost use Rattle.graph.specs.Units.{first_without_table, first_lacking, lacking_or};
+ghost use Rattle.ims.specs.Problems.{IsProblemOf};
+ghost use Rattle.candidates.specs.Promises.{IsRight};
+ghost use Rattle.workers.specs.Files.{AnswersFile, AnswersIn, AnswersOn, HaveCeiling, ListsFile, ListsProblems, Prepares, PreparesAndLists};
+
+use crate::faults::FileFault;
+use crate::gate::Gate;
+use crate::pipelines::choose_by_workers;
+use candidates::{Listing, Pieces, Settings, prepare};
+use graph::GraphFault;
+use ims::Prepared;
+use loops::{Loop, read_loops};
+use machine::{Machine, OutOfMemory, read_machine};
+use std::alloc::Global;
+use std::thread::Threads;
+
+/// What two texts give: each loop prepared, and the listing of these loops. It is the listing of one
+/// thread that tries each loop's intervals one after another, whatever workers, cut and gate do.
+///
+/// # Errors
+/// A fault of the machine's text, then one of the loops' text, then the first loop with an opcode that the
+/// machine has no table for; and [`FileFault::Memory`], where the calling thread was refused memory.
+pub fn pipeline<R: Threads + Sync, G: Gate + Sync>(
+    rt: &R,
+    alloc: Global,
+    machine: &[u8],
+    loops: &[u8],
+    settings: &Settings,
+    gate: &G,
+) -> Result<(Vec<Prepared>, Listing), FileFault>
+    ensures exact { AnswersFile (PreparesAndLists settings.now.ratio settings.now.ceiling) (machine_of machine.now) (loops_in loops.now) result }
+{
+    match read_machine(alloc, machine) {
+        Ok(machine) => pipeline_on(rt, alloc, &machine, loops, settings, gate),
+        Err(fault) => Err(FileFault::from(fault)),
+    }
+}
+
+/// The listing that two texts give, as [`pipeline`] tells it.
+///
+/// # Errors
+/// As those of [`pipeline`].
+pub fn pipeline_file<R: Threads + Sync, G: Gate + Sync>(
+    rt: &R,
+    alloc: Global,
+    machine: &[u8],
+    loops: &[u8],
+    settings: &Settings,
+    gate: &G,
+) -> Result<Listing, FileFault>
+    ensures exact { AnswersFile (ListsFile settings.now.ratio settings.now.ceiling) (machine_of machine.now) (loops_in loops.now) result }
+    ensures right { AnswersFile IsRight (machine_of machine.now) (loops_in loops.now) result }
+{
+    match pipeline(rt, alloc, machine, loops, settings, gate) {
+        Ok((_, listing)) => Ok(listing),
+        Err(fault) => Err(fault),
+    }
+}
+
+/// What the loops' text gives on a machine.
+fn pipeline_on<R: Threads + Sync, G: Gate + Sync>(
+    rt: &R,
+    alloc: Global,
+    machine: &Machine,
+    loops: &[u8],
+    settings: &Settings,
+    gate: &G,
+) -> Result<(Vec<Prepared>, Listing), FileFault>
+    ensures exact { AnswersIn (PreparesAndLists settings.now.ratio settings.now.ceiling machine.now) machine.now (loops_in loops.now) result }
+{
+    match read_loops(alloc, loops) {
+        Ok(loops) => pipeline_of(rt, alloc, machine, loops, settings, gate),
+        Err(fault) => Err(FileFault::from(fault)),
+    }
+}
+
+/// What loops give on a machine.
+fn pipeline_of<R: Threads + Sync, G: Gate + Sync>(
+    rt: &R,
+    alloc: Global,
+    machine: &Machine,
+    loops: Vec<Loop>,
+    settings: &Settings,
+    gate: &G,
+) -> Result<(Vec<Prepared>, Listing), FileFault>
+    requires few { vec_len loops ≤ 1024 }
+    ensures exact { AnswersOn (PreparesAndLists settings.now.ratio settings.now.ceiling machine.now loops.items) (first_lacking machine.now loops.items) result }
+{
+    match prepare_all(alloc, machine, loops, settings) {
+        Ok(prepared) => match list(rt, alloc, prepared.as_slice(), settings, gate) {
+            Ok(listing) => Ok((prepared, listing)),
+            Err(fault) => Err(FileFault::from(fault)),
+        },
+        Err(fault) => Err(fault),
+    }
+}
+
+/// The listing of prepared loops.
+fn list<R: Threads + Sync, G: Gate + Sync>(
+    rt: &R,
+    alloc: Global,
+    loops: &[Prepared],
+    settings: &Settings,
+    gate: &G,
+) -> Result<Listing, OutOfMemory>
+    requires few { length loops.now ≤ 1024 }
+    requires ceilings { HaveCeiling settings.now.ceiling loops.now }
+    ensures { IfOk result (ListsProblems settings.now.ceiling loops.now) }
+{
+    let pieces = Pieces::of(loops.len(), settings.ceiling(), settings.cut());
+    let chosen = choose_by_workers(rt, alloc, loops, &pieces, settings.workers(), gate)?;
+    Listing::of(alloc, settings.ceiling(), loops, chosen.into_choices())
+}
+
+/// All loops prepared, or the fault of the first that has an opcode without a table.
+fn prepare_all(
+    alloc: Global,
+    machine: &Machine,
+    loops: Vec<Loop>,
+    settings: &Settings,
+) -> Result<Vec<Prepared>, FileFault>
+    ensures exact { AnswersOn (Prepares settings.now.ratio settings.now.ceiling machine.now loops.items) (first_lacking machine.now loops.items) result }
+{
+    match Vec::with_capacity(alloc, loops.len()) {
+        Ok(prepared) => prepare_into(alloc, machine, loops, settings, prepared),
+        Err(fault) => Err(FileFault::from(fault)),
+    }
+}
+
+/// All loops prepared, in room that is there.
+fn prepare_into(
+    alloc: Global,
+    machine: &Machine,
+    loops: Vec<Loop>,
+    settings: &Settings,
+    mut prepared: Vec<Prepared>,
+) -> Result<Vec<Prepared>, FileFault>
+    requires room { vec_len loops ≤ vec_capacity prepared }
+    requires empty { prepared.items ≡ [] }
+    ensures exact { AnswersOn (Prepares settings.now.ratio settings.now.ceiling machine.now loops.items) (first_lacking machine.now loops.items) result }
+{
+    let mut loops = loops.into_iter();
+    while let Some(innermost) = loops.next() {
+        match prepare_one(alloc, machine, innermost, settings) {
+            Ok(one) => prepared.push_reserved(one),
+            Err(fault) => return Err(fault),
+        }
+    }
+    Ok(prepared)
+}
+
+/// A loop prepared, or its fault.
+fn prepare_one(
+    alloc: Global,
+    machine: &Machine,
+    innermost: Loop,
+    settings: &Settings,
+) -> Result<Prepared, FileFault>
+    ensures exact { AnswersOn (IsProblemOf machine.now innermost settings.now.ratio settings.now.ceiling) (lacking_or innermost.name (first_without_table machine.now innermost) None) result }
+{
+    let name = innermost.name().copied();
+    match prepare(alloc, machine, innermost, settings) {
+        Ok(prepared) => Ok(prepared),
+        Err(GraphFault::NoTable(opcode)) => Err(FileFault::NoTable(name, opcode)),
+        Err(GraphFault::Memory) => Err(FileFault::Memory),
+    }
+}

@@ -1,0 +1,5 @@
+//! What no clause says: that calls succeed where memory is there, and that workers run at once.
+
+mod cuttings;
+mod files;
+mod given;
