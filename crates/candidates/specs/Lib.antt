@@ -1,9 +1,9 @@
 pub use Rattle.ims.specs.Problems
 pub use Rattle.overlap.specs.Overlap
+pub use Rattle.settings.specs.Settings
 pub mod Choices
 pub mod Listings
 pub mod Outcomes
 pub mod Pieces
 pub mod Promises
-pub mod Settings
 pub mod Texts

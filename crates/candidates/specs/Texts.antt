@@ -1,7 +1,7 @@
 -- The text of a listing.
 use Rattle.std.specs.Prelude.{ℕ, ◌+◌, decimal, codes, max, nat_lt, Bool, if◌then◌else◌, List, [], ◌++◌, length, count_by}
 use Rattle.std.specs.List.{flat_map, list_any}
-use Rattle.kernel.specs.Text.{text_of}
+use Rattle.kernel.specs.Text.{kernel_text_of}
 use Rattle.candidates.specs.declared.outcomes.Cause.{Cause}
 use Rattle.candidates.specs.declared.outcomes.Cause.TheVariants.{Table, Budget, Stages, Registers}
 use Rattle.candidates.specs.declared.choices.Choice.{Choice}
@@ -32,7 +32,7 @@ head_of row =
 -- the rest of the line, and the kernel's text: ` ii I stages S` where there is a kernel, and else ` failed to T: CAUSE` with the last
 -- interval that was tried
 abbrev pub choice_text : ℕ → Choice → List ℕ
-choice_text last (Met ii kernel) = ((told (codes " ii ") ii ++ told (codes " stages ") kernel.stages) ++ codes "\n") ++ text_of kernel
+choice_text last (Met ii kernel) = ((told (codes " ii ") ii ++ told (codes " stages ") kernel.stages) ++ codes "\n") ++ kernel_text_of kernel
 choice_text last (Failed cause) = told (codes " failed to ") last ++ ((codes ": " ++ cause_word cause) ++ codes "\n")
 
 abbrev pub row_text : ℕ → Row → List ℕ

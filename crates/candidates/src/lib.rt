@@ -6,7 +6,7 @@ mod laws;
 mod listings;
 mod outcomes;
 mod pieces;
-mod settings;
+mod preparing;
 mod texts;
 
 pub use choices::{Choice, first_success};
@@ -17,5 +17,6 @@ pub use laws::{
 pub use listings::{Listing, Row};
 pub use outcomes::{Cause, Outcome, try_interval};
 pub use pieces::{Piece, Pieces};
-pub use settings::{OutOfRange, Settings, prepare};
-pub use texts::{listing_text, write_row};
+pub use preparing::prepare;
+pub use settings::{OutOfRange, Settings};
+pub use texts::{listing_text, write_last, write_row};

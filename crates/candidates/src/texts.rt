@@ -135,9 +135,10 @@ fn write_cause(text: &mut String, cause: Cause) -> Result<(), OutOfMemory>
     Ok(())
 }
 
-/// Writes the last line.
-fn write_last(text: &mut String, rows: &[Row]) -> Result<(), OutOfMemory>
-    ensures { IfOk result (λ _. string_bytes text.new ≡ string_bytes text.old ++ last_line rows.now) }
+/// Appends the last line: how many loops there are, how many have a kernel and how many have none. Where
+/// memory runs out the text is left with a part of it.
+pub fn write_last(text: &mut String, rows: &[Row]) -> Result<(), OutOfMemory>
+    ensures text { IfOk result (λ _. string_bytes text.new ≡ string_bytes text.old ++ last_line rows.now) }
 {
     write_number(text, "loops ", rows.len() as u64)?;
     write_number(text, " met ", number_met(rows) as u64)?;

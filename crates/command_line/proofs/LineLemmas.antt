@@ -1,6 +1,8 @@
 -- The line's arguments as `clap` sees them, and what its matches mean.
-use Rattle.std.proofs.Common.{◌≡◌, ◌⊎◌, ℕ, length, arith, Result, IfOk, List, Option, Some, None, Err, option_map, true, codes, refl, sym, ap, ap₂, subst, inl, inr, IfSome, IfNone}
-use Rattle.clap.specs.Words.{HasKind, Kinds, Row, Text, first_of, is_simple, is_simple_and_free, kind_of, subcommand_name_of, subcommand_rows_of}
+use Rattle.std.proofs.Common.{◌≡◌, ◌⊎◌, ℕ, length, arith, Result, IfOk, List, Option, Some, None, Err, option_map, true, false, Bool, ◌||◌, ◌≤◌, ◌∙◌, string_bytes, codes, refl, sym, ap, ap₂, subst, inl, inr, IfSome, IfNone}
+use Rattle.clap.specs.declared.builder.command.Command as clap
+use Rattle.clap.specs.declared.builder.arg.Arg.{Arg}
+use Rattle.clap.specs.Words.{AddsArg, App, HasKind, Kinds, Row, Rule, Text, app_of, rule_of, with_rule, first_of, is_simple, is_simple_and_free, kind_of, subcommand_name_of, subcommand_rows_of}
 use Rattle.clap.specs.declared.error.Error.{Error}
 use Rattle.clap.specs.declared.parser.matches.ArgMatches.{ArgMatches}
 use Rattle.clap.specs.declared.parser.matches.ArgMatches.TheViews.{out-ArgMatches, out-SubCommand}
@@ -11,35 +13,96 @@ use Rattle.command_line.specs.declared.line.Usage.{Usage}
 use Rattle.command_line.specs.declared.line.Usage.TheVariants.{Help, Refused, Memory}
 use Rattle.clap.proofs.OnLiterals.{clap_on_literals}
 use Rattle.clap.specs.declared.error.kind.ErrorKind.TheVariants.{OutOfMemory}
-use Rattle.command_line.specs.Lines.{IsRead, IsRequest, IsToldBy, Means, MeansNamed, SaysTrip, program_line, bounds_line, plain_line}
+use Rattle.command_line.specs.Lines.{IsRead, IsRequest, IsToldBy, Means, MeansNamed, SaysTrip, HasPaths, SaysNumber, SaySettings, program_line, schedule_line, run_line, bounds_line, plain_line}
+use Rattle.settings.specs.Settings.{AreSettings, SettingsData}
+use Rattle.clap.specs.declared.builder.command.Command.TheViews.{out-Command}
 use Rattle.command_line.specs.declared.line.Command.{Command}
-use Rattle.command_line.specs.declared.line.Command.TheVariants.{Bounds, Plain}
+use Rattle.command_line.specs.declared.line.Command.TheVariants.{Bounds, Plain, Schedule, Run}
 
 pub program_is_simple : is_simple program_line ≡ true
-unfolding program_line bounds_line plain_line clap_on_literals
+unfolding program_line schedule_line run_line bounds_line plain_line clap_on_literals
 program_is_simple = refl
 
 pub program_is_free : is_simple_and_free program_line ≡ true
-unfolding program_line bounds_line plain_line clap_on_literals
+unfolding program_line schedule_line run_line bounds_line plain_line clap_on_literals
 program_is_free = refl
 
--- the two names differ
-names_differ : codes "bounds" ≡ codes "plain" → ⊥
-names_differ e = let bad : 6 ≡ 5 = ap (λ (t : List ℕ). length t) e in absurd (omega (arith, bad))
+-- an argument that is not global adds its rule
+pub adds : (old new : clap.Command) (arg : Arg) (app : App) (rule : Rule) → AddsArg old arg new → arg.global ≡ false
+    → app_of old ≡ app → rule_of arg ≡ rule → app_of new ≡ with_rule app rule
+adds old new arg app rule h local same is = h.shape local ∙ ap₂ with_rule same is
+
+-- and makes nothing global
+pub keeps : (old new : clap.Command) (arg : Arg) (globals : Bool) → AddsArg old arg new → arg.global ≡ false
+    → (out-Command old).has_globals ≡ globals → (out-Command new).has_globals ≡ globals
+keeps old new arg globals h local same =
+    let nothing : (globals || false) ≡ globals = elim globals as (λ (b : Bool). (b || false) ≡ b) [ true ↦ refl | false ↦ refl ] in
+    h.globals ∙ ap₂ (λ (a b : Bool). a || b) same local ∙ nothing
+
+-- a word says one number
+says-one : (word : Option Text) (m n : ℕ) → SaysNumber word m → SaysNumber word n → m ≡ n
+says-one None m n one other = absurd one
+says-one (Some word) m n one other = sym one.1 ∙ other.1
+
+-- and so the options say one list of settings
+pub say-one : (given : List Row) (ratio ceiling workers cut : ℕ) (settings : SettingsData)
+    → SaysNumber (first_of (codes "ratio") given) ratio → SaysNumber (first_of (codes "ceiling") given) ceiling
+    → SaysNumber (first_of (codes "workers") given) workers → SaysNumber (first_of (codes "cut") given) cut
+    → SaySettings settings given → AreSettings (record { ratio = ratio; ceiling = ceiling; workers = workers; cut = cut })
+say-one given ratio ceiling workers cut settings r c w u h =
+    let same_ratio = says-one _ _ _ h.0 r in
+    let same_ceiling = says-one _ _ _ h.1 c in
+    let same_workers = says-one _ _ _ h.2 w in
+    let same_cut = says-one _ _ _ h.3 u in record {
+      ratio_some = subst (λ (n : ℕ). 1 ≤ n) same_ratio h.4.ratio_some;
+      ratio_few = subst (λ (n : ℕ). n ≤ 64) same_ratio h.4.ratio_few;
+      ceiling_few = subst (λ (n : ℕ). n ≤ 255) same_ceiling h.4.ceiling_few;
+      workers_some = subst (λ (n : ℕ). 1 ≤ n) same_workers h.4.workers_some;
+      workers_few = subst (λ (n : ℕ). n ≤ 64) same_workers h.4.workers_few;
+      cut_some = subst (λ (n : ℕ). 1 ≤ n) same_cut h.4.cut_some;
+      cut_few = subst (λ (n : ℕ). n ≤ 256) same_cut h.4.cut_few;
+    }
+
+-- names of different lengths differ
+differ : (a b : List ℕ) → (length a ≡ length b → ⊥) → a ≡ b → ⊥
+differ a b lengths e = lengths (ap (λ (t : List ℕ). length t) e)
 
 -- no command of `bounds` is meant where a path is missing
-pub bounds-none : (rows : List Row) → (first_of (codes "machine") rows ≡ None) ⊎ (first_of (codes "loops") rows ≡ None)
+pub bounds-none : (rows : List Row) → ((machine loops : List ℕ) → ¬ HasPaths machine loops rows)
     → (c : Command) → MeansNamed c (codes "bounds") rows → ⊥
-bounds-none rows (inl none) (Bounds machine loops) h = let there = h.1 in absurd (cc)
-bounds-none rows (inr none) (Bounds machine loops) h = let there = h.2 in absurd (cc)
-bounds-none rows missing (Plain loops trip) h = names_differ h.0
+bounds-none rows none (Bounds machine loops) h = none (string_bytes machine) (string_bytes loops) h.1
+bounds-none rows none (Plain loops trip) h = differ _ _ (λ e. omega (arith, e)) h.0
+bounds-none rows none (Schedule machine loops settings) h = differ _ _ (λ e. omega (arith, e)) h.0
+bounds-none rows none (Run machine loops trip settings) h = differ _ _ (λ e. omega (arith, e)) h.0
 
 -- no command of `plain` is meant where the path is missing, or where no trip count is said
-pub plain-none : (rows : List Row) → (first_of (codes "loops") rows ≡ None) ⊎ ((trip : ℕ) → SaysTrip (first_of (codes "trip") rows) trip → ⊥)
+pub plain-none : (rows : List Row) → (first_of (codes "loops") rows ≡ None) ⊎ ((trip : ℕ) → ¬ SaysTrip (first_of (codes "trip") rows) trip)
     → (c : Command) → MeansNamed c (codes "plain") rows → ⊥
-plain-none rows missing (Bounds machine loops) h = names_differ (sym h.0)
+plain-none rows missing (Bounds machine loops) h = differ _ _ (λ e. omega (arith, e)) h.0
 plain-none rows (inl none) (Plain loops trip) h = let there = h.1 in absurd (cc)
 plain-none rows (inr none) (Plain loops trip) h = none trip h.2
+plain-none rows missing (Schedule machine loops settings) h = differ _ _ (λ e. omega (arith, e)) h.0
+plain-none rows missing (Run machine loops trip settings) h = differ _ _ (λ e. omega (arith, e)) h.0
+
+-- no command of `schedule` is meant where the settings are not said, or a path is missing
+pub schedule-none : (rows : List Row) → ((settings : SettingsData) → ¬ SaySettings settings rows) ⊎ ((machine loops : List ℕ) → ¬ HasPaths machine loops rows)
+    → (c : Command) → MeansNamed c (codes "schedule") rows → ⊥
+schedule-none rows missing (Bounds machine loops) h = differ _ _ (λ e. omega (arith, e)) h.0
+schedule-none rows missing (Plain loops trip) h = differ _ _ (λ e. omega (arith, e)) h.0
+schedule-none rows (inl none) (Schedule machine loops settings) h = none settings h.2
+schedule-none rows (inr none) (Schedule machine loops settings) h = none (string_bytes machine) (string_bytes loops) h.1
+schedule-none rows missing (Run machine loops trip settings) h = differ _ _ (λ e. omega (arith, e)) h.0
+
+-- no command of `run` is meant where moreover no trip count is said
+pub run-none : (rows : List Row)
+    → ((trip : ℕ) → ¬ SaysTrip (first_of (codes "trip") rows) trip) ⊎ (((settings : SettingsData) → ¬ SaySettings settings rows) ⊎ ((machine loops : List ℕ) → ¬ HasPaths machine loops rows))
+    → (c : Command) → MeansNamed c (codes "run") rows → ⊥
+run-none rows missing (Bounds machine loops) h = differ _ _ (λ e. omega (arith, e)) h.0
+run-none rows missing (Plain loops trip) h = differ _ _ (λ e. omega (arith, e)) h.0
+run-none rows missing (Schedule machine loops settings) h = differ _ _ (λ e. omega (arith, e)) h.0
+run-none rows (inl none) (Run machine loops trip settings) h = none trip h.2
+run-none rows (inr (inl none)) (Run machine loops trip settings) h = none settings h.3
+run-none rows (inr (inr none)) (Run machine loops trip settings) h = none (string_bytes machine) (string_bytes loops) h.1
 
 named : (s : Option (Text × List Row)) (name : Text) (rows : List Row) → option_map (λ p. p.0) s ≡ Some name → option_map (λ p. p.1) s ≡ Some rows → s ≡ Some (name, rows)
 named None name rows n r = absurd (cc)
@@ -62,11 +125,14 @@ given-none r s name rows n e h =
     subst (λ (o : Option (Text × List Row)). IfOk r (λ found. IfNone found ((c : Command) → ¬ Means c o))) (sym (named s name rows n e)) h
 
 -- no command is meant by a subcommand of another name, or by none
-pub nothing-meant : (s : Option (Text × List Row)) → (option_map (λ p. p.0) s ≡ Some (codes "bounds") → ⊥) → (option_map (λ p. p.0) s ≡ Some (codes "plain") → ⊥)
+pub nothing-meant : (s : Option (Text × List Row)) → ¬ (option_map (λ p. p.0) s ≡ Some (codes "schedule")) → ¬ (option_map (λ p. p.0) s ≡ Some (codes "run"))
+    → ¬ (option_map (λ p. p.0) s ≡ Some (codes "bounds")) → ¬ (option_map (λ p. p.0) s ≡ Some (codes "plain"))
     → (c : Command) → Means c s → ⊥
-nothing-meant None b p c h = h
-nothing-meant (Some s) b p (Bounds machine loops) h = b (ap (λ (t : Text). Some t) h.0)
-nothing-meant (Some s) b p (Plain loops trip) h = p (ap (λ (t : Text). Some t) h.0)
+nothing-meant None schedule run bounds plain c h = h
+nothing-meant (Some s) schedule run bounds plain (Bounds machine loops) h = bounds (ap (λ (t : Text). Some t) h.0)
+nothing-meant (Some s) schedule run bounds plain (Plain loops trip) h = plain (ap (λ (t : Text). Some t) h.0)
+nothing-meant (Some s) schedule run bounds plain (Schedule machine loops settings) h = schedule (ap (λ (t : Text). Some t) h.0)
+nothing-meant (Some s) schedule run bounds plain (Run machine loops trip settings) h = run (ap (λ (t : Text). Some t) h.0)
 
 pub subcommand_rows-name : (m : ArgMatches) → option_map (λ p. p.0) (subcommand_rows_of m) ≡ subcommand_name_of m
 subcommand_rows-name m = elim (out-ArgMatches m).subcommand as (λ o. option_map (λ p. p.0) (subcommand_rows o) ≡ option_map (λ b. (out-SubCommand (box_value b)).name.now) o) [ None ↦ refl | Some b ↦ refl ]

@@ -1,14 +1,15 @@
 -- What the words of a command line mean. The words themselves are read as `clap` reads them.
-use Rattle.std.specs.Prelude.{◌≡◌, ◌≢◌, ◌⊎◌, ℕ, ◌≤◌, List, [], Option, Some, None, Result, Ok, Err, true, codes, string_bytes, ⊤}
+use Rattle.std.specs.Prelude.{◌≡◌, ◌≢◌, ◌⊎◌, ℕ, ◌≤◌, List, [], ◌∷◌, Option, Some, None, Result, Ok, Err, true, codes, string_bytes, ⊤}
 use Rattle.std.specs.Str.Parse.{IsNumeral, digits_value, without_leading_plus}
 use Rattle.clap.specs.Words.{App, IsAmong, Kinds, Row, Rule, Text, first_of, new_app, new_rule, with_rule, with_subcommand}
 use Rattle.clap.specs.declared.builder.value_parser.ValueParser.TheVariants.{Unsigned}
 use Rattle.clap.specs.declared.error.kind.ErrorKind.{ErrorKind}
 use Rattle.clap.specs.declared.error.kind.ErrorKind.TheVariants as kind
 use Rattle.command_line.specs.declared.line.Command.{Command}
-use Rattle.command_line.specs.declared.line.Command.TheVariants.{Bounds, Plain}
+use Rattle.command_line.specs.declared.line.Command.TheVariants.{Bounds, Plain, Schedule, Run}
 use Rattle.command_line.specs.declared.line.Usage.{Usage}
 use Rattle.command_line.specs.declared.line.Usage.TheVariants.{Help, Refused, Memory}
+use Rattle.settings.specs.Settings.{AreSettings, SettingsData}
 
 -- a path that has to be given
 abbrev pub path_rule : Text → Rule
@@ -32,6 +33,41 @@ trip_rule = record (new_rule (codes "trip")) {
 unfoldable pub plain_line : App
 plain_line = with_rule (with_rule (new_app (codes "plain")) (path_rule (codes "loops"))) trip_rule
 
+-- an option that may be left out: its default stands for it then
+abbrev pub option_rule : Text → Text → Rule
+option_rule name default = record (new_rule name) { long = Some name; value_names = 1; defaults = default ∷ [] }
+
+-- such an option that takes a number from a least to a greatest one
+abbrev pub number_rule : Text → Text → ℕ → ℕ → Rule
+number_rule name default least greatest = record (option_rule name default) { parser = Some (Unsigned least greatest) }
+
+-- `--ratio R`, `--ceiling C`, `--workers W` and `--cut N`
+abbrev pub ratio_rule : Rule
+ratio_rule = number_rule (codes "ratio") (codes "6") 1 64
+
+abbrev pub ceiling_rule : Rule
+ceiling_rule = number_rule (codes "ceiling") (codes "32") 0 255
+
+abbrev pub workers_rule : Rule
+workers_rule = number_rule (codes "workers") (codes "4") 1 64
+
+abbrev pub cut_rule : Rule
+cut_rule = number_rule (codes "cut") (codes "4") 1 256
+
+-- a subcommand with the four options of a search for kernels
+abbrev pub with_search : App → App
+with_search app = with_rule (with_rule (with_rule (with_rule app ratio_rule) ceiling_rule) workers_rule) cut_rule
+
+-- `schedule MACHINE LOOPS`, and the four
+unfoldable pub schedule_line : App
+schedule_line =
+    with_search (with_rule (with_rule (new_app (codes "schedule")) (path_rule (codes "machine"))) (path_rule (codes "loops")))
+
+-- `run MACHINE LOOPS --trip N`, and the four
+unfoldable pub run_line : App
+run_line =
+    with_search (with_rule (with_rule (with_rule (new_app (codes "run")) (path_rule (codes "machine"))) (path_rule (codes "loops"))) trip_rule)
+
 -- the program's subcommands, of which one has to be given
 unfoldable pub program_line : App
 program_line =
@@ -44,35 +80,62 @@ program_line =
         arg_required_else_help = true;
       };
     } in
-    with_subcommand (with_subcommand bare bounds_line.top) plain_line.top
+    with_subcommand (with_subcommand (with_subcommand (with_subcommand bare schedule_line.top) run_line.top) bounds_line.top) plain_line.top
 
 -- the path of the machine's file, where a command reads one
 abbrev pub machine_path : Command → Option Text
 machine_path (Bounds machine loops) = Some (string_bytes machine)
 machine_path (Plain loops trip) = None
+machine_path (Schedule machine loops settings) = Some (string_bytes machine)
+machine_path (Run machine loops trip settings) = Some (string_bytes machine)
 
 -- the path of the loops' file
 abbrev pub loops_path : Command → Text
 loops_path (Bounds machine loops) = string_bytes loops
 loops_path (Plain loops trip) = string_bytes loops
+loops_path (Schedule machine loops settings) = string_bytes loops
+loops_path (Run machine loops trip settings) = string_bytes loops
 
 -- a word is a number in decimal digits, with or without a plus before them
 abbrev pub Says : Text → ℕ → Type 0
 Says word number = IsNumeral 10 (without_leading_plus word) × (digits_value 10 (without_leading_plus word) ≡ number)
 
+-- the word that an option was given, or that stands for it, says a number
+abbrev pub SaysNumber : Option Text → ℕ → Type 0
+SaysNumber None number = ⊥
+SaysNumber (Some word) number = Says word number
+
 -- the word that an option was given is a trip count, from 0 to 100,000
 abbrev pub SaysTrip : Option Text → ℕ → Type 0
-SaysTrip None trip = ⊥
-SaysTrip (Some word) trip = Says word trip × (trip ≤ 100000)
+SaysTrip word trip = SaysNumber word trip × (trip ≤ 100000)
+
+-- the options say the four settings, all within their ranges
+abbrev pub SaySettings : SettingsData → List Row → Type 0
+SaySettings settings given = SaysNumber (first_of (codes "ratio") given) settings.ratio
+    × SaysNumber (first_of (codes "ceiling") given) settings.ceiling
+    × SaysNumber (first_of (codes "workers") given) settings.workers
+    × SaysNumber (first_of (codes "cut") given) settings.cut
+    × AreSettings settings
+
+-- a subcommand was given these paths
+abbrev pub HasPaths : Text → Text → List Row → Type 0
+HasPaths machine loops given =
+    (first_of (codes "machine") given ≡ Some machine) × (first_of (codes "loops") given ≡ Some loops)
 
 -- a command has what a subcommand of its name was given
 abbrev pub MeansNamed : Command → Text → List Row → Type 0
 MeansNamed (Bounds machine loops) name given = (name ≡ codes "bounds")
-    × (first_of (codes "machine") given ≡ Some (string_bytes machine))
-    × (first_of (codes "loops") given ≡ Some (string_bytes loops))
+    × HasPaths (string_bytes machine) (string_bytes loops) given
 MeansNamed (Plain loops trip) name given = (name ≡ codes "plain")
     × (first_of (codes "loops") given ≡ Some (string_bytes loops))
     × SaysTrip (first_of (codes "trip") given) trip
+MeansNamed (Schedule machine loops settings) name given = (name ≡ codes "schedule")
+    × HasPaths (string_bytes machine) (string_bytes loops) given
+    × SaySettings settings given
+MeansNamed (Run machine loops trip settings) name given = (name ≡ codes "run")
+    × HasPaths (string_bytes machine) (string_bytes loops) given
+    × SaysTrip (first_of (codes "trip") given) trip
+    × SaySettings settings given
 
 abbrev pub Means : Command → Option (Text × List Row) → Type 0
 Means command None = ⊥

@@ -7,6 +7,7 @@ use Rattle.machine.specs.Machines.{MachineData, OperationData, table_of}
 use Rattle.iterations.specs.declared.language.statement.Statement.{Statement}
 use Rattle.iterations.specs.declared.language.statement.Place.{Place}
 use Rattle.iterations.specs.declared.language.statement.Operand.TheVariants.{Value}
+pub use Rattle.iterations.specs.Instances.{ComesFirst}
 use Rattle.iterations.specs.Loops.{LoopData}
 use Rattle.graph.specs.declared.edge.Edge.{Edge}
 
@@ -45,10 +46,6 @@ pub record Touches (loop : LoopData) (op iteration array : ℕ) (cell : ℤ) : T
 
 abbrev pub HasOpcode : LoopData → ℕ → Opcode → Type 0
 HasOpcode loop op opcode = (s : Statement) × (slice_get loop.statements op ≡ Some s) × (s.opcode ≡ opcode)
-
--- an instance comes before another one in the plain run, which goes by iterations, and in each by statements
-abbrev pub ComesFirst : ℕ → ℕ → ℕ → ℕ → Type 0
-ComesFirst p i q j = (i < j) ⊎ ((i ≡ j) × (p < q))
 
 -- in every iteration, p's instance and q's instance so many iterations later touch one cell of one array, p's first
 abbrev pub MeetInMemory : LoopData → ℕ → ℕ → ℕ → Type 0

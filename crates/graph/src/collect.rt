@@ -10,6 +10,7 @@ ghost use Rattle.graph.specs.SameArrays.{AreLinked};
 use crate::edge::Edge;
 use iterations::{Operand, Statement};
 use machine::Opcode;
+use machine::limits::MAX_STATEMENTS;
 use std::alloc::{AllocError, Global};
 
 /// The delay of a dependence through memory, of the operation with the second opcode on the one with
@@ -111,7 +112,7 @@ fn push_uses(
 #[derive(Drop)]
 struct SameArrays {
     first: [u8; 256],
-    next: [u8; 128],
+    next: [u8; MAX_STATEMENTS],
 }
 
 /// The statements that touch each array.
@@ -121,7 +122,7 @@ fn same_arrays(statements: &[Statement]) -> SameArrays
 {
     let end = statements.len() as u8;
     let mut first = [end; 256];
-    let mut next = [end; 128];
+    let mut next = [end; MAX_STATEMENTS];
     for i in (0..statements.len()).rev() {
         let statement = &statements[i];
         if let Some(place) = statement.place {

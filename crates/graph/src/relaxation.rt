@@ -9,9 +9,7 @@ ghost use Rattle.graph.specs.Reaches.{AreReaches, AreVias, IsRaised, IsRise, Kee
 
 use crate::edge::Edge;
 use crate::graph::Edges;
-
-/// The most operations that a loop has.
-pub(crate) const MOST: usize = 128;
+use machine::limits::MAX_STATEMENTS;
 
 /// What an operation's number comes to by the edges from it.
 #[derive(Clone, Copy)]
@@ -25,7 +23,7 @@ pub(crate) struct Climb {
 #[derive(Drop)]
 pub(crate) enum Relaxed {
     /// Every circuit fits: the height of each operation.
-    Heights([u64; MOST]),
+    Heights([u64; MAX_STATEMENTS]),
     /// Some circuit does not fit, nor at any interval below this one, which is longer.
     Above(u64),
 }
@@ -45,7 +43,12 @@ fn through(edge: Edge, number: u64, interval: u64) -> i64
 
 /// The greatest of an operation's own number and of what the edges from it make of their targets'
 /// numbers.
-pub(crate) fn raised(own: u64, outgoing: &[Edge], numbers: &[u64; MOST], interval: u64) -> Climb
+pub(crate) fn raised(
+    own: u64,
+    outgoing: &[Edge],
+    numbers: &[u64; MAX_STATEMENTS],
+    interval: u64,
+) -> Climb
     requires short { interval ≤ 16384 }
     requires own_small { own ≤ 2097152 }
     requires small { All (λ (e : Edge). (e.to < 128) × (slice_index numbers.now e.to ≤ 2097152)) outgoing.now }
@@ -65,10 +68,10 @@ pub(crate) fn raised(own: u64, outgoing: &[Edge], numbers: &[u64; MOST], interva
 }
 
 /// The numbers at first: the latencies.
-pub(crate) fn first_numbers(edges: &Edges, interval: u64) -> [u64; MOST]
+pub(crate) fn first_numbers(edges: &Edges, interval: u64) -> [u64; MAX_STATEMENTS]
     ensures { AreReaches edges.now interval 0 0 result }
 {
-    let mut numbers = [0; MOST];
+    let mut numbers = [0; MAX_STATEMENTS];
     for operation in 0..edges.operations() {
         numbers[operation] = u64::from(edges.latency(operation));
     }
@@ -81,8 +84,8 @@ fn sweep(
     edges: &Edges,
     interval: u64,
     made: usize,
-    numbers: &mut [u64; MOST],
-    via: &mut [Option<Edge>; MOST],
+    numbers: &mut [u64; MAX_STATEMENTS],
+    via: &mut [Option<Edge>; MAX_STATEMENTS],
 ) -> Option<usize>
     requires short { interval ≤ 16384 }
     requires few { made < length edges.now.latencies }
@@ -107,7 +110,7 @@ fn sweep(
 }
 
 /// The operation that so many steps along kept edges lead to, as many as there are operations, if they do.
-fn far_along(edges: &Edges, via: &[Option<Edge>; MOST], start: usize) -> Option<usize>
+fn far_along(edges: &Edges, via: &[Option<Edge>; MAX_STATEMENTS], start: usize) -> Option<usize>
     requires there { start < length edges.now.latencies }
     requires via { AreVias edges.now via.now }
     ensures { IfSome result (λ p. p < length edges.now.latencies) }
@@ -139,7 +142,12 @@ pub(crate) fn longer_interval(delay: i64, distance: u64, interval: u64) -> Optio
 
 /// The least interval that the circuit of kept edges through an operation fits, where there is one that
 /// does not fit this interval.
-fn around(edges: &Edges, interval: u64, via: &[Option<Edge>; MOST], start: usize) -> Option<u64>
+fn around(
+    edges: &Edges,
+    interval: u64,
+    via: &[Option<Edge>; MAX_STATEMENTS],
+    start: usize,
+) -> Option<u64>
     requires short { interval ≤ 16384 }
     requires there { start < length edges.now.latencies }
     requires via { AreVias edges.now via.now }
@@ -164,7 +172,12 @@ fn around(edges: &Edges, interval: u64, via: &[Option<Edge>; MOST], start: usize
 
 /// The least interval that the circuit fits which kept edges lead to from an operation, where it does not
 /// fit this interval.
-fn circuit(edges: &Edges, interval: u64, via: &[Option<Edge>; MOST], start: usize) -> Option<u64>
+fn circuit(
+    edges: &Edges,
+    interval: u64,
+    via: &[Option<Edge>; MAX_STATEMENTS],
+    start: usize,
+) -> Option<u64>
     requires short { interval ≤ 16384 }
     requires there { start < length edges.now.latencies }
     requires via { AreVias edges.now via.now }
@@ -189,7 +202,7 @@ pub(crate) fn relax(edges: &Edges, interval: u64) -> Relaxed
     ensures well_formed { IsGraph edges.now }
 {
     let mut numbers = first_numbers(edges, interval);
-    let mut via = [None; MOST];
+    let mut via = [None; MAX_STATEMENTS];
     for made in 0..edges.operations() {
         let Some(operation) = sweep(edges, interval, made, &mut numbers, &mut via) else {
             return Relaxed::Heights(numbers);

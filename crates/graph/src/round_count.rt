@@ -7,15 +7,16 @@ ghost use Rattle.graph.specs.Rounds.{IsRounds, TellsFeasible};
 ghost use Rattle.graph.specs.Reaches.{IsRaised};
 
 use crate::graph::Edges;
-use crate::relaxation::{MOST, Relaxed, first_numbers, raised, relax};
+use crate::relaxation::{Relaxed, first_numbers, raised, relax};
+use machine::limits::MAX_STATEMENTS;
 use std::alloc::{AllocError, Global};
 
 /// Raises the number of each operation into the next row. The last operation whose number rises, if any.
 fn round(
     edges: &Edges,
     interval: u64,
-    numbers: &[u64; MOST],
-    next: &mut [u64; MOST],
+    numbers: &[u64; MAX_STATEMENTS],
+    next: &mut [u64; MAX_STATEMENTS],
 ) -> Option<usize>
     requires short { interval ≤ 16384 }
     requires small { (p : ℕ) → p < length edges.now.latencies → slice_index numbers.now p ≤ 2097152 }
@@ -42,7 +43,7 @@ fn rounds_to_settle(edges: &Edges, interval: u64) -> usize
     ensures exact { IsRounds edges.now interval true result }
 {
     let mut numbers = first_numbers(edges, interval);
-    let mut next = [0; MOST];
+    let mut next = [0; MAX_STATEMENTS];
     for made in 0..edges.operations() {
         if round(edges, interval, &numbers, &mut next).is_none() {
             return made + 1;

@@ -12,6 +12,7 @@ ghost use Rattle.graph.specs.Uses.{AtMost, Tallies, TakesBest, Progress, IsBelow
 
 use crate::fault::GraphFault;
 use iterations::Loop;
+use machine::limits::{MAX_ALTERNATIVES, MAX_UNITS};
 use machine::{Alternative, Machine, Opcode, Row};
 
 /// How many rows use each unit, and the use of the most used unit.
@@ -20,7 +21,7 @@ use machine::{Alternative, Machine, Opcode, Row};
 /// bounds that the functions below ask for only keep its sums within 16 bits.
 #[derive(Clone, Copy)]
 struct Uses {
-    counts: [u16; 64],
+    counts: [u16; MAX_UNITS],
     greatest: u16,
 }
 
@@ -119,10 +120,10 @@ pub fn res_mii(machine: &Machine, innermost: &Loop) -> Result<u64, GraphFault>
         return Err(GraphFault::NoTable(opcode));
     }
     let mut uses = Uses {
-        counts: [0; 64],
+        counts: [0; MAX_UNITS],
         greatest: 0,
     };
-    for freedom in 1..=8 {
+    for freedom in 1..=MAX_ALTERNATIVES {
         uses = uses.with_operations(machine, innermost, freedom);
     }
     Ok(u64::from(uses.greatest))

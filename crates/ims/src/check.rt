@@ -14,6 +14,7 @@ ghost use Rattle.ims.specs.Schedules.{IsSchedule, as_listed};
 use crate::place::demand;
 use crate::prepared::Prepared;
 use graph::Edge;
+use machine::limits::MAX_STAGES;
 use machine::{Alternatives, OutOfMemory, Row};
 use mrt::{MaskTable, ModuloTable};
 use std::alloc::Global;
@@ -50,7 +51,7 @@ fn are_places(operations: &[Alternatives], ii: u64, places: &[(u64, usize)]) -> 
         return false;
     }
     for (op, place) in places.iter().enumerate() {
-        if place.0 / ii >= 64 || place.1 >= operations[op].as_slice().len() {
+        if place.0 / ii >= MAX_STAGES || place.1 >= operations[op].as_slice().len() {
             return false;
         }
     }

@@ -7,6 +7,7 @@ ghost use Rattle.graph.specs.Units.{greatest_of};
 ghost use Rattle.mrt.specs.Placements.{placement_of};
 
 use crate::progress::Progress;
+use machine::limits::MAX_STAGES;
 
 /// Writes when and by which alternative each operation is issued, and tells whether all are placed.
 pub(crate) fn read_off(progress: &Progress, times: &mut [u64], choices: &mut [usize]) -> bool
@@ -35,7 +36,7 @@ pub(crate) fn have_few_stages(times: &[u64], ii: u64) -> bool
     ensures late { OnFalse result ((op : ℕ) × (op < length times.now) × (64 ≤ slice_index times.now op / ii)) }
 {
     for time in times {
-        if *time / ii >= 64 {
+        if *time / ii >= MAX_STAGES {
             return false;
         }
     }

@@ -12,28 +12,8 @@ ghost use Rattle.graph.specs.Units.{first_without_table, operations_of};
 
 use graph::GraphFault;
 use iterations::Loop;
-use machine::{Alternative, Alternatives, Machine, OutOfMemory};
-use smallvec::SmallVec;
+use machine::{Alternatives, Machine};
 use std::alloc::Global;
-
-/// A copy of one alternative.
-fn copied(alloc: Global, alternative: &Alternative) -> Result<Alternative, OutOfMemory>
-    ensures { IfOk result (λ copy. copy ≡ alternative.now) }
-{
-    Ok(Alternative::new(SmallVec::from_slice(alloc, alternative.rows())?))
-}
-
-/// A copy of some alternatives.
-fn all_copied(alloc: Global, alternatives: &Alternatives) -> Result<Alternatives, OutOfMemory>
-    ensures value { IfOk result (λ copy. copy ≡ alternatives.now) }
-    ensures well_formed { AreAlternatives alternatives.now }
-{
-    let mut list = Vec::new(alloc);
-    for alternative in alternatives.as_slice() {
-        list.push(copied(alloc, alternative)?)?;
-    }
-    Ok(Alternatives::new(list))
-}
 
 /// The alternatives of each operation of a loop, in text order.
 pub(crate) fn offers(
@@ -48,7 +28,7 @@ pub(crate) fn offers(
     let mut list = Vec::new(alloc);
     for statement in innermost.statements() {
         match machine.table(statement.opcode) {
-            Some(table) => list.push(all_copied(alloc, table.alternatives())?)?,
+            Some(table) => list.push(table.alternatives().copied(alloc)?)?,
             None => return Err(GraphFault::NoTable(statement.opcode)),
         }
     }

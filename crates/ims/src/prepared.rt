@@ -8,6 +8,7 @@ ghost use Rattle.ims.specs.Problems.{IsProblem, IsProblemOf, mii_of};
 use crate::offers::offers;
 use graph::{Edges, GraphFault};
 use iterations::Loop;
+use machine::limits::MAX_STATEMENTS;
 use machine::{Alternatives, Machine};
 use std::alloc::Global;
 use std::marker::Model;
@@ -60,7 +61,7 @@ impl Prepared {
         let resources = graph::res_mii(machine, &innermost)?;
         let recurrences = graph::rec_mii(alloc, &edges)?;
         let registers = machine.registers();
-        prove!(edges.operations() <= 128);
+        prove!(edges.operations() <= MAX_STATEMENTS);
         Ok(Prepared {
             innermost,
             edges,

@@ -5,6 +5,7 @@ ghost use Rattle.std.specs.List.{All};
 ghost use Rattle.ims.specs.Waiting.{IsArrangement, AreRanks, IsFirstWaiting};
 
 use machine::OutOfMemory;
+use machine::limits::MAX_STATEMENTS;
 use std::alloc::Global;
 use std::marker::Model;
 
@@ -43,7 +44,7 @@ impl Queue {
     {
         let mut ranks = vec![in alloc; 0; order.len()]?;
         rank(order.as_slice(), &mut ranks);
-        let waiting = u128::MAX >> (128 - order.len());
+        let waiting = u128::MAX >> (MAX_STATEMENTS - order.len());
         Ok(Queue {
             order,
             ranks,

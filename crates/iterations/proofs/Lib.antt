@@ -1,3 +1,8 @@
+pub mod Holding
+pub mod Initials
+pub mod InstanceCells
+pub mod Instances
+pub mod LastStores
 pub mod Openings
+pub mod Promised
 pub mod Rings
-pub mod Standing

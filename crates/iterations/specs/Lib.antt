@@ -1,7 +1,9 @@
 pub use Rattle.machine.specs.Opcodes
 pub mod Arithmetic
+pub mod Instances
 pub mod Loops
 pub mod Names
+pub mod Promises
 pub mod Run
 pub mod RunFaults
 pub mod inner

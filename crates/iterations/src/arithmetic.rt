@@ -1,24 +1,22 @@
 //! What the opcodes compute.
 
-ghost use Rattle.std.specs.Prelude.{◌≡◌, false, length, if◌then◌else◌};
+ghost use Rattle.std.specs.Prelude.{◌≡◌, if◌then◌else◌};
 ghost use Rattle.iterations.specs.Arithmetic.{apply_to, apply_two, is_zero};
-ghost use Rattle.iterations.specs.Arithmetic.{is_memory, operands_of};
 
 use machine::Opcode;
 
 /// The value that an opcode gives of its operands: sums, differences and products modulo 2^64, signed
 /// comparisons, and 1 or 0 for `lt`. `sel` gives its second operand where its first isn't 0, and else
-/// its third.
+/// its third. `load` and `store`, which compute nothing, give 0, and so does an opcode with another
+/// number of operands than it takes.
 pub fn apply(opcode: Opcode, operands: &[i64]) -> i64
-    requires computes { is_memory opcode ≡ false }
-    requires count { length operands.now ≡ operands_of opcode }
     ensures { result ≡ apply_to opcode operands.now }
 {
-    match operands {
-        [a] => *a,
-        [a, b] => apply_two(opcode, *a, *b),
-        [condition, a, b] => chosen(*condition, *a, *b),
-        _ => unreachable!(),
+    match (opcode, operands) {
+        (Opcode::Mov, [a]) => *a,
+        (Opcode::Sel, [condition, a, b]) => chosen(*condition, *a, *b),
+        (_, [a, b]) => apply_two(opcode, *a, *b),
+        _ => 0,
     }
 }
 

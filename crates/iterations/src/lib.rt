@@ -4,6 +4,7 @@
 
 mod arithmetic;
 mod language;
+mod laws;
 mod memory;
 mod running;
 
@@ -11,5 +12,9 @@ pub use arithmetic::{apply, apply_two};
 pub use language::innermost::Loop;
 pub use language::lists::{Array, Cells, Initial, Operands, Param};
 pub use language::statement::{Operand, Place, Statement};
+pub use laws::{
+    cells_hold_last_stored, history_is_stable, instances_give_values, instances_read_values,
+    plain_runs_keep_shapes,
+};
 pub use memory::Memory;
 pub use running::run::{RunFault, opening, run_from, run_plain};

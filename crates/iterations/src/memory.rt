@@ -3,6 +3,7 @@
 ghost use Rattle.std.specs.Prelude.{◌≡◌, ◌+◌, ◌-◌, ◌<◌, ◌≤◌, ◌+ℤ◌, ◌≤ℤ◌, ◌<ℤ◌, ℤ, pos, neg_ℤ, length, slice_index_or, slice_set, IfOk};
 ghost use Rattle.iterations.specs.Run.{MemoryData, IsMemory, cell_of, with_cell};
 
+use machine::limits::MAX_SUBSCRIPT;
 use std::alloc::{AllocError, Global};
 use std::marker::Model;
 
@@ -10,18 +11,19 @@ use std::marker::Model;
 /// that are live at the end of a run. Contracts see it as data.
 #[derive(Drop)]
 pub struct Memory {
+    /// At most 100,000.
     pub(crate) trip: u32,
-    pub(crate) arrays: Vec<Block>,
+    pub(crate) arrays: Vec<ArrayCells>,
     pub(crate) outs: Vec<i64>,
 }
 
 /// The cells of one array, in one piece.
 #[derive(Drop)]
-pub(crate) struct Block {
+pub(crate) struct ArrayCells {
     pub(crate) cells: Vec<i64>,
 }
 
-impl Model for Block {
+impl Model for ArrayCells {
     ghost use Rattle.std.specs.Prelude.{List, ℤ};
 
     ghost Value = { List ℤ };
@@ -63,8 +65,8 @@ impl Memory {
         requires high { cell <ℤ pos (self.now.trip + 64) }
         ensures { result ≡ cell_of self.now.arrays array cell }
     {
-        let block = &self.arrays[array];
-        block.cells[(cell + 64) as usize]
+        let held = &self.arrays[array];
+        held.cells[(cell + i64::from(MAX_SUBSCRIPT)) as usize]
     }
 
     /// How many values are live at the end.
@@ -90,8 +92,8 @@ impl Memory {
         requires high { cell <ℤ pos (self.old.trip + 64) }
         ensures { self.new ≡ record self.old { arrays = with_cell self.old.arrays array cell value } }
     {
-        let block = &mut self.arrays[array];
-        block.cells[(cell + 64) as usize] = value;
+        let held = &mut self.arrays[array];
+        held.cells[(cell + i64::from(MAX_SUBSCRIPT)) as usize] = value;
     }
 
     /// Sets the value that is live at the end, of this number, from 0.
@@ -108,20 +110,20 @@ impl Memory {
     {
         Ok(Memory {
             trip: self.trip,
-            arrays: copied_blocks(alloc, self.arrays.as_slice())?,
+            arrays: copied_arrays(alloc, self.arrays.as_slice())?,
             outs: Vec::from_slice(alloc, self.outs.as_slice())?,
         })
     }
 }
 
 /// A copy of the cells of some arrays.
-fn copied_blocks(alloc: Global, blocks: &[Block]) -> Result<Vec<Block>, AllocError>
-    ensures { IfOk result (λ copies. copies.items ≡ blocks.now) }
+fn copied_arrays(alloc: Global, arrays: &[ArrayCells]) -> Result<Vec<ArrayCells>, AllocError>
+    ensures { IfOk result (λ copies. copies.items ≡ arrays.now) }
 {
-    let mut copies = Vec::with_capacity(alloc, blocks.len())?;
-    for block in blocks {
-        copies.push(Block {
-            cells: Vec::from_slice(alloc, block.cells.as_slice())?,
+    let mut copies = Vec::with_capacity(alloc, arrays.len())?;
+    for array in arrays {
+        copies.push(ArrayCells {
+            cells: Vec::from_slice(alloc, array.cells.as_slice())?,
         })?;
     }
     Ok(copies)

@@ -61,14 +61,14 @@ joined parts before [] = []
 joined parts before (op ∷ ops) = (before ++ operation_text parts op) ++ joined parts (codes " | ") ops
 
 -- a row: its number, and its operations in order
-unfoldable pub row_text : Parts → ℕ → List ℕ
-row_text parts row =
+unfoldable pub kernel_row_text : Parts → ℕ → List ℕ
+kernel_row_text parts row =
     ((decimal row ++ codes ":") ++ joined parts (codes " ") (filter (λ (op : Operation). op.row == row) parts.operations)) ++ codes "\n"
 
 -- the rows from one on, so many
 abbrev pub rows_text : Parts → ℕ → ℕ → List ℕ
 rows_text parts row zero = []
-rows_text parts row (suc n) = row_text parts row ++ rows_text parts (row + 1) n
+rows_text parts row (suc n) = kernel_row_text parts row ++ rows_text parts (row + 1) n
 
 -- `pre rN VALUE`
 abbrev pub preload_text : Preload → List ℕ
@@ -79,8 +79,8 @@ abbrev pub out_text : Out → List ℕ
 out_text o = ((codes "out " ++ o.name) ++ spaced (register_text o.register)) ++ codes "\n"
 
 -- the preloads, the rows and the outs, a line each
-unfoldable pub text_of : Parts → List ℕ
-text_of parts = (flat_map preload_text parts.preloads ++ rows_text parts 0 parts.ii) ++ flat_map out_text parts.outs
+unfoldable pub kernel_text_of : Parts → List ℕ
+kernel_text_of parts = (flat_map preload_text parts.preloads ++ rows_text parts 0 parts.ii) ++ flat_map out_text parts.outs
 
 -- bytes enough for the text: a row without operations has at most 7, an operation 86, a preload 30, an out 26
 abbrev pub room_of : Parts → ℕ

@@ -5,7 +5,7 @@ ghost use Rattle.std.specs.List.{All};
 ghost use Rattle.iterations.specs.Arithmetic.{operands_of};
 ghost use Rattle.kernel.specs.declared.operation.Operation.{Operation};
 ghost use Rattle.kernel.specs.declared.parts.Out.{Out};
-ghost use Rattle.kernel.specs.Kernels.{HasShape};
+ghost use Rattle.kernel.specs.Kernels.{HasOperationShape};
 ghost use Rattle.kernel.specs.Check.{HasSize, SourceIsThere, RegistersAreThere, ParameterIsThere, IsShaped, AddressIsThere, IsPlaced, ArePreloads, IsWellFormed};
 ghost use Rattle.kernel.specs.Rules.{Keeps, order_of, IsFirstFailing};
 
@@ -167,7 +167,7 @@ fn parameter_is_there(source: Source, params: usize) -> bool
 /// Whether an operation has the destination, the address and the number of sources that its opcode
 /// asks for.
 fn has_shape(op: &Operation) -> bool
-    ensures { IsTrue result ↔ HasShape op.now.opcode op.now }
+    ensures { IsTrue result ↔ HasOperationShape op.now.opcode op.now }
 {
     let sources = op.sources.as_slice().len();
     match op.opcode {

@@ -7,7 +7,7 @@ ghost use Rattle.kernel.specs.declared.operation.Address.{Address};
 ghost use Rattle.kernel.specs.declared.operation.Operation.{Operation};
 ghost use Rattle.kernel.specs.declared.operation.Source.{Source};
 ghost use Rattle.kernel.specs.Check.{ParameterIsThere, IsShaped, IsPlaced, IsWellFormed};
-ghost use Rattle.kernel.specs.Text.{with_sign, register_text, address_text, source_text, spaced, spaced_option, sources_text, alternative_text, operation_text, joined, row_text, rows_text, preload_text, out_text, text_of, room_of};
+ghost use Rattle.kernel.specs.Text.{with_sign, register_text, address_text, source_text, spaced, spaced_option, sources_text, alternative_text, operation_text, joined, kernel_row_text, rows_text, preload_text, out_text, kernel_text_of, room_of};
 
 use crate::operation::{Address, Operation, Source};
 use crate::parts::{Kernel, Out, Parts, Preload};
@@ -18,7 +18,7 @@ use std::alloc::Global;
 /// The text of a kernel: a line for each preload, each row of a turn and each value that is live at
 /// the end. A row without operations has its line too.
 pub fn kernel_text(alloc: Global, kernel: &Kernel) -> Result<String, OutOfMemory>
-    ensures text { IfOk result (λ text. string_bytes text ≡ text_of kernel.now) }
+    ensures text { IfOk result (λ text. string_bytes text ≡ kernel_text_of kernel.now) }
 {
     let mut text = String::with_capacity(alloc, text_room(kernel))?;
     write_kernel(&mut text, kernel)?;
@@ -27,9 +27,9 @@ pub fn kernel_text(alloc: Global, kernel: &Kernel) -> Result<String, OutOfMemory
 
 /// Appends the text of a kernel, as [`kernel_text`] makes it. Where memory runs out the text is left with
 /// a part of it.
-#[tactic(auto, unfolding(crate::specs::Text::text_of))]
+#[tactic(auto, unfolding(crate::specs::Text::kernel_text_of))]
 pub fn write_kernel(text: &mut String, kernel: &Kernel) -> Result<(), OutOfMemory>
-    ensures text { IfOk result (λ _. string_bytes text.new ≡ string_bytes text.old ++ text_of kernel.now) }
+    ensures text { IfOk result (λ _. string_bytes text.new ≡ string_bytes text.old ++ kernel_text_of kernel.now) }
 {
     let parts = kernel.parts();
     write_preloads(text, parts.preloads.as_slice())?;
@@ -135,10 +135,10 @@ fn write_empty_row(text: &mut String, row: u64) -> Result<(), OutOfMemory>
 }
 
 /// Writes the line of a row.
-#[tactic(auto, unfolding(crate::specs::Text::row_text))]
+#[tactic(auto, unfolding(crate::specs::Text::kernel_row_text))]
 fn write_row(text: &mut String, parts: &Parts, row: u64) -> Result<(), OutOfMemory>
     requires { IsWellFormed parts.now }
-    ensures { IfOk result (λ _. string_bytes text.new ≡ string_bytes text.old ++ row_text parts.now row) }
+    ensures { IfOk result (λ _. string_bytes text.new ≡ string_bytes text.old ++ kernel_row_text parts.now row) }
 {
     write_number(text, "", row)?;
     text.push_str(":")?;

@@ -12,11 +12,11 @@ one_if : (b : Bool) → eqb (cond b 1 0) 1 ≡ b
 one_if true = refl
 one_if false = refl
 
--- the bit of a byte tells whether it is a line feed
-pub bit_of_lanes : (bytes : List ℕ) (k : ℕ) → length bytes ≡ 16 → k < 16 → eqb (bit_at (mask_l (map (λ x. eqb x 10) bytes)) k) 1 ≡ eqb (get_or bytes k 0) 10
-bit_of_lanes bytes k p l =
-    ap (λ n. eqb n 1) (bit_mask_l (map (λ x. eqb x 10) bytes) k ∙ ap (λ b. cond b 1 0) (get_or-map (λ x. eqb x 10) bytes k 0 false (omega arith)))
-    ∙ one_if (eqb (get_or bytes k 0) 10)
+-- the bit of a byte tells whether it passes a test
+pub bit_of_lanes : (test : ℕ → Bool) (bytes : List ℕ) (k : ℕ) → length bytes ≡ 16 → k < 16 → eqb (bit_at (mask_l (map test bytes)) k) 1 ≡ test (get_or bytes k 0)
+bit_of_lanes test bytes k p l =
+    ap (λ n. eqb n 1) (bit_mask_l (map test bytes) k ∙ ap (λ b. cond b 1 0) (get_or-map test bytes k 0 false (omega arith)))
+    ∙ one_if (test (get_or bytes k 0))
 
 -- the lowest bit that is set, of sixteen
 pub lowest_bit : (n r : ℕ) → n < 2 ^ 64 → r ≡ min (trailing_zeros w64 n) 16 → ((k : ℕ) → k < r → bit_at n k ≡ 1 → ⊥) × (r < 16 → bit_at n r ≡ 1)

@@ -1,7 +1,7 @@
 -- What a line of a loop text is by its words alone.
 --
 -- Numbers may have any length in a text. What lies outside its limits is kept as None, since no more is asked of it.
-use Rattle.std.specs.Prelude.{ℕ, ℤ, pos, neg_ℤ, ◌-◌, ◌==◌, ◌||◌, ◌&&◌, nat_lt, Bool, true, false, if◌then◌else◌, codes, List, [], ◌∷◌, length, take, Option, Some, None, option_map, slice_index}
+use Rattle.std.specs.Prelude.{ℕ, ℤ, pos, neg_ℤ, ◌-◌, ◌==◌, ◌&&◌, nat_lt, Bool, true, false, if◌then◌else◌, codes, List, [], ◌∷◌, length, take, Option, Some, None, option_map, slice_index}
 use Rattle.std.specs.List.{list_any, before_first, after_first}
 use Rattle.std.specs.Str.{all_ascii_digits}
 use Rattle.std.specs.Str.Parse.{digits_value}

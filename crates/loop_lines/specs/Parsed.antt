@@ -11,7 +11,7 @@ use Rattle.loop_lines.specs.declared.form.Use.{Use}
 use Rattle.loop_lines.specs.declared.form.Use.TheVariants as uses
 use Rattle.loop_lines.specs.declared.form.Uses.{Uses}
 use Rattle.loop_lines.specs.declared.form.Subscript.{Subscript}
-use Rattle.loop_lines.specs.declared.form.Source.{Source}
+use Rattle.loop_lines.specs.declared.form.StatementWords.{StatementWords}
 
 abbrev pub use_seen : Use → spec.Use
 use_seen (uses.Number value) = spec.Number value
@@ -38,7 +38,7 @@ guard_of _ = None
 abbrev pub subscript_seen : Subscript → spec.Subscript
 subscript_seen s = record { array = s.array.now; offset = s.offset }
 
-abbrev pub source_seen : Source → spec.Source
+abbrev pub source_seen : StatementWords → spec.Source
 source_seen s = record {
   opcode = s.opcode;
   name = option_map (λ (n : Bor (List ℕ)). n.now) s.name;

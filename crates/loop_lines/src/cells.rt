@@ -6,10 +6,8 @@ ghost use Rattle.loop_lines.specs.Parsed.{cells_seen};
 
 use crate::number::int_of;
 use crate::words::next_word;
+use machine::limits::MAX_CELLS;
 use std::alloc::{AllocError, Global};
-
-/// The most cells that a line writes.
-const MOST: usize = 1024;
 
 /// Some cell does not fit 64 bits, or there are too many.
 pub fn are_wide(rest: &[u8]) -> bool
@@ -26,7 +24,7 @@ pub fn are_wide(rest: &[u8]) -> bool
         count += 1;
         left = after;
     }
-    wide || count > MOST
+    wide || count > MAX_CELLS
 }
 
 /// The cells.

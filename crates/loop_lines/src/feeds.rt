@@ -1,13 +1,13 @@
-//! The end of a line, found by sixteen bytes at a time.
+//! Ends of lines and of words, found by sixteen bytes at a time.
 
-ghost use Rattle.std.specs.Prelude.{◌≡◌, ◌==◌, ◌+◌, ◌<◌, ◌≤◌, ℕ, false, true, length, slice_index};
+ghost use Rattle.std.specs.Prelude.{◌≡◌, ◌==◌, ◌+◌, ◌<◌, ◌≤◌, ℕ, false, true, length, nat_le, slice_index};
 ghost use Rattle.std.specs.Int.{bit_at};
 ghost use Rattle.std.specs.List.{position_or_len};
 
 use std::simd::prelude::*;
 
 /// How many bytes are looked at at once.
-const LANES: usize = 16;
+pub(crate) const LANES: usize = 16;
 
 /// Sixteen bytes from a place on.
 #[inline(always)]
@@ -36,6 +36,24 @@ fn count_ahead(text: &[u8], at: usize) -> usize
     ensures here { result < 16 → (slice_index text.now (at + result) == 10) ≡ true }
 {
     feeds(load(text, at)).trailing_zeros().min(16) as usize
+}
+
+/// Which of sixteen bytes are at most `#`, as those that end a word are; that of the lowest bit first.
+#[inline(always)]
+fn low_bytes(bytes: u8x16) -> u64
+    ensures { (k : ℕ) → k < 16 → (bit_at result k == 1) ≡ nat_le (slice_index bytes k) 35 }
+{
+    bytes.simd_le(u8x16::splat(b'#')).to_bitmask()
+}
+
+/// How many of the first sixteen bytes stand before the first that is at most `#`.
+#[inline(always)]
+pub(crate) fn count_high(text: &[u8]) -> usize
+    requires { 16 ≤ length text.now }
+    ensures few { result ≤ 16 }
+    ensures high { (k : ℕ) → k < result → nat_le (slice_index text.now k) 35 ≡ false }
+{
+    low_bytes(load(text, 0)).trailing_zeros().min(16) as usize
 }
 
 /// How many bytes stand before the first line feed: all of them where there is none.

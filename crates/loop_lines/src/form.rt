@@ -37,7 +37,7 @@ pub struct Uses<'a> {
 
 /// A statement by its words.
 #[derive(Clone, Copy)]
-pub struct Source<'a> {
+pub struct StatementWords<'a> {
     pub opcode: Opcode,
     pub name: Option<&'a [u8]>,
     pub place: Option<Subscript<'a>>,
@@ -52,7 +52,7 @@ pub enum Form<'a> {
     Array(&'a [u8], &'a [u8]),
     Param(&'a [u8], Option<i64>),
     Init(&'a [u8], Option<u8>, Option<i64>),
-    Statement(Source<'a>),
+    Statement(StatementWords<'a>),
     Out(&'a [u8]),
     End,
     Malformed,
@@ -207,7 +207,7 @@ fn store_line<'a>(form: &mut Form<'a>, rest: &'a [u8])
     let Some(guard) = guard_of(rest) else {
         return;
     };
-    *form = Form::Statement(Source {
+    *form = Form::Statement(StatementWords {
         opcode: Opcode::Store,
         name: None,
         place: Some(place),
@@ -253,7 +253,7 @@ fn load_line<'a>(form: &mut Form<'a>, name: &'a [u8], rest: &'a [u8])
     let Some(place) = place_of(place) else {
         return;
     };
-    *form = Form::Statement(Source {
+    *form = Form::Statement(StatementWords {
         opcode: Opcode::Load,
         name: Some(name),
         place: Some(place),
@@ -277,7 +277,7 @@ fn one_use_line<'a>(form: &mut Form<'a>, name: &'a [u8], opcode: Opcode, rest: &
     let Some(first) = use_of(first) else {
         return;
     };
-    *form = Form::Statement(Source {
+    *form = Form::Statement(StatementWords {
         opcode,
         name: Some(name),
         place: None,
@@ -304,7 +304,7 @@ fn two_uses_line<'a>(form: &mut Form<'a>, name: &'a [u8], opcode: Opcode, rest: 
     let Some(second) = use_of(second) else {
         return;
     };
-    *form = Form::Statement(Source {
+    *form = Form::Statement(StatementWords {
         opcode,
         name: Some(name),
         place: None,
@@ -334,7 +334,7 @@ fn three_uses_line<'a>(form: &mut Form<'a>, name: &'a [u8], opcode: Opcode, rest
     let Some(third) = use_of(third) else {
         return;
     };
-    *form = Form::Statement(Source {
+    *form = Form::Statement(StatementWords {
         opcode,
         name: Some(name),
         place: None,

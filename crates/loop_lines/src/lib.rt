@@ -11,5 +11,5 @@ mod operand;
 mod words;
 
 pub use cells::{are_wide, cells_of};
-pub use form::{Form, Source, Subscript, Use, Uses, form_of};
+pub use form::{Form, StatementWords, Subscript, Use, Uses, form_of};
 pub use words::next_line;

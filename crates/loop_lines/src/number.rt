@@ -5,9 +5,13 @@ ghost use Rattle.std.specs.Str.Parse.{digits_value};
 ghost use Rattle.loop_lines.specs.Forms.{is_number, int_of, small_of, offset_of, subscript_of};
 
 use crate::words::after_byte;
+use machine::limits::{MAX_DISTANCE, MAX_SUBSCRIPT};
+
+/// One more digit fits behind each number below this.
+const SMALL: u64 = u64::MAX / 10;
 
 /// The value of digits, or `u64::MAX` where it is above. `None` if the word is no number.
-fn number_of(word: &[u8]) -> Option<u64>
+fn digits_of(word: &[u8]) -> Option<u64>
     ensures { result ≡ (if is_number word.now then Some (min (digits_value 10 word.now) (2 ^ 64 - 1)) else None) }
 {
     if word.is_empty() {
@@ -19,9 +23,12 @@ fn number_of(word: &[u8]) -> Option<u64>
         if !digit.is_ascii_digit() {
             return None;
         }
-        value = value
-            .saturating_mul(10)
-            .saturating_add(u64::from(*digit - b'0'));
+        let digit = u64::from(*digit - b'0');
+        value = if value < SMALL {
+            10 * value + digit
+        } else {
+            value.saturating_mul(10).saturating_add(digit)
+        };
         rest = more;
     }
     Some(value)
@@ -35,11 +42,11 @@ pub(crate) fn int_of(word: &[u8]) -> Option<Option<i64>>
 {
     match after_byte(word, b'-') {
         Some(digits) => {
-            let value = number_of(digits)?;
+            let value = digits_of(digits)?;
             Some(0i64.checked_sub_unsigned(value))
         }
         None => {
-            let value = number_of(word)?;
+            let value = digits_of(word)?;
             Some(0i64.checked_add_unsigned(value))
         }
     }
@@ -49,16 +56,20 @@ pub(crate) fn int_of(word: &[u8]) -> Option<Option<i64>>
 pub(crate) fn small_of(word: &[u8]) -> Option<Option<u8>>
     ensures { result ≡ (if is_number word.now then Some (small_of word.now) else None) }
 {
-    let value = number_of(word)?;
-    Some(if value <= 16 { Some(value as u8) } else { None })
+    let value = digits_of(word)?;
+    Some(if value <= MAX_DISTANCE as u64 {
+        Some(value as u8)
+    } else {
+        None
+    })
 }
 
 /// A subscript's constant by its sign and digits: the inner `Option` is `None` outside -64 to 64.
 fn offset_of(negative: bool, digits: &[u8]) -> Option<Option<i8>>
     ensures { result ≡ offset_of negative digits.now }
 {
-    let value = number_of(digits)?;
-    if value > 64 {
+    let value = digits_of(digits)?;
+    if value > MAX_SUBSCRIPT as u64 {
         return Some(None);
     }
     let offset = value as i8;

@@ -5,7 +5,7 @@ ghost use Rattle.std.specs.List.{before_first, after_first, position_or_len};
 ghost use Rattle.machine.specs.Opcodes.{same_word};
 ghost use Rattle.loop_lines.specs.Words.{is_blank, lines_of, starts_blank, stops_word, words_of};
 
-use crate::feeds::count_line;
+use crate::feeds::{LANES, count_high, count_line};
 
 /// The bytes are those of this text.
 pub(crate) fn is_text(bytes: &[u8], text: &str) -> bool
@@ -114,12 +114,14 @@ fn without_blanks(text: &[u8]) -> &[u8]
 fn count_word(text: &[u8]) -> usize
     ensures { result ≡ position_or_len stops_word text.now }
 {
-    for (i, b) in text.iter().enumerate() {
-        if ends_word(*b) {
-            return i;
-        }
+    let mut at = 0;
+    if text.len() >= LANES {
+        at = count_high(text);
     }
-    text.len()
+    while at < text.len() && !ends_word(text[at]) {
+        at += 1;
+    }
+    at
 }
 
 /// The next word of a rest of a line, and what follows it.

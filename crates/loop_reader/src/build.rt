@@ -10,12 +10,13 @@ ghost use Rattle.loop_reader.specs.inner.Checks.{IsBlock, IsGiven};
 ghost use Rattle.loop_reader.specs.inner.Building.{IsFew, IsNamed, name_in, row_of, rows_of};
 ghost use Rattle.loop_reader.specs.inner.Found.{AreFound, operand_if, operand_with, out_by, place_with, statement_by, statement_with};
 
-use crate::checks::given::{Given, MOST};
+use crate::checks::given::Given;
 use crate::names::found::{Found, Target};
 use crate::names::index::{Counts, Index};
 use iterations::{Array, Cells, Initial, Loop, Operand, Operands, Param, Place, Statement};
-use loop_lines::{Form, Source, Subscript, Use, cells_of};
+use loop_lines::{Form, StatementWords, Subscript, Use, cells_of};
 use machine::Name;
+use machine::limits::MAX_DISTANCE;
 use smallvec::SmallVec;
 use std::alloc::{AllocError, Global};
 
@@ -85,7 +86,11 @@ fn place(place: &Option<Subscript<'_>>, array: u8) -> Option<Place>
     }
 }
 
-fn statement(alloc: Global, source: &Source<'_>, found: &Found) -> Result<Statement, AllocError>
+fn statement(
+    alloc: Global,
+    source: &StatementWords<'_>,
+    found: &Found,
+) -> Result<Statement, AllocError>
     requires name { IsNamed (source_seen source.now).name }
     ensures { IfOk result (λ s. s ≡ statement_with source.now found.now) }
 {
@@ -109,7 +114,7 @@ fn push_inits(inits: &mut Vec<Initial>, given: &Given, statement: u8) -> Result<
     if given.inits.is_bare(statement as usize) {
         return Ok(());
     }
-    for m in 0..MOST {
+    for m in 0..MAX_DISTANCE as usize {
         if let Some(value) = given.inits.at(statement as usize, m) {
             inits.push(Initial {
                 statement,
@@ -175,7 +180,7 @@ impl Parts {
 pub(crate) fn build<'a>(
     alloc: Global,
     name: &'a [u8],
-    index: &Index<'a>,
+    index: &Index<'_, 'a>,
     counts: Counts,
     given: &Given,
     found: &[Found],

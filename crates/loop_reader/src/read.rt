@@ -18,25 +18,34 @@ use crate::names::index::{Index, index_names};
 use crate::names::known::Names;
 use iterations::Loop;
 use loop_lines::{Form, form_of, next_line};
+use machine::limits::{MAX_LOOPS, MAX_TEXT};
 use std::alloc::{AllocError, Global};
 use std::collections::BTreeSet;
 
-const MOST_BYTES: usize = 1_048_576;
-
-const MOST_LOOPS: usize = 1024;
-
 /// What is kept from block to block.
 #[derive(Drop)]
-struct Room<'a> {
+struct Buffers<'a> {
     lines: Vec<Entry<'a>>,
     names: Names<'a>,
     given: Given,
     found: Vec<Found>,
 }
 
+impl<'a> Buffers<'a> {
+    fn new(alloc: Global) -> Result<Buffers<'a>, AllocError> {
+        let names = Names::new(alloc)?;
+        Ok(Buffers {
+            lines: Vec::new(alloc),
+            names,
+            given: Given::new(alloc),
+            found: Vec::new(alloc),
+        })
+    }
+}
+
 /// A block that was read: its loop, the text behind it and the number of that text's first line.
 #[derive(Drop)]
-struct Block<'a> {
+struct BlockRead<'a> {
     found: Loop,
     rest: &'a [u8],
     line: usize,
@@ -45,11 +54,11 @@ struct Block<'a> {
 /// Reads a block from the line of this number on, which is the one behind the block's first.
 fn read_block<'a>(
     alloc: Global,
-    room: &mut Room<'a>,
+    room: &mut Buffers<'a>,
     name: &'a [u8],
     text: &'a [u8],
     number: usize,
-) -> Result<Block<'a>, LoopFault>
+) -> Result<BlockRead<'a>, LoopFault>
     requires name { is_name name.now ≡ true }
     requires short { length name.now ≤ 16 }
     requires room { number + length text.now < 2 ^ 32 }
@@ -85,7 +94,7 @@ fn read_block<'a>(
         &room.given,
         room.found.as_slice(),
     )?;
-    Ok(Block {
+    Ok(BlockRead {
         found,
         rest,
         line: line + 1,
@@ -100,7 +109,7 @@ fn open<'a>(
 ) -> Result<(), LoopFaultKind>
     ensures { AnswersOpening names.old names.new loops name.now result }
 {
-    if is_long(name) || loops >= MOST_LOOPS {
+    if is_long(name) || loops >= MAX_LOOPS {
         return Err(LoopFaultKind::Limit);
     }
     if !names.insert(name)? {
@@ -117,20 +126,15 @@ pub fn read_loops(alloc: Global, text: &[u8]) -> Result<Vec<Loop>, LoopFault>
     ensures exact { Answers (seen result) (loops_in text.now) }
     ensures well_formed { IfOk result (λ loops. All IsLoop loops.items × (length loops.items ≤ 1024)) }
 {
-    if text.len() > MOST_BYTES {
+    if text.len() > MAX_TEXT {
         return Err(LoopFault {
             line: 0,
             kind: LoopFaultKind::Limit,
         });
     }
+    let mut room = Buffers::new(alloc)?;
     let mut loops = Vec::new(alloc);
     let mut names = BTreeSet::new(alloc);
-    let mut room = Room {
-        lines: Vec::new(alloc),
-        names: Names::new(alloc),
-        given: Given::new(alloc),
-        found: Vec::new(alloc),
-    };
     let mut rest = text;
     let mut line = 1;
     while !rest.is_empty() {

@@ -1,6 +1,8 @@
 pub use Rattle.iterations.specs.Arithmetic
+pub use Rattle.iterations.specs.Instances
 pub use Rattle.iterations.specs.Loops
 pub use Rattle.iterations.specs.Names
+pub use Rattle.iterations.specs.Promises
 pub use Rattle.iterations.specs.Run
 pub use Rattle.iterations.specs.RunFaults
 pub use Rattle.iterations.specs.declared.language.lists.Array

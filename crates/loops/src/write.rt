@@ -12,6 +12,7 @@ ghost use Rattle.loops.specs.Text.{array_name, param_name, value_name, at_distan
 use iterations::{Array, Initial, Loop, Operand, Param, Place, Statement};
 use itoa::Buffer;
 use machine::OutOfMemory;
+use machine::limits::MAX_NAME;
 use std::alloc::Global;
 
 /// The one canonical text of a loop: a line for its name, each array, parameter, initial value,
@@ -21,7 +22,7 @@ pub fn write_loop(alloc: Global, innermost: &Loop) -> Result<String, OutOfMemory
     ensures text { IfOk result (λ text. string_bytes text ≡ text_of innermost.now) }
     ensures reads_back { IfOk result (λ text. loops_in (string_bytes text) ≡ Ok (innermost.now ∷ [])) }
 {
-    let mut text = String::with_capacity(alloc, room(innermost))?;
+    let mut text = String::with_capacity(alloc, capacity_for(innermost))?;
     write_head(&mut text, innermost)?;
     write_arrays(&mut text, innermost.arrays())?;
     write_params(&mut text, innermost.params())?;
@@ -32,18 +33,39 @@ pub fn write_loop(alloc: Global, innermost: &Loop) -> Result<String, OutOfMemory
     Ok(text)
 }
 
-/// Bytes that are enough for the text.
-fn room(innermost: &Loop) -> usize {
-    let mut bytes: usize = 64;
+/// Bytes of a number of 64 bits, with its sign and the blank before it.
+const NUMBER_BYTES: usize = 21;
+
+/// Bytes of a line with a name alone: the longest is `array NAME =`.
+const NAME_BYTES: usize = MAX_NAME + 9;
+
+/// Bytes of the line of a parameter or an initial value: the longest is `init NAME@16 = NUMBER`.
+const VALUE_BYTES: usize = MAX_NAME + NUMBER_BYTES + 11;
+
+/// Bytes of a statement: the longest is `NAME = sel` with three numbers.
+const STATEMENT_BYTES: usize = MAX_NAME + 3 * NUMBER_BYTES + 9;
+
+/// Bytes that are enough for the text, so that it isn't moved while it grows. The sums saturate, so that
+/// none overflows whatever the lengths are.
+fn capacity_for(innermost: &Loop) -> usize {
+    let mut bytes = NAME_BYTES + 4;
     for array in innermost.arrays() {
         let cells = array.cells.as_slice().len();
-        bytes = bytes.saturating_add(cells.saturating_mul(21).saturating_add(32));
+        bytes = bytes.saturating_add(
+            cells
+                .saturating_mul(NUMBER_BYTES)
+                .saturating_add(NAME_BYTES),
+        );
     }
+    let values = innermost
+        .params()
+        .len()
+        .saturating_add(innermost.inits().len());
+    let statements = innermost.statements().len();
     bytes
-        .saturating_add(innermost.params().len().saturating_mul(64))
-        .saturating_add(innermost.inits().len().saturating_mul(64))
-        .saturating_add(innermost.statements().len().saturating_mul(128))
-        .saturating_add(innermost.outs().len().saturating_mul(32))
+        .saturating_add(values.saturating_mul(VALUE_BYTES))
+        .saturating_add(statements.saturating_mul(STATEMENT_BYTES))
+        .saturating_add(innermost.outs().len().saturating_mul(NAME_BYTES))
 }
 
 /// Writes the line that names the loop.

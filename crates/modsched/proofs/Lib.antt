@@ -1,5 +1,7 @@
 pub mod Ending
+pub mod Files
 pub mod LinesOfLoops
 pub mod PlainLines
 pub mod Refusing
+pub mod Runnable
 pub mod Shapes

@@ -5,8 +5,8 @@ use Rattle.std.proofs.lemmas.List.{append-nil, take_more, drop_more, take-append
 use Rattle.machine.specs.Machines.{MachineData}
 use Rattle.machine.specs.declared.opcode.Opcode.{Opcode}
 use Rattle.loops.specs.Loops.{LoopData}
-use Rattle.graph.specs.Units.{first_without_table}
-use Rattle.modsched.specs.Bounds.{AreBounds, first_lacking, lacking_or, IsLines, bounds_line, bounds_lines}
+use Rattle.graph.specs.Units.{first_lacking, first_without_table, lacking_or}
+use Rattle.modsched.specs.Bounds.{AreBounds, IsLines, bounds_line, bounds_lines}
 use Rattle.modsched.specs.Refusals.{IsLacking, lacking_in}
 use Rattle.modsched.specs.declared.bounds.LowerBounds.{LowerBounds}
 use Rattle.modsched.specs.declared.status.Status.{Status}

@@ -39,20 +39,20 @@ array_all f before now arrays i all e =
     let long : length (enumerate_from 0 arrays) ≡ length arrays = length-enumerate_from 0 arrays in
     pieces_all f before now (enumerate_from 0 arrays) i (omega (arith, long)) e
 
--- the outs with their values
-pub out_more : (f : ℕ × ℤ → List ℕ) (before now piece : List ℕ) (outs : List ℕ) (values : List ℤ) (i s : ℕ) (v : ℤ) → length values ≡ length outs → i < length outs
-    → get_or outs i 0 ≡ s → get_or values i (pos 0) ≡ v → now ≡ before ++ flat_map f (take i (zip outs values)) → piece ≡ f (s, v)
-    → now ++ piece ≡ before ++ flat_map f (take (i + 1) (zip outs values))
-out_more f before now piece outs values i s v same h is_s is_v e p =
-    let long : length (zip outs values) ≡ min (length outs) (length values) = length-zip outs values in
-    pieces_more f before now piece (zip outs values) i (0, pos 0) (s, v) (omega (arith, long, same))
-    (get_or-zip outs values i (0, pos 0) h (omega (arith, same)) ∙ ap₂ (λ (n : ℕ) (z : ℤ). (n, z)) is_s is_v) e p
+-- the elements of two lists in pairs
+pub pair_more : {A B : Type 0} (f : A × B → List ℕ) (before now piece : List ℕ) (xs : List A) (ys : List B) (i : ℕ) (d x : A) (e y : B) → length ys ≡ length xs → i < length xs
+    → get_or xs i d ≡ x → get_or ys i e ≡ y → now ≡ before ++ flat_map f (take i (zip xs ys)) → piece ≡ f (x, y)
+    → now ++ piece ≡ before ++ flat_map f (take (i + 1) (zip xs ys))
+pair_more f before now piece xs ys i d x e y same h is_x is_y so_far p =
+    let long : length (zip xs ys) ≡ min (length xs) (length ys) = length-zip xs ys in
+    pieces_more f before now piece (zip xs ys) i (d, e) (x, y) (omega (arith, long, same))
+    (get_or-zip xs ys i (d, e) h (omega (arith, same)) ∙ ap₂ (λ a b. (a, b)) is_x is_y) so_far p
 
-pub out_all : (f : ℕ × ℤ → List ℕ) (before now : List ℕ) (outs : List ℕ) (values : List ℤ) (i : ℕ) → length outs ≤ i
-    → now ≡ before ++ flat_map f (take i (zip outs values)) → now ≡ before ++ flat_map f (zip outs values)
-out_all f before now outs values i all e =
-    let long : length (zip outs values) ≡ min (length outs) (length values) = length-zip outs values in
-    pieces_all f before now (zip outs values) i (omega (arith, long)) e
+pub pair_all : {A B : Type 0} (f : A × B → List ℕ) (before now : List ℕ) (xs : List A) (ys : List B) (i : ℕ) → length xs ≤ i
+    → now ≡ before ++ flat_map f (take i (zip xs ys)) → now ≡ before ++ flat_map f (zip xs ys)
+pair_all f before now xs ys i all e =
+    let long : length (zip xs ys) ≡ min (length xs) (length ys) = length-zip xs ys in
+    pieces_all f before now (zip xs ys) i (omega (arith, long)) e
 
 -- the pieces of the elements that pass a test
 flat_map-filter : {X : Type 0} (p : X → Bool) (f : X → List ℕ) (xs : List X) → flat_map (λ x. if p x then f x else []) xs ≡ flat_map f (filter p xs)

@@ -1,6 +1,6 @@
--- Refusals of `bounds` and `plain`.
+-- Refusals.
 use Rattle.std.proofs.Common.{◌≡◌, ℕ, List, Option, arith, refl}
-use Rattle.std.specs.Prelude.{Result, Ok, Err}
+use Rattle.std.specs.Prelude.{Bool, Result, Ok, Err}
 use Rattle.machine.specs.Answers.{Answers}
 use Rattle.machine.specs.Machines.{MachineData}
 use Rattle.machine.specs.declared.fault.MachineFault.{MachineFault}
@@ -11,8 +11,8 @@ use Rattle.loops.specs.Meaning as loops_meaning
 use Rattle.loops.specs.LoopFault.{LoopFault}
 use Rattle.loops.specs.LoopFaultKind.{LoopFaultKind}
 use Rattle.loops.specs.LoopFaultKind.TheVariants as kinds
-use Rattle.modsched.specs.Bounds.{Bounds, first_lacking}
-use Rattle.modsched.specs.Outcomes.{Outcome, RefusedMachine, RefusedLoops, NoTable as NoTableFor}
+use Rattle.graph.specs.Units.{first_lacking}
+use Rattle.modsched.specs.Outcomes.{Outcome, OutcomeOf, RefusedMachine, RefusedLoops, NoTable as NoTableFor}
 use Rattle.modsched.specs.Plain.{plain_outcome}
 use Rattle.modsched.specs.Refusals.{HasOneMemory, IsLacking, IsRefusal}
 use Rattle.modsched.specs.Statuses.{number_of, refusal_of_machine, refusal_of_loops, loops_status}
@@ -22,68 +22,58 @@ use Rattle.modsched.specs.declared.status.Status.TheVariants.{Done, Unmet, Machi
 abbrev pub Machines : Type 0
 Machines = Result MachineData MachineFault
 
+abbrev pub Texts : Type 1
+Texts = MachineData → List LoopData → List ℕ → Bool → Type 0
+
 abbrev pub LoopLists : Type 0
 LoopLists = Result (List LoopData) LoopFault
 
+-- an outcome that is the refusal of a machine text, and one that is that of a loop text
+pub refused_machine : (f : MachineFault) (P : Outcome → Type 0) → P (RefusedMachine f) → IsRefusal P (refusal_of_machine f)
+refused_machine machine_fault.Memory P h = tt
+refused_machine f P h = (RefusedMachine f, h, refl)
+
+refused_loops_at : (kind : LoopFaultKind) (f : LoopFault) (P : Outcome → Type 0) → P (RefusedLoops f) → IsRefusal P (loops_status kind f)
+refused_loops_at kinds.Memory f P h = tt
+refused_loops_at kind f P h = (RefusedLoops f, h, refl)
+
+pub refused_loops : (f : LoopFault) (P : Outcome → Type 0) → P (RefusedLoops f) → IsRefusal P (refusal_of_loops f)
+refused_loops f P h = refused_loops_at f.kind f P h
+
 -- a machine text that is refused
-pub machine_refused : (f : MachineFault) (machine : Machines) (loops : LoopLists) → Answers (Err f) machine → IsRefusal (Bounds machine loops) (refusal_of_machine f)
-machine_refused machine_fault.Memory machine loops h = tt
-machine_refused machine_fault.NotUtf8 machine loops h = (RefusedMachine machine_fault.NotUtf8, rw (← h) refl, refl)
-machine_refused machine_fault.NotToml machine loops h = (RefusedMachine machine_fault.NotToml, rw (← h) refl, refl)
-machine_refused (machine_fault.MissingKey k) machine loops h = (RefusedMachine (machine_fault.MissingKey k), rw (← h) refl, refl)
-machine_refused (machine_fault.WrongType k) machine loops h = (RefusedMachine (machine_fault.WrongType k), rw (← h) refl, refl)
-machine_refused (machine_fault.UnknownKey k) machine loops h = (RefusedMachine (machine_fault.UnknownKey k), rw (← h) refl, refl)
-machine_refused (machine_fault.UnknownUnit k) machine loops h = (RefusedMachine (machine_fault.UnknownUnit k), rw (← h) refl, refl)
-machine_refused (machine_fault.UnknownOpcode k) machine loops h = (RefusedMachine (machine_fault.UnknownOpcode k), rw (← h) refl, refl)
-machine_refused (machine_fault.RepeatedUnit k) machine loops h = (RefusedMachine (machine_fault.RepeatedUnit k), rw (← h) refl, refl)
-machine_refused (machine_fault.RepeatedRow k) machine loops h = (RefusedMachine (machine_fault.RepeatedRow k), rw (← h) refl, refl)
-machine_refused (machine_fault.Limit k) machine loops h = (RefusedMachine (machine_fault.Limit k), rw (← h) refl, refl)
+pub machine_refused : (IsText : Texts) (f : MachineFault) (machine : Machines) (loops : LoopLists) → Answers (Err f) machine → IsRefusal (OutcomeOf IsText machine loops) (refusal_of_machine f)
+machine_refused T machine_fault.Memory machine loops h = tt
+machine_refused T f machine loops h = (RefusedMachine f, rw (← h) refl, refl)
 
-loops_refused_at : (kind : LoopFaultKind) (f : LoopFault) (m : MachineData) (loops : LoopLists)
-    → loops_meaning.AnswersFault kind f loops → IsRefusal (Bounds (Ok m) loops) (loops_status kind f)
-loops_refused_at kinds.Memory f m loops h = tt
-loops_refused_at kinds.Syntax f m loops h = (RefusedLoops f, rw (← h) refl, refl)
-loops_refused_at kinds.Limit f m loops h = (RefusedLoops f, rw (← h) refl, refl)
-loops_refused_at kinds.RepeatedName f m loops h = (RefusedLoops f, rw (← h) refl, refl)
-loops_refused_at kinds.UnknownName f m loops h = (RefusedLoops f, rw (← h) refl, refl)
-loops_refused_at kinds.UseBeforeDefinition f m loops h = (RefusedLoops f, rw (← h) refl, refl)
-loops_refused_at kinds.MissingInit f m loops h = (RefusedLoops f, rw (← h) refl, refl)
-loops_refused_at kinds.NoEnd f m loops h = (RefusedLoops f, rw (← h) refl, refl)
+-- a loop text that is refused: what follows where it is that text's meaning
+loops_refused_at : (P : LoopLists → Outcome → Type 0) (kind : LoopFaultKind) (f : LoopFault) (loops : LoopLists)
+    → P (Err f) (RefusedLoops f) → loops_meaning.AnswersFault kind f loops → IsRefusal (P loops) (loops_status kind f)
+loops_refused_at P kinds.Memory f loops is h = tt
+loops_refused_at P kind f loops is h = (RefusedLoops f, rw (← h) is, refl)
 
--- a loop text that is refused, behind a machine text that is not
-pub loops_refused : (f : LoopFault) (m : MachineData) (loops : LoopLists) → loops_meaning.Answers (Err f) loops → IsRefusal (Bounds (Ok m) loops) (refusal_of_loops f)
-loops_refused f m loops h = loops_refused_at f.kind f m loops h
+-- .. behind a machine text that is not
+pub loops_refused : (IsText : Texts) (f : LoopFault) (m : MachineData) (loops : LoopLists) → loops_meaning.Answers (Err f) loops → IsRefusal (OutcomeOf IsText (Ok m) loops) (refusal_of_loops f)
+loops_refused T f m loops h = loops_refused_at (OutcomeOf T (Ok m)) f.kind f loops refl h
 
 -- a loop that lacks a table
-pub lacking_refused : (status : Status) (m : MachineData) (loops : List LoopData) → IsLacking status (first_lacking m loops) → IsRefusal (Bounds (Ok m) (Ok loops)) status
-lacking_refused OutOfMemory m loops h = tt
-lacking_refused (NoTable name opcode) m loops h = (NoTableFor name opcode, rw h refl, refl)
-lacking_refused Done m loops h = absurd h
-lacking_refused Unmet m loops h = absurd h
-lacking_refused MachineUnread m loops h = absurd h
-lacking_refused LoopsUnread m loops h = absurd h
-lacking_refused (Machine f) m loops h = absurd h
-lacking_refused (Loops f) m loops h = absurd h
-lacking_refused Unwritten m loops h = absurd h
+pub lacking_refused : (IsText : Texts) (status : Status) (m : MachineData) (loops : List LoopData) → IsLacking status (first_lacking m loops) → IsRefusal (OutcomeOf IsText (Ok m) (Ok loops)) status
+lacking_refused T OutOfMemory m loops h = tt
+lacking_refused T (NoTable name opcode) m loops h = (NoTableFor name opcode, rw h refl, refl)
+lacking_refused T Done m loops h = absurd h
+lacking_refused T Unmet m loops h = absurd h
+lacking_refused T MachineUnread m loops h = absurd h
+lacking_refused T LoopsUnread m loops h = absurd h
+lacking_refused T (Machine f) m loops h = absurd h
+lacking_refused T (Loops f) m loops h = absurd h
+lacking_refused T Unwritten m loops h = absurd h
 
 -- what `plain` does, as a property of outcomes
 abbrev IsPlain : ℕ → LoopLists → Outcome → Type 0
 IsPlain trip loops outcome = outcome ≡ plain_outcome trip loops
 
-plain_refused_at : (kind : LoopFaultKind) (f : LoopFault) (trip : ℕ) (loops : LoopLists)
-    → loops_meaning.AnswersFault kind f loops → IsRefusal (IsPlain trip loops) (loops_status kind f)
-plain_refused_at kinds.Memory f trip loops h = tt
-plain_refused_at kinds.Syntax f trip loops h = (RefusedLoops f, rw (← h) refl, refl)
-plain_refused_at kinds.Limit f trip loops h = (RefusedLoops f, rw (← h) refl, refl)
-plain_refused_at kinds.RepeatedName f trip loops h = (RefusedLoops f, rw (← h) refl, refl)
-plain_refused_at kinds.UnknownName f trip loops h = (RefusedLoops f, rw (← h) refl, refl)
-plain_refused_at kinds.UseBeforeDefinition f trip loops h = (RefusedLoops f, rw (← h) refl, refl)
-plain_refused_at kinds.MissingInit f trip loops h = (RefusedLoops f, rw (← h) refl, refl)
-plain_refused_at kinds.NoEnd f trip loops h = (RefusedLoops f, rw (← h) refl, refl)
-
 -- a loop text that `plain` refuses
 pub plain_refused : (f : LoopFault) (trip : ℕ) (loops : LoopLists) → loops_meaning.Answers (Err f) loops → IsRefusal (IsPlain trip loops) (refusal_of_loops f)
-plain_refused f trip loops h = plain_refused_at f.kind f trip loops h
+plain_refused f trip loops h = loops_refused_at (IsPlain trip) f.kind f loops refl h
 
 -- want of memory has one status in each kind of refusal
 pub machine_memory : (f : MachineFault) → HasOneMemory (refusal_of_machine f)

@@ -1,5 +1,5 @@
 -- The shapes of the memories before and behind a plain run.
-use Rattle.std.proofs.Common.{◌≡◌, ℕ, zero, suc, ℤ, Bool, true, false, List, [], ◌∷◌, length, Option, Some, None, refl, ◌∙◌}
+use Rattle.std.proofs.Common.{◌≡◌, ◌≤◌, ℕ, zero, suc, ℤ, Bool, true, false, List, [], ◌∷◌, length, Option, Some, None, refl, ◌∙◌}
 use Rattle.std.specs.Prelude.{if◌then◌else◌}
 use Rattle.std.proofs.lemmas.List.{length-map, length-set}
 use Rattle.machine.specs.declared.opcode.Opcode.{Opcode}
@@ -7,8 +7,8 @@ use Rattle.machine.specs.declared.opcode.Opcode.TheVariants.{Load, Store, Add, S
 use Rattle.loops.specs.Place.{Place}
 use Rattle.loops.specs.Statement.{Statement}
 use Rattle.loops.specs.Loops.{LoopData}
-use Rattle.loops.specs.Run.{HasShapeOf, MemoryData, RunState, after_iteration, after_iterations, after_statement, after_statements, arrays_after, end_of, opening_of, plain, start, writes}
-use Rattle.loops.proofs.Openings.{opening_shape}
+use Rattle.loops.specs.Run.{HasShapeOf, IsMemory, MemoryData, RunState, after_iteration, after_iterations, after_statement, after_statements, arrays_after, end_of, opening_of, plain, start, writes}
+use Rattle.loops.proofs.Openings.{opening_long, opening_shape}
 
 either : (b : Bool) (xs ys : List (List ℤ)) → length xs ≡ length ys → length (if b then xs else ys) ≡ length ys
 either true xs ys h = h
@@ -54,6 +54,15 @@ plain-many loop memory = after_iterations-many loop memory.trip (start memory.ar
 plain-outs : (loop : LoopData) (memory : MemoryData) → length (plain loop memory).outs ≡ length loop.outs
 unfolding plain
 plain-outs loop memory = length-map loop.outs _
+
+-- the memory before the first iteration
+pub opening_trip : (loop : LoopData) (trip : ℕ) → (opening_of loop trip).trip ≡ trip
+unfolding opening_of
+opening_trip loop trip = refl
+
+pub opening_memory : (loop : LoopData) (trip : ℕ) → trip ≤ 100000 → IsMemory (opening_of loop trip)
+unfolding opening_of
+opening_memory loop trip few = record { trips = few; cells = opening_long trip loop.arrays }
 
 -- the memory behind a plain run has the loop's shape, as the one before it has
 pub plain_shape : (loop : LoopData) (trip : ℕ) → HasShapeOf loop (plain loop (opening_of loop trip))

@@ -1,13 +1,15 @@
 -- What a command does with its texts, and how a run of it ends.
 use Rattle.std.specs.Prelude.{◌≡◌, ◌+◌, ℕ, Bool, true, false, List, [], ◌++◌, Option, Some, option_map}
 use Rattle.command_line.specs.declared.line.Command.{Command}
-use Rattle.command_line.specs.declared.line.Command.TheVariants.{Bounds, Plain}
+use Rattle.command_line.specs.declared.line.Command.TheVariants.{Bounds, Plain, Schedule, Run}
 use Rattle.machine.specs.MachineText.{machine_of}
 use Rattle.loops.specs.Meaning.{loops_in}
 use Rattle.modsched.specs.Bounds as bounds
 use Rattle.modsched.specs.Devices.{TakesBeginning}
-use Rattle.modsched.specs.Outcomes.{Outcome, Written, RefusedMachine, RefusedLoops, NoTable}
+use Rattle.modsched.specs.Outcomes.{Outcome, OutcomeOf, Written, RefusedMachine, RefusedLoops, NoTable}
 use Rattle.modsched.specs.Plain.{plain_outcome}
+use Rattle.modsched.specs.Run.{IsRunText}
+use Rattle.modsched.specs.Schedule.{IsListingText}
 use Rattle.modsched.specs.declared.status.Status.{Status}
 use Rattle.modsched.specs.declared.status.Status.TheVariants as status
 
@@ -15,17 +17,25 @@ use Rattle.modsched.specs.declared.status.Status.TheVariants as status
 abbrev pub reads_machine : Command → Bool
 reads_machine (Bounds machine loops) = true
 reads_machine (Plain loops trip) = false
+reads_machine (Schedule machine loops settings) = true
+reads_machine (Run machine loops trip settings) = true
 
 -- what a command has of a machine's text: what the input had left, or nothing where it reads none
 abbrev pub machine_for : Command → Option (List ℕ) → Option (List ℕ)
 machine_for (Bounds machine loops) left = left
 machine_for (Plain loops trip) left = Some []
+machine_for (Schedule machine loops settings) left = left
+machine_for (Run machine loops trip settings) left = left
 
--- an outcome of a command for the bytes of its texts: `bounds` speaks of what both mean, `plain` of what the loops' text
--- means and its trip count
+-- an outcome of a command for the bytes of its texts: `plain` speaks of what the loops' text means, the others of what both mean;
+-- what `schedule` and `run` write is settled by the ratio and the ceiling, whatever the workers and the cut
 abbrev pub Brings : Command → List ℕ → List ℕ → Outcome → Type 0
 Brings (Bounds machine_path loops_path) machine loops outcome = bounds.Bounds (machine_of machine) (loops_in loops) outcome
 Brings (Plain loops_path trip) machine loops outcome = outcome ≡ plain_outcome trip (loops_in loops)
+Brings (Schedule machine_path loops_path settings) machine loops outcome =
+    OutcomeOf (IsListingText settings.ratio settings.ceiling) (machine_of machine) (loops_in loops) outcome
+Brings (Run machine_path loops_path trip settings) machine loops outcome =
+    OutcomeOf (IsRunText trip settings.ratio settings.ceiling) (machine_of machine) (loops_in loops) outcome
 
 -- a command brings about an outcome like that, for the bytes that its inputs had left
 abbrev pub Does : Command → Option (List ℕ) → Option (List ℕ) → (Outcome → Type 0) → Type 0

@@ -5,4 +5,6 @@ pub mod Engine
 pub mod Outcomes
 pub mod Plain
 pub mod Refusals
+pub mod Run
+pub mod Schedule
 pub mod Statuses

@@ -4,10 +4,10 @@ use Rattle.std.specs.declared.alloc.Global.{Global}
 use Rattle.machine.specs.declared.opcode.Opcode.{Opcode}
 use Rattle.machine.specs.Machines.{MachineData}
 use Rattle.loops.specs.Loops.{LoopData}
-use Rattle.graph.specs.Units.{first_without_table}
+use Rattle.graph.specs.Units.{first_lacking, first_without_table, lacking_or}
 use Rattle.graph.specs.declared.fault.GraphFault.{GraphFault}
 use Rattle.graph.specs.declared.fault.GraphFault.TheVariants as graph_fault
-use Rattle.modsched.specs.Bounds.{AreBounds, IsLines, first_lacking, lacking_or}
+use Rattle.modsched.specs.Bounds.{AreBounds, IsLines}
 use Rattle.modsched.specs.Outcomes.{Outcome, Written, RefusedMachine, RefusedLoops, NoTable as NoTableFor}
 use Rattle.modsched.specs.Statuses.{number_of}
 use Rattle.modsched.specs.declared.bounds.LowerBounds.{LowerBounds}

@@ -8,6 +8,8 @@ use Rattle.machine.specs.Faults.{fault_text as machine_text}
 use Rattle.machine.specs.declared.fault.MachineFault.{MachineFault}
 use Rattle.machine.specs.declared.fault.MachineFault.TheVariants as fault
 use Rattle.machine.specs.Opcodes.{word_of}
+use Rattle.workers.specs.declared.faults.FileFault.{FileFault}
+use Rattle.workers.specs.declared.faults.FileFault.TheVariants as file
 use Rattle.modsched.specs.declared.status.Status.{Status}
 use Rattle.modsched.specs.declared.status.Status.TheVariants.{Done, Unmet, MachineUnread, LoopsUnread}
 use Rattle.modsched.specs.declared.status.Status.TheVariants.{Machine, Loops, NoTable, Unwritten}
@@ -67,6 +69,13 @@ loops_status _ f = Loops f
 -- the status of a refused loop text
 abbrev pub refusal_of_loops : LoopFault → Status
 refusal_of_loops f = loops_status f.kind f
+
+-- the status of a machine text and a loop text that have no listing
+abbrev pub refusal_of_file : FileFault → Status
+refusal_of_file (file.Machine f) = refusal_of_machine f
+refusal_of_file (file.Loops f) = refusal_of_loops f
+refusal_of_file (file.NoTable name opcode) = NoTable name opcode
+refusal_of_file file.Memory = OutOfMemory
 
 -- a refused machine text
 abbrev pub machine_line : MachineFault → List ℕ

@@ -2,9 +2,12 @@
 #![tactic(auto)]
 
 mod bounds;
+mod kernel_runs;
 mod lines;
 mod plain;
 mod printout;
+mod run_lines;
+mod schedule;
 mod status;
 mod subcommand;
 
@@ -13,5 +16,6 @@ pub use devices::{
     Bytes, Fault, FaultyInput, FaultyOutput, FileInput, Input, Output, ReadTextError,
     StandardOutput, TEXT_LIMIT, TakenBytes, read_text, write_text,
 };
+pub use settings::{OutOfRange, Settings};
 pub use status::{Line, Status};
 pub use subcommand::engine;

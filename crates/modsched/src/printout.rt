@@ -5,22 +5,26 @@ ghost use Rattle.modsched.specs.Engine.{Brings};
 ghost use Rattle.modsched.specs.Refusals.{Answers, HasOneMemory};
 
 use crate::bounds::bounds_text;
+use crate::kernel_runs::run_text;
 use crate::plain::plain_text;
+use crate::schedule::schedule_text;
 use crate::status::Status;
 use command_line::Command;
 use std::alloc::Global;
+use std::thread::Threads;
 
 /// What a command writes, whole.
 #[derive(Drop)]
 pub(crate) struct Printout {
     pub(crate) text: Vec<u8>,
-    /// Whether every loop is met. A command that looks for no schedule leaves none unmet.
+    /// Whether every loop is met. A command that looks for no kernels leaves none unmet.
     pub(crate) all_met: bool,
 }
 
 /// What a command writes for the bytes of its texts, or the status of its refusal. A command that reads
 /// no machine pays no heed to the machine's bytes.
-pub(crate) fn printout_of(
+pub(crate) fn printout_of<R: Threads + Sync>(
+    rt: &R,
     alloc: Global,
     command: &Command,
     machine: &[u8],
@@ -32,5 +36,7 @@ pub(crate) fn printout_of(
     match command {
         Command::Bounds { .. } => bounds_text(alloc, machine, loops),
         Command::Plain { trip, .. } => plain_text(alloc, loops, *trip),
+        Command::Schedule { settings, .. } => schedule_text(rt, alloc, machine, loops, settings),
+        Command::Run { trip, settings, .. } => run_text(rt, alloc, machine, loops, *trip, settings),
     }
 }

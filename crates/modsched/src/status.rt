@@ -1,7 +1,7 @@
 //! How a run of the program ends.
 
 ghost use Rattle.std.specs.Prelude.{◌≡◌, ◌<◌, ◌↔◌, IsSome, IfSome};
-ghost use Rattle.modsched.specs.Statuses.{number_of, refusal_of_machine, refusal_of_loops};
+ghost use Rattle.modsched.specs.Statuses.{number_of, refusal_of_file, refusal_of_machine, refusal_of_loops};
 ghost use Rattle.modsched.specs.declared.status.Status.TheVariants.{OutOfMemory};
 
 use loops::{LoopFault, LoopFaultKind};
@@ -9,6 +9,7 @@ use machine::{MachineFault, Name, Opcode};
 use std::alloc::AllocError;
 use std::fmt;
 use std::marker::Model;
+use workers::FileFault;
 
 /// How a run of the program ends. Each has a number, by which the process exits, and those that tell
 /// of a fault have a line for the standard error.
@@ -88,6 +89,20 @@ impl From<LoopFault> for Status {
         match fault.kind {
             LoopFaultKind::Memory => Status::OutOfMemory,
             _ => Status::Loops(fault),
+        }
+    }
+}
+
+/// Texts that have no listing end as their fault says; for want of memory alone, in `OutOfMemory`.
+impl From<FileFault> for Status {
+    ghost from_gives = { λ fault status. status ≡ refusal_of_file fault };
+
+    fn from(fault: FileFault) -> Status {
+        match fault {
+            FileFault::Machine(fault) => Status::from(fault),
+            FileFault::Loops(fault) => Status::from(fault),
+            FileFault::NoTable(name, opcode) => Status::NoTable { name, opcode },
+            FileFault::Memory => Status::OutOfMemory,
         }
     }
 }

@@ -10,12 +10,15 @@ use crate::status::Status;
 use command_line::Command;
 use devices::{Input, Output, ReadTextError, read_text, write_text};
 use std::alloc::Global;
+use std::thread::Threads;
 
 /// Does the work of a command: reads the texts that it needs, makes the output whole, writes it and
 /// flushes it. Both texts are read before either is looked at, the machine's first; a command that needs
 /// no machine leaves the machine's input alone. After a fault no further call is made on that device, and
-/// after a refusal the output is left alone.
-pub fn engine<M: Input, L: Input, O: Output>(
+/// after a refusal the output is left alone. Kernels are searched for by workers in threads of `rt`, which
+/// change nothing of what is written.
+pub fn engine<R: Threads + Sync, M: Input, L: Input, O: Output>(
+    rt: &R,
     alloc: Global,
     command: &Command,
     machine_input: &mut M,
@@ -65,7 +68,7 @@ pub fn engine<M: Input, L: Input, O: Output>(
         Err(ReadTextError::Fault) => return Status::LoopsUnread,
         Err(ReadTextError::Memory) => return Status::OutOfMemory,
     };
-    match printout_of(alloc, command, machine.as_slice(), loops.as_slice()) {
+    match printout_of(rt, alloc, command, machine.as_slice(), loops.as_slice()) {
         Ok(printout) => finish(output, &printout),
         Err(status) => status,
     }
@@ -86,8 +89,10 @@ fn machine_text<M: Input>(
     ensures memory { IsErrOf result ReadTextError.Memory → M.failed input.new ≡ M.failed input.old }
 {
     match command {
-        Command::Bounds { .. } => read_text(alloc, input),
         Command::Plain { .. } => Ok(Vec::new(alloc)),
+        Command::Bounds { .. } | Command::Schedule { .. } | Command::Run { .. } => {
+            read_text(alloc, input)
+        }
     }
 }
 

@@ -8,7 +8,7 @@ use Rattle.machine.specs.declared.alternative.Row.{Row}
 use Rattle.machine.specs.Alternative.{residue_of, rows_meet, collides}
 use Rattle.mrt.specs.declared.slot.Slot.{Slot}
 use Rattle.mrt.specs.declared.choices.Span.{Span}
-use Rattle.mrt.specs.Slots.{IsSlot, rows_in}
+use Rattle.mrt.specs.Slots.{IsSlot, rows_in, needs_unit, HasUnits}
 use Rattle.mrt.specs.Choices.{rows_at, IsSpan, AreChoices}
 use Rattle.mrt.proofs.Lists.{list_any-map, slice_range_kept}
 
@@ -62,6 +62,7 @@ IsSpan-kept ii old new span e le s = record {
   order = s.order;
   within = omega (arith, s.within);
   collides = s.collides ∙ ap (λ zs. collides ii (rows_in zs)) (sym (slice_range_kept old new span.start span.end e s.order s.within));
+  units = λ unit. s.units unit ∙ ap (λ zs. needs_unit unit (rows_in zs)) (sym (slice_range_kept old new span.start span.end e s.order s.within));
 }
 
 pub rows_at-kept : (ii : ℕ) (old new : List Slot) (spans : List Span) → take (length old) new ≡ old → All (IsSpan ii old) spans → map (rows_at new) spans ≡ map (rows_at old) spans
@@ -84,11 +85,11 @@ AreChoices-grown ii old new spans a slots e = record {
 
 -- the slots that were added are a span of their own
 pub AreChoices-pushed : (ii : ℕ) (old new : List Slot) (spans : List Span) (span : Span) → AreChoices ii old spans → All (IsSlot ii) new → take (length old) new ≡ old
-    → span.start ≡ length old → span.end ≡ length new → span.collides ≡ collides ii (rows_at new span) → AreChoices ii new (spans ++ span ∷ [])
-AreChoices-pushed ii old new spans span a slots e from to c =
+    → span.start ≡ length old → span.end ≡ length new → span.collides ≡ collides ii (rows_at new span) → HasUnits span.units (rows_at new span) → AreChoices ii new (spans ++ span ∷ [])
+AreChoices-pushed ii old new spans span a slots e from to c u =
     let grown = AreChoices-grown ii old new spans a slots e in
     let le = longer old new e in
-    let own : IsSpan ii new span = record { order = omega arith; within = omega arith; collides = c } in
+    let own : IsSpan ii new span = record { order = omega arith; within = omega arith; collides = c; units = u } in
     record { some = a.some; few = a.few; each_slot = slots; each_span = All-push (IsSpan ii new) spans span grown.each_span own }
 
 pub rows_at-pushed : (ii : ℕ) (old new : List Slot) (spans : List Span) (span : Span) (rows : List Row) → All (IsSpan ii old) spans → take (length old) new ≡ old

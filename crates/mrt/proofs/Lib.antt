@@ -9,3 +9,5 @@ pub mod Masking
 pub mod Vectors
 pub mod Searching
 pub mod Scheduling
+pub mod Timing
+pub mod Needing

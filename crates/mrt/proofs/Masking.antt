@@ -1,5 +1,5 @@
 -- Words of units.
-use Rattle.std.proofs.Common.{◌≡◌, ◌≢◌, ℕ, ◌+◌, ◌-◌, ◌*◌, ◌^◌, ◌<◌, ◌≤◌, inl, inr, Bool, true, false, ◌&&◌, cond, eqb, bit_and, bit_or, List, length, get_or, set, replicate, Option, Some, None, MatchOption, refl, sym, ap, ◌∙◌, arith, eq-eqb, length-set, w64}
+use Rattle.std.proofs.Common.{◌≡◌, ◌≢◌, ℕ, ◌+◌, ◌-◌, ◌*◌, ◌/◌, ◌%◌, ◌^◌, ◌<◌, ◌≤◌, inl, inr, Bool, true, false, ◌&&◌, cond, eqb, bit_and, bit_or, List, length, get_or, set, replicate, Option, Some, None, MatchOption, refl, sym, ap, ◌∙◌, arith, eq-eqb, length-set, w64}
 use Rattle.std.specs.Int.{bit_at, bit_not}
 use Rattle.std.proofs.lemmas.Bool.{cases_eq, ne_eqb, true≢false}
 use Rattle.std.proofs.lemmas.Nat.Bits.{bit_at-lt, bit_at_or, bit_at_and, bit_at_not, bit_at-pow_same, bit_at-pow_other, and_pow, bit_at-zero}
@@ -10,8 +10,10 @@ use Rattle.machine.specs.Alternative.{residue_of}
 use Rattle.mrt.specs.Placements.{Operations, Placements, Placement, placement_of, rows_of, IsFree, Holds, IsHolder}
 use Rattle.mrt.specs.Rosters.{Table}
 use Rattle.mrt.specs.Slots.{takes, Takes, Occupies, AreApart}
-use Rattle.mrt.specs.MaskTables.{is_held, Repeats, IsMaskTable}
+use Rattle.mrt.specs.Times.{is_set}
+use Rattle.mrt.specs.MaskTables.{is_held, Repeats, IsMaskTable, AreTimes}
 use Rattle.mrt.proofs.Taking.{none_placed, takes_from_Holds, Holds-from_takes}
+use Rattle.mrt.proofs.Owning.{place_below}
 use Rattle.mrt.proofs.Marking.{Occupies-placed, Occupies-removed, AreApart-placed, AreApart-removed}
 
 -- ---- one bit of a word
@@ -161,6 +163,33 @@ module _ (table : Table) (busy busy' : List ℕ) (op : ℕ) (at : Placement) (ke
     occupied = Occupies-removed table.interval 64 table.operations table.placed op at is_placed kept.apart (is_held busy) (is_held busy') write kept.occupied;
     repeats = again;
   }
+
+-- ---- the timelines
+no_bit : (n place bit : ℕ) → place < n → eqb (bit_at (get_or (replicate n 0) place 0) bit) 1 ≡ false
+no_bit n place bit lt = ap (λ w. eqb (bit_at w bit) 1) (get_or-replicate n place 0 0 lt) ∙ ap (λ b. eqb b 1) (bit_at-zero bit)
+
+pub AreTimes-new : (ii words masks : ℕ) → 0 < ii → ii ≤ masks → words ≤ 257 → (16 ≤ ii → ii + 64 ≤ 64 * words) → AreTimes ii words (replicate (64 * words) 0) (replicate masks 0)
+AreTimes-new ii words masks some least few reach = record {
+  all = length-replicate (64 * words) 0;
+  few = few;
+  reach = reach;
+  tell = λ unit place u p.
+      let within : unit * words + place / 64 < 64 * words = place_below 64 words (place / 64) unit (omega arith) u in
+      let residue : place % ii < masks = omega (arith, some, least) in
+      no_bit (64 * words) (unit * words + place / 64) (place % 64) within ∙ sym (no_bit masks (place % ii) unit residue);
+}
+
+pub AreTimes-marked : (ii words : ℕ) (times times' busy busy' : List ℕ) (T : ℕ → ℕ → Bool) (held : Bool) → 0 < ii → AreTimes ii words times busy → length times' ≡ length times
+    → ((unit place : ℕ) → unit < 64 → place < 64 * words → is_set words times' unit place ≡ cond (T unit (place % ii)) held (is_set words times unit place))
+    → ((unit residue : ℕ) → unit < 64 → residue < ii → is_held busy' unit residue ≡ cond (T unit residue) held (is_held busy unit residue))
+    → AreTimes ii words times' busy'
+AreTimes-marked ii words times times' busy busy' T held some a long set_there held_there = record {
+  all = long ∙ a.all;
+  few = a.few;
+  reach = a.reach;
+  tell = λ unit place u p.
+      set_there unit place u p ∙ ap (λ b. cond (T unit (place % ii)) held b) (a.tell unit place u p) ∙ sym (held_there unit (place % ii) u (omega arith));
+}
 
 -- ---- who holds a slot
 module _ (ii : ℕ) (operations : Operations) (placed : Placements) (row : Row) (time : ℕ) where

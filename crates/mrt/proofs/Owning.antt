@@ -52,7 +52,7 @@ module _ (ii : ℕ) (held : ℕ → ℕ → Bool) (slots : List Slot) (time : �
 pub place_below : (ii units unit residue : ℕ) → unit < units → residue < ii → residue * units + unit < ii * units
 place_below ii units unit residue u r = omega (arith, mul-add-lt residue units unit ii r u, mul_comm units ii)
 
-same_place : (units unit residue unit' residue' : ℕ) → unit < units → unit' < units → residue * units + unit ≡ residue' * units + unit' → (unit ≡ unit') × (residue ≡ residue')
+pub same_place : (units unit residue unit' residue' : ℕ) → unit < units → unit' < units → residue * units + unit ≡ residue' * units + unit' → (unit ≡ unit') × (residue ≡ residue')
 same_place units unit residue unit' residue' u u' e = (
   sym (mod-mul-add residue units unit u) ∙ ap (λ n. n % units) e ∙ mod-mul-add residue' units unit' u',
   sym (div-mul-add residue units unit u) ∙ ap (λ n. n / units) e ∙ div-mul-add residue' units unit' u',

@@ -5,7 +5,7 @@ use Rattle.machine.specs.declared.alternative.Row.{Row}
 use Rattle.machine.specs.Alternative.{collides}
 use Rattle.mrt.specs.declared.slot.Slot.{Slot}
 use Rattle.mrt.specs.declared.choices.Span.{Span}
-use Rattle.mrt.specs.Slots.{IsSlot, rows_in}
+use Rattle.mrt.specs.Slots.{IsSlot, rows_in, HasUnits}
 
 -- an interval, and alternatives at it
 pub record Offered : Type 0 where
@@ -16,11 +16,12 @@ pub record Offered : Type 0 where
 abbrev pub rows_at : List Slot → Span → List Row
 rows_at slots span = rows_in (slice_range slots span.start span.end)
 
--- the span is a part of the slots, and tells whether two of its rows meet
+-- the span is a part of the slots, and tells whether two of its rows meet, and of which units they are
 pub record IsSpan (ii : ℕ) (slots : List Slot) (span : Span) : Type 0 where
   pub order : span.start ≤ span.end
   pub within : span.end ≤ length slots
   pub collides : span.collides ≡ collides ii (rows_at slots span)
+  pub units : HasUnits span.units (rows_at slots span)
 
 -- what is kept of alternatives at an interval
 pub record AreChoices (ii : ℕ) (slots : List Slot) (spans : List Span) : Type 0 where

@@ -4,6 +4,7 @@ pub mod Slots
 pub mod Choices
 pub mod Rosters
 pub mod OwnerTables
+pub mod Times
 pub mod MaskTables
 pub mod Lanes
 pub mod Turns

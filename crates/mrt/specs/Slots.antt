@@ -1,5 +1,6 @@
 -- Rows as a table at one interval reads them, and the slots that are taken.
 use Rattle.std.specs.Prelude.{◌≡◌, ◌≢◌, ℕ, ◌%◌, ◌^◌, ◌<◌, ◌==◌, ◌&&◌, Bool, true, List, map, Some}
+use Rattle.std.specs.Int.{bit_at}
 use Rattle.std.specs.List.{list_any}
 use Rattle.machine.specs.declared.alternative.Row.{Row}
 use Rattle.machine.specs.Alternative.{residue_of}
@@ -15,6 +16,14 @@ pub record IsSlot (ii : ℕ) (slot : Slot) : Type 0 where
 -- the rows of slots
 abbrev pub rows_in : List Slot → List Row
 rows_in slots = map (λ slot. slot.row) slots
+
+-- one of the rows is of the unit
+abbrev pub needs_unit : ℕ → List Row → Bool
+needs_unit unit rows = list_any (λ row. unit == row.unit) rows
+
+-- the bits that are set are those of the units of the rows
+abbrev pub HasUnits : ℕ → List Row → Type 0
+HasUnits bits rows = (unit : ℕ) → (bit_at bits unit == 1) ≡ needs_unit unit rows
 
 -- one of the rows, issued at the time, takes this slot
 abbrev pub takes : ℕ → List Row → ℕ → ℕ → ℕ → Bool

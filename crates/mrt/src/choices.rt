@@ -3,19 +3,20 @@
 ghost use Rattle.std.specs.Prelude.{◌≡◌, ◌++◌, ◌∷◌, [], ◌<◌, ◌≤◌, ℕ, List, length, take, drop, IfOk, OnOk, slice_index_or};
 ghost use Rattle.std.specs.List.{All, list_any};
 ghost use Rattle.machine.specs.Alternative.{IsAlternative, collides, rows_meet};
-ghost use Rattle.mrt.specs.Slots.{IsSlot, rows_in};
+ghost use Rattle.mrt.specs.Slots.{IsSlot, rows_in, HasUnits};
 
 use crate::slot::Slot;
 use machine::{OutOfMemory, Row};
 use std::alloc::Global;
 use std::marker::Model;
 
-/// Where the slots of one alternative stand, and whether two of them meet.
+/// Where the slots of one alternative stand, whether two of them meet, and the bits of their units.
 #[derive(Clone, Copy)]
 struct Span {
     start: usize,
     end: usize,
     collides: bool,
+    units: u64,
 }
 
 /// Alternatives at one interval. Contracts see the interval and the alternatives' rows.
@@ -76,6 +77,14 @@ impl Choices {
         self.spans[choice].collides
     }
 
+    /// The bits of the units of an alternative's rows.
+    pub(crate) fn unit_bits(&self, choice: usize) -> u64
+        requires { choice < length self.now.alternatives }
+        ensures { HasUnits result (slice_index_or self.now.alternatives choice []) }
+    {
+        self.spans[choice].units
+    }
+
     /// The slots of an alternative.
     pub(crate) fn slots(&self, choice: usize) -> &[Slot]
         requires { choice < length self.now.alternatives }
@@ -107,11 +116,14 @@ impl Choices {
         let start = self.slots.len();
         push_slots(&mut self.slots, rows, self.ii)?;
         let end = self.slots.len();
-        let collides = collides(&self.slots[start..end]);
+        let added = &self.slots[start..end];
+        let collides = collides(added);
+        let units = units_of(added);
         self.spans.push(Span {
             start,
             end,
             collides,
+            units,
         })?;
         Ok(())
     }
@@ -137,12 +149,26 @@ fn push_slots(slots: &mut Vec<Slot>, rows: &[Row], ii: usize) -> Result<(), OutO
 fn collides(slots: &[Slot]) -> bool
     ensures { (ii : ℕ) → All (IsSlot ii) slots.now → result ≡ collides ii (rows_in slots.now) }
 {
-    for (i, slot) in slots.iter().enumerate() {
-        if is_among(slot, &slots[i + 1..]) {
+    let mut units = 0;
+    for i in (0..slots.len()).rev() {
+        let slot = &slots[i];
+        if units & slot.mask != 0 && is_among(slot, &slots[i + 1..]) {
             return true;
         }
+        units |= slot.mask;
     }
     false
+}
+
+/// The bits of the units of some slots.
+fn units_of(slots: &[Slot]) -> u64
+    ensures { (ii : ℕ) → All (IsSlot ii) slots.now → HasUnits result (rows_in slots.now) }
+{
+    let mut units = 0;
+    for slot in slots {
+        units |= slot.mask;
+    }
+    units
 }
 
 /// Whether a slot is one of some others.

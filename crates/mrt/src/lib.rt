@@ -11,6 +11,7 @@ mod slot;
 mod table;
 #[cfg(test)]
 mod tests;
+mod times;
 
 pub use mask::MaskTable;
 pub use owner::OwnerTable;

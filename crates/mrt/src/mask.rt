@@ -1,4 +1,4 @@
-//! A modulo reservation table as a word of units for each residue.
+//! A modulo reservation table as a word of units for each residue, and a timeline for each unit.
 
 ghost use Rattle.std.specs.Prelude.{◌≡◌, ◌↔◌, ◌+◌, ◌*◌, ◌%◌, ◌^◌, ◌<◌, ◌≤◌, ◌==◌, ◌&&◌, ℕ, List, length, replicate, Option, Some, None, IsNone, IsSome, IsTrue, IfOk, if◌then◌else◌, slice_set, slice_index_or, slice_get};
 ghost use Rattle.std.specs.Int.{bit_at};
@@ -12,30 +12,37 @@ use crate::lanes::first_unmet;
 use crate::roster::{Issue, Roster};
 use crate::slot::Slot;
 use crate::table::ModuloTable;
+use crate::times::{LEAST, first_unheld, mark_times, words_at};
+use machine::limits::MAX_UNITS;
 use machine::{Alternatives, OutOfMemory};
 use std::alloc::Global;
 use std::marker::Model;
 
 /// A modulo reservation table that keeps, for each residue, one word whose bit `u` tells that unit `u`
-/// is held, beside the list of placements. Contracts see the interval, the alternatives of each
-/// operation and the set of placements.
+/// is held, beside the list of placements. From an interval of 16 on, it also keeps a timeline for
+/// each unit, which has a bit for each time. Contracts see the interval, the alternatives of each operation and the set of
+/// placements.
 #[derive(Drop)]
 pub struct MaskTable {
     roster: Roster,
     /// The words by residue. From an interval of 8 on, the first seven are repeated at the end, so that
     /// those of eight consecutive cycles always stand side by side.
     busy: Vec<u64>,
+    /// How many words each unit's timeline has.
+    words: usize,
+    /// The timelines of all units, one after another.
+    times: Vec<u64>,
 }
 
 impl Model for MaskTable {
     ghost use Rattle.mrt.specs.Rosters.{Table};
-    ghost use Rattle.mrt.specs.MaskTables.{IsMaskTable};
+    ghost use Rattle.mrt.specs.MaskTables.{IsMaskTable, AreTimes};
 
     ghost Value = { Table };
 
     ghost view = { λ t. t.roster };
 
-    ghost invariant = { λ t. IsMaskTable t.roster t.busy.items };
+    ghost invariant = { λ t. IsMaskTable t.roster t.busy.items × AreTimes t.roster.interval t.words t.times.items t.busy.items };
 }
 
 impl MaskTable {
@@ -85,12 +92,17 @@ impl MaskTable {
         let Some(slots) = self.roster.usable(op, alternative) else {
             return limit;
         };
-        first_unmet(&self.busy, slots, self.roster.ii(), base, limit)
+        let ii = self.roster.ii();
+        if ii < LEAST {
+            first_unmet(&self.busy, slots, ii, base, limit)
+        } else {
+            first_unheld(&self.times, self.words, slots, ii, base, limit)
+        }
     }
 
     /// [`ModuloTable::first_free`] from an interval of 8 on: each alternative is searched in turn, up to
-    /// the least time found so far, eight times at once.
-    fn first_by_lanes(&self, op: usize, start: u64) -> Option<(u64, usize)>
+    /// the least time found so far, many times at once.
+    fn first_by_alternatives(&self, op: usize, start: u64) -> Option<(u64, usize)>
         requires there { op < length self.now.operations }
         requires time { start + self.now.interval ≤ 2 ^ 32 }
         requires eight { 8 ≤ self.now.interval }
@@ -144,9 +156,16 @@ impl ModuloTable for MaskTable {
         ii: u64,
     ) -> Result<MaskTable, OutOfMemory> {
         let roster = Roster::new(alloc, alternatives, ii as usize)?;
-        let words = if ii < 8 { ii } else { ii + 7 };
-        let busy = vec![in alloc; 0; words as usize]?;
-        Ok(MaskTable { roster, busy })
+        let masks = if ii < 8 { ii } else { ii + 7 };
+        let busy = vec![in alloc; 0; masks as usize]?;
+        let words = words_at(ii as usize);
+        let times = vec![in alloc; 0; MAX_UNITS * words]?;
+        Ok(MaskTable {
+            roster,
+            busy,
+            words,
+            times,
+        })
     }
 
     fn ii(&self) -> u64 {
@@ -161,7 +180,7 @@ impl ModuloTable for MaskTable {
         if self.roster.ii() < 8 {
             self.first_one_by_one(op, start)
         } else {
-            self.first_by_lanes(op, start)
+            self.first_by_alternatives(op, start)
         }
     }
 
@@ -171,7 +190,7 @@ impl ModuloTable for MaskTable {
         if self.busy[residue] & slot.mask == 0 {
             return None;
         }
-        self.roster.taker(slot.row.unit, residue)
+        self.roster.taker(&slot, residue)
     }
 
     fn claim(&mut self, op: usize, time: u64, alternative: usize) {
@@ -179,6 +198,7 @@ impl ModuloTable for MaskTable {
         let base = self.roster.residue(time);
         let slots = self.roster.slots(op, alternative);
         mark(&mut self.busy, slots, ii, base, true);
+        mark_times(&mut self.times, self.words, slots, ii, base, true);
         self.roster.place(
             op,
             Issue {
@@ -194,6 +214,7 @@ impl ModuloTable for MaskTable {
             let ii = self.roster.ii();
             let slots = self.roster.slots(op, issue.alternative);
             mark(&mut self.busy, slots, ii, issue.base, false);
+            mark_times(&mut self.times, self.words, slots, ii, issue.base, false);
             self.roster.remove(op);
         }
     }
@@ -251,7 +272,7 @@ fn write(busy: &mut [u64], ii: usize, residue: usize, mask: u64, held: bool)
 }
 
 /// A word with the bit of a mask set or cleared.
-fn with_bit(word: u64, mask: u64, held: bool) -> u64
+pub(crate) fn with_bit(word: u64, mask: u64, held: bool) -> u64
     ensures { (own unit : ℕ) → mask ≡ 2 ^ own → own < 64 → unit < 64
         → (bit_at result unit == 1) ≡ (if unit == own then held else (bit_at word unit == 1)) }
 {

@@ -4,7 +4,7 @@ ghost use Rattle.std.specs.Prelude.{◌≡◌, ◌++◌, ◌%◌, ◌^◌, ◌<�
 ghost use Rattle.std.specs.List.{All};
 ghost use Rattle.machine.specs.Alternative.{IsAlternative, collides};
 ghost use Rattle.mrt.specs.Placements.{placement_of, alternatives_of, rows_of};
-ghost use Rattle.mrt.specs.Slots.{IsSlot, rows_in, takes, Takes};
+ghost use Rattle.mrt.specs.Slots.{IsSlot, rows_in, HasUnits, takes, Takes};
 
 use crate::choices::Choices;
 use crate::slot::Slot;
@@ -163,16 +163,40 @@ impl Roster {
         self.issues[op]
     }
 
-    /// An operation that takes a slot, if there is one.
-    pub(crate) fn taker(&self, unit: u8, residue: usize) -> Option<usize>
+    /// The bits of the units of an alternative's rows.
+    fn unit_bits(&self, op: usize, alternative: usize) -> u64
+        requires there { op < length self.now.operations }
+        requires alternative { alternative < length (alternatives_of self.now.operations op) }
+        ensures { HasUnits result (rows_of self.now.operations op alternative) }
+    {
+        let group = self.groups[op];
+        self.choices.unit_bits(group.first + alternative)
+    }
+
+    /// Whether an operation that is issued so takes the slot of a unit at a residue.
+    fn takes(&self, op: usize, issue: Issue, slot: &Slot, residue: usize) -> bool
+        requires there { op < length self.now.operations }
+        requires issue { IsIssue self.now.interval self.now.operations op issue }
+        requires slot { IsSlot self.now.interval slot.now }
+        ensures { result ≡ takes self.now.interval (rows_of self.now.operations op issue.alternative) issue.time slot.now.row.unit residue }
+    {
+        if self.unit_bits(op, issue.alternative) & slot.mask == 0 {
+            return false;
+        }
+        let slots = self.slots(op, issue.alternative);
+        takes(slots, self.ii(), issue.base, slot.row.unit, residue)
+    }
+
+    /// An operation that takes the slot of a unit at a residue, if there is one.
+    pub(crate) fn taker(&self, slot: &Slot, residue: usize) -> Option<usize>
+        requires { IsSlot self.now.interval slot.now }
         ensures { MatchOption result
-            ((op : ℕ) → Takes self.now.interval self.now.operations self.now.placed unit residue op → ⊥)
-            (Takes self.now.interval self.now.operations self.now.placed unit residue) }
+            ((op : ℕ) → Takes self.now.interval self.now.operations self.now.placed slot.now.row.unit residue op → ⊥)
+            (Takes self.now.interval self.now.operations self.now.placed slot.now.row.unit residue) }
     {
         for op in 0..self.len() {
             if let Some(issue) = self.issue(op) {
-                let slots = self.slots(op, issue.alternative);
-                if takes(slots, self.ii(), issue.base, unit, residue) {
+                if self.takes(op, issue, slot, residue) {
                     return Some(op);
                 }
             }

@@ -72,7 +72,7 @@ fn wide(alloc: Global) -> Result<Vec<Alternatives>, OutOfMemory>
 /// Places the first operations, each in the cycle of its number or all in cycle 0.
 fn place_all<T: ModuloTable>(rt: &impl Abort, table: &mut T, count: usize, apart: bool)
     requires there { count ≤ length (T.operations table.old) }
-    requires few { count ≤ 64 }
+    requires few { count ≤ 128 }
     requires unplaced { (op : ℕ) → placement_of (T.placed table.old) op ≡ None }
     ensures operations { T.operations table.new ≡ T.operations table.old }
     ensures interval { T.interval table.new ≡ T.interval table.old }
@@ -84,16 +84,22 @@ fn place_all<T: ModuloTable>(rt: &impl Abort, table: &mut T, count: usize, apart
     }
 }
 
-/// A table of nine operations of one unit, the first eight in the cycles 0 to 7.
-fn filled<T: ModuloTable>(rt: &impl Abort, alloc: Global, ii: u64) -> Result<T, OutOfMemory>
+/// A table of operations of one unit, all but the last of them placed, each in the cycle of its number.
+fn filled<T: ModuloTable>(
+    rt: &impl Abort,
+    alloc: Global,
+    placed: usize,
+    ii: u64,
+) -> Result<T, OutOfMemory>
     requires some { 0 < ii }
-    requires few { ii ≤ 9 }
-    ensures operations { IfOk result (λ t. length (T.operations t) ≡ 9) }
+    requires few { ii ≤ 128 }
+    requires placed { placed ≤ 128 }
+    ensures operations { IfOk result (λ t. length (T.operations t) ≡ placed + 1) }
     ensures interval { IfOk result (λ t. T.interval t ≡ ii) }
 {
-    let operations = same(alloc, 9)?;
+    let operations = same(alloc, placed + 1)?;
     let mut table = T::make(alloc, &operations, ii)?;
-    place_all(rt, &mut table, 8, true);
+    place_all(rt, &mut table, placed, true);
     Ok(table)
 }
 
@@ -108,19 +114,30 @@ fn crowded<T: ModuloTable>(rt: &impl Abort, alloc: Global) -> Result<T, OutOfMem
 }
 
 /// The slots wrap round at the interval, and the search finds the one that is left.
-fn finds_the_hole<T: ModuloTable>(rt: &impl Abort, alloc: Global) -> Result<(), OutOfMemory> {
-    let table = filled::<T>(rt, alloc, 9)?;
-    assert_eq!(rt; table.first_free(8, 0), Some((8, 0)));
-    assert_eq!(rt; table.first_free(8, 5), Some((8, 0)));
-    assert_eq!(rt; table.first_free(8, 9), Some((17, 0)));
+fn finds_the_hole<T: ModuloTable>(
+    rt: &impl Abort,
+    alloc: Global,
+    ii: u64,
+) -> Result<(), OutOfMemory>
+    requires some { 5 < ii }
+    requires few { ii ≤ 128 }
+{
+    let last = ii as usize - 1;
+    let table = filled::<T>(rt, alloc, last, ii)?;
+    assert_eq!(rt; table.first_free(last, 0), Some((ii - 1, 0)));
+    assert_eq!(rt; table.first_free(last, 5), Some((ii - 1, 0)));
+    assert_eq!(rt; table.first_free(last, ii), Some((2 * ii - 1, 0)));
     Ok(())
 }
 
 /// A full table has no slot.
-fn finds_none<T: ModuloTable>(rt: &impl Abort, alloc: Global) -> Result<(), OutOfMemory> {
-    let table = filled::<T>(rt, alloc, 8)?;
-    assert_eq!(rt; table.ii(), 8);
-    assert_eq!(rt; table.first_free(8, 3), None);
+fn finds_none<T: ModuloTable>(rt: &impl Abort, alloc: Global, ii: u64) -> Result<(), OutOfMemory>
+    requires some { 0 < ii }
+    requires few { ii ≤ 128 }
+{
+    let table = filled::<T>(rt, alloc, ii as usize, ii)?;
+    assert_eq!(rt; table.ii(), ii);
+    assert_eq!(rt; table.first_free(ii as usize, 3), None);
     Ok(())
 }
 
@@ -160,9 +177,12 @@ fn turn<T: ModuloTable>(
 }
 
 /// What a table answers as operations come and go.
-fn answers<T: ModuloTable>(alloc: Global) -> Result<Vec<Option<(u64, usize)>>, OutOfMemory> {
+fn answers<T: ModuloTable>(alloc: Global, ii: u64) -> Result<Vec<Option<(u64, usize)>>, OutOfMemory>
+    requires some { 0 < ii }
+    requires few { ii ≤ 128 }
+{
     let operations = wide(alloc)?;
-    let mut table = T::make(alloc, &operations, 11)?;
+    let mut table = T::make(alloc, &operations, ii)?;
     let mut held = vec![in alloc; false; 65]?;
     let mut answers = Vec::new(alloc);
     for step in 0..300 {
@@ -172,26 +192,46 @@ fn answers<T: ModuloTable>(alloc: Global) -> Result<Vec<Option<(u64, usize)>>, O
     Ok(answers)
 }
 
-#[test]
-fn both_agree(rt: HostRuntime) -> Result<(), Fail> {
-    let owners = answers::<OwnerTable>(rt.alloc())?;
-    let masks = answers::<MaskTable>(rt.alloc())?;
+/// Both tables answer the same at an interval.
+fn agree(rt: &impl Abort, alloc: Global, ii: u64) -> Result<(), OutOfMemory>
+    requires some { 0 < ii }
+    requires few { ii ≤ 128 }
+{
+    let owners = answers::<OwnerTable>(alloc, ii)?;
+    let masks = answers::<MaskTable>(alloc, ii)?;
     assert_eq!(rt; owners.as_slice(), masks.as_slice());
     Ok(())
 }
 
 #[test]
+fn both_agree(rt: HostRuntime) -> Result<(), Fail> {
+    for ii in [3, 11, 16, 67] {
+        agree(&rt, rt.alloc(), ii)?;
+    }
+    Ok(())
+}
+
+/// The table's answers at an interval.
+fn answers_of<T: ModuloTable>(rt: &impl Abort, alloc: Global, ii: u64) -> Result<(), OutOfMemory>
+    requires some { 5 < ii }
+    requires few { ii ≤ 128 }
+{
+    finds_the_hole::<T>(rt, alloc, ii)?;
+    finds_none::<T>(rt, alloc, ii)
+}
+
+#[test]
 fn owners(rt: HostRuntime) -> Result<(), Fail> {
-    finds_the_hole::<OwnerTable>(&rt, rt.alloc())?;
-    finds_none::<OwnerTable>(&rt, rt.alloc())?;
+    answers_of::<OwnerTable>(&rt, rt.alloc(), 9)?;
     tells_the_holder::<OwnerTable>(&rt, rt.alloc())?;
     Ok(())
 }
 
 #[test]
 fn masks(rt: HostRuntime) -> Result<(), Fail> {
-    finds_the_hole::<MaskTable>(&rt, rt.alloc())?;
-    finds_none::<MaskTable>(&rt, rt.alloc())?;
+    for ii in [7, 8, 9, 16, 80, 128] {
+        answers_of::<MaskTable>(&rt, rt.alloc(), ii)?;
+    }
     tells_the_holder::<MaskTable>(&rt, rt.alloc())?;
     Ok(())
 }

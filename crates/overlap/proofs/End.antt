@@ -14,8 +14,7 @@ use Rattle.graph.specs.Dependences.{ComesFirst}
 use Rattle.graph.specs.Promises.{issue_of}
 use Rattle.graph.specs.Units.{greatest_of}
 use Rattle.kernel.specs.declared.parts.Parts.{Parts}
-use Rattle.kernel.specs.Overlapped as overlapped
-use Rattle.kernel.specs.Overlapped.{Target, InRegister, InCell, Write, physical, value_or, preloaded, last_of_all, writes_before, all_writes, turns_of, cells_after, arrays_after, out_after, last_turn}
+use Rattle.kernel.specs.Overlapped.{Target, InRegister, InCell, Write, physical, value_or, preloaded, last_of_all, writes_before, all_writes, overlapped, turns_of, cells_after, arrays_left, out_after, last_turn}
 use Rattle.overlap.specs.Allotments.{AllotmentData, number_of}
 use Rattle.overlap.specs.Lifetimes.{IsLiveIn, is_out, landing_of, last_landing, last_cycle, lifetime_of, lifetimes_of, rank_of}
 use Rattle.ims.specs.Schedules.{ScheduleData, IsSchedule, stages_of}
@@ -23,14 +22,14 @@ use Rattle.overlap.specs.Emission.{out_of, emitted}
 use Rattle.overlap.specs.Sequence.{state_before, given_by, write_of_instance, sequence_before}
 use Rattle.overlap.specs.Overlap.{IsRun, IsLastStore, OverlapIsSequence}
 use Rattle.overlap.proofs.Apart.{before-or_same}
-use Rattle.overlap.proofs.Cells.{HaveBlocks, cell, blocks-at}
+use Rattle.iterations.proofs.InstanceCells.{HaveBlocks, cell, blocks-at}
 use Rattle.overlap.proofs.Issued.{issued-from_sequence, sequence-from_issued}
 use Rattle.overlap.proofs.Landing.{contains-cases, last-of_all_is, none-of_all}
 use Rattle.overlap.proofs.LastStores.{holds-last}
 use Rattle.overlap.proofs.Lives.{times-more, greatest-of, contains-map, begins-by_landing, lasts-to_landing, lasts-to_end, life-at_rank, rank-one, flag-on}
 use Rattle.overlap.proofs.Loads.{lands-first, some-same}
 use Rattle.overlap.proofs.Made.{writes-are_of_values}
-use Rattle.overlap.proofs.Plain.{arrays-first, earlier-at, initial-at, slice_get-within}
+use Rattle.iterations.proofs.Instances.{arrays-first, earlier-at, initial-at, slice_get-within}
 use Rattle.overlap.proofs.Preloaded.{preloaded-is}
 use Rattle.overlap.proofs.Registers.{lives-at_landing}
 use Rattle.overlap.proofs.Turned.{physical-wrapped, physical-later}
@@ -137,15 +136,15 @@ length-cells : (issued : List Write) (a n : ℕ) (cells : List ℤ) → length (
 length-cells issued a n [] = refl
 length-cells issued a n (c ∷ cells) = ap suc (length-cells issued a (n + 1) cells)
 
-array-at : (issued : List Write) (n : ℕ) (arrays : List (List ℤ)) (k : ℕ) → k < length arrays → get_or (arrays_after issued n arrays) k [] ≡ cells_after issued (n + k) 0 (get_or arrays k [])
+array-at : (issued : List Write) (n : ℕ) (arrays : List (List ℤ)) (k : ℕ) → k < length arrays → get_or (arrays_left issued n arrays) k [] ≡ cells_after issued (n + k) 0 (get_or arrays k [])
 array-at issued n [] k h = absurd (omega arith)
 array-at issued n (cells ∷ arrays) zero h = ap (λ i. cells_after issued i 0 cells) (let e : n ≡ n + 0 = omega arith in e)
 array-at issued n (cells ∷ arrays) (suc k) h =
     array-at issued (n + 1) arrays k (omega arith) ∙ ap (λ i. cells_after issued i 0 (get_or arrays k [])) (let e : (n + 1) + k ≡ n + suc k = omega arith in e)
 
-length-arrays_after : (issued : List Write) (n : ℕ) (arrays : List (List ℤ)) → length (arrays_after issued n arrays) ≡ length arrays
-length-arrays_after issued n [] = refl
-length-arrays_after issued n (cells ∷ arrays) = ap suc (length-arrays_after issued (n + 1) arrays)
+length-arrays_left : (issued : List Write) (n : ℕ) (arrays : List (List ℤ)) → length (arrays_left issued n arrays) ≡ length arrays
+length-arrays_left issued n [] = refl
+length-arrays_left issued n (cells ∷ arrays) = ap suc (length-arrays_left issued (n + 1) arrays)
 
 blocks-end : (schedule : ScheduleData) (allotment : AllotmentData) (memory : MemoryData) → IsRun schedule allotment memory
     → HaveBlocks (length memory.arrays) (memory.trip + 128) (after_iterations schedule.problem.loop memory.trip (start memory.arrays)).arrays
@@ -155,7 +154,7 @@ blocks-end schedule allotment memory r =
     (blocks-at schedule.problem.loop memory.arrays (length memory.arrays) (memory.trip + 128) (blocks-of loop memory r.is_memory r.shape) memory.trip 0 (omega arith))
 
 arrays-end : (schedule : ScheduleData) (allotment : AllotmentData) (memory : MemoryData) → IsRun schedule allotment memory
-    → arrays_after (sequence_before schedule allotment memory (cycles schedule allotment memory.trip)) 0 memory.arrays
+    → arrays_left (sequence_before schedule allotment memory (cycles schedule allotment memory.trip)) 0 memory.arrays
     ≡ (after_iterations schedule.problem.loop memory.trip (start memory.arrays)).arrays
 arrays-end schedule allotment memory r =
     let loop = schedule.problem.loop in
@@ -165,11 +164,11 @@ arrays-end schedule allotment memory r =
     let zeroes : 0 < memory.trip + 128 = omega arith in
     let blocks : HaveBlocks (length memory.arrays) (memory.trip + 128) after
     = blocks-end schedule allotment memory r in
-    same_lists (arrays_after issued 0 memory.arrays) after (length-arrays_after issued 0 memory.arrays ∙ sym blocks.many) (λ k d h.
-    let hk : k < length memory.arrays = let e = length-arrays_after issued 0 memory.arrays in omega arith in
+    same_lists (arrays_left issued 0 memory.arrays) after (length-arrays_left issued 0 memory.arrays ∙ sym blocks.many) (λ k d h.
+    let hk : k < length memory.arrays = let e = length-arrays_left issued 0 memory.arrays in omega arith in
     let z : 0 + k ≡ k = omega arith in
-    let one : get_or (arrays_after issued 0 memory.arrays) k d ≡ cells_after issued k 0 (get_or memory.arrays k [])
-    = get_or_default (arrays_after issued 0 memory.arrays) k d [] h ∙ array-at issued 0 memory.arrays k hk ∙ ap (λ i. cells_after issued i 0 (get_or memory.arrays k [])) z in
+    let one : get_or (arrays_left issued 0 memory.arrays) k d ≡ cells_after issued k 0 (get_or memory.arrays k [])
+    = get_or_default (arrays_left issued 0 memory.arrays) k d [] h ∙ array-at issued 0 memory.arrays k hk ∙ ap (λ i. cells_after issued i 0 (get_or memory.arrays k [])) z in
     let two : get_or after k d ≡ get_or after k [] = get_or_default after k d [] (let e = blocks.many in omega arith) in
     let long : length (get_or memory.arrays k []) ≡ memory.trip + 128 = before.long k hk in
     let length_one : length (cells_after issued k 0 (get_or memory.arrays k [])) ≡ memory.trip + 128 = length-cells issued k 0 (get_or memory.arrays k []) ∙ long in
@@ -321,14 +320,14 @@ whole : ℕ → List (List ℤ) → List ℤ → MemoryData
 whole trip arrays outs = record { trip = trip; arrays = arrays; outs = outs }
 
 pub overlap-is_sequence : OverlapIsSequence
-unfolding emitted overlapped.overlapped all_writes plain end_of whole
+unfolding emitted overlapped all_writes plain end_of whole
 overlap-is_sequence schedule allotment memory r =
     let loop = schedule.problem.loop in
     let parts : Parts = emitted schedule allotment in
     let final : ℕ = cycles schedule allotment memory.trip in
     let issued : List Write = sequence_before schedule allotment memory final in
     let end : RunState = after_iterations loop memory.trip (start memory.arrays) in
-    ap (λ w. whole memory.trip (arrays_after w 0 memory.arrays) (map (out_after parts memory.trip w) parts.outs)) (writes-are_of_values schedule allotment memory r final)
+    ap (λ w. whole memory.trip (arrays_left w 0 memory.arrays) (map (out_after parts memory.trip w) parts.outs)) (writes-are_of_values schedule allotment memory r final)
     ∙ ap (λ a. whole memory.trip a (map (out_after parts memory.trip issued) parts.outs)) (arrays-end schedule allotment memory r)
     ∙ ap (whole memory.trip end.arrays) (map-map (out_after parts memory.trip issued) (out_of schedule allotment) loop.outs
     ∙ map-same (λ x. out_after parts memory.trip issued (out_of schedule allotment x)) (λ x. earlier_value loop end.history x 1) loop.outs (λ x c. out-end schedule allotment memory r x c))

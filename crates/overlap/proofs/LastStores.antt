@@ -1,7 +1,7 @@
 -- Each cell holds, before each instance of the plain run, what the last store before put there.
-use Rattle.std.proofs.Common.{◌≡◌, ◌⊎◌, ℕ, suc, zero, ◌<◌, ◌≤◌, List, [], ◌∷◌, length, Option, Some, None, refl, sym, ap, ◌∙◌, subst, inl, inr, arith}
+use Rattle.std.proofs.Common.{◌≡◌, ◌⊎◌, ℕ, suc, zero, ◌<◌, ◌≤◌, length, Option, Some, None, refl, sym, ap, ◌∙◌, subst, inl, inr, arith}
 use Rattle.std.specs.Prelude.{slice_get}
-use Rattle.std.proofs.lemmas.Bool.{cases_Bool, cases_lt, true≢false, cond-true, cond-false}
+use Rattle.std.proofs.lemmas.Bool.{cases_Bool, true≢false, cond-true, cond-false}
 use Rattle.iterations.specs.declared.language.statement.Statement.{Statement}
 use Rattle.iterations.specs.Run.{MemoryData}
 use Rattle.graph.specs.Dependences.{ComesFirst}
@@ -11,8 +11,10 @@ use Rattle.ims.specs.Schedules.{ScheduleData}
 use Rattle.overlap.specs.Sequence.{state_before, write_of_instance}
 use Rattle.overlap.specs.Overlap.{IsLastStore}
 use Rattle.overlap.proofs.Landing.{target-from_same, same-self}
-use Rattle.overlap.proofs.Plain.{arrays-next, slice_get-within}
-use Rattle.overlap.proofs.Cells.{HaveBlocks, cell, put, cell-next, blocks-next}
+use Rattle.iterations.proofs.Instances.{arrays-next, slice_get-within}
+use Rattle.iterations.proofs.InstanceCells.{HaveBlocks, cell, blocks-next, there-is}
+use Rattle.iterations.proofs.LastStores.{before-cases, before-more, nothing-first, before-iteration, before-iteration_back, some-same}
+use Rattle.overlap.proofs.Cells.{put, cell-next}
 
 -- no store before writes the cell
 abbrev pub HasNoStore : ScheduleData → AllotmentData → MemoryData → ℕ → ℕ → ℕ → ℕ → Type 0
@@ -24,24 +26,6 @@ abbrev pub HoldsLast : ScheduleData → AllotmentData → MemoryData → ℕ →
 HoldsLast schedule allotment memory op j a i =
     ((w : Write) × IsLastStore schedule allotment memory op j a i w × (cell (state_before schedule.problem.loop memory.arrays op j).arrays a i ≡ w.value))
     ⊎ (HasNoStore schedule allotment memory op j a i × (cell (state_before schedule.problem.loop memory.arrays op j).arrays a i ≡ cell memory.arrays a i))
-
-before-cases : (p k op j : ℕ) → ComesFirst p k (suc op) j → ComesFirst p k op j ⊎ ((p ≡ op) × (k ≡ j))
-before-cases p k op j (inl less) = inl (inl less)
-before-cases p k op j (inr same) = elim (cases_lt p op) [
-  | inl lt ↦ inl (inr (same.0, lt))
-  | inr ge ↦ inr (let l = same.1 in omega arith, same.0)
-]
-
-before-more : (p k op j : ℕ) → ComesFirst p k op j → ComesFirst p k (suc op) j
-before-more p k op j (inl less) = inl less
-before-more p k op j (inr same) = inr (same.0, let l = same.1 in omega arith)
-
-some-same : (x y : Statement) → Some x ≡ Some y → x ≡ y
-some-same x y e = cc
-
-nothing-first : (p k : ℕ) → ComesFirst p k 0 0 → ⊥
-nothing-first p k (inl less) = omega arith
-nothing-first p k (inr same) = let l = same.1 in omega arith
 
 -- an instance that doesn't write the cell changes nothing
 skip : (schedule : ScheduleData) (allotment : AllotmentData) (memory : MemoryData) (op j a i : ℕ) (s : Statement) → slice_get schedule.problem.loop.statements op ≡ Some s
@@ -116,17 +100,6 @@ take-in schedule allotment memory op j a i s there (Some w) e same h =
           (same ∙ cond-false (same_target w.target (InCell a i)) w.value (cell (state_before schedule.problem.loop memory.arrays op j).arrays a i) unmet) h
     ]
 
-before-iteration : (p k n j : ℕ) → p < n → ComesFirst p k 0 (suc j) → ComesFirst p k n j
-before-iteration p k n j there (inl less) = elim (cases_lt k j) [
-  | inl lt ↦ inl lt
-  | inr ge ↦ inr (omega arith, there)
-]
-before-iteration p k n j there (inr same) = absurd (let l = same.1 in omega arith)
-
-before-iteration_back : (p k n j : ℕ) → ComesFirst p k n j → ComesFirst p k 0 (suc j)
-before-iteration_back p k n j (inl less) = inl (omega arith)
-before-iteration_back p k n j (inr same) = inl (let e = same.0 in omega arith)
-
 next-iteration : (schedule : ScheduleData) (allotment : AllotmentData) (memory : MemoryData) (j a i : ℕ)
     → HoldsLast schedule allotment memory (length schedule.problem.loop.statements) j a i → HoldsLast schedule allotment memory 0 (suc j) a i
 next-iteration schedule allotment memory j a i (inl last) =
@@ -156,11 +129,6 @@ next-iteration schedule allotment memory j a i (inr none) =
 abbrev Both : ScheduleData → AllotmentData → MemoryData → ℕ → ℕ → ℕ → ℕ → ℕ → ℕ → Type 0
 Both schedule allotment memory count cells op j a i =
     HaveBlocks count cells (state_before schedule.problem.loop memory.arrays op j).arrays × HoldsLast schedule allotment memory op j a i
-
-there-is : (xs : List Statement) (k : ℕ) → k < length xs → (s : Statement) × (slice_get xs k ≡ Some s)
-there-is [] k h = absurd (omega arith)
-there-is (x ∷ xs) zero h = (x, refl)
-there-is (x ∷ xs) (suc k) h = there-is xs k (omega arith)
 
 along : (schedule : ScheduleData) (allotment : AllotmentData) (memory : MemoryData) (count cells j a i : ℕ) → a < count → i < cells
     → Both schedule allotment memory count cells 0 j a i

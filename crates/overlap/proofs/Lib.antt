@@ -2,7 +2,6 @@ pub mod Landing
 pub mod Turned
 pub mod Apart
 pub mod Issued
-pub mod Plain
 pub mod Cells
 pub mod LastStores
 pub mod Lives

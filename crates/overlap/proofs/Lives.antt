@@ -16,7 +16,7 @@ use Rattle.ims.specs.Schedules.{ScheduleData, stages_of}
 use Rattle.overlap.specs.Lifetimes.{Use, distance_to, uses_from, uses_of, is_out, carried, landing_of, read_at, last_read, last_landing, first_cycle, last_cycle, lifetime_of, lifetimes_of, values_from, values_of, rank_of}
 use Rattle.overlap.proofs.Landing.{contains-cases, contains-head, contains-tail}
 use Rattle.overlap.proofs.Issued.{option-behind, option-cases}
-use Rattle.overlap.proofs.Plain.{split-there}
+use Rattle.iterations.proofs.Instances.{split-there}
 
 pub times-more : (ii m n : ℕ) → m ≤ n → ii * n ≡ ii * m + ii * (n - m)
 times-more ii m n le = ap (λ k. ii * k) (let e : n ≡ m + (n - m) = omega arith in e) ∙ mul-add ii m (n - m)

@@ -1,6 +1,6 @@
 -- A cell holds, when it is loaded, what it holds in the plain run.
-use Rattle.std.proofs.Common.{◌≡◌, ◌⊎◌, ℕ, ◌+◌, ◌<◌, ◌≤◌, Some, None, ℤ, pos, negsuc, ◌+ℤ◌, refl, sym, ap, ◌∙◌, inl, inr, arith}
-use Rattle.std.specs.Prelude.{slice_get, slice_index, ◌≤ℤ◌, neg_ℤ, nat_abs}
+use Rattle.std.proofs.Common.{◌≡◌, ◌⊎◌, ℕ, ◌+◌, ◌<◌, ◌≤◌, Some, None, ℤ, pos, ◌+ℤ◌, refl, sym, ap, ◌∙◌, inl, inr, arith}
+use Rattle.std.specs.Prelude.{slice_get, slice_index, ◌≤ℤ◌, neg_ℤ}
 use Rattle.std.specs.List.{Contains}
 use Rattle.std.proofs.lemmas.Bool.{cases_lt, cases_order}
 use Rattle.std.proofs.lemmas.Int.{ints}
@@ -10,6 +10,7 @@ use Rattle.iterations.specs.declared.language.statement.Statement.{Statement}
 use Rattle.iterations.specs.declared.language.statement.Place.{Place}
 use Rattle.iterations.specs.Loops.{LoopData, IsPlace}
 use Rattle.iterations.specs.Run.{MemoryData, cell_index}
+use Rattle.iterations.proofs.InstanceCells.{cell-one}
 use Rattle.graph.specs.Dependences.{Touches, HasOpcode, ComesFirst}
 use Rattle.graph.specs.Promises.{issue_of, InOrder}
 use Rattle.graph.proofs.Promised.{stores-in_time, loads-in_time, stores-in_order}
@@ -22,17 +23,6 @@ use Rattle.overlap.proofs.Issued.{IsIssued, issued-from_sequence, sequence-from_
 use Rattle.overlap.proofs.Landing.{last-landed_is, none-landed}
 use Rattle.overlap.proofs.LastStores.{HasNoStore}
 use Rattle.overlap.proofs.Writes.{IsStored, keeps-dependences, takes-time, into-cell}
-
--- cells of one index are one
-abs-one : (a b : ℤ) → pos 0 ≤ℤ a → pos 0 ≤ℤ b → nat_abs a ≡ nat_abs b → a ≡ b
-abs-one (pos m) (pos n) h k e = ap pos e
-abs-one (pos m) (negsuc n) h k e = absurd (omega (arith, ints))
-abs-one (negsuc m) b h k e = absurd (omega (arith, ints))
-
-pub cell-one : (a b : ℤ) → neg_ℤ (pos 64) ≤ℤ a → neg_ℤ (pos 64) ≤ℤ b → cell_index a ≡ cell_index b → a ≡ b
-cell-one a b h k e =
-    let z : (a +ℤ pos 64) ≡ (b +ℤ pos 64) = abs-one (a +ℤ pos 64) (b +ℤ pos 64) (omega (arith, ints)) (omega (arith, ints)) e in
-    omega (arith, ints)
 
 cell-parts : (a i b j : ℕ) → InCell a i ≡ InCell b j → (a ≡ b) × (i ≡ j)
 cell-parts a i b j e = (cc, cc)

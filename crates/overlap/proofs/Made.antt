@@ -10,25 +10,23 @@ use Rattle.iterations.specs.Arithmetic.{apply_to}
 use Rattle.iterations.specs.declared.language.statement.Statement.{Statement}
 use Rattle.iterations.specs.declared.language.statement.Place.{Place}
 use Rattle.iterations.specs.Loops.{HasShape}
-use Rattle.iterations.specs.Run as run
-use Rattle.iterations.specs.Run.{MemoryData, RunState, cell_index, cell_of, writes, first_of}
+use Rattle.iterations.specs.Run.{MemoryData, RunState, cell_index, cell_of, loaded, value_given, writes, first_of}
 use Rattle.graph.specs.Promises.{issue_of}
 use Rattle.kernel.specs.declared.operation.Operation.{Operation}
 use Rattle.kernel.specs.declared.parts.Parts.{Parts}
-use Rattle.kernel.specs.Overlapped as overlapped
-use Rattle.kernel.specs.Overlapped.{Target, InRegister, InCell, Write, physical, source_at, write_of, write_given, to_register, to_cell, is_issued, turn_of, writes_in, writes_before}
+use Rattle.kernel.specs.Overlapped.{Target, InRegister, InCell, Write, physical, addressed, cell_landed, load_landed, source_at, write_of, write_given, to_register, to_cell, is_issued, turn_of, writes_in, writes_before}
 use Rattle.overlap.specs.Allotments.{AllotmentData, number_of}
 use Rattle.ims.specs.Schedules.{ScheduleData, stage_of, row_of}
 use Rattle.overlap.specs.Emission.{name_of, address_of, operation_of, operations_from, emitted}
 use Rattle.overlap.specs.Sequence.{state_before, read_by, stored_by, made_by, write_by_opcode, write_of_instance, write_now, sequence_in, sequence_before}
 use Rattle.overlap.specs.Overlap.{IsRun, WritesAreOfValues}
 use Rattle.overlap.proofs.Issued.{cycle-from_row, turn-of_issue}
-use Rattle.overlap.proofs.Plain.{length-before}
+use Rattle.iterations.proofs.Instances.{length-before}
 use Rattle.overlap.proofs.Values.{name-in_turn, sources-same, load-same}
 
 -- the cell of an address is that of the place
 cell-in_turn : (schedule : ScheduleData) (allotment : AllotmentData) (q j : ℕ) (place : Place) → 0 < schedule.ii
-    → overlapped.addressed (emitted schedule allotment) (issue_of schedule.ii schedule.times q j) (address_of (stage_of schedule q) place) ≡ (pos j +ℤ place.offset)
+    → addressed (emitted schedule allotment) (issue_of schedule.ii schedule.times q j) (address_of (stage_of schedule q) place) ≡ (pos j +ℤ place.offset)
 unfolding emitted
 cell-in_turn schedule allotment q j place some =
     let t : issue_of schedule.ii schedule.times q j / schedule.ii ≡ stage_of schedule q + j = turn-of_issue schedule.ii (slice_index schedule.times q) j some in
@@ -75,7 +73,7 @@ made-same schedule allotment arrays q j s v (Some n) some registers named =
 
 cases : (o : Opcode) → (o ≡ Store) ⊎ ((o ≡ Load)
     ⊎ (((parts : Parts) (memory : MemoryData) (issued : List Write) (cycle : ℕ) (op : Operation) (operands : List ℤ) → write_given parts memory issued cycle o op operands ≡ to_register parts cycle op (apply_to o operands) op.destination)
-    × ((state : RunState) (place : Option Place) (operands : List ℤ) → run.value_given state o place operands ≡ apply_to o operands)
+    × ((state : RunState) (place : Option Place) (operands : List ℤ) → value_given state o place operands ≡ apply_to o operands)
     × ((schedule : ScheduleData) (allotment : AllotmentData) (arrays : List (List ℤ)) (q j : ℕ) (s : Statement) → write_by_opcode schedule allotment arrays q j o s ≡ made_by schedule allotment arrays q j s)
     × ((s : Statement) → HasShape o s → IsSome s.name)))
 cases Store = inl refl
@@ -84,12 +82,12 @@ cases o = inr (inr (λ parts memory issued cycle op operands. refl, λ state pla
 
 loaded-same : (schedule : ScheduleData) (allotment : AllotmentData) (memory : MemoryData) → IsRun schedule allotment memory
     → (q j : ℕ) (s : Statement) (place : Option Place) → slice_get schedule.problem.loop.statements q ≡ Some s → s.opcode ≡ Load → s.place ≡ place → j < memory.trip
-    → overlapped.loaded (emitted schedule allotment) memory (sequence_before schedule allotment memory (issue_of schedule.ii schedule.times q j)) (issue_of schedule.ii schedule.times q j) (option_map (address_of (stage_of schedule q)) place)
-    ≡ run.loaded (state_before schedule.problem.loop memory.arrays q j) place
+    → load_landed (emitted schedule allotment) memory (sequence_before schedule allotment memory (issue_of schedule.ii schedule.times q j)) (issue_of schedule.ii schedule.times q j) (option_map (address_of (stage_of schedule q)) place)
+    ≡ loaded (state_before schedule.problem.loop memory.arrays q j) place
 loaded-same schedule allotment memory r q j s None there load is within = refl
 loaded-same schedule allotment memory r q j s (Some place) there load is within =
     let cycle : ℕ = issue_of schedule.ii schedule.times q j in
-    ap (λ c. overlapped.cell_at memory (sequence_before schedule allotment memory cycle) place.array c cycle) (cell-in_turn schedule allotment q j place r.belong.scheduled.ii_some)
+    ap (λ c. cell_landed memory (sequence_before schedule allotment memory cycle) place.array c cycle) (cell-in_turn schedule allotment q j place r.belong.scheduled.ii_some)
     ∙ load-same schedule allotment memory r q j s place there load is within
     ∙ ap (λ n. cell_of (state_before schedule.problem.loop memory.arrays q j).arrays place.array (pos n +ℤ place.offset)) (sym (length-before schedule.problem.loop memory.arrays q j))
 
@@ -127,9 +125,9 @@ write-same schedule allotment memory r q j s there within =
       | inr more ↦ elim more [
         | inl load ↦
             ap (λ o. write_given parts memory issued cycle o op reads) load
-            ∙ made-same schedule allotment memory.arrays q j s (overlapped.loaded parts memory issued cycle op.address) s.name some registers (load-shape s (subst (λ o. HasShape o s) load shape))
+            ∙ made-same schedule allotment memory.arrays q j s (load_landed parts memory issued cycle op.address) s.name some registers (load-shape s (subst (λ o. HasShape o s) load shape))
             ∙ ap made (loaded-same schedule allotment memory r q j s s.place there load refl within)
-            ∙ ap made (sym (ap (λ o. run.value_given (state_before loop memory.arrays q j) o s.place reads) load))
+            ∙ ap made (sym (ap (λ o. value_given (state_before loop memory.arrays q j) o s.place reads) load))
             ∙ sym (ap (λ o. write_by_opcode schedule allotment memory.arrays q j o s) load)
         | inr other ↦
             other.0 parts memory issued cycle op reads

@@ -20,7 +20,7 @@ use Rattle.overlap.proofs.Issued.{cycle-from_row, row-of_issue, turn-of_issue}
 use Rattle.overlap.proofs.LastStores.{holds-last}
 use Rattle.overlap.proofs.Lives.{carried-far}
 use Rattle.overlap.proofs.Loads.{load-finds, load-opens, some-same}
-use Rattle.overlap.proofs.Plain.{slice_get-within}
+use Rattle.iterations.proofs.Instances.{slice_get-within}
 use Rattle.overlap.proofs.Preloaded.{preloaded-is}
 use Rattle.overlap.proofs.Registers.{register-lands, register-opens}
 use Rattle.overlap.proofs.Values.{name-in_turn, load-same, blocks-of, cell-index_below}

@@ -11,13 +11,11 @@ use Rattle.iterations.specs.declared.language.statement.Operand.{Operand}
 use Rattle.iterations.specs.declared.language.statement.Operand.TheVariants as operand
 use Rattle.iterations.specs.declared.language.statement.Place.{Place}
 use Rattle.iterations.specs.Loops.{LoopData, MayRead}
-use Rattle.iterations.specs.Run as run
-use Rattle.iterations.specs.Run.{MemoryData, IsMemory, RunState, read_operand, initial_of, cell_index, cell_of, writes, first_of}
+use Rattle.iterations.specs.Run.{HasShapeOf, MemoryData, IsMemory, RunState, read_operand, initial_of, cell_index, cell_of, writes, first_of}
 use Rattle.graph.specs.Dependences.{Uses}
 use Rattle.graph.specs.Promises.{issue_of}
 use Rattle.kernel.specs.declared.operation.Source.{Source}
-use Rattle.kernel.specs.Overlapped as overlapped
-use Rattle.kernel.specs.Overlapped.{Target, InRegister, InCell, Write, physical, last_landed, value_or, preloaded, source_at, addressed, write_of, write_given, to_register, to_cell, is_issued, turn_of, writes_in, writes_before}
+use Rattle.kernel.specs.Overlapped.{Target, InRegister, InCell, Write, physical, last_landed, value_or, preloaded, cell_landed, register_at, source_at, addressed, write_of, write_given, to_register, to_cell, is_issued, turn_of, writes_in, writes_before}
 use Rattle.overlap.specs.Allotments.{AllotmentData, number_of}
 use Rattle.ims.specs.Schedules.{ScheduleData, stage_of}
 use Rattle.overlap.specs.Emission.{name_of, source_of, emitted}
@@ -26,8 +24,8 @@ use Rattle.overlap.specs.Overlap.{IsRun}
 use Rattle.overlap.proofs.Landing.{contains-head, contains-tail}
 use Rattle.overlap.proofs.Issued.{turn-of_issue}
 use Rattle.overlap.proofs.Turned.{physical-wrapped, physical-later}
-use Rattle.overlap.proofs.Plain.{read-value, read-initial, slice_get-within}
-use Rattle.overlap.proofs.Cells.{HaveBlocks}
+use Rattle.iterations.proofs.Instances.{read-value, read-initial, slice_get-within}
+use Rattle.iterations.proofs.InstanceCells.{HaveBlocks}
 use Rattle.overlap.proofs.LastStores.{holds-last}
 use Rattle.overlap.proofs.Lives.{carried-far}
 use Rattle.overlap.proofs.Writes.{makes-value}
@@ -95,8 +93,8 @@ source-same schedule allotment memory run q j s there within (operand.Value x d)
     let loop = schedule.problem.loop in
     let cycle : ℕ = issue_of schedule.ii schedule.times q j in
     let t : cycle / schedule.ii ≡ stage_of schedule q + j = turn-of_issue schedule.ii (slice_index schedule.times q) j run.belong.scheduled.ii_some in
-    ap (λ k. overlapped.register_at (emitted schedule allotment) (sequence_before schedule allotment memory cycle) (physical allotment.registers (name_of schedule allotment x d (stage_of schedule q)) (pos k)) cycle) t
-    ∙ ap (λ r. overlapped.register_at (emitted schedule allotment) (sequence_before schedule allotment memory cycle) r cycle)
+    ap (λ k. register_at (emitted schedule allotment) (sequence_before schedule allotment memory cycle) (physical allotment.registers (name_of schedule allotment x d (stage_of schedule q)) (pos k)) cycle) t
+    ∙ ap (λ r. register_at (emitted schedule allotment) (sequence_before schedule allotment memory cycle) r cycle)
     (name-in_turn allotment.registers (number_of loop allotment x) d (stage_of schedule q) j run.belong.allotted.some)
     ∙ value-same schedule allotment memory run q j s there within x d c may
 
@@ -123,7 +121,7 @@ sources-same schedule allotment memory run q j s there within =
 
 -- cells
 
-pub blocks-of : (loop : LoopData) (memory : MemoryData) → IsMemory memory → run.HasShapeOf loop memory → HaveBlocks (length memory.arrays) (memory.trip + 128) memory.arrays
+pub blocks-of : (loop : LoopData) (memory : MemoryData) → IsMemory memory → HasShapeOf loop memory → HaveBlocks (length memory.arrays) (memory.trip + 128) memory.arrays
 blocks-of loop memory m shape = record { many = refl; long = λ a lt. m.cells a [] lt }
 
 nat-below : (z : ℤ) (n : ℕ) → pos 0 ≤ℤ z → z <ℤ pos n → nat_abs z < n
@@ -136,7 +134,7 @@ cell-index_below c n low high = nat-below (c +ℤ pos 64) n low high
 -- a load reads the cell of the plain run
 pub load-same : (schedule : ScheduleData) (allotment : AllotmentData) (memory : MemoryData) → IsRun schedule allotment memory
     → (q j : ℕ) (s : Statement) (place : Place) → slice_get schedule.problem.loop.statements q ≡ Some s → s.opcode ≡ Load → s.place ≡ Some place → j < memory.trip
-    → overlapped.cell_at memory (sequence_before schedule allotment memory (issue_of schedule.ii schedule.times q j)) place.array (pos j +ℤ place.offset) (issue_of schedule.ii schedule.times q j)
+    → cell_landed memory (sequence_before schedule allotment memory (issue_of schedule.ii schedule.times q j)) place.array (pos j +ℤ place.offset) (issue_of schedule.ii schedule.times q j)
     ≡ cell_of (state_before schedule.problem.loop memory.arrays q j).arrays place.array (pos j +ℤ place.offset)
 load-same schedule allotment memory run q j s place there load is_place within =
     let loop = schedule.problem.loop in

@@ -14,15 +14,14 @@ use Rattle.iterations.specs.declared.language.statement.Place.{Place}
 use Rattle.iterations.specs.declared.language.statement.Operand.{Operand}
 use Rattle.iterations.specs.declared.language.statement.Operand.TheVariants as operand
 use Rattle.iterations.specs.declared.language.lists.Array.{Array}
-use Rattle.iterations.specs.Loops as loops
-use Rattle.iterations.specs.Loops.{LoopData, MayRead, IsStatement, GivesValue, HasInitial}
+use Rattle.iterations.specs.Loops.{HasShape, LoopData, MayRead, IsStatement, GivesValue, HasInitial}
 use Rattle.iterations.specs.Run.{initial_of}
 use Rattle.graph.specs.Units.{greatest_of}
 use Rattle.kernel.specs.declared.operation.Operation.{Operation}
 use Rattle.kernel.specs.declared.operation.Address.{Address}
 use Rattle.kernel.specs.declared.parts.Preload.{Preload}
 use Rattle.kernel.specs.declared.parts.Out.{Out}
-use Rattle.kernel.specs.Kernels as kernels
+use Rattle.kernel.specs.Kernels.{HasOperationShape}
 use Rattle.kernel.specs.Check.{SourceIsThere, RegistersAreThere, ParameterIsThere, IsShaped, AddressIsThere, IsPlaced}
 use Rattle.overlap.specs.Allotments.{AllotmentData, number_of}
 use Rattle.overlap.specs.Lifetimes.{carried, values_from, values_of}
@@ -31,7 +30,7 @@ use Rattle.overlap.specs.Emission.{name_of, source_of, address_of, operation_of,
 use Rattle.overlap.specs.Overlap.{Belong, KernelsAreWellFormed}
 use Rattle.overlap.proofs.Different.{pairs-cons, pairs-nil, pairs-head, pairs-tail, pairs-flat, different-few}
 use Rattle.overlap.proofs.Lives.{greatest-of, greatest-reached, contains-map, contains-map_back}
-use Rattle.overlap.proofs.Plain.{slice_get-within}
+use Rattle.iterations.proofs.Instances.{slice_get-within}
 use Rattle.overlap.proofs.Preloaded.{preload-back, preloads-one, value-back, number-back}
 
 -- each operation is of a statement
@@ -83,7 +82,7 @@ none-map : {X Y : Type 0} (f : X → Y) (o : Option X) → is_some o ≡ false �
 none-map f None e = refl
 none-map f (Some x) e = e
 
-shape-kept : (opcode : Opcode) (schedule : ScheduleData) (allotment : AllotmentData) (q : ℕ) (s : Statement) → loops.HasShape opcode s → kernels.HasShape opcode (operation_of schedule allotment q s)
+shape-kept : (opcode : Opcode) (schedule : ScheduleData) (allotment : AllotmentData) (q : ℕ) (s : Statement) → HasShape opcode s → HasOperationShape opcode (operation_of schedule allotment q s)
 shape-kept Load schedule allotment q s h = (
   some-map (λ _. name_of schedule allotment q 0 (stage_of schedule q)) s.name h.0,
   some-map (address_of (stage_of schedule q)) s.place h.1,

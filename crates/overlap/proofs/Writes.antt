@@ -15,7 +15,7 @@ use Rattle.kernel.specs.Overlapped.{Target, InRegister, InCell, Write, physical}
 use Rattle.overlap.specs.Allotments.{AllotmentData, number_of}
 use Rattle.ims.specs.Schedules.{ScheduleData, IsSchedule}
 use Rattle.overlap.specs.Sequence.{read_by, given_by, stored_by, made_by, write_by_opcode, write_of_instance}
-use Rattle.overlap.proofs.Plain.{slice_get-within}
+use Rattle.iterations.proofs.Instances.{slice_get-within}
 
 -- a schedule keeps the dependences of its loop
 pub keeps-dependences : (schedule : ScheduleData) → IsSchedule schedule → KeepsDependences schedule.problem.loop schedule.problem.graph.latencies schedule.ii schedule.times

@@ -5,8 +5,7 @@ use Rattle.iterations.specs.declared.language.statement.Operand.TheVariants.{Val
 use Rattle.iterations.specs.declared.language.statement.Place.{Place}
 use Rattle.iterations.specs.declared.language.statement.Statement.{Statement}
 use Rattle.iterations.specs.Loops.{LoopData}
-use Rattle.iterations.specs.Run as run
-use Rattle.iterations.specs.Run.{MemoryData, IsMemory, cell_index, cell_of, initial_of, plain}
+use Rattle.iterations.specs.Run.{HasShapeOf, MemoryData, IsMemory, cell_index, cell_of, initial_of, plain}
 use Rattle.graph.specs.Dependences.{Uses, ComesFirst}
 use Rattle.graph.specs.Promises.{issue_of}
 use Rattle.kernel.specs.declared.operation.Operation.{Operation}
@@ -28,7 +27,7 @@ pub record Belong (schedule : ScheduleData) (allotment : AllotmentData) : Type 0
 pub record IsRun (schedule : ScheduleData) (allotment : AllotmentData) (memory : MemoryData) : Type 0 where
   pub belong : Belong schedule allotment
   pub is_memory : IsMemory memory
-  pub shape : run.HasShapeOf schedule.problem.loop memory
+  pub shape : HasShapeOf schedule.problem.loop memory
 
 -- the parts are well formed
 abbrev pub KernelsAreWellFormed : Type 0
@@ -114,4 +113,4 @@ OverlapIsSequence = (schedule : ScheduleData) (allotment : AllotmentData) (memor
 
 -- a kernel leaves of each memory of the loop's shape what the loop leaves of it
 abbrev pub RunsAsLoop : Parts → LoopData → Type 0
-RunsAsLoop parts loop = (memory : MemoryData) → IsMemory memory → run.HasShapeOf loop memory → overlapped parts memory ≡ plain loop memory
+RunsAsLoop parts loop = (memory : MemoryData) → IsMemory memory → HasShapeOf loop memory → overlapped parts memory ≡ plain loop memory

@@ -1,29 +1,17 @@
--- The plain run of a loop by the instances of its statements, and the writes that the instances of a scheduled loop make of the
--- values of the plain run.
-use Rattle.std.specs.Prelude.{ℕ, zero, suc, ℤ, pos, ◌+◌, ◌-◌, ◌/◌, ◌%◌, ◌+ℤ◌, ◌&&◌, ◌==◌, nat_le, nat_lt, if◌then◌else◌, List, [], ◌∷◌, ◌++◌, map, take, Option, Some, None, slice_index}
+-- The writes that the instances of a scheduled loop make of the values of the plain run.
+use Rattle.std.specs.Prelude.{ℕ, zero, suc, ℤ, pos, ◌+◌, ◌-◌, ◌/◌, ◌%◌, ◌+ℤ◌, ◌&&◌, ◌==◌, nat_le, nat_lt, if◌then◌else◌, List, [], ◌∷◌, ◌++◌, Option, Some, None, slice_index}
 use Rattle.std.specs.List.{cons_option}
 use Rattle.machine.specs.declared.opcode.Opcode.{Opcode}
 use Rattle.machine.specs.declared.opcode.Opcode.TheVariants.{Store}
 use Rattle.iterations.specs.declared.language.statement.Place.{Place}
 use Rattle.iterations.specs.declared.language.statement.Statement.{Statement}
-use Rattle.iterations.specs.Loops.{LoopData}
-use Rattle.iterations.specs.Run.{MemoryData, RunState, start, after_iterations, after_statements, read_operand, value_given, writes, first_of, cell_index}
+pub use Rattle.iterations.specs.Instances.{read_by, given_by}
+unfoldable pub use Rattle.iterations.specs.Instances.{state_before}
+use Rattle.iterations.specs.Run.{MemoryData, writes, first_of, cell_index}
 use Rattle.graph.specs.Promises.{issue_of}
 use Rattle.kernel.specs.Overlapped.{Write, InRegister, InCell, physical}
 use Rattle.overlap.specs.Allotments.{AllotmentData, number_of}
 use Rattle.ims.specs.Schedules.{ScheduleData, stage_of, row_of}
-
--- the plain run before the instance of a statement in an iteration
-unfoldable pub state_before : LoopData → List (List ℤ) → ℕ → ℕ → RunState
-state_before loop arrays op iteration = after_statements loop (after_iterations loop iteration (start arrays)) (take op loop.statements)
-
--- what the instance reads
-abbrev pub read_by : LoopData → List (List ℤ) → ℕ → ℕ → Statement → List ℤ
-read_by loop arrays op iteration s = map (read_operand loop (state_before loop arrays op iteration)) s.operands
-
--- the value that it gives
-abbrev pub given_by : LoopData → List (List ℤ) → ℕ → ℕ → Statement → ℤ
-given_by loop arrays op iteration s = value_given (state_before loop arrays op iteration) s.opcode s.place (read_by loop arrays op iteration s)
 
 -- the write of an instance
 

@@ -18,6 +18,7 @@ use std::env;
 use std::io::ErrorKind;
 use std::process::ExitCode;
 use std::rt::{Env, Files};
+use std::thread::Threads;
 
 fn main(rt: HostRuntime) -> ExitCode {
     let ending = run(&rt);
@@ -27,7 +28,7 @@ fn main(rt: HostRuntime) -> ExitCode {
 }
 
 /// Reads the command line and does what it asks for.
-fn run<R: AllocGlobal + Env + Files + Print>(rt: &R) -> Result<Status, Usage>
+fn run<R: AllocGlobal + Env + Files + Print + Threads + Sync>(rt: &R) -> Result<Status, Usage>
     ensures { IfErr result IsNoRequest }
 {
     let given = words(rt)?;
@@ -50,7 +51,10 @@ fn words<R: AllocGlobal + Env>(rt: &R) -> Result<Vec<String>, Usage>
 }
 
 /// Does what these words ask for. Help and the version are shown on the standard output.
-fn answer<R: AllocGlobal + Files + Print>(rt: &R, words: &[&str]) -> Result<Status, Usage>
+fn answer<R: AllocGlobal + Files + Print + Threads + Sync>(
+    rt: &R,
+    words: &[&str],
+) -> Result<Status, Usage>
     ensures shown { IfErr result IsNoRequest }
     ensures heeded { let texts = map (λ w. w.now) words.entry.now in
         IsHeeded result (fault_of program_line texts) (subcommand_of program_line texts) }
@@ -63,10 +67,17 @@ fn answer<R: AllocGlobal + Files + Print>(rt: &R, words: &[&str]) -> Result<Stat
 }
 
 /// Does the work of a command over its files and the standard output.
-fn work<R: AllocGlobal + Files + Print>(rt: &R, command: &Command) -> Status {
+fn work<R: AllocGlobal + Files + Print + Threads + Sync>(rt: &R, command: &Command) -> Status {
     let (mut machine, mut loops) = files(rt, command);
     let mut output = StandardOutput::new(rt);
-    engine(rt.alloc(), command, &mut machine, &mut loops, &mut output)
+    engine(
+        rt,
+        rt.alloc(),
+        command,
+        &mut machine,
+        &mut loops,
+        &mut output,
+    )
 }
 
 /// The file of a command's machine and that of its loops. Nothing is opened yet: a file is opened where

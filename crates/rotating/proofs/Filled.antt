@@ -1,11 +1,16 @@
 -- Numbers that are written one after another are the least ones.
-use Rattle.std.proofs.Common.{◌≡◌, ℕ, suc, zero, ◌+◌, ◌<◌, ◌≤◌, List, [], ◌∷◌, ◌++◌, length, get_or, set, take, Some, refl, sym, ap, ◌∙◌, subst, inl, inr, arith, ℤ}
+use Rattle.std.proofs.Common.{◌≡◌, ℕ, suc, zero, ◌+◌, ◌<◌, ◌≤◌, List, [], ◌∷◌, ◌++◌, length, get_or, set, take, replicate, Some, refl, sym, ap, ◌∙◌, subst, inl, inr, arith, ℤ}
+use Rattle.std.specs.List.{All}
 use Rattle.std.specs.Prelude.{slice_get, slice_index}
 use Rattle.std.proofs.lemmas.Bool.{cases_eq}
-use Rattle.std.proofs.lemmas.List.{take-set-le, length-take, get_or-set_other, get_or-set_same}
+use Rattle.std.proofs.lemmas.List.{take-set-le, length-take, length-set, get_or-set_other, get_or-set_same}
 use Rattle.kernel.specs.Overlapped.{physical}
 use Rattle.overlap.specs.declared.lifetime.Lifetime.{Lifetime}
 use Rattle.overlap.specs.Allotments.{IsLawful, IsLeast, AreLeast, HaveNone}
+use Rattle.rotating.specs.Residues.{IsSpan}
+use Rattle.rotating.specs.Turns.{IsSmall, AreNumbered, numbered_of}
+use Rattle.rotating.specs.declared.turns.Numbered.{Numbered}
+use Rattle.rotating.proofs.Marked.{at-taken, one-there}
 use Rattle.overlap.proofs.Least.{there-is, take-more, place-within, take-life, taken-at, take-twice, index-taken, empty-lawful}
 
 -- the numbers of so many values are least
@@ -66,7 +71,7 @@ below-more ii registers lives numbers k c life lt there least one n x below h =
           subst (λ v. IsLeast ii registers (take n lives) (take n numbers) x v) (sym z) (least n x (omega arith) h)
     ])
 
-index-taken-or : (xs : List ℕ) (n k d : ℕ) → k < n → get_or (take n xs) k d ≡ get_or xs k d
+index-taken-or : {X : Type 0} (xs : List X) (n k : ℕ) (d : X) → k < n → get_or (take n xs) k d ≡ get_or xs k d
 index-taken-or [] zero k d lt = refl
 index-taken-or [] (suc n) k d lt = refl
 index-taken-or (x ∷ xs) zero k d lt = absurd (omega arith)
@@ -121,3 +126,70 @@ take-front [] ys zero e = refl
 take-front [] ys (suc n) e = absurd (omega arith)
 take-front (x ∷ xs) ys zero e = absurd (omega arith)
 take-front (x ∷ xs) ys (suc n) e = ap (λ zs. x ∷ zs) (take-front xs ys n (omega arith))
+
+-- the lifetimes that have numbers
+
+pub spans-below : (lives : List Lifetime) (k : ℕ) → All IsSpan lives → All IsSpan (take k lives)
+spans-below lives k spans = λ j d l.
+    let n : j < k = omega (arith, length-take k lives) in
+    let m : j < length lives = omega (arith, length-take k lives) in
+    subst IsSpan (sym (index-taken-or lives k j d n)) (spans j d m)
+
+abbrev pub NumberedBelow : ℕ → List Lifetime → List ℕ → List Numbered → ℕ → Type 0
+NumberedBelow ii lives numbers ones k = (n : ℕ) (life : Lifetime) → n < k → slice_get lives n ≡ Some life → slice_get ones n ≡ Some (numbered_of ii life (slice_index numbers n))
+
+pub numbered-below : (ii : ℕ) (lives : List Lifetime) (numbers : List ℕ) (ones : List Numbered) (k : ℕ) → k ≤ length lives → k ≤ length ones
+    → NumberedBelow ii lives numbers ones k → AreNumbered ii (take k lives) (take k numbers) (take k ones)
+numbered-below ii lives numbers ones k le few h = (
+  omega (arith, length-take k ones, length-take k lives),
+  λ j life e.
+      let t = taken-at lives k j life e in
+      subst (λ n. slice_get (take k ones) j ≡ Some (numbered_of ii life n)) (sym (index-taken numbers k j t.1))
+      (at-taken ones k j (numbered_of ii life (slice_index numbers j)) (h j life t.1 t.0) t.1),
+)
+
+pub numbered-more : (ii : ℕ) (lives : List Lifetime) (numbers : List ℕ) (ones : List Numbered) (k c : ℕ) (life : Lifetime) (one : Numbered) → k < length numbers → k < length ones
+    → slice_get lives k ≡ Some life → one ≡ numbered_of ii life c → NumberedBelow ii lives numbers ones k → NumberedBelow ii lives (set numbers k c) (set ones k one) (k + 1)
+numbered-more ii lives numbers ones k c life one lt few there is h n x below e = elim (cases_eq n k) [
+  | inl same ↦
+      let le : Some life ≡ Some x = sym there ∙ ap (slice_get lives) (sym same) ∙ e in
+      let y : life ≡ x = cc in
+      let z : slice_index (set numbers k c) n ≡ c = ap (slice_index (set numbers k c)) same ∙ get_or-set_same numbers k c 0 lt in
+      let long : n < length (set ones k one) = omega (arith, length-set ones k one) in
+      one-there (set ones k one) n one long
+      ∙ ap (λ m. Some (get_or (set ones k one) m one)) same
+      ∙ ap (λ (v : Numbered). Some v) (get_or-set_same ones k one one few ∙ is)
+      ∙ ap (λ (l : Lifetime). Some (numbered_of ii l c)) y
+      ∙ ap (λ m. Some (numbered_of ii x m)) (sym z)
+  | inr apart ↦
+      let z : slice_index (set numbers k c) n ≡ slice_index numbers n = get_or-set_other numbers k n c 0 apart in
+      let before : slice_get ones n ≡ Some (numbered_of ii x (slice_index numbers n)) = h n x (omega arith) e in
+      let within : n < length ones = place-within ones (numbered_of ii x (slice_index numbers n)) n before in
+      let long : n < length (set ones k one) = omega (arith, length-set ones k one) in
+      one-there (set ones k one) n one long
+      ∙ ap (λ (v : Numbered). Some v) (get_or-set_other ones k n one one apart)
+      ∙ sym (one-there ones n one within)
+      ∙ before
+      ∙ ap (λ m. Some (numbered_of ii x m)) (sym z)
+]
+
+pub small-more : (ones : List Numbered) (k : ℕ) (one : Numbered) → All IsSmall ones → IsSmall one → All IsSmall (set ones k one)
+small-more ones k one all small = λ n d l.
+    let long : n < length ones = omega (arith, length-set ones k one) in
+    elim (cases_eq n k) [
+      | inl same ↦ subst IsSmall (sym (ap (λ m. get_or (set ones k one) m d) same ∙ get_or-set_same ones k one d (omega arith))) small
+      | inr apart ↦ subst IsSmall (sym (get_or-set_other ones k n one d apart)) (all n d long)
+    ]
+
+small-at : (n : ℕ) (one : Numbered) → IsSmall one → (k : ℕ) (d : Numbered) → k < length (replicate n one) → IsSmall (get_or (replicate n one) k d)
+small-at zero one small k d l = absurd (omega arith)
+small-at (suc n) one small zero d l = small
+small-at (suc n) one small (suc k) d l = small-at n one small k d (omega arith)
+
+pub small-all : (n : ℕ) (one : Numbered) → IsSmall one → All IsSmall (replicate n one)
+small-all n one small = small-at n one small
+
+pub all-zero : (n c : ℕ) → slice_index (replicate n zero) c ≡ zero
+all-zero zero c = refl
+all-zero (suc n) zero = refl
+all-zero (suc n) (suc c) = all-zero n c

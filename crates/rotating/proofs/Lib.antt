@@ -1,7 +1,8 @@
 pub mod Shifts
 pub mod More
-pub mod Marking
+pub mod Meeting
 pub mod Marked
+pub mod Marking
 pub mod Filled
 pub mod Spans
 pub mod Greatest

@@ -1,79 +1,20 @@
--- The registers that are marked are those that are forbidden.
-use Rattle.std.proofs.Common.{◌≡◌, ℕ, suc, zero, ◌+◌, ◌-◌, ◌*◌, ◌<◌, ◌≤◌, ◌||◌, Bool, true, false, ltb, List, [], ◌∷◌, ◌++◌, length, get_or, take, replicate, Option, Some, None, ℤ, pos, ◌+ℤ◌, ◌-ℤ◌, refl, sym, ap, ◌∙◌, subst, inl, inr, arith}
-use Rattle.std.specs.Prelude.{◌≤ℤ◌, ◌<ℤ◌, ◌↔◌, slice_get, slice_index, slice_index_or, MatchOption}
-use Rattle.std.proofs.lemmas.Bool.{cases_lt, cases_eq, lt-ltb, le-ltb, true≢false}
-use Rattle.std.proofs.lemmas.Int.{ints}
-use Rattle.std.proofs.Math.Nat.{mod-eq_of_lt}
+-- Registers that are taken, those that are free, and lawful numbers.
+use Rattle.std.proofs.Common.{◌≡◌, ◌↔◌, ℕ, suc, zero, ◌+◌, ◌<◌, ◌≤◌, List, [], ◌∷◌, ◌++◌, length, get_or, take, Option, Some, None, refl, sym, ap, ◌∙◌, subst, inl, inr, arith}
+use Rattle.std.specs.Prelude.{slice_get, slice_index, MatchOption}
+use Rattle.std.specs.List.{All}
+use Rattle.std.proofs.lemmas.Bool.{cases_eq}
 use Rattle.overlap.specs.declared.lifetime.Lifetime.{Lifetime}
 use Rattle.overlap.specs.Allotments.{IsLawful, IsLeast}
-use Rattle.rotating.specs.Residues.{least_shift, greatest_shift, distance_up, first_forbidden, above, Forbids, FitsItself, IsFree}
-use Rattle.rotating.proofs.Shifts.{round, round-more, round-shift, round-pos, round-below, forbids-between}
-use Rattle.overlap.proofs.Least.{taken-at}
-use Rattle.rotating.proofs.Marking.{above-at, above-past}
+use Rattle.overlap.proofs.Least.{place-within, taken-at, there-is}
+use Rattle.rotating.specs.Residues.{Forbids, FitsItself, IsFree, IsSpan}
+use Rattle.rotating.specs.Turns.{numbered_of, sought_of, least_turn, greatest_turn, IsAmong, IsTaken, AreNumbered}
+use Rattle.rotating.specs.declared.turns.Numbered.{Numbered}
 use Rattle.rotating.proofs.More.{lawful-more}
-
--- how far a register is above the first forbidden one
-distance-above : (registers k : ℕ) (z : ℤ) → 0 < registers → k < registers → round registers (pos k -ℤ z) ≡ above registers (round registers z) k
-distance-above registers k z some lt =
-    let s : ℕ = round registers z in
-    let below : s < registers = round-below registers z some in
-    let same : round registers (pos s) ≡ s = round-pos registers s some ∙ mod-eq_of_lt below in
-    let t : ℤ = (pos k -ℤ pos s) -ℤ z in
-    let a : (z +ℤ t) ≡ (pos k -ℤ pos s) = omega (arith, ints) in
-    let b : (pos s +ℤ t) ≡ (pos k -ℤ z) = omega (arith, ints) in
-    let moved : round registers (pos k -ℤ z) ≡ round registers (pos k -ℤ pos s)
-    = ap (round registers) (sym b) ∙ round-shift registers (pos s) z t some same ∙ ap (round registers) a in
-    moved ∙ elim (cases_lt k s) [
-      | inl past ↦
-          let one : 1 * registers ≡ registers = omega arith in
-          let e : ((pos k -ℤ pos s) +ℤ pos (1 * registers)) ≡ pos (k + registers - s) = omega (arith, ints) in
-          sym (round-more registers (pos k -ℤ pos s) 1 some) ∙ ap (round registers) e ∙ round-pos registers (k + registers - s) some
-          ∙ mod-eq_of_lt (let l : k + registers - s < registers = omega arith in l) ∙ sym (above-past registers s k past)
-      | inr on ↦
-          let e : (pos k -ℤ pos s) ≡ pos (k - s) = omega (arith, ints) in
-          ap (round registers) e ∙ round-pos registers (k - s) some
-          ∙ mod-eq_of_lt (let l : k - s < registers = omega arith in l) ∙ sym (above-at registers s k on)
-    ]
-
-or-parts : (a b : Bool) → (a || b) ≡ false → (a ≡ false) × (b ≡ false)
-or-parts true b e = absurd (true≢false e)
-or-parts false b e = (refl, e)
-
-or-both : (a b : Bool) → a ≡ false → b ≡ false → (a || b) ≡ false
-or-both true b e f = absurd (true≢false e)
-or-both false b e f = f
-
-pub marked-forbids : (ii registers number k : ℕ) (one other : Lifetime) (low high : ℤ) (start count : ℕ) (new old : Bool) → 1 ≤ ii → 1 ≤ registers → one.first ≤ one.last → other.first ≤ other.last → k < registers
-    → low ≡ least_shift ii one other → high ≡ greatest_shift ii one other → start ≡ first_forbidden registers number low
-    → ((n : ℕ) → n < count → (low +ℤ pos n) ≤ℤ high) → ((n : ℕ) → n < registers → count ≤ n → high <ℤ (low +ℤ pos n))
-    → new ≡ (old || ltb (above registers start k) count)
-    → (new ≡ false) ↔ ((old ≡ false) × ¬ Forbids ii registers one number other k)
-marked-forbids ii registers number k one other low high start count new old some regs oh ot lt is_low is_high is_start within beyond is_new =
-    let f = forbids-between ii registers number k one other some regs oh ot in
-    let a : ℕ = above registers start k in
-    let up : ℕ = distance_up registers number (least_shift ii one other) k in
-    let e : up ≡ a
-    = ap (λ l. distance_up registers number l k) (sym is_low) ∙ distance-above registers k (pos number +ℤ low) regs lt ∙ ap (λ s. above registers s k) (sym is_start) in
-    let below : up < registers = round-below registers (pos k -ℤ (pos number +ℤ least_shift ii one other)) regs in (
-      λ off.
-          let parts = or-parts old (ltb a count) (sym is_new ∙ off) in (
-            parts.0,
-            λ forbidden.
-                let h = f.0 forbidden in
-                elim (cases_lt a count) [
-                  | inl l ↦ true≢false (sym (lt-ltb a count l) ∙ parts.1)
-                  | inr g ↦ let b = beyond a (omega arith) g in omega (arith, ints)
-                ],
-          ),
-      λ both. is_new ∙ or-both old (ltb a count) both.0 (elim (cases_lt a count) [
-        | inl l ↦ let w = within a l in absurd (both.1 (f.1 (omega (arith, ints))))
-        | inr g ↦ le-ltb a count g
-      ]),
-    )
+use Rattle.rotating.proofs.Meeting.{forbids-among}
 
 -- one value more
 
-at-taken : (xs : List Lifetime) (n k : ℕ) (x : Lifetime) → slice_get xs k ≡ Some x → k < n → slice_get (take n xs) k ≡ Some x
+pub at-taken : {X : Type 0} (xs : List X) (n k : ℕ) (x : X) → slice_get xs k ≡ Some x → k < n → slice_get (take n xs) k ≡ Some x
 at-taken xs zero k x e lt = absurd (omega arith)
 at-taken [] (suc n) k x e lt = cc
 at-taken (y ∷ xs) (suc n) zero x e lt = e
@@ -99,45 +40,54 @@ free-more ii registers lives numbers other c n one there = (
       ],
 )
 
--- what is marked when one value more has been marked
-pub marks-more : (ii registers : ℕ) (lives : List Lifetime) (numbers : List ℕ) (other : Lifetime) (c n : ℕ) (one : Lifetime) (new now old : Bool) → slice_get lives n ≡ Some one
-    → (now ≡ false) ↔ ((old ≡ false) × IsFree ii registers (take n lives) numbers other c)
-    → (new ≡ false) ↔ ((now ≡ false) × ¬ Forbids ii registers one (slice_index numbers n) other c)
-    → (new ≡ false) ↔ ((old ≡ false) × IsFree ii registers (take (n + 1) lives) numbers other c)
-marks-more ii registers lives numbers other c n one new now old there before step =
-    let more = free-more ii registers lives numbers other c n one there in (
-      λ off. let s = step.0 off in let b = before.0 s.0 in (b.0, more.1 (b.1, s.1)),
-      λ h. let m = more.0 h.1 in step.1 (before.1 (h.0, m.0), m.1),
-    )
-
-pub marks-none : (ii registers : ℕ) (lives : List Lifetime) (numbers : List ℕ) (other : Lifetime) (c : ℕ) (old : Bool)
-    → (old ≡ false) ↔ ((old ≡ false) × IsFree ii registers (take 0 lives) numbers other c)
-marks-none ii registers lives numbers other c old = (λ off. (off, λ k x h. let t = taken-at lives 0 k x h in let l = t.1 in absurd (omega arith)), λ h. h.0)
-
 -- the first free register
 
-pub one-there : (xs : List Lifetime) (k : ℕ) (d : Lifetime) → k < length xs → slice_get xs k ≡ Some (get_or xs k d)
+pub one-there : {X : Type 0} (xs : List X) (k : ℕ) (d : X) → k < length xs → slice_get xs k ≡ Some (get_or xs k d)
 one-there [] k d lt = absurd (omega arith)
 one-there (x ∷ xs) zero d lt = refl
 one-there (x ∷ xs) (suc k) d lt = one-there xs k d (omega arith)
 
-pub all-false : (n c : ℕ) → get_or (replicate n false) c false ≡ false
-all-false zero c = refl
-all-false (suc n) zero = refl
-all-false (suc n) (suc c) = all-false n c
+span-at : (xs : List Lifetime) (k : ℕ) (x : Lifetime) → slice_get xs k ≡ Some x → All IsSpan xs → IsSpan x
+span-at [] k x e h = cc
+span-at (y ∷ xs) zero x e h = let z : y ≡ x = cc in subst IsSpan z (h 0 x (omega arith))
+span-at (y ∷ xs) (suc k) x e h = span-at xs k x e (λ n d l. h (suc n) d (omega arith))
 
-pub free-found : (found : Option ℕ) (ii registers : ℕ) (lives : List Lifetime) (numbers : List ℕ) (other : Lifetime) (taken old : List Bool)
-    → ((c : ℕ) → get_or old c false ≡ false)
-    → ((c : ℕ) → c < registers → (slice_index_or taken c false ≡ false) ↔ ((slice_index_or old c false ≡ false) × IsFree ii registers lives numbers other c))
-    → MatchOption found ((c : ℕ) → c < registers → slice_index_or taken c false ≡ true)
-    (λ c. (c < registers) × (slice_index_or taken c false ≡ false) × ((d : ℕ) → d < c → slice_index_or taken d false ≡ true))
+-- a register that is taken is not free, and one that is not taken is
+free-untaken : (ii registers : ℕ) (lives : List Lifetime) (numbers : List ℕ) (ones : List Numbered) (other : Lifetime) (c : ℕ) → 1 ≤ ii → ii ≤ 16384 → 1 ≤ registers → IsSpan other → c < registers
+    → All IsSpan lives → AreNumbered ii lives numbers ones → ¬ IsTaken registers ones (sought_of ii registers other) c → IsFree ii registers lives numbers other c
+free-untaken ii registers lives numbers ones other c some few regs span lt spans placed not = λ k one e f.
+    not (
+      k,
+      numbered_of ii one (slice_index numbers k),
+      placed.1 k one e,
+      (forbids-among ii registers (slice_index numbers k) c one other some few regs (span-at lives k one e spans) span lt).0 f,
+    )
+
+taken-unfree : (ii registers : ℕ) (lives : List Lifetime) (numbers : List ℕ) (ones : List Numbered) (other : Lifetime) (c : ℕ) → 1 ≤ ii → ii ≤ 16384 → 1 ≤ registers → IsSpan other → c < registers
+    → All IsSpan lives → AreNumbered ii lives numbers ones → IsTaken registers ones (sought_of ii registers other) c → ¬ IsFree ii registers lives numbers other c
+taken-unfree ii registers lives numbers ones other c some few regs span lt spans placed taken = λ free.
+    let k : ℕ = taken.0 in
+    let is = taken.2 in
+    let within : k < length ones = place-within ones taken.1 k is in
+    let long = placed.0 in
+    let life = there-is lives k (omega arith) in
+    let p : Numbered = numbered_of ii life.0 (slice_index numbers k) in
+    let e : Some taken.1 ≡ Some p = sym is ∙ placed.1 k life.0 life.1 in
+    let same : taken.1 ≡ p = cc in
+    free k life.0 life.1 ((forbids-among ii registers (slice_index numbers k) c life.0 other some few regs (span-at lives k life.0 life.1 spans) span lt).1
+    (subst (λ (one : Numbered). IsAmong registers (least_turn one (sought_of ii registers other)) (greatest_turn one (sought_of ii registers other) + 1) c) same taken.3))
+
+pub free-found : (found : Option ℕ) (ii registers : ℕ) (lives : List Lifetime) (numbers : List ℕ) (ones : List Numbered) (other : Lifetime) → 1 ≤ ii → ii ≤ 16384 → 1 ≤ registers → IsSpan other
+    → All IsSpan lives → AreNumbered ii lives numbers ones
+    → MatchOption found ((c : ℕ) → c < registers → IsTaken registers ones (sought_of ii registers other) c)
+    (λ c. (c < registers) × (¬ IsTaken registers ones (sought_of ii registers other) c) × ((d : ℕ) → d < c → IsTaken registers ones (sought_of ii registers other) d))
     → MatchOption found ((c : ℕ) → c < registers → ¬ IsFree ii registers lives numbers other c)
     (λ c. (c < registers) × IsFree ii registers lives numbers other c × ((d : ℕ) → d < c → ¬ IsFree ii registers lives numbers other d))
-free-found None ii registers lives numbers other taken old opening marked none = λ c lt free. true≢false (sym (none c lt) ∙ (marked c lt).1 (opening c, free))
-free-found (Some c) ii registers lives numbers other taken old opening marked some = (
-  some.0,
-  ((marked c some.0).0 some.1).1,
-  λ d lt free. let l = some.0 in true≢false (sym (some.2 d lt) ∙ (marked d (omega arith)).1 (opening d, free)),
+free-found None ii registers lives numbers ones other some few regs span spans placed none = λ c lt. taken-unfree ii registers lives numbers ones other c some few regs span lt spans placed (none c lt)
+free-found (Some c) ii registers lives numbers ones other some few regs span spans placed h = (
+  h.0,
+  free-untaken ii registers lives numbers ones other c some few regs span h.0 spans placed h.1,
+  λ d lt. let l = h.0 in taken-unfree ii registers lives numbers ones other d some few regs span (omega arith) spans placed (h.2 d lt),
 )
 
 pub least-found : (found : Option ℕ) (ii registers : ℕ) (lives : List Lifetime) (numbers : List ℕ) (other : Lifetime) → 1 ≤ ii → 1 ≤ registers → other.first ≤ other.last

@@ -14,7 +14,7 @@ use Rattle.overlap.specs.Lifetimes.{Use, carried, is_out, uses_of, values_from}
 use Rattle.overlap.specs.Allotments.{AllotmentData, IsAllotment}
 use Rattle.overlap.specs.Emission.{name_of, preloads_from}
 use Rattle.overlap.proofs.Lives.{values-append, contains-map_back, greatest-reached, use-back}
-use Rattle.overlap.proofs.Plain.{take-one_more, slice_get-within}
+use Rattle.iterations.proofs.Instances.{take-one_more, slice_get-within}
 use Rattle.rotating.proofs.Greatest.{drop-at, value-yes, value-no}
 
 cond-most : (b : Bool) → (if b then 1 else 0) ≤ 1

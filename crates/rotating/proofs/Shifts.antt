@@ -48,25 +48,25 @@ down-is (negsuc a) n some =
     let f = negsuc-*ℤ-pos (a / n) n in
     (omega (arith, ints), omega (arith, ints))
 
-below-down : (q z : ℤ) (n : ℕ) → 1 ≤ n → (q *ℤ pos n) ≤ℤ z → q ≤ℤ rounded_down z n
+pub below-down : (q z : ℤ) (n : ℕ) → 1 ≤ n → (q *ℤ pos n) ≤ℤ z → q ≤ℤ rounded_down z n
 below-down q z n some le = elim (cases-int q (rounded_down z n)) [
   | inl h ↦ h
   | inr over ↦ let s = mul-step (rounded_down z n) q n over in let d = (down-is z n some).1 in absurd (omega (arith, ints))
 ]
 
-down-below : (q z : ℤ) (n : ℕ) → 1 ≤ n → q ≤ℤ rounded_down z n → (q *ℤ pos n) ≤ℤ z
+pub down-below : (q z : ℤ) (n : ℕ) → 1 ≤ n → q ≤ℤ rounded_down z n → (q *ℤ pos n) ≤ℤ z
 down-below q z n some le = elim (cases-int (rounded_down z n) q) [
   | inl h ↦ let e : q ≡ rounded_down z n = omega (arith, ints) in let d = (down-is z n some).0 in subst (λ x. (x *ℤ pos n) ≤ℤ z) (sym e) d
   | inr under ↦ let s = mul-step q (rounded_down z n) n under in let d = (down-is z n some).0 in omega (arith, ints)
 ]
 
-above-up : (q z : ℤ) (n : ℕ) → 1 ≤ n → z ≤ℤ (q *ℤ pos n) → rounded_up z n ≤ℤ q
+pub above-up : (q z : ℤ) (n : ℕ) → 1 ≤ n → z ≤ℤ (q *ℤ pos n) → rounded_up z n ≤ℤ q
 above-up q z n some le = elim (cases-int (rounded_up z n) q) [
   | inl h ↦ h
   | inr over ↦ let s = mul-step q (rounded_up z n) n over in let d = (down-is (z +ℤ (pos n -ℤ pos 1)) n some).0 in absurd (omega (arith, ints))
 ]
 
-up-above : (q z : ℤ) (n : ℕ) → 1 ≤ n → rounded_up z n ≤ℤ q → z ≤ℤ (q *ℤ pos n)
+pub up-above : (q z : ℤ) (n : ℕ) → 1 ≤ n → rounded_up z n ≤ℤ q → z ≤ℤ (q *ℤ pos n)
 up-above q z n some le =
     let d = (down-is (z +ℤ (pos n -ℤ pos 1)) n some).1 in
     elim (cases-int q (rounded_up z n)) [
@@ -142,7 +142,7 @@ round-shift registers x y t some e =
 pub round-pos : (registers m : ℕ) → 0 < registers → round registers (pos m) ≡ m % registers
 round-pos registers m some = round-is registers (pos m) 0 m some (let z : 0 * registers ≡ 0 = omega arith in omega (arith, ints))
 
-nat-from : (z : ℤ) → pos 0 ≤ℤ z → (n : ℕ) × (z ≡ pos n)
+pub nat-from : (z : ℤ) → pos 0 ≤ℤ z → (n : ℕ) × (z ≡ pos n)
 nat-from (pos n) h = (n, refl)
 nat-from (negsuc n) h = absurd (omega (arith, ints))
 

@@ -7,4 +7,5 @@ pub use Rattle.overlap.specs.Overlap
 pub mod Answers
 pub mod Naming
 pub mod Residues
+pub mod Turns
 pub mod Uses

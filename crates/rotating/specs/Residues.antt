@@ -1,7 +1,7 @@
 -- Which numbers make instances of two values meet, told by the difference of the instances' iterations. `low` and `high` are the
 -- least and the greatest difference at which the second value's instance shares a cycle with the first one's.
-use Rattle.std.specs.Prelude.{◌≡◌, ℕ, ℤ, pos, ◌-◌, ◌/◌, ◌+ℤ◌, ◌-ℤ◌, ◌≤ℤ◌, ◌+◌, ◌<◌, ◌≤◌, nat_le, if◌then◌else◌, List, [], ◌∷◌, ◌++◌, length, Some, slice_get, slice_index, unsigned_abs}
-use Rattle.std.specs.Int.{int_div_euclid, int_rem_euclid}
+use Rattle.std.specs.Prelude.{◌≡◌, ℕ, ℤ, pos, ◌-◌, ◌/◌, ◌+ℤ◌, ◌-ℤ◌, ◌≤ℤ◌, ◌<◌, ◌≤◌, List, [], ◌∷◌, ◌++◌, length, Some, slice_get, slice_index}
+use Rattle.std.specs.Int.{int_div_euclid}
 use Rattle.kernel.specs.Overlapped.{physical}
 use Rattle.overlap.specs.declared.lifetime.Lifetime.{Lifetime}
 use Rattle.overlap.specs.Allotments.{IsLawful}
@@ -69,11 +69,3 @@ LawfulMore = (ii registers : ℕ) (lives : List Lifetime) (numbers : List ℕ) (
 pub record IsSpan (life : Lifetime) : Type 0 where
   pub ordered : life.first ≤ life.last
   pub short : life.last ≤ 4294967296
-
--- the first register that a value's number forbids another one, where this is the least difference of their iterations
-abbrev pub first_forbidden : ℕ → ℕ → ℤ → ℕ
-first_forbidden registers number low = unsigned_abs (int_rem_euclid (pos number +ℤ low) (pos registers))
-
--- how far a register is above another one, around the registers
-abbrev pub above : ℕ → ℕ → ℕ → ℕ
-above registers start register = if nat_le start register then register - start else register + registers - start

@@ -7,10 +7,12 @@ ghost use Rattle.rotating.specs.Answers.{CheckAnswers};
 ghost use Rattle.rotating.specs.Residues.{IsSpan};
 
 use crate::lawful::are_lawful;
-use crate::lifetime::{fill_lifetimes, lifetimes};
+use crate::lifetime::fill_lifetimes;
 use crate::number::least_number;
+use crate::turns::Numbered;
 use ims::Schedule;
 use machine::OutOfMemory;
+use machine::limits::MAX_STATEMENTS;
 use overlap::Lifetime;
 use std::alloc::Global;
 use std::marker::Model;
@@ -68,7 +70,7 @@ impl Allotment {
         ensures exact { CheckAnswers schedule.now registers numbers.items result }
     {
         let ii = schedule.ii();
-        let mut lives = [Lifetime::default(); 128];
+        let mut lives = [Lifetime::default(); MAX_STATEMENTS];
         let count = fill_lifetimes(schedule, &mut lives);
         if are_lawful(ii, registers as usize, &lives[..count], numbers.as_slice()) {
             Ok(Allotment { registers, numbers })
@@ -85,14 +87,20 @@ fn fill_least(ii: u64, registers: usize, lives: &[Lifetime], numbers: &mut [usiz
     requires registers_some { 1 ≤ registers }
     requires registers_few { registers ≤ 256 }
     requires lives { All IsSpan lives.now }
+    requires few_lives { length lives.now ≤ 128 }
     requires each { length numbers.old ≡ length lives.now }
     ensures each { length numbers.new ≡ length lives.now }
     ensures least { result ≡ true → AreLeast ii registers lives.now numbers.new }
     ensures none { result ≡ false → HaveNone ii registers lives.now }
 {
+    let mut marks = [0; 256];
+    let mut ones = [Numbered::default(); MAX_STATEMENTS];
     for k in 0..lives.len() {
-        match least_number(ii, registers, &lives[..k], &numbers[..k], lives[k]) {
-            Some(number) => numbers[k] = number,
+        match least_number(&mut marks, k as u8 + 1, ii, registers, &ones[..k], lives[k]) {
+            Some(number) => {
+                numbers[k] = number;
+                ones[k] = Numbered::of(ii, lives[k], number);
+            }
             None => return false,
         }
     }
@@ -125,12 +133,13 @@ pub fn allot(
     ensures exact { IfOk result (λ found. MatchOption found (NoneFor schedule.now registers) (λ a. (a.registers ≡ registers) × LeastFor schedule.now a)) }
     ensures lawful { IfOk result (λ found. MatchOption found (Unit {0}) (Suits schedule.now)) }
 {
-    let lives = lifetimes(alloc, schedule)?;
-    let mut numbers = zeros(alloc, lives.len())?;
+    let mut lives = [Lifetime::default(); MAX_STATEMENTS];
+    let count = fill_lifetimes(schedule, &mut lives);
+    let mut numbers = zeros(alloc, count)?;
     if fill_least(
         schedule.ii(),
         registers as usize,
-        lives.as_slice(),
+        &lives[..count],
         numbers.as_mut_slice(),
     ) {
         Ok(Some(Allotment { registers, numbers }))

@@ -16,6 +16,7 @@ use ims::Schedule;
 use iterations::Loop;
 use kernel::{Kernel, Parts};
 use machine::OutOfMemory;
+use machine::limits::MAX_STATEMENTS;
 use std::alloc::Global;
 
 /// The kernel of well-formed parts.
@@ -41,7 +42,7 @@ fn parts_of(
     ensures scheduled { IsSchedule schedule.now }
     ensures allotted { IsAllotment allotment.now }
 {
-    let mut numbers = [0; 128];
+    let mut numbers = [0; MAX_STATEMENTS];
     fill_numbers(schedule, allotment, &mut numbers);
     Ok(Parts {
         ii: schedule.ii(),

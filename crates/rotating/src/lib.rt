@@ -7,11 +7,13 @@ mod lawful;
 mod laws;
 mod lifetime;
 mod lists;
+mod marks;
 mod naming;
 mod number;
 mod operations;
 mod preloads;
 mod shift;
+mod turns;
 mod uses;
 
 pub use allotment::{Allotment, allot};

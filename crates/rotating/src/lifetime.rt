@@ -8,6 +8,7 @@ ghost use Rattle.overlap.specs.Lifetimes.{carried, first_cycle, is_out, landing_
 use crate::uses::{fill_carried, fill_lasts};
 use ims::Schedule;
 use machine::OutOfMemory;
+use machine::limits::MAX_STATEMENTS;
 use overlap::Lifetime;
 use std::alloc::Global;
 
@@ -108,7 +109,7 @@ pub(crate) fn fill_lifetimes(schedule: &Schedule, lives: &mut [Lifetime]) -> usi
 pub fn lifetimes(alloc: Global, schedule: &Schedule) -> Result<Vec<Lifetime>, OutOfMemory>
     ensures exact { IfOk result (λ v. v.items ≡ lifetimes_of schedule.now) }
 {
-    let mut lives = [Lifetime::default(); 128];
+    let mut lives = [Lifetime::default(); MAX_STATEMENTS];
     let count = fill_lifetimes(schedule, &mut lives);
     Vec::from_slice(alloc, &lives[..count])
 }

@@ -17,17 +17,6 @@ use kernel::{Preload, Preloads};
 use machine::OutOfMemory;
 use std::alloc::Global;
 
-/// The initial value of this number of a value.
-fn initial_of(innermost: &Loop, value: u8, number: u8) -> i64
-    ensures { result ≡ initial_of innermost.now value number }
-{
-    innermost
-        .inits()
-        .iter()
-        .find(|i| i.statement == value && i.number == number)
-        .map_or(0, |i| i.value)
-}
-
 /// The initial value of this number of a value, in the register of that instance.
 fn preload_of(
     schedule: &Schedule,
@@ -41,7 +30,7 @@ fn preload_of(
 {
     Preload {
         register: register_name(allotment.registers(), register, number, 0),
-        value: initial_of(schedule.prepared().innermost(), value, number),
+        value: schedule.prepared().innermost().initial(value, number),
     }
 }
 

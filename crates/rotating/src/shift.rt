@@ -1,8 +1,7 @@
 //! Which numbers make two values meet in a register.
 
-ghost use Rattle.std.specs.Prelude.{◌≡◌, ◌<◌, ◌≤◌, ◌⊎◌, ◌↔◌, ℕ, ℤ, pos, ◌≤ℤ◌, ◌<ℤ◌, ◌+ℤ◌, true, false, length, IsTrue, neg_ℤ, slice_index_or, ◌||◌, nat_lt};
-ghost use Rattle.kernel.specs.Overlapped.{physical};
-ghost use Rattle.rotating.specs.Residues.{least_shift, greatest_shift, distance_up, first_forbidden, above, Forbids, IsSpan};
+ghost use Rattle.std.specs.Prelude.{◌≡◌, ◌<◌, ◌≤◌, ◌↔◌, pos, ◌≤ℤ◌, IsTrue, neg_ℤ};
+ghost use Rattle.rotating.specs.Residues.{least_shift, greatest_shift, distance_up, Forbids};
 
 use overlap::Lifetime;
 
@@ -69,84 +68,4 @@ pub(crate) fn forbids(
 {
     let low = least_shift(ii, one, other);
     low + distance_up(registers, number, low, candidate) as i64 <= greatest_shift(ii, one, other)
-}
-
-/// Marks so many registers from one on, around the registers.
-pub(crate) fn mark(taken: &mut [bool], registers: usize, start: usize, count: usize)
-    requires long { registers ≤ length taken.old }
-    requires few { registers ≤ 256 }
-    requires start { start < registers }
-    requires count { count ≤ registers }
-    ensures long { length taken.new ≡ length taken.old }
-    ensures marked { (k : ℕ) → k < registers → slice_index_or taken.new k false ≡ (slice_index_or taken.old k false || nat_lt (above registers start k) count) }
-{
-    let mut register = start;
-    for _step in 0..count {
-        taken[register] = true;
-        register = if register + 1 < registers {
-            register + 1
-        } else {
-            0
-        };
-    }
-}
-
-/// The first register that is forbidden, where `low` is the least difference.
-fn first_forbidden(registers: usize, number: usize, low: i64) -> usize
-    requires some { 1 ≤ registers }
-    requires few { registers ≤ 256 }
-    requires number { number < registers }
-    requires low { neg_ℤ (pos 4294967296) ≤ℤ low }
-    requires high { low ≤ℤ pos 4294967296 }
-    ensures value { result ≡ first_forbidden registers number low }
-    ensures within { result < registers }
-{
-    (number as i64 + low).rem_euclid(registers as i64) as usize
-}
-
-/// How many registers from there on are forbidden.
-fn forbidden_count(registers: usize, low: i64, high: i64) -> usize
-    requires few { registers ≤ 256 }
-    requires low_low { neg_ℤ (pos 4294967296) ≤ℤ low }
-    requires low_high { low ≤ℤ pos 4294967296 }
-    requires high_low { neg_ℤ (pos 4294967296) ≤ℤ high }
-    requires high_high { high ≤ℤ pos 4294967296 }
-    ensures few { result ≤ registers }
-    ensures within { (k : ℕ) → k < result → (low +ℤ pos k) ≤ℤ high }
-    ensures beyond { (k : ℕ) → k < registers → result ≤ k → high <ℤ (low +ℤ pos k) }
-{
-    if high < low {
-        0
-    } else if high - low < registers as i64 {
-        (high - low + 1) as usize
-    } else {
-        registers
-    }
-}
-
-/// Marks the registers that one value's number forbids the other value.
-pub(crate) fn mark_forbidden(
-    taken: &mut [bool],
-    ii: u64,
-    registers: usize,
-    one: Lifetime,
-    number: usize,
-    other: Lifetime,
-)
-    requires long { registers ≤ length taken.old }
-    requires some { 1 ≤ ii }
-    requires few { ii ≤ 16384 }
-    requires registers_some { 1 ≤ registers }
-    requires registers_few { registers ≤ 256 }
-    requires one { IsSpan one }
-    requires other { IsSpan other }
-    requires number { number < registers }
-    ensures long { length taken.new ≡ length taken.old }
-    ensures marked { (k : ℕ) → k < registers → (slice_index_or taken.new k false ≡ false) ↔ ((slice_index_or taken.old k false ≡ false) × ¬ Forbids ii registers one number other k) }
-{
-    let low = least_shift(ii, one, other);
-    let high = greatest_shift(ii, one, other);
-    let start = first_forbidden(registers, number, low);
-    let count = forbidden_count(registers, low, high);
-    mark(taken, registers, start, count);
 }

@@ -1,8 +1,8 @@
 pub mod Members
 pub mod Turning
-pub mod Bound
 pub mod Working
 pub mod Open
+pub mod Sharing
 pub mod Nothing
 pub mod Left
 pub mod Filling

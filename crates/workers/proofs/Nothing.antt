@@ -1,13 +1,13 @@
 -- Nothing is left to try.
-use Rattle.std.proofs.Common.{◌≡◌, ℕ, zero, suc, ◌+◌, ◌-◌, ◌<◌, ◌≤◌, ◌⊎◌, inl, inr, ⊎_elim, true, false, if◌then◌else◌, List, [], ◌∷◌, filter, length, sym, refl, ap, ◌∙◌, subst, arith, slice_index_or}
-use Rattle.std.specs.Prelude.{◌||◌, Bool, nat_lt, Option, Some, None, All, Any, IsTrue, slice_get}
+use Rattle.std.proofs.Common.{◌≡◌, ℕ, zero, suc, ◌+◌, ◌-◌, ◌<◌, ◌≤◌, ◌⊎◌, inl, inr, ⊎_elim, true, false, if◌then◌else◌, List, [], ◌∷◌, filter, length, sym, refl, ap, ◌∙◌, subst, arith}
+use Rattle.std.specs.Prelude.{◌||◌, Bool, nat_lt, Option, Some, None, All, slice_get}
 use Rattle.std.specs.List.{flat_map, AllZip, list_any}
 use Rattle.std.proofs.lemmas.Bool.Decides.{nat_tests}
 use Rattle.board.specs.declared.view.View.{View}
 use Rattle.board.specs.declared.view.Terms.{Terms}
-use Rattle.board.specs.Rule.{Rule, total, times, times_posted, times_drawn, IsPosted, IsTrueAnswer, IsLeastPosted, least_of}
-use Rattle.board.specs.Views.{beyond, is_dry}
-use Rattle.std.proofs.lemmas.Bool.{cases_lt, ltb-true, false≢true}
+use Rattle.board.proofs.Drawing.{nothing_left}
+use Rattle.board.specs.Rule.{total, times, times_posted, times_drawn, IsPosted, IsTrueAnswer, IsLeastPosted, least_of}
+use Rattle.std.proofs.lemmas.Bool.{cases_lt, false≢true}
 use Rattle.std.proofs.Common.{add-zero, zero-add}
 use Rattle.std.proofs.lemmas.Option.{slice_get_within}
 use Rattle.std.proofs.Math.Numerals.{add-one}
@@ -121,33 +121,6 @@ any_in {X} p x (y ∷ xs) at is = ⊎_elim (λ (here : y ≡ x). subst (λ b. (b
     either_way true b h = refl
     either_way false b h = h
 
--- a dry view has a number past the pieces
-past_drawn : (pieces : ℕ) (xs : List ℕ) → 0 < beyond pieces xs → (n : ℕ) × (pieces ≤ n) × (0 < times n xs)
-past_drawn pieces [] h = absurd (omega arith)
-past_drawn pieces (x ∷ xs) h = ⊎_elim
-    (λ (inside : x < pieces). let r = past_drawn pieces xs (grind (arith, nat_tests)) in (r.0, r.1, let p = r.2 in omega arith))
-    (λ (past : pieces ≤ x). (x, past, grind (arith, nat_tests)))
-    (cases_lt x pieces)
-
-total_of_one : (f : View → ℕ) (vs : List View) (k : ℕ) (v : View) → k < length vs → slice_index_or vs k v ≡ v → f v ≤ total f vs
-total_of_one f [] k v near is = absurd (omega arith)
-total_of_one f (u ∷ vs) zero v near is = let e : f u ≡ f v = ap f is in omega arith
-total_of_one f (u ∷ vs) (suc k) v near is = let r = total_of_one f vs k v (omega arith) is in omega arith
-
--- each piece was drawn, where a view is dry
-pub dry_draws : (terms : Terms) (words : List ℕ) (views : List View) → Rule terms words views → Any (λ v. IsTrue (is_dry terms.pieces v)) views
-    → (x : ℕ) → x < terms.pieces → 0 < times_drawn views x
-dry_draws terms words views rule dry x inside =
-    let v : View = dry.1 in
-    let past = past_drawn terms.pieces v.drawn (ltb-true 0 (beyond terms.pieces v.drawn) dry.4) in
-    let n : ℕ = past.0 in
-    let some_n = total_of_one (λ (u : View). times n u.drawn) views dry.0 v dry.2 dry.3 in
-    let a = rule.drawn n in
-    let b = rule.drawn x in
-    let c = past.1 in
-    let d = past.2 in
-    grind (arith, nat_tests)
-
 -- an interval up to the choice
 abbrev IsTried : ℕ → Option ℕ → ℕ → Type 0
 IsTried l None ii = Unit {0}
@@ -220,7 +193,8 @@ module _ (wins fails : ℕ → ℕ → Type 0) (ps : List ProblemData) (pieces :
       let piece = some_piece pieces l above h.cutting near few in
       let p : ℕ = piece.0 in
       let inside : p < terms.pieces = subst (λ n. p < n) (sym h.same_pieces) piece.1.there in
-      let k = find_view (λ (v : View). times p v.drawn) pieces views reports h.worked (dry_draws terms words views h.rule h.dry p inside) in
+      let once : times_drawn views p ≡ 1 = nothing_left terms words views h.rule h.dry p inside in
+      let k = find_view (λ (v : View). times p v.drawn) pieces views reports h.worked (omega arith) in
       let r : ReportData = k.1 in
       let kept = kept_all pieces k.0 r k.2.covers (h.whole r k.3).lost p piece.1.there k.4 in
       let at = subst (λ qs. In (l, mii_at qs l + above) (flat_map (places_of r.loops pieces) k.2.covers.kept)) (h.whole r k.3).same_loops

@@ -1,19 +1,20 @@
 -- What the draws and turns of a worker come to.
 use Rattle.std.proofs.Common.{◌≡◌, ℕ, ◌+◌, ◌-◌, ◌<◌, ◌≤◌, ⊎_elim, Bool, true, false, if◌then◌else◌, List, [], ◌∷◌, ◌++◌, map, filter, length, sym, refl, ap, ◌∙◌, subst, arith}
 use Rattle.std.specs.Prelude.{Option, Some, None, IsTrue, MatchBool, nat_lt}
-use Rattle.std.specs.List.{flat_map}
+use Rattle.std.specs.List.{All, AllPairs, flat_map}
 use Rattle.std.proofs.lemmas.Bool.{MatchBool-at_false}
 use Rattle.std.proofs.lemmas.Bool.Decides.{nat_tests}
 use Rattle.board.specs.declared.view.View.{View}
 use Rattle.board.specs.Views.{is_dry, beyond, Draws, DrawsUnlessDry}
 use Rattle.board.specs.Rule.{times}
+use Rattle.board.specs.Drawing.{DrewPieces}
+use Rattle.board.proofs.Drawing.{wet, draws_count, draws_ascend, draws_end}
 use Rattle.board.proofs.Totals.{beyond-append, times-append}
 use Rattle.candidates.specs.Pieces.{PiecesData, number_of, loop_of, start_of, end_of}
 use Rattle.workers.specs.declared.entry.Entry.{Entry}
 use Rattle.workers.specs.Entries.{ReportData, In, place_of, won_of}
 use Rattle.workers.specs.Worked.{IsBeatenRightly, Covers, WorkedAs, IsUnused, places_of, drawn_pieces}
 use Rattle.workers.specs.Turns.{Gains, Adds, Loses, Turned}
-use Rattle.workers.proofs.Bound.{Ascends, draws_more, top}
 use Rattle.workers.proofs.Turning.{append-nil, append-assoc, map-append, won-append, in_append, beaten_still}
 
 times_in : (p n number : ℕ) (xs : List ℕ) → n < number → times p (filter (λ x. nat_lt x number) (xs ++ n ∷ [])) ≡ times p (filter (λ x. nat_lt x number) xs) + times p (n ∷ [])
@@ -32,17 +33,17 @@ length-snoc : {X : Type 0} (xs : List X) (x : X) → length (xs ++ x ∷ []) ≡
 length-snoc [] x = refl
 length-snoc (y ∷ xs) x = let r = length-snoc xs x in omega arith
 
-same_ascends : (pieces : ℕ) (u w : View) → w.drawn ≡ u.drawn → Ascends pieces u → Ascends pieces w
-same_ascends pieces u w same a = record {
-  wet = ap (λ xs. nat_lt 0 (beyond pieces xs)) same ∙ a.wet;
-  few = subst (λ xs. length xs ≤ top xs) (sym same) a.few;
-  inside = subst (λ xs. top xs ≤ pieces) (sym same) a.inside;
+same_draws : (pieces : ℕ) (u w : View) → w.drawn ≡ u.drawn → DrewPieces pieces u → DrewPieces pieces w
+same_draws pieces u w same d = record {
+  ascending = subst (AllPairs (λ x y. x < y)) (sym same) d.ascending;
+  inside = subst (All (λ x. x < pieces)) (sym same) d.inside;
 }
 
 pub record WorkedSoFar (pieces : PiecesData) (v : View) (report : ReportData) (k : ℕ) : Type 0 where
   pub worked : WorkedAs pieces v report
   pub drew : length v.drawn ≡ k
-  pub ascends : Ascends (number_of pieces) v
+  pub draws : DrewPieces (number_of pieces) v
+  pub few : length v.drawn ≤ number_of pieces
 
 pub worked_none : (pieces : PiecesData) (v : View) (report : ReportData) → IsUnused v → report.entries ≡ [] → report.lost ≡ 0 → report.dry ≡ false → WorkedSoFar pieces v report 0
 worked_none pieces v report un none lost dry = record {
@@ -59,11 +60,11 @@ worked_none pieces v report un none lost dry = record {
     dry = dry ∙ sym (ap (λ xs. nat_lt 0 (beyond (number_of pieces) xs)) un.drawn);
   };
   drew = ap length un.drawn;
-  ascends = record {
-    wet = ap (λ xs. nat_lt 0 (beyond (number_of pieces) xs)) un.drawn;
-    few = subst (λ xs. length xs ≤ top xs) (sym un.drawn) (omega arith);
-    inside = subst (λ xs. top xs ≤ number_of pieces) (sym un.drawn) (omega arith);
+  draws = record {
+    ascending = subst (AllPairs (λ x y. x < y)) (sym un.drawn) (λ i j d lt near. absurd (omega arith));
+    inside = subst (All (λ x. x < number_of pieces)) (sym un.drawn) (λ k d near. absurd (omega arith));
   };
+  few = subst (λ xs. length xs ≤ number_of pieces) (sym un.drawn) (omega arith);
 }
 
 module _ (pieces : PiecesData) (n : ℕ) (near : n < number_of pieces) (v w : View) (before after : ReportData) (loops : after.loops ≡ before.loops) (drawn : w.drawn ≡ v.drawn ++ n ∷ []) (worked : WorkedAs pieces v before) where
@@ -107,7 +108,7 @@ worked_on tells pieces n v u w before after k t so told near turned loops dry = 
     (λ (a : Adds tells u w (loop_of pieces n) (start_of pieces n) (end_of pieces n - start_of pieces n) before after).
     let g : Gains u w after.entries a.new = a.gains t in
     let drew : w.drawn ≡ u.drawn = g.drawn in
-    let up : Ascends (number_of pieces) w = same_ascends (number_of pieces) u w drew more.1 in
+    let up : DrewPieces (number_of pieces) w = same_draws (number_of pieces) u w drew above in
     record {
       worked = record {
         covers = covers_added pieces n near v w before after loops (drew ∙ drawn_is) so.worked a.new a.entries a.lost a.places;
@@ -117,32 +118,34 @@ worked_on tells pieces n v u w before after k t so told near turned loops dry = 
             (beaten_still v w before.entries a.new e (λ s at. g.seen s (seen_is s at)) (so.worked.beaten e old)))
             (λ (fresh : In e a.new). g.beaten e fresh)
             (in_append e before.entries a.new (subst (In e) a.entries at));
-        dry = dry ∙ sym up.wet;
+        dry = dry ∙ sym (wet (number_of pieces) w up);
       };
-      drew = ap length drew ∙ more.0 ∙ ap (λ m. m + 1) so.drew;
-      ascends = up;
+      drew = ap length drew ∙ draws_count (number_of pieces) v u (Some n) so.draws told ∙ ap (λ m. m + 1) so.drew;
+      draws = up;
+      few = draws_end (number_of pieces) w up;
     })
     (λ (l : Loses u w before after).
     let drew : w.drawn ≡ u.drawn = ap (λ (x : View). x.drawn) l.same_view in
-    let up : Ascends (number_of pieces) w = same_ascends (number_of pieces) u w drew more.1 in
+    let up : DrewPieces (number_of pieces) w = same_draws (number_of pieces) u w drew above in
     record {
       worked = record {
         covers = covers_lost pieces n near v w before after loops (drew ∙ drawn_is) so.worked l.entries l.lost;
         posted = ap (λ (x : View). x.posted) l.same_view ∙ posted_is ∙ so.worked.posted ∙ ap won_of (sym l.entries);
         beaten = λ e at. subst (λ es. IsBeatenRightly w es e) (append-nil before.entries ∙ sym l.entries)
             (beaten_still v w before.entries [] e (λ s at. subst (λ (x : View). In s x.seen) (sym l.same_view) (seen_is s at)) (so.worked.beaten e (subst (In e) l.entries at)));
-        dry = dry ∙ sym up.wet;
+        dry = dry ∙ sym (wet (number_of pieces) w up);
       };
-      drew = ap length drew ∙ more.0 ∙ ap (λ m. m + 1) so.drew;
-      ascends = up;
+      drew = ap length drew ∙ draws_count (number_of pieces) v u (Some n) so.draws told ∙ ap (λ m. m + 1) so.drew;
+      draws = up;
+      few = draws_end (number_of pieces) w up;
     })
     turned
   where
     d : Draws (number_of pieces) v (Some n) u
-    d = MatchBool-at_false ((u ≡ v) × (Some n ≡ None)) (Draws (number_of pieces) v (Some n) u) so.ascends.wet told
+    d = MatchBool-at_false ((u ≡ v) × (Some n ≡ None)) (Draws (number_of pieces) v (Some n) u) (wet (number_of pieces) v so.draws) told
 
-    more : (length u.drawn ≡ length v.drawn + 1) × Ascends (number_of pieces) u
-    more = draws_more (number_of pieces) v u (Some n) so.ascends told refl
+    above : DrewPieces (number_of pieces) u
+    above = draws_ascend (number_of pieces) v u (Some n) so.draws told refl
 
     same_number : d.0 ≡ n
     same_number = number_is (number_of pieces) n d.0 d.3
@@ -196,7 +199,7 @@ worked_dry pieces v u before after k so told loops entries lost dry = record {
 }
   where
     d : Draws (number_of pieces) v None u
-    d = MatchBool-at_false ((u ≡ v) × (None ≡ None)) (Draws (number_of pieces) v None u) so.ascends.wet told
+    d = MatchBool-at_false ((u ≡ v) × (None ≡ None)) (Draws (number_of pieces) v None u) (wet (number_of pieces) v so.draws) told
 
     c : Covers pieces v before
     c = so.worked.covers

@@ -60,6 +60,11 @@ is_settled (Failed cause) = true
 is_settled Beaten = false
 is_settled Unsettled = false
 
+-- memory ran out while it was tried
+abbrev pub is_unsettled : Found → Bool
+is_unsettled Unsettled = true
+is_unsettled _ = false
+
 -- some report has an entry there that is won or failed
 abbrev pub settles : ℕ → ℕ → Entry → Bool
 settles l ii e = ((e.loop_number == l) && (e.interval == ii)) && is_settled e.found

@@ -1,5 +1,5 @@
 -- What the texts of a machine and of loops give.
-use Rattle.std.specs.Prelude.{◌≡◌, ℕ, codes, List, [], ◌∷◌, ◌++◌, Option, Some, None, Result, Ok, Err, Vec}
+use Rattle.std.specs.Prelude.{◌≡◌, ℕ, codes, List, ◌++◌, Option, Some, None, Result, Ok, Err, Vec}
 use Rattle.std.specs.declared.alloc.Global.{Global}
 use Rattle.std.specs.List.{All, AllZip}
 use Rattle.machine.specs.declared.fault.MachineFault.{MachineFault}

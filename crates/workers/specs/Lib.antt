@@ -1,4 +1,11 @@
+pub use Rattle.board.specs.Rule
+pub use Rattle.board.specs.Views
 pub use Rattle.candidates.specs.Choices
+pub use Rattle.candidates.specs.Pieces
+pub use Rattle.candidates.specs.Promises
+pub use Rattle.ims.specs.Problems
+pub use Rattle.loops.specs.Meaning
+pub use Rattle.machine.specs.MachineText
 pub mod Entries
 pub mod Worked
 pub mod Turns

@@ -3,6 +3,7 @@ use Rattle.std.specs.Prelude.{◌≡◌, ◌≢◌, ℕ, List, length, Option, S
 use Rattle.std.specs.List.{All, AllZip}
 use Rattle.board.specs.declared.view.View.{View}
 use Rattle.board.specs.declared.view.Terms.{Terms}
+use Rattle.board.specs.Names.{terms_of}
 use Rattle.board.specs.Rule.{Rule, least_of}
 use Rattle.board.specs.Views.{is_dry}
 use Rattle.ims.specs.Problems.{ProblemData, IsProblem}
@@ -35,6 +36,19 @@ pub record IsWorkedOut (loops : List ProblemData) (pieces : PiecesData) (terms :
   pub dry : Any (λ v. IsTrue (is_dry terms.pieces v)) views
   pub worked : AllZip (WorkedAs pieces) views reports
   pub whole : All (IsWhole loops) reports
+
+-- the reports of so many workers on one board, which was closed over all of their passes
+pub record AreOfOneBoard (pieces : PiecesData) (workers : ℕ) (reports : List ReportData) : Type 0 where
+  pub words : List ℕ
+  pub views : List View
+  pub rule : Rule (terms_of pieces.loops (number_of pieces) workers) words views
+  pub worked : AllZip (WorkedAs pieces) views reports
+  pub each : length reports ≡ workers
+
+-- where some worker found no piece left, and nothing was refused, nothing is left to try
+abbrev pub LeaveNothing : List ProblemData → List ReportData → Type 0
+LeaveNothing loops reports = Any (λ (r : ReportData). IsTrue r.dry) reports → All (IsWhole loops) reports → (choices : List Choice) → AllZip IsChoice loops choices
+    → retried_from reports 0 loops choices ≡ 0
 
 -- the interval of a choice
 abbrev pub met_at : Choice → Option ℕ

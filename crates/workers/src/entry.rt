@@ -1,5 +1,6 @@
 //! What a worker found of one interval.
 ghost use Rattle.std.specs.Prelude.{◌≡◌};
+ghost use Rattle.workers.specs.Entries.{is_unsettled};
 ghost use Rattle.workers.specs.Turns.{is_won};
 
 use candidates::Cause;
@@ -24,6 +25,13 @@ impl Found {
         ensures { result ≡ is_won self.now }
     {
         matches!(self, Found::Won(_))
+    }
+
+    /// Whether memory ran out while it was tried.
+    pub(crate) fn is_unsettled(&self) -> bool
+        ensures { result ≡ is_unsettled self.now }
+    {
+        matches!(self, Found::Unsettled)
     }
 }
 

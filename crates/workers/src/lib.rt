@@ -21,5 +21,6 @@ pub use files::{pipeline, pipeline_file};
 pub use gate::{Gate, OpenGate};
 pub use gathers::{Chosen, gather};
 pub use laws::nothing_is_left;
+pub use pipelines::run_workers;
 pub use report::Report;
 pub use works::work;

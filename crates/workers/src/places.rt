@@ -1,9 +1,9 @@
 //! Workers on a board of words, each in a thread where one can be started.
-ghost use Rattle.std.specs.Prelude.{◌≡◌, ◌<◌, ◌≤◌, IsSome, IfSome, length};
+ghost use Rattle.std.specs.Prelude.{◌≡◌, ◌<◌, length};
 ghost use Rattle.std.specs.List.{All};
-ghost use Rattle.board.specs.Boards.{IsPassOf, sizes_of};
+ghost use Rattle.board.specs.Boards.{sizes_of};
 ghost use Rattle.candidates.specs.Pieces.{number_of};
-ghost use Rattle.workers.specs.Places.{IsReadyPlace};
+ghost use Rattle.workers.specs.Places.{IsDonePlace, IsReadyPlace};
 
 use crate::gate::Gate;
 use crate::report::Report;
@@ -32,15 +32,12 @@ impl<'a> Place<'a> {
         pieces: &Pieces,
         gate: &G,
     )
-        requires of { IfSome self.old.pass (λ p. IsPassOf board.now p) }
-        requires same { IfSome self.old.report (λ r. r.loops ≡ loops.now) }
+        requires ready { IsReadyPlace board.now self.old }
         requires each_loop { pieces.now.loops ≡ length loops.now }
         requires ceilings { All (λ p. p.ceiling ≡ pieces.now.ceiling) loops.now }
         requires loops { (sizes_of board.now).loops ≡ pieces.now.loops }
         requires pieces { (sizes_of board.now).pieces ≡ number_of pieces.now }
-        ensures of { IfSome self.new.pass (λ p. IsPassOf board.now p) }
-        ensures same { IfSome self.new.report (λ r. r.loops ≡ loops.now) }
-        ensures ran { IsSome self.old.pass → IsSome self.new.pass × IsSome self.new.report }
+        ensures { IsDonePlace board.now loops.now pieces.now (G.always_goes_on gate.now) self.new }
     {
         if let Some(pass) = self.pass.take() {
             let (pass, report) = work(alloc, worker, board, pass, loops, pieces, gate);
@@ -49,12 +46,13 @@ impl<'a> Place<'a> {
         }
     }
 
-    /// The report alone.
-    pub(crate) fn into_report(self) -> Option<Report<'a>>
-        ensures { result ≡ self.entry.report }
+    /// The pass and the report.
+    pub(crate) fn into_parts(self) -> (Option<WordPass>, Option<Report<'a>>)
+        ensures pass { result.0 ≡ self.entry.pass }
+        ensures report { result.1 ≡ self.entry.report }
     {
-        let Place { pass: _, report } = self;
-        report
+        let Place { pass, report } = self;
+        (pass, report)
     }
 }
 
@@ -74,9 +72,8 @@ pub(crate) fn run_all<'a, R: Threads + Sync, G: Gate + Sync>(
     requires ceilings { All (λ p. p.ceiling ≡ pieces.now.ceiling) loops.now }
     requires loops { (sizes_of board.now).loops ≡ pieces.now.loops }
     requires pieces { (sizes_of board.now).pieces ≡ number_of pieces.now }
-    ensures of { All (λ (p : _). IfSome p.pass (λ q. IsPassOf board.now q)) places.new }
-    ensures same { All (λ (p : _). IfSome p.report (λ r. r.loops ≡ loops.now)) places.new }
-    ensures ran { All (λ (p : _). IsSome p.report) places.new }
+    ensures all { length places.new ≡ length places.old }
+    ensures done { All (IsDonePlace board.now loops.now pieces.now (G.always_goes_on gate.now)) places.new }
 {
     let workers = places.len();
     thread::for_each_mut(

@@ -1,7 +1,8 @@
 //! What a worker found.
-ghost use Rattle.std.specs.Prelude.{◌≡◌, ◌≤◌, ◌<◌, ◌+◌, ◌-◌, IsTrue, true, false, [], vec_len, vec_capacity};
+ghost use Rattle.std.specs.Prelude.{◌≡◌, ◌↔◌, ◌≤◌, ◌<◌, ◌+◌, ◌-◌, IsTrue, true, false, [], vec_len, vec_capacity};
 ghost use Rattle.std.specs.List.{All};
 ghost use Rattle.workers.specs.Entries.{IsEntry, ReportData};
+ghost use Rattle.workers.specs.Settled.{IsWhole};
 ghost use Rattle.workers.specs.Turns.{Enters};
 
 use crate::entry::Entry;
@@ -56,6 +57,13 @@ impl<'a> Report<'a> {
         ensures value { result ≡ self.now.dry }
     {
         self.dry
+    }
+
+    /// Whether nothing was refused to its worker: no piece is lost, and no interval unsettled.
+    pub fn is_whole(&self) -> bool
+        ensures { IsTrue result ↔ IsWhole self.now.loops self.now }
+    {
+        self.lost == 0 && self.entries.iter().all(|entry| !entry.found.is_unsettled())
     }
 
     /// A report without entries.

@@ -1,10 +1,9 @@
 //! Each cause of each fault of a loop text, and texts that are cut short.
 
 use super::given::{ACC, M1};
-use super::one_more;
 use loops::{LoopFault, LoopFaultKind, read_loops};
 use machine::{MachineFault, read_machine};
-use std::alloc::Global;
+use std::alloc::{AllocError, Global};
 use std::process::Abort;
 use std::test::Fail;
 
@@ -234,6 +233,11 @@ fn cuts_machine_texts(rt: HostRuntime) {
             assert!(rt; !matches!(fault, MachineFault::Memory), "cut after {end}");
         }
     }
+}
+
+/// A text that is a byte longer.
+fn one_more(text: &mut String) -> Result<(), AllocError> {
+    text.push('#')
 }
 
 /// Texts at the limit of 1,048,576 bytes: one line that is a comment, one line that is a word, and many

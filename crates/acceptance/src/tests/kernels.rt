@@ -12,6 +12,7 @@ use loops::Param;
 use machine::{Name, Opcode, OutOfMemory};
 use smallvec::SmallVec;
 use std::alloc::Global;
+use std::process::Abort;
 use std::test::Fail;
 
 /// An operation of a table.
@@ -189,12 +190,21 @@ fn text(alloc: Global, parts: Parts) -> Result<String, Fail> {
     Ok(kernel_text(alloc, &kernel)?)
 }
 
+/// These parts have the interval, the stages, the registers and the numbers of things of the kernel of `sharing`.
+fn shares(rt: &impl Abort, parts: &Parts, stages: u64, preloads: usize) {
+    assert_eq!(rt; parts.ii, 4);
+    assert_eq!(rt; parts.stages, stages);
+    assert_eq!(rt; parts.registers, 4);
+    assert_eq!(rt; parts.arrays.as_slice().len(), 3);
+    assert_eq!(rt; parts.operations.as_slice().len(), 4);
+    assert_eq!(rt; parts.preloads.as_slice().len(), preloads);
+}
+
 #[test]
 fn accepts_a_shared_register(rt: HostRuntime) -> Result<(), Fail> {
     let kernel = Kernel::check(sharing(rt.alloc(), 0)?)?;
-    assert_eq!(rt; kernel.parts().ii, 4);
-    assert_eq!(rt; kernel.parts().operations.as_slice().len(), 4);
-    assert_eq!(rt; kernel.into_parts().registers, 4);
+    shares(&rt, kernel.parts(), 1, 0);
+    shares(&rt, &kernel.into_parts(), 1, 0);
     Ok(())
 }
 
@@ -204,26 +214,33 @@ fn refuses_no_stage(rt: HostRuntime) -> Result<(), Fail> {
     parts.stages = 0;
     let bad = refused(parts)?;
     assert_eq!(rt; bad.rule, Rule::Size);
-    assert_eq!(rt; bad.parts.stages, 0);
-    assert_eq!(rt; bad.parts.operations.as_slice().len(), 4);
+    shares(&rt, &bad.parts, 0, 0);
     Ok(())
+}
+
+/// The first operation has this address.
+fn addresses(rt: &impl Abort, operations: &[Operation], address: Address) {
+    assert!(rt; !operations.is_empty());
+    assert_eq!(rt; operations[0].address, Some(address));
 }
 
 #[test]
 fn refuses_a_far_cell(rt: HostRuntime) -> Result<(), Fail> {
     let bad = refused(sharing(rt.alloc(), 65)?)?;
     assert_eq!(rt; bad.rule, Rule::Place);
-    assert_eq!(rt; bad.parts.ii, 4);
-    assert_eq!(rt; bad.parts.operations.as_slice().len(), 4);
-    let first = &bad.parts.operations.as_slice()[0];
-    assert_eq!(rt;
-        first.address,
-        Some(Address {
-            array: 0,
-            offset: 65
-        })
-    );
+    shares(&rt, &bad.parts, 1, 0);
+    let far = Address {
+        array: 0,
+        offset: 65,
+    };
+    addresses(&rt, bad.parts.operations.as_slice(), far);
     Ok(())
+}
+
+/// The second preload has this value.
+fn preloads_second(rt: &impl Abort, list: &[Preload], value: i64) {
+    assert_eq!(rt; list.len(), 2);
+    assert_eq!(rt; list[1].value, value);
 }
 
 #[test]
@@ -232,9 +249,8 @@ fn refuses_a_register_preloaded_twice(rt: HostRuntime) -> Result<(), Fail> {
     parts.preloads = preloads(rt.alloc(), &[(1, 5), (1, 6)])?;
     let bad = refused(parts)?;
     assert_eq!(rt; bad.rule, Rule::Preload);
-    assert_eq!(rt; bad.parts.arrays.as_slice().len(), 3);
-    assert_eq!(rt; bad.parts.preloads.as_slice().len(), 2);
-    assert_eq!(rt; bad.parts.preloads.as_slice()[1].value, 6);
+    shares(&rt, &bad.parts, 1, 2);
+    preloads_second(&rt, bad.parts.preloads.as_slice(), 6);
     Ok(())
 }
 

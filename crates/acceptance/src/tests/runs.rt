@@ -196,19 +196,25 @@ fn refuses_trips_and_shapes(rt: HostRuntime) -> Result<(), Fail> {
     Ok(())
 }
 
-#[test]
-fn sets_a_copy_alone(rt: HostRuntime) -> Result<(), Fail> {
-    let alloc = rt.alloc();
-    let memory = left(alloc, ACCO, 3)?;
-    let mut copy = memory.copied(alloc)?;
-    assert_eq!(rt; copy.trip(), 3);
-    assert_eq!(rt; copy.array_count(), 2);
-    assert_eq!(rt; cell(&rt, &copy, 1, 2), 6);
-    assert_eq!(rt; out(&rt, &copy, 0), 6);
-    set_cell(&rt, &mut copy, 1, -64, 8);
-    set_cell(&rt, &mut copy, 1, 66, -8);
-    assert!(rt; copy.out_count() == 1);
-    copy.set_out(0, -9);
+/// The running sum of three iterations.
+fn is_sum(rt: &impl Abort, memory: &Memory) {
+    assert_eq!(rt; memory.trip(), 3);
+    assert_eq!(rt; memory.array_count(), 2);
+    assert_eq!(rt; cell(rt, memory, 1, -64), 0);
+    assert_eq!(rt; cell(rt, memory, 1, 2), 6);
+    assert_eq!(rt; out(rt, memory, 0), 6);
+}
+
+/// Sets the outermost cells and the live value.
+fn change(rt: &impl Abort, memory: &mut Memory) {
+    set_cell(rt, memory, 1, -64, 8);
+    set_cell(rt, memory, 1, 66, -8);
+    assert!(rt; memory.out_count() == 1);
+    memory.set_out(0, -9);
+}
+
+/// Just these are set.
+fn is_changed(rt: &impl Abort, memory: &Memory) {
     for (array, k, want) in [
         (1, -64, 8),
         (1, -63, 0),
@@ -216,11 +222,19 @@ fn sets_a_copy_alone(rt: HostRuntime) -> Result<(), Fail> {
         (1, 65, 0),
         (1, 66, -8),
     ] {
-        assert_eq!(rt; cell(&rt, &copy, array, k), want, "at {array}, {k}");
+        assert_eq!(rt; cell(rt, memory, array, k), want, "at {array}, {k}");
     }
-    assert_eq!(rt; out(&rt, &copy, 0), -9);
-    assert_eq!(rt; cell(&rt, &memory, 1, -64), 0);
-    assert_eq!(rt; out(&rt, &memory, 0), 6);
+    assert_eq!(rt; out(rt, memory, 0), -9);
+}
+
+#[test]
+fn sets_a_copy_alone(rt: HostRuntime) -> Result<(), Fail> {
+    let memory = left(rt.alloc(), ACCO, 3)?;
+    let mut copy = memory.copied(rt.alloc())?;
+    is_sum(&rt, &copy);
+    change(&rt, &mut copy);
+    is_changed(&rt, &copy);
+    is_sum(&rt, &memory);
     Ok(())
 }
 

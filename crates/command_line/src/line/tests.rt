@@ -1,4 +1,5 @@
 use super::{Command, Usage, parse_line};
+use settings::Settings;
 use std::alloc::Global;
 use std::test::Fail;
 
@@ -50,7 +51,7 @@ fn reads_the_trip_count(rt: HostRuntime) -> Result<(), Fail> {
 
 #[test]
 fn refuses_other_trip_counts(rt: HostRuntime) {
-    let lines: [&[&str]; 14] = [
+    let lines: [&[&str]; 15] = [
         &["plain", "l"],
         &["plain", "l", "--trip"],
         &["plain", "--trip", "3"],
@@ -65,6 +66,92 @@ fn refuses_other_trip_counts(rt: HostRuntime) {
         &["plain", "l", "--trip", "3", "--trip", "3"],
         &["plain", "m", "l", "--trip", "3"],
         &["plain", "l", "--trip", "3", "--ratio", "6"],
+        &["run", "m", "l"],
+    ];
+    for (i, words) in lines.iter().enumerate() {
+        assert!(rt; is_refused(rt.alloc(), words), "line {i}");
+    }
+}
+
+#[test]
+fn reads_the_settings(rt: HostRuntime) -> Result<(), Fail> {
+    let lines: [(&[&str], [u64; 4]); 7] = [
+        (&["schedule", "m", "l"], [6, 32, 4, 4]),
+        (&["schedule", "m", "l", "--ratio", "64"], [64, 32, 4, 4]),
+        (&["schedule", "--ceiling=255", "m", "l"], [6, 255, 4, 4]),
+        (&["schedule", "m", "--workers", "+1", "l"], [6, 32, 1, 4]),
+        (&["schedule", "m", "--cut", "256", "l"], [6, 32, 4, 256]),
+        (
+            &["schedule", "m", "l", "--cut=1", "--workers=64", "--ratio=1"],
+            [1, 32, 64, 1],
+        ),
+        (
+            &["schedule", "--ceiling", "0", "--", "m", "l"],
+            [6, 0, 4, 4],
+        ),
+    ];
+    for (words, numbers) in lines {
+        match parse_line(rt.alloc(), words)? {
+            Command::Schedule {
+                machine,
+                loops,
+                settings,
+            } => {
+                assert_eq!(rt; machine.as_str(), "m");
+                assert_eq!(rt; loops.as_str(), "l");
+                assert_eq!(rt; numbers_of(settings), numbers);
+            }
+            other => panic!(rt; "{other:?}"),
+        }
+    }
+    Ok(())
+}
+
+fn numbers_of(settings: Settings) -> [u64; 4] {
+    let workers = settings.workers() as u64;
+    [
+        settings.ratio(),
+        settings.ceiling(),
+        workers,
+        settings.cut(),
+    ]
+}
+
+#[test]
+fn reads_the_settings_of_a_run(rt: HostRuntime) -> Result<(), Fail> {
+    let words = ["run", "m", "--ratio", "2", "l", "--trip", "100"];
+    match parse_line(rt.alloc(), &words)? {
+        Command::Run {
+            machine,
+            loops,
+            trip,
+            settings,
+        } => {
+            assert_eq!(rt; machine.as_str(), "m");
+            assert_eq!(rt; loops.as_str(), "l");
+            assert_eq!(rt; trip.count(), 100);
+            assert_eq!(rt; numbers_of(settings), [2, 32, 4, 4]);
+        }
+        other => panic!(rt; "{other:?}"),
+    }
+    Ok(())
+}
+
+#[test]
+fn refuses_other_settings(rt: HostRuntime) {
+    let lines: [&[&str]; 12] = [
+        &["schedule", "m", "l", "--ratio", "0"],
+        &["schedule", "m", "l", "--ratio", "65"],
+        &["schedule", "m", "l", "--ceiling", "256"],
+        &["schedule", "m", "l", "--ceiling", "-1"],
+        &["schedule", "m", "l", "--workers", "0"],
+        &["schedule", "m", "l", "--workers", "65"],
+        &["schedule", "m", "l", "--cut", "0"],
+        &["schedule", "m", "l", "--cut", "257"],
+        &["schedule", "m", "l", "--ratio", "six"],
+        &["schedule", "m", "l", "--ratio", "6", "--ratio", "6"],
+        &["schedule", "m", "l", "--trip", "3"],
+        &["run", "m", "l", "--trip", "3", "--cut", "0"],
     ];
     for (i, words) in lines.iter().enumerate() {
         assert!(rt; is_refused(rt.alloc(), words), "line {i}");
@@ -86,8 +173,8 @@ fn refuses_other_lines(rt: HostRuntime) {
         &["m", "l"],
         &["Bounds", "m", "l"],
         &["bound", "m", "l"],
-        &["schedule", "m", "l"],
-        &["run", "m", "l", "--trip", "3"],
+        &["schedule", "m"],
+        &["run", "l", "--trip", "3"],
     ];
     for (i, words) in lines.iter().enumerate() {
         assert!(rt; is_refused(rt.alloc(), words), "line {i}");
@@ -125,6 +212,8 @@ fn tells_what_is_wrong(rt: HostRuntime) {
 #[test]
 fn helps(rt: HostRuntime) {
     let of_program = [
+        "schedule",
+        "run",
         "bounds",
         "plain",
         "Usage: modsched",
@@ -141,13 +230,27 @@ fn helps(rt: HostRuntime) {
         "from 0 to 100000",
         "trip counts",
     ];
-    let lines: [(&[&str], &[&str]); 6] = [
+    let of_schedule = [
+        "Usage: modsched schedule [OPTIONS] <MACHINE> <LOOPS>",
+        "failed to T: CAUSE",
+        "from 1 to 64",
+        "[default: 6]",
+        "[default: 32]",
+    ];
+    let of_run = [
+        "Usage: modsched run [OPTIONS] --trip <N> <MACHINE> <LOOPS>",
+        "from 0 to 100000",
+        "[default: 4]",
+    ];
+    let lines: [(&[&str], &[&str]); 8] = [
         (&["--help"], &of_program),
         (&["help"], &of_program),
         (&["bounds", "--help"], &of_bounds),
         (&["help", "bounds"], &of_bounds),
         (&["plain", "--help"], &of_plain),
         (&["help", "plain"], &of_plain),
+        (&["schedule", "--help"], &of_schedule),
+        (&["run", "--help"], &of_run),
     ];
     for (words, parts) in lines {
         match parse_line(rt.alloc(), words) {
@@ -163,7 +266,13 @@ fn helps(rt: HostRuntime) {
 
 #[test]
 fn helps_in_short(rt: HostRuntime) {
-    let lines: [&[&str]; 3] = [&["-h"], &["bounds", "-h"], &["plain", "-h"]];
+    let lines: [&[&str]; 5] = [
+        &["-h"],
+        &["schedule", "-h"],
+        &["run", "-h"],
+        &["bounds", "-h"],
+        &["plain", "-h"],
+    ];
     for words in lines {
         match parse_line(rt.alloc(), words) {
             Err(Usage::Help(text)) => assert!(rt; text.contains("Usage: modsched"), "{text}"),
@@ -191,5 +300,8 @@ fn tells_its_paths(rt: HostRuntime) -> Result<(), Fail> {
     let plain = parse_line(rt.alloc(), &["plain", "l.txt", "--trip", "3"])?;
     assert_eq!(rt; plain.machine_path(), None);
     assert_eq!(rt; plain.loops_path(), "l.txt");
+    let run = parse_line(rt.alloc(), &["run", "m.toml", "l.txt", "--trip", "3"])?;
+    assert_eq!(rt; run.machine_path(), Some("m.toml"));
+    assert_eq!(rt; run.loops_path(), "l.txt");
     Ok(())
 }

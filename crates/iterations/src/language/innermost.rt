@@ -2,6 +2,7 @@
 
 ghost use Rattle.std.specs.Prelude.{◌≡◌};
 ghost use Rattle.iterations.specs.Loops.{LoopData, IsLoop};
+ghost use Rattle.iterations.specs.Run.{initial_of};
 
 use crate::language::lists::{Array, Initial, Param};
 use crate::language::statement::Statement;
@@ -91,6 +92,21 @@ impl Loop {
         ensures well_formed { IsLoop self.now }
     {
         self.inits.as_slice()
+    }
+
+    /// The initial value of this number of a statement's value, and 0 where the loop has none. It is
+    /// searched for by halves.
+    pub fn initial(&self, statement: u8, number: u8) -> i64
+        ensures { result ≡ initial_of self.now statement number }
+    {
+        let inits = self.inits();
+        match inits.binary_search_by_key(
+            &(statement, number),
+            |init| (init.statement, init.number),
+        ) {
+            Ok(place) => inits[place].value,
+            Err(_) => 0,
+        }
     }
 
     /// The numbers of the statements whose values are live at the end, in text order.

@@ -1,7 +1,11 @@
 -- The first declaration of a name in a block.
-use Rattle.std.proofs.Common.{◌≡◌, ℕ, ◌+◌, ◌<◌, ◌≤◌, Bool, true, false, cond, List, [], ◌∷◌, ◌++◌, Option, Some, None, refl, sym, ◌∙◌, ap, arith, append_assoc}
+use Rattle.std.proofs.Common.{◌≡◌, ℕ, ◌+◌, ◌<◌, ◌≤◌, Bool, true, false, cond, List, [], ◌∷◌, ◌++◌, Option, Some, None, is_some, refl, sym, ◌∙◌, ap, arith, append_assoc}
 use Rattle.std.proofs.Common.{Decides, if◌then◌else◌}
+use Rattle.std.specs.Borrow.{Bor}
+use Rattle.std.specs.BTreeMap.{BTreeMap, get_by}
+use Rattle.std.specs.Cmp.Lexicographic.{slice_cmp}
 use Rattle.std.specs.Option.{option_or}
+use Rattle.std.specs.Ordering.{nat_cmp}
 use Rattle.std.proofs.Common.{take, get_or, length}
 use Rattle.std.proofs.lemmas.List.{take_more, map-append}
 use Rattle.std.proofs.lemmas.List.Sums.{sum_by_push}
@@ -14,6 +18,7 @@ use Rattle.loop_reader.specs.declared.names.index.Declared as code
 use Rattle.std.specs.Map.{update}
 use Rattle.std.specs.Str.{bytes_eq}
 use Rattle.std.proofs.lemmas.Slice.Eq.{bytes_eq-Decides}
+use Rattle.std.proofs.lemmas.Bool.{both_ways}
 use Rattle.std.proofs.lemmas.Bool.Decides.{same_from_decides}
 use Rattle.std.proofs.lemmas.List.Sums.{sum_by-append}
 use Rattle.std.proofs.lemmas.List.{append-nil}
@@ -28,6 +33,10 @@ option_or-none (Some x) = refl
 pub option_or-assoc : {T : Type 0} (a b c : Option T) → option_or a (option_or b c) ≡ option_or (option_or a b) c
 option_or-assoc None b c = refl
 option_or-assoc (Some x) b c = refl
+
+pub none-there : {T : Type 0} (o p : Option T) → is_some o ≡ false → o ≡ p → p ≡ None
+none-there None p t e = sym e
+none-there (Some x) p t e = absurd (both_ways true t refl)
 
 -- a declaration behind these lines
 abbrev pub declared_after : List ℕ → List Form → Form → Option Declared
@@ -53,6 +62,10 @@ unfolding declared
 declared-append q before rest = first_declared-append q [] before rest
 
 -- tables of names
+
+-- what a map has at a name
+abbrev pub at : {X : Type 0} → BTreeMap (Bor (List ℕ)) X → List ℕ → Option X
+at m q = get_by (λ k. slice_cmp nat_cmp q k.now) m
 
 same_word-Decides : (xs ys : List ℕ) → Decides (same_word xs ys) (xs ≡ ys)
 same_word-Decides xs ys = bytes_eq-Decides xs ys

@@ -12,7 +12,7 @@ use Rattle.loop_lines.specs.Parsed.{form_seen, source_seen, subscript_seen, use_
 use Rattle.loop_reader.specs.Meaning.{Declared, AnArray, AParam, AValue, declared, reads, operand_of, out_in, place_at, source_in, statement_of}
 use Rattle.loop_reader.specs.inner.Found.{AreFound, IsFoundFor, IsFoundIn, array_in, operand_if, operands_with, reads_at, target_at, target_in, out_by, place_with, statement_by, statement_with}
 use Rattle.loop_lines.specs.declared.form.Form.TheVariants as forms
-use Rattle.loop_lines.specs.declared.form.Source.{Source}
+use Rattle.loop_lines.specs.declared.form.StatementWords.{StatementWords}
 use Rattle.loop_lines.specs.declared.form.Subscript.{Subscript}
 use Rattle.loop_lines.specs.declared.form.Use.{Use}
 use Rattle.loop_lines.specs.declared.form.Use.TheVariants as code_uses
@@ -87,7 +87,7 @@ place-with : (block : List Form) (place : Option Subscript) (array : ℕ) → ar
 place-with block None array h = refl
 place-with block (Some p) array h = ap (λ n. Some (record { array = n; offset = unwrap_or p.offset (pos 0) })) h
 
-statement-with : (block : List Form) (source : Source) (found : Found) → IsFoundIn block source found → statement_with source found ≡ statement_of block (source_seen source)
+statement-with : (block : List Form) (source : StatementWords) (found : Found) → IsFoundIn block source found → statement_with source found ≡ statement_of block (source_seen source)
 statement-with block source found h =
     ap (λ n. record { opcode = source.opcode; name = option_map (λ (n : Bor (List ℕ)). n.now) source.name; place = n; operands = operands_with source.uses found }) (place-with block source.place found.number h.number)
     ∙ ap (λ os. record { opcode = source.opcode; name = option_map (λ (n : Bor (List ℕ)). n.now) source.name; place = option_map (place_at block) (option_map subscript_seen source.place); operands = os }) (operands-with block source.uses found h.first h.second h.third)

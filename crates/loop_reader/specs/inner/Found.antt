@@ -6,7 +6,7 @@ use Rattle.loop_reader.specs.Meaning.{Declared, AParam, declared, number_at}
 use Rattle.loop_reader.specs.declared.lines.entry.Entry.{Entry}
 use Rattle.loop_lines.specs.declared.form.Form as code
 use Rattle.loop_lines.specs.declared.form.Form.TheVariants as forms
-use Rattle.loop_lines.specs.declared.form.Source.{Source}
+use Rattle.loop_lines.specs.declared.form.StatementWords.{StatementWords}
 use Rattle.loop_lines.specs.declared.form.Subscript.{Subscript}
 use Rattle.loop_lines.specs.declared.form.Use.{Use}
 use Rattle.loop_lines.specs.declared.form.Use.TheVariants as uses
@@ -41,7 +41,7 @@ array_in block None = 0
 array_in block (Some place) = number_at (declared block place.array.now)
 
 -- what is found for a statement
-pub record IsFoundIn (block : List Form) (source : Source) (found : Found) : Type 0 where
+pub record IsFoundIn (block : List Form) (source : StatementWords) (found : Found) : Type 0 where
   pub number : found.number ≡ array_in block source.place
   pub first : found.first ≡ target_in block source.uses.first
   pub second : found.second ≡ target_in block source.uses.second
@@ -80,7 +80,7 @@ abbrev pub place_with : Option Subscript → ℕ → Option Place
 place_with None array = None
 place_with (Some place) array = Some (record { array = array; offset = unwrap_or place.offset (pos 0) })
 
-abbrev pub statement_with : Source → Found → Statement
+abbrev pub statement_with : StatementWords → Found → Statement
 statement_with source found = record {
   opcode = source.opcode;
   name = option_map (λ (n : Bor (List ℕ)). n.now) source.name;

@@ -1,14 +1,13 @@
 -- The names of a block in the table of the reader.
 use Rattle.std.specs.Prelude.{ℕ, List, Option}
-use Rattle.std.specs.HashMap.{get_by}
-use Rattle.std.specs.Str.{bytes_eq}
+use Rattle.std.specs.BTreeMap.{get_by}
+use Rattle.std.specs.Cmp.Lexicographic.{slice_cmp}
+use Rattle.std.specs.Option.{option_or}
+use Rattle.std.specs.Ordering.{nat_cmp}
+use Rattle.loop_reader.specs.inner.Chains.{chained_as}
 use Rattle.loop_reader.specs.declared.names.index.Declared.{Declared}
 use Rattle.loop_reader.specs.declared.names.known.Names.{Names}
-use Rattle.loop_reader.specs.declared.names.known.Word.{Word}
-
-abbrev pub bytes_of : Word → List ℕ
-bytes_of word = word.bytes.now
 
 -- what a name stands for
 abbrev pub known_as : Names → List ℕ → Option Declared
-known_as names q = get_by (λ k. bytes_eq q (bytes_of k)) names.known
+known_as names q = option_or (chained_as names.chains q) (get_by (λ k. slice_cmp nat_cmp q k.now) names.others)

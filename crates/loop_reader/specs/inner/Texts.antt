@@ -12,7 +12,7 @@ use Rattle.loop_reader.specs.inner.Checks.{first_in}
 use Rattle.loop_reader.specs.declared.fault.LoopFault.{LoopFault}
 use Rattle.loop_reader.specs.declared.fault.LoopFaultKind.{LoopFaultKind}
 use Rattle.loop_reader.specs.declared.fault.LoopFaultKind.TheVariants.{Memory}
-use Rattle.loop_reader.specs.declared.read.Block.{Block}
+use Rattle.loop_reader.specs.declared.read.BlockRead.{BlockRead}
 
 -- a fault of line 0 for want of memory, or another of which this holds
 abbrev pub UnlessMemory : LoopFaultKind → LoopFault → Type 0 → Type 0
@@ -24,7 +24,7 @@ UnlessMemoryKind Memory P = Unit {0}
 UnlessMemoryKind kind P = P
 
 -- a block without a fault, its loop and what follows it
-pub record IsRead (name : List ℕ) (number : ℕ) (text : List ℕ) (block : Block) : Type 0 where
+pub record IsRead (name : List ℕ) (number : ℕ) (text : List ℕ) (block : BlockRead) : Type 0 where
   pub faults : (names : List (List ℕ)) → inside_faults number names [] (forms_of text) ≡ outside_faults block.line names (forms_of block.rest.now)
   pub following : blocks_from name [] (forms_of text) ≡ (name, whole [] (forms_of text)) ∷ blocks_of (forms_of block.rest.now)
   pub found : block.found ≡ loop_of (name, whole [] (forms_of text))
@@ -33,7 +33,7 @@ pub record IsRead (name : List ℕ) (number : ℕ) (text : List ℕ) (block : Bl
   pub behind : block.line + length block.rest.now ≤ number + length text
 
 -- the answer for a block whose lines have numbers from this one on
-abbrev pub AnswersBlock : List ℕ → ℕ → List ℕ → Result Block LoopFault → Type 0
+abbrev pub AnswersBlock : List ℕ → ℕ → List ℕ → Result BlockRead LoopFault → Type 0
 AnswersBlock name number text (Ok block) = IsRead name number text block
 AnswersBlock name number text (Err fault) = UnlessMemory fault.kind fault ((names : List (List ℕ)) → first_in (inside_faults number names [] (forms_of text)) ≡ Some fault)
 

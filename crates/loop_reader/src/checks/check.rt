@@ -13,25 +13,18 @@ ghost use Rattle.loop_reader.specs.inner.Building.{IsFew};
 ghost use Rattle.loop_reader.specs.inner.Found.{array_in, fault_in, target_in, AreFound, IsFoundFor, IsFoundIn};
 ghost use Rattle.loop_reader.specs.inner.Checks.{any_use, covers_name, first_in, inits_with, is_that, kinds_at, lacks_init, outs_with, with_init, IsBlock, IsGiven, IsNear, IsNearForm, IsNearRead, IsNearUse, IsRoomFor};
 
-use crate::checks::given::{Given, MOST};
+use crate::checks::given::Given;
 use crate::fault::{LoopFault, LoopFaultKind};
-use crate::names::found::{self, Found, Target, target_of};
+use crate::names::found::{Found, Target, declared_number, target_of};
 use crate::names::index::{Counts, Declared, Index};
-use loop_lines::{Form, Source, Subscript, Use, are_wide};
+use loop_lines::{Form, StatementWords, Subscript, Use, are_wide};
+use machine::limits::{MAX_ARRAYS, MAX_DISTANCE, MAX_NAME, MAX_PARAMETERS, MAX_STATEMENTS};
 use std::alloc::AllocError;
-
-const MOST_BYTES: usize = 16;
-
-const MOST_ARRAYS: usize = 32;
-
-const MOST_PARAMS: usize = 64;
-
-const MOST_STATEMENTS: usize = 128;
 
 pub(crate) fn is_long(name: &[u8]) -> bool
     ensures { result ≡ meaning.is_long name.now }
 {
-    name.len() > MOST_BYTES
+    name.len() > MAX_NAME
 }
 
 fn is_that(what: Declared, found: Option<Declared>) -> bool
@@ -102,7 +95,12 @@ struct Looked {
 
 /// Looks a use of this statement up. Its name is looked up once for all.
 #[inline(always)]
-fn look_up<'a>(index: &Index<'a>, given: &Given, statement: usize, read: &Option<Use<'a>>) -> Looked
+fn look_up<'a>(
+    index: &Index<'_, 'a>,
+    given: &Given,
+    statement: usize,
+    read: &Option<Use<'a>>,
+) -> Looked
     requires room { length given.now.inits ≡ 16 * number_of is_statement (forms_in index.now) }
     requires near { IsNearRead read.now }
     ensures unknown { result.unknown ≡ any_use (meaning.is_unknown (forms_in index.now)) read.now }
@@ -143,26 +141,26 @@ fn look_up<'a>(index: &Index<'a>, given: &Given, statement: usize, read: &Option
 
 /// A place that was looked up: whether it is of no array, and its array's number.
 #[derive(Clone, Copy)]
-struct Spot {
+struct LookedPlace {
     unknown: bool,
     number: u8,
 }
 
 #[inline(always)]
-fn look_up_place<'a>(index: &Index<'a>, place: &Option<Subscript<'a>>) -> Spot
+fn look_up_place<'a>(index: &Index<'_, 'a>, place: &Option<Subscript<'a>>) -> LookedPlace
     ensures unknown { result.unknown ≡ meaning.is_unknown_place (forms_in index.now) (option_map subscript_seen place.now) }
     ensures number { IsFew (forms_in index.now) → result.number ≡ array_in (forms_in index.now) place.now }
 {
     match place {
-        None => Spot {
+        None => LookedPlace {
             unknown: false,
             number: 0,
         },
         Some(place) => {
             let found = index.declared(place.array);
-            Spot {
+            LookedPlace {
                 unknown: !matches!(found, Some(Declared::Array(_))),
-                number: found::number_of(found),
+                number: declared_number(found),
             }
         }
     }
@@ -178,7 +176,7 @@ fn is_long_name(name: Option<&[u8]>) -> bool
 }
 
 /// The name stands for another thing than the value of the statement behind so many lines.
-fn is_repeated_value(index: &Index<'_>, before: Counts, name: Option<&[u8]>) -> bool
+fn is_repeated_value(index: &Index<'_, '_>, before: Counts, name: Option<&[u8]>) -> bool
     ensures { result ≡ any_name (λ name. not (is_that (AValue before.statements) (declared (forms_in index.now) name))) (option_map (λ (n : Bor (List ℕ)). n.now) name.entry) }
 {
     match name {
@@ -198,7 +196,7 @@ fn is_wide_place(place: &Option<Subscript<'_>>) -> bool
 
 /// The first fault of an array behind so many lines.
 fn array_fault<'a>(
-    index: &Index<'a>,
+    index: &Index<'_, 'a>,
     counts: Counts,
     name: &'a [u8],
     cells: &[u8],
@@ -206,7 +204,7 @@ fn array_fault<'a>(
     ensures { (inits : List (Option ℤ)) (outs : List Bool) → result
         ≡ first_in (kinds_at (forms_in index.now) counts inits outs (ArrayLine name.now (cells_seen cells.now))) }
 {
-    if is_long(name) || are_wide(cells) || counts.arrays >= MOST_ARRAYS {
+    if is_long(name) || are_wide(cells) || counts.arrays >= MAX_ARRAYS {
         return Some(LoopFaultKind::Limit);
     }
     if !is_that(Declared::Array(counts.arrays), index.declared(name)) {
@@ -216,7 +214,7 @@ fn array_fault<'a>(
 }
 
 fn param_fault<'a>(
-    index: &Index<'a>,
+    index: &Index<'_, 'a>,
     counts: Counts,
     name: &'a [u8],
     value: Option<i64>,
@@ -224,7 +222,7 @@ fn param_fault<'a>(
     ensures { (inits : List (Option ℤ)) (outs : List Bool) → result
         ≡ first_in (kinds_at (forms_in index.now) counts inits outs (ParamLine name.now value)) }
 {
-    if is_long(name) || value.is_none() || counts.params >= MOST_PARAMS {
+    if is_long(name) || value.is_none() || counts.params >= MAX_PARAMETERS {
         return Some(LoopFaultKind::Limit);
     }
     if !is_that(Declared::Param(counts.params), index.declared(name)) {
@@ -234,7 +232,7 @@ fn param_fault<'a>(
 }
 
 fn init_fault<'a>(
-    index: &Index<'a>,
+    index: &Index<'_, 'a>,
     given: &Given,
     name: &'a [u8],
     number: Option<u8>,
@@ -261,10 +259,10 @@ fn init_fault<'a>(
 /// The first fault of a statement behind so many lines; else what its names stand for.
 #[inline(always)]
 fn check_statement<'a>(
-    index: &Index<'a>,
+    index: &Index<'_, 'a>,
     counts: Counts,
     given: &Given,
-    source: &Source<'a>,
+    source: &StatementWords<'a>,
 ) -> Result<Found, LoopFaultKind>
     requires room { length given.now.inits ≡ 16 * number_of is_statement (forms_in index.now) }
     requires near { AllByRecursion IsNearUse (uses_seen source.now.uses) }
@@ -279,7 +277,7 @@ fn check_statement<'a>(
         || is_wide(&uses.first)
         || is_wide(&uses.second)
         || is_wide(&uses.third)
-        || number >= MOST_STATEMENTS
+        || number >= MAX_STATEMENTS
     {
         return Err(LoopFaultKind::Limit);
     }
@@ -307,7 +305,11 @@ fn check_statement<'a>(
     })
 }
 
-fn check_out<'a>(index: &Index<'a>, given: &Given, name: &'a [u8]) -> Result<Found, LoopFaultKind>
+fn check_out<'a>(
+    index: &Index<'_, 'a>,
+    given: &Given,
+    name: &'a [u8],
+) -> Result<Found, LoopFaultKind>
     requires room { length given.now.inits ≡ 16 * number_of is_statement (forms_in index.now) }
     requires flags { length given.now.outs.items ≡ number_of is_statement (forms_in index.now) }
     ensures fault { (counts : Counts) → fault_in result
@@ -321,7 +323,7 @@ fn check_out<'a>(index: &Index<'a>, given: &Given, name: &'a [u8]) -> Result<Fou
     match found {
         Some(Declared::Value(value)) if given.outs[value] => Err(LoopFaultKind::RepeatedName),
         Some(Declared::Value(value)) if given.covers(value, 1) => Ok(Found {
-            number: found::number_of(found),
+            number: declared_number(found),
             ..Found::NOTHING
         }),
         Some(Declared::Value(_)) => Err(LoopFaultKind::MissingInit),
@@ -343,7 +345,7 @@ fn nothing_unless(fault: Option<LoopFaultKind>) -> Result<Found, LoopFaultKind>
 /// names stand for that it uses.
 #[inline(always)]
 pub(crate) fn check_line<'a>(
-    index: &Index<'a>,
+    index: &Index<'_, 'a>,
     counts: Counts,
     given: &Given,
     form: &Form<'a>,
@@ -369,7 +371,7 @@ pub(crate) fn check_line<'a>(
 }
 
 /// Takes down what one more line gives to the block's values.
-fn give<'a>(given: &mut Given, index: &Index<'a>, form: &Form<'a>)
+fn give<'a>(given: &mut Given, index: &Index<'_, 'a>, form: &Form<'a>)
     requires room { length given.old.inits ≡ 16 * number_of is_statement (forms_in index.now) }
     requires flags { length given.old.outs.items ≡ number_of is_statement (forms_in index.now) }
     ensures inits { given.new.inits ≡ inits_with (forms_in index.now) given.old.inits (form_seen form.now) }
@@ -395,7 +397,7 @@ fn give_init(given: &mut Given, found: Option<Declared>, number: u8, value: i64)
 {
     if let Some(Declared::Value(of)) = found
         && number > 0
-        && number as usize <= MOST
+        && number <= MAX_DISTANCE
     {
         given.inits.put(of, number as usize - 1, value);
     }
@@ -404,7 +406,7 @@ fn give_init(given: &mut Given, found: Option<Declared>, number: u8, value: i64)
 /// The first fault of the first so many lines of a block. Where they have none, `given` is left with
 /// what they give to the block's values, and `found` with what the names stand for that they use.
 pub(crate) fn first_fault<'a>(
-    index: &Index<'a>,
+    index: &Index<'_, 'a>,
     sound: usize,
     given: &mut Given,
     found: &mut Vec<Found>,

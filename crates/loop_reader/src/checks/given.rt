@@ -3,11 +3,12 @@
 ghost use Rattle.std.specs.Prelude.{◌≡◌, ◌*◌, ◌+◌, ◌-◌, ◌<◌, ◌≤◌, ◌^◌, ℕ, OnOk, IsTrue, None, Some, Bool, false, is_some, length, replicate, slice_index_or, slice_set};
 ghost use Rattle.loop_reader.specs.inner.Checks.{covers, slot};
 
+use machine::limits::MAX_DISTANCE;
 use std::alloc::{AllocError, Global};
 use std::marker::Model;
 
 /// How many initial values a value may have.
-pub(crate) const MOST: usize = 16;
+const PLACES: usize = MAX_DISTANCE as usize;
 
 /// So many flags, and none of them set.
 fn unmark(flags: &mut Vec<bool>, count: usize) -> Result<(), AllocError>
@@ -56,7 +57,7 @@ impl Table {
         ensures { OnOk result (self.new ≡ replicate (16 * rows) None) }
     {
         self.taken.clear();
-        let places = MOST * rows;
+        let places = PLACES * rows;
         let room = self.values.len().max(places);
         self.values.resize(room, 0)?;
         unmark(&mut self.rows, rows)?;
@@ -79,7 +80,7 @@ impl Table {
         requires { 16 * row + place < length self.now }
         ensures { result ≡ is_some (slot self.now row place) }
     {
-        self.taken[MOST * row + place]
+        self.taken[PLACES * row + place]
     }
 
     /// The value at this place of a row, if one is given.
@@ -88,8 +89,8 @@ impl Table {
         requires { 16 * row + place < length self.now }
         ensures { result ≡ slot self.now row place }
     {
-        if self.taken[MOST * row + place] {
-            Some(self.values[MOST * row + place])
+        if self.taken[PLACES * row + place] {
+            Some(self.values[PLACES * row + place])
         } else {
             None
         }
@@ -102,8 +103,8 @@ impl Table {
         requires place { place < 16 }
         ensures { self.new ≡ slice_set self.old (16 * row + place) (Some value) }
     {
-        self.taken[MOST * row + place] = true;
-        self.values[MOST * row + place] = value;
+        self.taken[PLACES * row + place] = true;
+        self.values[PLACES * row + place] = value;
         self.rows[row] = true;
     }
 }

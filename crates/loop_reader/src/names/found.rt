@@ -37,7 +37,7 @@ impl Found {
 
 /// The number of what a name stands for, unless it is too great for a loop.
 #[inline]
-pub(crate) fn number_of(found: Option<Declared>) -> u8
+pub(crate) fn declared_number(found: Option<Declared>) -> u8
     ensures { IsFewNumber (option_map declared_seen found) → result ≡ number_at (option_map declared_seen found) }
 {
     match found {
@@ -53,7 +53,7 @@ pub(crate) fn number_of(found: Option<Declared>) -> u8
 pub(crate) fn target_of(found: Option<Declared>) -> Target
     ensures { IsFewNumber (option_map declared_seen found) → result ≡ target_at (option_map declared_seen found) }
 {
-    let number = number_of(found);
+    let number = declared_number(found);
     match found {
         Some(Declared::Param(_)) => Target::Param(number),
         _ => Target::Value(number),

@@ -98,12 +98,12 @@ pub(crate) fn index_names<'a>(
 
 /// The lines of a block with an index of their names. Contracts see the lines.
 #[derive(Drop)]
-pub(crate) struct Index<'a> {
-    lines: &'a [Entry<'a>],
-    names: &'a Names<'a>,
+pub(crate) struct Index<'t, 'a> {
+    lines: &'t [Entry<'a>],
+    names: &'t Names<'a>,
 }
 
-impl<'a> Model for Index<'a> {
+impl<'t, 'a> Model for Index<'t, 'a> {
     ghost use Rattle.std.specs.Prelude.{◌≡◌, ℕ, List, option_map};
     ghost use Rattle.loop_reader.specs.inner.Known.{known_as};
     ghost use Rattle.loop_reader.specs.declared.lines.entry.Entry.{Entry};
@@ -117,7 +117,7 @@ impl<'a> Model for Index<'a> {
     ghost invariant = { λ a. (q : List ℕ) → option_map declared_seen (known_as a.names.now q) ≡ declared (forms_in a.lines.now) q };
 }
 
-impl<'a> Index<'a> {
+impl<'t, 'a> Index<'t, 'a> {
     ghost use Rattle.std.specs.Prelude.{◌≡◌, ℕ, List, option_map};
     ghost use Rattle.loop_reader.specs.inner.Known.{known_as};
     ghost use Rattle.loop_reader.specs.Meaning.{declared};
@@ -125,7 +125,7 @@ impl<'a> Index<'a> {
     ghost use Rattle.loop_reader.specs.inner.Checks.{IsCounted};
 
     /// An index of these lines by the table of their names.
-    pub(crate) fn new(names: &'a Names<'a>, lines: &'a [Entry<'a>]) -> Index<'a>
+    pub(crate) fn new(names: &'t Names<'a>, lines: &'t [Entry<'a>]) -> Index<'t, 'a>
         requires names { (q : List ℕ) → option_map declared_seen (known_as names.now q) ≡ declared (forms_in lines.now) q }
         ensures { result ≡ lines.now }
     {
@@ -133,7 +133,7 @@ impl<'a> Index<'a> {
     }
 
     /// The lines.
-    pub(crate) fn lines(&self) -> &'a [Entry<'a>]
+    pub(crate) fn lines(&self) -> &'t [Entry<'a>]
         ensures { result.now ≡ self.now }
     {
         self.lines

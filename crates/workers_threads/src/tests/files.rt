@@ -1,18 +1,12 @@
 //! Files by workers in threads.
 
-ghost use Rattle.std.specs.Prelude.{true};
-
+use super::gates::{Limited, Meeting};
 use super::given::{LISTING, LOOPS, MACHINE};
 use candidates::{Settings, listing_text};
 use std::alloc::Global;
-use std::sync::atomic::{AtomicBool, AtomicU64, Ordering};
 use std::test::Fail;
-use std::thread::{self, Threads};
+use std::thread::Threads;
 use workers::{Gate, OpenGate, pipeline_file};
-
-/// How often a call looks for another, at most. Between two looks it lets other threads run, so that a busy machine has time to start
-/// the second thread.
-const TURNS: u64 = 50_000_000;
 
 /// The text of the listing of the loops, with a ceiling of 3.
 fn listed<R: Threads + Sync, G: Gate + Sync>(
@@ -45,40 +39,23 @@ fn workers_and_cuts_change_no_listing(rt: HostRuntime) -> Result<(), Fail> {
     Ok(())
 }
 
-/// A gate that holds its first call until a second one has come.
-#[derive(Drop)]
-struct Meeting {
-    calls: AtomicU64,
-    met: AtomicBool,
-}
-
-impl Gate for Meeting {
-    ghost always_goes_on = { λ _. true };
-
-    fn at_piece(&self, _worker: usize, _piece: u64) {
-        if self.calls.fetch_add(1, Ordering::SeqCst) > 0 {
-            return;
-        }
-        for _ in 0..TURNS {
-            if self.calls.load(Ordering::SeqCst) > 1 {
-                self.met.store(true, Ordering::SeqCst);
-                return;
-            }
-            thread::yield_now();
-        }
-    }
-}
-
 // Two workers run at once, and the gate is called once for each of the 12 pieces.
 #[test]
 fn two_at_once(rt: HostRuntime) -> Result<(), Fail> {
-    let gate = Meeting {
-        calls: AtomicU64::new(0),
-        met: AtomicBool::new(false),
-    };
+    let gate = Meeting::new();
     let text = listed(&rt, rt.alloc(), 2, 1, &gate)?;
     assert_eq!(rt; text.as_str(), LISTING);
-    assert!(rt; gate.met.load(Ordering::SeqCst));
-    assert_eq!(rt; gate.calls.load(Ordering::SeqCst), 12);
+    assert!(rt; gate.met());
+    assert_eq!(rt; gate.calls(), 12);
+    Ok(())
+}
+
+// The calling thread does what the workers leave.
+#[test]
+fn workers_that_stop_change_no_listing(rt: HostRuntime) -> Result<(), Fail> {
+    for most in [0, 1, 7] {
+        let text = listed(&rt, rt.alloc(), 3, 1, &Limited::new(most))?;
+        assert_eq!(rt; text.as_str(), LISTING);
+    }
     Ok(())
 }

@@ -3,7 +3,6 @@
 use super::*;
 use kernel::simulate;
 use loops::{Memory, RunFault, opening, read_loops};
-use std::process::Abort;
 
 /// The memory before the first iteration of the loop of this text.
 fn opened(alloc: Global, text: &str, trip: u64) -> Result<Memory, Fail> {
@@ -168,31 +167,28 @@ fn gives_the_value_of_the_last_turn(rt: HostRuntime) -> Result<(), Fail> {
     Ok(())
 }
 
+/// Why the counting kernel is not run for so many iterations on the memory of this loop for one.
+fn fault(alloc: Global, text: &str, trip: u64) -> Result<Option<RunFault>, Fail> {
+    let kernel = Kernel::check(counting(alloc)?)?;
+    let memory = opened(alloc, text, 1)?;
+    Ok(simulate(alloc, &kernel, trip, &memory).err())
+}
+
 #[test]
 fn refuses_too_many_iterations(rt: HostRuntime) -> Result<(), Fail> {
-    let memory = opened(rt.alloc(), COUNT, 1)?;
-    let kernel = Kernel::check(counting(rt.alloc())?)?;
-    let after = simulate(rt.alloc(), &kernel, 100_001, &memory);
-    assert_eq!(rt; after.err(), Some(RunFault::Trip));
+    assert_eq!(rt; fault(rt.alloc(), COUNT, 100_001)?, Some(RunFault::Trip));
     Ok(())
 }
+
+const NO_OUT: &str = "loop none\ninit x@1 = 10\nx = add x@1 1\nend\n";
+
+const ONE_ARRAY: &str = "loop more\narray a =\ninit x@1 = 10\nx = add x@1 1\nout x\nend\n";
 
 // Another number of iterations, no live value, and an array too many.
 #[test]
 fn refuses_another_shape(rt: HostRuntime) -> Result<(), Fail> {
-    let kernel = Kernel::check(counting(rt.alloc())?)?;
-    let memory = opened(rt.alloc(), COUNT, 1)?;
-    let after = simulate(rt.alloc(), &kernel, 2, &memory);
-    assert_eq!(rt; after.err(), Some(RunFault::Shape));
-
-    let text = "loop none\ninit x@1 = 10\nx = add x@1 1\nend\n";
-    let memory = opened(rt.alloc(), text, 1)?;
-    let after = simulate(rt.alloc(), &kernel, 1, &memory);
-    assert_eq!(rt; after.err(), Some(RunFault::Shape));
-
-    let text = "loop more\narray a =\ninit x@1 = 10\nx = add x@1 1\nout x\nend\n";
-    let memory = opened(rt.alloc(), text, 1)?;
-    let after = simulate(rt.alloc(), &kernel, 1, &memory);
-    assert_eq!(rt; after.err(), Some(RunFault::Shape));
+    assert_eq!(rt; fault(rt.alloc(), COUNT, 2)?, Some(RunFault::Shape));
+    assert_eq!(rt; fault(rt.alloc(), NO_OUT, 1)?, Some(RunFault::Shape));
+    assert_eq!(rt; fault(rt.alloc(), ONE_ARRAY, 1)?, Some(RunFault::Shape));
     Ok(())
 }

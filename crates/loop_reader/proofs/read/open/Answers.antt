@@ -11,7 +11,7 @@ use Rattle.loop_reader.proofs.read.open.Goals as goal
 pub returns : goal.returns
 returns c = λ names has e.
     let absent : list_any (same_word c.args.name.now) names ≡ false = grind (arith, has c.args.name.now) in (
-      opening-none names c.args.name.now c.args.loops e (sym c.is_long.ensures ∙ c.if-is_long.false) c.if-loops-ge-MOST_LOOPS.false absent,
+      opening-none names c.args.name.now c.args.loops e (sym c.is_long.ensures ∙ c.if-is_long.false) c.if-loops-ge-MAX_LOOPS.false absent,
       λ q.
           let old : Bool = contains_by (λ k. slice_cmp nat_cmp q k.now) c.args.names.now in
           names-more names c.args.name.now q _

@@ -11,12 +11,12 @@ use Rattle.loop_reader.specs.Meaning.{forms_of, whole, loops_in, loop_of, Answer
 use Rattle.loop_lines.specs.Parsed.{form_seen}
 use Rattle.loop_reader.specs.inner.Texts.{HasNames}
 use Rattle.loop_reader.proofs.blocks.Reading.{forms-next, forms-none}
-use Rattle.loop_reader.proofs.blocks.OpeningLines.{Reads, reads-as, reads-block, reads-all, reads-other, reads-opening, reads-inside, too-long, answer, answer-opening, named, names-with, name-of-loop, few-loops, handed-on}
+use Rattle.loop_reader.proofs.blocks.OpeningLines.{Reads, reads-as, reads-block, reads-all, reads-other, reads-opening, reads-inside, too-long, answer, answer-opening, named, names-with, name-of-loop, few-loops, short-name, handed-on}
 use Rattle.loop_reader.proofs.blocks.BlockStanding.{near-words}
 use Rattle.loop_reader.proofs.read.read_loops.Goals as goal
 
-pub returns-then-text-gt-MOST_BYTES-clause-exact : goal.returns-then-text-gt-MOST_BYTES-clause-exact
-returns-then-text-gt-MOST_BYTES-clause-exact c = too-long c.args.text.now (omega arith)
+pub returns-then-text-gt-MAX_TEXT-clause-exact : goal.returns-then-text-gt-MAX_TEXT-clause-exact
+returns-then-text-gt-MAX_TEXT-clause-exact c = too-long c.args.text.now (omega arith)
 
 pub returns-clause-exact : goal.returns-clause-exact
 returns-clause-exact c =
@@ -56,6 +56,12 @@ read_block-requires-clause-name c =
     named c.in-Loop.name.now (words_of c.next_line.result.0.now) (line_form (words_of c.next_line.result.0.now))
     (sym c.in-Some.ensures ∙ ap (λ f. Some (form_seen f)) c.in-Loop.is) (near-words (words_of c.next_line.result.0.now))
 
+pub read_block-requires-clause-short : goal.read_block-requires-clause-short
+read_block-requires-clause-short c =
+    let earlier = names_of c.loop-rest.loops.items in
+    let many : length earlier ≡ c.len.result = search (rules, length-map) in
+    short-name earlier c.in-Loop.name.now (c.in_default-open.ensures earlier c.loop-rest.invariant.names many).0
+
 pub returns-in_err-block-in-Loop-clause-exact : goal.returns-in_err-block-in-Loop-clause-exact
 returns-in_err-block-in-Loop-clause-exact c =
     let text = c.args.text.now in
@@ -68,8 +74,8 @@ returns-in_err-block-in-Loop-clause-exact c =
     let reads = reads-as text (names_of loops) loops c.loop-rest.line (forms_of c.loop-rest.rest.now) (Some (LoopLine name) ∷ forms_of c.next_line.result.1.now) next v.reads in
     let many : length (names_of loops) ≡ c.len.result = search (rules, length-map) in
     let opened = c.in_default-open.ensures (names_of loops) v.names many in
-    let e : IsErrAnd c.from_residual.result (λ e. e ≡ fault) = c.from_residual.ensures.1 in
-    handed-on c.from_residual.result fault (loops_in text) e
+    let e : IsErrAnd c.from_residual-in_err-block-in-Loop.result (λ e. e ≡ fault) = c.from_residual-in_err-block-in-Loop.ensures.1 in
+    handed-on c.from_residual-in_err-block-in-Loop.result fault (loops_in text) e
     (answer fault.kind fault _ (loops_in text)
     (λ h. reads-inside text (names_of loops) loops c.loop-rest.line name fault (forms_of c.next_line.result.1.now) (omega arith) reads opened.0 (h (names_of loops ++ name ∷ [])))
     c.in_err-block-in-Loop.ensures)

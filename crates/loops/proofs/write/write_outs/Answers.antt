@@ -2,7 +2,7 @@ use Rattle.std.proofs.Common.{sym, subst, arith}
 use Rattle.std.proofs.lemmas.List.Elements.{All-get_or}
 use Rattle.iterations.specs.Loops.{GivesValue, HasInitial}
 use Rattle.std.specs.List.{All}
-use Rattle.iterations.proofs.Standing.{GivesValue_within}
+use Rattle.iterations.proofs.Holding.{GivesValue_within}
 use Rattle.loops.proofs.write.write_outs.Goals as goal
 
 pub write_out-requires : goal.write_out-requires

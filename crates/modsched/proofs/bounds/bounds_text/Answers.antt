@@ -1,21 +1,22 @@
 use Rattle.std.proofs.lemmas.Result.{err_from_is_err_and}
+use Rattle.modsched.specs.Bounds.{IsBoundsText}
 use Rattle.modsched.proofs.Refusing.{machine_refused, machine_memory, loops_refused, loops_memory, lacking_refused, lacking_memory}
 use Rattle.modsched.proofs.bounds.bounds_text.Goals as goal
 
 pub returns-in_err-machine-clause-exact : goal.returns-in_err-machine-clause-exact
 returns-in_err-machine-clause-exact c =
     let p = err_from_is_err_and c.from_residual.result c.from_residual.ensures.1 in
-    rw (p.1, p.2) (machine_refused _ _ _ c.in_err-machine.ensures.exact)
+    rw (p.1, p.2) (machine_refused IsBoundsText _ _ _ c.in_err-machine.ensures.exact)
 
 pub returns-in_err-loops-clause-exact : goal.returns-in_err-loops-clause-exact
 returns-in_err-loops-clause-exact c =
     let p = err_from_is_err_and c.from_residual-in_err-loops.result c.from_residual-in_err-loops.ensures.1 in
-    rw (p.1, p.2, ← c.in_ok-machine.ensures.exact) (loops_refused _ _ _ c.in_err-loops.ensures.exact)
+    rw (p.1, p.2, ← c.in_ok-machine.ensures.exact) (loops_refused IsBoundsText _ _ _ c.in_err-loops.ensures.exact)
 
 pub returns-in_err-text-clause-exact : goal.returns-in_err-text-clause-exact
 returns-in_err-text-clause-exact c =
     let p = err_from_is_err_and c.from_residual-in_err-text.result c.from_residual-in_err-text.ensures.1 in
-    rw (p.1, p.2, ← c.in_ok-machine.ensures.exact, ← c.in_ok-loops.ensures.exact) (lacking_refused _ c.in_ok-machine.machine c.in_ok-loops.loops.items (rw c.as_slice.ensures.value at c.in_err-text.ensures))
+    rw (p.1, p.2, ← c.in_ok-machine.ensures.exact, ← c.in_ok-loops.ensures.exact) (lacking_refused IsBoundsText _ c.in_ok-machine.machine c.in_ok-loops.loops.items (rw c.as_slice.ensures.value at c.in_err-text.ensures))
 
 pub returns-in_err-machine-clause-memory : goal.returns-in_err-machine-clause-memory
 returns-in_err-machine-clause-memory c =

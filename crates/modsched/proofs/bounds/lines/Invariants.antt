@@ -1,5 +1,6 @@
 use Rattle.std.proofs.Common.{◌≡◌, None, take}
-use Rattle.modsched.specs.Bounds.{first_lacking, IsLines}
+use Rattle.graph.specs.Units.{first_lacking}
+use Rattle.modsched.specs.Bounds.{IsLines}
 use Rattle.modsched.proofs.bounds.lines.Given as goal
 
 abbrev pub invariant-loop-innermost : goal.invariant-loop-innermost

@@ -4,7 +4,7 @@ use Rattle.ims.specs.Problems.{ProblemData}
 use Rattle.ims.specs.Schedules.{stages_of}
 use Rattle.overlap.specs.Allotments.{number_of}
 use Rattle.overlap.specs.Emission.{name_of, name_of_value}
-use Rattle.overlap.proofs.Plain.{slice_get-within}
+use Rattle.iterations.proofs.Instances.{slice_get-within}
 use Rattle.rotating.proofs.Ranks.{number-below}
 use Rattle.rotating.proofs.lists.out_of.Goals as goal
 

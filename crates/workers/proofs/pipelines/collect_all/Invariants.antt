@@ -1,12 +1,12 @@
-use Rattle.std.proofs.Common.{◌≡◌, vec_len}
-use Rattle.std.specs.Prelude.{IfSome}
-use Rattle.std.specs.List.{All}
-use Rattle.workers.specs.Entries.{ReportData}
-use Rattle.workers.specs.declared.places.Place.{Place}
+use Rattle.std.proofs.Common.{◌≡◌, ◌+◌, vec_len}
+use Rattle.std.specs.List.{All, AllZip}
+use Rattle.workers.specs.Places.{IsDonePlace, IsReportOn}
 use Rattle.workers.proofs.pipelines.collect_all.Given as goal
 
 abbrev pub invariant-loop-place : goal.invariant-loop-place
-invariant-loop-place l = All (λ (r : ReportData). r.loops ≡ l._loops) l.reports.items × All (λ (p : Place). IfSome p.report (λ r. r.loops ≡ l._loops)) l.places.items
+invariant-loop-place g l = AllZip (IsReportOn l._board l._loops l._pieces (g.G.Gate.always_goes_on l._gate)) l.back.passes.items l.back.reports.items
+    × All (IsDonePlace l._board l._loops l._pieces (g.G.Gate.always_goes_on l._gate)) l.places.items
+    × (vec_len l.back.passes + vec_len l.places ≡ vec_len l.fn.places)
 
 abbrev pub decreases-loop-place : goal.decreases-loop-place
-decreases-loop-place l = vec_len l.places
+decreases-loop-place g l = vec_len l.places

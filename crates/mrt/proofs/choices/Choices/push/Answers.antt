@@ -19,7 +19,8 @@ invariant_of-self-2 c =
     let to : c.len-end.result ≡ length c.push_slots.new.slots.items = c.len-end.ensures ∙ c.push_slots.new.slots.ok.0 in
     let read : All (IsSlot c.self.inside.ii) c.deref.result.now = rw c.deref.ensures.value slots in
     let own = c.collides-collides.ensures c.self.inside.ii (All-take (IsSlot c.self.inside.ii) _ _ (All-drop (IsSlot c.self.inside.ii) c.len-start.result c.deref.result.now read)) in
-    rw c.in_ok-push.ensures.items (AreChoices-pushed _ _ _ _ _ c.self.invariant slots c.push_slots.ensures.kept from to (rw c.deref.ensures.value at own))
+    let bits = c.units_of-units.ensures c.self.inside.ii (All-take (IsSlot c.self.inside.ii) _ _ (All-drop (IsSlot c.self.inside.ii) c.len-start.result c.deref.result.now read)) in
+    rw c.in_ok-push.ensures.items (AreChoices-pushed _ _ _ _ _ c.self.invariant slots c.push_slots.ensures.kept from to (rw c.deref.ensures.value at own) (rw c.deref.ensures.value at bits))
 
 pub returns-clause-pushed : goal.returns-clause-pushed
 returns-clause-pushed c =

@@ -8,7 +8,7 @@ use Rattle.mrt.proofs.mask.MaskTable.is_free.Goals as goal
 pub returns : goal.returns
 returns c time base =
     let t = c.self.inside.roster in
-    let i = c.self.invariant in
+    let i = c.self.invariant.0 in
     let b : time % t.interval ≡ c.args.base = rw c.self.view_is base in
     let there : c.args.alternative < length (alternatives_of t.operations c.args.op) = rw c.self.view_is c.requires.alternative in
     let met = rw (c.ii.ensures.value, c.deref.ensures.value, c.in-Some.ensures.rows) at (c.is_met.ensures time (rw c.ii.ensures.value b)) in

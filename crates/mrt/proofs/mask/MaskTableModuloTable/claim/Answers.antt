@@ -1,8 +1,9 @@
-use Rattle.std.proofs.Common.{◌≡◌, ◌%◌, ◌<◌, None, length, drop, sym, ap, ◌∙◌}
+use Rattle.std.proofs.Common.{◌≡◌, ℕ, ◌%◌, ◌<◌, cond, true, None, length, drop, sym, ap, ◌∙◌}
 use Rattle.std.proofs.lemmas.List.{take_at}
-use Rattle.mrt.specs.Placements.{Placement, placement_of, IsFree}
-use Rattle.mrt.specs.MaskTables.{Repeats}
-use Rattle.mrt.proofs.Masking.{IsMaskTable-placed}
+use Rattle.mrt.specs.Placements.{Placement, placement_of, rows_of, IsFree}
+use Rattle.mrt.specs.Slots.{takes}
+use Rattle.mrt.specs.MaskTables.{is_held, Repeats}
+use Rattle.mrt.proofs.Masking.{IsMaskTable-placed, AreTimes-marked}
 use Rattle.mrt.proofs.mask.MaskTableModuloTable.claim.Goals as goal
 
 pub invariant_of-self : goal.invariant_of-self
@@ -16,5 +17,15 @@ invariant_of-self c =
     let long : length c.mark.new.busy ≡ length c.self.inside.busy.items = c.mark.auto.busy ∙ ap length c.deref_mut.ensures.value in
     let whole = take_at c.mark.new.busy (drop (length c.mark.new.busy) c.self.inside.busy.items) c.self.inside.busy.len (long ∙ sym c.self.inside.busy.ok.0) in
     let again : Repeats t.interval c.mark.new.busy = rw c.ii-ii.ensures.value at c.mark.ensures.repeats in
-    rw (c.place.ensures, whole) (IsMaskTable-placed t c.self.inside.busy.items c.mark.new.busy c.args.op at c.self.invariant long again there unplaced free
-    (λ unit residue u r. rw (c.ii-ii.ensures.value, c.slots-slots.ensures.rows, c.deref_mut.ensures.value) at (c.mark.ensures.marked c.args.time unit residue (rw c.ii-ii.ensures.value base) u (rw c.ii-ii.ensures.value r))))
+    let times_long : length c.mark_times.new.times ≡ length c.self.inside.times.items = c.mark_times.auto.times ∙ ap length c.deref_mut-2.ensures.value in
+    let times_whole = take_at c.mark_times.new.times (drop (length c.mark_times.new.times) c.self.inside.times.items) c.self.inside.times.len (times_long ∙ sym c.self.inside.times.ok.0) in
+    let held : (unit residue : ℕ) → unit < 64 → residue < t.interval
+    → is_held c.mark.new.busy unit residue ≡ cond (takes t.interval (rows_of t.operations c.args.op c.args.alternative) c.args.time unit residue) true (is_held c.self.inside.busy.items unit residue) =
+    λ unit residue u r. rw (c.ii-ii.ensures.value, c.slots-slots.ensures.rows, c.deref_mut.ensures.value) at (c.mark.ensures.marked c.args.time unit residue (rw c.ii-ii.ensures.value base) u (rw c.ii-ii.ensures.value r)) in
+    rw (c.place.ensures, whole, times_whole) (
+      IsMaskTable-placed t c.self.inside.busy.items c.mark.new.busy c.args.op at c.self.invariant.0 long again there unplaced free held,
+      AreTimes-marked t.interval c.self.inside.words c.self.inside.times.items c.mark_times.new.times c.self.inside.busy.items c.mark.new.busy
+          (takes t.interval (rows_of t.operations c.args.op c.args.alternative) c.args.time) true c.ii-ii.ensures.some c.self.invariant.1 times_long
+          (λ unit place u p. rw (c.ii-ii.ensures.value, c.slots-slots.ensures.rows, c.deref_mut-2.ensures.value) at (c.mark_times.ensures.marked c.args.time unit place (rw c.ii-ii.ensures.value base) u p))
+          held,
+    )

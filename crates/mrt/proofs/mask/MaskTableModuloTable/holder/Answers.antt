@@ -26,12 +26,12 @@ returns-then-index-slot-eq0 c r here =
     let slot = c.slots.ensures.slots c.args.row zero within in
     let base : c.args.time % c.ii.result ≡ c.residue.result = rw c.ii.ensures.value (sym c.residue.ensures.value) in
     let at : c.residue-residue.result ≡ residue_of t.interval r c.args.time = rw (c.ii.ensures.value, same) at (c.residue-residue.ensures.value c.args.time base) in
-    let word = get_or_read busy c.residue-residue.result c.index.result.now (omega (arith, c.residue-residue.ensures.below, c.ii.ensures.value, c.self.invariant.least)) c.index.ensures 0 in
+    let word = get_or_read busy c.residue-residue.result c.index.result.now (omega (arith, c.residue-residue.ensures.below, c.ii.ensures.value, c.self.invariant.0.least)) c.index.ensures 0 in
     let clear = test_clear c.index.result.now (get_or c.slots.result.now c.args.row zero).mask (get_or c.slots.result.now c.args.row zero).row.unit slot.mask c.if-index-slot-eq0.true in
     let free : is_held busy r.unit (residue_of t.interval r c.args.time) ≡ false = rw (word, at, same) at clear in
     let unit : r.unit < 64 = rw same at slot.unit in
     rw (← c.self.view_is) (nobody_holds t.interval t.operations t.placed r c.args.time
-    (unmarked t.interval t.operations t.placed r c.args.time busy c.ii.ensures.some unit c.self.invariant.occupied free))
+    (unmarked t.interval t.operations t.placed r c.args.time busy c.ii.ensures.some unit c.self.invariant.0.occupied free))
 
 pub returns : goal.returns
 unfolding zero
@@ -41,4 +41,4 @@ returns c r here =
     let same = row_at c.slots.result.now _ c.args.row r zero c.slots.ensures.rows at_row in
     let base : c.args.time % c.ii.result ≡ c.residue.result = rw c.ii.ensures.value (sym c.residue.ensures.value) in
     let at : c.residue-residue.result ≡ residue_of t.interval r c.args.time = rw (c.ii.ensures.value, same) at (c.residue-residue.ensures.value c.args.time base) in
-    rw (← c.self.view_is) (holder_of_taker t.interval t.operations t.placed r c.args.time c.self.invariant.apart c.taker.result (rw (at, same) at c.taker.ensures))
+    rw (← c.self.view_is) (holder_of_taker t.interval t.operations t.placed r c.args.time c.self.invariant.0.apart c.taker.result (rw (at, same) at c.taker.ensures))

@@ -1,4 +1,4 @@
-use Rattle.std.proofs.Common.{◌≡◌, ◌<◌, ◌%◌, sym, ◌∙◌, arith, below_more}
+use Rattle.std.proofs.Common.{◌<◌, sym, ◌∙◌, arith, below_more}
 use Rattle.mrt.specs.Rosters.{placement}
 use Rattle.mrt.proofs.Taking.{placed_within, takes_not, takes_unplaced}
 use Rattle.mrt.proofs.roster.Roster.taker.Goals as goal
@@ -9,11 +9,8 @@ loop-op-preserved c =
     let t = c.args.self.now in
     below_more _ _ c.loop-op.invariant (elim c.match-issue.branch [
       | in-Some+else-takes w ↦
-          let issue = w.in-Some.issue in
-          let base : issue.time % w.ii.result ≡ issue.base = rw w.ii.ensures.value (sym w.in-Some.ensures.kept.base) in
-          let apart = rw (w.ii.ensures.value, w.slots-slots.ensures.rows) at (sym (w.takes.ensures issue.time base) ∙ w.if-takes.false) in
-          takes_not t.interval t.operations t.placed c.args.unit c.args.residue c.loop-op.op (placement issue) w.in-Some.ensures.value apart
-      | in_default w ↦ takes_unplaced t.interval t.operations t.placed c.args.unit c.args.residue c.loop-op.op w.in_default.ensures.value
+          takes_not t.interval t.operations t.placed c.args.slot.now.row.unit c.args.residue c.loop-op.op (placement w.in-Some.issue) w.in-Some.ensures.value (sym w.takes.ensures ∙ w.if-takes.false)
+      | in_default w ↦ takes_unplaced t.interval t.operations t.placed c.args.slot.now.row.unit c.args.residue c.loop-op.op w.in_default.ensures.value
     ])
 
 pub returns : goal.returns

@@ -4,4 +4,4 @@ use Rattle.mrt.proofs.roster.Roster.taker.Given as goal
 
 -- no operation before this one takes the slot
 abbrev pub invariant-loop-op : goal.invariant-loop-op
-invariant-loop-op l = (before : ℕ) → before < l.op → Takes l.self.interval l.self.operations l.self.placed l.unit l.residue before → ⊥
+invariant-loop-op l = (before : ℕ) → before < l.op → Takes l.self.interval l.self.operations l.self.placed l.slot.row.unit l.residue before → ⊥

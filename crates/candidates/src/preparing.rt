@@ -1,0 +1,34 @@
+//! Loops prepared for scheduling.
+
+ghost use Rattle.graph.specs.Answers.{Answers};
+ghost use Rattle.graph.specs.Units.{first_without_table};
+ghost use Rattle.ims.specs.Problems.{IsProblemOf};
+
+use graph::GraphFault;
+use ims::Prepared;
+use iterations::Loop;
+use machine::Machine;
+use settings::Settings;
+use std::alloc::Global;
+
+/// A loop prepared for scheduling on a machine, with the ratio and the ceiling of the settings.
+///
+/// # Errors
+/// [`GraphFault::NoTable`] for the first statement whose opcode the machine has no table for, and
+/// [`GraphFault::Memory`] where memory ran out.
+pub fn prepare(
+    alloc: Global,
+    machine: &Machine,
+    innermost: Loop,
+    settings: &Settings,
+) -> Result<Prepared, GraphFault>
+    ensures exact { Answers (first_without_table machine.now innermost) (IsProblemOf machine.now innermost settings.now.ratio settings.now.ceiling) result }
+{
+    Prepared::new(
+        alloc,
+        machine,
+        innermost,
+        settings.ratio(),
+        settings.ceiling(),
+    )
+}

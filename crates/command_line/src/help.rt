@@ -1,0 +1,134 @@
+//! The texts of the help.
+
+pub(crate) const ABOUT: &str =
+    "Software pipelining of innermost loops for a described VLIW machine";
+
+pub(crate) const LONG_ABOUT: &str =
+    "Software pipelining of innermost loops of 64-bit integer operations for a described VLIW machine.
+
+The machine is a TOML text: its functional units, the number of its rotating registers and, for each
+opcode, the latency and the reservation tables by which an operation may be issued. The loops are a
+text of their own, with one statement a line.";
+
+pub(crate) const LIMITS: &str =
+    "Limits: 1,048,576 bytes for each text; 1,024 loops of a file, each of 1 to 128 statements, with at
+most 32 arrays and 64 parameters; names of 1 to 16 bytes; 1 to 64 units; 1 to 256 registers; 1 to 8
+alternatives of an opcode, each of 1 to 16 rows; latencies of 1 to 64 cycles; trip counts of 0 to
+100,000.
+
+Exit status: 0 done; 1 done, but some loop has no kernel at any interval that was tried; 2 the line is
+refused; 3 a file can't be read; 4 the machine is refused; 5 the loops are refused, or an opcode has no
+reservation table; 6 the output can't be written; 7 out of memory. A fault is told in one line on the
+standard error.";
+
+pub(crate) const SCHEDULE_ABOUT: &str = "Find a kernel for each loop, and print the listing";
+
+pub(crate) const SCHEDULE_LONG_ABOUT: &str = "Find a kernel for each loop, and print the listing.
+
+The initiation interval is the number of cycles from the start of an iteration to the start of the
+next one. A kernel is the code that runs once in each interval, with operations of several iterations
+in it. For each loop the intervals from its lower bound MII on are tried by iterative modulo scheduling,
+and the first that gives a kernel is taken. Prints for each loop, in the order of the file, a line
+
+  loop NAME ops O res R rec C mii M ii I stages S
+  loop NAME ops O res R rec C mii M failed to T: CAUSE
+
+The first form has a kernel behind it. O, R, C and M are as `modsched bounds` prints them. I is the
+interval of the kernel, in cycles. S is its number of stages: so many iterations are under way at a time,
+each in a stage of its own.
+
+The second form stands where none of the intervals from M to T gives a kernel. CAUSE tells why T does
+not: `table`, an operation would need a unit twice in one row of the modulo reservation table, however it
+is issued; `budget`, the attempt has made all its placements, and some operation has no place; `stages`,
+the schedule has more than 64 stages; `registers`, the rotating registers don't hold the values.
+
+The lines of a kernel, as an example:
+
+  pre r2 0                            before the first turn, register r2 holds 0
+  0: load r0 a[k+0] ?0                the operations of row 0
+  1: add r2 r3 r1 ?1 | store b[k-2] r3 ?2
+  out s r3                            at the end, the value s is in r3, as the last turn names it
+
+A turn is one run through the rows 0 to I - 1, a cycle each. An operation has its opcode, the register
+of its result, what it reads (registers, parameters, numbers), for a store behind `if` its guard, and
+its stage behind `?`: it acts in the turns in which an iteration is in that stage. `!A` behind the stage
+names an alternative of the opcode other than the first, numbered from 0. In a[k-2], k is the number of
+the turn, from 0. The registers rotate: with each turn the value of a register moves on to the register
+with the next number, and that of the last one to r0.
+
+The last line, loops A met B failed F, has the numbers of loops, of those with a kernel and of those
+without. Where some loop has an out, the first line is `version 2`.";
+
+pub(crate) const RUN_ABOUT: &str = "Run each loop's kernel, and tell what it changed";
+
+pub(crate) const RUN_LONG_ABOUT: &str = "Run each loop's kernel, and tell what it changed.
+
+Finds the kernels that `modsched schedule` lists with the same options, and runs each on a machine with
+rotating registers, where the iterations overlap. Prints for each loop, in the order of the file:
+
+  loop NAME trip N     the loop was run N times
+  ARRAY[CELL] VALUE    for each cell whose value is another one than before the run: the arrays in
+                       order, their cells, -64 to N + 63, in ascending order
+  out NAME VALUE       for each out of the loop, in order, changed or not
+
+These are the lines of `modsched plain`. A loop that has no kernel is not run. It has the line of the
+listing that tells why:
+
+  loop NAME ops O res R rec C mii M failed to T: CAUSE
+
+The last line, loops A met B failed F, has the numbers of loops, of those with a kernel and of those
+without.";
+
+pub(crate) const BOUNDS_ABOUT: &str = "Print lower bounds on each loop's initiation interval";
+
+pub(crate) const BOUNDS_LONG_ABOUT: &str = "Print lower bounds on each loop's initiation interval.
+
+The initiation interval is the number of cycles from the start of an iteration to the start of the
+next one. Prints a line for each loop, in the order of the file:
+
+  loop NAME ops O res R rec C mii M
+
+O is the number of its operations. R is the bound by resources: for so many cycles an iteration takes
+the busiest unit. An operation with several alternatives is counted on the one that leaves the busiest
+unit taken the least; where a loop has such operations, a schedule below R may exist. C is the bound by
+recurrences: the least interval that the cycles of dependences allow, 1 where there are none. M is the
+greater of R and C. All three are in cycles.
+
+The last line, loops A, has the number of loops.";
+
+pub(crate) const PLAIN_ABOUT: &str =
+    "Run each loop, one iteration after another, and tell what it changed";
+
+pub(crate) const PLAIN_LONG_ABOUT: &str =
+    "Run each loop, one iteration after another, and tell what it changed.
+
+No machine is read. Prints for each loop, in the order of the file:
+
+  loop NAME trip N     the loop was run N times
+  ARRAY[CELL] VALUE    for each cell whose value is another one than before the run: the arrays in
+                       order, their cells, -64 to N + 63, in ascending order
+  out NAME VALUE       for each out of the loop, in order, changed or not
+
+The last line, loops A, has the number of loops.";
+
+pub(crate) const MACHINE: &str = "The file with the machine's text";
+
+pub(crate) const LOOPS: &str = "The file with the loops' text";
+
+pub(crate) const TRIP: &str = "How many iterations each loop is run, from 0 to 100000";
+
+pub(crate) const RATIO: &str =
+    "How many placements an attempt at an interval may make for each operation, from 1 to 64. More may find
+a kernel at a shorter interval, but an interval that gives none takes longer";
+
+pub(crate) const CEILING: &str =
+    "How many intervals above MII are tried, from 0 to 255. More may find a kernel where there was none, but
+a loop that has none at all takes longer";
+
+pub(crate) const WORKERS: &str =
+    "How many threads share the work, from 1 to 64. More may take less time. The output is the same with any
+number";
+
+pub(crate) const CUT: &str =
+    "How many intervals of a loop a thread takes at once, from 1 to 256. With fewer, more threads can share
+a hard loop; with more, less is spent on sharing. The output is the same with any number";

@@ -1,0 +1,196 @@
+//! The form of the command line: its subcommands, their arguments and options.
+
+ghost use Rattle.std.specs.Prelude.{◌≡◌, codes, false, IfOk};
+ghost use Rattle.clap.specs.Words.{app_of, new_app, rule_of};
+ghost use Rattle.clap.specs.declared.builder.command.Command.TheViews.{out-Command};
+ghost use Rattle.command_line.specs.Lines.{program_line, bounds_line, plain_line, schedule_line, run_line, with_search, path_rule, trip_rule, option_rule, ratio_rule, ceiling_rule, workers_rule, cut_rule};
+
+use crate::help;
+use clap::{Arg, Command, value_parser};
+use std::alloc::{AllocError, Global};
+
+const VERSION: &str = "0.1.0";
+
+/// The line of the program, without its own name.
+pub(super) fn program<'a>(alloc: Global) -> Result<Command<'a>, AllocError>
+    ensures { IfOk result (λ c. app_of c ≡ program_line) }
+{
+    Command::new(alloc, "modsched")
+        .bin_name("modsched")?
+        .no_binary_name(true)
+        .version(VERSION)
+        .about(help::ABOUT)
+        .long_about(help::LONG_ABOUT)
+        .after_long_help(help::LIMITS)
+        .subcommand_required(true)
+        .arg_required_else_help(true)
+        .subcommand(schedule(alloc)?)?
+        .subcommand(run(alloc)?)?
+        .subcommand(bounds(alloc)?)?
+        .subcommand(plain(alloc)?)
+}
+
+// A subcommand that has no argument yet.
+fn bare<'a>(alloc: Global, name: &'a str, about: &'a str, long_about: &'a str) -> Command<'a>
+    ensures app { app_of result ≡ new_app name.entry.now }
+    ensures local { (out-Command result).has_globals ≡ false }
+{
+    Command::new(alloc, name)
+        .about(about)
+        .long_about(long_about)
+        .after_long_help(help::LIMITS)
+}
+
+// The subcommand `schedule`.
+fn schedule<'a>(alloc: Global) -> Result<Command<'a>, AllocError>
+    ensures app { IfOk result (λ c. app_of c ≡ schedule_line) }
+    ensures local { IfOk result (λ c. (out-Command c).has_globals ≡ false) }
+{
+    let command = bare(
+        alloc,
+        "schedule",
+        help::SCHEDULE_ABOUT,
+        help::SCHEDULE_LONG_ABOUT,
+    )
+    .arg(machine(alloc))?
+    .arg(loops(alloc))?;
+    with_search(alloc, command)
+}
+
+// The subcommand `run`.
+fn run<'a>(alloc: Global) -> Result<Command<'a>, AllocError>
+    ensures app { IfOk result (λ c. app_of c ≡ run_line) }
+    ensures local { IfOk result (λ c. (out-Command c).has_globals ≡ false) }
+{
+    let command = bare(alloc, "run", help::RUN_ABOUT, help::RUN_LONG_ABOUT)
+        .arg(machine(alloc))?
+        .arg(loops(alloc))?
+        .arg(trip(alloc))?;
+    with_search(alloc, command)
+}
+
+// The subcommand `bounds`.
+fn bounds<'a>(alloc: Global) -> Result<Command<'a>, AllocError>
+    ensures app { IfOk result (λ c. app_of c ≡ bounds_line) }
+    ensures local { IfOk result (λ c. (out-Command c).has_globals ≡ false) }
+{
+    bare(alloc, "bounds", help::BOUNDS_ABOUT, help::BOUNDS_LONG_ABOUT)
+        .arg(machine(alloc))?
+        .arg(loops(alloc))
+}
+
+// The subcommand `plain`.
+fn plain<'a>(alloc: Global) -> Result<Command<'a>, AllocError>
+    ensures app { IfOk result (λ c. app_of c ≡ plain_line) }
+    ensures local { IfOk result (λ c. (out-Command c).has_globals ≡ false) }
+{
+    bare(alloc, "plain", help::PLAIN_ABOUT, help::PLAIN_LONG_ABOUT)
+        .arg(loops(alloc))?
+        .arg(trip(alloc))
+}
+
+// A subcommand with the options of the search for kernels.
+fn with_search<'a>(alloc: Global, command: Command<'a>) -> Result<Command<'a>, AllocError>
+    ensures app { IfOk result (λ c. app_of c ≡ with_search (app_of command.entry)) }
+    ensures local { IfOk result (λ c. (out-Command c).has_globals ≡ (out-Command command.entry).has_globals) }
+{
+    command
+        .arg(ratio(alloc))?
+        .arg(ceiling(alloc))?
+        .arg(workers(alloc))?
+        .arg(cut(alloc))
+}
+
+// The path of the machine's file.
+fn machine<'a>(alloc: Global) -> Arg<'a>
+    ensures rule { rule_of result ≡ path_rule (codes "machine") }
+    ensures local { result.global ≡ false }
+{
+    path(alloc, "machine", "MACHINE", help::MACHINE)
+}
+
+// The path of the loops' file.
+fn loops<'a>(alloc: Global) -> Arg<'a>
+    ensures rule { rule_of result ≡ path_rule (codes "loops") }
+    ensures local { result.global ≡ false }
+{
+    path(alloc, "loops", "LOOPS", help::LOOPS)
+}
+
+// A path that has to be given.
+fn path<'a>(alloc: Global, id: &'a str, value: &'a str, help: &'a str) -> Arg<'a>
+    ensures rule { rule_of result ≡ path_rule id.entry.now }
+    ensures local { result.global ≡ false }
+{
+    Arg::new(alloc, id)
+        .value_name(value)
+        .required(true)
+        .help(help)
+}
+
+// The trip count, which has to be given.
+fn trip<'a>(alloc: Global) -> Arg<'a>
+    ensures rule { rule_of result ≡ trip_rule }
+    ensures local { result.global ≡ false }
+{
+    Arg::new(alloc, "trip")
+        .long("trip")
+        .value_name("N")
+        .required(true)
+        .value_parser(value_parser!(u64).range(..=100_000))
+        .help(help::TRIP)
+}
+
+// How many placements an attempt may make for each operation.
+fn ratio<'a>(alloc: Global) -> Arg<'a>
+    ensures rule { rule_of result ≡ ratio_rule }
+    ensures local { result.global ≡ false }
+{
+    let range = value_parser!(u64).range(1..=64);
+    option(alloc, "ratio", "R", "6", help::RATIO).value_parser(range)
+}
+
+// How many intervals above the least one are tried.
+fn ceiling<'a>(alloc: Global) -> Arg<'a>
+    ensures rule { rule_of result ≡ ceiling_rule }
+    ensures local { result.global ≡ false }
+{
+    let range = value_parser!(u64).range(..=255);
+    option(alloc, "ceiling", "C", "32", help::CEILING).value_parser(range)
+}
+
+// How many threads share the work.
+fn workers<'a>(alloc: Global) -> Arg<'a>
+    ensures rule { rule_of result ≡ workers_rule }
+    ensures local { result.global ≡ false }
+{
+    let range = value_parser!(u64).range(1..=64);
+    option(alloc, "workers", "W", "4", help::WORKERS).value_parser(range)
+}
+
+// How many intervals of a loop a worker draws at once.
+fn cut<'a>(alloc: Global) -> Arg<'a>
+    ensures rule { rule_of result ≡ cut_rule }
+    ensures local { result.global ≡ false }
+{
+    let range = value_parser!(u64).range(1..=256);
+    option(alloc, "cut", "N", "4", help::CUT).value_parser(range)
+}
+
+// An option that may be left out.
+fn option<'a>(
+    alloc: Global,
+    name: &'a str,
+    value: &'a str,
+    default: &'a str,
+    help: &'a str,
+) -> Arg<'a>
+    ensures rule { rule_of result ≡ option_rule name.entry.now default.entry.now }
+    ensures local { result.global ≡ false }
+{
+    Arg::new(alloc, name)
+        .long(name)
+        .value_name(value)
+        .default_value(default)
+        .help(help)
+}

@@ -1,0 +1,81 @@
+-- The kernels of a listing are run in the place of their loops.
+use Rattle.std.proofs.Common.{◌≡◌, ◌<◌, ℕ, zero, suc, List, [], ◌∷◌, ◌++◌, length, get_or, arith, refl, sym, ap, ap₂, ◌∙◌, subst}
+use Rattle.std.specs.List.{AllZip, flat_map, zip}
+use Rattle.std.proofs.lemmas.List.{length-map}
+use Rattle.machine.specs.Machines.{MachineData}
+use Rattle.loops.specs.Loops.{LoopData}
+use Rattle.ims.specs.Problems.{ProblemData, IsProblemOf}
+use Rattle.ims.specs.Schedules.{ScheduleData}
+use Rattle.kernel.specs.declared.parts.Parts.{Parts}
+use Rattle.overlap.specs.Allotments.{AllotmentData}
+use Rattle.overlap.specs.Emission.{emitted}
+use Rattle.candidates.specs.declared.choices.Choice.{Choice}
+use Rattle.candidates.specs.declared.choices.Choice.TheVariants.{Met, Failed}
+use Rattle.candidates.specs.declared.listings.Row as row
+use Rattle.candidates.specs.Choices.{IsChoice}
+use Rattle.candidates.specs.Listings.{ListingData, rows_of}
+use Rattle.candidates.specs.Outcomes.{GivesKernel}
+use Rattle.candidates.proofs.Promised.{kernels-run}
+use Rattle.workers.specs.Files.{ArePrepared, ListsProblems}
+use Rattle.modsched.specs.Run.{StandsFor, IsRunnable, choice_lines, told_lines}
+
+emitted-arrays : (s : ScheduleData) (a : AllotmentData) → length (emitted s a).arrays ≡ length s.problem.loop.arrays
+unfolding emitted
+emitted-arrays s a = length-map s.problem.loop.arrays _
+
+emitted-outs : (s : ScheduleData) (a : AllotmentData) → length (emitted s a).outs ≡ length s.problem.loop.outs
+unfolding emitted
+emitted-outs s a = length-map s.problem.loop.outs _
+
+stands_for : (machine : MachineData) (loop : LoopData) (ratio ceiling ii : ℕ) (problem : ProblemData) (kernel : Parts)
+    → IsProblemOf machine loop ratio ceiling problem → GivesKernel problem ii kernel → StandsFor problem.loop kernel
+stands_for machine loop ratio ceiling ii problem kernel is g =
+    let s = g.schedule in
+    let a = g.has_kernel.allotment in record {
+      same_arrays = ap (λ (k : Parts). length k.arrays) g.has_kernel.is_kernel ∙ emitted-arrays s a ∙ ap (λ (p : ProblemData). length p.loop.arrays) g.is_schedule.2;
+      same_outs = ap (λ (k : Parts). length k.outs) g.has_kernel.is_kernel ∙ emitted-outs s a ∙ ap (λ (p : ProblemData). length p.loop.outs) g.is_schedule.2;
+      runs = rw is.same_loop (kernels-run machine loop ratio ceiling ii problem kernel is g);
+    }
+
+runnable : (machine : MachineData) (loop : LoopData) (ratio ceiling : ℕ) (problem : ProblemData) (choice : Choice)
+    → IsProblemOf machine loop ratio ceiling problem → IsChoice problem choice → IsRunnable problem.loop choice
+runnable machine loop ratio ceiling problem (Met ii kernel) is c = stands_for machine loop ratio ceiling ii problem kernel is c.is_kernel
+runnable machine loop ratio ceiling problem (Failed cause) is c = tt
+
+-- each loop with its row
+all_runnable : (machine : MachineData) (ratio ceiling : ℕ) (loops : List LoopData) (problems : List ProblemData) (choices : List Choice)
+    → ArePrepared machine ratio ceiling loops problems → AllZip IsChoice problems choices
+    → AllZip (λ (p : ProblemData) (r : row.Row). IsRunnable p.loop r.choice) problems (rows_of problems choices)
+all_runnable machine ratio ceiling [] [] [] ps cs = tt
+all_runnable machine ratio ceiling [] [] (c ∷ choices) ps cs = absurd cs
+all_runnable machine ratio ceiling [] (p ∷ problems) choices ps cs = absurd ps
+all_runnable machine ratio ceiling (l ∷ loops) [] choices ps cs = absurd ps
+all_runnable machine ratio ceiling (l ∷ loops) (p ∷ problems) [] ps cs = absurd cs
+all_runnable machine ratio ceiling (l ∷ loops) (p ∷ problems) (c ∷ choices) ps cs =
+    (runnable machine l ratio ceiling p c ps.0 cs.0, all_runnable machine ratio ceiling loops problems choices ps.1 cs.1)
+
+pub listed_runnable : (machine : MachineData) (ratio ceiling : ℕ) (loops : List LoopData) (problems : List ProblemData) (listing : ListingData)
+    → ArePrepared machine ratio ceiling loops problems → ListsProblems ceiling problems listing
+    → AllZip (λ (p : ProblemData) (r : row.Row). IsRunnable p.loop r.choice) problems listing.rows
+listed_runnable machine ratio ceiling loops problems listing ps is =
+    subst (λ (l : ListingData). AllZip (λ (p : ProblemData) (r : row.Row). IsRunnable p.loop r.choice) problems l.rows) (sym is.is_listing)
+    (all_runnable machine ratio ceiling loops problems is.choices ps is.each_choice)
+
+-- the lines of prepared loops are those of the loops
+pub told_prepared : (trip high : ℕ) (machine : MachineData) (ratio ceiling : ℕ) (loops : List LoopData) (problems : List ProblemData) (rows : List row.Row)
+    → ArePrepared machine ratio ceiling loops problems
+    → flat_map (λ (pair : ProblemData × row.Row). choice_lines trip high pair.0.loop pair.1 pair.1.choice) (zip problems rows) ≡ told_lines trip high loops rows
+told_prepared trip high machine ratio ceiling [] [] rows ps = refl
+told_prepared trip high machine ratio ceiling [] (p ∷ problems) rows ps = absurd ps
+told_prepared trip high machine ratio ceiling (l ∷ loops) [] rows ps = absurd ps
+told_prepared trip high machine ratio ceiling (l ∷ loops) (p ∷ problems) [] ps = refl
+told_prepared trip high machine ratio ceiling (l ∷ loops) (p ∷ problems) (r ∷ rows) ps =
+    ap₂ (λ (s t : List ℕ). s ++ t) (ap (λ (x : LoopData). choice_lines trip high x r r.choice) ps.0.same_loop) (told_prepared trip high machine ratio ceiling loops problems rows ps.1)
+
+-- what is so of each pair is so of the two at an index
+pub all_zip_at : {A B : Type 0} (R : A → B → Type 0) (xs : List A) (ys : List B) (i : ℕ) (d : A) (e : B) → AllZip R xs ys → i < length ys → R (get_or xs i d) (get_or ys i e)
+all_zip_at R [] [] i d e h few = absurd (omega (arith, few))
+all_zip_at R [] (y ∷ ys) i d e h few = absurd h
+all_zip_at R (x ∷ xs) [] i d e h few = absurd h
+all_zip_at R (x ∷ xs) (y ∷ ys) zero d e h few = h.0
+all_zip_at R (x ∷ xs) (y ∷ ys) (suc i) d e h few = all_zip_at R xs ys i d e h.1 (omega (arith, few))

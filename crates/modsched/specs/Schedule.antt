@@ -1,0 +1,20 @@
+-- What `schedule` writes.
+use Rattle.std.specs.Prelude.{◌≡◌, ℕ, Bool, List}
+use Rattle.std.specs.List.{list_all}
+use Rattle.machine.specs.Machines.{MachineData}
+use Rattle.loops.specs.Loops.{LoopData}
+use Rattle.candidates.specs.declared.listings.Row.{Row}
+use Rattle.candidates.specs.Listings.{ListingData, is_met}
+use Rattle.candidates.specs.Promises.{Lists}
+use Rattle.candidates.specs.Texts.{listing_text_of}
+
+-- every loop has a kernel
+abbrev pub are_met : List Row → Bool
+are_met rows = list_all (λ (row : Row). is_met row.choice) rows
+
+-- the text of the listing of one thread, with whether every loop has a kernel
+pub record IsListingText (ratio ceiling : ℕ) (machine : MachineData) (loops : List LoopData) (text : List ℕ) (all_met : Bool) : Type 0 where
+  pub listing : ListingData
+  pub lists : Lists machine loops ratio ceiling listing
+  pub is_text : text ≡ listing_text_of listing
+  pub met : all_met ≡ are_met listing.rows

@@ -1,0 +1,172 @@
+-- Timelines.
+use Rattle.std.proofs.Common.{zero, suc, ◌≡◌, ◌≢◌, ℕ, ◌+◌, ◌-◌, ◌*◌, ◌/◌, ◌%◌, ◌^◌, ◌<◌, ◌≤◌, inl, inr, Bool, true, false, not, ◌&&◌, ◌||◌, cond, eqb, max, bit_or, List, [], ◌∷◌, length, get_or, set, take, refl, sym, ap, ◌∙◌, arith, eq-eqb, w64}
+use Rattle.std.specs.Int.{bit_at}
+use Rattle.std.proofs.lemmas.Bool.{cases_eq, cases_lt, cases_Bool, ne_eqb, true≢false}
+use Rattle.std.proofs.lemmas.Nat.{pow_pos}
+use Rattle.std.proofs.lemmas.Nat.Bits.{bit_at-lt, bit_at_or, bit_at_not, bit_at_ones, bit_at-zero, bit_at_above, bit_at_cat_low, bit_at_cat_high}
+use Rattle.std.proofs.lemmas.List.{get_or-set_same, get_or-set_other}
+use Rattle.std.proofs.Math.Nat.{mod-add-div', mod-add-mod}
+use Rattle.machine.specs.Alternative.{residue_of}
+use Rattle.mrt.specs.declared.slot.Slot.{Slot}
+use Rattle.mrt.specs.Slots.{rows_in, meets_held}
+use Rattle.mrt.specs.Times.{is_set, Tell}
+use Rattle.mrt.proofs.Owning.{same_place, meets_more}
+use Rattle.mrt.proofs.Residues.{residue_later, residue_around}
+
+-- ---- the bits of two words side by side
+bit_at-shr : (n s k : ℕ) → bit_at (n / 2 ^ s) k ≡ bit_at n (s + k)
+bit_at-shr n s k =
+    let small : n % 2 ^ s < 2 ^ s = omega (arith, pow_pos s) in
+    let whole : n / 2 ^ s * 2 ^ s + n % 2 ^ s ≡ n = omega (arith, mod-add-div' n (2 ^ s)) in
+    let rest : s + k - s ≡ k = omega arith in
+    sym (ap (λ m. bit_at m (s + k)) (sym whole) ∙ bit_at_cat_high (n / 2 ^ s) s (n % 2 ^ s) (s + k) small (omega arith) ∙ ap (λ j. bit_at (n / 2 ^ s) j) rest)
+
+bit_at-mod : (n k : ℕ) → k < 64 → bit_at (n % 2 ^ 64) k ≡ bit_at n k
+bit_at-mod n k lt =
+    let whole : n / 2 ^ 64 * 2 ^ 64 + n % 2 ^ 64 ≡ n = omega (arith, mod-add-div' n (2 ^ 64)) in
+    sym (ap (λ m. bit_at m k) (sym whole) ∙ bit_at_cat_low (n / 2 ^ 64) 64 (n % 2 ^ 64) k lt)
+
+bit_at-shl_above : (n s k : ℕ) → k < 64 → s ≤ k → bit_at (n * 2 ^ s % 2 ^ 64) k ≡ bit_at n (k - s)
+bit_at-shl_above n s k lt le =
+    let whole : n * 2 ^ s + 0 ≡ n * 2 ^ s = omega arith in
+    bit_at-mod (n * 2 ^ s) k lt ∙ ap (λ m. bit_at m k) (sym whole) ∙ bit_at_cat_high n s 0 k (pow_pos s) le
+
+bit_at-shl_below : (n s k : ℕ) → k < 64 → k < s → bit_at (n * 2 ^ s % 2 ^ 64) k ≡ 0
+bit_at-shl_below n s k lt below =
+    let whole : n * 2 ^ s + 0 ≡ n * 2 ^ s = omega arith in
+    bit_at-mod (n * 2 ^ s) k lt ∙ ap (λ m. bit_at m k) (sym whole) ∙ bit_at_cat_low n s 0 k below ∙ bit_at-zero k
+
+-- the second word, moved up by one place and by some more
+moved : ℕ → ℕ → ℕ
+moved high shift = high * 2 ^ 1 % 2 ^ 64 * 2 ^ (63 - shift) % 2 ^ 64
+
+moved_none : (high shift k : ℕ) → shift < 64 → k < 64 → shift + k < 64 → bit_at (moved high shift) k ≡ 0
+unfolding moved
+moved_none high shift k s lt near =
+    elim (cases_lt k (63 - shift)) [
+      | inl below ↦ bit_at-shl_below (high * 2 ^ 1 % 2 ^ 64) (63 - shift) k lt below
+      | inr last ↦
+          let first : k - (63 - shift) ≡ 0 = omega arith in
+          bit_at-shl_above (high * 2 ^ 1 % 2 ^ 64) (63 - shift) k lt last ∙ ap (λ j. bit_at (high * 2 ^ 1 % 2 ^ 64) j) first ∙ bit_at-shl_below high 1 0 (omega arith) (omega arith)
+    ]
+
+moved_some : (high shift k : ℕ) → shift < 64 → k < 64 → 64 ≤ shift + k → bit_at (moved high shift) k ≡ bit_at high (shift + k - 64)
+unfolding moved
+moved_some high shift k s lt far =
+    let place : k - (63 - shift) - 1 ≡ shift + k - 64 = omega arith in
+    bit_at-shl_above (high * 2 ^ 1 % 2 ^ 64) (63 - shift) k lt (omega arith) ∙ bit_at-shl_above high 1 (k - (63 - shift)) (omega arith) (omega arith) ∙ ap (λ j. bit_at high j) place
+
+pub bit_across_low : (low high shift k : ℕ) → low < 2 ^ 64 → shift < 64 → k < 64 → shift + k < 64
+    → bit_at (bit_or (low / 2 ^ shift) (high * 2 % 2 ^ 64 * 2 ^ (63 - shift) % 2 ^ 64)) k ≡ bit_at low (shift + k)
+unfolding moved
+bit_across_low low high shift k fits s lt near =
+    bit_at_or (low / 2 ^ shift) (moved high shift) k ∙ ap (λ b. max (bit_at (low / 2 ^ shift) k) b) (moved_none high shift k s lt near) ∙ omega (arith, bit_at-shr low shift k)
+
+pub bit_across_high : (low high shift k : ℕ) → low < 2 ^ 64 → shift < 64 → k < 64 → 64 ≤ shift + k
+    → bit_at (bit_or (low / 2 ^ shift) (high * 2 % 2 ^ 64 * 2 ^ (63 - shift) % 2 ^ 64)) k ≡ bit_at high (shift + k - 64)
+unfolding moved
+bit_across_high low high shift k fits s lt far =
+    let none : bit_at low (shift + k) ≡ 0 = bit_at_above low 64 (shift + k) fits far in
+    let alone : max 0 (bit_at (moved high shift) k) ≡ bit_at (moved high shift) k = omega arith in
+    bit_at_or (low / 2 ^ shift) (moved high shift) k ∙ ap (λ b. max b (bit_at (moved high shift) k)) (bit_at-shr low shift k ∙ none) ∙ alone ∙ moved_some high shift k s lt far
+
+-- ---- one bit is written
+pub off : (a b : Bool) → b ≡ false → (a && b) ≡ false
+off true b h = h
+off false b h = refl
+
+pub is_set-set : (words : ℕ) (times : List ℕ) (own at word other place : ℕ) (held : Bool) → own * words + at / 64 < length times → at < 64 * words → place < 64 * words
+    → ((bit : ℕ) → bit < 64 → eqb (bit_at word bit) 1 ≡ cond (eqb bit (at % 64)) held (eqb (bit_at (get_or times (own * words + at / 64) 0) bit) 1))
+    → is_set words (set times (own * words + at / 64) word) other place ≡ cond (eqb other own && eqb place at) held (is_set words times other place)
+is_set-set words times own at word other place held lt a p written =
+    let index = own * words + at / 64 in
+    let bit = place % 64 in
+    elim (cases_eq (other * words + place / 64) index) [
+      | inl same ↦
+          let is = same_place words (place / 64) other (at / 64) own (omega arith) (omega arith) same in
+          let read = ap (λ k. get_or (set times index word) k 0) same ∙ get_or-set_same times index word 0 lt in
+          let old = ap (λ k. eqb (bit_at (get_or times k 0) bit) 1) (sym same) in
+          elim (cases_eq place at) [
+            | inl here ↦
+                ap (λ n. eqb (bit_at n bit) 1) read ∙ written bit (omega arith)
+                ∙ ap (λ b. cond b held (eqb (bit_at (get_or times index 0) bit) 1)) (eq-eqb bit (at % 64) (ap (λ n. n % 64) here))
+                ∙ sym (ap (λ b. cond (b && eqb place at) held (is_set words times other place)) (eq-eqb other own is.1) ∙ ap (λ b. cond b held (is_set words times other place)) (eq-eqb place at here))
+            | inr apart ↦
+                let ne : bit ≢ at % 64 = λ e. apart (omega (arith, e, is.0)) in
+                ap (λ n. eqb (bit_at n bit) 1) read ∙ written bit (omega arith)
+                ∙ ap (λ b. cond b held (eqb (bit_at (get_or times index 0) bit) 1)) (ne_eqb bit (at % 64) ne) ∙ old
+                ∙ sym (ap (λ b. cond b held (is_set words times other place)) (off (eqb other own) (eqb place at) (ne_eqb place at apart)))
+          ]
+      | inr ne ↦
+          let out : (eqb other own && eqb place at) ≡ false =
+          elim (cases_eq other own) [
+            | inl same ↦ off (eqb other own) (eqb place at) (ne_eqb place at (λ e. ne (ap (λ o. o * words + place / 64) same ∙ ap (λ q. own * words + q / 64) e)))
+            | inr apart ↦ ap (λ b. b && eqb place at) (ne_eqb other own apart)
+          ] in
+          ap (λ n. eqb (bit_at n bit) 1) (get_or-set_other times index (other * words + place / 64) word 0 ne)
+          ∙ sym (ap (λ b. cond b held (is_set words times other place)) out)
+    ]
+
+-- ---- places with a residue
+pub next_residue : (ii place residue p : ℕ) → 0 < ii → place % ii ≡ residue → place < p → p < place + ii → p % ii ≢ residue
+next_residue ii place residue p some at from to e =
+    let below : residue < ii = omega arith in
+    let step = p - place in
+    let whole : place + step ≡ p = omega arith in
+    elim (cases_lt (residue + step) ii) [
+      | inl inside ↦ omega (arith, residue_later ii residue place step at inside, ap (λ n. n % ii) whole, e)
+      | inr past ↦ omega (arith, residue_around ii residue place step some at (omega arith) past, ap (λ n. n % ii) whole, e)
+    ]
+
+-- ---- 64 cycles
+both_zero : (a b : ℕ) → a < 2 → b < 2 → eqb (max a b) 1 ≡ (eqb a 1 || eqb b 1)
+both_zero a b la lb =
+    elim (cases_eq a 1) [
+      | inl one ↦ eq-eqb (max a b) 1 (omega arith) ∙ sym (ap (λ t. t || eqb b 1) (eq-eqb a 1 one))
+      | inr ne ↦
+          let is : max a b ≡ b = omega arith in
+          ap (λ n. eqb n 1) is ∙ sym (ap (λ t. t || eqb b 1) (ne_eqb a 1 ne))
+    ]
+
+-- one slot more
+pub cycle_more : (ii words : ℕ) (times : List ℕ) (held : ℕ → ℕ → Bool) (slots : List Slot) (time k i : ℕ) (d : Slot) (at was word : ℕ) → i < length slots
+    → Tell ii words times held → (get_or slots i d).row.unit < 64 → at + k < 64 * words → at ≡ residue_of ii (get_or slots i d).row time
+    → bit_at word k ≡ bit_at (get_or times ((get_or slots i d).row.unit * words + (at + k) / 64) 0) ((at + k) % 64)
+    → eqb (bit_at was k) 1 ≡ meets_held ii held (rows_in (take i slots)) (time + k)
+    → eqb (bit_at (bit_or was word) k) 1 ≡ meets_held ii held (rows_in (take (i + 1) slots)) (time + k)
+cycle_more ii words times held slots time k i d at was word lt tell unit within is read so_far =
+    let row = (get_or slots i d).row in
+    let same : (time + row.offset) + k ≡ (time + k) + row.offset = omega arith in
+    let residue : (at + k) % ii ≡ residue_of ii row (time + k) = ap (λ n. (n + k) % ii) is ∙ mod-add-mod (time + row.offset) ii k ∙ ap (λ n. n % ii) same in
+    let here : eqb (bit_at word k) 1 ≡ held row.unit (residue_of ii row (time + k)) = ap (λ n. eqb n 1) read ∙ tell row.unit (at + k) unit within ∙ ap (λ r. held row.unit r) residue in
+    ap (λ n. eqb n 1) (bit_at_or was word k) ∙ both_zero (bit_at was k) (bit_at word k) (bit_at-lt was k) (bit_at-lt word k)
+    ∙ ap (λ b. b || eqb (bit_at word k) 1) so_far ∙ ap (λ b. meets_held ii held (rows_in (take i slots)) (time + k) || b) here
+    ∙ sym (meets_more ii held slots (time + k) i d lt)
+
+-- what some of the slots meet, all do
+pub meets_whole : (ii : ℕ) (held : ℕ → ℕ → Bool) (slots : List Slot) (n time : ℕ) → meets_held ii held (rows_in (take n slots)) time ≡ true → meets_held ii held (rows_in slots) time ≡ true
+meets_whole ii held [] zero time h = h
+meets_whole ii held [] (suc n) time h = h
+meets_whole ii held (s ∷ slots) zero time h = absurd (true≢false (sym h))
+meets_whole ii held (s ∷ slots) (suc n) time h =
+    let here = held s.row.unit (residue_of ii s.row time) in
+    elim (cases_Bool here) [
+      | inl met ↦ ap (λ b. b || meets_held ii held (rows_in slots) time) met
+      | inr apart ↦
+          let rest : meets_held ii held (rows_in (take n slots)) time ≡ true = sym (ap (λ b. b || meets_held ii held (rows_in (take n slots)) time) apart) ∙ h in
+          ap (λ b. b || meets_held ii held (rows_in slots) time) apart ∙ meets_whole ii held slots n time rest
+    ]
+
+pub all_set : (met k : ℕ) → met ≡ 2 ^ 64 - 1 → k < 64 → eqb (bit_at met k) 1 ≡ true
+all_set met k is lt = eq-eqb (bit_at met k) 1 (ap (λ m. bit_at m k) is ∙ bit_at_ones 64 k lt)
+
+pub none_set : (k : ℕ) (met : Bool) → met ≡ true → eqb (bit_at 0 k) 1 ≡ not met
+none_set k met is = ap (λ n. eqb n 1) (bit_at-zero k) ∙ sym (ap not is)
+
+pub bit_of_rest : (met k : ℕ) → met < 2 ^ 64 → k < 64 → eqb (bit_at (2 ^ 64 - 1 - met) k) 1 ≡ not (eqb (bit_at met k) 1)
+bit_of_rest met k fits lt =
+    let is = bit_at_not w64 met k fits lt in
+    elim (cases_eq (bit_at met k) 1) [
+      | inl one ↦ ne_eqb (bit_at (2 ^ 64 - 1 - met) k) 1 (λ e. omega (arith, is, one, e)) ∙ sym (ap not (eq-eqb (bit_at met k) 1 one))
+      | inr ne ↦ eq-eqb (bit_at (2 ^ 64 - 1 - met) k) 1 (omega (arith, is, bit_at-lt met k)) ∙ sym (ap not (ne_eqb (bit_at met k) 1 ne))
+    ]

@@ -1,0 +1,143 @@
+//! For each unit a timeline, which has a bit for each time, so that 64 consecutive times are tested at
+//! once.
+
+ghost use Rattle.std.specs.Prelude.{◌≡◌, ◌+◌, ◌*◌, ◌/◌, ◌%◌, ◌<◌, ◌≤◌, ◌==◌, ◌&&◌, ℕ, Bool, not, true, false, length, slice_index, if◌then◌else◌};
+ghost use Rattle.std.specs.Int.{bit_at};
+ghost use Rattle.std.specs.List.{All};
+ghost use Rattle.mrt.specs.Slots.{IsSlot, rows_in, takes, meets_held};
+ghost use Rattle.mrt.specs.Times.{is_set, Tell};
+
+use crate::mask::with_bit;
+use crate::slot::Slot;
+
+/// From which interval on timelines are kept. At a shorter one a timeline repeats its bits so often that
+/// setting them costs more than is saved.
+pub(crate) const LEAST: usize = 16;
+
+/// How many words each unit's timeline has at an interval: none below [`LEAST`], and else so many that 64
+/// consecutive times stand in it from each residue on.
+pub(crate) fn words_at(ii: usize) -> usize
+    requires few { ii ≤ 16384 }
+    ensures few { result ≤ 257 }
+    ensures reach { 16 ≤ ii → ii + 64 ≤ 64 * result }
+{
+    if ii < LEAST { 0 } else { ii.div_ceil(64) + 1 }
+}
+
+/// After how many cycles, counted from one whose residue is `base`, no slot is held; `limit` where one
+/// is held in each cycle before that.
+pub(crate) fn first_unheld(
+    times: &[u64],
+    words: usize,
+    slots: &[Slot],
+    ii: usize,
+    base: usize,
+    limit: u64,
+) -> u64
+    requires all { length times.now ≡ 64 * words }
+    requires reach { ii + 64 ≤ 64 * words }
+    requires few_words { words ≤ 257 }
+    requires slots { All (IsSlot ii) slots.now }
+    requires base { base < ii }
+    requires few { ii ≤ 16384 }
+    requires limit { limit ≤ ii }
+    ensures few { result ≤ limit }
+    ensures met { (held : ℕ → ℕ → Bool) (time sooner : ℕ) → Tell ii words times.now held → time % ii ≡ base → sooner < result
+        → meets_held ii held (rows_in slots.now) (time + sooner) ≡ true }
+    ensures unmet { (held : ℕ → ℕ → Bool) (time : ℕ) → Tell ii words times.now held → time % ii ≡ base → result < limit
+        → meets_held ii held (rows_in slots.now) (time + result) ≡ false }
+{
+    let mut at = base;
+    let mut passed = 0;
+    while passed < limit {
+        let free = free_cycles(times, words, slots, ii, at);
+        if free != 0 {
+            return limit.min(passed + u64::from(free.trailing_zeros()));
+        }
+        passed += 64;
+        at = (at + 64) % ii;
+    }
+    limit
+}
+
+/// At which of 64 consecutive cycles, from one whose residue is `base`, no slot is held: bit `k` is set
+/// where that is so `k` cycles later.
+fn free_cycles(times: &[u64], words: usize, slots: &[Slot], ii: usize, base: usize) -> u64
+    requires all { length times.now ≡ 64 * words }
+    requires reach { ii + 64 ≤ 64 * words }
+    requires few_words { words ≤ 257 }
+    requires slots { All (IsSlot ii) slots.now }
+    requires base { base < ii }
+    requires few { ii ≤ 16384 }
+    ensures { (held : ℕ → ℕ → Bool) (time k : ℕ) → Tell ii words times.now held → time % ii ≡ base → k < 64
+        → (bit_at result k == 1) ≡ not (meets_held ii held (rows_in slots.now) (time + k)) }
+{
+    let mut met = 0;
+    for slot in slots {
+        met |= sixty_four(times, words, slot.row.unit, slot.residue(base, ii));
+        if met == u64::MAX {
+            return 0;
+        }
+    }
+    !met
+}
+
+/// The bits of 64 consecutive places of a unit's timeline.
+fn sixty_four(times: &[u64], words: usize, unit: u8, place: usize) -> u64
+    requires all { length times.now ≡ 64 * words }
+    requires few_words { words ≤ 257 }
+    requires unit { unit < 64 }
+    requires reach { place + 64 < 64 * words }
+    ensures { (k : ℕ) → k < 64 → bit_at result k ≡ bit_at (slice_index times.now (unit * words + (place + k) / 64)) ((place + k) % 64) }
+{
+    let first = usize::from(unit) * words + place / 64;
+    let shift = place % 64;
+    (times[first] >> shift) | ((times[first + 1] << 1) << (63 - shift))
+}
+
+/// Sets or clears the bits of slots, for an operation issued at a time whose residue is `base`.
+pub(crate) fn mark_times(
+    times: &mut [u64],
+    words: usize,
+    slots: &[Slot],
+    ii: usize,
+    base: usize,
+    held: bool,
+)
+    requires all { length times.old ≡ 64 * words }
+    requires few_words { words ≤ 257 }
+    requires slots { All (IsSlot ii) slots.now }
+    requires base { base < ii }
+    requires few { ii ≤ 16384 }
+    ensures marked { (time unit place : ℕ) → time % ii ≡ base → unit < 64 → place < 64 * words
+        → is_set words times.new unit place ≡ (if takes ii (rows_in slots.now) time unit (place % ii) then held else is_set words times.old unit place) }
+{
+    for slot in slots {
+        write(
+            times,
+            words,
+            slot.row.unit,
+            ii,
+            slot.residue(base, ii),
+            held,
+        );
+    }
+}
+
+/// Sets or clears the bits of a unit at all times with a residue.
+fn write(times: &mut [u64], words: usize, unit: u8, ii: usize, residue: usize, held: bool)
+    requires all { length times.old ≡ 64 * words }
+    requires few_words { words ≤ 257 }
+    requires unit { unit < 64 }
+    requires residue { residue < ii }
+    requires few { ii ≤ 16384 }
+    ensures marked { (other place : ℕ) → other < 64 → place < 64 * words
+        → is_set words times.new other place ≡ (if (other == unit) && (place % ii == residue) then held else is_set words times.old other place) }
+{
+    let mut place = residue;
+    while place < 64 * words {
+        let at = usize::from(unit) * words + place / 64;
+        times[at] = with_bit(times[at], 1 << (place % 64), held);
+        place += ii;
+    }
+}

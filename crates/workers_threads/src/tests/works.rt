@@ -1,0 +1,270 @@
+//! Workers of a caller, and what is gathered from their reports.
+
+ghost use Rattle.std.specs.Prelude.{◌≡◌, IfOk, IsTrue, vec_len};
+ghost use Rattle.std.specs.List.{All};
+ghost use Rattle.board.specs.Boards.{IsNewPassOf, IsPassOf, sizes_of};
+ghost use Rattle.board.specs.Closes.{loops_of};
+ghost use Rattle.board.specs.Names.{terms_of};
+
+use super::boards::{Count, FirstPiece, NoPiece, ZeroLooks};
+use super::gates::{Limited, Meeting};
+use super::given::{LISTING, LOOPS, MACHINE};
+use board::{Board, Closed, WordBoard, WordPass};
+use candidates::{Listing, Pieces, Settings, listing_text};
+use ims::Prepared;
+use std::alloc::Global;
+use std::test::Fail;
+use std::thread::{Threads, join};
+use workers::{Gate, OpenGate, Report, gather, pipeline, work};
+
+/// The three loops, prepared with a ceiling of 3. By one interval a piece that is 12 pieces.
+#[derive(Drop)]
+struct Three {
+    loops: Vec<Prepared>,
+    ghost number: { vec_len loops ≡ 3 },
+    ghost ceilings: { All (λ (p : _). p.ceiling ≡ 3) loops.items },
+}
+
+impl Three {
+    fn new<R: Threads + Sync>(rt: &R, alloc: Global) -> Result<Three, Fail> {
+        let settings = Settings::new(6, 3, 1, 1)?;
+        let (loops, _) = pipeline(
+            rt,
+            alloc,
+            MACHINE.as_bytes(),
+            LOOPS.as_bytes(),
+            &settings,
+            &OpenGate,
+        )?;
+        if loops.len() != 3 || !have_ceiling(loops.as_slice()) {
+            return Err(Fail::new("three loops with a ceiling of 3 were given"));
+        }
+        Ok(Three { loops })
+    }
+
+    /// What a worker leaves of a pass, and its report.
+    fn work<'a, B: Board, G: Gate>(
+        &'a self,
+        alloc: Global,
+        worker: usize,
+        board: &B,
+        pass: B::Pass,
+        gate: &G,
+    ) -> (B::Pass, Report<'a>)
+        requires of { B.is_of board.now pass }
+        requires loops { B.loops board.now ≡ 3 }
+        requires pieces { B.pieces board.now ≡ 12 }
+        ensures of { B.is_of board.now result.0 }
+        ensures same { result.1.loops ≡ self.entry.now.loops.items }
+    {
+        let pieces = Pieces::of(3, 3, 1);
+        work(
+            alloc,
+            worker,
+            board,
+            pass,
+            self.loops.as_slice(),
+            &pieces,
+            gate,
+        )
+    }
+
+    /// How many intervals are tried when the reports are gathered, which must come to the listing.
+    fn retried(&self, alloc: Global, reports: Vec<Report<'_>>) -> Result<u64, Fail>
+        requires { All (λ (r : _). r.loops ≡ self.now.loops.items) reports.items }
+    {
+        let loops = self.loops.as_slice();
+        let chosen = gather(alloc, loops, reports)?;
+        let retried = chosen.retried();
+        let choices = chosen.into_choices();
+        if choices.len() != loops.len() {
+            return Err(Fail::new("each loop has a choice"));
+        }
+        let listing = Listing::of(alloc, 3, loops, choices)?;
+        if listing_text(alloc, &listing)?.as_str() != LISTING {
+            return Err(Fail::new("the listing is the one of one thread"));
+        }
+        Ok(retried)
+    }
+}
+
+/// Whether each loop is tried at 3 intervals above its least one.
+fn have_ceiling(loops: &[Prepared]) -> bool
+    ensures { IsTrue result → All (λ (p : _). p.ceiling ≡ 3) loops.now }
+{
+    loops.iter().all(|prepared| prepared.ceiling() == 3)
+}
+
+// Each interval is beaten, and the choices are the same. Of the first loop 3 intervals are tried, of the others 1 each.
+#[test]
+fn a_board_of_zeros_leaves_all_to_try(rt: HostRuntime) -> Result<(), Fail> {
+    let alloc = rt.alloc();
+    let three = Three::new(&rt, alloc)?;
+    let (count, report) = three.work(alloc, 0, &ZeroLooks, Count::new(), &OpenGate);
+    assert_eq!(rt;
+        (count.draws, report.entries().len(), report.is_dry()),
+        (12, 12, true)
+    );
+    assert_eq!(rt; three.retried(alloc, vec![in alloc; report]?)?, 5);
+    Ok(())
+}
+
+#[test]
+fn a_board_without_pieces_leaves_all_to_try(rt: HostRuntime) -> Result<(), Fail> {
+    let alloc = rt.alloc();
+    let three = Three::new(&rt, alloc)?;
+    let (_, report) = three.work(alloc, 0, &NoPiece, Count::new(), &OpenGate);
+    assert_eq!(rt; three.retried(alloc, vec![in alloc; report]?)?, 5);
+    Ok(())
+}
+
+// A worker ends after one draw more than there are pieces, though its board always has another. The first loop has no kernel at its
+// first interval: the other four are left to try.
+#[test]
+fn a_board_that_repeats_itself_ends_the_worker(rt: HostRuntime) -> Result<(), Fail> {
+    let alloc = rt.alloc();
+    let three = Three::new(&rt, alloc)?;
+    let (count, report) = three.work(alloc, 0, &FirstPiece, Count::new(), &OpenGate);
+    assert_eq!(rt; (count.draws, report.is_dry()), (13, false));
+    assert_eq!(rt; three.retried(alloc, vec![in alloc; report]?)?, 4);
+    Ok(())
+}
+
+#[test]
+fn no_reports_leave_all_to_try(rt: HostRuntime) -> Result<(), Fail> {
+    let alloc = rt.alloc();
+    let three = Three::new(&rt, alloc)?;
+    assert_eq!(rt; three.retried(alloc, Vec::new(alloc))?, 5);
+    Ok(())
+}
+
+/// A board of words for the three loops, with two passes.
+fn shared(alloc: Global) -> Result<(WordBoard, WordPass, WordPass), Fail>
+    ensures sizes { IfOk result (λ r. sizes_of r.0 ≡ terms_of 3 12 2) }
+    ensures one { IfOk result (λ r. IsNewPassOf r.0 r.1) }
+    ensures two { IfOk result (λ r. IsNewPassOf r.0 r.2) }
+{
+    let (board, mut passes) = WordBoard::new(alloc, 1, 3, 12, 2)?;
+    let (Some(one), Some(two)) = (passes.pop(), passes.pop()) else {
+        return Err(Fail::new("two passes were asked for"));
+    };
+    Ok((board, one, two))
+}
+
+/// Closes the board with both of its passes.
+fn close(alloc: Global, board: WordBoard, one: WordPass, two: WordPass) -> Result<Closed, Fail>
+    requires one { IsPassOf board one }
+    requires two { IsPassOf board two }
+    ensures loops { IfOk result (λ c. loops_of c ≡ (sizes_of board).loops) }
+{
+    let Ok(closed) = board.close(vec![in alloc; one, two]?) else {
+        return Err(Fail::new("both passes came back"));
+    };
+    Ok(closed)
+}
+
+// The worker stops after the first interval of each loop. The first loop has no kernel there, and the others have one, so two
+// intervals are left to try. The other pass comes back unused.
+#[test]
+fn a_pass_comes_back_early(rt: HostRuntime) -> Result<(), Fail> {
+    let alloc = rt.alloc();
+    let three = Three::new(&rt, alloc)?;
+    let (board, one, two) = shared(alloc)?;
+    let (one, report) = three.work(alloc, 0, &board, one, &Limited::new(3));
+    let dry = report.is_dry();
+    let retried = three.retried(alloc, vec![in alloc; report]?)?;
+    let closed = close(alloc, board, one, two)?;
+    assert_eq!(rt; (dry, retried, closed.drawn()), (false, 2, 3));
+    assert!(rt;
+        closed.least(0) == None && closed.least(1) == Some(5) && closed.least(2) == Some(2)
+    );
+    Ok(())
+}
+
+#[test]
+fn a_worker_that_stops_at_once_leaves_all_to_try(rt: HostRuntime) -> Result<(), Fail> {
+    let alloc = rt.alloc();
+    let three = Three::new(&rt, alloc)?;
+    let (board, one, two) = shared(alloc)?;
+    let (one, report) = three.work(alloc, 0, &board, one, &Limited::new(0));
+    let retried = three.retried(alloc, vec![in alloc; report]?)?;
+    let closed = close(alloc, board, one, two)?;
+    assert_eq!(rt; (retried, closed.drawn()), (5, 0));
+    Ok(())
+}
+
+/// What two workers come to.
+#[derive(Drop)]
+struct Together {
+    both_dry: bool,
+    lost: u64,
+    retried: u64,
+    closed: Closed,
+}
+
+/// What two workers in two threads of the caller come to.
+fn by_two<R: Threads + Sync, G: Gate + Sync>(
+    rt: &R,
+    alloc: Global,
+    three: &Three,
+    gate: &G,
+) -> Result<Together, Fail>
+    ensures { IfOk result (λ t. loops_of t.closed ≡ 3) }
+{
+    let (board, one, two) = shared(alloc)?;
+    let shared = &board;
+    let ((one, first), (two, second)) = join(
+        rt,
+        || -> (WordPass, Report<'_>)
+            requires { IsNewPassOf shared.now one × (sizes_of shared.now ≡ terms_of 3 12 2) }
+            ensures { IsPassOf shared.entry.now result.0 × (result.1.loops ≡ three.entry.now.loops.items) }
+        { three.work(alloc, 0, shared, one, gate) },
+        || -> (WordPass, Report<'_>)
+            requires { IsNewPassOf shared.now two × (sizes_of shared.now ≡ terms_of 3 12 2) }
+            ensures { IsPassOf shared.entry.now result.0 × (result.1.loops ≡ three.entry.now.loops.items) }
+        { three.work(alloc, 1, shared, two, gate) },
+    );
+    let both_dry = first.is_dry() && second.is_dry();
+    let lost = first.lost().saturating_add(second.lost());
+    let retried = three.retried(alloc, vec![in alloc; first, second]?)?;
+    let closed = close(alloc, board, one, two)?;
+    Ok(Together {
+        both_dry,
+        lost,
+        retried,
+        closed,
+    })
+}
+
+// Twelve pieces and two dry draws. Nothing is left to try, and each loop's word is its interval.
+#[test]
+fn two_threads_leave_nothing_to_try(rt: HostRuntime) -> Result<(), Fail> {
+    let alloc = rt.alloc();
+    let three = Three::new(&rt, alloc)?;
+    let all = by_two(&rt, alloc, &three, &OpenGate)?;
+    assert!(rt; all.both_dry);
+    assert_eq!(rt; (all.lost, all.retried, all.closed.drawn()), (0, 0, 14));
+    assert_eq!(rt;
+        (
+            all.closed.least(0),
+            all.closed.least(1),
+            all.closed.least(2)
+        ),
+        (Some(4), Some(5), Some(2))
+    );
+    Ok(())
+}
+
+#[test]
+fn two_threads_of_a_caller_are_at_work_at_once(rt: HostRuntime) -> Result<(), Fail> {
+    let alloc = rt.alloc();
+    let three = Three::new(&rt, alloc)?;
+    let gate = Meeting::new();
+    let all = by_two(&rt, alloc, &three, &gate)?;
+    assert!(rt; gate.met());
+    assert_eq!(rt;
+        (gate.calls(), all.retried, all.closed.drawn()),
+        (12, 0, 14)
+    );
+    Ok(())
+}
