@@ -3,7 +3,7 @@ use Rattle.std.proofs.Common.{◌≡◌, ℕ, zero, suc, ◌+◌, ◌<◌, ◌�
 use Rattle.std.specs.Prelude.{◌*◌, ◌/◌, ◌%◌, min}
 use Rattle.std.proofs.lemmas.Nat.{div-mul-add, mod-mul-add}
 use Rattle.std.proofs.Math.Nat.{div-mul-le_self, lt-div-mul-add, le-div_iff_mul-le, mul-le-mul_right, mul_comm, add-mul, one-mul, zero-mul, div-add-mod, div-lt_iff_lt-mul}
-use Rattle.candidates.specs.Pieces.{PiecesData, EachInOnePiece, NoneIsEmpty, IsCutting, IsIn, start_of, end_of, loop_of, groups_of, number_of}
+use Rattle.candidates.specs.Pieces.{PiecesData, EachInOnePiece, NoneIsEmpty, IsCutting, IsIn, groups_of, number_of}
 
 -- an interval of a loop is in a piece
 pub some_piece : (pieces : PiecesData) (l above : ℕ) → IsCutting pieces → l < pieces.loops → above ≤ pieces.ceiling → (p : ℕ) × IsIn pieces p l above

@@ -6,14 +6,14 @@ use Rattle.ims.specs.Problems.{ProblemData, IsProblem, budget_of}
 use Rattle.ims.specs.Schedules.{ScheduleData}
 use Rattle.ims.proofs.OneAnswers.{one-answer}
 use Rattle.kernel.specs.declared.parts.Parts.{Parts}
-use Rattle.overlap.specs.Allotments.{AllotmentData, AreLeast, HaveNone, LeastFor, NoneFor}
+use Rattle.overlap.specs.Allotments.{AreLeast, HaveNone, NoneFor}
 use Rattle.overlap.specs.Emission.{emitted}
 use Rattle.overlap.specs.Lifetimes.{lifetimes_of}
 use Rattle.overlap.proofs.Least.{least-is_one, least-or_none}
 use Rattle.candidates.specs.declared.outcomes.Cause.{Cause}
 use Rattle.candidates.specs.declared.outcomes.Cause.TheVariants.{Table, Budget, Stages, Registers}
 use Rattle.candidates.specs.declared.outcomes.Outcome.TheVariants.{Met, Failed}
-use Rattle.candidates.specs.Outcomes.{IsPlaced, HasKernel, GivesKernel, LacksRegisters, FailsBy, OneOutcome}
+use Rattle.candidates.specs.Outcomes.{IsPlaced, HasKernel, GivesKernel, FailsBy, OneOutcome}
 
 same_schedule : (p : ProblemData) (ii : ℕ) (s t : ScheduleData) → IsProblem p → IsPlaced p ii s → IsPlaced p ii t → s ≡ t
 same_schedule p ii s t is a b = let e = one-answer p ii (budget_of p) (try.Placed s) (try.Placed t) is a b in cc

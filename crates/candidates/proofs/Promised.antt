@@ -4,9 +4,8 @@ use Rattle.std.specs.List.{AllZip}
 use Rattle.machine.specs.Machines.{MachineData}
 use Rattle.machine.specs.declared.alternative.Row.{Row}
 use Rattle.iterations.specs.Loops.{LoopData}
-use Rattle.iterations.specs.Run.{plain}
 use Rattle.graph.specs.Schedules.{IsLawful}
-use Rattle.ims.specs.Problems.{ProblemData, IsProblem, IsProblemOf}
+use Rattle.ims.specs.Problems.{ProblemData, IsProblemOf}
 use Rattle.ims.specs.Schedules.{ScheduleData, IsSchedule}
 use Rattle.ims.proofs.OneProblems.{one-problem}
 use Rattle.ims.proofs.Promised.{problems-have}
@@ -22,7 +21,7 @@ use Rattle.overlap.proofs.Least.{least-is_lawful}
 use Rattle.candidates.specs.declared.choices.Choice.{Choice}
 use Rattle.candidates.specs.declared.choices.Choice.TheVariants.{Met, Failed}
 use Rattle.candidates.specs.declared.listings.Row as row
-use Rattle.candidates.specs.Outcomes.{IsPlaced, HasKernel, GivesKernel}
+use Rattle.candidates.specs.Outcomes.{HasKernel}
 use Rattle.candidates.specs.Choices.{IsChoice}
 use Rattle.candidates.specs.Listings.{rows_of}
 use Rattle.candidates.specs.Promises.{IsRightChoice, KernelsKeepLoops, KernelsRunAsLoops, ListingsAreRight, OneListing}

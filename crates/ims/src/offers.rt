@@ -25,7 +25,7 @@ pub(crate) fn offers(
     ensures offered { IfOk result (λ v. All AreAlternatives v.items) }
     ensures innermost { IsLoop innermost.now }
 {
-    let mut list = Vec::new(alloc);
+    let mut list = Vec::with_capacity(alloc, innermost.statements().len())?;
     for statement in innermost.statements() {
         match machine.table(statement.opcode) {
             Some(table) => list.push(table.alternatives().copied(alloc)?)?,

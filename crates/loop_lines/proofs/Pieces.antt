@@ -46,6 +46,16 @@ ints-more all done word pieces others v e p i =
 pub ints-done : (all : Option (List (Option ℤ))) (done : List (Option ℤ)) (pieces : List (List ℕ)) → all ≡ behind done (ints_of pieces) → pieces ≡ [] → unwrap_or all [] ≡ done
 ints-done all done pieces e p = ap (λ r. unwrap_or r []) (e ∙ ap (λ ps. behind done (ints_of ps)) p) ∙ append-nil done
 
+-- all integers are read
+pub ints-all : (all : Option (List (Option ℤ))) (done : List (Option ℤ)) (pieces : List (List ℕ)) → all ≡ behind done (ints_of pieces) → pieces ≡ [] → all ≡ Some done
+ints-all all done pieces e p = e ∙ ap (λ ps. behind done (ints_of ps)) p ∙ ap Some (append-nil done)
+
+-- a word is no integer
+pub ints-not : (all : Option (List (Option ℤ))) (done : List (Option ℤ)) (word : List ℕ) (pieces others : List (List ℕ))
+    → all ≡ behind done (ints_of pieces) → pieces ≡ word ∷ others → None ≡ int_of word → all ≡ None
+ints-not all done word pieces others e p i =
+    e ∙ ap (λ ps. behind done (ints_of ps)) p ∙ ap (λ r. behind done (with_int r (ints_of others))) (sym i)
+
 behind-none : (done : List (Option ℤ)) (rest : Option (List (Option ℤ))) → unwrap_or (behind done (with_int None rest)) [] ≡ []
 behind-none done rest = refl
 

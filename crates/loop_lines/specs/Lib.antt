@@ -1,6 +1,7 @@
 pub use Rattle.iterations.specs.Arithmetic
 pub use Rattle.iterations.specs.Names
 pub use Rattle.machine.specs.Opcodes
+pub mod Cells
 pub mod Forms
 pub mod Parsed
 pub mod Words

@@ -1,10 +1,9 @@
 -- The forms that the reader keeps, beside what they stand for.
-use Rattle.std.specs.Prelude.{ℕ, ℤ, List, [], ◌∷◌, ◌++◌, map, Option, Some, None, option_map, unwrap_or, option_to_list, if◌then◌else◌, codes}
+use Rattle.std.specs.Prelude.{ℕ, List, [], ◌∷◌, ◌++◌, map, Option, Some, None, option_map, option_to_list, if◌then◌else◌, codes}
 use Rattle.std.specs.Borrow.{Bor}
 use Rattle.machine.specs.Opcodes.{same_word}
+use Rattle.loop_lines.specs.Cells.{cells_seen}
 use Rattle.loop_lines.specs.Forms as spec
-use Rattle.loop_lines.specs.Forms.{ints_of}
-use Rattle.loop_lines.specs.Words.{words_of}
 use Rattle.loop_lines.specs.declared.form.Form.{Form}
 use Rattle.loop_lines.specs.declared.form.Form.TheVariants as forms
 use Rattle.loop_lines.specs.declared.form.Use.{Use}
@@ -46,13 +45,9 @@ source_seen s = record {
   uses = uses_seen s.uses;
 }
 
--- the integers that a rest of a line writes
-abbrev pub cells_seen : List ℕ → List (Option ℤ)
-cells_seen rest = unwrap_or (ints_of (words_of rest)) []
-
 abbrev pub form_seen : Form → spec.Form
 form_seen (forms.Loop name) = spec.LoopLine name.now
-form_seen (forms.Array name rest) = spec.ArrayLine name.now (cells_seen rest.now)
+form_seen (forms.Array name cells) = spec.ArrayLine name.now (cells_seen cells)
 form_seen (forms.Param name value) = spec.ParamLine name.now value
 form_seen (forms.Init name number value) = spec.InitLine name.now number value
 form_seen (forms.Statement source) = spec.StatementLine (source_seen source)

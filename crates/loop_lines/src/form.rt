@@ -1,11 +1,12 @@
 //! The form of a line, by its words alone.
 
-ghost use Rattle.std.specs.Prelude.{◌≡◌, is_some, option_map};
-ghost use Rattle.loop_lines.specs.Forms.{Malformed, array_line, compute_line, end_line, form_of, init_line, ints_of, line_form, load_line, loop_line, out_line, param_line, store_line, value_line};
+ghost use Rattle.std.specs.Prelude.{◌≡◌, option_map};
+ghost use Rattle.loop_lines.specs.Forms.{Malformed, array_line, compute_line, end_line, form_of, init_line, line_form, load_line, loop_line, out_line, param_line, store_line, value_line};
 ghost use Rattle.iterations.specs.Arithmetic.{operands_of};
 ghost use Rattle.loop_lines.specs.Parsed.{form_seen};
 ghost use Rattle.loop_lines.specs.Words.{words_of};
 
+use crate::cells::{CellWords, cell_words};
 use crate::name::is_name;
 use crate::number::int_of;
 use crate::operand::{at_of, guard_of, place_of, use_of};
@@ -48,8 +49,8 @@ pub struct StatementWords<'a> {
 #[derive(Clone, Copy)]
 pub enum Form<'a> {
     Loop(&'a [u8]),
-    /// The name, and the rest of the line behind `=`, whose words are integers.
-    Array(&'a [u8], &'a [u8]),
+    /// The name and the cells.
+    Array(&'a [u8], CellWords<'a>),
     Param(&'a [u8], Option<i64>),
     Init(&'a [u8], Option<u8>, Option<i64>),
     Statement(StatementWords<'a>),
@@ -121,20 +122,6 @@ fn end_line<'a>(form: &mut Form<'a>, rest: &'a [u8])
     }
 }
 
-/// The words are integers.
-fn are_ints(words: &[u8]) -> bool
-    ensures { result ≡ is_some (ints_of (words_of words.now)) }
-{
-    let mut rest = words;
-    while let Some((word, more)) = next_word(rest) {
-        if int_of(word).is_none() {
-            return false;
-        }
-        rest = more;
-    }
-    true
-}
-
 /// `array NAME = INT INT ..`
 fn array_line<'a>(form: &mut Form<'a>, rest: &'a [u8])
     requires { form_seen form.old ≡ Malformed }
@@ -146,7 +133,10 @@ fn array_line<'a>(form: &mut Form<'a>, rest: &'a [u8])
     let Some((equals, cells)) = next_word(rest) else {
         return;
     };
-    if is_name(name) && is_text(equals, "=") && are_ints(cells) {
+    if !is_name(name) || !is_text(equals, "=") {
+        return;
+    }
+    if let Some(cells) = cell_words(cells) {
         *form = Form::Array(name, cells);
     }
 }

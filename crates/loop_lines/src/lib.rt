@@ -10,6 +10,6 @@ mod number;
 mod operand;
 mod words;
 
-pub use cells::{are_wide, cells_of};
+pub use cells::{CellWords, are_wide, cells_of};
 pub use form::{Form, StatementWords, Subscript, Use, Uses, form_of};
 pub use words::next_line;

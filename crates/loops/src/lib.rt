@@ -9,4 +9,4 @@ pub use iterations::{
     instances_read_values, opening, plain_runs_keep_shapes, run_from, run_plain,
 };
 pub use loop_reader::{LoopFault, LoopFaultKind, read_loops};
-pub use write::write_loop;
+pub use write::{value_name, write_loop};

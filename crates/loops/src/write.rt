@@ -153,7 +153,6 @@ fn write_inits(text: &mut String, innermost: &Loop) -> Result<(), OutOfMemory>
 
 /// Writes the line of an initial value.
 fn write_init(text: &mut String, innermost: &Loop, init: &Initial) -> Result<(), OutOfMemory>
-    requires { init.now.statement < length innermost.now.statements }
     ensures { IfOk result (λ _. string_bytes text.new ≡ string_bytes text.old ++ line_text (init_words innermost.now init.now)) }
 {
     text.push_str("init ")?;
@@ -170,7 +169,6 @@ fn write_value(
     statement: u8,
     distance: u8,
 ) -> Result<(), OutOfMemory>
-    requires { statement < length innermost.now.statements }
     ensures { IfOk result (λ _. string_bytes text.new ≡ string_bytes text.old ++ at_distance (value_name innermost.now statement) distance) }
 {
     text.push_str(value_name(innermost, statement))?;
@@ -182,12 +180,15 @@ fn write_value(
     Ok(())
 }
 
-/// The name of a statement's value, which is empty for a store.
-fn value_name(innermost: &Loop, statement: u8) -> &str
-    requires { statement < length innermost.now.statements }
-    ensures { result.now ≡ value_name innermost.now statement }
+/// The name of the value that a statement gives, by the statement's number in the loop. It is empty for a
+/// store and for a number that no statement has.
+pub fn value_name(innermost: &Loop, statement: u8) -> &str
+    ensures name { result.now ≡ value_name innermost.now statement }
 {
-    match &innermost.statements()[usize::from(statement)].name {
+    let Some(statement) = innermost.statements().get(usize::from(statement)) else {
+        return "";
+    };
+    match &statement.name {
         Some(name) => name.as_str(),
         None => "",
     }
@@ -355,7 +356,6 @@ fn write_outs(text: &mut String, innermost: &Loop) -> Result<(), OutOfMemory>
 
 /// Writes the line of a value that is live at the end.
 fn write_out(text: &mut String, innermost: &Loop, statement: u8) -> Result<(), OutOfMemory>
-    requires { statement < length innermost.now.statements }
     ensures { IfOk result (λ _. string_bytes text.new ≡ string_bytes text.old ++ line_text (out_words innermost.now statement)) }
 {
     text.push_str("out ")?;

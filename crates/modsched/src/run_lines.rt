@@ -2,11 +2,10 @@
 
 ghost use Rattle.std.specs.Prelude.{◌≡◌, ◌+◌, ◌<◌, ◌≤ℤ◌, ◌<ℤ◌, pos, neg_ℤ, ◌++◌, length, IfOk, OnOk, IsErrOf, Ok};
 ghost use Rattle.loops.specs.Run.{HasShapeOf};
-ghost use Rattle.loops.specs.Text.{value_name};
 ghost use Rattle.modsched.specs.Plain.{run_line, cell_text, cell_line, out_line, changed_line, cell_lines, array_lines, out_lines, run_lines};
 
 use crate::lines::{push_number, push_signed};
-use loops::{Loop, Memory, RunFault};
+use loops::{Loop, Memory, RunFault, value_name};
 use std::alloc::AllocError;
 
 /// The answer of a run that only want of memory can refuse.
@@ -157,17 +156,4 @@ fn push_out(text: &mut Vec<u8>, name: &str, value: i64) -> Result<(), AllocError
     text.extend_from_slice(b" ")?;
     push_signed(text, value)?;
     text.extend_from_slice(b"\n")
-}
-
-/// The name of a statement's value, which is empty where there is none.
-fn value_name(innermost: &Loop, statement: u8) -> &str
-    ensures { result.now ≡ value_name innermost.now statement }
-{
-    let Some(statement) = innermost.statements().get(usize::from(statement)) else {
-        return "";
-    };
-    match &statement.name {
-        Some(name) => name.as_str(),
-        None => "",
-    }
 }

@@ -6,7 +6,6 @@ pub mod Taking
 pub mod Marking
 pub mod Owning
 pub mod Masking
-pub mod Vectors
 pub mod Searching
 pub mod Scheduling
 pub mod Timing

@@ -1,5 +1,5 @@
 -- Words of units.
-use Rattle.std.proofs.Common.{◌≡◌, ◌≢◌, ℕ, ◌+◌, ◌-◌, ◌*◌, ◌/◌, ◌%◌, ◌^◌, ◌<◌, ◌≤◌, inl, inr, Bool, true, false, ◌&&◌, cond, eqb, bit_and, bit_or, List, length, get_or, set, replicate, Option, Some, None, MatchOption, refl, sym, ap, ◌∙◌, arith, eq-eqb, length-set, w64}
+use Rattle.std.proofs.Common.{◌≡◌, ◌≢◌, ℕ, ◌+◌, ◌-◌, ◌*◌, ◌/◌, ◌%◌, ◌^◌, ◌<◌, ◌≤◌, inl, inr, Bool, true, false, ◌&&◌, ◌||◌, cond, eqb, bit_and, bit_or, List, [], ◌∷◌, length, get_or, set, replicate, Option, Some, None, MatchOption, refl, sym, ap, ◌∙◌, arith, eq-eqb, length-set, w64}
 use Rattle.std.specs.Int.{bit_at, bit_not}
 use Rattle.std.proofs.lemmas.Bool.{cases_eq, ne_eqb, true≢false}
 use Rattle.std.proofs.lemmas.Nat.Bits.{bit_at-lt, bit_at_or, bit_at_and, bit_at_not, bit_at-pow_same, bit_at-pow_other, and_pow, bit_at-zero}
@@ -10,8 +10,8 @@ use Rattle.machine.specs.Alternative.{residue_of}
 use Rattle.mrt.specs.Placements.{Operations, Placements, Placement, placement_of, rows_of, IsFree, Holds, IsHolder}
 use Rattle.mrt.specs.Rosters.{Table}
 use Rattle.mrt.specs.Slots.{takes, Takes, Occupies, AreApart}
-use Rattle.mrt.specs.Times.{is_set}
-use Rattle.mrt.specs.MaskTables.{is_held, Repeats, IsMaskTable, AreTimes}
+use Rattle.mrt.specs.Times.{is_set, is_on}
+use Rattle.mrt.specs.MaskTables.{is_held, IsMaskTable, AreTimes}
 use Rattle.mrt.proofs.Taking.{none_placed, takes_from_Holds, Holds-from_takes}
 use Rattle.mrt.proofs.Owning.{place_below}
 use Rattle.mrt.proofs.Marking.{Occupies-placed, Occupies-removed, AreApart-placed, AreApart-removed}
@@ -60,7 +60,7 @@ test_set word mask own m ne =
           absurd (ne (ap (λ k. bit_and word k) m ∙ and_pow word own ∙ ap (λ n. n * 2 ^ own) none ∙ omega arith))
     ]
 
--- ---- one word, and its repeat
+-- ---- one word of a list
 and_with_true : (a b : Bool) → b ≡ true → (a && b) ≡ a
 and_with_true true b h = h
 and_with_true false b h = refl
@@ -69,7 +69,7 @@ and_with_false : (a b : Bool) → b ≡ false → (a && b) ≡ false
 and_with_false true b h = h
 and_with_false false b h = refl
 
--- a list in which the word at a residue, and where it is repeated, is another
+-- a list in which the word at a residue is another
 pub is_held-set : (busy : List ℕ) (residue word own : ℕ) (held : Bool) → residue < length busy
     → ((unit : ℕ) → unit < 64 → eqb (bit_at word unit) 1 ≡ cond (eqb unit own) held (eqb (bit_at (get_or busy residue 0) unit) 1))
     → (unit place : ℕ) → unit < 64 → is_held (set busy residue word) unit place ≡ cond (eqb unit own && eqb place residue) held (is_held busy unit place)
@@ -84,56 +84,21 @@ is_held-set busy residue word own held lt w unit place u =
           ∙ ap (λ b. cond b held (is_held busy unit place)) (sym (and_with_false (eqb unit own) (eqb place residue) (ne_eqb place residue other)))
     ]
 
-pub Repeats-once : (ii : ℕ) (busy : List ℕ) (residue word : ℕ) → residue < ii → length busy ≤ residue + ii → Repeats ii busy → Repeats ii (set busy residue word)
-Repeats-once ii busy residue word r past rep place lt =
-    let within : place + ii < length busy = omega (arith, length-set busy residue word) in
-    let ne : place ≢ residue = λ e. omega arith in
-    let far : place + ii ≢ residue = λ e. omega arith in
-    get_or-set_other busy residue (place + ii) word 0 far ∙ rep place within ∙ sym (get_or-set_other busy residue place word 0 ne)
-
-pub Repeats-twice : (ii : ℕ) (busy : List ℕ) (residue word : ℕ) → residue < ii → residue + ii < length busy → length busy ≤ ii + ii → Repeats ii busy → Repeats ii (set (set busy residue word) (residue + ii) word)
-Repeats-twice ii busy residue word r there most rep place lt =
-    let first = set busy residue word in
-    let long : length first ≡ length busy = length-set busy residue word in
-    let within : place + ii < length busy = omega (arith, long, length-set first (residue + ii) word) in
-    let near : place ≢ residue + ii = λ e. omega arith in
-    elim (cases_eq place residue) [
-      | inl same ↦
-          ap (λ k. get_or (set first (residue + ii) word) (k + ii) 0) same ∙ get_or-set_same first (residue + ii) word 0 (omega arith)
-          ∙ sym (get_or-set_other first (residue + ii) place word 0 near ∙ ap (λ k. get_or first k 0) same ∙ get_or-set_same busy residue word 0 (omega arith))
-      | inr other ↦
-          let far : place + ii ≢ residue = λ e. omega arith in
-          let apart : place + ii ≢ residue + ii = λ e. other (omega arith) in
-          get_or-set_other first (residue + ii) (place + ii) word 0 apart ∙ get_or-set_other busy residue (place + ii) word 0 far ∙ rep place within
-          ∙ sym (get_or-set_other first (residue + ii) place word 0 near ∙ get_or-set_other busy residue place word 0 other)
-    ]
-
--- the repeat changes no word of the interval
-pub is_held-repeat : (ii : ℕ) (busy : List ℕ) (residue word unit place : ℕ) → place < ii → is_held (set busy (residue + ii) word) unit place ≡ is_held busy unit place
-is_held-repeat ii busy residue word unit place lt =
-    let ne : place ≢ residue + ii = λ e. omega arith in
-    ap (λ n. eqb (bit_at n unit) 1) (get_or-set_other busy (residue + ii) place word 0 ne)
-
 -- ---- the table as it changes
-pub IsMaskTable-new : (ii n words : ℕ) (operations : Operations) → n ≡ length operations → ii ≤ words → words ≤ ii + ii → (8 ≤ ii → words ≡ ii + 7) → IsMaskTable (record { interval = ii; operations = operations; placed = replicate n None }) (replicate words 0)
-IsMaskTable-new ii n words operations whole least most spare = record {
+pub IsMaskTable-new : (ii n words : ℕ) (operations : Operations) → n ≡ length operations → ii ≤ words → IsMaskTable (record { interval = ii; operations = operations; placed = replicate n None }) (replicate words 0)
+IsMaskTable-new ii n words operations whole least = record {
   whole = length-replicate n None ∙ whole;
   apart = λ unit residue x y s t. absurd (none_placed n x s.at s.is_placed);
   least = omega (arith, length-replicate {A = ℕ} words 0);
-  most = omega (arith, length-replicate {A = ℕ} words 0);
-  spare = λ long. length-replicate words 0 ∙ spare long;
   occupied = record {
     marked = λ unit residue op u r t. absurd (none_placed n op t.at t.is_placed);
     owed = λ unit residue u r h.
         let word : get_or (replicate words 0) residue 0 ≡ 0 = get_or-replicate words residue 0 0 (omega arith) in
         absurd (true≢false (sym h ∙ ap (λ w. eqb (bit_at w unit) 1) word ∙ ap (λ b. eqb b 1) (bit_at-zero unit)));
   };
-  repeats = λ place lt.
-      let within : place + ii < words = omega (arith, length-replicate {A = ℕ} words 0) in
-      get_or-replicate words (place + ii) 0 0 within ∙ sym (get_or-replicate words place 0 0 (omega arith));
 }
 
-module _ (table : Table) (busy busy' : List ℕ) (op : ℕ) (at : Placement) (kept : IsMaskTable table busy) (long : length busy' ≡ length busy) (again : Repeats table.interval busy') where
+module _ (table : Table) (busy busy' : List ℕ) (op : ℕ) (at : Placement) (kept : IsMaskTable table busy) (long : length busy' ≡ length busy) where
   pub IsMaskTable-placed : op < length table.operations → placement_of table.placed op ≡ None → IsFree table.interval table.operations table.placed op at.time at.alternative
       → ((unit residue : ℕ) → unit < 64 → residue < table.interval
       → is_held busy' unit residue ≡ cond (takes table.interval (rows_of table.operations op at.alternative) at.time unit residue) true (is_held busy unit residue))
@@ -144,10 +109,7 @@ module _ (table : Table) (busy busy' : List ℕ) (op : ℕ) (at : Placement) (ke
         whole = length-set table.placed op (Some at) ∙ kept.whole;
         apart = AreApart-placed table.interval 64 table.operations table.placed op at within unplaced free.fits.meets_none kept.apart;
         least = omega (arith, long, kept.least);
-        most = omega (arith, long, kept.most);
-        spare = λ h. long ∙ kept.spare h;
         occupied = Occupies-placed table.interval 64 table.operations table.placed op at within unplaced free.fits.meets_none (is_held busy) (is_held busy') write kept.occupied;
-        repeats = again;
       }
 
   pub IsMaskTable-removed : placement_of table.placed op ≡ Some at
@@ -158,38 +120,8 @@ module _ (table : Table) (busy busy' : List ℕ) (op : ℕ) (at : Placement) (ke
     whole = length-set table.placed op None ∙ kept.whole;
     apart = AreApart-removed table.interval 64 table.operations table.placed op at is_placed kept.apart;
     least = omega (arith, long, kept.least);
-    most = omega (arith, long, kept.most);
-    spare = λ h. long ∙ kept.spare h;
     occupied = Occupies-removed table.interval 64 table.operations table.placed op at is_placed kept.apart (is_held busy) (is_held busy') write kept.occupied;
-    repeats = again;
   }
-
--- ---- the timelines
-no_bit : (n place bit : ℕ) → place < n → eqb (bit_at (get_or (replicate n 0) place 0) bit) 1 ≡ false
-no_bit n place bit lt = ap (λ w. eqb (bit_at w bit) 1) (get_or-replicate n place 0 0 lt) ∙ ap (λ b. eqb b 1) (bit_at-zero bit)
-
-pub AreTimes-new : (ii words masks : ℕ) → 0 < ii → ii ≤ masks → words ≤ 257 → (16 ≤ ii → ii + 64 ≤ 64 * words) → AreTimes ii words (replicate (64 * words) 0) (replicate masks 0)
-AreTimes-new ii words masks some least few reach = record {
-  all = length-replicate (64 * words) 0;
-  few = few;
-  reach = reach;
-  tell = λ unit place u p.
-      let within : unit * words + place / 64 < 64 * words = place_below 64 words (place / 64) unit (omega arith) u in
-      let residue : place % ii < masks = omega (arith, some, least) in
-      no_bit (64 * words) (unit * words + place / 64) (place % 64) within ∙ sym (no_bit masks (place % ii) unit residue);
-}
-
-pub AreTimes-marked : (ii words : ℕ) (times times' busy busy' : List ℕ) (T : ℕ → ℕ → Bool) (held : Bool) → 0 < ii → AreTimes ii words times busy → length times' ≡ length times
-    → ((unit place : ℕ) → unit < 64 → place < 64 * words → is_set words times' unit place ≡ cond (T unit (place % ii)) held (is_set words times unit place))
-    → ((unit residue : ℕ) → unit < 64 → residue < ii → is_held busy' unit residue ≡ cond (T unit residue) held (is_held busy unit residue))
-    → AreTimes ii words times' busy'
-AreTimes-marked ii words times times' busy busy' T held some a long set_there held_there = record {
-  all = long ∙ a.all;
-  few = a.few;
-  reach = a.reach;
-  tell = λ unit place u p.
-      set_there unit place u p ∙ ap (λ b. cond (T unit (place % ii)) held b) (a.tell unit place u p) ∙ sym (held_there unit (place % ii) u (omega arith));
-}
 
 -- ---- who holds a slot
 module _ (ii : ℕ) (operations : Operations) (placed : Placements) (row : Row) (time : ℕ) where
@@ -212,3 +144,55 @@ module _ (ii : ℕ) (operations : Operations) (placed : Placements) (row : Row) 
       → IsHolder ii operations placed row time found
   holder_of_taker apart None none = nobody_holds none
   holder_of_taker apart (Some holder) t = taker_holds apart holder t
+
+-- ---- the words and timelines of units
+-- no slot past the interval is taken
+pub takes_past : (ii : ℕ) (rows : List Row) (time unit place : ℕ) → 0 < ii → ii ≤ place → takes ii rows time unit place ≡ false
+takes_past ii [] time unit place some past = refl
+takes_past ii (row ∷ rows) time unit place some past =
+    let ne : place ≢ residue_of ii row time = λ e. omega arith in
+    ap (λ b. b || takes ii rows time unit place) (and_with_false (eqb unit row.unit) (eqb place (residue_of ii row time)) (ne_eqb place (residue_of ii row time) ne))
+    ∙ takes_past ii rows time unit place some past
+
+no_bit : (n place bit : ℕ) → place < n → eqb (bit_at (get_or (replicate n 0) place 0) bit) 1 ≡ false
+no_bit n place bit lt = ap (λ w. eqb (bit_at w bit) 1) (get_or-replicate n place 0 0 lt) ∙ ap (λ b. eqb b 1) (bit_at-zero bit)
+
+pub AreTimes-new : (ii words masks : ℕ) → 0 < ii → ii ≤ masks → words ≤ 257 → (ii < 64 → words ≡ 1) → (64 ≤ ii → ii + 64 ≤ 64 * words) → AreTimes ii words (replicate (64 * words) 0) (replicate masks 0)
+AreTimes-new ii words masks some least few one reach = record {
+  all = length-replicate (64 * words) 0;
+  few = few;
+  one = one;
+  reach = reach;
+  once = λ short.
+      let all : 64 ≤ 64 * words = omega (arith, one short) in
+      record {
+        tell = λ unit residue u r. no_bit (64 * words) unit residue (omega arith) ∙ sym (no_bit masks residue unit (omega arith));
+        clear = λ unit place u past p. no_bit (64 * words) unit place (omega arith);
+      };
+  tell = λ long unit place u p.
+      let within : unit * words + place / 64 < 64 * words = place_below 64 words (place / 64) unit (omega arith) u in
+      let residue : place % ii < masks = omega (arith, some, least) in
+      no_bit (64 * words) (unit * words + place / 64) (place % 64) within ∙ sym (no_bit masks (place % ii) unit residue);
+}
+
+pub AreTimes-marked : (ii words : ℕ) (times times' busy busy' : List ℕ) (rows : List Row) (time : ℕ) (held : Bool) → 0 < ii → AreTimes ii words times busy → length times' ≡ length times
+    → ((unit place : ℕ) → ii < 64 → unit < 64 → place < 64 → is_on times' unit place ≡ cond (takes ii rows time unit place) held (is_on times unit place))
+    → ((unit place : ℕ) → 64 ≤ ii → unit < 64 → place < 64 * words → is_set words times' unit place ≡ cond (takes ii rows time unit (place % ii)) held (is_set words times unit place))
+    → ((unit residue : ℕ) → unit < 64 → residue < ii → is_held busy' unit residue ≡ cond (takes ii rows time unit residue) held (is_held busy unit residue))
+    → AreTimes ii words times' busy'
+AreTimes-marked ii words times times' busy busy' rows time held some a long once_there set_there held_there =
+    let T : ℕ → ℕ → Bool = takes ii rows time in
+    record {
+      all = long ∙ a.all;
+      few = a.few;
+      one = a.one;
+      reach = a.reach;
+      once = λ short. record {
+        tell = λ unit residue u r.
+            once_there unit residue short u (omega arith) ∙ ap (λ b. cond (T unit residue) held b) ((a.once short).tell unit residue u r) ∙ sym (held_there unit residue u r);
+        clear = λ unit place u past p.
+            once_there unit place short u p ∙ ap (λ b. cond b held (is_on times unit place)) (takes_past ii rows time unit place some past) ∙ (a.once short).clear unit place u past p;
+      };
+      tell = λ far unit place u p.
+          set_there unit place far u p ∙ ap (λ b. cond (T unit (place % ii)) held b) (a.tell far unit place u p) ∙ sym (held_there unit (place % ii) u (omega arith));
+    }

@@ -67,18 +67,18 @@ module _ (ii : ℕ) (operations : Operations) (placed : Placements) (op start : 
     pub first_slot_none : ii ≤ first → IsFirstSlot ii operations placed op start None
     first_slot_none le = λ time alternative from to. none_before_first time alternative from (omega arith)
 
--- the lowest bit that is set
-pub lowest_bit : (n r : ℕ) → n < 2 ^ 64 → r ≡ min (trailing_zeros w64 n) 8 → ((k : ℕ) → k < r → bit_at n k ≡ 1 → ⊥) × (r < 8 → bit_at n r ≡ 1)
+-- the lowest bit that is set, if there is one below a bound
+pub lowest_bit : (n r most : ℕ) → n < 2 ^ 64 → most ≤ 64 → r ≡ min most (trailing_zeros w64 n) → ((k : ℕ) → k < r → bit_at n k ≡ 1 → ⊥) × (r < most → bit_at n r ≡ 1)
 unfolding count_trailing_zeros
-lowest_bit n r fits is =
+lowest_bit n r most fits few is =
     elim (cases_eq n 0) [
       | inl none ↦
-          let most : r ≡ 8 = is ∙ ap (λ m. min (trailing_zeros w64 m) 8) none in
+          let whole : r ≡ most = is ∙ ap (λ m. min most (trailing_zeros w64 m)) none ∙ omega (arith, few) in
           (λ k lt one. omega (arith, sym one ∙ ap (λ m. bit_at m k) none ∙ bit_at-zero k), λ lt. absurd (omega arith))
       | inr some ↦
           let t = bit_at-trailing_zeros w64 n (omega arith) fits in (
             λ k lt one. omega (arith, t.2 k (omega (arith, is)), one),
-            λ lt. let same : r ≡ trailing_zeros w64 n = omega (arith, is) in ap (λ k. bit_at n k) same ∙ t.1,
+            λ lt. let same : r ≡ trailing_zeros w64 n = omega (arith, is, lt) in ap (λ k. bit_at n k) same ∙ t.1,
           )
     ]
 

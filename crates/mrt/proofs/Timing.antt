@@ -9,12 +9,13 @@ use Rattle.std.proofs.Math.Nat.{mod-add-div', mod-add-mod}
 use Rattle.machine.specs.Alternative.{residue_of}
 use Rattle.mrt.specs.declared.slot.Slot.{Slot}
 use Rattle.mrt.specs.Slots.{rows_in, meets_held}
-use Rattle.mrt.specs.Times.{is_set, Tell}
+use Rattle.mrt.specs.Times.{is_set, Tell, is_on, TellOnce}
 use Rattle.mrt.proofs.Owning.{same_place, meets_more}
+use Rattle.mrt.proofs.Masking.{is_held-set}
 use Rattle.mrt.proofs.Residues.{residue_later, residue_around}
 
 -- ---- the bits of two words side by side
-bit_at-shr : (n s k : ℕ) → bit_at (n / 2 ^ s) k ≡ bit_at n (s + k)
+pub bit_at-shr : (n s k : ℕ) → bit_at (n / 2 ^ s) k ≡ bit_at n (s + k)
 bit_at-shr n s k =
     let small : n % 2 ^ s < 2 ^ s = omega (arith, pow_pos s) in
     let whole : n / 2 ^ s * 2 ^ s + n % 2 ^ s ≡ n = omega (arith, mod-add-div' n (2 ^ s)) in
@@ -26,12 +27,12 @@ bit_at-mod n k lt =
     let whole : n / 2 ^ 64 * 2 ^ 64 + n % 2 ^ 64 ≡ n = omega (arith, mod-add-div' n (2 ^ 64)) in
     sym (ap (λ m. bit_at m k) (sym whole) ∙ bit_at_cat_low (n / 2 ^ 64) 64 (n % 2 ^ 64) k lt)
 
-bit_at-shl_above : (n s k : ℕ) → k < 64 → s ≤ k → bit_at (n * 2 ^ s % 2 ^ 64) k ≡ bit_at n (k - s)
+pub bit_at-shl_above : (n s k : ℕ) → k < 64 → s ≤ k → bit_at (n * 2 ^ s % 2 ^ 64) k ≡ bit_at n (k - s)
 bit_at-shl_above n s k lt le =
     let whole : n * 2 ^ s + 0 ≡ n * 2 ^ s = omega arith in
     bit_at-mod (n * 2 ^ s) k lt ∙ ap (λ m. bit_at m k) (sym whole) ∙ bit_at_cat_high n s 0 k (pow_pos s) le
 
-bit_at-shl_below : (n s k : ℕ) → k < 64 → k < s → bit_at (n * 2 ^ s % 2 ^ 64) k ≡ 0
+pub bit_at-shl_below : (n s k : ℕ) → k < 64 → k < s → bit_at (n * 2 ^ s % 2 ^ 64) k ≡ 0
 bit_at-shl_below n s k lt below =
     let whole : n * 2 ^ s + 0 ≡ n * 2 ^ s = omega arith in
     bit_at-mod (n * 2 ^ s) k lt ∙ ap (λ m. bit_at m k) (sym whole) ∙ bit_at_cat_low n s 0 k below ∙ bit_at-zero k
@@ -128,7 +129,16 @@ both_zero a b la lb =
           ap (λ n. eqb n 1) is ∙ sym (ap (λ t. t || eqb b 1) (ne_eqb a 1 ne))
     ]
 
--- one slot more
+-- one slot more, whose word tells of the cycle
+pub met_more : (ii : ℕ) (held : ℕ → ℕ → Bool) (slots : List Slot) (time k i : ℕ) (d : Slot) (was word : ℕ) → i < length slots
+    → eqb (bit_at word k) 1 ≡ held (get_or slots i d).row.unit (residue_of ii (get_or slots i d).row (time + k))
+    → eqb (bit_at was k) 1 ≡ meets_held ii held (rows_in (take i slots)) (time + k)
+    → eqb (bit_at (bit_or was word) k) 1 ≡ meets_held ii held (rows_in (take (i + 1) slots)) (time + k)
+met_more ii held slots time k i d was word lt here so_far =
+    ap (λ n. eqb n 1) (bit_at_or was word k) ∙ both_zero (bit_at was k) (bit_at word k) (bit_at-lt was k) (bit_at-lt word k)
+    ∙ ap (λ b. b || eqb (bit_at word k) 1) so_far ∙ ap (λ b. meets_held ii held (rows_in (take i slots)) (time + k) || b) here
+    ∙ sym (meets_more ii held slots (time + k) i d lt)
+
 pub cycle_more : (ii words : ℕ) (times : List ℕ) (held : ℕ → ℕ → Bool) (slots : List Slot) (time k i : ℕ) (d : Slot) (at was word : ℕ) → i < length slots
     → Tell ii words times held → (get_or slots i d).row.unit < 64 → at + k < 64 * words → at ≡ residue_of ii (get_or slots i d).row time
     → bit_at word k ≡ bit_at (get_or times ((get_or slots i d).row.unit * words + (at + k) / 64) 0) ((at + k) % 64)
@@ -139,9 +149,7 @@ cycle_more ii words times held slots time k i d at was word lt tell unit within 
     let same : (time + row.offset) + k ≡ (time + k) + row.offset = omega arith in
     let residue : (at + k) % ii ≡ residue_of ii row (time + k) = ap (λ n. (n + k) % ii) is ∙ mod-add-mod (time + row.offset) ii k ∙ ap (λ n. n % ii) same in
     let here : eqb (bit_at word k) 1 ≡ held row.unit (residue_of ii row (time + k)) = ap (λ n. eqb n 1) read ∙ tell row.unit (at + k) unit within ∙ ap (λ r. held row.unit r) residue in
-    ap (λ n. eqb n 1) (bit_at_or was word k) ∙ both_zero (bit_at was k) (bit_at word k) (bit_at-lt was k) (bit_at-lt word k)
-    ∙ ap (λ b. b || eqb (bit_at word k) 1) so_far ∙ ap (λ b. meets_held ii held (rows_in (take i slots)) (time + k) || b) here
-    ∙ sym (meets_more ii held slots (time + k) i d lt)
+    met_more ii held slots time k i d was word lt here so_far
 
 -- what some of the slots meet, all do
 pub meets_whole : (ii : ℕ) (held : ℕ → ℕ → Bool) (slots : List Slot) (n time : ℕ) → meets_held ii held (rows_in (take n slots)) time ≡ true → meets_held ii held (rows_in slots) time ≡ true
@@ -170,3 +178,71 @@ bit_of_rest met k fits lt =
       | inl one ↦ ne_eqb (bit_at (2 ^ 64 - 1 - met) k) 1 (λ e. omega (arith, is, one, e)) ∙ sym (ap not (eq-eqb (bit_at met k) 1 one))
       | inr ne ↦ eq-eqb (bit_at (2 ^ 64 - 1 - met) k) 1 (omega (arith, is, bit_at-lt met k)) ∙ sym (ap not (ne_eqb (bit_at met k) 1 ne))
     ]
+
+-- ---- a word turned round
+turned : ℕ → ℕ → ℕ → ℕ
+turned round ii residue = round * 2 ^ (ii - residue) % 2 ^ 64
+
+pub turned_before : (round ii residue k : ℕ) → ii < 64 → residue + k < ii → bit_at (bit_or (round / 2 ^ residue) (round * 2 ^ (ii - residue) % 2 ^ 64)) k ≡ bit_at round (residue + k)
+unfolding turned
+turned_before round ii residue k short lt =
+    bit_at_or (round / 2 ^ residue) (turned round ii residue) k ∙ ap (λ b. max (bit_at (round / 2 ^ residue) k) b) (bit_at-shl_below round (ii - residue) k (omega arith) (omega arith))
+    ∙ omega (arith, bit_at-shr round residue k)
+
+pub turned_after : (round ii residue k : ℕ) → ii < 64 → residue < ii → k < ii → ii ≤ residue + k → bit_at round (residue + k) ≡ 0
+    → bit_at (bit_or (round / 2 ^ residue) (round * 2 ^ (ii - residue) % 2 ^ 64)) k ≡ bit_at round (residue + k - ii)
+unfolding turned
+turned_after round ii residue k short below lt past none =
+    let place : k - (ii - residue) ≡ residue + k - ii = omega arith in
+    let alone : max 0 (bit_at (turned round ii residue) k) ≡ bit_at (turned round ii residue) k = omega arith in
+    bit_at_or (round / 2 ^ residue) (turned round ii residue) k ∙ ap (λ b. max b (bit_at (turned round ii residue) k)) (bit_at-shr round residue k ∙ none) ∙ alone
+    ∙ bit_at-shl_above round (ii - residue) k (omega arith) (omega arith) ∙ ap (λ j. bit_at round j) place
+
+-- no bit is set past the interval
+pub no_bit_past : (ii : ℕ) (rounds : List ℕ) (held : ℕ → ℕ → Bool) (unit place : ℕ) → TellOnce ii rounds held → unit < 64 → ii ≤ place → get_or rounds unit 0 < 2 ^ 64
+    → bit_at (get_or rounds unit 0) place ≡ 0
+no_bit_past ii rounds held unit place tell u past fits =
+    elim (cases_lt place 64) [
+      | inl near ↦
+          let clear = tell.clear unit place u past near in
+          elim (cases_eq (bit_at (get_or rounds unit 0) place) 1) [
+            | inl one ↦ absurd (true≢false (sym (eq-eqb (bit_at (get_or rounds unit 0) place) 1 one) ∙ clear))
+            | inr ne ↦ omega (arith, ne, bit_at-lt (get_or rounds unit 0) place)
+          ]
+      | inr far ↦ bit_at_above (get_or rounds unit 0) 64 place fits far
+    ]
+
+-- one slot more, whose word is turned round
+pub round_more : (ii : ℕ) (rounds : List ℕ) (held : ℕ → ℕ → Bool) (slots : List Slot) (time k i : ℕ) (d : Slot) (at was word : ℕ) → i < length slots
+    → TellOnce ii rounds held → (get_or slots i d).row.unit < 64 → at < ii → k < ii → at ≡ residue_of ii (get_or slots i d).row time
+    → get_or rounds (get_or slots i d).row.unit 0 < 2 ^ 64
+    → (at + k < ii → bit_at word k ≡ bit_at (get_or rounds (get_or slots i d).row.unit 0) (at + k))
+    → (ii ≤ at + k → bit_at (get_or rounds (get_or slots i d).row.unit 0) (at + k) ≡ 0 → bit_at word k ≡ bit_at (get_or rounds (get_or slots i d).row.unit 0) (at + k - ii))
+    → eqb (bit_at was k) 1 ≡ meets_held ii held (rows_in (take i slots)) (time + k)
+    → eqb (bit_at (bit_or was word) k) 1 ≡ meets_held ii held (rows_in (take (i + 1) slots)) (time + k)
+round_more ii rounds held slots time k i d at was word lt tell unit below small is fits before after so_far =
+    let row = (get_or slots i d).row in
+    let same : (time + row.offset) + k ≡ (time + k) + row.offset = omega arith in
+    let here : eqb (bit_at word k) 1 ≡ held row.unit (residue_of ii row (time + k)) =
+    elim (cases_lt (at + k) ii) [
+      | inl inside ↦
+          let residue : residue_of ii row (time + k) ≡ at + k = ap (λ n. n % ii) (sym same) ∙ residue_later ii at (time + row.offset) k (sym is) inside in
+          ap (λ n. eqb n 1) (before inside) ∙ tell.tell row.unit (at + k) unit inside ∙ ap (λ r. held row.unit r) (sym residue)
+      | inr past ↦
+          let residue : residue_of ii row (time + k) ≡ at + k - ii = ap (λ n. n % ii) (sym same) ∙ residue_around ii at (time + row.offset) k (omega arith) (sym is) (omega arith) past in
+          ap (λ n. eqb n 1) (after past (no_bit_past ii rounds held row.unit (at + k) tell unit past fits)) ∙ tell.tell row.unit (at + k - ii) unit (omega arith) ∙ ap (λ r. held row.unit r) (sym residue)
+    ] in
+    met_more ii held slots time k i d was word lt here so_far
+
+-- ---- the words of units as slots are written
+swapped : (a b : Bool) → (a && b) ≡ (b && a)
+swapped true true = refl
+swapped true false = refl
+swapped false true = refl
+swapped false false = refl
+
+pub is_on-set : (rounds : List ℕ) (own at word unit place : ℕ) (held : Bool) → own < length rounds → place < 64
+    → ((bit : ℕ) → bit < 64 → eqb (bit_at word bit) 1 ≡ cond (eqb bit at) held (eqb (bit_at (get_or rounds own 0) bit) 1))
+    → is_on (set rounds own word) unit place ≡ cond (eqb unit own && eqb place at) held (is_on rounds unit place)
+is_on-set rounds own at word unit place held lt p w =
+    is_held-set rounds own word at held lt w place unit p ∙ ap (λ b. cond b held (is_on rounds unit place)) (swapped (eqb place at) (eqb unit own))

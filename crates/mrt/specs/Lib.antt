@@ -6,5 +6,4 @@ pub mod Rosters
 pub mod OwnerTables
 pub mod Times
 pub mod MaskTables
-pub mod Lanes
 pub mod Turns

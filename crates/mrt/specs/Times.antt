@@ -1,5 +1,5 @@
 -- Timelines, one of as many words for each of 64 units.
-use Rattle.std.specs.Prelude.{◌≡◌, ℕ, ◌+◌, ◌*◌, ◌/◌, ◌%◌, ◌<◌, Bool, ◌==◌, List}
+use Rattle.std.specs.Prelude.{◌≡◌, ℕ, ◌+◌, ◌*◌, ◌/◌, ◌%◌, ◌<◌, ◌≤◌, Bool, false, ◌==◌, List}
 use Rattle.std.specs.Int.{bit_at}
 use Rattle.std.specs.List.{slice_index}
 
@@ -10,3 +10,12 @@ is_set words times unit place = bit_at (slice_index times (unit * words + place 
 -- the timelines tell of each unit and time whether the slot is held
 abbrev pub Tell : ℕ → ℕ → List ℕ → (ℕ → ℕ → Bool) → Type 0
 Tell ii words times held = (unit place : ℕ) → unit < 64 → place < 64 * words → is_set words times unit place ≡ held unit (place % ii)
+
+-- whether the bit of a residue is set in the word of a unit
+abbrev pub is_on : List ℕ → ℕ → ℕ → Bool
+is_on rounds unit residue = bit_at (slice_index rounds unit) residue == 1
+
+-- the words tell of each unit and residue whether the slot is held, and have no other bit
+pub record TellOnce (ii : ℕ) (rounds : List ℕ) (held : ℕ → ℕ → Bool) : Type 0 where
+  pub tell : (unit residue : ℕ) → unit < 64 → residue < ii → is_on rounds unit residue ≡ held unit residue
+  pub clear : (unit place : ℕ) → unit < 64 → ii ≤ place → place < 64 → is_on rounds unit place ≡ false

@@ -3,10 +3,10 @@
 #![tactic(auto)]
 
 mod choices;
-mod lanes;
 mod mask;
 mod owner;
 mod roster;
+mod rounds;
 mod slot;
 mod table;
 #[cfg(test)]

@@ -1,4 +1,4 @@
-//! A modulo reservation table as a word of units for each residue, and a timeline for each unit.
+//! A modulo reservation table as a word of units for each residue, and a word or a timeline for each unit.
 
 ghost use Rattle.std.specs.Prelude.{◌≡◌, ◌↔◌, ◌+◌, ◌*◌, ◌%◌, ◌^◌, ◌<◌, ◌≤◌, ◌==◌, ◌&&◌, ℕ, List, length, replicate, Option, Some, None, IsNone, IsSome, IsTrue, IfOk, if◌then◌else◌, slice_set, slice_index_or, slice_get};
 ghost use Rattle.std.specs.Int.{bit_at};
@@ -6,10 +6,11 @@ ghost use Rattle.std.specs.List.{All};
 ghost use Rattle.machine.specs.Alternative.{residue_of};
 ghost use Rattle.mrt.specs.Placements.{alternatives_of, IsFree, IsFirstFree, IsFirstSlot};
 ghost use Rattle.mrt.specs.Slots.{IsSlot, rows_in, takes, meets_held};
-ghost use Rattle.mrt.specs.MaskTables.{is_held, Repeats};
+ghost use Rattle.mrt.specs.MaskTables.{is_held};
+ghost use Rattle.mrt.specs.Times.{is_on, is_set};
 
-use crate::lanes::first_unmet;
 use crate::roster::{Issue, Roster};
+use crate::rounds::{first_off, mark_rounds};
 use crate::slot::Slot;
 use crate::table::ModuloTable;
 use crate::times::{LEAST, first_unheld, mark_times, words_at};
@@ -19,18 +20,17 @@ use std::alloc::Global;
 use std::marker::Model;
 
 /// A modulo reservation table that keeps, for each residue, one word whose bit `u` tells that unit `u`
-/// is held, beside the list of placements. From an interval of 16 on, it also keeps a timeline for
-/// each unit, which has a bit for each time. Contracts see the interval, the alternatives of each operation and the set of
-/// placements.
+/// is held, beside the list of placements. For searches it also keeps for each unit a word that has a bit
+/// for each residue, or from an interval of 64 on a timeline, which has a bit for each time. Contracts
+/// see the interval, the alternatives of each operation and the set of placements.
 #[derive(Drop)]
 pub struct MaskTable {
     roster: Roster,
-    /// The words by residue. From an interval of 8 on, the first seven are repeated at the end, so that
-    /// those of eight consecutive cycles always stand side by side.
+    /// The words by residue.
     busy: Vec<u64>,
-    /// How many words each unit's timeline has.
+    /// How many words each unit has.
     words: usize,
-    /// The timelines of all units, one after another.
+    /// The words or timelines of all units, one after another.
     times: Vec<u64>,
 }
 
@@ -81,7 +81,6 @@ impl MaskTable {
         requires there { op < length self.now.operations }
         requires alternative { alternative < length (alternatives_of self.now.operations op) }
         requires base { base < self.now.interval }
-        requires eight { 8 ≤ self.now.interval }
         requires limit { limit ≤ self.now.interval }
         ensures few { result ≤ limit }
         ensures none_sooner { (time sooner : ℕ) → time % self.now.interval ≡ base → sooner < result
@@ -94,18 +93,17 @@ impl MaskTable {
         };
         let ii = self.roster.ii();
         if ii < LEAST {
-            first_unmet(&self.busy, slots, ii, base, limit)
+            first_off(&self.times, slots, ii, base, limit)
         } else {
             first_unheld(&self.times, self.words, slots, ii, base, limit)
         }
     }
 
-    /// [`ModuloTable::first_free`] from an interval of 8 on: each alternative is searched in turn, up to
+    /// [`ModuloTable::first_free`]: each alternative is searched in turn, up to
     /// the least time found so far, many times at once.
     fn first_by_alternatives(&self, op: usize, start: u64) -> Option<(u64, usize)>
         requires there { op < length self.now.operations }
         requires time { start + self.now.interval ≤ 2 ^ 32 }
-        requires eight { 8 ≤ self.now.interval }
         ensures { IsFirstSlot self.now.interval self.now.operations self.now.placed op start result }
     {
         let base = self.roster.residue(start);
@@ -125,20 +123,6 @@ impl MaskTable {
             None
         }
     }
-
-    /// [`ModuloTable::first_free`] at any interval, one time after another.
-    fn first_one_by_one(&self, op: usize, start: u64) -> Option<(u64, usize)>
-        requires there { op < length self.now.operations }
-        requires time { start + self.now.interval ≤ 2 ^ 32 }
-        ensures { IsFirstSlot self.now.interval self.now.operations self.now.placed op start result }
-    {
-        for time in start..start + self.roster.ii() as u64 {
-            if let Some(alternative) = self.first_alternative(op, self.roster.residue(time)) {
-                return Some((time, alternative));
-            }
-        }
-        None
-    }
 }
 
 impl ModuloTable for MaskTable {
@@ -156,8 +140,7 @@ impl ModuloTable for MaskTable {
         ii: u64,
     ) -> Result<MaskTable, OutOfMemory> {
         let roster = Roster::new(alloc, alternatives, ii as usize)?;
-        let masks = if ii < 8 { ii } else { ii + 7 };
-        let busy = vec![in alloc; 0; masks as usize]?;
+        let busy = vec![in alloc; 0; ii as usize]?;
         let words = words_at(ii as usize);
         let times = vec![in alloc; 0; MAX_UNITS * words]?;
         Ok(MaskTable {
@@ -177,11 +160,7 @@ impl ModuloTable for MaskTable {
     }
 
     fn first_free(&self, op: usize, start: u64) -> Option<(u64, usize)> {
-        if self.roster.ii() < 8 {
-            self.first_one_by_one(op, start)
-        } else {
-            self.first_by_alternatives(op, start)
-        }
+        self.first_by_alternatives(op, start)
     }
 
     fn holder(&self, op: usize, alternative: usize, row: usize, time: u64) -> Option<usize> {
@@ -198,7 +177,7 @@ impl ModuloTable for MaskTable {
         let base = self.roster.residue(time);
         let slots = self.roster.slots(op, alternative);
         mark(&mut self.busy, slots, ii, base, true);
-        mark_times(&mut self.times, self.words, slots, ii, base, true);
+        mark_units(&mut self.times, self.words, slots, ii, base, true);
         self.roster.place(
             op,
             Issue {
@@ -214,7 +193,7 @@ impl ModuloTable for MaskTable {
             let ii = self.roster.ii();
             let slots = self.roster.slots(op, issue.alternative);
             mark(&mut self.busy, slots, ii, issue.base, false);
-            mark_times(&mut self.times, self.words, slots, ii, issue.base, false);
+            mark_units(&mut self.times, self.words, slots, ii, issue.base, false);
             self.roster.remove(op);
         }
     }
@@ -238,36 +217,36 @@ fn is_met(busy: &[u64], slots: &[Slot], ii: usize, base: usize) -> bool
 
 /// Sets or clears the bits of slots.
 fn mark(busy: &mut [u64], slots: &[Slot], ii: usize, base: usize, held: bool)
-    requires least { ii ≤ length busy.old }
-    requires most { length busy.old ≤ ii + ii }
+    requires long { ii ≤ length busy.old }
     requires slots { All (IsSlot ii) slots.now }
     requires base { base < ii }
     requires few { ii ≤ 16384 }
-    requires repeats { Repeats ii busy.old }
-    ensures repeats { Repeats ii busy.new }
-    ensures marked { (time unit residue : ℕ) → time % ii ≡ base → unit < 64 → residue < ii
+    ensures { (time unit residue : ℕ) → time % ii ≡ base → unit < 64 → residue < ii
         → is_held busy.new unit residue ≡ (if takes ii (rows_in slots.now) time unit residue then held else is_held busy.old unit residue) }
 {
     for slot in slots {
-        write(busy, ii, slot.residue(base, ii), slot.mask, held);
+        let residue = slot.residue(base, ii);
+        busy[residue] = with_bit(busy[residue], slot.mask, held);
     }
 }
 
-/// Sets or clears the bit of a mask in the word of a residue, and where that word is repeated.
-fn write(busy: &mut [u64], ii: usize, residue: usize, mask: u64, held: bool)
-    requires least { ii ≤ length busy.old }
-    requires most { length busy.old ≤ ii + ii }
+/// Sets or clears the bits of slots in the words or timelines of their units.
+fn mark_units(times: &mut [u64], words: usize, slots: &[Slot], ii: usize, base: usize, held: bool)
+    requires all { length times.old ≡ 64 * words }
+    requires few_words { words ≤ 257 }
+    requires one { ii < 64 → words ≡ 1 }
+    requires slots { All (IsSlot ii) slots.now }
+    requires base { base < ii }
     requires few { ii ≤ 16384 }
-    requires residue { residue < ii }
-    requires repeats { Repeats ii busy.old }
-    ensures repeats { Repeats ii busy.new }
-    ensures marked { (own unit place : ℕ) → mask ≡ 2 ^ own → own < 64 → unit < 64 → place < ii
-        → is_held busy.new unit place ≡ (if (unit == own) && (place == residue) then held else is_held busy.old unit place) }
+    ensures once { (time unit place : ℕ) → ii < 64 → time % ii ≡ base → unit < 64 → place < 64
+        → is_on times.new unit place ≡ (if takes ii (rows_in slots.now) time unit place then held else is_on times.old unit place) }
+    ensures marked { (time unit place : ℕ) → 64 ≤ ii → time % ii ≡ base → unit < 64 → place < 64 * words
+        → is_set words times.new unit place ≡ (if takes ii (rows_in slots.now) time unit (place % ii) then held else is_set words times.old unit place) }
 {
-    let word = with_bit(busy[residue], mask, held);
-    busy[residue] = word;
-    if residue + ii < busy.len() {
-        busy[residue + ii] = word;
+    if ii < LEAST {
+        mark_rounds(times, slots, ii, base, held);
+    } else {
+        mark_times(times, words, slots, ii, base, held);
     }
 }
 

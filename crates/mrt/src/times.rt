@@ -1,5 +1,5 @@
 //! For each unit a timeline, which has a bit for each time, so that 64 consecutive times are tested at
-//! once.
+//! once. They are kept from an interval of 64 on.
 
 ghost use Rattle.std.specs.Prelude.{◌≡◌, ◌+◌, ◌*◌, ◌/◌, ◌%◌, ◌<◌, ◌≤◌, ◌==◌, ◌&&◌, ℕ, Bool, not, true, false, length, slice_index, if◌then◌else◌};
 ghost use Rattle.std.specs.Int.{bit_at};
@@ -10,18 +10,18 @@ ghost use Rattle.mrt.specs.Times.{is_set, Tell};
 use crate::mask::with_bit;
 use crate::slot::Slot;
 
-/// From which interval on timelines are kept. At a shorter one a timeline repeats its bits so often that
-/// setting them costs more than is saved.
-pub(crate) const LEAST: usize = 16;
+/// From which interval on timelines are kept. At a shorter one a word has a bit for each residue.
+pub(crate) const LEAST: usize = 64;
 
-/// How many words each unit's timeline has at an interval: none below [`LEAST`], and else so many that 64
-/// consecutive times stand in it from each residue on.
+/// How many words each unit has at an interval: one below [`LEAST`], and else so many that 64 consecutive
+/// times stand in its timeline from each residue on.
 pub(crate) fn words_at(ii: usize) -> usize
     requires few { ii ≤ 16384 }
     ensures few { result ≤ 257 }
-    ensures reach { 16 ≤ ii → ii + 64 ≤ 64 * result }
+    ensures one { ii < 64 → result ≡ 1 }
+    ensures reach { 64 ≤ ii → ii + 64 ≤ 64 * result }
 {
-    if ii < LEAST { 0 } else { ii.div_ceil(64) + 1 }
+    if ii < LEAST { 1 } else { ii.div_ceil(64) + 1 }
 }
 
 /// After how many cycles, counted from one whose residue is `base`, no slot is held; `limit` where one
@@ -50,7 +50,7 @@ pub(crate) fn first_unheld(
     let mut at = base;
     let mut passed = 0;
     while passed < limit {
-        let free = free_cycles(times, words, slots, ii, at);
+        let free = free_cycles(times, words, slots, ii, at, limit - passed);
         if free != 0 {
             return limit.min(passed + u64::from(free.trailing_zeros()));
         }
@@ -60,19 +60,27 @@ pub(crate) fn first_unheld(
     limit
 }
 
-/// At which of 64 consecutive cycles, from one whose residue is `base`, no slot is held: bit `k` is set
-/// where that is so `k` cycles later.
-fn free_cycles(times: &[u64], words: usize, slots: &[Slot], ii: usize, base: usize) -> u64
+/// At which of some consecutive cycles, from one whose residue is `base`, no slot is held: bit `k` is set
+/// where that is so `k` cycles later. It tells of `cycles` of them, and of no more than 64.
+fn free_cycles(
+    times: &[u64],
+    words: usize,
+    slots: &[Slot],
+    ii: usize,
+    base: usize,
+    cycles: u64,
+) -> u64
     requires all { length times.now ≡ 64 * words }
     requires reach { ii + 64 ≤ 64 * words }
     requires few_words { words ≤ 257 }
     requires slots { All (IsSlot ii) slots.now }
     requires base { base < ii }
     requires few { ii ≤ 16384 }
-    ensures { (held : ℕ → ℕ → Bool) (time k : ℕ) → Tell ii words times.now held → time % ii ≡ base → k < 64
+    ensures { (held : ℕ → ℕ → Bool) (time k : ℕ) → Tell ii words times.now held → time % ii ≡ base → k < 64 → k < cycles
         → (bit_at result k == 1) ≡ not (meets_held ii held (rows_in slots.now) (time + k)) }
 {
-    let mut met = 0;
+    // (what is not asked for counts as met, so that the search ends as soon as the rest is)
+    let mut met = bits_from(cycles);
     for slot in slots {
         met |= sixty_four(times, words, slot.row.unit, slot.residue(base, ii));
         if met == u64::MAX {
@@ -80,6 +88,14 @@ fn free_cycles(times: &[u64], words: usize, slots: &[Slot], ii: usize, base: usi
         }
     }
     !met
+}
+
+/// A word whose bits are set from a place on.
+pub(crate) fn bits_from(place: u64) -> u64
+    ensures set { (k : ℕ) → k < 64 → place ≤ k → bit_at result k ≡ 1 }
+    ensures clear { (k : ℕ) → k < place → bit_at result k ≡ 0 }
+{
+    if place < 64 { u64::MAX << place } else { 0 }
 }
 
 /// The bits of 64 consecutive places of a unit's timeline.

@@ -8,4 +8,6 @@ pub mod Spans
 pub mod Greatest
 pub mod Ranks
 pub mod Stated
+pub mod Pigeons
+pub mod Crowded
 pub mod Emitted

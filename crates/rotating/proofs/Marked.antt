@@ -47,7 +47,7 @@ one-there [] k d lt = absurd (omega arith)
 one-there (x ∷ xs) zero d lt = refl
 one-there (x ∷ xs) (suc k) d lt = one-there xs k d (omega arith)
 
-span-at : (xs : List Lifetime) (k : ℕ) (x : Lifetime) → slice_get xs k ≡ Some x → All IsSpan xs → IsSpan x
+pub span-at : (xs : List Lifetime) (k : ℕ) (x : Lifetime) → slice_get xs k ≡ Some x → All IsSpan xs → IsSpan x
 span-at [] k x e h = cc
 span-at (y ∷ xs) zero x e h = let z : y ≡ x = cc in subst IsSpan z (h 0 x (omega arith))
 span-at (y ∷ xs) (suc k) x e h = span-at xs k x e (λ n d l. h (suc n) d (omega arith))

@@ -37,7 +37,7 @@ lex-to x y r s m hr hs (inr both) = let e : x * m ≡ y * m = ap (λ z. z * m) b
 lex-move : (x y r s m n : ℕ) → r < m → s < m → r < n → s < n → x * m + r ≤ y * m + s → x * n + r ≤ y * n + s
 lex-move x y r s m n rm sm rn sn le = lex-to x y r s n rn sn (lex-from x y r s m rm sm le)
 
-times-diff : (a b m : ℕ) → (((pos a -ℤ pos b) *ℤ pos m) +ℤ pos (b * m)) ≡ pos (a * m)
+pub times-diff : (a b m : ℕ) → (((pos a -ℤ pos b) *ℤ pos m) +ℤ pos (b * m)) ≡ pos (a * m)
 times-diff a b m = elim (cases_lt a b) [
   | inl lt ↦
       let k : ℕ = b - suc a in

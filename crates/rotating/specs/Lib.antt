@@ -5,6 +5,7 @@ pub use Rattle.overlap.specs.Allotments
 pub use Rattle.overlap.specs.Emission
 pub use Rattle.overlap.specs.Overlap
 pub mod Answers
+pub mod Crowds
 pub mod Naming
 pub mod Residues
 pub mod Turns

@@ -6,6 +6,7 @@ ghost use Rattle.overlap.specs.Allotments.{IsAllotment, AreLeast, HaveNone, Leas
 ghost use Rattle.rotating.specs.Answers.{CheckAnswers};
 ghost use Rattle.rotating.specs.Residues.{IsSpan};
 
+use crate::crowd::are_crowded;
 use crate::lawful::are_lawful;
 use crate::lifetime::fill_lifetimes;
 use crate::number::least_number;
@@ -107,6 +108,25 @@ fn fill_least(ii: u64, registers: usize, lives: &[Lifetime], numbers: &mut [usiz
     true
 }
 
+/// As [`fill_least`], but at once where more values live in one cycle than there are registers.
+fn find_least(ii: u64, registers: usize, lives: &[Lifetime], numbers: &mut [usize]) -> bool
+    requires some { 1 ≤ ii }
+    requires few { ii ≤ 16384 }
+    requires registers_some { 1 ≤ registers }
+    requires registers_few { registers ≤ 256 }
+    requires lives { All IsSpan lives.now }
+    requires few_lives { length lives.now ≤ 128 }
+    requires each { length numbers.old ≡ length lives.now }
+    ensures each { length numbers.new ≡ length lives.now }
+    ensures least { result ≡ true → AreLeast ii registers lives.now numbers.new }
+    ensures none { result ≡ false → HaveNone ii registers lives.now }
+{
+    if are_crowded(ii, registers, lives) {
+        return false;
+    }
+    fill_least(ii, registers, lives, numbers)
+}
+
 /// So many zeros.
 fn zeros(alloc: Global, count: usize) -> Result<Vec<usize>, OutOfMemory>
     ensures { IfOk result (λ v. vec_len v ≡ count) }
@@ -136,7 +156,7 @@ pub fn allot(
     let mut lives = [Lifetime::default(); MAX_STATEMENTS];
     let count = fill_lifetimes(schedule, &mut lives);
     let mut numbers = zeros(alloc, count)?;
-    if fill_least(
+    if find_least(
         schedule.ii(),
         registers as usize,
         &lives[..count],

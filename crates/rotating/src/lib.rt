@@ -2,6 +2,7 @@
 #![tactic(auto)]
 
 mod allotment;
+mod crowd;
 mod emission;
 mod lawful;
 mod laws;

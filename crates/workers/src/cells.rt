@@ -34,7 +34,7 @@ impl Row {
         ensures { IfOk result (λ r. r.cells.items ≡ replicate count None) }
     {
         let mut row = Row {
-            cells: Vec::new(alloc),
+            cells: Vec::with_capacity(alloc, count)?,
         };
         for _ in 0..count {
             if let Err(fault) = row.cells.push(None) {
@@ -76,7 +76,7 @@ pub(crate) fn empty_rows(alloc: Global, loops: &[Prepared]) -> Result<Vec<Row>, 
     ensures rows { IfOk result (λ r. AreEmptyRows loops.now r.items) }
     ensures all { IfOk result (λ r. length r.items ≡ length loops.now) }
 {
-    let mut rows = Vec::new(alloc);
+    let mut rows = Vec::with_capacity(alloc, loops.len())?;
     for number in 0..loops.len() {
         if let Err(fault) = add_row(alloc, &mut rows, &loops[number]) {
             return Err(fault);

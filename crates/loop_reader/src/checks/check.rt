@@ -7,7 +7,8 @@ ghost use Rattle.loop_reader.specs.declared.names.index.Counts.{Counts};
 ghost use Rattle.loop_lines.specs.Forms.{ArrayLine, ParamLine, InitLine, StatementLine, OutLine};
 ghost use Rattle.loop_reader.specs.Meaning as meaning;
 ghost use Rattle.loop_reader.specs.Meaning.{any_name, declared, number_of, number_at, is_statement, AValue};
-ghost use Rattle.loop_lines.specs.Parsed.{cells_seen, form_seen, source_seen, subscript_seen, uses_seen};
+ghost use Rattle.loop_lines.specs.Cells.{cells_seen};
+ghost use Rattle.loop_lines.specs.Parsed.{form_seen, source_seen, subscript_seen, uses_seen};
 ghost use Rattle.loop_reader.specs.inner.Blocks.{declared_seen, entry_faults, forms_in};
 ghost use Rattle.loop_reader.specs.inner.Building.{IsFew};
 ghost use Rattle.loop_reader.specs.inner.Found.{array_in, fault_in, target_in, AreFound, IsFoundFor, IsFoundIn};
@@ -17,7 +18,7 @@ use crate::checks::given::Given;
 use crate::fault::{LoopFault, LoopFaultKind};
 use crate::names::found::{Found, Target, declared_number, target_of};
 use crate::names::index::{Counts, Declared, Index};
-use loop_lines::{Form, StatementWords, Subscript, Use, are_wide};
+use loop_lines::{CellWords, Form, StatementWords, Subscript, Use, are_wide};
 use machine::limits::{MAX_ARRAYS, MAX_DISTANCE, MAX_NAME, MAX_PARAMETERS, MAX_STATEMENTS};
 use std::alloc::AllocError;
 
@@ -199,10 +200,10 @@ fn array_fault<'a>(
     index: &Index<'_, 'a>,
     counts: Counts,
     name: &'a [u8],
-    cells: &[u8],
+    cells: CellWords<'_>,
 ) -> Option<LoopFaultKind>
     ensures { (inits : List (Option ℤ)) (outs : List Bool) → result
-        ≡ first_in (kinds_at (forms_in index.now) counts inits outs (ArrayLine name.now (cells_seen cells.now))) }
+        ≡ first_in (kinds_at (forms_in index.now) counts inits outs (ArrayLine name.now (cells_seen cells.entry))) }
 {
     if is_long(name) || are_wide(cells) || counts.arrays >= MAX_ARRAYS {
         return Some(LoopFaultKind::Limit);

@@ -1,10 +1,11 @@
 //! Workers of a caller, and what is gathered from their reports.
 
-ghost use Rattle.std.specs.Prelude.{◌≡◌, IfOk, IsTrue, vec_len};
+ghost use Rattle.std.specs.Prelude.{◌≡◌, ◌≤◌, IfOk, IfSome, IsTrue, vec_len};
 ghost use Rattle.std.specs.List.{All};
 ghost use Rattle.board.specs.Boards.{IsNewPassOf, IsPassOf, sizes_of};
 ghost use Rattle.board.specs.Closes.{loops_of};
 ghost use Rattle.board.specs.Names.{terms_of};
+ghost use Rattle.workers.specs.Settled.{IsWhole};
 
 use super::boards::{Count, FirstPiece, NoPiece, ZeroLooks};
 use super::gates::{Limited, Meeting};
@@ -15,7 +16,7 @@ use ims::Prepared;
 use std::alloc::Global;
 use std::test::Fail;
 use std::thread::{Threads, join};
-use workers::{Gate, OpenGate, Report, gather, pipeline, work};
+use workers::{Chosen, Gate, OpenGate, Report, gather, pipeline, run_workers, work};
 
 /// The three loops, prepared with a ceiling of 3. By one interval a piece that is 12 pieces.
 #[derive(Drop)]
@@ -266,5 +267,45 @@ fn two_threads_of_a_caller_are_at_work_at_once(rt: HostRuntime) -> Result<(), Fa
         (gate.calls(), all.retried, all.closed.drawn()),
         (12, 0, 14)
     );
+    Ok(())
+}
+
+/// Whether nothing was refused to the workers of the reports.
+fn all_whole(reports: &[Report<'_>]) -> bool
+    ensures { IsTrue result → All (λ (r : _). IsWhole r.loops r) reports.now }
+{
+    reports.iter().all(|report| report.is_whole())
+}
+
+/// What is gathered from so many workers on a board of their own, unless a worker was refused memory.
+fn chosen_by<R: Threads + Sync>(
+    rt: &R,
+    alloc: Global,
+    three: &Three,
+    workers: usize,
+) -> Result<Option<Chosen>, Fail>
+    requires some { 1 ≤ workers }
+    requires few { workers ≤ 64 }
+    ensures left { IfOk result (λ o. IfSome o (λ c. c.retried ≡ 0)) }
+{
+    let pieces = Pieces::of(3, 3, 1);
+    let loops = three.loops.as_slice();
+    let reports = run_workers(rt, alloc, loops, &pieces, workers, &OpenGate)?;
+    if !all_whole(reports.as_slice()) {
+        return Ok(None);
+    }
+    let chosen = gather(alloc, loops, reports)?;
+    Ok(Some(chosen))
+}
+
+// By its contract nothing is left to try where no memory was refused, and here none is.
+#[test]
+fn workers_to_whom_nothing_is_refused_leave_nothing(rt: HostRuntime) -> Result<(), Fail> {
+    let alloc = rt.alloc();
+    let three = Three::new(&rt, alloc)?;
+    for workers in [1, 3, 64] {
+        let chosen = chosen_by(&rt, alloc, &three, workers)?;
+        assert!(rt; matches!(&chosen, Some(chosen) if chosen.retried() == 0));
+    }
     Ok(())
 }

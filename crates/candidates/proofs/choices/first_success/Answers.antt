@@ -1,5 +1,4 @@
-use Rattle.std.proofs.Common.{◌+◌, ◌≤◌, ap, sym, subst, arith}
-use Rattle.ims.specs.Problems.{mii_of}
+use Rattle.std.proofs.Common.{◌+◌, ◌≤◌, subst, arith}
 use Rattle.candidates.specs.Outcomes.{FailsBy, Gives}
 use Rattle.candidates.proofs.Rising.{met_here, risen_on, unmet_here}
 use Rattle.candidates.proofs.choices.first_success.Goals as goal

@@ -1,4 +1,4 @@
-use Rattle.std.proofs.Common.{◌++◌, List, drop, ap, ◌∙◌, sym, subst, arith, Vec, vec_len, vec_capacity}
+use Rattle.std.proofs.Common.{◌++◌, List, drop, ap, sym, subst, arith, Vec, vec_len, vec_capacity}
 use Rattle.std.specs.Global.{Global}
 use Rattle.std.specs.List.{All}
 use Rattle.std.proofs.lemmas.Bool.{false≢true}

@@ -1,4 +1,5 @@
-use Rattle.std.proofs.Common.{◌≡◌, ℤ, pos, List, Option, length, map}
+use Rattle.std.proofs.Common.{◌≡◌, ℤ, pos, List, Option, is_none, length, map}
+use Rattle.std.specs.List.{list_any}
 use Rattle.std.specs.Option.{unwrap_or}
 use Rattle.loop_lines.specs.Forms.{ints_of}
 use Rattle.loop_lines.specs.Words.{words_of}
@@ -7,8 +8,9 @@ use Rattle.loop_lines.proofs.cells.cells_of.Given as goal
 
 abbrev pub invariant-loop-word : goal.invariant-loop-word
 invariant-loop-word l =
-    (done : List (Option ℤ)) × (ints_of (words_of l.rest) ≡ behind done (ints_of (words_of l.left)))
+    (done : List (Option ℤ)) × (ints_of (words_of l.words.words.now) ≡ behind done (ints_of (words_of l.left)))
     × (l.cells.items ≡ map (λ cell. unwrap_or cell (pos 0)) done)
+    × (l.wide ≡ list_any is_none done)
 
 abbrev pub decreases-loop-word : goal.decreases-loop-word
 decreases-loop-word l = length (words_of l.left)

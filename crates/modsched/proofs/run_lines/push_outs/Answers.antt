@@ -13,7 +13,7 @@ loop-index-preserved c =
     c.args.innermost.now.outs c.args.after.now.outs c.loop-index.index 0 (get_or c.args.innermost.now.outs c.loop-index.index 0) (pos 0) (to_z w64 (of_z w64 c.out.result))
     c.requires (omega arith) refl (sym c.out.ensures ∙ sym fits) c.loop-index.invariant
     (ap (λ (n : List ℕ). out_line n (to_z w64 (of_z w64 c.out.result)))
-    (c.value_name-name.ensures ∙ ap (λ (xs : List ℕ). value_name c.args.innermost.now (slice_index xs c.loop-index.index)) c.outs-statements.ensures.value))
+    (c.value_name-name.ensures.name ∙ ap (λ (xs : List ℕ). value_name c.args.innermost.now (slice_index xs c.loop-index.index)) c.outs-statements.ensures.value))
 
 pub returns : goal.returns
 returns c =

@@ -1,4 +1,4 @@
--- In each cycle passed some slot is held.
+-- In each cycle passed some slot is held, as far as they are asked for.
 use Rattle.std.proofs.Common.{◌≡◌, ℕ, ◌+◌, ◌-◌, ◌%◌, ◌<◌, Bool, true}
 use Rattle.mrt.specs.Slots.{rows_in, meets_held}
 use Rattle.mrt.specs.Times.{Tell}
@@ -8,7 +8,7 @@ abbrev pub invariant-loop-passed : goal.invariant-loop-passed
 invariant-loop-passed l = record {
   below : l.at < l.ii;
   at : (time : ℕ) → time % l.ii ≡ l.base → (time + l.passed) % l.ii ≡ l.at;
-  met : (held : ℕ → ℕ → Bool) (time sooner : ℕ) → Tell l.ii l.words l.times held → time % l.ii ≡ l.base → sooner < l.passed
+  met : (held : ℕ → ℕ → Bool) (time sooner : ℕ) → Tell l.ii l.words l.times held → time % l.ii ≡ l.base → sooner < l.passed → sooner < l.limit
       → meets_held l.ii held (rows_in l.slots) (time + sooner) ≡ true;
 }
 

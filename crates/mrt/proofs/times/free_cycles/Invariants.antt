@@ -4,8 +4,8 @@ use Rattle.mrt.specs.Slots.{rows_in, meets_held}
 use Rattle.mrt.specs.Times.{Tell}
 use Rattle.mrt.proofs.times.free_cycles.Given as goal
 
--- a bit is set where some slot so far is held in its cycle
+-- of the cycles asked for, a bit is set where some slot so far is held in its cycle
 abbrev pub invariant-loop-slot : goal.invariant-loop-slot
 invariant-loop-slot l =
-    (held : ℕ → ℕ → Bool) (time k : ℕ) → Tell l.ii l.words l.times held → time % l.ii ≡ l.base → k < 64
+    (held : ℕ → ℕ → Bool) (time k : ℕ) → Tell l.ii l.words l.times held → time % l.ii ≡ l.base → k < 64 → k < l.cycles
     → eqb (bit_at l.met k) 1 ≡ meets_held l.ii held (rows_in (take l.slot-index l.slots)) (time + k)

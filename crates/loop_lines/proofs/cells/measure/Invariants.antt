@@ -1,0 +1,14 @@
+use Rattle.std.proofs.Common.{◌≡◌, ◌+◌, ◌≤◌, ℤ, List, Option, is_none, length}
+use Rattle.std.specs.List.{list_any}
+use Rattle.loop_lines.specs.Forms.{ints_of}
+use Rattle.loop_lines.specs.Words.{words_of}
+use Rattle.loop_lines.proofs.Pieces.{behind}
+use Rattle.loop_lines.proofs.cells.measure.Given as goal
+
+abbrev pub invariant-loop-word : goal.invariant-loop-word
+invariant-loop-word l =
+    (done : List (Option ℤ)) × (ints_of (words_of l.rest) ≡ behind done (ints_of (words_of l.left)))
+    × (l.wide ≡ list_any is_none done) × (l.count ≡ length done) × (length done + length (words_of l.left) ≤ length l.rest)
+
+abbrev pub decreases-loop-word : goal.decreases-loop-word
+decreases-loop-word l = length (words_of l.left)
