@@ -1,14 +1,17 @@
 //! Reading a loop text.
 
-ghost use Rattle.std.specs.Prelude.{◌≡◌, ◌+◌, ◌*◌, ◌≤◌, ◌<◌, ◌^◌, true, List, ℕ, length, IfOk};
+ghost use Rattle.std.specs.Prelude.{◌≡◌, ◌==◌, ◌+◌, ◌*◌, ◌≤◌, ◌<◌, ◌^◌, true, List, ℕ, length, IfOk};
 ghost use Rattle.std.specs.List.{All};
 ghost use Rattle.iterations.specs.Names.{is_name};
 ghost use Rattle.iterations.specs.Loops.{IsLoop};
-ghost use Rattle.loop_reader.specs.Meaning.{forms_of, loops_in, seen, Answers};
+ghost use Rattle.loop_reader.specs.Meaning.{forms_of, loops_in, seen, when, Answers};
+ghost use Rattle.loop_reader.specs.declared.fault.LoopFaultKind.TheVariants.{Limit};
+ghost use Rattle.loop_reader.specs.inner.Checks.{first_in};
+ghost use Rattle.loop_reader.specs.inner.Found.{fault_in};
 ghost use Rattle.loop_reader.specs.inner.Texts.{AnswersBlock, AnswersOpening};
 
 use crate::build::build;
-use crate::checks::check::{check_line, first_fault, is_long};
+use crate::checks::check::{first_fault, is_long};
 use crate::checks::given::Given;
 use crate::fault::{LoopFault, LoopFaultKind};
 use crate::lines::collect::{Stop, collect_block};
@@ -83,7 +86,7 @@ fn read_block<'a>(
         }),
         Stop::End(line, rest) => (line, rest),
     };
-    if let Err(kind) = check_line(&index, counts, &room.given, &Form::End) {
+    if let Err(kind) = check_end(counts.statements) {
         return Err(LoopFault { line, kind });
     }
     let found = build(
@@ -99,6 +102,16 @@ fn read_block<'a>(
         rest,
         line: line + 1,
     })
+}
+
+/// The fault of a line that ends a block of so many statements: it has one at least.
+fn check_end(statements: usize) -> Result<(), LoopFaultKind>
+    ensures fault { fault_in result ≡ first_in (when (statements == 0) Limit) }
+{
+    if statements == 0 {
+        return Err(LoopFaultKind::Limit);
+    }
+    Ok(())
 }
 
 /// The first fault of a line that opens a block behind so many others; else its name is added to theirs.

@@ -19,3 +19,8 @@ pub use devices::{
 pub use settings::{OutOfRange, Settings};
 pub use status::{Line, Status};
 pub use subcommand::engine;
+
+// The crates of inputs and of the command line know no machine, and so have these two limits by themselves.
+const _: () = prove!(
+    TEXT_LIMIT == machine::limits::MAX_TEXT && TRIP_LIMIT == machine::limits::MAX_TRIP
+);

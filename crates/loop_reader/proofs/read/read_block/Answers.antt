@@ -60,7 +60,7 @@ pub build-requires-clause-some : goal.build-requires-clause-some
 build-requires-clause-some c =
     let same : c.new-index.result ≡ c.collect_block.new.lines.items = c.new-index.ensures ∙ c.as_slice-2.ensures.value in
     let counted : c.in_ok-counts.counts.statements ≡ number_of is_statement (forms_in c.new-index.result) = c.in_ok-counts.ensures.counts.statements ∙ ap (λ ls. number_of is_statement (forms_in ls)) (c.as_slice.ensures.value ∙ sym same) in
-    statement-there (forms_in c.new-index.result) c.in_ok-counts.counts.statements counted c.in_default-check_line.ensures.fault
+    statement-there (forms_in c.new-index.result) c.in_ok-counts.counts.statements counted c.in_default-check_end.ensures.fault
 
 pub returns : goal.returns
 returns c =
@@ -70,7 +70,7 @@ returns c =
     let clean : None ≡ first_in (entry_faults block [] (take c.in_ok-sound.sound c.new-index.result)) = sym c.in_default.is ∙ c.in_ok-first.ensures.value in
     let h = subst (λ ls. StopsBlock c.args.number (forms_of c.args.text.now) ls c.in_ok-sound.sound c.in_ok-sound.stop) (sym same) c.in_ok-sound.ensures.stops in
     let at = subst (StopsBlock c.args.number (forms_of c.args.text.now) c.new-index.result c.in_ok-sound.sound) c.in-End.is h in
-    let good = no-end-kinds (faults_of block block EndLine) (c.in_default-check_line.ensures.fault ∙ ap first_in (end-kinds block c.in_ok-counts.counts.statements counted)) in
+    let good = no-end-kinds (faults_of block block EndLine) (c.in_default-check_end.ensures.fault ∙ ap first_in (end-kinds block c.in_ok-counts.counts.statements counted)) in
     let behind = subst (IsBehind (c.args.number + length c.args.text.now)) c.in-End.is c.in_ok-sound.ensures.behind in
     let all : block ≡ whole [] (forms_of c.args.text.now) = ap forms_in same ∙ c.in_ok-sound.ensures.whole in
     record {
