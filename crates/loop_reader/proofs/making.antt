@@ -1,4 +1,4 @@
--- The loop of a block without a fault.
+-- The loop of a block that passed all checks.
 pub mod Built
 pub mod Few
 pub mod Initials

@@ -1,4 +1,4 @@
-//! The loop of a block without a fault.
+//! The loop of a block that passed all checks.
 
 ghost use Rattle.std.specs.Prelude.{◌≡◌, ◌+◌, ◌*◌, ◌≤◌, ◌<◌, ◌++◌, ◌∷◌, [], true, None, ℕ, List, IfOk, OnOk, length, option_map, option_to_list};
 ghost use Rattle.std.specs.Borrow.{Bor};
@@ -175,8 +175,8 @@ impl Parts {
     }
 }
 
-/// The loop of a block without a fault, whose lines gave this to its values, and whose names stand for
-/// what was found.
+/// Builds the `Loop` of a block that passed all checks; `given` holds its initial values, `found` its
+/// resolved names.
 pub(crate) fn build<'a>(
     alloc: Global,
     name: &'a [u8],

@@ -29,7 +29,7 @@ pub fn engine<R: Threads + Sync, M: Input, L: Input, O: Output>(
     requires loops_fresh { L.failed loops_input.old < 2 ^ 64 - 1 }
     requires output_fresh { O.failed output.old < 2 ^ 64 - 1 }
 
-    // A status tells of a device's fault exactly where its count of faults rose.
+    // It reports an I/O error if and only if that device's error count rose.
     ensures machine_unread { (result ≡ Status.MachineUnread) ↔ (M.failed machine_input.old < M.failed machine_input.new) }
     ensures loops_unread { (result ≡ Status.LoopsUnread) ↔ (L.failed loops_input.old < L.failed loops_input.new) }
     ensures unwritten { (result ≡ Status.Unwritten) ↔ (O.failed output.old < O.failed output.new) }
