@@ -15,6 +15,7 @@ use rotating::{Allotment, Lifetime, allot, emit, lifetimes};
 use std::alloc::Global;
 use std::process::Abort;
 use std::test::Fail;
+use worked_texts::{ALTS, CHAIN, FAR, FORCE, LAST, LONE, SHIFT};
 
 /// A machine with a unit for memory and one for arithmetic.
 const PLAIN: &str = r#"
@@ -79,31 +80,17 @@ const ACC: &str =
 const ACCO: &str =
     "loop acco\narray a = 1 2 3\narray b =\ninit s@1 = 0\nt = load a[i]\ns = add s@1 t\nstore b[i] s\nout s\nend\n";
 
-const CHAIN: &str = "loop chain\narray a = 7\nt = load a[i]\nu = add t 1\nstore a[i+1] u\nend\n";
-
-const SHIFT: &str = "loop shift\narray a = 5 6 7\nt = load a[i+1]\nstore a[i] t\nend\n";
-
-const FORCE: &str = "loop force\nparam p = 2\nx = add p p\ny = add x p\nm = mul p p\nend\n";
-
-const LONE: &str = "loop lone\nparam p = 3\nm = mul p p\nend\n";
-
 const LATE: &str =
     "loop late\narray a = 1 2 3\nparam p = 9\ninit s@1 = 0\nt = load a[i]\ns = add s@1 t\nstore a[i] p\nend\n";
 
 const POW: &str =
     "loop pow\narray b =\nparam p = 3\ninit x@1 = 1\ninit x@2 = 2\nx = mul x@2 p\nstore b[i] x\nend\n";
 
-const ALTS: &str = "loop alts\nparam p = 4\nx = add p 1\ny = add x 1\nm = mul y y\nend\n";
-
-const FAR: &str = "loop far\nparam p = 1\nx = add p p\ny = add x p\nend\n";
-
 const KEEP: &str =
     "loop keep\narray a = 4 -1 6\narray b = 7 7 7\nt = load a[i]\nc = lt 0 t\nstore b[i] t if c\nend\n";
 
 const HOLD: &str =
     "loop hold\narray a = 1 9\nt = load a[i]\nc = lt t 3\nu = add t 1\nstore a[i+1] u if c\nend\n";
-
-const LAST: &str = "loop last\narray a = 4 5\ninit t@1 = 9\nt = load a[i]\nout t\nend\n";
 
 /// A loop on a machine, with a schedule: an interval, and each operation's time and alternative.
 #[derive(Clone, Copy)]

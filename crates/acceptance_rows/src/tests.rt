@@ -3,8 +3,11 @@
 ghost use Rattle.std.specs.Prelude.{◌≡◌};
 
 mod bounds;
+mod documents;
+mod explanations;
 mod failing_devices;
 mod given;
+mod graphs;
 mod listings;
 mod options;
 mod plain;
@@ -19,7 +22,7 @@ use std::thread::Threads;
 
 /// A line of words, and what its files hold; one that is `None` cannot be read.
 #[derive(Clone, Copy)]
-struct Row<'a> {
+struct Case<'a> {
     words: &'a [&'a str],
     machine: Option<&'a str>,
     loops: Option<&'a str>,
@@ -34,8 +37,8 @@ const ALL: usize = 65_536;
 const STRIDE: usize = 4096;
 
 /// A line over files that can be read.
-fn row_of<'a>(words: &'a [&'a str], machine: &'a str, loops: &'a str) -> Row<'a> {
-    Row {
+fn case_of<'a>(words: &'a [&'a str], machine: &'a str, loops: &'a str) -> Case<'a> {
+    Case {
         words,
         machine: Some(machine),
         loops: Some(loops),
@@ -63,7 +66,7 @@ fn came<R: Threads + Sync>(
     rt: &R,
     alloc: Global,
     command: &Command,
-    row: &Row<'_>,
+    row: &Case<'_>,
 ) -> Result<String, Fail> {
     let mut machine = input(row.machine);
     let mut loops = input(row.loops);
@@ -80,7 +83,7 @@ fn came<R: Threads + Sync>(
 /// The row exits with this status, writes this, and has this line on standard error.
 fn ends(
     rt: &(impl Abort + AllocGlobal + Threads + Sync),
-    row: &Row<'_>,
+    row: &Case<'_>,
     status: u8,
     out: &str,
     line: &str,

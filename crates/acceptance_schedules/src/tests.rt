@@ -18,7 +18,7 @@ use std::test::Fail;
 
 /// A loop on a machine, an interval and a budget.
 #[derive(Clone, Copy)]
-struct Row<'a> {
+struct Case<'a> {
     machine: &'a str,
     text: &'a str,
     ii: u64,
@@ -46,7 +46,7 @@ fn places_of(alloc: Global, schedule: &Schedule<'_>) -> Result<Vec<(u64, usize)>
 fn found<T: ModuloTable>(
     rt: &impl Abort,
     alloc: Global,
-    row: Row<'_>,
+    row: Case<'_>,
 ) -> Result<Result<Vec<(u64, usize)>, Failure>, Fail> {
     let prepared = prepare(alloc, row.machine, row.text)?;
     assert!(rt; prepared.mii() <= row.ii && row.ii <= 64 && row.budget <= 24);
@@ -60,7 +60,7 @@ fn found<T: ModuloTable>(
 fn placed_over<T: ModuloTable>(
     rt: &impl Abort,
     alloc: Global,
-    row: Row<'_>,
+    row: Case<'_>,
     places: &[(u64, usize)],
 ) -> Result<(), Fail> {
     match found::<T>(rt, alloc, row)? {
@@ -74,7 +74,7 @@ fn placed_over<T: ModuloTable>(
 fn fails_over<T: ModuloTable>(
     rt: &impl Abort,
     alloc: Global,
-    row: Row<'_>,
+    row: Case<'_>,
     failure: Failure,
 ) -> Result<(), Fail> {
     match found::<T>(rt, alloc, row)? {
@@ -87,20 +87,20 @@ fn fails_over<T: ModuloTable>(
 fn placed(
     rt: &impl Abort,
     alloc: Global,
-    row: Row<'_>,
+    row: Case<'_>,
     places: &[(u64, usize)],
 ) -> Result<(), Fail> {
     placed_over::<OwnerTable>(rt, alloc, row, places)?;
     placed_over::<MaskTable>(rt, alloc, row, places)
 }
 
-fn fails(rt: &impl Abort, alloc: Global, row: Row<'_>, failure: Failure) -> Result<(), Fail> {
+fn fails(rt: &impl Abort, alloc: Global, row: Case<'_>, failure: Failure) -> Result<(), Fail> {
     fails_over::<OwnerTable>(rt, alloc, row, failure)?;
     fails_over::<MaskTable>(rt, alloc, row, failure)
 }
 
-fn on<'a>(machine: &'a str, text: &'a str, ii: u64, budget: u64) -> Row<'a> {
-    Row {
+fn on<'a>(machine: &'a str, text: &'a str, ii: u64, budget: u64) -> Case<'a> {
+    Case {
         machine,
         text,
         ii,

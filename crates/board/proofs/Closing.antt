@@ -9,14 +9,14 @@ use Rattle.atomic_table.proofs.Lists.{set_else}
 use Rattle.board.specs.declared.view.View.{View}
 use Rattle.board.specs.declared.view.Terms.{Terms}
 use Rattle.board.specs.Views.{blank, beyond, is_dry}
-use Rattle.board.specs.Rule.{total, times, times_posted, least_of, IsTrueAnswer, IsWithinParts, Rule}
+use Rattle.board.specs.Rule.{total, occurrences, times_posted, least_of, IsTrueAnswer, IsWithinParts, Rule}
 use Rattle.board.specs.Steps.{Keeps, both}
 use Rattle.board.specs.Together.{IsTogether}
 use Rattle.board.specs.declared.word.WordPass.{WordPass}
 use Rattle.board.specs.Boards.{view_of}
 use Rattle.board.specs.Drawing.{EachPieceOnce, SomeIsDry}
 use Rattle.board.proofs.Drawing.{nothing_left}
-use Rattle.board.proofs.Totals.{total_set, total_at, times-append, times_posted-append, beyond-append, all_at, all_set, all_by}
+use Rattle.board.proofs.Totals.{total_set, total_at, occurrences-append, times_posted-append, beyond-append, all_at, all_set, all_by}
 use Rattle.board.proofs.Steps.{least_moves, answers_move, all_one}
 
 both_within : (pieces : ℕ) (v w : View) → IsWithinParts pieces v → IsWithinParts pieces w → IsWithinParts pieces (both v w)
@@ -41,7 +41,7 @@ joins terms id v other w s kept at two at' =
       kept.0,
       kept.1,
       record {
-        drawn = λ x. same (λ u. times x u.drawn) (times-append x v.drawn w.drawn) refl ∙ rule.drawn x;
+        drawn = λ x. same (λ u. occurrences x u.drawn) (occurrences-append x v.drawn w.drawn) refl ∙ rule.drawn x;
         least = λ l near. least_moves s.views views' l (posted l) (least_of s.words l) (rule.least l near);
         seen =
             let P : View → Type 0 = λ u. All (IsTrueAnswer s.words views') u.seen in
@@ -68,7 +68,7 @@ together_one v = record {
 
 pub together_more : (v w : View) (views : List View) → IsTogether v views → IsTogether (both v w) (w ∷ views)
 together_more v w views h = record {
-  drawn = λ x. let t = times-append x v.drawn w.drawn in let u = h.drawn x in omega arith;
+  drawn = λ x. let t = occurrences-append x v.drawn w.drawn in let u = h.drawn x in omega arith;
   posted = λ l ii. let t = times_posted-append l ii v.posted w.posted in let u = h.posted l ii in omega arith;
   seen =
       let Q : View → Type 0 = λ u. All (Contains (v.seen ++ w.seen)) u.seen in
@@ -111,7 +111,7 @@ closes terms s id v views kept at h within enough =
     let posted : (l ii : ℕ) → total (λ u. times_posted l ii u.posted) views ≡ total (λ u. times_posted l ii u.posted) s.views =
     λ l ii. sym (h.posted l ii) ∙ sym (lone (λ u. times_posted l ii u.posted) refl) in
     record {
-      drawn = λ x. sym (h.drawn x) ∙ sym (lone (λ u. times x u.drawn) refl) ∙ rule.drawn x;
+      drawn = λ x. sym (h.drawn x) ∙ sym (lone (λ u. occurrences x u.drawn) refl) ∙ rule.drawn x;
       least = λ l near. least_moves s.views views l (posted l) (least_of s.words l) (rule.least l near);
       seen =
           let P : ℕ × Option ℕ → Type 0 = IsTrueAnswer s.words views in

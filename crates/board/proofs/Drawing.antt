@@ -8,12 +8,12 @@ use Rattle.std.proofs.lemmas.List.Elements.{All-append}
 use Rattle.std.proofs.lemmas.List.Quantifiers.{all_pairs_push}
 use Rattle.board.specs.declared.view.View.{View}
 use Rattle.board.specs.Views.{beyond, Draws, DrawsUnlessDry}
-use Rattle.board.specs.Rule.{total, times}
+use Rattle.board.specs.Rule.{total, occurrences}
 use Rattle.board.specs.Drawing.{DrewPieces, DryLeavesNothing, DrewPiecesIsWet, DrawsCount, DrawsAscend, DrawsEnd}
 use Rattle.board.proofs.Steps.{all_one}
 
 -- a dry view has a number past the pieces
-past_drawn : (pieces : ℕ) (xs : List ℕ) → 0 < beyond pieces xs → (n : ℕ) × (pieces ≤ n) × (0 < times n xs)
+past_drawn : (pieces : ℕ) (xs : List ℕ) → 0 < beyond pieces xs → (n : ℕ) × (pieces ≤ n) × (0 < occurrences n xs)
 past_drawn pieces [] h = absurd (omega arith)
 past_drawn pieces (x ∷ xs) h = ⊎_elim
     (λ (inside : x < pieces). let r = past_drawn pieces xs (grind (arith, nat_tests)) in (r.0, r.1, let p = r.2 in omega arith))
@@ -30,7 +30,7 @@ nothing_left terms words views rule dry x inside =
     let v : View = dry.1 in
     let past = past_drawn terms.pieces v.drawn (ltb-true 0 (beyond terms.pieces v.drawn) dry.4) in
     let n : ℕ = past.0 in
-    let some_n = total_of_one (λ (u : View). times n u.drawn) views dry.0 v dry.2 dry.3 in
+    let some_n = total_of_one (λ (u : View). occurrences n u.drawn) views dry.0 v dry.2 dry.3 in
     let a = rule.drawn n in
     let b = rule.drawn x in
     let c = past.1 in

@@ -8,7 +8,7 @@ use Rattle.atomic_table.specs.Table.{opening, Splits}
 use Rattle.board.specs.declared.view.View.{View}
 use Rattle.board.specs.declared.view.Terms.{Terms}
 use Rattle.board.specs.Views.{blank}
-use Rattle.board.specs.Rule.{total, times, times_posted, least_of, IsLeastPosted, IsTrueAnswer, IsWithinParts, IsWithinLimits}
+use Rattle.board.specs.Rule.{total, occurrences, times_posted, least_of, IsLeastPosted, IsTrueAnswer, IsWithinParts, IsWithinLimits}
 use Rattle.board.specs.Steps.{Keeps}
 use Rattle.board.proofs.Totals.{total_set, total-append, all_set}
 use Rattle.board.proofs.Steps.{least_moves, answers_move, all_one, interval_none}
@@ -55,7 +55,7 @@ splits terms id k part s kept at =
       kept.0,
       kept.1,
       record {
-        drawn = λ x. same (λ v. times x v.drawn) refl refl refl ∙ rule.drawn x;
+        drawn = λ x. same (λ v. occurrences x v.drawn) refl refl refl ∙ rule.drawn x;
         least = λ l near. least_moves s.views views' l (posted l) (least_of s.words l) (rule.least l near);
         seen =
             let P : View → Type 0 = λ v. All (IsTrueAnswer s.words views') v.seen in

@@ -11,9 +11,9 @@ use Rattle.atomic_table.specs.Table.{step, keeps, Allows}
 use Rattle.board.specs.declared.view.View.{View}
 use Rattle.board.specs.declared.view.Terms.{Terms}
 use Rattle.board.specs.Views.{is_dry, with_drawn, with_posted, with_seen, IsAtMost, IsNoLater}
-use Rattle.board.specs.Rule.{total, times, times_posted, times_drawn, IsPosted, next_of, interval_of, least_of, IsLeastPosted, EachWordIsLeast, IsTrueAnswer, IsWithinParts, Rule, IsWithinLimits}
-use Rattle.board.specs.Steps.{Place, Keeps, loop_of, Drew, Looked, Posted}
-use Rattle.board.proofs.Totals.{total_set, total_at, times-append, times_posted-append, beyond-append, all_times, all_times_posted, all_at, all_set, all_by}
+use Rattle.board.specs.Rule.{total, occurrences, times_posted, times_drawn, IsPosted, next_of, interval_of, least_of, IsLeastPosted, EachWordIsLeast, IsTrueAnswer, IsWithinParts, Rule, IsWithinLimits}
+use Rattle.board.specs.Steps.{PassState, Keeps, loop_of_word, Drew, Looked, Posted}
+use Rattle.board.proofs.Totals.{total_set, total_at, occurrences-append, times_posted-append, beyond-append, all_times, all_times_posted, all_at, all_set, all_by}
 use Rattle.board.proofs.Words.{next_bounded}
 
 -- where as much was posted, the least is the same
@@ -47,7 +47,7 @@ module _ (terms : Terms) (words : List ℕ) (views : List View) (id : ℕ) (v : 
   pub drew : v.count ≡ 1 → is_dry terms.pieces v ≡ false → (m : ℕ) → m ≡ next_of words + 1 → Rule terms (set words 0 m) (set views id (with_drawn v (next_of words)))
   drew one wet m is = let n : ℕ = next_of words in let w : View = with_drawn v n in let words' : List ℕ = set words 0 m in
       let first : next_of words' ≡ m = get_or-set_same words 0 m 0 (omega arith) in record {
-        drawn = λ x. let s = total_set (λ u. times x u.drawn) views id v w at in let t = times-append x v.drawn (n ∷ []) in let o = rule.drawn x in grind (arith, nat_tests);
+        drawn = λ x. let s = total_set (λ u. occurrences x u.drawn) views id v w at in let t = occurrences-append x v.drawn (n ∷ []) in let o = rule.drawn x in grind (arith, nat_tests);
         least = λ l near. subst (IsLeastPosted (set views id w) l) (sym (later_word m l)) (least_moves views (set views id w) l (as_posted w refl l) (least_of words l) (rule.least l near));
         seen =
             let moved : All (λ u. All (IsTrueAnswer words' (set views id w)) u.seen) views = answers_move words words' views (set views id w)
@@ -63,9 +63,9 @@ module _ (terms : Terms) (words : List ℕ) (views : List View) (id : ℕ) (v : 
 
   -- all that the pass drew is below the next number
   pub below_next : All (λ x. x < next_of words) v.drawn
-  below_next = all_times (λ x. x < next_of words) v.drawn (λ x some. let t = total_at (λ u. times x u.drawn) views id v at in let o = rule.drawn x in grind (arith, nat_tests))
+  below_next = all_times (λ x. x < next_of words) v.drawn (λ x some. let t = total_at (λ u. occurrences x u.drawn) views id v at in let o = rule.drawn x in grind (arith, nat_tests))
 
-pub draws : (terms : Terms) (slots id : ℕ) (me : Place) → me.0.count ≡ 1 → is_dry terms.pieces me.0 ≡ false
+pub draws : (terms : Terms) (slots id : ℕ) (me : PassState) → me.0.count ≡ 1 → is_dry terms.pieces me.0 ≡ false
     → Allows (Keeps terms) slots id me 0 (λ n. (n + 1) % 18446744073709551616) (Drew (step slots 0 1 0 none) me)
 draws terms slots id me one wet s kept _ at small =
     let bounded = next_bounded terms s.words s.views kept.2 in
@@ -111,7 +111,7 @@ module _ (terms : Terms) (words : List ℕ) (views : List View) (id : ℕ) (v : 
   pub looked : Rule terms words (set views id (with_seen v l answer))
   looked = let w : View = with_seen v l answer in let views' : List View = set views id w in
       let least' : EachWordIsLeast terms.loops words views' = λ k inside. least_moves views views' k (looked_posted k) (least_of words k) (rule.least k inside) in record {
-        drawn = λ x. let s = total_set (λ u. times x u.drawn) views id v w at in let o = rule.drawn x in omega arith;
+        drawn = λ x. let s = total_set (λ u. occurrences x u.drawn) views id v w at in let o = rule.drawn x in omega arith;
         least = least';
         seen =
             let moved : All (λ u. All (IsTrueAnswer words views') u.seen) views =
@@ -135,11 +135,11 @@ module _ (terms : Terms) (words : List ℕ) (views : List View) (id : ℕ) (v : 
         (all_at (λ u. All (IsTrueAnswer words views) u.seen) views id v rule.seen at),
   )
 
-pub looks : (terms : Terms) (slots id l : ℕ) (me : Place) → me.0.count ≡ 1 → l < terms.loops
+pub looks : (terms : Terms) (slots id l : ℕ) (me : PassState) → me.0.count ≡ 1 → l < terms.loops
     → Allows (Keeps terms) slots id me (1 + l) (λ n. n) (Looked (step slots (1 + l) 0 0 none) me)
 looks terms slots id l me one near s kept _ at small =
     let a : Option ℕ = least_of s.words l in
-    let here : loop_of (step {S = Unit {0}} slots (1 + l) 0 0 none) ≡ l = omega arith in
+    let here : loop_of_word (step {S = Unit {0}} slots (1 + l) 0 0 none) ≡ l = omega arith in
     let same : set s.words (1 + l) (slice_index s.words (1 + l)) ≡ s.words = set-get_or s.words (1 + l) 0 in (
       with_seen me.0 l a,
       keeps,
@@ -236,7 +236,7 @@ module _ (terms : Terms) (words : List ℕ) (views : List View) (id : ℕ) (v : 
 
   pub made_known : Rule terms words' views'
   made_known = let w : View = with_posted v l ii in record {
-    drawn = λ x. let s = total_set (λ u. times x u.drawn) views id v w at in let o = rule.drawn x in let e = word_else 0 (λ e. omega arith) in
+    drawn = λ x. let s = total_set (λ u. occurrences x u.drawn) views id v w at in let o = rule.drawn x in let e = word_else 0 (λ e. omega arith) in
         subst (λ n. times_drawn views' x ≡ (if nat_lt x n then 1 else 0)) (sym e) (omega arith);
     least = least_then;
     seen =
@@ -249,10 +249,10 @@ module _ (terms : Terms) (words : List ℕ) (views : List View) (id : ℕ) (v : 
     );
   }
 
-pub posts : (terms : Terms) (slots id l ii : ℕ) (me : Place) → me.0.count ≡ 1 → l < terms.loops → ii ≤ 16384
+pub posts : (terms : Terms) (slots id l ii : ℕ) (me : PassState) → me.0.count ≡ 1 → l < terms.loops → ii ≤ 16384
     → Allows (Keeps terms) slots id me (1 + l) (λ n. min n ii) (Posted (step slots (1 + l) ii 0 none) me)
 posts terms slots id l ii me one near low s kept _ at small =
-    let here : loop_of (step {S = Unit {0}} slots (1 + l) ii 0 none) ≡ l = omega arith in (
+    let here : loop_of_word (step {S = Unit {0}} slots (1 + l) ii 0 none) ≡ l = omega arith in (
       with_posted me.0 l ii,
       keeps,
       tt,

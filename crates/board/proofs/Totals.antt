@@ -6,7 +6,7 @@ use mathlib.Core.Option.{some, some-injective, some-ne-none}
 use lib.ListN.{get_elem?}
 use Rattle.board.specs.declared.view.View.{View}
 use Rattle.board.specs.Views.{beyond}
-use Rattle.board.specs.Rule.{total, times, times_posted}
+use Rattle.board.specs.Rule.{total, occurrences, times_posted}
 
 pub total_set : (f : View → ℕ) (views : List View) (id : ℕ) (v w : View) → get_elem? views id ≡ some v → total f (set views id w) + f v ≡ total f views + f w
 total_set f [] id v w e = absurd (some-ne-none v (sym e))
@@ -26,9 +26,9 @@ pub total_both : (f g : View → ℕ) (xs : List View) → total (λ v. f v + g 
 total_both f g [] = refl
 total_both f g (x ∷ xs) = let r = total_both f g xs in omega arith
 
-pub times-append : (x : ℕ) (xs ys : List ℕ) → times x (xs ++ ys) ≡ times x xs + times x ys
-times-append x [] ys = omega arith
-times-append x (y ∷ xs) ys = let r = times-append x xs ys in omega arith
+pub occurrences-append : (x : ℕ) (xs ys : List ℕ) → occurrences x (xs ++ ys) ≡ occurrences x xs + occurrences x ys
+occurrences-append x [] ys = omega arith
+occurrences-append x (y ∷ xs) ys = let r = occurrences-append x xs ys in omega arith
 
 pub times_posted-append : (l ii : ℕ) (xs ys : List (ℕ × ℕ)) → times_posted l ii (xs ++ ys) ≡ times_posted l ii xs + times_posted l ii ys
 times_posted-append l ii [] ys = omega arith
@@ -39,7 +39,7 @@ beyond-append pieces [] ys = omega arith
 beyond-append pieces (x ∷ xs) ys = let r = beyond-append pieces xs ys in omega arith
 
 -- what holds of each number that stands in the list holds of each element
-pub all_times : (P : ℕ → Type 0) (xs : List ℕ) → ((x : ℕ) → 0 < times x xs → P x) → All P xs
+pub all_times : (P : ℕ → Type 0) (xs : List ℕ) → ((x : ℕ) → 0 < occurrences x xs → P x) → All P xs
 all_times P [] h k d near = absurd (omega arith)
 all_times P (x ∷ xs) h zero d near = h x (grind (arith, nat_tests))
 all_times P (x ∷ xs) h (suc k) d near = all_times P xs (λ y some. h y (omega arith)) k d (omega arith)

@@ -5,13 +5,13 @@ use Rattle.board.specs.declared.view.View.{View}
 use Rattle.std.specs.Prelude.{All}
 use Rattle.board.specs.declared.view.Terms.{Terms}
 use Rattle.board.specs.Views.{beyond}
-use Rattle.board.specs.Rule.{total, times, IsWithinParts, Rule, next_of}
+use Rattle.board.specs.Rule.{total, occurrences, IsWithinParts, Rule, next_of}
 use Rattle.board.proofs.Totals.{total_both}
 
 -- how many of the numbers are from the first bound on, and below the second
 abbrev pub between : ℕ → ℕ → List ℕ → ℕ
 between a zero xs = 0
-between a (suc n) xs = between a n xs + times (a + n) xs
+between a (suc n) xs = between a n xs + occurrences (a + n) xs
 
 between-nil : (a n : ℕ) → between a n [] ≡ 0
 between-nil a zero = refl
@@ -34,7 +34,7 @@ between_below n (x ∷ xs) h =
     grind (arith, nat_tests)
 
 -- each number below the next one stands once in all the lists
-pub total_between : (views : List View) (next a n : ℕ) → a + n ≤ next → ((x : ℕ) → total (λ v. times x v.drawn) views ≡ (if nat_lt x next then 1 else 0)) → total (λ v. between a n v.drawn) views ≡ n
+pub total_between : (views : List View) (next a n : ℕ) → a + n ≤ next → ((x : ℕ) → total (λ v. occurrences x v.drawn) views ≡ (if nat_lt x next then 1 else 0)) → total (λ v. between a n v.drawn) views ≡ n
 total_between views next a zero fits once = total_none views
   where
     total_none : (views : List View) → total (λ v. 0) views ≡ 0
@@ -42,7 +42,7 @@ total_between views next a zero fits once = total_none views
     total_none (v ∷ vs) = let r = total_none vs in omega arith
 total_between views next a (suc n) fits once =
     let r = total_between views next a n (omega arith) once in
-    let s = total_both (λ v. between a n v.drawn) (λ v. times (a + n) v.drawn) views in
+    let s = total_both (λ v. between a n v.drawn) (λ v. occurrences (a + n) v.drawn) views in
     let t = once (a + n) in
     grind (arith, nat_tests)
 
@@ -50,7 +50,7 @@ total_most : (f g : View → ℕ) (views : List View) → ((v : View) → f v �
 total_most f g [] h = omega arith
 total_most f g (v ∷ vs) h = let r = total_most f g vs h in let s = h v in omega arith
 
-pub total_beyond : (views : List View) (next pieces : ℕ) → ((x : ℕ) → total (λ v. times x v.drawn) views ≡ (if nat_lt x next then 1 else 0))
+pub total_beyond : (views : List View) (next pieces : ℕ) → ((x : ℕ) → total (λ v. occurrences x v.drawn) views ≡ (if nat_lt x next then 1 else 0))
     → next ≤ pieces + total (λ v. beyond pieces v.drawn) views
 total_beyond views next pieces once = go (next - pieces) refl
   where

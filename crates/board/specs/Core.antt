@@ -12,29 +12,29 @@ pub record Core : Type 0 where
   pub next : ℕ
   pub least : ℕ → Option ℕ
 
-abbrev pub opening : Core
-opening = record { next = 0; least = λ _. None }
+abbrev pub core_opening : Core
+core_opening = record { next = 0; least = λ _. None }
 
 -- the smaller of what is there and an interval; none is above every number
 abbrev pub smaller : Option ℕ → ℕ → Option ℕ
 smaller None ii = Some ii
 smaller (Some x) ii = Some (min x ii)
 
-abbrev pub after : Core → Event → Core
-after c draw = record { next = c.next + 1; least = c.least }
-after c (look l) = c
-after c (post l ii) = record { next = c.next; least = λ k. if k == l then smaller (c.least k) ii else c.least k }
+abbrev pub core_after : Core → Event → Core
+core_after c draw = record { next = c.next + 1; least = c.least }
+core_after c (look l) = c
+core_after c (post l ii) = record { next = c.next; least = λ k. if k == l then smaller (c.least k) ii else c.least k }
 
 -- what an event answers: a draw the next number, a look the loop's least, a post nothing
-abbrev pub answer : Core → Event → Option ℕ
-answer c draw = Some c.next
-answer c (look l) = c.least l
-answer c (post l ii) = None
+abbrev pub core_answer : Core → Event → Option ℕ
+core_answer c draw = Some c.next
+core_answer c (look l) = c.least l
+core_answer c (post l ii) = None
 
--- after a list of events, the first one first
-abbrev pub run : Core → List Event → Core
-run c [] = c
-run c (e ∷ es) = run (after c e) es
+-- core_after a list of events, the first one first
+abbrev pub core_run : Core → List Event → Core
+core_run c [] = c
+core_run c (e ∷ es) = core_run (core_after c e) es
 
 -- how many draws there are
 abbrev pub draws : List Event → ℕ

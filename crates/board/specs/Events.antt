@@ -1,7 +1,7 @@
 -- What the events of a machine of one thread have to do with the views of all passes and with the words.
 use Rattle.std.specs.Prelude.{◌≡◌, ℕ, ◌<◌, List, length, Some}
 use Rattle.board.specs.declared.view.View.{View}
-use Rattle.board.specs.Core.{Event, draw, look, Core, answer, draws, posts}
+use Rattle.board.specs.Core.{Event, draw, look, Core, core_answer, draws, posts}
 use Rattle.board.specs.Rule.{total, times_posted, next_of, least_of}
 
 -- the draws and the posts are just those of all views
@@ -16,5 +16,5 @@ pub record StandsFor (loops : ℕ) (words : List ℕ) (core : Core) : Type 0 whe
 
 -- the machine answers a draw the next number that the words give, and a look at a loop the interval of the loop's word
 pub record AnswersAs (loops : ℕ) (words : List ℕ) (core : Core) : Type 0 where
-  pub drawn : answer core draw ≡ Some (next_of words)
-  pub looked : (l : ℕ) → l < loops → answer core (look l) ≡ least_of words l
+  pub drawn : core_answer core draw ≡ Some (next_of words)
+  pub looked : (l : ℕ) → l < loops → core_answer core (look l) ≡ least_of words l

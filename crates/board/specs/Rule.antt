@@ -11,9 +11,9 @@ total f [] = 0
 total f (v ∷ vs) = f v + total f vs
 
 -- how often the number stands in the list
-abbrev pub times : ℕ → List ℕ → ℕ
-times x [] = 0
-times x (y ∷ ys) = (if y == x then 1 else 0) + times x ys
+abbrev pub occurrences : ℕ → List ℕ → ℕ
+occurrences x [] = 0
+occurrences x (y ∷ ys) = (if y == x then 1 else 0) + occurrences x ys
 
 -- how often the interval stands in the list for the loop
 abbrev pub times_posted : ℕ → ℕ → List (ℕ × ℕ) → ℕ
@@ -22,7 +22,7 @@ times_posted l ii (p ∷ ps) = (if (p.0 == l) && (p.1 == ii) then 1 else 0) + ti
 
 -- how often the number was drawn, in all views
 abbrev pub times_drawn : List View → ℕ → ℕ
-times_drawn views x = total (λ v. times x v.drawn) views
+times_drawn views x = total (λ v. occurrences x v.drawn) views
 
 -- some view has posted the interval for the loop
 abbrev pub IsPosted : List View → ℕ → ℕ → Type 0

@@ -6,24 +6,24 @@ use Rattle.board.specs.declared.view.Terms.{Terms}
 use Rattle.board.specs.Views.{with_drawn, with_posted, with_seen, IsNoLater}
 use Rattle.board.specs.Rule.{Rule, IsWithinLimits, interval_of}
 
-abbrev pub Place : Type 0
-Place = Me (Unit {0}) View
+abbrev pub PassState : Type 0
+PassState = Me (Unit {0}) View
 
 abbrev pub Keeps : Terms → State (Unit {0}) View → Type 0
 Keeps terms s = (length s.words ≡ terms.loops + 1) × IsWithinLimits terms × Rule terms s.words s.views
 
 -- a word's loop
-abbrev pub loop_of : Step (Unit {0}) → ℕ
-loop_of st = st.word - 1
+abbrev pub loop_of_word : Step (Unit {0}) → ℕ
+loop_of_word st = st.word - 1
 
-abbrev pub Drew : Step (Unit {0}) → Place → ℕ → Place → Type 0
+abbrev pub Drew : Step (Unit {0}) → PassState → ℕ → PassState → Type 0
 Drew st me found me' = (me'.0 ≡ with_drawn me.0 found) × All (λ x. x < found) me.0.drawn × (me'.1 ≡ me.1)
 
-abbrev pub Looked : Step (Unit {0}) → Place → ℕ → Place → Type 0
-Looked st me found me' = (me'.0 ≡ with_seen me.0 (loop_of st) (interval_of found)) × IsNoLater me.0 (loop_of st) (interval_of found) × (me'.1 ≡ me.1)
+abbrev pub Looked : Step (Unit {0}) → PassState → ℕ → PassState → Type 0
+Looked st me found me' = (me'.0 ≡ with_seen me.0 (loop_of_word st) (interval_of found)) × IsNoLater me.0 (loop_of_word st) (interval_of found) × (me'.1 ≡ me.1)
 
-abbrev pub Posted : Step (Unit {0}) → Place → ℕ → Place → Type 0
-Posted st me found me' = (me'.0 ≡ with_posted me.0 (loop_of st) st.first) × (me'.1 ≡ me.1)
+abbrev pub Posted : Step (Unit {0}) → PassState → ℕ → PassState → Type 0
+Posted st me found me' = (me'.0 ≡ with_posted me.0 (loop_of_word st) st.first) × (me'.1 ≡ me.1)
 
 -- one part for a pass of its own
 abbrev pub rest_of : View → View

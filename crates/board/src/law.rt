@@ -2,7 +2,7 @@
 ghost use Rattle.std.specs.Prelude.{List, ℕ};
 ghost use Rattle.board.specs.declared.view.View.{View};
 ghost use Rattle.board.specs.declared.view.Terms.{Terms};
-ghost use Rattle.board.specs.Core.{Event, run, opening};
+ghost use Rattle.board.specs.Core.{Event, core_run, core_opening};
 ghost use Rattle.board.specs.Rule.{Rule};
 ghost use Rattle.board.specs.Events.{IsMadeOf, StandsFor, AnswersAs};
 ghost use Rattle.board.specs.Drawing.{DryLeavesNothing, DrewPiecesIsWet, DrawsCount, DrawsAscend, DrawsEnd};
@@ -13,10 +13,10 @@ ghost use Rattle.board.specs.Drawing.{DryLeavesNothing, DrewPiecesIsWet, DrawsCo
 pub fn words_follow_events()
     ensures state { (terms : Terms) (words : List ℕ) (views : List View) (events : List Event)
         → Rule terms words views → IsMadeOf events views
-        → StandsFor terms.loops words (run opening events) }
+        → StandsFor terms.loops words (core_run core_opening events) }
     ensures answers { (terms : Terms) (words : List ℕ) (views : List View) (events : List Event)
         → Rule terms words views → IsMadeOf events views
-        → AnswersAs terms.loops words (run opening events) }
+        → AnswersAs terms.loops words (core_run core_opening events) }
 {}
 
 /// Wherever words and views meet the rule and some view is dry, each piece was drawn, and by one draw

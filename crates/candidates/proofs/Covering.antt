@@ -3,7 +3,7 @@ use Rattle.std.proofs.Common.{◌≡◌, ℕ, zero, suc, ◌+◌, ◌<◌, ◌�
 use Rattle.std.specs.Prelude.{◌*◌, ◌/◌, ◌%◌, min}
 use Rattle.std.proofs.lemmas.Nat.{div-mul-add, mod-mul-add}
 use Rattle.std.proofs.Math.Nat.{div-mul-le_self, lt-div-mul-add, le-div_iff_mul-le, mul-le-mul_right, mul_comm, add-mul, one-mul, zero-mul, div-add-mod, div-lt_iff_lt-mul}
-use Rattle.candidates.specs.Pieces.{PiecesData, EachInOnePiece, NoneIsEmpty, IsCutting, IsIn, groups_of, number_of}
+use Rattle.candidates.specs.Pieces.{PiecesData, EachInOnePiece, NoneIsEmpty, IsCutting, IsIn, groups_of, piece_count}
 
 -- an interval of a loop is in a piece
 pub some_piece : (pieces : PiecesData) (l above : ℕ) → IsCutting pieces → l < pieces.loops → above ≤ pieces.ceiling → (p : ℕ) × IsIn pieces p l above
@@ -20,7 +20,7 @@ some_piece pieces l above cutting near few =
     let enough : g + 1 ≤ groups_of pieces = (le-div_iff_mul-le {k = pieces.cut} {x = g + 1} {y = pieces.ceiling + pieces.cut} some).1 up in
     let last : (g + 1) * pieces.loops ≤ groups_of pieces * pieces.loops = mul-le-mul_right pieces.loops enough in
     let wide : (g + 1) * pieces.loops ≡ g * pieces.loops + pieces.loops = one_more g pieces.loops in
-    let turned : groups_of pieces * pieces.loops ≡ number_of pieces = mul_comm (groups_of pieces) pieces.loops in (
+    let turned : groups_of pieces * pieces.loops ≡ piece_count pieces = mul_comm (groups_of pieces) pieces.loops in (
       p,
       record {
         there = omega arith;

@@ -13,9 +13,9 @@ use Rattle.overlap.proofs.Least.{least-is_one, least-or_none}
 use Rattle.candidates.specs.declared.outcomes.Cause.{Cause}
 use Rattle.candidates.specs.declared.outcomes.Cause.TheVariants.{Table, Budget, Stages, Registers}
 use Rattle.candidates.specs.declared.outcomes.Outcome.TheVariants.{Met, Failed}
-use Rattle.candidates.specs.Outcomes.{IsPlaced, HasKernel, GivesKernel, FailsBy, OneOutcome}
+use Rattle.candidates.specs.Outcomes.{IsPlacedAs, HasKernel, GivesKernel, FailsBy, OneOutcome}
 
-same_schedule : (p : ProblemData) (ii : ℕ) (s t : ScheduleData) → IsProblem p → IsPlaced p ii s → IsPlaced p ii t → s ≡ t
+same_schedule : (p : ProblemData) (ii : ℕ) (s t : ScheduleData) → IsProblem p → IsPlacedAs p ii s → IsPlacedAs p ii t → s ≡ t
 same_schedule p ii s t is a b = let e = one-answer p ii (budget_of p) (try.Placed s) (try.Placed t) is a b in cc
 
 one_kernel : (s : ScheduleData) (k j : Parts) → HasKernel s k → HasKernel s j → k ≡ j

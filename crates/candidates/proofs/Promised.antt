@@ -4,7 +4,7 @@ use Rattle.std.specs.List.{AllZip}
 use Rattle.machine.specs.Machines.{MachineData}
 use Rattle.machine.specs.declared.alternative.Row.{Row}
 use Rattle.iterations.specs.Loops.{LoopData}
-use Rattle.graph.specs.Schedules.{IsLawful}
+use Rattle.graph.specs.Schedules.{IsLawfulSchedule}
 use Rattle.ims.specs.Problems.{ProblemData, IsProblemOf}
 use Rattle.ims.specs.Schedules.{ScheduleData, IsSchedule}
 use Rattle.ims.proofs.OneProblems.{one-problem}
@@ -14,7 +14,7 @@ use Rattle.kernel.specs.Overlapped.{overlapped}
 use Rattle.overlap.specs.Allotments.{AllotmentData, IsAllotment, Suits}
 use Rattle.overlap.specs.Emission.{emitted}
 use Rattle.overlap.specs.Lifetimes.{lifetimes_of}
-use Rattle.overlap.specs.Overlap.{times_of, alternatives_of, RunsAsLoop}
+use Rattle.overlap.specs.Overlap.{times_of, choices_of, RunsAsLoop}
 use Rattle.overlap.proofs.End.{overlap-is_sequence}
 use Rattle.overlap.proofs.Kept.{kernels-keep_schedules}
 use Rattle.overlap.proofs.Least.{least-is_lawful}
@@ -23,7 +23,7 @@ use Rattle.candidates.specs.declared.choices.Choice.TheVariants.{Met, Failed}
 use Rattle.candidates.specs.declared.listings.Row as row
 use Rattle.candidates.specs.Outcomes.{HasKernel}
 use Rattle.candidates.specs.Choices.{IsChoice}
-use Rattle.candidates.specs.Listings.{rows_of}
+use Rattle.candidates.specs.Listings.{listing_rows}
 use Rattle.candidates.specs.Promises.{IsRightChoice, KernelsKeepLoops, KernelsRunAsLoops, ListingsAreRight, OneListing}
 use Rattle.candidates.proofs.OneChoices.{one_choice}
 
@@ -32,25 +32,25 @@ unfolding emitted
 emitted-ii s a = refl
 
 -- what a schedule's kernel keeps
-kept : (s : ScheduleData) (k : Parts) → IsSchedule s → HasKernel s k → (k.ii ≡ s.ii) × (times_of k ≡ s.times) × (alternatives_of k ≡ s.choices)
+kept : (s : ScheduleData) (k : Parts) → IsSchedule s → HasKernel s k → (k.ii ≡ s.ii) × (times_of k ≡ s.times) × (choices_of k ≡ s.choices)
 kept s k is h =
     let e = kernels-keep_schedules s h.allotment is in
-    (ap (λ (x : Parts). x.ii) h.is_kernel ∙ emitted-ii s h.allotment, ap times_of h.is_kernel ∙ e.0, ap alternatives_of h.is_kernel ∙ e.1)
+    (ap (λ (x : Parts). x.ii) h.is_kernel ∙ emitted-ii s h.allotment, ap times_of h.is_kernel ∙ e.0, ap choices_of h.is_kernel ∙ e.1)
 
 lawful_as : (ii : ℕ) (operations : List (List (List Row))) (s : ScheduleData) (k : Parts) → IsSchedule s → HasKernel s k → s.problem.operations ≡ operations
-    → IsLawful k.ii operations s.problem.graph.edges (times_of k) (alternatives_of k)
+    → IsLawfulSchedule k.ii operations s.problem.graph.edges (times_of k) (choices_of k)
 lawful_as ii operations s k is h same =
     let e = kept s k is h in
-    subst (λ cs. IsLawful k.ii operations s.problem.graph.edges (times_of k) cs) (sym e.2)
-    (subst (λ ts. IsLawful k.ii operations s.problem.graph.edges ts s.choices) (sym e.1)
-    (subst (λ i. IsLawful i operations s.problem.graph.edges s.times s.choices) (sym e.0)
-    (subst (λ os. IsLawful s.ii os s.problem.graph.edges s.times s.choices) same is.lawful)))
+    subst (λ cs. IsLawfulSchedule k.ii operations s.problem.graph.edges (times_of k) cs) (sym e.2)
+    (subst (λ ts. IsLawfulSchedule k.ii operations s.problem.graph.edges ts s.choices) (sym e.1)
+    (subst (λ i. IsLawfulSchedule i operations s.problem.graph.edges s.times s.choices) (sym e.0)
+    (subst (λ os. IsLawfulSchedule s.ii os s.problem.graph.edges s.times s.choices) same is.lawful)))
 
 pub kernels-keep : KernelsKeepLoops
 kernels-keep machine loop ratio ceiling ii problem kernel is g = record {
   graph = problem.graph;
   is_graph = problems-have machine loop ratio ceiling problem is;
-  lawful = subst (λ (q : ProblemData). IsLawful kernel.ii _ q.graph.edges (times_of kernel) (alternatives_of kernel)) g.is_schedule.2
+  lawful = subst (λ (q : ProblemData). IsLawfulSchedule kernel.ii _ q.graph.edges (times_of kernel) (choices_of kernel)) g.is_schedule.2
       (lawful_as ii _ g.schedule kernel g.is_schedule.4 g.has_kernel (ap (λ (q : ProblemData). q.operations) g.is_schedule.2 ∙ is.alternatives));
 }
 
@@ -79,7 +79,7 @@ right_choice machine loop ratio ceiling problem (Failed cause) is c = tt
 
 right_rows : (machine : MachineData) (ratio ceiling : ℕ) (loops : List LoopData) (problems : List ProblemData) (choices : List Choice)
     → AllZip (λ loop problem. IsProblemOf machine loop ratio ceiling problem) loops problems → AllZip IsChoice problems choices
-    → AllZip (λ loop (r : row.Row). IsRightChoice machine loop r.choice) loops (rows_of problems choices)
+    → AllZip (λ loop (r : row.Row). IsRightChoice machine loop r.choice) loops (listing_rows problems choices)
 right_rows machine ratio ceiling [] [] [] ps cs = tt
 right_rows machine ratio ceiling [] [] (c ∷ choices) ps cs = absurd cs
 right_rows machine ratio ceiling [] (p ∷ problems) choices ps cs = absurd ps
@@ -93,7 +93,7 @@ listings-are_right machine loops ratio ceiling listing is =
 
 same_rows : (machine : MachineData) (ratio ceiling : ℕ) (loops : List LoopData) (ps qs : List ProblemData) (cs ds : List Choice)
     → AllZip (λ loop problem. IsProblemOf machine loop ratio ceiling problem) loops ps → AllZip IsChoice ps cs
-    → AllZip (λ loop problem. IsProblemOf machine loop ratio ceiling problem) loops qs → AllZip IsChoice qs ds → rows_of ps cs ≡ rows_of qs ds
+    → AllZip (λ loop problem. IsProblemOf machine loop ratio ceiling problem) loops qs → AllZip IsChoice qs ds → listing_rows ps cs ≡ listing_rows qs ds
 same_rows machine ratio ceiling [] [] [] cs ds a b c d = refl
 same_rows machine ratio ceiling [] [] (q ∷ qs) cs ds a b c d = absurd c
 same_rows machine ratio ceiling [] (p ∷ ps) qs cs ds a b c d = absurd a

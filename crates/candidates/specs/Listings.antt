@@ -20,8 +20,8 @@ pub record ListingData : Type 0 where
   pub rows : List Row
 
 -- what is told of a loop with its choice
-abbrev pub row_of : ProblemData → Choice → Row
-row_of problem choice = record {
+abbrev pub listing_row : ProblemData → Choice → Row
+listing_row problem choice = record {
   name = problem.loop.name;
   operations = length problem.loop.statements;
   outs = length problem.loop.outs;
@@ -31,13 +31,13 @@ row_of problem choice = record {
 }
 
 -- each loop with its choice, in order
-abbrev pub rows_of : List ProblemData → List Choice → List Row
-rows_of [] choices = []
-rows_of (p ∷ ps) [] = []
-rows_of (p ∷ ps) (c ∷ cs) = row_of p c ∷ rows_of ps cs
+abbrev pub listing_rows : List ProblemData → List Choice → List Row
+listing_rows [] choices = []
+listing_rows (p ∷ ps) [] = []
+listing_rows (p ∷ ps) (c ∷ cs) = listing_row p c ∷ listing_rows ps cs
 
 abbrev pub listing_of : ℕ → List ProblemData → List Choice → ListingData
-listing_of ceiling problems choices = record { ceiling = ceiling; rows = rows_of problems choices }
+listing_of ceiling problems choices = record { ceiling = ceiling; rows = listing_rows problems choices }
 
 -- the two bounds are within their limits
 pub record IsRow (row : Row) : Type 0 where

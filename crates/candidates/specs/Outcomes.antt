@@ -15,8 +15,8 @@ use Rattle.candidates.specs.declared.outcomes.Outcome.{Outcome}
 use Rattle.candidates.specs.declared.outcomes.Outcome.TheVariants.{Met, Failed}
 
 -- the attempt places all operations, as the schedule says
-abbrev pub IsPlaced : ProblemData → ℕ → ScheduleData → Type 0
-IsPlaced problem ii schedule = AnswersAttempt problem ii (budget_of problem) (try.Placed schedule)
+abbrev pub IsPlacedAs : ProblemData → ℕ → ScheduleData → Type 0
+IsPlacedAs problem ii schedule = AnswersAttempt problem ii (budget_of problem) (try.Placed schedule)
 
 -- the kernel of a schedule with the least registers of its values
 pub record HasKernel (schedule : ScheduleData) (kernel : Parts) : Type 0 where
@@ -28,13 +28,13 @@ pub record HasKernel (schedule : ScheduleData) (kernel : Parts) : Type 0 where
 -- the attempt places all operations, their values have registers, and the kernel is that of both
 pub record GivesKernel (problem : ProblemData) (ii : ℕ) (kernel : Parts) : Type 0 where
   pub schedule : ScheduleData
-  pub is_schedule : IsPlaced problem ii schedule
+  pub is_schedule : IsPlacedAs problem ii schedule
   pub has_kernel : HasKernel schedule kernel
 
 -- the attempt places all operations, and some value has no register
 pub record LacksRegisters (problem : ProblemData) (ii : ℕ) : Type 0 where
   pub schedule : ScheduleData
-  pub is_schedule : IsPlaced problem ii schedule
+  pub is_schedule : IsPlacedAs problem ii schedule
   pub none : NoneFor schedule schedule.problem.registers
 
 -- the cause that a failed attempt is

@@ -4,11 +4,11 @@ use Rattle.std.specs.List.{AllZip}
 use Rattle.machine.specs.Machines.{MachineData}
 use Rattle.iterations.specs.Loops.{LoopData}
 use Rattle.graph.specs.Graphs.{GraphData, IsGraphOf}
-use Rattle.graph.specs.Schedules.{IsLawful}
+use Rattle.graph.specs.Schedules.{IsLawfulSchedule}
 use Rattle.graph.specs.Units.{operations_of}
 use Rattle.ims.specs.Problems.{ProblemData, IsProblemOf}
 use Rattle.kernel.specs.declared.parts.Parts.{Parts}
-use Rattle.overlap.specs.Overlap.{times_of, alternatives_of, RunsAsLoop}
+use Rattle.overlap.specs.Overlap.{times_of, choices_of, RunsAsLoop}
 use Rattle.candidates.specs.declared.choices.Choice.{Choice}
 use Rattle.candidates.specs.declared.choices.Choice.TheVariants.{Met, Failed}
 use Rattle.candidates.specs.declared.listings.Row.{Row}
@@ -33,7 +33,7 @@ OneListing = (machine : MachineData) (loops : List LoopData) (ratio ceiling : â„
 pub record KeepsAll (machine : MachineData) (loop : LoopData) (kernel : Parts) : Type 0 where
   pub graph : GraphData
   pub is_graph : IsGraphOf machine loop graph
-  pub lawful : IsLawful kernel.ii (operations_of machine loop) graph.edges (times_of kernel) (alternatives_of kernel)
+  pub lawful : IsLawfulSchedule kernel.ii (operations_of machine loop) graph.edges (times_of kernel) (choices_of kernel)
 
 -- a kernel keeps every dependence and unit, and its run leaves of each memory what the loop leaves
 abbrev pub KernelsKeepLoops : Type 0

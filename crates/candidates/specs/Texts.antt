@@ -54,8 +54,8 @@ abbrev pub number_failed : List Row → ℕ
 number_failed rows = count_by (λ (row : Row). is_failed row.choice) rows
 
 -- `loops A met B failed F`
-abbrev pub last_line : List Row → List ℕ
-last_line rows = ((told (codes "loops ") (length rows) ++ told (codes " met ") (number_met rows)) ++ told (codes " failed ") (number_failed rows)) ++ codes "\n"
+abbrev pub counts_line : List Row → List ℕ
+counts_line rows = ((told (codes "loops ") (length rows) ++ told (codes " met ") (number_met rows)) ++ told (codes " failed ") (number_failed rows)) ++ codes "\n"
 
 unfoldable pub listing_text_of : ListingData → List ℕ
-listing_text_of listing = (version_text listing.rows ++ flat_map (row_text listing.ceiling) listing.rows) ++ last_line listing.rows
+listing_text_of listing = (version_text listing.rows ++ flat_map (row_text listing.ceiling) listing.rows) ++ counts_line listing.rows

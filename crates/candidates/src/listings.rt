@@ -2,7 +2,7 @@
 
 ghost use Rattle.std.specs.Prelude.{◌≡◌, ◌≤◌, ◌++◌, ◌-◌, length, vec_capacity, vec_len, IfOk};
 ghost use Rattle.std.specs.List.{All};
-ghost use Rattle.candidates.specs.Listings.{IsListing, IsRow, listing_of, row_of, rows_of};
+ghost use Rattle.candidates.specs.Listings.{IsListing, IsRow, listing_of, listing_row, listing_rows};
 
 use crate::choices::Choice;
 use ims::Prepared;
@@ -87,7 +87,7 @@ fn fill_rows(rows: &mut Vec<Row>, loops: &[Prepared], choices: Vec<Choice>)
     requires room { length loops.now ≤ vec_capacity rows.old - vec_len rows.old }
     requires each { vec_len choices ≡ length loops.now }
     requires rows { All IsRow rows.old.items }
-    ensures rows { rows.new.items ≡ rows.old.items ++ rows_of loops.now choices.items }
+    ensures rows { rows.new.items ≡ rows.old.items ++ listing_rows loops.now choices.items }
     ensures are_rows { All IsRow rows.new.items }
 {
     let mut choices = choices.into_iter();
@@ -100,7 +100,7 @@ fn fill_rows(rows: &mut Vec<Row>, loops: &[Prepared], choices: Vec<Choice>)
 
 /// What is told of a loop with its choice.
 fn row_of(prepared: &Prepared, choice: Choice) -> Row
-    ensures value { result ≡ row_of prepared.now choice }
+    ensures value { result ≡ listing_row prepared.now choice }
     ensures is_row { IsRow result }
 {
     let innermost = prepared.innermost();

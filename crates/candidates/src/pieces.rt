@@ -1,6 +1,6 @@
 //! How the intervals of loops are cut into pieces.
 ghost use Rattle.std.specs.Prelude.{◌≡◌, ◌≤◌, ◌<◌, ◌+◌, ◌*◌, ◌/◌};
-ghost use Rattle.candidates.specs.Pieces.{PiecesData, IsCutting, number_of, groups_of, loop_of, start_of, end_of};
+ghost use Rattle.candidates.specs.Pieces.{PiecesData, IsCutting, piece_count, groups_of, loop_of_piece, start_of_piece, end_of_piece};
 
 use std::marker::Model;
 
@@ -68,7 +68,7 @@ impl Pieces {
 
     /// How many pieces there are, at most 262,144.
     pub fn number(&self) -> u64
-        ensures value { result ≡ number_of self.now }
+        ensures value { result ≡ piece_count self.now }
         ensures few { result ≤ 262144 }
         ensures well_formed { IsCutting self.now }
     {
@@ -77,11 +77,11 @@ impl Pieces {
 
     /// The piece of that number.
     pub fn piece(&self, number: u64) -> Piece
-        requires { number < number_of self.now }
-        ensures its_loop { result.loop_number ≡ loop_of self.now number }
+        requires { number < piece_count self.now }
+        ensures its_loop { result.loop_number ≡ loop_of_piece self.now number }
         ensures there { result.loop_number < self.now.loops }
-        ensures start { result.start ≡ start_of self.now number }
-        ensures end { result.end ≡ end_of self.now number }
+        ensures start { result.start ≡ start_of_piece self.now number }
+        ensures end { result.end ≡ end_of_piece self.now number }
         ensures some { result.start < result.end }
         ensures below { result.end ≤ self.now.ceiling + 1 }
         ensures well_formed { IsCutting self.now }

@@ -1,6 +1,6 @@
 //! Loops prepared for scheduling.
 
-ghost use Rattle.graph.specs.Answers.{Answers};
+ghost use Rattle.graph.specs.TablesAnswer.{TablesAnswer};
 ghost use Rattle.graph.specs.Units.{first_without_table};
 ghost use Rattle.ims.specs.Problems.{IsProblemOf};
 
@@ -22,7 +22,7 @@ pub fn prepare(
     innermost: Loop,
     settings: &Settings,
 ) -> Result<Prepared, GraphFault>
-    ensures exact { Answers (first_without_table machine.now innermost) (IsProblemOf machine.now innermost settings.now.ratio settings.now.ceiling) result }
+    ensures exact { TablesAnswer (first_without_table machine.now innermost) (IsProblemOf machine.now innermost settings.now.ratio settings.now.ceiling) result }
 {
     Prepared::new(
         alloc,

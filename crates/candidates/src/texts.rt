@@ -4,7 +4,7 @@ ghost use Rattle.std.specs.Prelude.{◌≡◌, ◌≤◌, ◌++◌, decimal, cod
 ghost use Rattle.std.specs.List.{All, flat_map};
 ghost use Rattle.candidates.specs.declared.choices.Choice.TheVariants.{Failed, Met};
 ghost use Rattle.candidates.specs.Listings.{IsRow};
-ghost use Rattle.candidates.specs.Texts.{cause_word, choice_text, has_outs, head_of, last_line, listing_text_of, mii_in, number_failed, number_met, row_text, version_text};
+ghost use Rattle.candidates.specs.Texts.{cause_word, choice_text, has_outs, head_of, counts_line, listing_text_of, mii_in, number_failed, number_met, row_text, version_text};
 
 use crate::choices::Choice;
 use crate::listings::{Listing, Row};
@@ -138,7 +138,7 @@ fn write_cause(text: &mut String, cause: Cause) -> Result<(), OutOfMemory>
 /// Appends the last line: how many loops there are, how many have a kernel and how many have none. Where
 /// memory runs out the text is left with a part of it.
 pub fn write_last(text: &mut String, rows: &[Row]) -> Result<(), OutOfMemory>
-    ensures text { IfOk result (λ _. string_bytes text.new ≡ string_bytes text.old ++ last_line rows.now) }
+    ensures text { IfOk result (λ _. string_bytes text.new ≡ string_bytes text.old ++ counts_line rows.now) }
 {
     write_number(text, "loops ", rows.len() as u64)?;
     write_number(text, " met ", number_met(rows) as u64)?;

@@ -1,5 +1,5 @@
 -- The line's arguments as `clap` sees them, and what its matches mean.
-use Rattle.std.proofs.Common.{◌≡◌, ◌⊎◌, ℕ, length, arith, Result, IfOk, List, Option, Some, None, Err, option_map, true, false, Bool, ◌||◌, ◌≤◌, ◌∙◌, string_bytes, codes, refl, sym, ap, ap₂, subst, inl, inr, IfSome, IfNone}
+use Rattle.std.proofs.Common.{◌≡◌, ◌⊎◌, ℕ, Result, IfOk, List, Option, Some, None, Err, option_map, true, false, Bool, ◌||◌, ◌≤◌, ◌∙◌, string_bytes, codes, refl, sym, ap, ap₂, subst, inl, inr, IfSome, IfNone}
 use Rattle.clap.specs.declared.builder.command.Command as clap
 use Rattle.clap.specs.declared.builder.arg.Arg.{Arg}
 use Rattle.clap.specs.Words.{AddsArg, App, HasKind, Kinds, Row, Rule, Text, app_of, rule_of, with_rule, first_of, is_simple, is_simple_and_free, kind_of, subcommand_name_of, subcommand_rows_of}
@@ -13,18 +13,21 @@ use Rattle.command_line.specs.declared.line.Usage.{Usage}
 use Rattle.command_line.specs.declared.line.Usage.TheVariants.{Help, Refused, Memory}
 use Rattle.clap.proofs.OnLiterals.{clap_on_literals}
 use Rattle.clap.specs.declared.error.kind.ErrorKind.TheVariants.{OutOfMemory}
-use Rattle.command_line.specs.Lines.{IsRead, IsRequest, IsToldBy, Means, MeansNamed, SaysTrip, HasPaths, SaysNumber, SaySettings, program_line, schedule_line, run_line, bounds_line, plain_line}
+use Rattle.command_line.specs.Lines.{IsRead, IsRequest, IsToldBy, Means, MeansNamed, SaysTrip, HasPaths, SaysNumber, SaySettings, program_line, schedule_line, run_line, json_line, explain_line, bounds_line, edges_line, dot_line, plain_line}
 use Rattle.settings.specs.Settings.{AreSettings, SettingsData}
 use Rattle.clap.specs.declared.builder.command.Command.TheViews.{out-Command}
+use Rattle.std.specs.Prelude.{nat_eq}
+use Rattle.std.specs.Cmp.Lexicographic.{pointwise}
+use Rattle.std.proofs.lemmas.Cmp.{nat_list_eq_equiv}
 use Rattle.command_line.specs.declared.line.Command.{Command}
-use Rattle.command_line.specs.declared.line.Command.TheVariants.{Bounds, Plain, Schedule, Run}
+use Rattle.command_line.specs.declared.line.Command.TheVariants.{Bounds, Edges, Dot, Plain, Schedule, Json, Explain, Run}
 
 pub program_is_simple : is_simple program_line ≡ true
-unfolding program_line schedule_line run_line bounds_line plain_line clap_on_literals
+unfolding program_line schedule_line run_line json_line explain_line bounds_line edges_line dot_line plain_line clap_on_literals
 program_is_simple = refl
 
 pub program_is_free : is_simple_and_free program_line ≡ true
-unfolding program_line schedule_line run_line bounds_line plain_line clap_on_literals
+unfolding program_line schedule_line run_line json_line explain_line bounds_line edges_line dot_line plain_line clap_on_literals
 program_is_free = refl
 
 -- an argument that is not global adds its rule
@@ -63,46 +66,108 @@ say-one given ratio ceiling workers cut settings r c w u h =
       cut_few = subst (λ (n : ℕ). n ≤ 256) same_cut h.4.cut_few;
     }
 
--- names of different lengths differ
-differ : (a b : List ℕ) → (length a ≡ length b → ⊥) → a ≡ b → ⊥
-differ a b lengths e = lengths (ap (λ (t : List ℕ). length t) e)
+-- names that are compared and found different differ
+differ : (a b : List ℕ) → pointwise nat_eq a b ≡ false → a ≡ b → ⊥
+differ a b is_other e =
+    let is_same : pointwise nat_eq a b ≡ true = subst (λ (t : List ℕ). pointwise nat_eq a t ≡ true) e (nat_list_eq_equiv.refl a) in absurd (cc)
 
--- no command of `bounds` is meant where a path is missing
+-- no command of `bounds`, `edges` or `dot` is meant where a path is missing
 pub bounds-none : (rows : List Row) → ((machine loops : List ℕ) → ¬ HasPaths machine loops rows)
     → (c : Command) → MeansNamed c (codes "bounds") rows → ⊥
 bounds-none rows none (Bounds machine loops) h = none (string_bytes machine) (string_bytes loops) h.1
-bounds-none rows none (Plain loops trip) h = differ _ _ (λ e. omega (arith, e)) h.0
-bounds-none rows none (Schedule machine loops settings) h = differ _ _ (λ e. omega (arith, e)) h.0
-bounds-none rows none (Run machine loops trip settings) h = differ _ _ (λ e. omega (arith, e)) h.0
+bounds-none rows missing (Edges machine loops) h = differ _ _ refl h.0
+bounds-none rows missing (Dot machine loops) h = differ _ _ refl h.0
+bounds-none rows missing (Plain loops trip) h = differ _ _ refl h.0
+bounds-none rows missing (Schedule machine loops settings) h = differ _ _ refl h.0
+bounds-none rows missing (Json machine loops settings) h = differ _ _ refl h.0
+bounds-none rows missing (Explain machine loops settings) h = differ _ _ refl h.0
+bounds-none rows missing (Run machine loops trip settings) h = differ _ _ refl h.0
+
+pub edges-none : (rows : List Row) → ((machine loops : List ℕ) → ¬ HasPaths machine loops rows)
+    → (c : Command) → MeansNamed c (codes "edges") rows → ⊥
+edges-none rows missing (Bounds machine loops) h = differ _ _ refl h.0
+edges-none rows none (Edges machine loops) h = none (string_bytes machine) (string_bytes loops) h.1
+edges-none rows missing (Dot machine loops) h = differ _ _ refl h.0
+edges-none rows missing (Plain loops trip) h = differ _ _ refl h.0
+edges-none rows missing (Schedule machine loops settings) h = differ _ _ refl h.0
+edges-none rows missing (Json machine loops settings) h = differ _ _ refl h.0
+edges-none rows missing (Explain machine loops settings) h = differ _ _ refl h.0
+edges-none rows missing (Run machine loops trip settings) h = differ _ _ refl h.0
+
+pub dot-none : (rows : List Row) → ((machine loops : List ℕ) → ¬ HasPaths machine loops rows)
+    → (c : Command) → MeansNamed c (codes "dot") rows → ⊥
+dot-none rows missing (Bounds machine loops) h = differ _ _ refl h.0
+dot-none rows missing (Edges machine loops) h = differ _ _ refl h.0
+dot-none rows none (Dot machine loops) h = none (string_bytes machine) (string_bytes loops) h.1
+dot-none rows missing (Plain loops trip) h = differ _ _ refl h.0
+dot-none rows missing (Schedule machine loops settings) h = differ _ _ refl h.0
+dot-none rows missing (Json machine loops settings) h = differ _ _ refl h.0
+dot-none rows missing (Explain machine loops settings) h = differ _ _ refl h.0
+dot-none rows missing (Run machine loops trip settings) h = differ _ _ refl h.0
 
 -- no command of `plain` is meant where the path is missing, or where no trip count is said
 pub plain-none : (rows : List Row) → (first_of (codes "loops") rows ≡ None) ⊎ ((trip : ℕ) → ¬ SaysTrip (first_of (codes "trip") rows) trip)
     → (c : Command) → MeansNamed c (codes "plain") rows → ⊥
-plain-none rows missing (Bounds machine loops) h = differ _ _ (λ e. omega (arith, e)) h.0
-plain-none rows (inl none) (Plain loops trip) h = let there = h.1 in absurd (cc)
-plain-none rows (inr none) (Plain loops trip) h = none trip h.2
-plain-none rows missing (Schedule machine loops settings) h = differ _ _ (λ e. omega (arith, e)) h.0
-plain-none rows missing (Run machine loops trip settings) h = differ _ _ (λ e. omega (arith, e)) h.0
+plain-none rows missing (Bounds machine loops) h = differ _ _ refl h.0
+plain-none rows missing (Edges machine loops) h = differ _ _ refl h.0
+plain-none rows missing (Dot machine loops) h = differ _ _ refl h.0
+plain-none rows (inl none) (Plain loops trip) h = let there = h.1.0 in absurd (cc)
+plain-none rows (inr none) (Plain loops trip) h = none trip h.1.1
+plain-none rows missing (Schedule machine loops settings) h = differ _ _ refl h.0
+plain-none rows missing (Json machine loops settings) h = differ _ _ refl h.0
+plain-none rows missing (Explain machine loops settings) h = differ _ _ refl h.0
+plain-none rows missing (Run machine loops trip settings) h = differ _ _ refl h.0
 
--- no command of `schedule` is meant where the settings are not said, or a path is missing
+-- no command of `schedule`, `json` or `explain` is meant where the settings are not said, or a path is missing
 pub schedule-none : (rows : List Row) → ((settings : SettingsData) → ¬ SaySettings settings rows) ⊎ ((machine loops : List ℕ) → ¬ HasPaths machine loops rows)
     → (c : Command) → MeansNamed c (codes "schedule") rows → ⊥
-schedule-none rows missing (Bounds machine loops) h = differ _ _ (λ e. omega (arith, e)) h.0
-schedule-none rows missing (Plain loops trip) h = differ _ _ (λ e. omega (arith, e)) h.0
-schedule-none rows (inl none) (Schedule machine loops settings) h = none settings h.2
-schedule-none rows (inr none) (Schedule machine loops settings) h = none (string_bytes machine) (string_bytes loops) h.1
-schedule-none rows missing (Run machine loops trip settings) h = differ _ _ (λ e. omega (arith, e)) h.0
+schedule-none rows missing (Bounds machine loops) h = differ _ _ refl h.0
+schedule-none rows missing (Edges machine loops) h = differ _ _ refl h.0
+schedule-none rows missing (Dot machine loops) h = differ _ _ refl h.0
+schedule-none rows missing (Plain loops trip) h = differ _ _ refl h.0
+schedule-none rows (inl none) (Schedule machine loops settings) h = none settings h.1.1
+schedule-none rows (inr none) (Schedule machine loops settings) h = none (string_bytes machine) (string_bytes loops) h.1.0
+schedule-none rows missing (Json machine loops settings) h = differ _ _ refl h.0
+schedule-none rows missing (Explain machine loops settings) h = differ _ _ refl h.0
+schedule-none rows missing (Run machine loops trip settings) h = differ _ _ refl h.0
+
+pub json-none : (rows : List Row) → ((settings : SettingsData) → ¬ SaySettings settings rows) ⊎ ((machine loops : List ℕ) → ¬ HasPaths machine loops rows)
+    → (c : Command) → MeansNamed c (codes "json") rows → ⊥
+json-none rows missing (Bounds machine loops) h = differ _ _ refl h.0
+json-none rows missing (Edges machine loops) h = differ _ _ refl h.0
+json-none rows missing (Dot machine loops) h = differ _ _ refl h.0
+json-none rows missing (Plain loops trip) h = differ _ _ refl h.0
+json-none rows missing (Schedule machine loops settings) h = differ _ _ refl h.0
+json-none rows (inl none) (Json machine loops settings) h = none settings h.1.1
+json-none rows (inr none) (Json machine loops settings) h = none (string_bytes machine) (string_bytes loops) h.1.0
+json-none rows missing (Explain machine loops settings) h = differ _ _ refl h.0
+json-none rows missing (Run machine loops trip settings) h = differ _ _ refl h.0
+
+pub explain-none : (rows : List Row) → ((settings : SettingsData) → ¬ SaySettings settings rows) ⊎ ((machine loops : List ℕ) → ¬ HasPaths machine loops rows)
+    → (c : Command) → MeansNamed c (codes "explain") rows → ⊥
+explain-none rows missing (Bounds machine loops) h = differ _ _ refl h.0
+explain-none rows missing (Edges machine loops) h = differ _ _ refl h.0
+explain-none rows missing (Dot machine loops) h = differ _ _ refl h.0
+explain-none rows missing (Plain loops trip) h = differ _ _ refl h.0
+explain-none rows missing (Schedule machine loops settings) h = differ _ _ refl h.0
+explain-none rows (inl none) (Explain machine loops settings) h = none settings h.1.1
+explain-none rows (inr none) (Explain machine loops settings) h = none (string_bytes machine) (string_bytes loops) h.1.0
+explain-none rows missing (Json machine loops settings) h = differ _ _ refl h.0
+explain-none rows missing (Run machine loops trip settings) h = differ _ _ refl h.0
 
 -- no command of `run` is meant where moreover no trip count is said
-pub run-none : (rows : List Row)
-    → ((trip : ℕ) → ¬ SaysTrip (first_of (codes "trip") rows) trip) ⊎ (((settings : SettingsData) → ¬ SaySettings settings rows) ⊎ ((machine loops : List ℕ) → ¬ HasPaths machine loops rows))
+pub run-none : (rows : List Row) → ((trip : ℕ) → ¬ SaysTrip (first_of (codes "trip") rows) trip) ⊎ (((settings : SettingsData) → ¬ SaySettings settings rows) ⊎ ((machine loops : List ℕ) → ¬ HasPaths machine loops rows))
     → (c : Command) → MeansNamed c (codes "run") rows → ⊥
-run-none rows missing (Bounds machine loops) h = differ _ _ (λ e. omega (arith, e)) h.0
-run-none rows missing (Plain loops trip) h = differ _ _ (λ e. omega (arith, e)) h.0
-run-none rows missing (Schedule machine loops settings) h = differ _ _ (λ e. omega (arith, e)) h.0
-run-none rows (inl none) (Run machine loops trip settings) h = none trip h.2
-run-none rows (inr (inl none)) (Run machine loops trip settings) h = none settings h.3
-run-none rows (inr (inr none)) (Run machine loops trip settings) h = none (string_bytes machine) (string_bytes loops) h.1
+run-none rows missing (Bounds machine loops) h = differ _ _ refl h.0
+run-none rows missing (Edges machine loops) h = differ _ _ refl h.0
+run-none rows missing (Dot machine loops) h = differ _ _ refl h.0
+run-none rows missing (Plain loops trip) h = differ _ _ refl h.0
+run-none rows missing (Schedule machine loops settings) h = differ _ _ refl h.0
+run-none rows missing (Json machine loops settings) h = differ _ _ refl h.0
+run-none rows missing (Explain machine loops settings) h = differ _ _ refl h.0
+run-none rows (inl none) (Run machine loops trip settings) h = none trip h.1.1
+run-none rows (inr (inl none)) (Run machine loops trip settings) h = none settings h.1.2
+run-none rows (inr (inr none)) (Run machine loops trip settings) h = none (string_bytes machine) (string_bytes loops) h.1.0
 
 named : (s : Option (Text × List Row)) (name : Text) (rows : List Row) → option_map (λ p. p.0) s ≡ Some name → option_map (λ p. p.1) s ≡ Some rows → s ≡ Some (name, rows)
 named None name rows n r = absurd (cc)
@@ -124,15 +189,23 @@ pub given-none : (r : Result (Option Command) AllocError) (s : Option (Text × L
 given-none r s name rows n e h =
     subst (λ (o : Option (Text × List Row)). IfOk r (λ found. IfNone found ((c : Command) → ¬ Means c o))) (sym (named s name rows n e)) h
 
+-- a subcommand is not of this name
+abbrev IsNot : Option (Text × List Row) → Text → Type 0
+IsNot s name = ¬ (option_map (λ p. p.0) s ≡ Some name)
+
 -- no command is meant by a subcommand of another name, or by none
-pub nothing-meant : (s : Option (Text × List Row)) → ¬ (option_map (λ p. p.0) s ≡ Some (codes "schedule")) → ¬ (option_map (λ p. p.0) s ≡ Some (codes "run"))
-    → ¬ (option_map (λ p. p.0) s ≡ Some (codes "bounds")) → ¬ (option_map (λ p. p.0) s ≡ Some (codes "plain"))
+pub nothing-meant : (s : Option (Text × List Row)) → IsNot s (codes "schedule") → IsNot s (codes "run") → IsNot s (codes "json") → IsNot s (codes "explain")
+    → IsNot s (codes "bounds") → IsNot s (codes "edges") → IsNot s (codes "dot") → IsNot s (codes "plain")
     → (c : Command) → Means c s → ⊥
-nothing-meant None schedule run bounds plain c h = h
-nothing-meant (Some s) schedule run bounds plain (Bounds machine loops) h = bounds (ap (λ (t : Text). Some t) h.0)
-nothing-meant (Some s) schedule run bounds plain (Plain loops trip) h = plain (ap (λ (t : Text). Some t) h.0)
-nothing-meant (Some s) schedule run bounds plain (Schedule machine loops settings) h = schedule (ap (λ (t : Text). Some t) h.0)
-nothing-meant (Some s) schedule run bounds plain (Run machine loops trip settings) h = run (ap (λ (t : Text). Some t) h.0)
+nothing-meant None schedule run json explain bounds edges dot plain c h = h
+nothing-meant (Some s) schedule run json explain bounds edges dot plain (Bounds machine loops) h = bounds (ap (λ (t : Text). Some t) h.0)
+nothing-meant (Some s) schedule run json explain bounds edges dot plain (Edges machine loops) h = edges (ap (λ (t : Text). Some t) h.0)
+nothing-meant (Some s) schedule run json explain bounds edges dot plain (Dot machine loops) h = dot (ap (λ (t : Text). Some t) h.0)
+nothing-meant (Some s) schedule run json explain bounds edges dot plain (Plain loops trip) h = plain (ap (λ (t : Text). Some t) h.0)
+nothing-meant (Some s) schedule run json explain bounds edges dot plain (Schedule machine loops settings) h = schedule (ap (λ (t : Text). Some t) h.0)
+nothing-meant (Some s) schedule run json explain bounds edges dot plain (Json machine loops settings) h = json (ap (λ (t : Text). Some t) h.0)
+nothing-meant (Some s) schedule run json explain bounds edges dot plain (Explain machine loops settings) h = explain (ap (λ (t : Text). Some t) h.0)
+nothing-meant (Some s) schedule run json explain bounds edges dot plain (Run machine loops trip settings) h = run (ap (λ (t : Text). Some t) h.0)
 
 pub subcommand_rows-name : (m : ArgMatches) → option_map (λ p. p.0) (subcommand_rows_of m) ≡ subcommand_name_of m
 subcommand_rows-name m = elim (out-ArgMatches m).subcommand as (λ o. option_map (λ p. p.0) (subcommand_rows o) ≡ option_map (λ b. (out-SubCommand (box_value b)).name.now) o) [ None ↦ refl | Some b ↦ refl ]

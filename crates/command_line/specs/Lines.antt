@@ -6,7 +6,7 @@ use Rattle.clap.specs.declared.builder.value_parser.ValueParser.TheVariants.{Uns
 use Rattle.clap.specs.declared.error.kind.ErrorKind.{ErrorKind}
 use Rattle.clap.specs.declared.error.kind.ErrorKind.TheVariants as kind
 use Rattle.command_line.specs.declared.line.Command.{Command}
-use Rattle.command_line.specs.declared.line.Command.TheVariants.{Bounds, Plain, Schedule, Run}
+use Rattle.command_line.specs.declared.line.Command.TheVariants.{Bounds, Edges, Dot, Plain, Schedule, Json, Explain, Run}
 use Rattle.command_line.specs.declared.line.Usage.{Usage}
 use Rattle.command_line.specs.declared.line.Usage.TheVariants.{Help, Refused, Memory}
 use Rattle.settings.specs.Settings.{AreSettings, SettingsData}
@@ -15,10 +15,19 @@ use Rattle.settings.specs.Settings.{AreSettings, SettingsData}
 abbrev pub path_rule : Text → Rule
 path_rule id = record (new_rule id) { value_names = 1; required = true }
 
--- `bounds MACHINE LOOPS`
+-- a subcommand with the paths of both files: `NAME MACHINE LOOPS`
+abbrev pub with_paths : Text → App
+with_paths name = with_rule (with_rule (new_app name) (path_rule (codes "machine"))) (path_rule (codes "loops"))
+
+-- `bounds MACHINE LOOPS`, `edges MACHINE LOOPS` and `dot MACHINE LOOPS`
 unfoldable pub bounds_line : App
-bounds_line =
-    with_rule (with_rule (new_app (codes "bounds")) (path_rule (codes "machine"))) (path_rule (codes "loops"))
+bounds_line = with_paths (codes "bounds")
+
+unfoldable pub edges_line : App
+edges_line = with_paths (codes "edges")
+
+unfoldable pub dot_line : App
+dot_line = with_paths (codes "dot")
 
 -- `--trip N`, which has to be given: a number from 0 to 100,000
 abbrev pub trip_rule : Rule
@@ -58,15 +67,19 @@ cut_rule = number_rule (codes "cut") (codes "4") 1 256
 abbrev pub with_search : App → App
 with_search app = with_rule (with_rule (with_rule (with_rule app ratio_rule) ceiling_rule) workers_rule) cut_rule
 
--- `schedule MACHINE LOOPS`, and the four
+-- `schedule MACHINE LOOPS`, `json MACHINE LOOPS` and `explain MACHINE LOOPS`, and the four
 unfoldable pub schedule_line : App
-schedule_line =
-    with_search (with_rule (with_rule (new_app (codes "schedule")) (path_rule (codes "machine"))) (path_rule (codes "loops")))
+schedule_line = with_search (with_paths (codes "schedule"))
+
+unfoldable pub json_line : App
+json_line = with_search (with_paths (codes "json"))
+
+unfoldable pub explain_line : App
+explain_line = with_search (with_paths (codes "explain"))
 
 -- `run MACHINE LOOPS --trip N`, and the four
 unfoldable pub run_line : App
-run_line =
-    with_search (with_rule (with_rule (with_rule (new_app (codes "run")) (path_rule (codes "machine"))) (path_rule (codes "loops"))) trip_rule)
+run_line = with_search (with_rule (with_paths (codes "run")) trip_rule)
 
 -- the program's subcommands, of which one has to be given
 unfoldable pub program_line : App
@@ -80,20 +93,30 @@ program_line =
         arg_required_else_help = true;
       };
     } in
-    with_subcommand (with_subcommand (with_subcommand (with_subcommand bare schedule_line.top) run_line.top) bounds_line.top) plain_line.top
+    let kernels = with_subcommand (with_subcommand (with_subcommand (with_subcommand bare schedule_line.top) run_line.top) json_line.top) explain_line.top in
+    let graphs = with_subcommand (with_subcommand (with_subcommand kernels bounds_line.top) edges_line.top) dot_line.top in
+    with_subcommand graphs plain_line.top
 
 -- the path of the machine's file, where a command reads one
 abbrev pub machine_path : Command → Option Text
 machine_path (Bounds machine loops) = Some (string_bytes machine)
+machine_path (Edges machine loops) = Some (string_bytes machine)
+machine_path (Dot machine loops) = Some (string_bytes machine)
 machine_path (Plain loops trip) = None
 machine_path (Schedule machine loops settings) = Some (string_bytes machine)
+machine_path (Json machine loops settings) = Some (string_bytes machine)
+machine_path (Explain machine loops settings) = Some (string_bytes machine)
 machine_path (Run machine loops trip settings) = Some (string_bytes machine)
 
 -- the path of the loops' file
 abbrev pub loops_path : Command → Text
 loops_path (Bounds machine loops) = string_bytes loops
+loops_path (Edges machine loops) = string_bytes loops
+loops_path (Dot machine loops) = string_bytes loops
 loops_path (Plain loops trip) = string_bytes loops
 loops_path (Schedule machine loops settings) = string_bytes loops
+loops_path (Json machine loops settings) = string_bytes loops
+loops_path (Explain machine loops settings) = string_bytes loops
 loops_path (Run machine loops trip settings) = string_bytes loops
 
 -- a word is a number in decimal digits, with or without a plus before them
@@ -122,20 +145,36 @@ abbrev pub HasPaths : Text → Text → List Row → Type 0
 HasPaths machine loops given =
     (first_of (codes "machine") given ≡ Some machine) × (first_of (codes "loops") given ≡ Some loops)
 
--- a command has what a subcommand of its name was given
+-- the name of a command's subcommand
+abbrev pub name_of : Command → Text
+name_of (Bounds machine loops) = codes "bounds"
+name_of (Edges machine loops) = codes "edges"
+name_of (Dot machine loops) = codes "dot"
+name_of (Plain loops trip) = codes "plain"
+name_of (Schedule machine loops settings) = codes "schedule"
+name_of (Json machine loops settings) = codes "json"
+name_of (Explain machine loops settings) = codes "explain"
+name_of (Run machine loops trip settings) = codes "run"
+
+-- a command has what its subcommand was given
+abbrev pub HasGiven : Command → List Row → Type 0
+HasGiven (Bounds machine loops) given = HasPaths (string_bytes machine) (string_bytes loops) given
+HasGiven (Edges machine loops) given = HasPaths (string_bytes machine) (string_bytes loops) given
+HasGiven (Dot machine loops) given = HasPaths (string_bytes machine) (string_bytes loops) given
+HasGiven (Plain loops trip) given =
+    (first_of (codes "loops") given ≡ Some (string_bytes loops)) × SaysTrip (first_of (codes "trip") given) trip
+HasGiven (Schedule machine loops settings) given =
+    HasPaths (string_bytes machine) (string_bytes loops) given × SaySettings settings given
+HasGiven (Json machine loops settings) given =
+    HasPaths (string_bytes machine) (string_bytes loops) given × SaySettings settings given
+HasGiven (Explain machine loops settings) given =
+    HasPaths (string_bytes machine) (string_bytes loops) given × SaySettings settings given
+HasGiven (Run machine loops trip settings) given =
+    HasPaths (string_bytes machine) (string_bytes loops) given × SaysTrip (first_of (codes "trip") given) trip × SaySettings settings given
+
+-- a command is of a subcommand of this name, and has what that was given
 abbrev pub MeansNamed : Command → Text → List Row → Type 0
-MeansNamed (Bounds machine loops) name given = (name ≡ codes "bounds")
-    × HasPaths (string_bytes machine) (string_bytes loops) given
-MeansNamed (Plain loops trip) name given = (name ≡ codes "plain")
-    × (first_of (codes "loops") given ≡ Some (string_bytes loops))
-    × SaysTrip (first_of (codes "trip") given) trip
-MeansNamed (Schedule machine loops settings) name given = (name ≡ codes "schedule")
-    × HasPaths (string_bytes machine) (string_bytes loops) given
-    × SaySettings settings given
-MeansNamed (Run machine loops trip settings) name given = (name ≡ codes "run")
-    × HasPaths (string_bytes machine) (string_bytes loops) given
-    × SaysTrip (first_of (codes "trip") given) trip
-    × SaySettings settings given
+MeansNamed command name given = (name ≡ name_of command) × HasGiven command given
 
 abbrev pub Means : Command → Option (Text × List Row) → Type 0
 Means command None = ⊥

@@ -79,6 +79,40 @@ listing that tells why:
 The last line, loops A met B failed F, has the numbers of loops, of those with a kernel and of those
 without.";
 
+pub(crate) const JSON_ABOUT: &str =
+    "Find a kernel for each loop, and print the listing as a JSON document";
+
+pub(crate) const JSON_LONG_ABOUT: &str =
+    "Find a kernel for each loop, and print the listing as a JSON document.
+
+Finds the kernels that `modsched schedule` lists with the same options, for programs that read them. The
+document is one line, an object with the keys `version`, which is 1, `loops`, `met` and `failed`. A loop is
+an object with `name`, `operations`, `resources`, `recurrences` and `mii`, and then `kernel`, or else
+`failed_to` and `cause`. Constants, parameters and initial values of registers are strings, since they may
+be greater than 2^53.";
+
+pub(crate) const EXPLAIN_ABOUT: &str = "Tell why each loop has its interval";
+
+pub(crate) const EXPLAIN_LONG_ABOUT: &str = "Tell why each loop has its interval.
+
+Finds the intervals that `modsched schedule` lists with the same options, and prints for each loop, in the
+order of the file, its line of `modsched bounds`, and then
+
+  unit U uses N: NAME NAME*2 ..           for each unit that is used: how often, and by which operations,
+                                          with the alternatives that the bound by resources counts;
+                                          `full` behind N where no unit is used more often
+  circuit delay D distance N needs C      a circuit of dependences that asks for the bound by recurrences:
+                                          D cycles over N iterations take intervals of at least C cycles.
+                                          Its edges follow, as `modsched edges` prints them
+  circuit none                            no circuit asks for it
+  try I CAUSE                             for each interval that was tried and gave no kernel, why it did not
+  try I kernel stages S                   the interval of the kernel
+  held by WORD                            why it is no shorter: `units`, `recurrences` or `both`, by the bounds,
+                                          or the cause of the interval before it
+
+The causes are those of `modsched schedule`. The last line is that of the listing. Workers and cut change
+nothing here.";
+
 pub(crate) const BOUNDS_ABOUT: &str = "Print lower bounds on each loop's initiation interval";
 
 pub(crate) const BOUNDS_LONG_ABOUT: &str = "Print lower bounds on each loop's initiation interval.
@@ -95,6 +129,35 @@ recurrences: the least interval that the cycles of dependences allow, 1 where th
 greater of R and C. All three are in cycles.
 
 The last line, loops A, has the number of loops.";
+
+pub(crate) const EDGES_ABOUT: &str = "Print the dependences of each loop";
+
+pub(crate) const EDGES_LONG_ABOUT: &str = "Print the dependences of each loop.
+
+Prints for each loop, in the order of the file, its line of `modsched bounds`, and then
+
+  op K NAME OPCODE latency L height H
+  edge P NAME Q NAME KIND delay D distance N
+
+An `op` line stands for each operation, in order: its number K from 0, the name of its value, or for a
+store the cell, its opcode, after how many cycles its result lands, and its height: the length of the
+longest path of dependences from it at the interval M, in cycles, by which the scheduler takes operations.
+
+An `edge` line stands for each dependence of an operation Q on an operation P, in order: at an interval I,
+Q of an iteration is issued at least D - I * N cycles after P of the same iteration. KIND is `value`, Q uses
+the value of P, of N iterations ago; `memory`, Q loads a cell that P stores to; `anti`, Q stores to a cell
+that P loads; or `output`, both store to one cell.
+
+The last line, loops A, has the number of loops.";
+
+pub(crate) const DOT_ABOUT: &str = "Draw the dependences of each loop, as graphs for Graphviz";
+
+pub(crate) const DOT_LONG_ABOUT: &str = "Draw the dependences of each loop, as graphs for Graphviz.
+
+Prints a directed graph for each loop, in the order of the file, in the language of Graphviz: a node for
+each operation, and an edge for each dependence with its kind, its delay in cycles and, behind an `@`, its
+distance in iterations where that is not 0. Where a circuit of dependences asks for the bound by
+recurrences, one such circuit is bold. `modsched dot MACHINE LOOPS | dot -Tsvg -O` makes a picture of each.";
 
 pub(crate) const PLAIN_ABOUT: &str =
     "Run each loop, one iteration after another, and tell what it changed";

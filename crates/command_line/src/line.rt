@@ -27,6 +27,20 @@ pub enum Command {
         /// The path of the loops' file.
         loops: String,
     },
+    /// Tell the dependences of each loop.
+    Edges {
+        /// The path of the machine's file.
+        machine: String,
+        /// The path of the loops' file.
+        loops: String,
+    },
+    /// Draw the dependences of each loop, as graphs for Graphviz.
+    Dot {
+        /// The path of the machine's file.
+        machine: String,
+        /// The path of the loops' file.
+        loops: String,
+    },
     /// Run each loop plainly, and tell what it changed.
     Plain {
         /// The path of the loops' file.
@@ -36,6 +50,24 @@ pub enum Command {
     },
     /// Find a kernel for each loop, and print the listing.
     Schedule {
+        /// The path of the machine's file.
+        machine: String,
+        /// The path of the loops' file.
+        loops: String,
+        /// How kernels are searched for.
+        settings: Settings,
+    },
+    /// Find a kernel for each loop, and print the listing as a JSON document.
+    Json {
+        /// The path of the machine's file.
+        machine: String,
+        /// The path of the loops' file.
+        loops: String,
+        /// How kernels are searched for.
+        settings: Settings,
+    },
+    /// Tell why each loop has its interval.
+    Explain {
         /// The path of the machine's file.
         machine: String,
         /// The path of the loops' file.
@@ -63,7 +95,11 @@ impl Command {
     {
         match self {
             Command::Bounds { machine, .. }
+            | Command::Edges { machine, .. }
+            | Command::Dot { machine, .. }
             | Command::Schedule { machine, .. }
+            | Command::Json { machine, .. }
+            | Command::Explain { machine, .. }
             | Command::Run { machine, .. } => Some(machine.as_str()),
             Command::Plain { .. } => None,
         }
@@ -75,8 +111,12 @@ impl Command {
     {
         match self {
             Command::Bounds { loops, .. }
+            | Command::Edges { loops, .. }
+            | Command::Dot { loops, .. }
             | Command::Plain { loops, .. }
             | Command::Schedule { loops, .. }
+            | Command::Json { loops, .. }
+            | Command::Explain { loops, .. }
             | Command::Run { loops, .. } => loops.as_str(),
         }
     }

@@ -9,7 +9,7 @@ use Rattle.machine.specs.Machines.{MachineData, table_of}
 use Rattle.iterations.specs.declared.language.statement.Statement.{Statement}
 use Rattle.iterations.specs.Loops.{LoopData}
 use Rattle.graph.specs.Units.{IsBest, AreBest, chosen_rows, opcodes_of, operations_of, alternatives_in}
-use Rattle.graph.specs.Uses.{Tallies, TakesBest, Progress}
+use Rattle.graph.specs.Uses.{Tallies, TakesBest, CountsRows}
 
 AreBest-push : (taken : List Row) (operations : List (List (List Row))) (choices : List ℕ) (alternatives : List (List Row)) (choice : ℕ)
     → AreBest taken operations choices → IsBest (taken ++ chosen_rows operations choices) alternatives choice
@@ -34,10 +34,10 @@ chosen_rows-push taken [] (k ∷ choices) alternatives choice h = absurd h
 chosen_rows-push taken (first ∷ operations) [] alternatives choice h = absurd h
 
 -- one operation more, by its best alternative
-pub Progress-push : (operations : List (List (List Row))) (alternatives : List (List Row)) (counts others : List ℕ) (greatest most : ℕ)
-    → Progress operations counts greatest → ((taken : List Row) → Tallies taken counts greatest → TakesBest taken alternatives others most)
-    → Progress (operations ++ alternatives ∷ []) others most
-Progress-push operations alternatives counts others greatest most p takes =
+pub CountsRows-push : (operations : List (List (List Row))) (alternatives : List (List Row)) (counts others : List ℕ) (greatest most : ℕ)
+    → CountsRows operations counts greatest → ((taken : List Row) → Tallies taken counts greatest → TakesBest taken alternatives others most)
+    → CountsRows (operations ++ alternatives ∷ []) others most
+CountsRows-push operations alternatives counts others greatest most p takes =
     let next : TakesBest (chosen_rows operations p.choices) alternatives others most = takes (chosen_rows operations p.choices) p.tallies in
     record {
       choices = p.choices ++ next.choice ∷ [];
@@ -46,32 +46,32 @@ Progress-push operations alternatives counts others greatest most p takes =
     }
 
 -- a loop comes to an operation that has so many alternatives
-pub Progress-taken : (done operations : List (List (List Row))) (i freedom : ℕ) (alternatives : List (List Row)) (counts others : List ℕ) (greatest most : ℕ)
+pub CountsRows-taken : (done operations : List (List (List Row))) (i freedom : ℕ) (alternatives : List (List Row)) (counts others : List ℕ) (greatest most : ℕ)
     → i < length operations → alternatives ≡ get_or operations i [] → length alternatives ≡ freedom
     → ((taken : List Row) → Tallies taken counts greatest → TakesBest taken alternatives others most)
-    → Progress (done ++ filter (λ a. length a == freedom) (take i operations)) counts greatest
-    → Progress (done ++ filter (λ a. length a == freedom) (take (i + 1) operations)) others most
-Progress-taken done operations i freedom alternatives counts others greatest most within is free takes p =
+    → CountsRows (done ++ filter (λ a. length a == freedom) (take i operations)) counts greatest
+    → CountsRows (done ++ filter (λ a. length a == freedom) (take (i + 1) operations)) others most
+CountsRows-taken done operations i freedom alternatives counts others greatest most within is free takes p =
     let test : List (List Row) → Bool = λ a. length a == freedom in
     let yes : test (get_or operations i []) ≡ true = eq-eqb (length (get_or operations i [])) freedom (ap length (sym is) ∙ free) in
     let more : filter test (take (i + 1) operations) ≡ filter test (take i operations) ++ get_or operations i [] ∷ []
     = filter_more test operations i [] within ∙ ap (λ b. filter test (take i operations) ++ cond b (get_or operations i [] ∷ []) []) yes in
     let all : (done ++ filter test (take i operations)) ++ alternatives ∷ [] ≡ done ++ filter test (take (i + 1) operations)
     = append_assoc done (filter test (take i operations)) (alternatives ∷ []) ∙ ap (λ l. done ++ l) (ap (λ a. filter test (take i operations) ++ a ∷ []) is ∙ sym more) in
-    subst (λ l. Progress l others most) all (Progress-push (done ++ filter test (take i operations)) alternatives counts others greatest most p takes)
+    subst (λ l. CountsRows l others most) all (CountsRows-push (done ++ filter test (take i operations)) alternatives counts others greatest most p takes)
 
 -- a loop comes to another operation
-pub Progress-passed : (done operations : List (List (List Row))) (i freedom : ℕ) (counts : List ℕ) (greatest : ℕ)
+pub CountsRows-passed : (done operations : List (List (List Row))) (i freedom : ℕ) (counts : List ℕ) (greatest : ℕ)
     → i < length operations → length (get_or operations i []) ≢ freedom
-    → Progress (done ++ filter (λ a. length a == freedom) (take i operations)) counts greatest
-    → Progress (done ++ filter (λ a. length a == freedom) (take (i + 1) operations)) counts greatest
-Progress-passed done operations i freedom counts greatest within other p =
+    → CountsRows (done ++ filter (λ a. length a == freedom) (take i operations)) counts greatest
+    → CountsRows (done ++ filter (λ a. length a == freedom) (take (i + 1) operations)) counts greatest
+CountsRows-passed done operations i freedom counts greatest within other p =
     let test : List (List Row) → Bool = λ a. length a == freedom in
     let no : test (get_or operations i []) ≡ false = ne_eqb (length (get_or operations i [])) freedom other in
     let more : filter test (take (i + 1) operations) ≡ filter test (take i operations)
     = filter_more test operations i [] within ∙ ap (λ b. filter test (take i operations) ++ cond b (get_or operations i [] ∷ []) []) no
     ∙ append-nil (filter test (take i operations)) in
-    subst (λ l. Progress (done ++ l) counts greatest) (sym more) p
+    subst (λ l. CountsRows (done ++ l) counts greatest) (sym more) p
 
 -- the operation of a statement of a loop
 pub operation_at : (machine : MachineData) (loop : LoopData) (i : ℕ) (s : Statement) → i < length loop.statements → s ≡ get_or loop.statements i s

@@ -11,7 +11,7 @@ use Rattle.iterations.specs.declared.language.statement.Place.{Place}
 use Rattle.iterations.specs.declared.language.statement.Operand.{Operand}
 use Rattle.iterations.specs.declared.language.statement.Operand.TheVariants.{Value}
 use Rattle.graph.specs.Dependences.{EdgeData}
-use Rattle.graph.specs.Subscripts.{IsDelay, IsMemoryEdge, IsUse, IsMeeting, IsFound, Gains, HasUses, HasMeetings, HasAll}
+use Rattle.graph.specs.Subscripts.{IsDelay, IsMemoryEdge, IsUse, IsMeeting, IsFound, GainsEdges, HasUses, HasMeetings, HasAllEdges}
 
 pub memory_edge-sound : (latencies : List ℕ) (p : ℕ) (first : Statement) (q : ℕ) (second : Statement) (place later : Place) (d : ℕ) (delay : ℤ)
     → first.place ≡ Some place → second.place ≡ Some later → place.array ≡ later.array → place.offset ≡ (later.offset +ℤ pos d) → (d ≡ 0 → p < q)
@@ -54,24 +54,24 @@ memory_edge-complete latencies p first q second place later d delay a b far only
     let x : delay ≡ e.delay = cc in
     ap Some (same_fields p q d delay e (sym h.from) (sym h.to) v x)
 
-pub Gains-none : (statements : List Statement) (latencies : List ℕ) (list : List EdgeData) → Gains statements latencies list list
-Gains-none statements latencies list = record { more = []; is = sym (append-nil list); found = All-nil (IsFound statements latencies) }
+pub GainsEdges-none : (statements : List Statement) (latencies : List ℕ) (list : List EdgeData) → GainsEdges statements latencies list list
+GainsEdges-none statements latencies list = record { more = []; is = sym (append-nil list); found = All-nil (IsFound statements latencies) }
 
-pub Gains-push : (statements : List Statement) (latencies : List ℕ) (old new : List EdgeData) (e : EdgeData) → Gains statements latencies old new
-    → IsFound statements latencies e → Gains statements latencies old (new ++ e ∷ [])
-Gains-push statements latencies old new e g f = record {
+pub GainsEdges-push : (statements : List Statement) (latencies : List ℕ) (old new : List EdgeData) (e : EdgeData) → GainsEdges statements latencies old new
+    → IsFound statements latencies e → GainsEdges statements latencies old (new ++ e ∷ [])
+GainsEdges-push statements latencies old new e g f = record {
   more = g.more ++ e ∷ [];
   is = ap (λ l. l ++ e ∷ []) g.is ∙ append_assoc old g.more (e ∷ []);
   found = All-push (IsFound statements latencies) g.more e g.found f;
 }
 
-pub Gains-keeps : (statements : List Statement) (latencies : List ℕ) (old new : List EdgeData) (e : EdgeData) → Gains statements latencies old new
+pub GainsEdges-keeps : (statements : List Statement) (latencies : List ℕ) (old new : List EdgeData) (e : EdgeData) → GainsEdges statements latencies old new
     → Contains old e → Contains new e
-Gains-keeps statements latencies old new e g h = subst (λ l. Contains l e) (sym g.is) (Contains-append_left old g.more e h)
+GainsEdges-keeps statements latencies old new e g h = subst (λ l. Contains l e) (sym g.is) (Contains-append_left old g.more e h)
 
-pub Gains-found : (statements : List Statement) (latencies : List ℕ) (old new : List EdgeData) → Gains statements latencies old new
+pub GainsEdges-found : (statements : List Statement) (latencies : List ℕ) (old new : List EdgeData) → GainsEdges statements latencies old new
     → All (IsFound statements latencies) old → All (IsFound statements latencies) new
-Gains-found statements latencies old new g h =
+GainsEdges-found statements latencies old new g h =
     subst (All (IsFound statements latencies)) (sym g.is) (All-append (IsFound statements latencies) old g.more h g.found)
 
 -- one operand more, which is a value whose edge was pushed
@@ -104,15 +104,15 @@ HasUses-passed latencies to operands i o list within is other h = λ from distan
 -- the step of a loop over an operation's operands, at a value
 pub uses-pushed : (statements : List Statement) (latencies : List ℕ) (to : ℕ) (reader : Statement) (operands : List Operand) (i p d : ℕ) (delay : ℤ) (old list : List EdgeData)
     → slice_get statements to ≡ Some reader → operands ≡ reader.operands → i < length operands → (o : Operand) → get_or operands i o ≡ Value p d
-    → delay ≡ pos (slice_index latencies p) → Gains statements latencies old list × HasUses latencies to (take i operands) list
-    → Gains statements latencies old (list ++ record { from = p; to = to; distance = d; delay = delay } ∷ [])
+    → delay ≡ pos (slice_index latencies p) → GainsEdges statements latencies old list × HasUses latencies to (take i operands) list
+    → GainsEdges statements latencies old (list ++ record { from = p; to = to; distance = d; delay = delay } ∷ [])
     × HasUses latencies to (take (i + 1) operands) (list ++ record { from = p; to = to; distance = d; delay = delay } ∷ [])
 uses-pushed statements latencies to reader operands i p d delay old list at same within o value lat h =
     let e : EdgeData = record { from = p; to = to; distance = d; delay = delay } in
     let reads : Contains reader.operands (Value p d)
     = subst (λ l. Contains l (Value p d)) same (subst (Contains operands) value (Contains-get_or operands i o within)) in
     let used : IsUse statements latencies e = record { reader = reader; is_reader = at; reads = reads; delay = lat } in (
-      Gains-push statements latencies old list e h.0 (inl used),
+      GainsEdges-push statements latencies old list e h.0 (inl used),
       HasUses-pushed latencies to operands i p d (get_or operands i o) list e within (get_or_default operands i o (get_or operands i o) within) value
           (ap (λ z. let edge : EdgeData = record { from = p; to = to; distance = d; delay = z } in edge) lat) h.1,
     )
@@ -121,8 +121,8 @@ uses-pushed statements latencies to reader operands i p d delay old list at same
 pub meetings-pushed : (statements : List Statement) (latencies : List ℕ) (to i : ℕ) (first second : Statement) (e : EdgeData) (old list : List EdgeData)
     → slice_get statements i ≡ Some first → slice_get statements to ≡ Some second → IsMemoryEdge latencies i first to second e
     → ((other : EdgeData) → IsMemoryEdge latencies i first to second other → Some e ≡ Some other)
-    → Gains statements latencies old list × HasMeetings statements latencies to i list
-    → Gains statements latencies old (list ++ e ∷ []) × HasMeetings statements latencies to (i + 1) (list ++ e ∷ [])
+    → GainsEdges statements latencies old list × HasMeetings statements latencies to i list
+    → GainsEdges statements latencies old (list ++ e ∷ []) × HasMeetings statements latencies to (i + 1) (list ++ e ∷ [])
 meetings-pushed statements latencies to i first second e old list at there edge only h =
     let f : i ≡ e.from = sym edge.from in
     let t : to ≡ e.to = sym edge.to in
@@ -131,7 +131,7 @@ meetings-pushed statements latencies to i first second e old list at there edge 
     let g : IsMemoryEdge latencies e.from first e.to second e
     = subst (λ k. IsMemoryEdge latencies k first e.to second e) f (subst (λ k. IsMemoryEdge latencies i first k second e) t edge) in
     let m : IsMeeting statements latencies e = record { first = first; is_first = a; second = second; is_second = b; edge = g } in (
-      Gains-push statements latencies old list e h.0 (inr m),
+      GainsEdges-push statements latencies old list e h.0 (inr m),
       λ other to_is below meets. elim (cases_lt other.from i) [
         | inl before ↦ Contains-append_left list (e ∷ []) other (h.1 other to_is before meets)
         | inr after ↦ (let i_is : other.from ≡ i = omega arith in
@@ -152,8 +152,8 @@ meetings-pushed statements latencies to i first second e old list at there edge 
 pub meetings-passed : (statements : List Statement) (latencies : List ℕ) (to i : ℕ) (first second : Statement) (old list : List EdgeData)
     → slice_get statements i ≡ Some first → slice_get statements to ≡ Some second
     → ((other : EdgeData) → IsMemoryEdge latencies i first to second other → ⊥)
-    → Gains statements latencies old list × HasMeetings statements latencies to i list
-    → Gains statements latencies old list × HasMeetings statements latencies to (i + 1) list
+    → GainsEdges statements latencies old list × HasMeetings statements latencies to i list
+    → GainsEdges statements latencies old list × HasMeetings statements latencies to (i + 1) list
 meetings-passed statements latencies to i first second old list at there none h = (
   h.0,
   λ other to_is below meets. elim (cases_lt other.from i) [
@@ -181,10 +181,10 @@ meetings-none statements latencies to n second list there none = λ e to_is belo
 
 -- the step of a loop that takes each operation in turn
 pub all-more : (statements : List Statement) (latencies : List ℕ) (to : ℕ) (old mid list : List EdgeData) (reader : Statement)
-    → slice_get statements to ≡ Some reader → HasAll statements latencies to old → Gains statements latencies old mid → HasUses latencies to reader.operands mid
-    → Gains statements latencies mid list → HasMeetings statements latencies to (length statements) list → HasAll statements latencies (to + 1) list
+    → slice_get statements to ≡ Some reader → HasAllEdges statements latencies to old → GainsEdges statements latencies old mid → HasUses latencies to reader.operands mid
+    → GainsEdges statements latencies mid list → HasMeetings statements latencies to (length statements) list → HasAllEdges statements latencies (to + 1) list
 all-more statements latencies to old mid list reader at h g uses k meetings = λ e below found. elim (cases_lt e.to to) [
-  | inl before ↦ Gains-keeps statements latencies mid list e k (Gains-keeps statements latencies old mid e g (h e before found))
+  | inl before ↦ GainsEdges-keeps statements latencies mid list e k (GainsEdges-keeps statements latencies old mid e g (h e before found))
   | inr after ↦ (let is : e.to ≡ to = omega arith in elim found [
     | inl u ↦ (let q : Some u.reader ≡ Some reader = sym u.is_reader ∙ ap (slice_get statements) is ∙ at in
         let r : u.reader ≡ reader = cc in
@@ -193,7 +193,7 @@ all-more statements latencies to old mid list reader at h g uses k meetings = λ
         let same : record { from = e.from; to = to; distance = e.distance; delay = pos (slice_index latencies e.from) } ≡ e
         = ap (λ x. let edge : EdgeData = record { from = e.from; to = x; distance = e.distance; delay = pos (slice_index latencies e.from) } in edge) (sym is)
         ∙ ap (λ x. let edge : EdgeData = record { from = e.from; to = e.to; distance = e.distance; delay = x } in edge) (sym u.delay) in
-        Gains-keeps statements latencies mid list e k (subst (Contains mid) same c))
+        GainsEdges-keeps statements latencies mid list e k (subst (Contains mid) same c))
     | inr m ↦ meetings e is (slice_get_within statements e.from m.first m.is_first) m
   ])
 ]

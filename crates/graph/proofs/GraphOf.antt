@@ -68,6 +68,11 @@ good-from_found loop latencies l lat is e (inr m) =
 all_from_contains : (P : EdgeData → Type 0) (list left : List EdgeData) → All P list → ((e : EdgeData) → Contains left e → Contains list e) → All P left
 all_from_contains P list left h less = λ k d within. All-contains P list (get_or left k d) h (less (get_or left k d) (Contains-get_or left k d within))
 
+-- each edge that is found is one from an operation of the loop
+pub sources-below : (loop : LoopData) (latencies : List ℕ) (list : List EdgeData) → IsLoop loop → AreLatencies latencies → length latencies ≡ length loop.statements
+    → All (IsFound loop.statements latencies) list → All (λ (e : EdgeData). e.from < length latencies) list
+sources-below loop latencies list l lat is found = λ k d h. (good-from_found loop latencies l lat is (get_or list k d) (found k d h)).from
+
 pub graph-well_formed : (loop : LoopData) (latencies : List ℕ) (list left : List EdgeData) → IsLoop loop → AreLatencies latencies → length latencies ≡ length loop.statements
     → All (IsFound loop.statements latencies) list → AllPairs Precedes left → ((e : EdgeData) → Contains left e → Contains list e)
     → IsGraph (record { edges = left; latencies = latencies })

@@ -7,7 +7,7 @@ use Rattle.machine.specs.declared.opcode.Opcode.{Opcode}
 use Rattle.machine.specs.Machines.{MachineData, OperationData, table_of}
 use Rattle.iterations.specs.declared.language.statement.Statement.{Statement}
 use Rattle.iterations.specs.Loops.{LoopData}
-use Rattle.graph.specs.Answers.{Answers}
+use Rattle.graph.specs.TablesAnswer.{TablesAnswer}
 use Rattle.graph.specs.Units.{opcodes_of, first_without_table}
 use Rattle.graph.specs.Dependences.{latencies_of, latency_in}
 
@@ -50,6 +50,6 @@ pub length-latencies : (machine : MachineData) (loop : LoopData) → length (lat
 length-latencies machine loop = length-map loop.statements (λ s. latency_in (table_of machine s.opcode))
 
 -- what an answer tells
-pub answered : {A : Type 0} (missing : Option Opcode) (P : A → Type 0) (v : A) → Answers missing P (Ok v) → (missing ≡ None) × P v
+pub answered : {A : Type 0} (missing : Option Opcode) (P : A → Type 0) (v : A) → TablesAnswer missing P (Ok v) → (missing ≡ None) × P v
 answered (Some opcode) P v h = cc
 answered None P v h = (refl, h)

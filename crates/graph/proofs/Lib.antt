@@ -3,6 +3,7 @@ pub mod Chosen
 pub mod Circuits
 pub mod Found
 pub mod GraphOf
+pub mod Grouping
 pub mod Instances
 pub mod Latencies
 pub mod Order

@@ -7,7 +7,7 @@ use Rattle.iterations.specs.declared.language.statement.Statement.{Statement}
 use Rattle.iterations.specs.declared.language.statement.Place.{Place}
 use Rattle.graph.specs.Dependences.{EdgeData}
 use Rattle.graph.specs.Subscripts.{IsMeeting, HasMeetings}
-use Rattle.graph.specs.SameArrays.{Skips, IsLink, IsNext, AreLinked}
+use Rattle.graph.specs.SameArrays.{Skips, IsLink, IsNextTouch, AreLinked}
 
 -- one statement more that does not touch the array
 skips-less : (statements : List Statement) (array i op j : ℕ) → i + 1 ≡ op
@@ -74,11 +74,11 @@ linked-more statements i op first next s place at is has few long within linked 
             (λ t other got holds touches. far (sym touches ∙ ap (λ (x : Place). x.array) (same_place t other got holds))) (linked.first_of array below))
       ];
       next_of = λ k from. elim (cases_eq k i) [
-        | inl here ↦ subst (λ n. IsNext statements n (slice_index (set next i (slice_index first place.array)) n)) (sym here)
+        | inl here ↦ subst (λ n. IsNextTouch statements n (slice_index (set next i (slice_index first place.array)) n)) (sym here)
             (λ t other got holds. subst (IsLink statements other.array (i + 1)) (sym (get_or-set_same next i (slice_index first place.array) 0 within))
             (subst (λ n. IsLink statements other.array n (slice_index first place.array)) (sym at)
             (subst (λ (x : Place). IsLink statements x.array op (slice_index first place.array)) (sym (same_place t other got holds)) (linked.first_of place.array few))))
-        | inr later ↦ subst (IsNext statements k) (sym (get_or-set_other next i k (slice_index first place.array) 0 later)) (linked.next_of k (omega arith))
+        | inr later ↦ subst (IsNextTouch statements k) (sym (get_or-set_other next i k (slice_index first place.array) 0 later)) (linked.next_of k (omega arith))
       ];
     }
 

@@ -5,7 +5,7 @@ use Rattle.std.proofs.lemmas.List.Sums.{sum_by_push, sum_by-append}
 use Rattle.std.proofs.lemmas.Bool.{eq-eqb, ne_eqb, cases_eq, cases_lt}
 use Rattle.machine.specs.declared.alternative.Row.{Row}
 use Rattle.graph.specs.Units.{use_of, greatest_of, greatest_use}
-use Rattle.graph.specs.Uses.{AtMost, Tallies, Progress}
+use Rattle.graph.specs.Uses.{AtMost, Tallies, CountsRows}
 
 greatest_of-push : (ns : List ℕ) (n : ℕ) → greatest_of (ns ++ n ∷ []) ≡ max (greatest_of ns) n
 greatest_of-push [] n = omega arith
@@ -114,8 +114,8 @@ Tallies-none = record {
   most = refl;
 }
 
-pub Progress-none : Progress [] (replicate 64 0) 0
-Progress-none = record {
+pub CountsRows-none : CountsRows [] (replicate 64 0) 0
+CountsRows-none = record {
   choices = [];
   best = tt;
   tallies = Tallies-none;

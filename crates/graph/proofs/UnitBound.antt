@@ -13,7 +13,7 @@ use Rattle.machine.specs.Machines.{MachineData, OperationData, IsMachine, table_
 use Rattle.iterations.specs.Loops.{LoopData}
 use Rattle.graph.specs.Units.{use_of, greatest_of, greatest_use, AreBest, chosen_rows, by_freedom, IsUnitBound, operations_of, opcodes_of, alternatives_in, first_without_table}
 use Rattle.graph.specs.Schedules.{IsPlan, KeepsUnits, issued_rows}
-use Rattle.graph.specs.Uses.{Progress}
+use Rattle.graph.specs.Uses.{CountsRows}
 use Rattle.graph.proofs.Passes.{by_freedom_single, length-by_freedom, passes, passes_all, passes_keep}
 use Rattle.graph.proofs.Pigeons.{Apart, use-le-interval}
 
@@ -150,8 +150,8 @@ bound-range operations bound b h some =
     (omega arith, omega arith)
 
 pub IsUnitBound-from : (operations : List (List (List Row))) (n : ℕ) (counts : List ℕ) (greatest bound : ℕ) → n ≡ 8
-    → Progress (passes operations n) counts greatest → bound ≡ greatest → IsUnitBound operations bound
+    → CountsRows (passes operations n) counts greatest → bound ≡ greatest → IsUnitBound operations bound
 IsUnitBound-from operations n counts greatest bound eight p is =
     let order : passes operations n ≡ by_freedom operations = ap (passes operations) eight ∙ passes_all operations in
-    let q : Progress (by_freedom operations) counts greatest = subst (λ l. Progress l counts greatest) order p in
+    let q : CountsRows (by_freedom operations) counts greatest = subst (λ l. CountsRows l counts greatest) order p in
     record { choices = q.choices; best = q.best; is_use = is ∙ q.tallies.most }

@@ -4,6 +4,6 @@ use Rattle.machine.specs.Opcodes.{word_of}
 use Rattle.graph.specs.declared.fault.GraphFault.{GraphFault}
 use Rattle.graph.specs.declared.fault.GraphFault.TheVariants.{NoTable, Memory}
 
-abbrev pub fault_text : GraphFault → List ℕ
-fault_text (NoTable opcode) = codes "no table for " ++ word_of opcode
-fault_text Memory = codes "out of memory"
+abbrev pub graph_fault_text : GraphFault → List ℕ
+graph_fault_text (NoTable opcode) = codes "no table for " ++ word_of opcode
+graph_fault_text Memory = codes "out of memory"

@@ -1,6 +1,6 @@
 pub use Rattle.iterations.specs.Loops
 pub use Rattle.machine.specs.Machines
-pub mod Answers
+pub mod TablesAnswer
 pub mod Dependences
 pub mod Faults
 pub mod Graphs

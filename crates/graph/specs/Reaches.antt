@@ -73,7 +73,7 @@ AreVias graph vias = (p : ℕ) (d : Option EdgeData) → p < length vias → IfS
 abbrev pub IsAbove : List EdgeData → ℕ → ℕ → Type 0
 IsAbove edges ii longer = (ii < longer) × Exceeds edges (longer - 1)
 
--- what relaxation at an interval comes to
-abbrev pub Relaxes : GraphData → ℕ → Relaxed → Type 0
-Relaxes graph ii (Heights numbers) = AreHeights graph ii numbers × FitsCircuits graph.edges ii
-Relaxes graph ii (Above longer) = IsAbove graph.edges ii longer
+-- what relaxation at an interval comes to, with the numbers that it leaves
+abbrev pub Relaxes : GraphData → ℕ → List ℕ → Relaxed → Type 0
+Relaxes graph ii numbers Heights = AreHeights graph ii numbers × FitsCircuits graph.edges ii
+Relaxes graph ii numbers (Above longer) = IsAbove graph.edges ii longer

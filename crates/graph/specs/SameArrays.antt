@@ -15,10 +15,10 @@ pub record IsLink (statements : List Statement) (array from link : ℕ) : Type 0
   pub touches : (s : Statement) → slice_get statements link ≡ Some s → (place : Place) × (s.place ≡ Some place) × (place.array ≡ array)
 
 -- where a statement touches an array, the next one that touches it
-abbrev pub IsNext : List Statement → ℕ → ℕ → Type 0
-IsNext statements k next = (s : Statement) (place : Place) → slice_get statements k ≡ Some s → s.place ≡ Some place → IsLink statements place.array (k + 1) next
+abbrev pub IsNextTouch : List Statement → ℕ → ℕ → Type 0
+IsNextTouch statements k next = (s : Statement) (place : Place) → slice_get statements k ≡ Some s → s.place ≡ Some place → IsLink statements place.array (k + 1) next
 
 -- from a statement on, the first one that touches each array and, behind each that touches one, the next
 pub record AreLinked (statements : List Statement) (from : ℕ) (first next : List ℕ) : Type 0 where
   pub first_of : (array : ℕ) → array < 256 → IsLink statements array from (slice_index first array)
-  pub next_of : (k : ℕ) → from ≤ k → IsNext statements k (slice_index next k)
+  pub next_of : (k : ℕ) → from ≤ k → IsNextTouch statements k (slice_index next k)

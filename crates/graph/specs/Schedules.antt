@@ -28,7 +28,7 @@ abbrev pub KeepsEdge : ℕ → List ℕ → EdgeData → Type 0
 KeepsEdge ii times edge = (pos (slice_index times edge.from) +ℤ edge.delay) ≤ℤ pos (slice_index times edge.to + ii * edge.distance)
 
 -- times and alternatives that keep each edge and each unit at the interval
-pub record IsLawful (ii : ℕ) (operations : List (List (List Row))) (edges : List EdgeData) (times choices : List ℕ) : Type 0 where
+pub record IsLawfulSchedule (ii : ℕ) (operations : List (List (List Row))) (edges : List EdgeData) (times choices : List ℕ) : Type 0 where
   pub plan : IsPlan operations times choices
   pub keeps_units : KeepsUnits ii operations times choices
   pub keeps_edges : All (KeepsEdge ii times) edges

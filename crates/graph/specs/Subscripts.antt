@@ -58,7 +58,7 @@ abbrev pub IsFound : List Statement → List ℕ → EdgeData → Type 0
 IsFound statements latencies e = IsUse statements latencies e ⊎ IsMeeting statements latencies e
 
 -- the list has grown by dependences
-pub record Gains (statements : List Statement) (latencies : List ℕ) (old new : List EdgeData) : Type 0 where
+pub record GainsEdges (statements : List Statement) (latencies : List ℕ) (old new : List EdgeData) : Type 0 where
   pub more : List EdgeData
   pub is : new ≡ old ++ more
   pub found : All (IsFound statements latencies) more
@@ -73,5 +73,5 @@ abbrev pub HasMeetings : List Statement → List ℕ → ℕ → ℕ → List Ed
 HasMeetings statements latencies to n list = (e : EdgeData) → e.to ≡ to → e.from < n → IsMeeting statements latencies e → Contains list e
 
 -- the list has all edges to the first so many operations
-abbrev pub HasAll : List Statement → List ℕ → ℕ → List EdgeData → Type 0
-HasAll statements latencies n list = (e : EdgeData) → e.to < n → IsFound statements latencies e → Contains list e
+abbrev pub HasAllEdges : List Statement → List ℕ → ℕ → List EdgeData → Type 0
+HasAllEdges statements latencies n list = (e : EdgeData) → e.to < n → IsFound statements latencies e → Contains list e

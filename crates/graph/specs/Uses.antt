@@ -22,7 +22,7 @@ pub record TakesBest (taken : List Row) (alternatives : List (List Row)) (counts
   pub tallies : Tallies (taken ++ slice_index_or alternatives choice []) counts greatest
 
 -- the counters are those of the rows of these operations, each by its best alternative
-pub record Progress (operations : List (List (List Row))) (counts : List ℕ) (greatest : ℕ) : Type 0 where
+pub record CountsRows (operations : List (List (List Row))) (counts : List ℕ) (greatest : ℕ) : Type 0 where
   pub choices : List ℕ
   pub best : AreBest [] operations choices
   pub tallies : Tallies (chosen_rows operations choices) counts greatest

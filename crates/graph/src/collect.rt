@@ -4,7 +4,7 @@ ghost use Rattle.iterations.specs.declared.language.statement.Statement.{Stateme
 ghost use Rattle.std.specs.Prelude.{slice_get, pos, ◌+ℤ◌, ◌≡◌, ℕ, ℤ, ◌+◌, ◌<◌, ◌≤◌, List, ◌++◌, length, slice_index, Some, IfSome, IfOk, OnErr};
 ghost use Rattle.std.specs.List.{All, Contains};
 ghost use Rattle.graph.specs.Dependences.{EdgeData};
-ghost use Rattle.graph.specs.Subscripts.{IsDelay, IsMemoryEdge, ReadsBelow, AreLatencies, IsFound, Gains, HasUses, HasMeetings, HasAll};
+ghost use Rattle.graph.specs.Subscripts.{IsDelay, IsMemoryEdge, ReadsBelow, AreLatencies, IsFound, GainsEdges, HasUses, HasMeetings, HasAllEdges};
 ghost use Rattle.graph.specs.SameArrays.{AreLinked};
 
 use crate::edge::Edge;
@@ -87,7 +87,7 @@ fn push_uses(
     requires to_in { to < length statements.now }
     requires reads { All (λ (s : Statement). All (ReadsBelow (length latencies.now)) s.operands) statements.now }
     requires latencies { AreLatencies latencies.now }
-    ensures gains { IfOk result (λ _. Gains statements.now latencies.now list.old.items list.new.items) }
+    ensures gains { IfOk result (λ _. GainsEdges statements.now latencies.now list.old.items list.new.items) }
     ensures complete { IfOk result (λ _. (reader : Statement) → slice_get statements.now to ≡ Some reader → HasUses latencies.now to reader.operands list.new.items) }
 {
     for operand in statements[to].operands.as_slice() {
@@ -146,7 +146,7 @@ fn push_meetings(
     requires latencies { AreLatencies latencies.now }
     requires same { length latencies.now ≡ length statements.now }
     requires linked { AreLinked statements.now 0 same.now.first same.now.next }
-    ensures gains { IfOk result (λ _. Gains statements.now latencies.now list.old.items list.new.items) }
+    ensures gains { IfOk result (λ _. GainsEdges statements.now latencies.now list.old.items list.new.items) }
     ensures complete { IfOk result (λ _. HasMeetings statements.now latencies.now to (length statements.now) list.new.items) }
 {
     let second = &statements[to];
@@ -177,7 +177,7 @@ pub fn collect(
     ensures sound { IfOk result (λ v. All (IsFound statements.now latencies.now) v.items) }
     ensures complete { IfOk result (λ v. (e : EdgeData) → IsFound statements.now latencies.now e → Contains v.items e) }
 {
-    let mut list = Vec::new(alloc);
+    let mut list = Vec::with_capacity(alloc, statements.len() * 2)?;
     let same = same_arrays(statements);
     for to in 0..statements.len() {
         push_uses(statements, to, latencies, &mut list)?;

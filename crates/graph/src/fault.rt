@@ -19,9 +19,9 @@ pub enum GraphFault {
 
 impl fmt::Display for GraphFault {
     ghost use Rattle.std.specs.Prelude.{Some};
-    ghost use Rattle.graph.specs.Faults.{fault_text};
+    ghost use Rattle.graph.specs.Faults.{graph_fault_text};
 
-    ghost output = { λ fault. Some (fault_text fault) };
+    ghost output = { λ fault. Some (graph_fault_text fault) };
 
     fn fmt<W: fmt::Write>(&self, f: &mut fmt::Formatter<W>) -> fmt::Result {
         match self {

@@ -6,6 +6,7 @@ ghost use Rattle.graph.specs.Walks.{FitsCircuits, IsHeight};
 
 use crate::graph::Edges;
 use crate::relaxation::{Relaxed, relax};
+use machine::limits::MAX_STATEMENTS;
 use std::alloc::{AllocError, Global};
 
 /// The height of each operation at an interval, in cycles, 1 to 64 for each operation: HeightR of
@@ -26,8 +27,9 @@ pub fn heights(alloc: Global, edges: &Edges, ii: u64) -> Result<Vec<u64>, AllocE
     ensures exact { IfOk result (λ v. (p : ℕ) → p < length edges.now.latencies → IsHeight edges.now.edges edges.now.latencies ii p (slice_index v.items p)) }
     ensures range { IfOk result (λ v. All (λ h. (1 ≤ h) × (h ≤ 64 * length edges.now.latencies)) v.items) }
 {
-    match relax(edges, ii) {
-        Relaxed::Heights(numbers) => Vec::from_slice(alloc, &numbers[..edges.operations()]),
+    let mut numbers = [0; MAX_STATEMENTS];
+    match relax(edges, ii, &mut numbers) {
+        Relaxed::Heights => Vec::from_slice(alloc, &numbers[..edges.operations()]),
         Relaxed::Above(_) => unreachable!(),
     }
 }

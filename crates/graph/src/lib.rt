@@ -6,6 +6,7 @@ mod dependences;
 mod edge;
 mod fault;
 mod graph;
+mod groups;
 mod height;
 mod laws;
 mod recurrence;

@@ -7,6 +7,7 @@ ghost use Rattle.graph.specs.Rounds.{TellsFeasible};
 
 use crate::graph::Edges;
 use crate::relaxation::{Relaxed, longer_interval, relax};
+use machine::limits::MAX_STATEMENTS;
 use std::alloc::{AllocError, Global};
 
 /// Whether an interval, in cycles, is at or above the recurrence-constrained lower bound: whether no
@@ -21,8 +22,9 @@ pub fn feasible(_alloc: Global, edges: &Edges, ii: u64) -> Result<bool, AllocErr
     ensures fits { IfOk result (λ answer. answer ≡ true → FitsCircuits edges.now.edges ii) }
     ensures no_memory { IsOk result }
 {
-    match relax(edges, ii) {
-        Relaxed::Heights(_) => Ok(true),
+    let mut numbers = [0; MAX_STATEMENTS];
+    match relax(edges, ii, &mut numbers) {
+        Relaxed::Heights => Ok(true),
         Relaxed::Above(_) => Ok(false),
     }
 }
@@ -63,9 +65,10 @@ pub fn rec_mii(_alloc: Global, edges: &Edges) -> Result<u64, AllocError>
     ensures no_memory { IsOk result }
 {
     let mut interval = interval_of_self_edges(edges);
+    let mut numbers = [0; MAX_STATEMENTS];
     loop {
-        match relax(edges, interval) {
-            Relaxed::Heights(_) => return Ok(interval),
+        match relax(edges, interval, &mut numbers) {
+            Relaxed::Heights => return Ok(interval),
             Relaxed::Above(longer) => interval = longer,
         }
     }

@@ -15,15 +15,15 @@ use machine::limits::MAX_STATEMENTS;
 #[derive(Clone, Copy)]
 pub(crate) struct Climb {
     pub(crate) number: u64,
-    /// The edge that gives the number, where it rises.
-    pub(crate) via: Option<Edge>,
+    /// The place of the edge that gives the number, where it rises.
+    pub(crate) via: usize,
 }
 
 /// What relaxation at an interval comes to.
 #[derive(Drop)]
 pub(crate) enum Relaxed {
-    /// Every circuit fits: the height of each operation.
-    Heights([u64; MAX_STATEMENTS]),
+    /// Every circuit fits, and the numbers are the operations' heights.
+    Heights,
     /// Some circuit does not fit, nor at any interval below this one, which is longer.
     Above(u64),
 }
@@ -53,29 +53,27 @@ pub(crate) fn raised(
     requires own_small { own ≤ 2097152 }
     requires small { All (λ (e : Edge). (e.to < 128) × (slice_index numbers.now e.to ≤ 2097152)) outgoing.now }
     ensures raised { IsRaised outgoing.now interval numbers.now own result.number }
-    ensures via { IfSome result.via (λ e. Contains outgoing.now e) }
+    ensures via { own < result.number → result.via < length outgoing.now }
 {
     let mut number = own;
-    let mut via = None;
-    for edge in outgoing {
+    let mut via = 0;
+    for (place, edge) in outgoing.iter().enumerate() {
         let reached = through(*edge, numbers[edge.to as usize], interval);
         if reached > number as i64 {
             number = reached as u64;
-            via = Some(*edge);
+            via = place;
         }
     }
     Climb { number, via }
 }
 
-/// The numbers at first: the latencies.
-pub(crate) fn first_numbers(edges: &Edges, interval: u64) -> [u64; MAX_STATEMENTS]
-    ensures { AreReaches edges.now interval 0 0 result }
+/// Sets the numbers to what they are at first: the latencies.
+pub(crate) fn set_first(edges: &Edges, interval: u64, numbers: &mut [u64; MAX_STATEMENTS])
+    ensures { AreReaches edges.now interval 0 0 numbers.new }
 {
-    let mut numbers = [0; MAX_STATEMENTS];
     for operation in 0..edges.operations() {
         numbers[operation] = u64::from(edges.latency(operation));
     }
-    numbers
 }
 
 /// Raises the number of each operation, from the last one to the first, after so many sweeps before, and
@@ -99,10 +97,11 @@ fn sweep(
     let mut rising = None;
     for operation in (0..edges.operations()).rev() {
         let own = numbers[operation];
-        let raised = raised(own, edges.out_of(operation), numbers, interval);
+        let outgoing = edges.out_of(operation);
+        let raised = raised(own, outgoing, numbers, interval);
         if own < raised.number {
             numbers[operation] = raised.number;
-            via[operation] = raised.via;
+            via[operation] = Some(outgoing[raised.via]);
             rising = Some(operation);
         }
     }
@@ -189,23 +188,24 @@ fn circuit(
     }
 }
 
-/// The heights at an interval, or an interval that is nearer to the recurrence-constrained lower bound.
+/// Sets the numbers to the heights at an interval, or tells an interval that is nearer to the
+/// recurrence-constrained lower bound.
 ///
 /// Each sweep raises the numbers of all operations along their edges. They are the heights once a sweep
 /// changes nothing, and they never settle where a circuit does not fit. The edges by which numbers last
 /// rose lead to such a circuit, mostly after a sweep or two, and none of the intervals below its cycles
 /// for each of its iterations is the bound. Without it the sweeps end when there were as many as there
 /// are operations, and only this interval is known to be too short.
-pub(crate) fn relax(edges: &Edges, interval: u64) -> Relaxed
+pub(crate) fn relax(edges: &Edges, interval: u64, numbers: &mut [u64; MAX_STATEMENTS]) -> Relaxed
     requires short { interval ≤ 16384 }
-    ensures exact { Relaxes edges.now interval result }
+    ensures exact { Relaxes edges.now interval numbers.new result }
     ensures well_formed { IsGraph edges.now }
 {
-    let mut numbers = first_numbers(edges, interval);
+    set_first(edges, interval, numbers);
     let mut via = [None; MAX_STATEMENTS];
     for made in 0..edges.operations() {
-        let Some(operation) = sweep(edges, interval, made, &mut numbers, &mut via) else {
-            return Relaxed::Heights(numbers);
+        let Some(operation) = sweep(edges, interval, made, numbers, &mut via) else {
+            return Relaxed::Heights;
         };
         if let Some(next) = circuit(edges, interval, &via, operation) {
             return Relaxed::Above(next);

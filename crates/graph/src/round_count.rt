@@ -7,7 +7,7 @@ ghost use Rattle.graph.specs.Rounds.{IsRounds, TellsFeasible};
 ghost use Rattle.graph.specs.Reaches.{IsRaised};
 
 use crate::graph::Edges;
-use crate::relaxation::{Relaxed, first_numbers, raised, relax};
+use crate::relaxation::{Relaxed, raised, relax, set_first};
 use machine::limits::MAX_STATEMENTS;
 use std::alloc::{AllocError, Global};
 
@@ -42,7 +42,8 @@ fn rounds_to_settle(edges: &Edges, interval: u64) -> usize
     requires fits { FitsCircuits edges.now.edges interval }
     ensures exact { IsRounds edges.now interval true result }
 {
-    let mut numbers = first_numbers(edges, interval);
+    let mut numbers = [0; MAX_STATEMENTS];
+    set_first(edges, interval, &mut numbers);
     let mut next = [0; MAX_STATEMENTS];
     for made in 0..edges.operations() {
         if round(edges, interval, &numbers, &mut next).is_none() {
@@ -73,8 +74,9 @@ pub fn rounds(_alloc: Global, edges: &Edges, ii: u64) -> Result<(bool, u64), All
     ensures fits { IfOk result (λ r. r.0 ≡ true → FitsCircuits edges.now.edges ii) }
     ensures no_memory { IsOk result }
 {
-    match relax(edges, ii) {
-        Relaxed::Heights(_) => Ok((true, rounds_to_settle(edges, ii) as u64)),
+    let mut numbers = [0; MAX_STATEMENTS];
+    match relax(edges, ii, &mut numbers) {
+        Relaxed::Heights => Ok((true, rounds_to_settle(edges, ii) as u64)),
         Relaxed::Above(_) => Ok((false, edges.operations() as u64)),
     }
 }

@@ -2,7 +2,7 @@
 
 ghost use Rattle.std.specs.Prelude.{◌≡◌, ℕ, ◌+◌, ◌<◌, ◌≤◌, length, IfOk};
 ghost use Rattle.std.specs.List.Sorted.{IsNonDecreasingBy};
-ghost use Rattle.graph.specs.Layout.{end_of, AreStarts};
+ghost use Rattle.graph.specs.Layout.{operation_at, AreStarts};
 
 use crate::edge::Edge;
 use std::alloc::{AllocError, Global};
@@ -16,8 +16,9 @@ pub(crate) enum End {
 
 impl End {
     /// The number of that operation.
-    fn of(self, edge: Edge) -> usize
-        ensures { result ≡ end_of self edge }
+    #[inline]
+    pub(crate) fn of(self, edge: Edge) -> usize
+        ensures { result ≡ operation_at self edge }
     {
         match self {
             End::Source => edge.from as usize,
@@ -34,7 +35,7 @@ pub(crate) fn starts(
     operations: usize,
 ) -> Result<Vec<usize>, AllocError>
     requires few { operations ≤ 128 }
-    requires sorted { IsNonDecreasingBy (end_of end) list.now }
+    requires sorted { IsNonDecreasingBy (operation_at end) list.now }
     ensures { IfOk result (λ v. AreStarts end list.now operations v.items) }
 {
     let mut starts = Vec::with_capacity(alloc, operations + 1)?;

@@ -6,9 +6,9 @@ ghost use Rattle.machine.specs.declared.alternative.Row.{Row};
 ghost use Rattle.machine.specs.Alternative.{AreAlternatives};
 ghost use Rattle.machine.specs.Machines.{IsMachine};
 ghost use Rattle.iterations.specs.Loops.{IsLoop};
-ghost use Rattle.graph.specs.Answers.{Answers};
-ghost use Rattle.graph.specs.Units.{first_without_table, operations_of, IsUnitBound};
-ghost use Rattle.graph.specs.Uses.{AtMost, Tallies, TakesBest, Progress, IsBelowLawful};
+ghost use Rattle.graph.specs.TablesAnswer.{TablesAnswer};
+ghost use Rattle.graph.specs.Units.{first_without_table, operations_of, greatest_use, IsBest, IsUnitBound};
+ghost use Rattle.graph.specs.Uses.{AtMost, Tallies, TakesBest, CountsRows, IsBelowLawful};
 
 use crate::fault::GraphFault;
 use iterations::Loop;
@@ -45,22 +45,48 @@ impl Uses {
         Uses { counts, greatest }
     }
 
-    /// These uses with the alternative taken on that leaves the most used unit with the lowest use,
-    /// the first of several.
+    /// The use of the most used unit with these rows taken on. Most alternatives have one row, which is
+    /// counted without a copy of the counters.
+    fn greatest_with(&self, rows: &[Row]) -> u16
+        requires units { All (λ r. r.unit < 64) rows.now }
+        requires few { length rows.now ≤ 16 }
+        requires room { AtMost 60000 self.now.counts }
+        ensures { (taken : List Row) → Tallies taken self.now.counts self.now.greatest → result ≡ greatest_use (taken ++ rows.now) }
+    {
+        match rows {
+            [row] => self.greatest.max(self.counts[row.unit as usize] + 1),
+            _ => self.with(rows).greatest,
+        }
+    }
+
+    /// The alternative that leaves the most used unit with the lowest use, the first of several.
+    fn best_of(&self, alternatives: &[Alternative]) -> usize
+        requires well_formed { AreAlternatives alternatives.now }
+        requires room { AtMost 60000 self.now.counts }
+        ensures there { result < length alternatives.now }
+        ensures best { (taken : List Row) → Tallies taken self.now.counts self.now.greatest → IsBest taken alternatives.now result }
+    {
+        let mut best = 0;
+        let mut least = self.greatest_with(alternatives[0].rows());
+        for number in 1..alternatives.len() {
+            let greatest = self.greatest_with(alternatives[number].rows());
+            if greatest < least {
+                best = number;
+                least = greatest;
+            }
+        }
+        best
+    }
+
+    /// These uses with the best of the alternatives taken on.
     fn with_best(self, alternatives: &[Alternative]) -> Uses
         requires well_formed { AreAlternatives alternatives.now }
         requires room { AtMost 60000 self.counts }
         ensures best { (taken : List Row) → Tallies taken self.counts self.greatest → TakesBest taken alternatives.now result.counts result.greatest }
         ensures grown { (bound : ℕ) → AtMost bound self.counts → AtMost (bound + 16) result.counts }
     {
-        let mut best = self.with(alternatives[0].rows());
-        for alternative in &alternatives[1..] {
-            let tried = self.with(alternative.rows());
-            if tried.greatest < best.greatest {
-                best = tried;
-            }
-        }
-        best
+        let best = self.best_of(alternatives);
+        self.with(alternatives[best].rows())
     }
 
     /// These uses with all operations taken on that have so many alternatives, in text order.
@@ -68,8 +94,8 @@ impl Uses {
         requires some { 0 < freedom }
         requires few { freedom ≤ 8 }
         requires room { AtMost (2048 * (freedom - 1)) self.counts }
-        ensures taken { (done : List (List (List Row))) → Progress done self.counts self.greatest
-            → Progress (done ++ filter (λ alternatives. length alternatives == freedom) (operations_of machine.now innermost.now)) result.counts result.greatest }
+        ensures taken { (done : List (List (List Row))) → CountsRows done self.counts self.greatest
+            → CountsRows (done ++ filter (λ alternatives. length alternatives == freedom) (operations_of machine.now innermost.now)) result.counts result.greatest }
         ensures grown { AtMost (2048 * freedom) result.counts }
         ensures machine { IsMachine machine.now }
         ensures innermost { IsLoop innermost.now }
@@ -110,7 +136,7 @@ pub fn missing_table(machine: &Machine, innermost: &Loop) -> Option<Opcode>
 /// [`GraphFault::NoTable`] for the first statement whose opcode the machine has no table for. No
 /// memory is taken.
 pub fn res_mii(machine: &Machine, innermost: &Loop) -> Result<u64, GraphFault>
-    ensures exact { Answers (first_without_table machine.now innermost.now) (IsUnitBound (operations_of machine.now innermost.now)) result }
+    ensures exact { TablesAnswer (first_without_table machine.now innermost.now) (IsUnitBound (operations_of machine.now innermost.now)) result }
     ensures below { IfOk result (IsBelowLawful (operations_of machine.now innermost.now)) }
     ensures from_one { IfOk result (λ bound. 1 ≤ bound) }
     ensures range { IfOk result (λ bound. bound ≤ 2048) }

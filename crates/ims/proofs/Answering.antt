@@ -4,13 +4,13 @@ use Rattle.std.specs.List.{slice_index}
 use Rattle.std.proofs.lemmas.Bool.{both_ways}
 use Rattle.std.proofs.lemmas.List.{map-append, take_more}
 use Rattle.machine.specs.Alternative.{collides}
-use Rattle.graph.specs.Schedules.{IsLawful}
+use Rattle.graph.specs.Schedules.{IsLawfulSchedule}
 use Rattle.graph.specs.Units.{greatest_of}
 use Rattle.mrt.specs.Placements.{alternatives_of}
 use Rattle.ims.specs.Problems.{ProblemData, IsProblem, mii_of}
 use Rattle.ims.specs.Scheduling.{State, IsFirstSound, Stops}
 use Rattle.ims.specs.Schedules.{ScheduleData, IsSchedule}
-use Rattle.ims.specs.Attempts.{IsBlocked, HasAll, EndsPlaced}
+use Rattle.ims.specs.Attempts.{IsBlocked, IsAllPlaced, EndsPlaced}
 use Rattle.ims.proofs.Reached.{attempts-are_lawful}
 
 -- ---- the greatest stage
@@ -35,13 +35,13 @@ unblocked problem ii sound each blocked =
 
 -- ---- the end
 pub lawful_end : (problem : ProblemData) (ii budget : ℕ) (state : State) → IsProblem problem → mii_of problem ≤ ii → Stops problem ii budget state
-    → (times choices : List ℕ) → HasAll problem state times choices → IsLawful ii problem.operations problem.graph.edges times choices
+    → (times choices : List ℕ) → IsAllPlaced problem state times choices → IsLawfulSchedule ii problem.operations problem.graph.edges times choices
 lawful_end problem ii budget state is from stops times choices all =
     attempts-are_lawful problem ii budget times choices is from (record { state = state; stops = stops; has_all = all })
 
 -- what a schedule of these lists is to an attempt
-abbrev pub Answers : ProblemData → ℕ → ℕ → ScheduleData → Type 0
-Answers problem ii budget s = (IsBlocked problem ii → ⊥) × EndsPlaced problem ii budget s.times s.choices × (s.problem ≡ problem) × (s.ii ≡ ii) × IsSchedule s
+abbrev pub AttemptAnswer : ProblemData → ℕ → ℕ → ScheduleData → Type 0
+AttemptAnswer problem ii budget s = (IsBlocked problem ii → ⊥) × EndsPlaced problem ii budget s.times s.choices × (s.problem ≡ problem) × (s.ii ≡ ii) × IsSchedule s
 
 pub same_lists_schedule : (problem : ProblemData) (ii : ℕ) (times times' choices choices' : List ℕ) → times' ≡ times → choices' ≡ choices
     → (let s : ScheduleData = record { problem = problem; ii = ii; times = times'; choices = choices' } in s) ≡ record { problem = problem; ii = ii; times = times; choices = choices }

@@ -11,7 +11,7 @@ use Rattle.std.proofs.Math.Nat.{add-mod-mod}
 use Rattle.machine.specs.declared.alternative.Row.{Row}
 use Rattle.machine.specs.Alternative.{residue_of, rows_meet, collides}
 use Rattle.graph.specs.Schedules.{KeepsUnits, KeepsEdge, issued_rows}
-use Rattle.mrt.specs.Placements.{Operations, Placements, Placement, placement_of, alternatives_of, rows_of, IsFree, Holds, IsHolder}
+use Rattle.mrt.specs.Placements.{OperationAlternatives, Placements, Placement, placement_of, alternatives_of, rows_of, IsFree, Holds, IsHolder}
 use Rattle.mrt.specs.Slots.{AreApart}
 use Rattle.mrt.proofs.Scheduling.{AreApart-claimed, fits_from_no_holders}
 use Rattle.mrt.proofs.Lists.{list_any_place, slice_get-set_same, slice_get-set_other}
@@ -47,7 +47,7 @@ colliding_pair ii (row ∷ rows) d c = elim (cases_Bool (list_any (λ s. rows_me
 ]
 
 -- what a table tells of the holder of a row's slot
-pub held_from : (ii : ℕ) (operations : Operations) (placed : Placements) (rows : List Row) (time k : ℕ) (found : Option ℕ) → k < length rows → is_some found ≡ true
+pub held_from : (ii : ℕ) (operations : OperationAlternatives) (placed : Placements) (rows : List Row) (time k : ℕ) (found : Option ℕ) → k < length rows → is_some found ≡ true
     → ((r : Row) → slice_get rows k ≡ Some r → IsHolder ii operations placed r time found) → IsHeld ii operations placed rows time
 held_from ii operations placed rows time k None there some tells = absurd (both_ways false refl some)
 held_from ii operations placed rows time k (Some holder) there some tells =
@@ -59,20 +59,20 @@ held_from ii operations placed rows time k (Some holder) there some tells =
       holds = (tells (get_or rows k d) (slice_get-get_or rows k d there)).0;
     }
 
-pub unheld_from : (ii : ℕ) (operations : Operations) (placed : Placements) (rows : List Row) (time k : ℕ) (found : Option ℕ) → is_some found ≡ false
+pub unheld_from : (ii : ℕ) (operations : OperationAlternatives) (placed : Placements) (rows : List Row) (time k : ℕ) (found : Option ℕ) → is_some found ≡ false
     → ((r : Row) → slice_get rows k ≡ Some r → IsHolder ii operations placed r time found)
     → (r : Row) → slice_get rows k ≡ Some r → (holder : ℕ) → Holds ii operations placed r time holder → ⊥
 unheld_from ii operations placed rows time k None none tells r is = tells r is
 unheld_from ii operations placed rows time k (Some holder) none tells r is = absurd (both_ways true none refl)
 
-pub unheld_all : (ii : ℕ) (operations : Operations) (placed : Placements) (rows : List Row) (time : ℕ)
+pub unheld_all : (ii : ℕ) (operations : OperationAlternatives) (placed : Placements) (rows : List Row) (time : ℕ)
     → ((k : ℕ) (r : Row) → k < length rows → slice_get rows k ≡ Some r → (holder : ℕ) → Holds ii operations placed r time holder → ⊥)
     → IsHeld ii operations placed rows time → ⊥
 unheld_all ii operations placed rows time none held =
     none held.listed.0 held.row held.listed.1 (slice_get-get_or rows held.listed.0 held.row held.listed.1 ∙ ap (λ r. Some r) held.listed.2) held.holder held.holds
 
 -- what doesn't collide and isn't held fits
-pub IsFree-unheld : (ii : ℕ) (operations : Operations) (placed : Placements) (op time alternative : ℕ) → alternative < length (alternatives_of operations op)
+pub IsFree-unheld : (ii : ℕ) (operations : OperationAlternatives) (placed : Placements) (op time alternative : ℕ) → alternative < length (alternatives_of operations op)
     → collides ii (rows_of operations op alternative) ≡ false → (IsHeld ii operations placed (rows_of operations op alternative) time → ⊥)
     → IsFree ii operations placed op time alternative
 IsFree-unheld ii operations placed op time alternative there sound none = record {
@@ -91,11 +91,11 @@ free_unless true P F h make = tt
 free_unless false P F h make = make h
 
 -- what a table of these operations at this interval tells
-pub clash_at : (ii ii' : ℕ) (operations : Operations) (placed : Placements) (op time choice : ℕ) → ii' ≡ ii
+pub clash_at : (ii ii' : ℕ) (operations : OperationAlternatives) (placed : Placements) (op time choice : ℕ) → ii' ≡ ii
     → IsClash ii' operations placed (rows_of operations op choice) time → IsClash ii operations placed (rows_of operations op choice) time
 clash_at ii ii' operations placed op time choice same clash = subst (λ n. IsClash n operations placed (rows_of operations op choice) time) same clash
 
-pub free_at : (ii ii' : ℕ) (operations : Operations) (placed : Placements) (op time choice : ℕ) → ii' ≡ ii
+pub free_at : (ii ii' : ℕ) (operations : OperationAlternatives) (placed : Placements) (op time choice : ℕ) → ii' ≡ ii
     → IsFree ii' operations placed op time choice → IsFree ii operations placed op time choice
 free_at ii ii' operations placed op time choice same free = subst (λ n. IsFree n operations placed op time choice) same free
 
@@ -122,14 +122,14 @@ collides_later ii rows rest k d there is so_far meets =
 
 -- ---- the first operations of a list
 -- the first operations of a list are placed, and no others
-pub record ArePlaced (ii : ℕ) (operations : Operations) (places : List (ℕ × ℕ)) (placed : Placements) (done : ℕ) : Type 0 where
+pub record ArePlaced (ii : ℕ) (operations : OperationAlternatives) (places : List (ℕ × ℕ)) (placed : Placements) (done : ℕ) : Type 0 where
   pub whole : length placed ≡ length operations
   pub each : (op : ℕ) (d : ℕ × ℕ) → op < done → placement_of placed op ≡ Some (record { time = (get_or places op d).0; alternative = (get_or places op d).1 })
   pub others : (op : ℕ) → done ≤ op → placement_of placed op ≡ None
   pub apart : AreApart ii operations placed
   pub sound : (op : ℕ) (d : ℕ × ℕ) → op < done → collides ii (rows_of operations op (get_or places op d).1) ≡ false
 
-module _ (ii : ℕ) (operations : Operations) (places : List (ℕ × ℕ)) where
+module _ (ii : ℕ) (operations : OperationAlternatives) (places : List (ℕ × ℕ)) where
   abbrev times : List ℕ
   times = map (λ (p : ℕ × ℕ). p.0) places
 

@@ -12,7 +12,7 @@ use Rattle.machine.specs.declared.alternative.Row.{Row}
 use Rattle.machine.specs.Alternative.{residue_of, collides}
 use Rattle.graph.specs.Dependences.{EdgeData}
 use Rattle.graph.specs.Walks.{FitsCircuits, delay_of, distance_of}
-use Rattle.graph.specs.Schedules.{IsPlan, KeepsUnits, KeepsEdge, IsLawful}
+use Rattle.graph.specs.Schedules.{IsPlan, KeepsUnits, KeepsEdge, IsLawfulSchedule}
 use Rattle.graph.proofs.Settling.{fits-at_longer}
 use Rattle.mrt.specs.Placements.{Placement, placement_of, alternatives_of, rows_of, IsMetBy, IsFree, IsFirstSlot}
 use Rattle.mrt.specs.Slots.{Takes, AreApart, takes}
@@ -20,7 +20,7 @@ use Rattle.mrt.proofs.Taking.{takes_place, met_from_takes, unplaced_at_first}
 use Rattle.mrt.proofs.Scheduling.{AreApart-none}
 use Rattle.ims.specs.Problems.{ProblemData, IsProblem, mii_of}
 use Rattle.ims.specs.Scheduling.{State, empty, ComesFrom, forced_time, IsForced, IsEvicted, IsStep, LeadsTo}
-use Rattle.ims.specs.Attempts.{HasAll}
+use Rattle.ims.specs.Attempts.{IsAllPlaced}
 use Rattle.ims.specs.Promises.{AttemptsAreLawful}
 use Rattle.ims.proofs.Slots.{KeepsUnits-apart}
 
@@ -175,7 +175,7 @@ reached problem ii heights (suc steps) state a = IsReached-step problem ii heigh
 
 -- ---- the end is lawful
 module _ (problem : ProblemData) (ii : ℕ) (is : IsProblem problem) (from : mii_of problem ≤ ii) (state : State) (r : IsReached problem ii state)
-    (times choices : List ℕ) (all : HasAll problem state times choices) where
+    (times choices : List ℕ) (all : IsAllPlaced problem state times choices) where
   abbrev at_of : ℕ → Placement
   at_of op = record { time = slice_index times op; alternative = slice_index choices op }
 
@@ -212,7 +212,7 @@ module _ (problem : ProblemData) (ii : ℕ) (is : IsProblem problem) (from : mii
         | inr differ ↦ r.keeps edge (at_of edge.from) (at_of edge.to) there differ (all.each edge.from from_there) (all.each edge.to to_there)
       ]
 
-  lawful : IsLawful ii problem.operations problem.graph.edges times choices
+  lawful : IsLawfulSchedule ii problem.operations problem.graph.edges times choices
   lawful = record { plan = plan; keeps_units = units; keeps_edges = edges }
 
 pub attempts-are_lawful : AttemptsAreLawful

@@ -7,7 +7,7 @@ use Rattle.std.proofs.Math.Nat.{add-mod-mod, div-add-mod, mul-add, mul-add-mod_s
 use Rattle.machine.specs.declared.alternative.Row.{Row}
 use Rattle.machine.specs.Alternative.{residue_of, rows_meet, collides}
 use Rattle.graph.specs.Schedules.{KeepsUnits, issued_rows}
-use Rattle.mrt.specs.Placements.{Operations, Placements, placement_of}
+use Rattle.mrt.specs.Placements.{OperationAlternatives, Placements, placement_of}
 use Rattle.mrt.specs.Slots.{Takes, AreApart}
 use Rattle.mrt.proofs.Taking.{takes_at}
 
@@ -69,7 +69,7 @@ apart_at_all ii rows t i j r some sound x y meets =
     apart_at_zero ii rows i j r sound x y (meet_at_zero ii (get_or rows i r) (get_or rows j r) t some meets)
 
 -- ---- rows of all operations
-module _ (ii : ℕ) (operations : Operations) (placed : Placements) (times choices : List ℕ) (some : 0 < ii)
+module _ (ii : ℕ) (operations : OperationAlternatives) (placed : Placements) (times choices : List ℕ) (some : 0 < ii)
     (each : (op : ℕ) → op < length operations → placement_of placed op ≡ Some (record { time = slice_index times op; alternative = slice_index choices op }))
     (sound : (op : ℕ) → op < length operations → collides ii (issued_rows operations choices op) ≡ false)
     (apart : AreApart ii operations placed) where

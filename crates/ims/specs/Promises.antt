@@ -4,7 +4,7 @@ use Rattle.machine.specs.Machines.{MachineData}
 use Rattle.iterations.specs.Loops.{LoopData}
 use Rattle.graph.specs.Graphs.{IsGraphOf}
 use Rattle.graph.specs.Promises.{KeepsDependences}
-use Rattle.graph.specs.Schedules.{IsLawful}
+use Rattle.graph.specs.Schedules.{IsLawfulSchedule}
 use Rattle.ims.specs.declared.attempts.Try.{Try}
 use Rattle.ims.specs.Problems.{ProblemData, IsProblem, IsProblemOf, mii_of}
 use Rattle.ims.specs.Schedules.{ScheduleData, IsSchedule, stage_of, stages_of}
@@ -14,7 +14,7 @@ use Rattle.ims.specs.Attempts.{EndsPlaced, AnswersAttempt}
 abbrev pub AttemptsAreLawful : Type 0
 AttemptsAreLawful = (problem : ProblemData) (ii budget : ℕ) (times choices : List ℕ)
     → IsProblem problem → mii_of problem ≤ ii → EndsPlaced problem ii budget times choices
-    → IsLawful ii problem.operations problem.graph.edges times choices
+    → IsLawfulSchedule ii problem.operations problem.graph.edges times choices
 
 -- a schedule keeps each dependence of its loop
 abbrev pub SchedulesKeepDependences : Type 0

@@ -2,11 +2,11 @@
 
 ghost use Rattle.std.specs.Prelude.{◌≡◌, ◌≤◌, ℕ, List, length, IfOk};
 ghost use Rattle.graph.specs.Reaches.{AreHeights};
-ghost use Rattle.graph.specs.Schedules.{IsLawful};
+ghost use Rattle.graph.specs.Schedules.{IsLawfulSchedule};
 ghost use Rattle.ims.specs.Problems.{mii_of};
 ghost use Rattle.ims.specs.Scheduling.{Stops, empty};
 ghost use Rattle.ims.specs.Waiting.{IsByHeight};
-ghost use Rattle.ims.specs.Attempts.{IsBlocked, HasAll, AnswersAttempt};
+ghost use Rattle.ims.specs.Attempts.{IsBlocked, IsAllPlaced, AnswersAttempt};
 
 use crate::ending::{have_few_stages, read_off};
 use crate::order::by_height;
@@ -94,7 +94,7 @@ fn answer<'a>(
     requires whole { length progress.now.state.placed ≡ length prepared.now.operations }
     requires each_time { length times.items ≡ length prepared.now.operations }
     requires each_choice { length choices.items ≡ length prepared.now.operations }
-    requires lawful { (t c : List ℕ) → HasAll prepared.now progress.now.state t c → IsLawful ii prepared.now.operations prepared.now.graph.edges t c }
+    requires lawful { (t c : List ℕ) → IsAllPlaced prepared.now progress.now.state t c → IsLawfulSchedule ii prepared.now.operations prepared.now.graph.edges t c }
     ensures { (budget : ℕ) → Stops prepared.now ii budget progress.now.state → (IsBlocked prepared.now ii → ⊥) → AnswersAttempt prepared.now ii budget result }
 {
     prove!(prepared.operations() >= 1);

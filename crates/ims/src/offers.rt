@@ -7,7 +7,7 @@ ghost use Rattle.machine.specs.declared.alternative.Row.{Row};
 ghost use Rattle.machine.specs.Alternative.{AreAlternatives};
 ghost use Rattle.machine.specs.Machines.{IsMachine};
 ghost use Rattle.iterations.specs.Loops.{IsLoop};
-ghost use Rattle.graph.specs.Answers.{Answers};
+ghost use Rattle.graph.specs.TablesAnswer.{TablesAnswer};
 ghost use Rattle.graph.specs.Units.{first_without_table, operations_of};
 
 use graph::GraphFault;
@@ -21,7 +21,7 @@ pub(crate) fn offers(
     machine: &Machine,
     innermost: &Loop,
 ) -> Result<Vec<Alternatives>, GraphFault>
-    ensures exact { Answers (first_without_table machine.now innermost.now) (λ (v : Vec (List (List Row)) Global). v.items ≡ operations_of machine.now innermost.now) result }
+    ensures exact { TablesAnswer (first_without_table machine.now innermost.now) (λ (v : Vec (List (List Row)) Global). v.items ≡ operations_of machine.now innermost.now) result }
     ensures offered { IfOk result (λ v. All AreAlternatives v.items) }
     ensures innermost { IsLoop innermost.now }
 {

@@ -1,7 +1,7 @@
 //! Loops that are prepared for scheduling.
 
 ghost use Rattle.std.specs.Prelude.{◌≡◌, ◌≤◌, max, length};
-ghost use Rattle.graph.specs.Answers.{Answers};
+ghost use Rattle.graph.specs.TablesAnswer.{TablesAnswer};
 ghost use Rattle.graph.specs.Units.{first_without_table};
 ghost use Rattle.ims.specs.Problems.{IsProblem, IsProblemOf, mii_of};
 
@@ -54,7 +54,7 @@ impl Prepared {
     ) -> Result<Prepared, GraphFault>
         requires ratio { (1 ≤ ratio) × (ratio ≤ 64) }
         requires ceiling { ceiling ≤ 255 }
-        ensures exact { Answers (first_without_table machine.now innermost) (IsProblemOf machine.now innermost ratio ceiling) result }
+        ensures exact { TablesAnswer (first_without_table machine.now innermost) (IsProblemOf machine.now innermost ratio ceiling) result }
     {
         let edges = graph::edges(alloc, machine, &innermost)?;
         let alternatives = offers(alloc, machine, &innermost)?;

@@ -1,6 +1,6 @@
 //! How far an attempt is.
 
-ghost use Rattle.std.specs.Prelude.{◌≡◌, ℕ, ◌<◌, ◌≤◌, length, Some, None, IfOk, IsSomeAnd, MatchOption, slice_set, slice_get};
+ghost use Rattle.std.specs.Prelude.{◌≡◌, ℕ, ◌^◌, ◌<◌, ◌≤◌, length, Some, None, IfOk, IsSomeAnd, MatchOption, slice_set, slice_get};
 ghost use Rattle.std.specs.Option.{option_flatten};
 ghost use Rattle.mrt.specs.Placements.{placement_of};
 ghost use Rattle.ims.specs.Waiting.{IsArrangement};
@@ -15,8 +15,8 @@ use std::marker::Model;
 /// The last placement of an operation.
 #[derive(Clone, Copy)]
 pub(crate) struct Issue {
-    pub(crate) time: u64,
-    pub(crate) alternative: usize,
+    pub(crate) time: u32,
+    pub(crate) alternative: u8,
     /// Whether it stands: no later placement has evicted the operation.
     pub(crate) stands: bool,
 }
@@ -70,7 +70,7 @@ impl Progress {
             (λ time. IsSomeAnd (placement_of self.now.state.placed op) (λ at. at.time ≡ time)) }
     {
         match self.issues[op] {
-            Some(issue) if issue.stands => Some(issue.time),
+            Some(issue) if issue.stands => Some(u64::from(issue.time)),
             _ => None,
         }
     }
@@ -82,7 +82,10 @@ impl Progress {
             (λ at. placement_of self.now.state.placed op ≡ Some (record { time = at.0; alternative = at.1 })) }
     {
         match self.issues[op] {
-            Some(issue) if issue.stands => Some((issue.time, issue.alternative)),
+            Some(issue) if issue.stands => Some((
+                u64::from(issue.time),
+                usize::from(issue.alternative),
+            )),
             _ => None,
         }
     }
@@ -93,21 +96,23 @@ impl Progress {
         ensures { result ≡ option_flatten (slice_get self.now.state.previous op) }
     {
         match self.issues[op] {
-            Some(issue) => Some(issue.time),
+            Some(issue) => Some(u64::from(issue.time)),
             None => None,
         }
     }
 
     /// Places an operation.
     pub(crate) fn place(&mut self, op: usize, time: u64, alternative: usize)
-        requires { op < length self.old.state.placed }
+        requires there { op < length self.old.state.placed }
+        requires time { time < 2 ^ 32 }
+        requires alternative { alternative < 256 }
         ensures placed { self.new.state.placed ≡ slice_set self.old.state.placed op (Some (record { time = time; alternative = alternative })) }
         ensures previous { self.new.state.previous ≡ slice_set self.old.state.previous op (Some time) }
         ensures order { self.new.order ≡ self.old.order }
     {
         self.issues[op] = Some(Issue {
-            time,
-            alternative,
+            time: time as u32,
+            alternative: alternative as u8,
             stands: true,
         });
         self.queue.take(op);

@@ -4,7 +4,7 @@ ghost use Rattle.std.specs.Prelude.{◌≡◌, ℕ, ◌+◌, ◌<◌, ◌≤◌,
 ghost use Rattle.mrt.specs.Placements.{alternatives_of, rows_of, IsFree, IsMetBy};
 ghost use Rattle.ims.specs.Evictions.{StaysOr};
 ghost use Rattle.ims.specs.Progress.{AreBelow};
-ghost use Rattle.ims.specs.Scheduling.{IsFirstSound, IsPlace};
+ghost use Rattle.ims.specs.Scheduling.{IsFirstSound, IsPlacement};
 
 use crate::evict::clear;
 use crate::place::{earliest, forced};
@@ -28,7 +28,7 @@ pub(crate) fn settle<T: ModuloTable>(
     requires whole { length (T.placed table.old) ≡ length prepared.now.operations }
     requires tied { T.placed table.old ≡ progress.old.state.placed }
     requires times { AreBelow (2 ^ 31) progress.old.state }
-    ensures place { IsPlace prepared.now (T.interval table.old) progress.old.state op (record { time = result.0; alternative = result.1 }) }
+    ensures place { IsPlacement prepared.now (T.interval table.old) progress.old.state op (record { time = result.0; alternative = result.1 }) }
     ensures free { IsFree (T.interval table.old) prepared.now.operations (T.placed table.new) op result.0 result.1 }
     ensures each { (q : ℕ) → StaysOr (T.placed table.old) (T.placed table.new)
         (IsMetBy (T.interval table.old) prepared.now.operations (T.placed table.old) (rows_of prepared.now.operations op result.1) result.0) q }

@@ -5,8 +5,10 @@
 mod arithmetic;
 mod language;
 mod laws;
+mod list;
 mod memory;
 mod running;
+mod short_list;
 
 pub use arithmetic::{apply, apply_two};
 pub use language::innermost::Loop;
@@ -16,5 +18,7 @@ pub use laws::{
     cells_hold_last_stored, history_is_stable, instances_give_values, instances_read_values,
     plain_runs_keep_shapes,
 };
+pub use list::ListOf;
 pub use memory::Memory;
 pub use running::run::{RunFault, opening, run_from, run_plain};
+pub use short_list::ShortListOf;

@@ -1,6 +1,6 @@
 //! The memory of a run.
 
-ghost use Rattle.std.specs.Prelude.{◌≡◌, ◌+◌, ◌-◌, ◌<◌, ◌≤◌, ◌+ℤ◌, ◌≤ℤ◌, ◌<ℤ◌, ℤ, pos, neg_ℤ, length, slice_index_or, slice_set, IfOk};
+ghost use Rattle.std.specs.Prelude.{◌≡◌, ◌+◌, ◌-◌, ◌<◌, ◌≤◌, ◌+ℤ◌, ◌≤ℤ◌, ◌<ℤ◌, ℤ, pos, neg_ℤ, [], length, slice_index_or, slice_set, IfOk};
 ghost use Rattle.iterations.specs.Run.{MemoryData, IsMemory, cell_of, with_cell};
 
 use machine::limits::MAX_SUBSCRIPT;
@@ -67,6 +67,17 @@ impl Memory {
     {
         let held = &self.arrays[array];
         held.cells[(cell + i64::from(MAX_SUBSCRIPT)) as usize]
+    }
+
+    /// The cells of an array, by the array's number, from 0: in ascending order from cell -64 on, 128
+    /// more than the number of iterations.
+    pub fn cells(&self, array: usize) -> &[i64]
+        requires { array < length self.now.arrays }
+        ensures value { result.now ≡ slice_index_or self.now.arrays array [] }
+        ensures many { length result.now ≡ self.now.trip + 128 }
+    {
+        let row = &self.arrays[array];
+        row.cells.as_slice()
     }
 
     /// How many values are live at the end.

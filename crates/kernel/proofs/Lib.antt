@@ -1,5 +1,6 @@
 pub mod Cycles
 pub mod Deciding
+pub mod Digits
 pub mod Ending
 pub mod Filling
 pub mod FirstRule
@@ -11,6 +12,6 @@ pub mod Preloading
 pub mod Promised
 pub mod RowWrites
 pub mod Rows
-pub mod Standing
+pub mod Held
 pub mod Turning
 pub mod Twofold

@@ -6,6 +6,6 @@ pub mod Overlapped
 pub mod Prepared
 pub mod Promises
 pub mod Rules
-pub mod Stands
+pub mod Holding
 pub mod Steps
 pub mod Text

@@ -23,11 +23,11 @@ pub(crate) const SLOTS: usize = 128;
 
 /// The writes that land in one cycle, in the order of their issue. Contracts see the list.
 #[derive(Drop)]
-pub(crate) struct Slot {
+pub(crate) struct Due {
     pub(crate) writes: Vec<Pending>,
 }
 
-impl Model for Slot {
+impl Model for Due {
     ghost use Rattle.std.specs.Prelude.{List};
     ghost use Rattle.kernel.specs.declared.flight.Pending.{Pending};
 

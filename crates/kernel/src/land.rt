@@ -1,15 +1,15 @@
 //! Lands the writes of a cycle.
 
 ghost use Rattle.std.specs.Prelude.{◌≡◌, ◌%◌, ◌≤◌, ◌<◌, [], length, slice_set};
-ghost use Rattle.kernel.specs.Stands.{IsRing};
+ghost use Rattle.kernel.specs.Holding.{IsRing};
 ghost use Rattle.kernel.specs.Steps.{AreThere, arrays_landed, registers_landed, slot_at};
 
 use crate::file::RegisterFile;
-use crate::flight::{Pending, Place, SLOTS, Slot};
+use crate::flight::{Due, Pending, Place, SLOTS};
 use iterations::Memory;
 
 /// Lands the writes of a cycle, which leaves their slot empty.
-pub(crate) fn land(registers: &mut RegisterFile, memory: &mut Memory, ring: &mut [Slot], cycle: u64)
+pub(crate) fn land(registers: &mut RegisterFile, memory: &mut Memory, ring: &mut [Due], cycle: u64)
     requires ring { IsRing (length registers.old) (length memory.old.arrays) memory.old.trip ring.old }
     ensures many { length registers.new ≡ length registers.old }
     ensures registers { registers.new ≡ registers_landed registers.old (slot_at ring.old cycle) }

@@ -295,21 +295,50 @@ fn write_source(text: &mut String, parts: &Parts, source: Source) -> Result<(), 
 }
 
 /// Writes a number behind some text.
+#[inline(always)]
 fn write_number(text: &mut String, before: &str, number: u64) -> Result<(), OutOfMemory>
     ensures { IfOk result (λ _. string_bytes text.new ≡ string_bytes text.old ++ (before.now ++ decimal number)) }
 {
     text.push_str(before)?;
+    write_decimal(text, number)
+}
+
+/// Writes a signed number behind some text.
+#[inline(always)]
+fn write_value(text: &mut String, before: &str, value: i64) -> Result<(), OutOfMemory>
+    ensures { IfOk result (λ _. string_bytes text.new ≡ string_bytes text.old ++ (before.now ++ signed_decimal value)) }
+{
+    text.push_str(before)?;
+    if value < 0 {
+        text.push_str("-")?;
+    }
+    write_decimal(text, value.unsigned_abs())
+}
+
+/// Writes a number. Nearly all have one digit or two, which need no buffer.
+#[tactic(auto, using(crate::proofs::Digits::two_digits))]
+fn write_decimal(text: &mut String, number: u64) -> Result<(), OutOfMemory>
+    ensures { IfOk result (λ _. string_bytes text.new ≡ string_bytes text.old ++ decimal number) }
+{
+    if number < 10 {
+        return write_digit(text, number);
+    }
+    if number < 100 {
+        write_digit(text, number / 10)?;
+        return write_digit(text, number % 10);
+    }
     let mut buffer = Buffer::new();
     text.push_str(buffer.format(number))?;
     Ok(())
 }
 
-/// Writes a signed number behind some text.
-fn write_value(text: &mut String, before: &str, value: i64) -> Result<(), OutOfMemory>
-    ensures { IfOk result (λ _. string_bytes text.new ≡ string_bytes text.old ++ (before.now ++ signed_decimal value)) }
+/// Writes a digit.
+#[inline(always)]
+#[tactic(auto, using(std::proofs::lemmas::Fmt::decimal_digit))]
+fn write_digit(text: &mut String, digit: u64) -> Result<(), OutOfMemory>
+    requires { digit < 10 }
+    ensures { IfOk result (λ _. string_bytes text.new ≡ string_bytes text.old ++ decimal digit) }
 {
-    text.push_str(before)?;
-    let mut buffer = Buffer::new();
-    text.push_str(buffer.format(value))?;
+    text.push(char::from(b'0' + digit as u8))?;
     Ok(())
 }

@@ -23,7 +23,7 @@ pub record Subscript : Type 0 where
   pub offset : Option ℤ
 
 -- a statement by its words
-pub record Source : Type 0 where
+pub record StatementForm : Type 0 where
   pub opcode : Opcode
   pub name : Option (List ℕ)
   pub place : Option Subscript
@@ -34,7 +34,7 @@ pub data Form : Type 0 where
   ArrayLine : List ℕ → List (Option ℤ) → Form
   ParamLine : List ℕ → Option ℤ → Form
   InitLine : List ℕ → Option ℕ → Option ℤ → Form
-  StatementLine : Source → Form
+  StatementLine : StatementForm → Form
   OutLine : List ℕ → Form
   EndLine : Form
   Malformed : Form

@@ -37,8 +37,8 @@ guard_of _ = None
 abbrev pub subscript_seen : Subscript → spec.Subscript
 subscript_seen s = record { array = s.array.now; offset = s.offset }
 
-abbrev pub source_seen : StatementWords → spec.Source
-source_seen s = record {
+abbrev pub statement_seen : StatementWords → spec.StatementForm
+statement_seen s = record {
   opcode = s.opcode;
   name = option_map (λ (n : Bor (List ℕ)). n.now) s.name;
   place = option_map subscript_seen s.place;
@@ -50,7 +50,7 @@ form_seen (forms.Loop name) = spec.LoopLine name.now
 form_seen (forms.Array name cells) = spec.ArrayLine name.now (cells_seen cells)
 form_seen (forms.Param name value) = spec.ParamLine name.now value
 form_seen (forms.Init name number value) = spec.InitLine name.now number value
-form_seen (forms.Statement source) = spec.StatementLine (source_seen source)
+form_seen (forms.Statement source) = spec.StatementLine (statement_seen source)
 form_seen (forms.Out name) = spec.OutLine name.now
 form_seen forms.End = spec.EndLine
 form_seen forms.Malformed = spec.Malformed

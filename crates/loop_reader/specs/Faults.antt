@@ -20,5 +20,5 @@ abbrev pub told_at : LoopFaultKind → ℕ → List ℕ
 told_at kind.Memory line = kind_text kind.Memory
 told_at kind line = ((codes "line " ++ decimal line) ++ codes ": ") ++ kind_text kind
 
-abbrev pub fault_text : LoopFault → List ℕ
-fault_text fault = told_at fault.kind fault.line
+abbrev pub loop_fault_text : LoopFault → List ℕ
+loop_fault_text fault = told_at fault.kind fault.line

@@ -17,7 +17,7 @@ use Rattle.iterations.specs.declared.language.statement.Operand.{Operand}
 use Rattle.iterations.specs.declared.language.statement.Operand.TheVariants.{Constant, Parameter, Value}
 use Rattle.iterations.specs.declared.language.statement.Place.{Place}
 use Rattle.iterations.specs.declared.language.statement.Statement.{Statement}
-use Rattle.loop_lines.specs.Forms.{Form, LoopLine, ArrayLine, ParamLine, InitLine, StatementLine, OutLine, EndLine, Malformed, Use, Number, Plain, At, Source, Subscript, line_form}
+use Rattle.loop_lines.specs.Forms.{Form, LoopLine, ArrayLine, ParamLine, InitLine, StatementLine, OutLine, EndLine, Malformed, Use, Number, Plain, At, StatementForm, Subscript, line_form}
 use Rattle.iterations.specs.Loops.{LoopData}
 use Rattle.loop_lines.specs.Words.{lines_of, words_of}
 
@@ -87,14 +87,14 @@ declared_by name arrays params statements (ParamLine other value) = if same_word
 declared_by name arrays params statements (StatementLine source) = if any_name (same_word name) source.name then Some (AValue statements) else None
 declared_by name arrays params statements _ = None
 
-abbrev pub number_of : (Form → Bool) → List Form → ℕ
-number_of is_it block = count_by is_it block
+abbrev pub how_many : (Form → Bool) → List Form → ℕ
+how_many is_it block = count_by is_it block
 
 -- the first declaration of a name in a block
 abbrev pub first_declared : List ℕ → List Form → List Form → Option Declared
 first_declared name before [] = None
 first_declared name before (form ∷ forms) =
-    option_or (declared_by name (number_of is_array before) (number_of is_param before) (number_of is_statement before) form)
+    option_or (declared_by name (how_many is_array before) (how_many is_param before) (how_many is_statement before) form)
     (first_declared name (before ++ form ∷ []) forms)
 
 unfoldable pub declared : List Form → List ℕ → Option Declared
@@ -193,20 +193,20 @@ is_uncovered block _ = false
 -- the faults of a standing line, in order, behind the lines before it, in its block
 abbrev pub faults_of : List Form → List Form → Form → Kinds
 faults_of before block (ArrayLine name cells) =
-    when (is_long name || list_any is_none cells || nat_lt 1024 (length cells) || nat_le 32 (number_of is_array before)) Limit
+    when (is_long name || list_any is_none cells || nat_lt 1024 (length cells) || nat_le 32 (how_many is_array before)) Limit
     ++ when (is_some (declared before name)) RepeatedName
 faults_of before block (ParamLine name value) =
-    when (is_long name || is_none value || nat_le 64 (number_of is_param before)) Limit
+    when (is_long name || is_none value || nat_le 64 (how_many is_param before)) Limit
     ++ when (is_some (declared before name)) RepeatedName
 faults_of before block (InitLine name number value) =
     when (is_long name || is_outside number || is_none value) Limit
     ++ when (list_any (is_init name number) before) RepeatedName
     ++ when (not (is_value (declared block name))) UnknownName
 faults_of before block (StatementLine source) =
-    when (any_name is_long source.name || is_wide_place source.place || list_any is_wide source.uses || nat_le 128 (number_of is_statement before)) Limit
+    when (any_name is_long source.name || is_wide_place source.place || list_any is_wide source.uses || nat_le 128 (how_many is_statement before)) Limit
     ++ when (any_name (λ name. is_some (declared before name)) source.name) RepeatedName
     ++ when (is_unknown_place block source.place || list_any (is_unknown block) source.uses) UnknownName
-    ++ when (list_any (is_early block (number_of is_statement before)) source.uses) UseBeforeDefinition
+    ++ when (list_any (is_early block (how_many is_statement before)) source.uses) UseBeforeDefinition
     ++ when (list_any (is_uncovered block) source.uses) MissingInit
 faults_of before block (OutLine name) =
     when (is_long name) Limit
@@ -285,7 +285,7 @@ operand_of block (At name distance) = reads (declared block name) (unwrap_or dis
 abbrev pub place_at : List Form → Subscript → Place
 place_at block s = record { array = number_at (declared block s.array); offset = unwrap_or s.offset (pos 0) }
 
-abbrev pub statement_of : List Form → Source → Statement
+abbrev pub statement_of : List Form → StatementForm → Statement
 statement_of block s = record {
   opcode = s.opcode;
   name = s.name;
@@ -293,9 +293,9 @@ statement_of block s = record {
   operands = map (operand_of block) s.uses;
 }
 
-abbrev pub source_in : Form → Option Source
-source_in (StatementLine source) = Some source
-source_in _ = None
+abbrev pub statement_in : Form → Option StatementForm
+statement_in (StatementLine source) = Some source
+statement_in _ = None
 
 abbrev pub array_in : Form → Option Array
 array_in (ArrayLine name cells) = Some (record { name = name; cells = map (λ cell. unwrap_or cell (pos 0)) cells })
@@ -325,7 +325,7 @@ inits_at block statement (Some name) =
     filter_map (λ number. option_map (λ value. record { statement = statement; number = number; value = value }) (init_value name number block)) init_numbers
 
 -- the initial values of the statements from this number on
-abbrev pub inits_from : List Form → ℕ → List Source → List Initial
+abbrev pub inits_from : List Form → ℕ → List StatementForm → List Initial
 inits_from block statement [] = []
 inits_from block statement (source ∷ sources) = inits_at block statement source.name ++ inits_from block (statement + 1) sources
 
@@ -339,8 +339,8 @@ loop_of block = record {
   name = block.0;
   arrays = filter_map array_in block.1;
   params = filter_map param_in block.1;
-  statements = map (statement_of block.1) (filter_map source_in block.1);
-  inits = inits_from block.1 0 (filter_map source_in block.1);
+  statements = map (statement_of block.1) (filter_map statement_in block.1);
+  inits = inits_from block.1 0 (filter_map statement_in block.1);
   outs = filter_map (out_in block.1) block.1;
 }
 
@@ -371,6 +371,6 @@ AnswersFault Memory fault meaning = fault.line ≡ 0
 AnswersFault kind fault meaning = Err fault ≡ meaning
 
 -- the result is the meaning, unless memory ran out
-abbrev pub Answers : {A : Type 0} → Result A LoopFault → Result A LoopFault → Type 0
-Answers (Ok value) meaning = Ok value ≡ meaning
-Answers (Err fault) meaning = AnswersFault fault.kind fault meaning
+abbrev pub LoopsAnswer : {A : Type 0} → Result A LoopFault → Result A LoopFault → Type 0
+LoopsAnswer (Ok value) meaning = Ok value ≡ meaning
+LoopsAnswer (Err fault) meaning = AnswersFault fault.kind fault meaning

@@ -3,15 +3,15 @@
 ghost use Rattle.std.specs.Prelude.{◌≡◌, ◌+◌, ◌*◌, ◌≤◌, ◌<◌, ◌++◌, ◌∷◌, [], true, None, ℕ, List, IfOk, OnOk, length, option_map, option_to_list};
 ghost use Rattle.std.specs.Borrow.{Bor};
 ghost use Rattle.iterations.specs.Loops.{IsLoop, IsName};
-ghost use Rattle.loop_reader.specs.Meaning.{array_in, loop_of, param_in, source_in, has_statement, is_statement};
-ghost use Rattle.loop_lines.specs.Parsed.{form_seen, source_seen};
+ghost use Rattle.loop_reader.specs.Meaning.{array_in, loop_of, param_in, statement_in, has_statement, is_statement};
+ghost use Rattle.loop_lines.specs.Parsed.{form_seen, statement_seen};
 ghost use Rattle.loop_reader.specs.inner.Blocks.{entry_faults, forms_in, one_if};
 ghost use Rattle.loop_reader.specs.inner.Checks.{IsBlock, IsGiven};
 ghost use Rattle.loop_reader.specs.inner.Building.{IsFew, IsNamed, name_in, row_of, rows_of};
 ghost use Rattle.loop_reader.specs.inner.Found.{AreFound, operand_if, operand_with, out_by, place_with, statement_by, statement_with};
 
 use crate::checks::given::Given;
-use crate::names::found::{Found, Target};
+use crate::names::found::{Target, Targets};
 use crate::names::index::{Counts, Index};
 use iterations::{Array, Cells, Initial, Loop, Operand, Operands, Param, Place, Statement};
 use loop_lines::{Form, StatementWords, Subscript, Use, cells_of};
@@ -89,9 +89,9 @@ fn place(place: &Option<Subscript<'_>>, array: u8) -> Option<Place>
 fn statement(
     alloc: Global,
     source: &StatementWords<'_>,
-    found: &Found,
+    found: &Targets,
 ) -> Result<Statement, AllocError>
-    requires name { IsNamed (source_seen source.now).name }
+    requires name { IsNamed (statement_seen source.now).name }
     ensures { IfOk result (λ s. s ≡ statement_with source.now found.now) }
 {
     let mut operands = SmallVec::new(alloc);
@@ -142,7 +142,7 @@ impl Parts {
         alloc: Global,
         given: &Given,
         form: &Form<'_>,
-        found: &Found,
+        found: &Targets,
     ) -> Result<(), AllocError>
         requires name { IsNamed (name_in (form_seen form.now)) }
         requires few { length self.old.statements.items + one_if (is_statement (form_seen form.now)) ≤ 128 }
@@ -150,7 +150,7 @@ impl Parts {
         ensures arrays { OnOk result (self.new.arrays.items ≡ self.old.arrays.items ++ option_to_list (array_in (form_seen form.now))) }
         ensures params { OnOk result (self.new.params.items ≡ self.old.params.items ++ option_to_list (param_in (form_seen form.now))) }
         ensures statements { OnOk result (self.new.statements.items ≡ self.old.statements.items ++ option_to_list (statement_by form.now found.now)) }
-        ensures inits { OnOk result (self.new.inits.items ≡ self.old.inits.items ++ rows_of given.now.inits (length self.old.statements.items) (option_to_list (source_in (form_seen form.now)))) }
+        ensures inits { OnOk result (self.new.inits.items ≡ self.old.inits.items ++ rows_of given.now.inits (length self.old.statements.items) (option_to_list (statement_in (form_seen form.now)))) }
         ensures outs { OnOk result (self.new.outs.items ≡ self.old.outs.items ++ option_to_list (out_by form.now found.now)) }
     {
         match form {
@@ -183,7 +183,7 @@ pub(crate) fn build<'a>(
     index: &Index<'_, 'a>,
     counts: Counts,
     given: &Given,
-    found: &[Found],
+    found: &[Targets],
 ) -> Result<Loop, AllocError>
     requires name { IsName name.now }
     requires block { IsBlock (forms_in index.now) }

@@ -73,9 +73,9 @@ impl LoopFault {
 /// Prints `line N: ` and the kind, or the kind alone for want of memory.
 impl fmt::Display for LoopFault {
     ghost use Rattle.std.specs.Prelude.{Some};
-    ghost use Rattle.loop_reader.specs.Faults.{fault_text};
+    ghost use Rattle.loop_reader.specs.Faults.{loop_fault_text};
 
-    ghost output = { λ fault. Some (fault_text fault) };
+    ghost output = { λ fault. Some (loop_fault_text fault) };
 
     fn fmt<W: fmt::Write>(&self, f: &mut fmt::Formatter<W>) -> fmt::Result {
         let kind = self.kind;

@@ -4,7 +4,7 @@ ghost use Rattle.std.specs.Prelude.{◌≡◌, ◌==◌, ◌+◌, ◌*◌, ◌�
 ghost use Rattle.std.specs.List.{All};
 ghost use Rattle.iterations.specs.Names.{is_name};
 ghost use Rattle.iterations.specs.Loops.{IsLoop};
-ghost use Rattle.loop_reader.specs.Meaning.{forms_of, loops_in, seen, when, Answers};
+ghost use Rattle.loop_reader.specs.Meaning.{forms_of, loops_in, seen, when, LoopsAnswer};
 ghost use Rattle.loop_reader.specs.declared.fault.LoopFaultKind.TheVariants.{Limit};
 ghost use Rattle.loop_reader.specs.inner.Checks.{first_in};
 ghost use Rattle.loop_reader.specs.inner.Found.{fault_in};
@@ -15,8 +15,8 @@ use crate::checks::check::{first_fault, is_long};
 use crate::checks::given::Given;
 use crate::fault::{LoopFault, LoopFaultKind};
 use crate::lines::collect::{Stop, collect_block};
-use crate::lines::entry::Entry;
-use crate::names::found::Found;
+use crate::lines::entry::LineEntry;
+use crate::names::found::Targets;
 use crate::names::index::{Index, index_names};
 use crate::names::known::Names;
 use iterations::Loop;
@@ -28,10 +28,10 @@ use std::collections::BTreeSet;
 /// What is kept from block to block.
 #[derive(Drop)]
 struct Buffers<'a> {
-    lines: Vec<Entry<'a>>,
+    lines: Vec<LineEntry<'a>>,
     names: Names<'a>,
     given: Given,
-    found: Vec<Found>,
+    found: Vec<Targets>,
 }
 
 impl<'a> Buffers<'a> {
@@ -136,7 +136,7 @@ fn open<'a>(
 /// The loops come in text order. The fault is that of the first line that has one, and of its faults
 /// the first in the order of [`LoopFaultKind`].
 pub fn read_loops(alloc: Global, text: &[u8]) -> Result<Vec<Loop>, LoopFault>
-    ensures exact { Answers (seen result) (loops_in text.now) }
+    ensures exact { LoopsAnswer (seen result) (loops_in text.now) }
     ensures well_formed { IfOk result (λ loops. All IsLoop loops.items × (length loops.items ≤ 1024)) }
 {
     if text.len() > MAX_TEXT {

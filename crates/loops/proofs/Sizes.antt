@@ -22,8 +22,9 @@ use Rattle.iterations.specs.declared.language.statement.Place.{Place}
 use Rattle.iterations.specs.declared.language.statement.Statement.{Statement}
 use Rattle.iterations.specs.Loops.{LoopData, IsLoop, IsName, IsLong, IsBefore, IsPlace, MayRead, HasShape, GivesValue, HasInitial}
 use Rattle.loops.specs.Text.{array_name, value_name, at_distance, operand_word, place_word, place_words, offset_text, stored_words, array_words, param_words, init_words, words_by, statement_words, out_words, following, line_text, text_of}
-use Rattle.loops.proofs.spelling.LoopNames.{all-both, all-numbered, get-below, arrays-named, params-named, statement-named, array_name-named, param_name-named, value_name-named}
+use Rattle.loops.proofs.spelling.LoopNames.{all-numbered, get-below, arrays-named, params-named, statement-named, array_name-named, param_name-named, value_name-named}
 use Rattle.loops.proofs.Texts.{text_of-is}
+use Rattle.loops.proofs.Parts.{all-both}
 
 -- lists
 
@@ -46,31 +47,31 @@ pieces-within f m (suc high) (x ∷ xs) few h =
 -- words
 
 -- how many bytes words take, each behind a blank
-abbrev room : List (List ℕ) → ℕ
-room [] = 0
-room (word ∷ words) = (1 + length word) + room words
+abbrev words_room : List (List ℕ) → ℕ
+words_room [] = 0
+words_room (word ∷ words) = (1 + length word) + words_room words
 
-following-room : (words : List (List ℕ)) → length (following words) ≡ room words
-following-room [] = refl
-following-room (w ∷ ws) =
+following-words_room : (words : List (List ℕ)) → length (following words) ≡ words_room words
+following-words_room [] = refl
+following-words_room (w ∷ ws) =
     let e = length-append w (following ws) in
-    let r = following-room ws in
+    let r = following-words_room ws in
     omega arith
 
-line-within : (words : List (List ℕ)) (m : ℕ) → room words ≤ m → length (line_text words) ≤ m + 1
+line-within : (words : List (List ℕ)) (m : ℕ) → words_room words ≤ m → length (line_text words) ≤ m + 1
 line-within [] m h = omega arith
 line-within (w ∷ ws) m h =
     let e = length-append (w ++ following ws) (10 ∷ []) in
     let f = length-append w (following ws) in
-    let r = following-room ws in
+    let r = following-words_room ws in
     omega arith
 
-room-append : (xs ys : List (List ℕ)) → room (xs ++ ys) ≡ room xs + room ys
-room-append [] ys = omega arith
-room-append (x ∷ xs) ys = let r = room-append xs ys in omega arith
+words_room-append : (xs ys : List (List ℕ)) → words_room (xs ++ ys) ≡ words_room xs + words_room ys
+words_room-append [] ys = omega arith
+words_room-append (x ∷ xs) ys = let r = words_room-append xs ys in omega arith
 
 -- words of at most 20 bytes
-room-each : {X : Type 0} (word : X → List ℕ) (xs : List X) → AllByRecursion (λ x. length (word x) ≤ 20) xs → room (map word xs) ≤ length xs * 21
+room-each : {X : Type 0} (word : X → List ℕ) (xs : List X) → AllByRecursion (λ x. length (word x) ≤ 20) xs → words_room (map word xs) ≤ length xs * 21
 room-each word [] h = omega arith
 room-each word (x ∷ xs) h =
     let one = h.0 in
@@ -187,29 +188,29 @@ operands-few Lt s h = let e = h.2 in omega arith
 operands-few Sel s h = let e = h.2 in omega arith
 operands-few Mov s h = let e = h.2 in omega arith
 
-places-room : (loop : LoopData) → IsLoop loop → (o : Option Place) → ((p : Place) → o ≡ Some p → IsPlace loop p) → room (place_words loop o) ≤ 23
+places-room : (loop : LoopData) → IsLoop loop → (o : Option Place) → ((p : Place) → o ≡ Some p → IsPlace loop p) → words_room (place_words loop o) ≤ 23
 places-room loop is None h = omega arith
 places-room loop is (Some p) h =
     let r = place-length loop is p (h p refl) in
     omega arith
 
 -- a store's guard stands behind `if`
-stored-room : (words : List (List ℕ)) → room (stored_words words) ≤ room words + 3
+stored-room : (words : List (List ℕ)) → words_room (stored_words words) ≤ words_room words + 3
 stored-room [] = omega arith
 stored-room (w ∷ []) = omega arith
 stored-room (w ∷ v ∷ ws) = omega arith
 
-words-room : (loop : LoopData) (opcode : Opcode) (o : Option (List ℕ)) (places operands : List (List ℕ)) → ((name : List ℕ) → o ≡ Some name → IsName name) → room places ≤ 23 → room operands ≤ 63
-    → room (words_by loop opcode o places operands) ≤ 111
+words-room : (loop : LoopData) (opcode : Opcode) (o : Option (List ℕ)) (places operands : List (List ℕ)) → ((name : List ℕ) → o ≡ Some name → IsName name) → words_room places ≤ 23 → words_room operands ≤ 63
+    → words_room (words_by loop opcode o places operands) ≤ 111
 words-room loop opcode None places operands named p q =
     let word = opcode-length opcode in
     let stored = stored-room operands in
-    let e = room-append places (stored_words operands) in
+    let e = words_room-append places (stored_words operands) in
     omega arith
 words-room loop opcode (Some name) places operands named p q =
     let short = (named name refl).short in
     let word = opcode-length opcode in
-    let e = room-append places operands in
+    let e = words_room-append places operands in
     omega arith
 
 statement-length : (loop : LoopData) → IsLoop loop → (k : ℕ) (s : Statement) → slice_get loop.statements k ≡ Some s → length (line_text (statement_words loop s)) ≤ 112

@@ -9,7 +9,7 @@ use Rattle.toml.specs.Data.{Data, string, integer, float, boolean, datetime, arr
 use Rattle.machine.specs.declared.fault.MachineFault.{MachineFault}
 use Rattle.machine.specs.declared.fault.MachineFault.TheVariants.{MissingKey, WrongType, RepeatedUnit, Limit, Memory}
 use Rattle.machine.specs.Opcodes.{same_word}
-use Rattle.machine.specs.Reads.{first_fault, Reads}
+use Rattle.machine.specs.Reads.{first_fault, ReadsPart}
 use Rattle.machine.specs.MachineText.{Faults, unless, within, is_unit_name, unit_faults, text_of, data_of, faults_in_turn, faults_of_units, names_of, faults_of_number, number_in}
 
 -- checks one after another
@@ -165,6 +165,6 @@ module _ {E : Type 0} (path limit : List ℕ) (high : ℕ) (d : Data) (z : ℤ) 
 
 -- the exit of a `?`
 
-pub Reads-err : {A : Type 0} (F : Faults) (IsRight : A → Type 0) (r : Result A MachineFault) (e : MachineFault) → IsErrAnd r (λ y. y ≡ e) → (e ≢ Memory → first_fault F ≡ Some e) → Reads F IsRight r
-Reads-err F IsRight (Ok x) e h first = absurd h
-Reads-err F IsRight (Err y) e h first = rw h first
+pub ReadsPart-err : {A : Type 0} (F : Faults) (IsRight : A → Type 0) (r : Result A MachineFault) (e : MachineFault) → IsErrAnd r (λ y. y ≡ e) → (e ≢ Memory → first_fault F ≡ Some e) → ReadsPart F IsRight r
+ReadsPart-err F IsRight (Ok x) e h first = absurd h
+ReadsPart-err F IsRight (Err y) e h first = rw h first

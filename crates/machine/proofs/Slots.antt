@@ -20,7 +20,7 @@ use Rattle.machine.specs.declared.fault.MachineFault.TheVariants.{UnknownOpcode}
 use Rattle.machine.specs.declared.opcode.Opcode.{Opcode}
 use Rattle.machine.specs.declared.opcode.Opcode.TheVariants.{Load, Store, Add, Sub, Mul, And, Or, Xor, Min, Max, Lt, Sel, Mov}
 use Rattle.machine.specs.Machines.{OperationData}
-use Rattle.machine.specs.Opcodes.{word_of, number_of, all_opcodes, same_word, opcode_named}
+use Rattle.machine.specs.Opcodes.{word_of, opcode_number, all_opcodes, same_word, opcode_named}
 use Rattle.machine.specs.Reads.{first_fault}
 use Rattle.machine.specs.MachineText.{operation_of, entries_of, entry_faults, table_faults, keys_in, tables_of}
 use Rattle.machine.proofs.Faults.{first-append}
@@ -42,7 +42,7 @@ named-word Lt = refl
 named-word Sel = refl
 named-word Mov = refl
 
-at-number : (o : Opcode) → get_or all_opcodes (number_of o) Load ≡ o
+at-number : (o : Opcode) → get_or all_opcodes (opcode_number o) Load ≡ o
 at-number Load = refl
 at-number Store = refl
 at-number Add = refl
@@ -57,7 +57,7 @@ at-number Lt = refl
 at-number Sel = refl
 at-number Mov = refl
 
-pub number-below : (o : Opcode) → number_of o < 13
+pub number-below : (o : Opcode) → opcode_number o < 13
 number-below Load = omega arith
 number-below Store = omega arith
 number-below Add = omega arith
@@ -72,7 +72,7 @@ number-below Lt = omega arith
 number-below Sel = omega arith
 number-below Mov = omega arith
 
-number-at : (n : ℕ) → n < 13 → number_of (get_or all_opcodes n Load) ≡ n
+number-at : (n : ℕ) → n < 13 → opcode_number (get_or all_opcodes n Load) ≡ n
 number-at zero h = refl
 number-at (suc zero) h = refl
 number-at (suc (suc zero)) h = refl
@@ -120,14 +120,14 @@ record SlotRight (units : List (List ℕ)) (word : List ℕ) (left all : Members
 pub record SlotsRight (units : List (List ℕ)) (left : List Entry) (all : Members) (tables : List (Option OperationData)) : Type 0 where
   pub sorted : IsStrictlySortedBy string_cmp (keys_of left)
   pub count : length tables ≡ 13
-  slots : (o : Opcode) → SlotRight units (word_of o) (members_view left) all (get_or tables (number_of o) None)
+  slots : (o : Opcode) → SlotRight units (word_of o) (members_view left) all (get_or tables (opcode_number o) None)
 
 pub slots-none : (units : List (List ℕ)) (es : List Entry) (tables : List (Option OperationData)) → tables ≡ replicate 13 None → IsStrictlySortedBy string_cmp (keys_of es) → SlotsRight units es (members_view es) tables
 slots-none units es tables none sorted = rw none (record {
   sorted = sorted;
   count = refl;
   slots = λ o. record {
-    filled = λ h. get_or-replicate 13 (number_of o) None None (number-below o) ∙ rw h;
+    filled = λ h. get_or-replicate 13 (opcode_number o) None None (number-below o) ∙ rw h;
     open' = λ d h. h;
   };
 })
@@ -138,8 +138,8 @@ sorted-parts k ks h = h
 
 module _ (units : List (List ℕ)) (all : Members) (tables : List (Option OperationData)) (k : String Global) (v : Value) (rest : List Entry) (o' : Opcode) (named : opcode_named (string_bytes k) ≡ Some o')
     (count : length tables ≡ 13) (above : AllByRecursion (λ y. string_cmp k y ≡ Less) (keys_of rest)) where
-  slot-here : (o : Opcode) → same_word (word_of o) (string_bytes k) ≡ true → SlotRight units (word_of o) (members_view ((k, v) ∷ rest)) all (get_or tables (number_of o) None)
-      → SlotRight units (word_of o) (members_view rest) all (get_or (set tables (number_of o') (Some (operation_of units (view v)))) (number_of o) None)
+  slot-here : (o : Opcode) → same_word (word_of o) (string_bytes k) ≡ true → SlotRight units (word_of o) (members_view ((k, v) ∷ rest)) all (get_or tables (opcode_number o) None)
+      → SlotRight units (word_of o) (members_view rest) all (get_or (set tables (opcode_number o') (Some (operation_of units (view v)))) (opcode_number o) None)
   slot-here o same right =
       let word : word_of o ≡ string_bytes k = (bytes_eq-Decides (word_of o) (string_bytes k)).0 same in
       let own : opcode_named (string_bytes k) ≡ Some o = rw word at (named-word o) in
@@ -147,36 +147,36 @@ module _ (units : List (List ℕ)) (all : Members) (tables : List (Option Operat
       let found : get_member (word_of o) (members_view ((k, v) ∷ rest)) ≡ Some (view v) = found-at (word_of o) (string_bytes k) (view v) (members_view rest) ∙ rw same in
       let whole = right.open' (view v) found in
       let none : get_member (word_of o) (members_view rest) ≡ None = rw word (above-none k rest above) in
-      let fits : number_of o' < length tables = omega (arith, number-below o', count) in
+      let fits : opcode_number o' < length tables = omega (arith, number-below o', count) in
       record {
-        filled = λ _. rw whole (rw is (get_or-set_same tables (number_of o') _ None fits));
+        filled = λ _. rw whole (rw is (get_or-set_same tables (opcode_number o') _ None fits));
         open' = λ d h. let e = sym none ∙ h in cc;
       }
 
-  slot-there : (o : Opcode) → same_word (word_of o) (string_bytes k) ≡ false → SlotRight units (word_of o) (members_view ((k, v) ∷ rest)) all (get_or tables (number_of o) None)
-      → SlotRight units (word_of o) (members_view rest) all (get_or (set tables (number_of o') (Some (operation_of units (view v)))) (number_of o) None)
+  slot-there : (o : Opcode) → same_word (word_of o) (string_bytes k) ≡ false → SlotRight units (word_of o) (members_view ((k, v) ∷ rest)) all (get_or tables (opcode_number o) None)
+      → SlotRight units (word_of o) (members_view rest) all (get_or (set tables (opcode_number o') (Some (operation_of units (view v)))) (opcode_number o) None)
   slot-there o other right =
       let skipped : get_member (word_of o) (members_view ((k, v) ∷ rest)) ≡ get_member (word_of o) (members_view rest) = found-at (word_of o) (string_bytes k) (view v) (members_view rest) ∙ rw other in
-      let apart : number_of o ≢ number_of o' = λ e.
+      let apart : opcode_number o ≢ opcode_number o' = λ e.
       let is : o' ≡ o = sym (at-number o') ∙ rw (← e) (at-number o) in
       false≢true (sym other ∙ rw is at (word-named (string_bytes k) o' named)) in
       record {
-        filled = λ h. get_or-set_other tables (number_of o') (number_of o) _ None apart ∙ right.filled (skipped ∙ h);
+        filled = λ h. get_or-set_other tables (opcode_number o') (opcode_number o) _ None apart ∙ right.filled (skipped ∙ h);
         open' = λ d h. right.open' d (skipped ∙ h);
       }
 
-  slot-next : (o : Opcode) → SlotRight units (word_of o) (members_view ((k, v) ∷ rest)) all (get_or tables (number_of o) None)
-      → SlotRight units (word_of o) (members_view rest) all (get_or (set tables (number_of o') (Some (operation_of units (view v)))) (number_of o) None)
+  slot-next : (o : Opcode) → SlotRight units (word_of o) (members_view ((k, v) ∷ rest)) all (get_or tables (opcode_number o) None)
+      → SlotRight units (word_of o) (members_view rest) all (get_or (set tables (opcode_number o') (Some (operation_of units (view v)))) (opcode_number o) None)
   slot-next o right = elim (cases_Bool (same_word (word_of o) (string_bytes k))) [ inl e ↦ slot-here o e right | inr e ↦ slot-there o e right ]
 
 pub slots-more : (units : List (List ℕ)) (all : Members) (tables : List (Option OperationData)) (es : List Entry) (k : String Global) (v : Value) (rest : List Entry) (o : Opcode) → es ≡ (k, v) ∷ rest → opcode_named (string_bytes k) ≡ Some o
-    → SlotsRight units es all tables → SlotsRight units rest all (set tables (number_of o) (Some (operation_of units (view v))))
+    → SlotsRight units es all tables → SlotsRight units rest all (set tables (opcode_number o) (Some (operation_of units (view v))))
 slots-more units all tables es k v rest o more named right =
     let now = rw more at right in
     let sorted = sorted-parts k (keys_of rest) now.sorted in
     record {
       sorted = sorted.1;
-      count = length-set tables (number_of o) _ ∙ now.count;
+      count = length-set tables (opcode_number o) _ ∙ now.count;
       slots = λ p. slot-next units all tables k v rest o named now.count sorted.0 p (now.slots p);
     }
 

@@ -7,8 +7,8 @@ use Rattle.toml.specs.Data.{Members}
 use Rattle.toml.specs.Parse.{parse_document}
 use Rattle.machine.specs.declared.fault.MachineFault.{MachineFault}
 use Rattle.machine.specs.declared.fault.MachineFault.TheVariants.{NotUtf8, NotToml, MissingKey, WrongType, UnknownKey, UnknownUnit, UnknownOpcode, RepeatedUnit, RepeatedRow, Limit, Memory}
-use Rattle.machine.specs.Answers.{Answers}
-use Rattle.machine.specs.Reads.{Reads, first_fault}
+use Rattle.machine.specs.MachineAnswer.{MachineAnswer}
+use Rattle.machine.specs.Reads.{ReadsPart, first_fault}
 use Rattle.machine.specs.MachineText.{Faults, answer, tree_faults, tree_machine, machine_of}
 
 at-first : {A : Type 0} (F : Faults) (v : A) (e : MachineFault) → first_fault F ≡ Some e → Err e ≡ answer F v
@@ -16,19 +16,19 @@ at-first [] v e h = cc
 at-first (f ∷ F) v e h = cc
 
 -- what reads a part answers it
-pub Answers-from_Reads : {A : Type 0} (F : Faults) (v : A) (r : Result A MachineFault) → Reads F (λ x. x ≡ v) r → Answers r (answer F v)
-Answers-from_Reads F v (Ok x) h = rw (h.0, h.1)
-Answers-from_Reads F v (Err Memory) h = tt
-Answers-from_Reads F v (Err NotUtf8) h = at-first F v NotUtf8 (h (λ e. cc))
-Answers-from_Reads F v (Err NotToml) h = at-first F v NotToml (h (λ e. cc))
-Answers-from_Reads F v (Err (MissingKey k)) h = at-first F v _ (h (λ e. cc))
-Answers-from_Reads F v (Err (WrongType k)) h = at-first F v _ (h (λ e. cc))
-Answers-from_Reads F v (Err (UnknownKey k)) h = at-first F v _ (h (λ e. cc))
-Answers-from_Reads F v (Err (UnknownUnit k)) h = at-first F v _ (h (λ e. cc))
-Answers-from_Reads F v (Err (UnknownOpcode k)) h = at-first F v _ (h (λ e. cc))
-Answers-from_Reads F v (Err (RepeatedUnit k)) h = at-first F v _ (h (λ e. cc))
-Answers-from_Reads F v (Err (RepeatedRow k)) h = at-first F v _ (h (λ e. cc))
-Answers-from_Reads F v (Err (Limit k)) h = at-first F v _ (h (λ e. cc))
+pub MachineAnswer-from_Reads : {A : Type 0} (F : Faults) (v : A) (r : Result A MachineFault) → ReadsPart F (λ x. x ≡ v) r → MachineAnswer r (answer F v)
+MachineAnswer-from_Reads F v (Ok x) h = rw (h.0, h.1)
+MachineAnswer-from_Reads F v (Err Memory) h = tt
+MachineAnswer-from_Reads F v (Err NotUtf8) h = at-first F v NotUtf8 (h (λ e. cc))
+MachineAnswer-from_Reads F v (Err NotToml) h = at-first F v NotToml (h (λ e. cc))
+MachineAnswer-from_Reads F v (Err (MissingKey k)) h = at-first F v _ (h (λ e. cc))
+MachineAnswer-from_Reads F v (Err (WrongType k)) h = at-first F v _ (h (λ e. cc))
+MachineAnswer-from_Reads F v (Err (UnknownKey k)) h = at-first F v _ (h (λ e. cc))
+MachineAnswer-from_Reads F v (Err (UnknownUnit k)) h = at-first F v _ (h (λ e. cc))
+MachineAnswer-from_Reads F v (Err (UnknownOpcode k)) h = at-first F v _ (h (λ e. cc))
+MachineAnswer-from_Reads F v (Err (RepeatedUnit k)) h = at-first F v _ (h (λ e. cc))
+MachineAnswer-from_Reads F v (Err (RepeatedRow k)) h = at-first F v _ (h (λ e. cc))
+MachineAnswer-from_Reads F v (Err (Limit k)) h = at-first F v _ (h (λ e. cc))
 
 module _ (text : List ℕ) where
   pub text-long : 1048576 < length text → machine_of text ≡ Err (Limit (codes "text"))

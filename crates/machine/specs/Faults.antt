@@ -13,15 +13,15 @@ byte_text byte = if is_ascii_control byte then escape_default byte else byte ∷
 abbrev pub key_text : List ℕ → List ℕ
 key_text = flat_map byte_text
 
-abbrev pub fault_text : MachineFault → List ℕ
-fault_text fault.NotUtf8 = codes "not UTF-8"
-fault_text fault.NotToml = codes "not TOML"
-fault_text (fault.MissingKey key) = codes "missing key " ++ key_text key
-fault_text (fault.WrongType key) = codes "wrong type at " ++ key_text key
-fault_text (fault.UnknownKey key) = codes "unknown key " ++ key_text key
-fault_text (fault.UnknownUnit unit) = codes "unknown unit " ++ key_text unit
-fault_text (fault.UnknownOpcode word) = codes "unknown opcode " ++ key_text word
-fault_text (fault.RepeatedUnit unit) = codes "repeated unit " ++ key_text unit
-fault_text (fault.RepeatedRow key) = codes "repeated row at " ++ key_text key
-fault_text (fault.Limit name) = codes "limit " ++ key_text name
-fault_text fault.Memory = codes "out of memory"
+abbrev pub machine_fault_text : MachineFault → List ℕ
+machine_fault_text fault.NotUtf8 = codes "not UTF-8"
+machine_fault_text fault.NotToml = codes "not TOML"
+machine_fault_text (fault.MissingKey key) = codes "missing key " ++ key_text key
+machine_fault_text (fault.WrongType key) = codes "wrong type at " ++ key_text key
+machine_fault_text (fault.UnknownKey key) = codes "unknown key " ++ key_text key
+machine_fault_text (fault.UnknownUnit unit) = codes "unknown unit " ++ key_text unit
+machine_fault_text (fault.UnknownOpcode word) = codes "unknown opcode " ++ key_text word
+machine_fault_text (fault.RepeatedUnit unit) = codes "repeated unit " ++ key_text unit
+machine_fault_text (fault.RepeatedRow key) = codes "repeated row at " ++ key_text key
+machine_fault_text (fault.Limit name) = codes "limit " ++ key_text name
+machine_fault_text fault.Memory = codes "out of memory"

@@ -1,5 +1,5 @@
 pub mod Alternative
-pub mod Answers
+pub mod MachineAnswer
 pub mod Faults
 pub mod Machines
 pub mod MachineText

@@ -6,7 +6,7 @@ use Rattle.std.specs.Option.{option_flatten}
 use Rattle.machine.specs.declared.alternative.Row.{Row}
 use Rattle.machine.specs.declared.opcode.Opcode.{Opcode}
 use Rattle.machine.specs.Alternative.{AreAlternatives}
-use Rattle.machine.specs.Opcodes.{number_of}
+use Rattle.machine.specs.Opcodes.{opcode_number}
 
 -- how operations of one opcode are issued: the latency in cycles, and the alternatives
 pub record OperationData : Type 0 where
@@ -21,7 +21,7 @@ pub record MachineData : Type 0 where
 
 -- the table of an opcode
 abbrev pub table_of : MachineData → Opcode → Option OperationData
-table_of machine opcode = option_flatten (slice_get machine.tables (number_of opcode))
+table_of machine opcode = option_flatten (slice_get machine.tables (opcode_number opcode))
 
 -- a latency of 1 to 64 cycles, and 1 to 8 alternatives
 pub record IsOperation (table : OperationData) : Type 0 where

@@ -22,20 +22,20 @@ word_of Sel = codes "sel"
 word_of Mov = codes "mov"
 
 -- an opcode's place among all, from 0
-abbrev pub number_of : Opcode → ℕ
-number_of Load = 0
-number_of Store = 1
-number_of Add = 2
-number_of Sub = 3
-number_of Mul = 4
-number_of And = 5
-number_of Or = 6
-number_of Xor = 7
-number_of Min = 8
-number_of Max = 9
-number_of Lt = 10
-number_of Sel = 11
-number_of Mov = 12
+abbrev pub opcode_number : Opcode → ℕ
+opcode_number Load = 0
+opcode_number Store = 1
+opcode_number Add = 2
+opcode_number Sub = 3
+opcode_number Mul = 4
+opcode_number And = 5
+opcode_number Or = 6
+opcode_number Xor = 7
+opcode_number Min = 8
+opcode_number Max = 9
+opcode_number Lt = 10
+opcode_number Sel = 11
+opcode_number Mov = 12
 
 -- all opcodes, by their numbers
 abbrev pub all_opcodes : List Opcode

@@ -9,5 +9,5 @@ first_fault [] = None
 first_fault (fault ∷ faults) = Some fault
 
 -- the part has no fault and its value is right, or the error is its first fault, unless memory ran out
-abbrev pub Reads : {A : Type 0} → Faults → (A → Type 0) → Result A MachineFault → Type 0
-Reads faults IsRight result = MatchResult result (λ value. (faults ≡ []) × IsRight value) (λ e. e ≢ Memory → first_fault faults ≡ Some e)
+abbrev pub ReadsPart : {A : Type 0} → Faults → (A → Type 0) → Result A MachineFault → Type 0
+ReadsPart faults IsRight result = MatchResult result (λ value. (faults ≡ []) × IsRight value) (λ e. e ≢ Memory → first_fault faults ≡ Some e)

@@ -115,9 +115,9 @@ pub enum MachineFault {
 /// Prints what is wrong and with which key or name, on one line.
 impl fmt::Display for MachineFault {
     ghost use Rattle.std.specs.Prelude.{Some};
-    ghost use Rattle.machine.specs.Faults.{fault_text};
+    ghost use Rattle.machine.specs.Faults.{machine_fault_text};
 
-    ghost output = { λ fault. Some (fault_text fault) };
+    ghost output = { λ fault. Some (machine_fault_text fault) };
 
     fn fmt<W: fmt::Write>(&self, f: &mut fmt::Formatter<W>) -> fmt::Result {
         match self {

@@ -1,7 +1,7 @@
 //! The operations of the loop language.
 
 ghost use Rattle.std.specs.Prelude.{◌≡◌, ◌<◌};
-ghost use Rattle.machine.specs.Opcodes.{word_of, number_of, opcode_named};
+ghost use Rattle.machine.specs.Opcodes.{word_of, opcode_number, opcode_named};
 
 /// What a statement of a loop does. The order is that of the words in the documents, and of
 /// [`Opcode::number`].
@@ -49,7 +49,7 @@ impl Opcode {
 
     /// The opcode's place among all opcodes, from 0.
     pub fn number(self) -> usize
-        ensures value { result ≡ number_of self }
+        ensures value { result ≡ opcode_number self }
         ensures range { result < 13 }
     {
         self as usize

@@ -4,8 +4,8 @@ ghost use Rattle.std.specs.Prelude.{◌≡◌, map, option_map};
 ghost use Rattle.std.specs.List.{list_any};
 ghost use Rattle.machine.specs.Opcodes.{same_word};
 ghost use Rattle.toml.specs.View.{view, table_view};
-ghost use Rattle.machine.specs.Answers.{Answers};
-ghost use Rattle.machine.specs.Reads.{Reads};
+ghost use Rattle.machine.specs.MachineAnswer.{MachineAnswer};
+ghost use Rattle.machine.specs.Reads.{ReadsPart};
 ghost use Rattle.machine.specs.MachineText.{within, unknown_keys, faults_of_number, number_in, tree_faults, tree_machine, machine_of};
 
 use crate::fault::{Key, MachineFault};
@@ -26,7 +26,7 @@ mod units;
 /// that it fails, in the order of the text's parts `units`, `registers` and `ops`. Keys that mean
 /// nothing come before all else at their level.
 pub fn read_machine(alloc: Global, text: &[u8]) -> Result<Machine, MachineFault>
-    ensures exact { Answers result (machine_of text.now) }
+    ensures exact { MachineAnswer result (machine_of text.now) }
 {
     if text.len() > MAX_TEXT {
         return Err(MachineFault::Limit(Key::of(alloc, "text")?));
@@ -48,7 +48,7 @@ pub fn read_machine(alloc: Global, text: &[u8]) -> Result<Machine, MachineFault>
 
 /// The machine that the tree of a text describes.
 fn read_tree(alloc: Global, tree: &Table) -> Result<Machine, MachineFault>
-    ensures { Reads (tree_faults (table_view tree.now)) (λ machine. machine ≡ tree_machine (table_view tree.now)) result }
+    ensures { ReadsPart (tree_faults (table_view tree.now)) (λ machine. machine ≡ tree_machine (table_view tree.now)) result }
 {
     check_keys(alloc, &Path::top(""), &["ops", "registers", "units"], tree)?;
     let units = read_units(alloc, tree.get("units"))?;
@@ -71,7 +71,7 @@ pub(crate) fn check_keys(
     known: &[&str],
     table: &Table,
 ) -> Result<(), MachineFault>
-    ensures { Reads (unknown_keys path.now (map (λ k. k.now) known.now) (table_view table.now)) (λ _. Unit {0}) result }
+    ensures { ReadsPart (unknown_keys path.now (map (λ k. k.now) known.now) (table_view table.now)) (λ _. Unit {0}) result }
 {
     for (key, _) in table {
         if !is_known(key.as_str(), known) {
@@ -96,7 +96,7 @@ pub(crate) fn read_number(
     high: u16,
     value: Option<&Value>,
 ) -> Result<u16, MachineFault>
-    ensures { let found = option_map (λ v. view v.now) value.entry in Reads (faults_of_number path.now limit.now 1 high found) (λ number. number ≡ number_in found) result }
+    ensures { let found = option_map (λ v. view v.now) value.entry in ReadsPart (faults_of_number path.now limit.now 1 high found) (λ number. number ≡ number_in found) result }
 {
     let Some(value) = value else {
         return Err(MachineFault::MissingKey(path.to_key(alloc, "")?));

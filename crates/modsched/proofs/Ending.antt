@@ -8,7 +8,7 @@ use Rattle.machine.specs.MachineText.{machine_of}
 use Rattle.loops.specs.LoopFaultKind.TheVariants as kinds
 use Rattle.loops.specs.Meaning.{loops_in}
 use Rattle.command_line.specs.declared.line.Command.{Command}
-use Rattle.command_line.specs.declared.line.Command.TheVariants.{Bounds, Plain, Schedule, Run}
+use Rattle.command_line.specs.declared.line.Command.TheVariants.{Bounds, Edges, Dot, Plain, Schedule, Json, Explain, Run}
 use Rattle.modsched.specs.Outcomes.{Outcome, Written, RefusedMachine, RefusedLoops, NoTable as NoTableFor}
 use Rattle.modsched.specs.Devices.{most_read}
 use Rattle.modsched.specs.Engine.{Brings, Ends}
@@ -67,8 +67,12 @@ loops_in-take bytes = elim (cases_lt most_read (length bytes)) [
 
 brings-take : (command : Command) (machine loops : List ℕ) (outcome : Outcome) → Brings command (take most_read machine) (take most_read loops) outcome → Brings command machine loops outcome
 brings-take (Bounds m l) machine loops outcome h = rw (machine_of-take machine, loops_in-take loops) at h
+brings-take (Edges m l) machine loops outcome h = rw (machine_of-take machine, loops_in-take loops) at h
+brings-take (Dot m l) machine loops outcome h = rw (machine_of-take machine, loops_in-take loops) at h
 brings-take (Plain l trip) machine loops outcome h = rw (loops_in-take loops) at h
 brings-take (Schedule m l settings) machine loops outcome h = rw (machine_of-take machine, loops_in-take loops) at h
+brings-take (Json m l settings) machine loops outcome h = rw (machine_of-take machine, loops_in-take loops) at h
+brings-take (Explain m l settings) machine loops outcome h = rw (machine_of-take machine, loops_in-take loops) at h
 brings-take (Run m l trip settings) machine loops outcome h = rw (machine_of-take machine, loops_in-take loops) at h
 
 -- what was read of texts brings about what the whole texts do

@@ -12,7 +12,6 @@ use Rattle.workers.proofs.Answering.{on_ok}
 use Rattle.modsched.specs.Outcomes.{OutcomeIn, OutcomeOf, OutcomeOn, Written, NoTable as NoTableFor}
 use Rattle.modsched.specs.Refusals.{HasOneMemory, IsRefusal}
 use Rattle.modsched.specs.Statuses.{refusal_of_file}
-use Rattle.modsched.specs.declared.status.Status.TheVariants.{NoTable}
 use Rattle.modsched.proofs.Refusing.{LoopLists, Machines, Texts, loops_memory, machine_memory, refused_loops, refused_machine}
 
 module _ {A : Type 0} where

@@ -1,6 +1,5 @@
 pub mod Ending
 pub mod Files
-pub mod LinesOfLoops
 pub mod PlainLines
 pub mod Refusing
 pub mod Runnable

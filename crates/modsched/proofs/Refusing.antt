@@ -1,7 +1,7 @@
 -- Refusals.
-use Rattle.std.proofs.Common.{◌≡◌, ℕ, List, Option, arith, refl}
+use Rattle.std.proofs.Common.{◌≡◌, ℕ, List, Option, Some, None, arith, refl, subst}
 use Rattle.std.specs.Prelude.{Bool, Result, Ok, Err}
-use Rattle.machine.specs.Answers.{Answers}
+use Rattle.machine.specs.MachineAnswer.{MachineAnswer}
 use Rattle.machine.specs.Machines.{MachineData}
 use Rattle.machine.specs.declared.fault.MachineFault.{MachineFault}
 use Rattle.machine.specs.declared.fault.MachineFault.TheVariants as machine_fault
@@ -12,10 +12,13 @@ use Rattle.loops.specs.LoopFault.{LoopFault}
 use Rattle.loops.specs.LoopFaultKind.{LoopFaultKind}
 use Rattle.loops.specs.LoopFaultKind.TheVariants as kinds
 use Rattle.graph.specs.Units.{first_lacking}
-use Rattle.modsched.specs.Outcomes.{Outcome, OutcomeOf, RefusedMachine, RefusedLoops, NoTable as NoTableFor}
+use Rattle.graph_text.specs.Faults.{TextAnswers}
+use Rattle.graph_text.specs.declared.fault.TextFault.{TextFault}
+use Rattle.graph_text.specs.declared.fault.TextFault.TheVariants as text_fault
+use Rattle.modsched.specs.Outcomes.{Outcome, OutcomeOf, OutcomeOn, Written, RefusedMachine, RefusedLoops, NoTable as NoTableFor}
 use Rattle.modsched.specs.Plain.{plain_outcome}
-use Rattle.modsched.specs.Refusals.{HasOneMemory, IsLacking, IsRefusal}
-use Rattle.modsched.specs.Statuses.{number_of, refusal_of_machine, refusal_of_loops, loops_status}
+use Rattle.modsched.specs.Refusals.{HasOneMemory, IsRefusal}
+use Rattle.modsched.specs.Statuses.{status_number, refusal_of_machine, refusal_of_loops, refusal_of_text, loops_status}
 use Rattle.modsched.specs.declared.status.Status.{Status}
 use Rattle.modsched.specs.declared.status.Status.TheVariants.{Done, Unmet, MachineUnread, LoopsUnread, Machine, Loops, NoTable, Unwritten, OutOfMemory}
 
@@ -41,7 +44,7 @@ pub refused_loops : (f : LoopFault) (P : Outcome → Type 0) → P (RefusedLoops
 refused_loops f P h = refused_loops_at f.kind f P h
 
 -- a machine text that is refused
-pub machine_refused : (IsText : Texts) (f : MachineFault) (machine : Machines) (loops : LoopLists) → Answers (Err f) machine → IsRefusal (OutcomeOf IsText machine loops) (refusal_of_machine f)
+pub machine_refused : (IsText : Texts) (f : MachineFault) (machine : Machines) (loops : LoopLists) → MachineAnswer (Err f) machine → IsRefusal (OutcomeOf IsText machine loops) (refusal_of_machine f)
 machine_refused T machine_fault.Memory machine loops h = tt
 machine_refused T f machine loops h = (RefusedMachine f, rw (← h) refl, refl)
 
@@ -52,27 +55,37 @@ loops_refused_at P kinds.Memory f loops is h = tt
 loops_refused_at P kind f loops is h = (RefusedLoops f, rw (← h) is, refl)
 
 -- .. behind a machine text that is not
-pub loops_refused : (IsText : Texts) (f : LoopFault) (m : MachineData) (loops : LoopLists) → loops_meaning.Answers (Err f) loops → IsRefusal (OutcomeOf IsText (Ok m) loops) (refusal_of_loops f)
+pub loops_refused : (IsText : Texts) (f : LoopFault) (m : MachineData) (loops : LoopLists) → loops_meaning.LoopsAnswer (Err f) loops → IsRefusal (OutcomeOf IsText (Ok m) loops) (refusal_of_loops f)
 loops_refused T f m loops h = loops_refused_at (OutcomeOf T (Ok m)) f.kind f loops refl h
 
--- a loop that lacks a table
-pub lacking_refused : (IsText : Texts) (status : Status) (m : MachineData) (loops : List LoopData) → IsLacking status (first_lacking m loops) → IsRefusal (OutcomeOf IsText (Ok m) (Ok loops)) status
-lacking_refused T OutOfMemory m loops h = tt
-lacking_refused T (NoTable name opcode) m loops h = (NoTableFor name opcode, rw h refl, refl)
-lacking_refused T Done m loops h = absurd h
-lacking_refused T Unmet m loops h = absurd h
-lacking_refused T MachineUnread m loops h = absurd h
-lacking_refused T LoopsUnread m loops h = absurd h
-lacking_refused T (Machine f) m loops h = absurd h
-lacking_refused T (Loops f) m loops h = absurd h
-lacking_refused T Unwritten m loops h = absurd h
+-- loops that have no text on a machine
+text_refused_on : {A : Type 0} (IsText : List ℕ → Bool → Type 0) (P : A → Type 0) (fault : TextFault) (lacking : Option (List ℕ × Opcode)) → TextAnswers lacking P (Err fault)
+    → IsRefusal (OutcomeOn IsText lacking) (refusal_of_text fault)
+text_refused_on T P text_fault.Memory lacking h = tt
+text_refused_on T P (text_fault.NoTable name opcode) None h = absurd h
+text_refused_on T P (text_fault.NoTable name opcode) (Some lacking) h = (NoTableFor name opcode, cc, refl)
+
+pub text_refused : {A : Type 0} (IsText : Texts) (P : A → Type 0) (fault : TextFault) (m : MachineData) (listed loops : List LoopData) → listed ≡ loops
+    → TextAnswers (first_lacking m listed) P (Err fault) → IsRefusal (OutcomeOf IsText (Ok m) (Ok loops)) (refusal_of_text fault)
+text_refused T P fault m listed loops same h =
+    text_refused_on (T m loops) P fault (first_lacking m loops) (subst (λ (ls : List LoopData). TextAnswers (first_lacking m ls) P (Err fault)) same h)
+
+-- loops that have one
+text_written_on : {A : Type 0} (IsText : List ℕ → Bool → Type 0) (P : A → Type 0) (value : A) (text : List ℕ) (all_met : Bool) (lacking : Option (List ℕ × Opcode))
+    → TextAnswers lacking P (Ok value) → (P value → IsText text all_met) → OutcomeOn IsText lacking (Written text all_met)
+text_written_on T P value text all_met None h is = is h
+text_written_on T P value text all_met (Some lacking) h is = cc
+
+pub text_written : {A : Type 0} (IsText : Texts) (P : A → Type 0) (value : A) (text : List ℕ) (all_met : Bool) (m : MachineData) (loops : List LoopData)
+    → TextAnswers (first_lacking m loops) P (Ok value) → (P value → IsText m loops text all_met) → OutcomeOf IsText (Ok m) (Ok loops) (Written text all_met)
+text_written T P value text all_met m loops h is = text_written_on (T m loops) P value text all_met (first_lacking m loops) h is
 
 -- what `plain` does, as a property of outcomes
 abbrev IsPlain : ℕ → LoopLists → Outcome → Type 0
 IsPlain trip loops outcome = outcome ≡ plain_outcome trip loops
 
 -- a loop text that `plain` refuses
-pub plain_refused : (f : LoopFault) (trip : ℕ) (loops : LoopLists) → loops_meaning.Answers (Err f) loops → IsRefusal (IsPlain trip loops) (refusal_of_loops f)
+pub plain_refused : (f : LoopFault) (trip : ℕ) (loops : LoopLists) → loops_meaning.LoopsAnswer (Err f) loops → IsRefusal (IsPlain trip loops) (refusal_of_loops f)
 plain_refused f trip loops h = loops_refused_at (IsPlain trip) f.kind f loops refl h
 
 -- want of memory has one status in each kind of refusal
@@ -91,24 +104,17 @@ machine_memory (machine_fault.Limit k) seven = absurd (omega (arith, seven))
 
 loops_memory_at : (kind : LoopFaultKind) (f : LoopFault) → f.kind ≡ kind → HasOneMemory (loops_status kind f)
 loops_memory_at kinds.Memory f is seven = refl
-loops_memory_at kinds.Syntax f is seven = let five : number_of (Loops f) ≡ 5 = rw is refl in absurd (omega (arith, seven, five))
-loops_memory_at kinds.Limit f is seven = let five : number_of (Loops f) ≡ 5 = rw is refl in absurd (omega (arith, seven, five))
-loops_memory_at kinds.RepeatedName f is seven = let five : number_of (Loops f) ≡ 5 = rw is refl in absurd (omega (arith, seven, five))
-loops_memory_at kinds.UnknownName f is seven = let five : number_of (Loops f) ≡ 5 = rw is refl in absurd (omega (arith, seven, five))
-loops_memory_at kinds.UseBeforeDefinition f is seven = let five : number_of (Loops f) ≡ 5 = rw is refl in absurd (omega (arith, seven, five))
-loops_memory_at kinds.MissingInit f is seven = let five : number_of (Loops f) ≡ 5 = rw is refl in absurd (omega (arith, seven, five))
-loops_memory_at kinds.NoEnd f is seven = let five : number_of (Loops f) ≡ 5 = rw is refl in absurd (omega (arith, seven, five))
+loops_memory_at kinds.Syntax f is seven = let five : status_number (Loops f) ≡ 5 = rw is refl in absurd (omega (arith, seven, five))
+loops_memory_at kinds.Limit f is seven = let five : status_number (Loops f) ≡ 5 = rw is refl in absurd (omega (arith, seven, five))
+loops_memory_at kinds.RepeatedName f is seven = let five : status_number (Loops f) ≡ 5 = rw is refl in absurd (omega (arith, seven, five))
+loops_memory_at kinds.UnknownName f is seven = let five : status_number (Loops f) ≡ 5 = rw is refl in absurd (omega (arith, seven, five))
+loops_memory_at kinds.UseBeforeDefinition f is seven = let five : status_number (Loops f) ≡ 5 = rw is refl in absurd (omega (arith, seven, five))
+loops_memory_at kinds.MissingInit f is seven = let five : status_number (Loops f) ≡ 5 = rw is refl in absurd (omega (arith, seven, five))
+loops_memory_at kinds.NoEnd f is seven = let five : status_number (Loops f) ≡ 5 = rw is refl in absurd (omega (arith, seven, five))
 
 pub loops_memory : (f : LoopFault) → HasOneMemory (refusal_of_loops f)
 loops_memory f = loops_memory_at f.kind f refl
 
-pub lacking_memory : (status : Status) (lacking : Option (List ℕ × Opcode)) → IsLacking status lacking → HasOneMemory status
-lacking_memory OutOfMemory lacking h seven = refl
-lacking_memory (NoTable name opcode) lacking h seven = absurd (omega (arith, seven))
-lacking_memory Done lacking h seven = absurd h
-lacking_memory Unmet lacking h seven = absurd h
-lacking_memory MachineUnread lacking h seven = absurd h
-lacking_memory LoopsUnread lacking h seven = absurd h
-lacking_memory (Machine f) lacking h seven = absurd h
-lacking_memory (Loops f) lacking h seven = absurd h
-lacking_memory Unwritten lacking h seven = absurd h
+pub text_memory : (fault : TextFault) → HasOneMemory (refusal_of_text fault)
+text_memory text_fault.Memory seven = refl
+text_memory (text_fault.NoTable name opcode) seven = absurd (omega (arith, seven))

@@ -13,11 +13,11 @@ use Rattle.candidates.specs.declared.choices.Choice.{Choice}
 use Rattle.candidates.specs.declared.choices.Choice.TheVariants.{Met, Failed}
 use Rattle.candidates.specs.declared.listings.Row as row
 use Rattle.candidates.specs.Choices.{IsChoice}
-use Rattle.candidates.specs.Listings.{ListingData, rows_of}
+use Rattle.candidates.specs.Listings.{ListingData, listing_rows}
 use Rattle.candidates.specs.Outcomes.{GivesKernel}
 use Rattle.candidates.proofs.Promised.{kernels-run}
 use Rattle.workers.specs.Files.{ArePrepared, ListsProblems}
-use Rattle.modsched.specs.Run.{StandsFor, IsRunnable, choice_lines, told_lines}
+use Rattle.modsched.specs.Run.{RunsAs, IsRunnable, choice_lines, told_lines}
 
 emitted-arrays : (s : ScheduleData) (a : AllotmentData) → length (emitted s a).arrays ≡ length s.problem.loop.arrays
 unfolding emitted
@@ -28,7 +28,7 @@ unfolding emitted
 emitted-outs s a = length-map s.problem.loop.outs _
 
 stands_for : (machine : MachineData) (loop : LoopData) (ratio ceiling ii : ℕ) (problem : ProblemData) (kernel : Parts)
-    → IsProblemOf machine loop ratio ceiling problem → GivesKernel problem ii kernel → StandsFor problem.loop kernel
+    → IsProblemOf machine loop ratio ceiling problem → GivesKernel problem ii kernel → RunsAs problem.loop kernel
 stands_for machine loop ratio ceiling ii problem kernel is g =
     let s = g.schedule in
     let a = g.has_kernel.allotment in record {
@@ -45,7 +45,7 @@ runnable machine loop ratio ceiling problem (Failed cause) is c = tt
 -- each loop with its row
 all_runnable : (machine : MachineData) (ratio ceiling : ℕ) (loops : List LoopData) (problems : List ProblemData) (choices : List Choice)
     → ArePrepared machine ratio ceiling loops problems → AllZip IsChoice problems choices
-    → AllZip (λ (p : ProblemData) (r : row.Row). IsRunnable p.loop r.choice) problems (rows_of problems choices)
+    → AllZip (λ (p : ProblemData) (r : row.Row). IsRunnable p.loop r.choice) problems (listing_rows problems choices)
 all_runnable machine ratio ceiling [] [] [] ps cs = tt
 all_runnable machine ratio ceiling [] [] (c ∷ choices) ps cs = absurd cs
 all_runnable machine ratio ceiling [] (p ∷ problems) choices ps cs = absurd ps

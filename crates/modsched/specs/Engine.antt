@@ -1,39 +1,55 @@
 -- What a command does with its texts, and how a run of it ends.
 use Rattle.std.specs.Prelude.{◌≡◌, ◌+◌, ℕ, Bool, true, false, List, [], ◌++◌, Option, Some, option_map}
 use Rattle.command_line.specs.declared.line.Command.{Command}
-use Rattle.command_line.specs.declared.line.Command.TheVariants.{Bounds, Plain, Schedule, Run}
+use Rattle.command_line.specs.declared.line.Command.TheVariants.{Bounds, Edges, Dot, Plain, Schedule, Json, Explain, Run}
 use Rattle.machine.specs.MachineText.{machine_of}
 use Rattle.loops.specs.Meaning.{loops_in}
 use Rattle.modsched.specs.Bounds as bounds
 use Rattle.modsched.specs.Devices.{TakesBeginning}
+use Rattle.modsched.specs.Explain.{IsExplainText}
+use Rattle.modsched.specs.Graphs.{IsDotText, IsEdgesText}
 use Rattle.modsched.specs.Outcomes.{Outcome, OutcomeOf, Written, RefusedMachine, RefusedLoops, NoTable}
 use Rattle.modsched.specs.Plain.{plain_outcome}
 use Rattle.modsched.specs.Run.{IsRunText}
-use Rattle.modsched.specs.Schedule.{IsListingText}
+use Rattle.modsched.specs.Schedule.{IsListingText, IsListingDocument}
 use Rattle.modsched.specs.declared.status.Status.{Status}
 use Rattle.modsched.specs.declared.status.Status.TheVariants as status
 
 -- a command reads a machine's text; each reads a loops' text
 abbrev pub reads_machine : Command → Bool
 reads_machine (Bounds machine loops) = true
+reads_machine (Edges machine loops) = true
+reads_machine (Dot machine loops) = true
 reads_machine (Plain loops trip) = false
 reads_machine (Schedule machine loops settings) = true
+reads_machine (Json machine loops settings) = true
+reads_machine (Explain machine loops settings) = true
 reads_machine (Run machine loops trip settings) = true
 
 -- what a command has of a machine's text: what the input had left, or nothing where it reads none
 abbrev pub machine_for : Command → Option (List ℕ) → Option (List ℕ)
 machine_for (Bounds machine loops) left = left
+machine_for (Edges machine loops) left = left
+machine_for (Dot machine loops) left = left
 machine_for (Plain loops trip) left = Some []
 machine_for (Schedule machine loops settings) left = left
+machine_for (Json machine loops settings) left = left
+machine_for (Explain machine loops settings) left = left
 machine_for (Run machine loops trip settings) left = left
 
 -- an outcome of a command for the bytes of its texts: `plain` speaks of what the loops' text means, the others of what both mean;
--- what `schedule` and `run` write is settled by the ratio and the ceiling, whatever the workers and the cut
+-- what `schedule`, `json`, `explain` and `run` write is settled by the ratio and the ceiling, whatever the workers and the cut
 abbrev pub Brings : Command → List ℕ → List ℕ → Outcome → Type 0
 Brings (Bounds machine_path loops_path) machine loops outcome = bounds.Bounds (machine_of machine) (loops_in loops) outcome
+Brings (Edges machine_path loops_path) machine loops outcome = OutcomeOf IsEdgesText (machine_of machine) (loops_in loops) outcome
+Brings (Dot machine_path loops_path) machine loops outcome = OutcomeOf IsDotText (machine_of machine) (loops_in loops) outcome
 Brings (Plain loops_path trip) machine loops outcome = outcome ≡ plain_outcome trip (loops_in loops)
 Brings (Schedule machine_path loops_path settings) machine loops outcome =
     OutcomeOf (IsListingText settings.ratio settings.ceiling) (machine_of machine) (loops_in loops) outcome
+Brings (Json machine_path loops_path settings) machine loops outcome =
+    OutcomeOf (IsListingDocument settings.ratio settings.ceiling) (machine_of machine) (loops_in loops) outcome
+Brings (Explain machine_path loops_path settings) machine loops outcome =
+    OutcomeOf (IsExplainText settings.ratio settings.ceiling) (machine_of machine) (loops_in loops) outcome
 Brings (Run machine_path loops_path trip settings) machine loops outcome =
     OutcomeOf (IsRunText trip settings.ratio settings.ceiling) (machine_of machine) (loops_in loops) outcome
 

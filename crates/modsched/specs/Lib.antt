@@ -2,6 +2,8 @@ pub use Rattle.command_line.specs.Lines
 pub use Rattle.devices.specs.Devices
 pub mod Bounds
 pub mod Engine
+pub mod Explain
+pub mod Graphs
 pub mod Outcomes
 pub mod Plain
 pub mod Refusals

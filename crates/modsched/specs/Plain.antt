@@ -38,10 +38,13 @@ cells_of trip = map (λ k. pos k -ℤ pos 64) (range_with_len 0 (trip + 128))
 abbrev pub is_changed : MemoryData → MemoryData → ℕ → ℤ → Bool
 is_changed opening after array cell = not (int_eq (cell_of after.arrays array cell) (cell_of opening.arrays array cell))
 
+-- the line of a cell that had this value before and has the other now, where they differ
+abbrev pub line_if_changed : List ℕ → ℤ → ℤ → ℤ → List ℕ
+line_if_changed name cell kept value = if not (int_eq value kept) then cell_line name cell value else []
+
 -- the line of a cell, where the run changed it
 abbrev pub changed_line : MemoryData → MemoryData → ℕ → List ℕ → ℤ → List ℕ
-changed_line opening after array name cell =
-    if is_changed opening after array cell then cell_line name cell (cell_of after.arrays array cell) else []
+changed_line opening after array name cell = line_if_changed name cell (cell_of opening.arrays array cell) (cell_of after.arrays array cell)
 
 -- the lines of the cells of an array that a run changed, with the values behind it
 abbrev pub cell_lines : MemoryData → MemoryData → ℕ → List ℕ → List ℕ

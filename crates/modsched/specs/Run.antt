@@ -10,7 +10,7 @@ use Rattle.candidates.specs.declared.choices.Choice.TheVariants.{Met, Failed}
 use Rattle.candidates.specs.declared.listings.Row.{Row}
 use Rattle.candidates.specs.Listings.{ListingData}
 use Rattle.candidates.specs.Promises.{Lists}
-use Rattle.candidates.specs.Texts.{row_text, last_line}
+use Rattle.candidates.specs.Texts.{row_text, counts_line}
 use Rattle.modsched.specs.Plain.{plain_lines}
 use Rattle.modsched.specs.Schedule.{are_met}
 
@@ -27,17 +27,17 @@ told_lines trip ceiling loops rows = flat_map (λ (pair : LoopData × Row). choi
 pub record IsRunText (trip ratio ceiling : ℕ) (machine : MachineData) (loops : List LoopData) (text : List ℕ) (all_met : Bool) : Type 0 where
   pub listing : ListingData
   pub lists : Lists machine loops ratio ceiling listing
-  pub is_text : text ≡ told_lines trip listing.ceiling loops listing.rows ++ last_line listing.rows
+  pub is_text : text ≡ told_lines trip listing.ceiling loops listing.rows ++ counts_line listing.rows
   pub met : all_met ≡ are_met listing.rows
 
 -- what is known of a kernel before it is run in a loop's place: it has as many arrays and values that are live at the end, and
 -- runs as the loop does
-pub record StandsFor (loop : LoopData) (kernel : Parts) : Type 0 where
+pub record RunsAs (loop : LoopData) (kernel : Parts) : Type 0 where
   pub same_arrays : length kernel.arrays ≡ length loop.arrays
   pub same_outs : length kernel.outs ≡ length loop.outs
   pub runs : RunsAsLoop kernel loop
 
 -- .. where a kernel is chosen
 abbrev pub IsRunnable : LoopData → Choice → Type 0
-IsRunnable loop (Met ii kernel) = StandsFor loop kernel
+IsRunnable loop (Met ii kernel) = RunsAs loop kernel
 IsRunnable loop (Failed cause) = Unit {0}

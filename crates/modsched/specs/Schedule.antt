@@ -1,4 +1,4 @@
--- What `schedule` writes.
+-- What `schedule` and `json` write.
 use Rattle.std.specs.Prelude.{◌≡◌, ℕ, Bool, List}
 use Rattle.std.specs.List.{list_all}
 use Rattle.machine.specs.Machines.{MachineData}
@@ -7,6 +7,7 @@ use Rattle.candidates.specs.declared.listings.Row.{Row}
 use Rattle.candidates.specs.Listings.{ListingData, is_met}
 use Rattle.candidates.specs.Promises.{Lists}
 use Rattle.candidates.specs.Texts.{listing_text_of}
+use Rattle.listing_json.specs.Documents.{document_text}
 
 -- every loop has a kernel
 abbrev pub are_met : List Row → Bool
@@ -17,4 +18,11 @@ pub record IsListingText (ratio ceiling : ℕ) (machine : MachineData) (loops : 
   pub listing : ListingData
   pub lists : Lists machine loops ratio ceiling listing
   pub is_text : text ≡ listing_text_of listing
+  pub met : all_met ≡ are_met listing.rows
+
+-- its document
+pub record IsListingDocument (ratio ceiling : ℕ) (machine : MachineData) (loops : List LoopData) (text : List ℕ) (all_met : Bool) : Type 0 where
+  pub listing : ListingData
+  pub lists : Lists machine loops ratio ceiling listing
+  pub is_text : text ≡ document_text listing
   pub met : all_met ≡ are_met listing.rows

@@ -1,10 +1,12 @@
 -- The numbers by which a run of the program exits, and the lines that tell of a fault.
 use Rattle.std.specs.Prelude.{ℕ, codes, List, [], ◌++◌}
-use Rattle.loops.specs.Faults.{fault_text as loops_text}
+use Rattle.graph_text.specs.declared.fault.TextFault.{TextFault}
+use Rattle.graph_text.specs.declared.fault.TextFault.TheVariants as text
+use Rattle.loops.specs.Faults.{loop_fault_text}
 use Rattle.loops.specs.LoopFault.{LoopFault}
 use Rattle.loops.specs.LoopFaultKind.{LoopFaultKind}
 use Rattle.loops.specs.LoopFaultKind.TheVariants as kind
-use Rattle.machine.specs.Faults.{fault_text as machine_text}
+use Rattle.machine.specs.Faults.{machine_fault_text}
 use Rattle.machine.specs.declared.fault.MachineFault.{MachineFault}
 use Rattle.machine.specs.declared.fault.MachineFault.TheVariants as fault
 use Rattle.machine.specs.Opcodes.{word_of}
@@ -26,16 +28,16 @@ loops_number kind.Memory = 7
 loops_number _ = 5
 
 -- 0 done, 1 a loop is not met, 3 a file can't be read, 4 machine refused, 5 loops refused, 6 output can't be written, 7 out of memory
-abbrev pub number_of : Status → ℕ
-number_of Done = 0
-number_of Unmet = 1
-number_of MachineUnread = 3
-number_of LoopsUnread = 3
-number_of (Machine f) = machine_number f
-number_of (Loops f) = loops_number f.kind
-number_of (NoTable name opcode) = 5
-number_of Unwritten = 6
-number_of OutOfMemory = 7
+abbrev pub status_number : Status → ℕ
+status_number Done = 0
+status_number Unmet = 1
+status_number MachineUnread = 3
+status_number LoopsUnread = 3
+status_number (Machine f) = machine_number f
+status_number (Loops f) = loops_number f.kind
+status_number (NoTable name opcode) = 5
+status_number Unwritten = 6
+status_number OutOfMemory = 7
 
 -- the output was written whole
 abbrev pub IsComplete : Status → Type 0
@@ -77,15 +79,20 @@ refusal_of_file (file.Loops f) = refusal_of_loops f
 refusal_of_file (file.NoTable name opcode) = NoTable name opcode
 refusal_of_file file.Memory = OutOfMemory
 
+-- the status of loops that have no text on a machine
+abbrev pub refusal_of_text : TextFault → Status
+refusal_of_text (text.NoTable name opcode) = NoTable name opcode
+refusal_of_text text.Memory = OutOfMemory
+
 -- a refused machine text
 abbrev pub machine_line : MachineFault → List ℕ
 machine_line fault.Memory = codes "out of memory"
-machine_line f = codes "machine: " ++ machine_text f
+machine_line f = codes "machine: " ++ machine_fault_text f
 
 -- a refused loop text
 abbrev pub loops_line : LoopFaultKind → LoopFault → List ℕ
 loops_line kind.Memory f = codes "out of memory"
-loops_line _ f = codes "loops: " ++ loops_text f
+loops_line _ f = codes "loops: " ++ loop_fault_text f
 
 -- the line for the standard error
 abbrev pub line_of : Status → List ℕ

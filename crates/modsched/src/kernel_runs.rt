@@ -7,11 +7,11 @@ ghost use Rattle.loops.specs.Meaning.{loops_in};
 ghost use Rattle.ims.specs.Problems.{ProblemData};
 ghost use Rattle.candidates.specs.declared.listings.Row as row;
 ghost use Rattle.candidates.specs.Listings.{IsRow};
-ghost use Rattle.candidates.specs.Texts.{last_line, row_text};
+ghost use Rattle.candidates.specs.Texts.{counts_line, row_text};
 ghost use Rattle.modsched.specs.Outcomes.{OutcomeOf};
 ghost use Rattle.modsched.specs.Plain.{plain_lines};
-ghost use Rattle.modsched.specs.Refusals.{Answers, HasOneMemory};
-ghost use Rattle.modsched.specs.Run.{IsRunText, IsRunnable, StandsFor, choice_lines};
+ghost use Rattle.modsched.specs.Refusals.{PrintoutAnswer, HasOneMemory};
+ghost use Rattle.modsched.specs.Run.{IsRunText, IsRunnable, RunsAs, choice_lines};
 
 use crate::printout::Printout;
 use crate::run_lines::{push_run, within_limits};
@@ -36,7 +36,7 @@ pub(crate) fn run_text<R: Threads + Sync>(
     trip: Trip,
     settings: &Settings,
 ) -> Result<Printout, Status>
-    ensures exact { Answers (OutcomeOf (IsRunText trip settings.now.ratio settings.now.ceiling) (machine_of machine.now) (loops_in loops.now)) result }
+    ensures exact { PrintoutAnswer (OutcomeOf (IsRunText trip settings.now.ratio settings.now.ceiling) (machine_of machine.now) (loops_in loops.now)) result }
     ensures memory { IfErr result HasOneMemory }
 {
     let (prepared, listing) = pipeline(rt, alloc, machine, loops, settings, &OpenGate)?;
@@ -103,7 +103,7 @@ fn push_kernel(
     kernel: &Kernel,
     trip: Trip,
 ) -> Result<(), AllocError>
-    requires { StandsFor innermost.now kernel.now }
+    requires { RunsAs innermost.now kernel.now }
     ensures { OnOk result (text.new.items ≡ text.old.items ++ plain_lines trip innermost.now) }
 {
     let before = within_limits(opening(alloc, innermost, trip.count()))?;
@@ -124,7 +124,7 @@ fn push_failed(alloc: Global, text: &mut Vec<u8>, ceiling: u64, row: &Row) -> Re
 
 /// Appends the last line, with how many loops have a kernel and how many have none.
 fn push_counts(alloc: Global, text: &mut Vec<u8>, rows: &[Row]) -> Result<(), AllocError>
-    ensures { OnOk result (text.new.items ≡ text.old.items ++ last_line rows.now) }
+    ensures { OnOk result (text.new.items ≡ text.old.items ++ counts_line rows.now) }
 {
     let mut line = String::new(alloc);
     write_last(&mut line, rows)?;

@@ -2,6 +2,10 @@
 #![tactic(auto)]
 
 mod bounds;
+mod cell_lines;
+mod explaining;
+mod graphs;
+mod json;
 mod kernel_runs;
 mod lines;
 mod plain;

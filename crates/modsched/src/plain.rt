@@ -4,7 +4,7 @@ ghost use Rattle.std.specs.Prelude.{◌≡◌, ◌++◌, IfErr, OnOk};
 ghost use Rattle.std.specs.List.{flat_map};
 ghost use Rattle.loops.specs.Meaning.{loops_in};
 ghost use Rattle.modsched.specs.Plain.{plain_lines, plain_outcome};
-ghost use Rattle.modsched.specs.Refusals.{Answers, HasOneMemory};
+ghost use Rattle.modsched.specs.Refusals.{PrintoutAnswer, HasOneMemory};
 
 use crate::lines::push_last;
 use crate::printout::Printout;
@@ -16,7 +16,7 @@ use std::alloc::{AllocError, Global};
 
 /// What `plain` writes for a loop text, or the status of its refusal.
 pub(crate) fn plain_text(alloc: Global, loops: &[u8], trip: Trip) -> Result<Printout, Status>
-    ensures exact { Answers (λ outcome. outcome ≡ plain_outcome trip (loops_in loops.now)) result }
+    ensures exact { PrintoutAnswer (λ outcome. outcome ≡ plain_outcome trip (loops_in loops.now)) result }
     ensures memory { IfErr result HasOneMemory }
 {
     let loops = read_loops(alloc, loops)?;

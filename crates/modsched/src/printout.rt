@@ -2,9 +2,12 @@
 
 ghost use Rattle.std.specs.Prelude.{IfErr};
 ghost use Rattle.modsched.specs.Engine.{Brings};
-ghost use Rattle.modsched.specs.Refusals.{Answers, HasOneMemory};
+ghost use Rattle.modsched.specs.Refusals.{PrintoutAnswer, HasOneMemory};
 
 use crate::bounds::bounds_text;
+use crate::explaining::explain_text;
+use crate::graphs::{dot_text, edges_text};
+use crate::json::json_text;
 use crate::kernel_runs::run_text;
 use crate::plain::plain_text;
 use crate::schedule::schedule_text;
@@ -30,13 +33,17 @@ pub(crate) fn printout_of<R: Threads + Sync>(
     machine: &[u8],
     loops: &[u8],
 ) -> Result<Printout, Status>
-    ensures exact { Answers (Brings command.now machine.now loops.now) result }
+    ensures exact { PrintoutAnswer (Brings command.now machine.now loops.now) result }
     ensures memory { IfErr result HasOneMemory }
 {
     match command {
         Command::Bounds { .. } => bounds_text(alloc, machine, loops),
+        Command::Edges { .. } => edges_text(alloc, machine, loops),
+        Command::Dot { .. } => dot_text(alloc, machine, loops),
         Command::Plain { trip, .. } => plain_text(alloc, loops, *trip),
         Command::Schedule { settings, .. } => schedule_text(rt, alloc, machine, loops, settings),
+        Command::Json { settings, .. } => json_text(rt, alloc, machine, loops, settings),
+        Command::Explain { settings, .. } => explain_text(alloc, machine, loops, settings),
         Command::Run { trip, settings, .. } => run_text(rt, alloc, machine, loops, *trip, settings),
     }
 }

@@ -1,9 +1,10 @@
 //! The lines of a run.
 
-ghost use Rattle.std.specs.Prelude.{◌≡◌, ◌+◌, ◌<◌, ◌≤ℤ◌, ◌<ℤ◌, pos, neg_ℤ, ◌++◌, length, IfOk, OnOk, IsErrOf, Ok};
+ghost use Rattle.std.specs.Prelude.{◌≡◌, ◌++◌, length, IfOk, OnOk, IsErrOf, Ok};
 ghost use Rattle.loops.specs.Run.{HasShapeOf};
-ghost use Rattle.modsched.specs.Plain.{run_line, cell_text, cell_line, out_line, changed_line, cell_lines, array_lines, out_lines, run_lines};
+ghost use Rattle.modsched.specs.Plain.{run_line, out_line, array_lines, out_lines, run_lines};
 
+use crate::cell_lines::push_cells;
 use crate::lines::{push_number, push_signed};
 use loops::{Loop, Memory, RunFault, value_name};
 use std::alloc::AllocError;
@@ -69,69 +70,6 @@ fn push_arrays(
         push_cells(text, name, number, before, after)?;
     }
     Ok(())
-}
-
-/// Appends the lines of the changed cells of the array of a number and a name, in ascending order.
-fn push_cells(
-    text: &mut Vec<u8>,
-    name: &str,
-    array: usize,
-    before: &Memory,
-    after: &Memory,
-) -> Result<(), AllocError>
-    requires trip { before.now.trip ≡ after.now.trip }
-    requires before { array < length before.now.arrays }
-    requires after { array < length after.now.arrays }
-    ensures { OnOk result (text.new.items ≡ text.old.items ++ cell_lines before.now after.now array name.now) }
-{
-    let count = after.trip() + 128;
-    for index in 0..count {
-        push_changed(text, name, array, index as i64 - 64, before, after)?;
-    }
-    Ok(())
-}
-
-/// Appends the line of a cell, where it has another value than before.
-fn push_changed(
-    text: &mut Vec<u8>,
-    name: &str,
-    array: usize,
-    cell: i64,
-    before: &Memory,
-    after: &Memory,
-) -> Result<(), AllocError>
-    requires trip { before.now.trip ≡ after.now.trip }
-    requires before { array < length before.now.arrays }
-    requires after { array < length after.now.arrays }
-    requires low { neg_ℤ (pos 64) ≤ℤ cell }
-    requires high { cell <ℤ pos (after.now.trip + 64) }
-    ensures { OnOk result (text.new.items ≡ text.old.items ++ changed_line before.now after.now array name.now cell) }
-{
-    let value = after.cell(array, cell);
-    if value == before.cell(array, cell) {
-        return Ok(());
-    }
-    push_cell(text, name, cell, value)
-}
-
-/// Appends the line of a cell.
-fn push_cell(text: &mut Vec<u8>, name: &str, cell: i64, value: i64) -> Result<(), AllocError>
-    ensures { OnOk result (text.new.items ≡ text.old.items ++ cell_line name.now cell value) }
-{
-    push_place(text, name, cell)?;
-    text.extend_from_slice(b" ")?;
-    push_signed(text, value)?;
-    text.extend_from_slice(b"\n")
-}
-
-/// Appends an array's name and the number of a cell.
-fn push_place(text: &mut Vec<u8>, name: &str, cell: i64) -> Result<(), AllocError>
-    ensures { OnOk result (text.new.items ≡ text.old.items ++ cell_text name.now cell) }
-{
-    text.extend_from_slice(name.as_bytes())?;
-    text.extend_from_slice(b"[")?;
-    push_signed(text, cell)?;
-    text.extend_from_slice(b"]")
 }
 
 /// Appends the lines of the values that are live at the end, in order.

@@ -4,7 +4,7 @@ ghost use Rattle.std.specs.Prelude.{◌≡◌, IfErr};
 ghost use Rattle.machine.specs.MachineText.{machine_of};
 ghost use Rattle.loops.specs.Meaning.{loops_in};
 ghost use Rattle.modsched.specs.Outcomes.{OutcomeOf};
-ghost use Rattle.modsched.specs.Refusals.{Answers, HasOneMemory};
+ghost use Rattle.modsched.specs.Refusals.{PrintoutAnswer, HasOneMemory};
 ghost use Rattle.modsched.specs.Schedule.{IsListingText, are_met};
 
 use crate::printout::Printout;
@@ -23,7 +23,7 @@ pub(crate) fn schedule_text<R: Threads + Sync>(
     loops: &[u8],
     settings: &Settings,
 ) -> Result<Printout, Status>
-    ensures exact { Answers (OutcomeOf (IsListingText settings.now.ratio settings.now.ceiling) (machine_of machine.now) (loops_in loops.now)) result }
+    ensures exact { PrintoutAnswer (OutcomeOf (IsListingText settings.now.ratio settings.now.ceiling) (machine_of machine.now) (loops_in loops.now)) result }
     ensures memory { IfErr result HasOneMemory }
 {
     let listing = pipeline_file(rt, alloc, machine, loops, settings, &OpenGate)?;

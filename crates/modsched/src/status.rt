@@ -1,9 +1,10 @@
 //! How a run of the program ends.
 
 ghost use Rattle.std.specs.Prelude.{◌≡◌, ◌<◌, ◌↔◌, IsSome, IfSome};
-ghost use Rattle.modsched.specs.Statuses.{number_of, refusal_of_file, refusal_of_machine, refusal_of_loops};
+ghost use Rattle.modsched.specs.Statuses.{status_number, refusal_of_file, refusal_of_machine, refusal_of_loops, refusal_of_text};
 ghost use Rattle.modsched.specs.declared.status.Status.TheVariants.{OutOfMemory};
 
+use graph_text::TextFault;
 use loops::{LoopFault, LoopFaultKind};
 use machine::{MachineFault, Name, Opcode};
 use std::alloc::AllocError;
@@ -38,7 +39,7 @@ pub enum Status {
 impl Status {
     /// The number by which the process exits.
     pub fn number(&self) -> u8
-        ensures { result ≡ number_of self.now }
+        ensures { result ≡ status_number self.now }
     {
         match self {
             Status::Done => 0,
@@ -59,7 +60,7 @@ impl Status {
     /// The line for the standard error, without the program's name before it and the line feed after
     /// it, where the status is a fault.
     pub fn line(&self) -> Option<Line<'_>>
-        ensures there { IsSome result ↔ (1 < number_of self.now) }
+        ensures there { IsSome result ↔ (1 < status_number self.now) }
         ensures own { IfSome result (λ line. line ≡ self.now) }
     {
         match self {
@@ -103,6 +104,19 @@ impl From<FileFault> for Status {
             FileFault::Loops(fault) => Status::from(fault),
             FileFault::NoTable(name, opcode) => Status::NoTable { name, opcode },
             FileFault::Memory => Status::OutOfMemory,
+        }
+    }
+}
+
+/// Loops that have no text on a machine end as their fault says; for want of memory alone, in
+/// `OutOfMemory`.
+impl From<TextFault> for Status {
+    ghost from_gives = { λ fault status. status ≡ refusal_of_text fault };
+
+    fn from(fault: TextFault) -> Status {
+        match fault {
+            TextFault::NoTable(name, opcode) => Status::NoTable { name, opcode },
+            TextFault::Memory => Status::OutOfMemory,
         }
     }
 }

@@ -3,7 +3,7 @@
 ghost use Rattle.std.specs.Prelude.{◌≡◌, ◌+◌, ◌-◌, ◌^◌, ◌<◌, ◌↔◌, Some, take, drop, true, false, IfOk, IfSome, OnOk, IsErrOf};
 ghost use Rattle.modsched.specs.Devices.{most_read};
 ghost use Rattle.modsched.specs.Engine.{CountsFault, Does, Ends, EndsWritten, machine_for, reads_machine};
-ghost use Rattle.modsched.specs.Statuses.{HasAnswered, HasWritten, IsComplete, number_of};
+ghost use Rattle.modsched.specs.Statuses.{HasAnswered, HasWritten, IsComplete, status_number};
 
 use crate::printout::{Printout, printout_of};
 use crate::status::Status;
@@ -40,7 +40,7 @@ pub fn engine<R: Threads + Sync, M: Input, L: Input, O: Output>(
     ensures output_faults { CountsFault (result ≡ Status.Unwritten) (O.failed output.old) (O.failed output.new) }
 
     // Want of memory has one status.
-    ensures memory { number_of result ≡ 7 → result ≡ Status.OutOfMemory }
+    ensures memory { status_number result ≡ 7 → result ≡ Status.OutOfMemory }
 
     // What was written is the text of the command for the bytes that its inputs had left, or a beginning of it where the output
     // failed; and nothing after a refusal. All of a whole text is handed on.
@@ -90,9 +90,13 @@ fn machine_text<M: Input>(
 {
     match command {
         Command::Plain { .. } => Ok(Vec::new(alloc)),
-        Command::Bounds { .. } | Command::Schedule { .. } | Command::Run { .. } => {
-            read_text(alloc, input)
-        }
+        Command::Bounds { .. }
+        | Command::Edges { .. }
+        | Command::Dot { .. }
+        | Command::Schedule { .. }
+        | Command::Json { .. }
+        | Command::Explain { .. }
+        | Command::Run { .. } => read_text(alloc, input),
     }
 }
 

@@ -3,11 +3,11 @@ use Rattle.std.proofs.Common.{◌≡◌, ◌≢◌, ℕ, ◌<◌, inl, inr, Bool
 use Rattle.std.proofs.lemmas.Bool.{cases_Bool, false≢true, both_ways}
 use Rattle.std.proofs.lemmas.Option.{none-some, same_Some}
 use Rattle.machine.specs.declared.alternative.Row.{Row}
-use Rattle.mrt.specs.Placements.{Operations, Placements, Placement, placement_of, rows_of, IsMetBy}
+use Rattle.mrt.specs.Placements.{OperationAlternatives, Placements, Placement, placement_of, rows_of, IsMetBy}
 use Rattle.mrt.specs.Slots.{takes, Takes, Occupies, AreApart, Owns}
 use Rattle.mrt.proofs.Taking.{takes_place, met_from_takes, takes_other, takes_own, Takes-placed, Takes-removed}
 
-module _ (ii units : ℕ) (operations : Operations) (placed : Placements) (op : ℕ) (at : Placement) where
+module _ (ii units : ℕ) (operations : OperationAlternatives) (placed : Placements) (op : ℕ) (at : Placement) where
   -- ---- the operation is placed where it meets none
   module _ (there : op < length placed) (unplaced : placement_of placed op ≡ None)
       (meets_none : (other : ℕ) → IsMetBy ii operations placed (rows_of operations op at.alternative) at.time other → ⊥) where

@@ -7,7 +7,7 @@ use Rattle.std.proofs.lemmas.List.{get_or-set_same, get_or-set_other, get_or-rep
 use Rattle.std.proofs.Math.Pow.{pow_pos}
 use Rattle.machine.specs.declared.alternative.Row.{Row}
 use Rattle.machine.specs.Alternative.{residue_of}
-use Rattle.mrt.specs.Placements.{Operations, Placements, Placement, placement_of, rows_of, IsFree, Holds, IsHolder}
+use Rattle.mrt.specs.Placements.{OperationAlternatives, Placements, Placement, placement_of, rows_of, IsFree, Holds, IsHolder}
 use Rattle.mrt.specs.Rosters.{Table}
 use Rattle.mrt.specs.Slots.{takes, Takes, Occupies, AreApart}
 use Rattle.mrt.specs.Times.{is_set, is_on}
@@ -85,7 +85,7 @@ is_held-set busy residue word own held lt w unit place u =
     ]
 
 -- ---- the table as it changes
-pub IsMaskTable-new : (ii n words : ℕ) (operations : Operations) → n ≡ length operations → ii ≤ words → IsMaskTable (record { interval = ii; operations = operations; placed = replicate n None }) (replicate words 0)
+pub IsMaskTable-new : (ii n words : ℕ) (operations : OperationAlternatives) → n ≡ length operations → ii ≤ words → IsMaskTable (record { interval = ii; operations = operations; placed = replicate n None }) (replicate words 0)
 IsMaskTable-new ii n words operations whole least = record {
   whole = length-replicate n None ∙ whole;
   apart = λ unit residue x y s t. absurd (none_placed n x s.at s.is_placed);
@@ -124,7 +124,7 @@ module _ (table : Table) (busy busy' : List ℕ) (op : ℕ) (at : Placement) (ke
   }
 
 -- ---- who holds a slot
-module _ (ii : ℕ) (operations : Operations) (placed : Placements) (row : Row) (time : ℕ) where
+module _ (ii : ℕ) (operations : OperationAlternatives) (placed : Placements) (row : Row) (time : ℕ) where
   pub nobody_holds : ((op : ℕ) → Takes ii operations placed row.unit (residue_of ii row time) op → ⊥) → (holder : ℕ) → Holds ii operations placed row time holder → ⊥
   nobody_holds none holder h = none holder (takes_from_Holds ii operations placed row time holder h)
 
@@ -170,14 +170,14 @@ AreTimes-new ii words masks some least few one reach = record {
         clear = λ unit place u past p. no_bit (64 * words) unit place (omega arith);
       };
   tell = λ long unit place u p.
-      let within : unit * words + place / 64 < 64 * words = place_below 64 words (place / 64) unit (omega arith) u in
+      let within : unit * words + place / 64 < 64 * words = place_below 64 words (place / 64) unit (omega (arith, reach long)) u in
       let residue : place % ii < masks = omega (arith, some, least) in
       no_bit (64 * words) (unit * words + place / 64) (place % 64) within ∙ sym (no_bit masks (place % ii) unit residue);
 }
 
 pub AreTimes-marked : (ii words : ℕ) (times times' busy busy' : List ℕ) (rows : List Row) (time : ℕ) (held : Bool) → 0 < ii → AreTimes ii words times busy → length times' ≡ length times
     → ((unit place : ℕ) → ii < 64 → unit < 64 → place < 64 → is_on times' unit place ≡ cond (takes ii rows time unit place) held (is_on times unit place))
-    → ((unit place : ℕ) → 64 ≤ ii → unit < 64 → place < 64 * words → is_set words times' unit place ≡ cond (takes ii rows time unit (place % ii)) held (is_set words times unit place))
+    → ((unit place : ℕ) → 64 ≤ ii → unit < 64 → place < ii + 64 → is_set words times' unit place ≡ cond (takes ii rows time unit (place % ii)) held (is_set words times unit place))
     → ((unit residue : ℕ) → unit < 64 → residue < ii → is_held busy' unit residue ≡ cond (takes ii rows time unit residue) held (is_held busy unit residue))
     → AreTimes ii words times' busy'
 AreTimes-marked ii words times times' busy busy' rows time held some a long once_there set_there held_there =

@@ -10,7 +10,7 @@ use Rattle.machine.specs.declared.alternative.Row.{Row}
 use Rattle.machine.specs.Alternative.{residue_of}
 use Rattle.mrt.specs.declared.slot.Slot.{Slot}
 use Rattle.mrt.specs.declared.owner.TheConstants.{FREE}
-use Rattle.mrt.specs.Placements.{Operations, Placements, Placement, placement_of, rows_of, IsFree, Holds}
+use Rattle.mrt.specs.Placements.{OperationAlternatives, Placements, Placement, placement_of, rows_of, IsFree, Holds}
 use Rattle.mrt.specs.Rosters.{Table}
 use Rattle.mrt.specs.Slots.{rows_in, takes, meets_held, Owns, Occupies}
 use Rattle.mrt.specs.OwnerTables.{owner_at, is_owned, IsOwnerTable}
@@ -112,7 +112,7 @@ pub meets_owner : (ii units : ℕ) (owners : List ℕ) (slots : List Slot) (time
 meets_owner ii units owners slots time k d place lt at ne =
     meets_here ii (is_owned units owners) slots time k d lt (owned_here units owners place (get_or slots k d).row.unit (residue_of ii (get_or slots k d).row time) at ne)
 
-pub Occupies-from_owners : (ii units : ℕ) (operations : Operations) (placed : Placements) (owners : List ℕ) → length placed ≤ FREE
+pub Occupies-from_owners : (ii units : ℕ) (operations : OperationAlternatives) (placed : Placements) (owners : List ℕ) → length placed ≤ FREE
     → Owns ii units FREE operations placed (owner_at units owners) → Occupies ii units operations placed (is_owned units owners)
 Occupies-from_owners ii units operations placed owners short o = record {
   marked = λ unit residue op u r t.
@@ -123,7 +123,7 @@ Occupies-from_owners ii units operations placed owners short o = record {
 }
 
 -- ---- the table as it changes
-pub IsOwnerTable-new : (ii units n : ℕ) (operations : Operations) → n ≡ length operations → n ≤ FREE → units ≤ 64
+pub IsOwnerTable-new : (ii units n : ℕ) (operations : OperationAlternatives) → n ≡ length operations → n ≤ FREE → units ≤ 64
     → ((op alternative : ℕ) → All (λ r. r.unit < units) (rows_of operations op alternative))
     → IsOwnerTable (record { interval = ii; operations = operations; placed = replicate n None }) units (replicate (ii * units) FREE)
 IsOwnerTable-new ii units n operations whole short few covered = record {
@@ -166,7 +166,7 @@ module _ (table : Table) (units : ℕ) (owners owners' : List ℕ) (op : ℕ) (a
   }
 
 -- ---- who holds a slot
-module _ (ii units : ℕ) (operations : Operations) (placed : Placements) (owners : List ℕ) (row : Row) (time : ℕ) (some : 0 < ii) (covered : row.unit < units)
+module _ (ii units : ℕ) (operations : OperationAlternatives) (placed : Placements) (owners : List ℕ) (row : Row) (time : ℕ) (some : 0 < ii) (covered : row.unit < units)
     (o : Owns ii units FREE operations placed (owner_at units owners)) where
   pub no_holder : length placed ≤ FREE → owner_at units owners row.unit (residue_of ii row time) ≡ FREE → (holder : ℕ) → Holds ii operations placed row time holder → ⊥
   no_holder short free holder h =

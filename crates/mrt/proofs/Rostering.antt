@@ -1,15 +1,15 @@
 -- What is kept of operations and their placements, as they change.
-use Rattle.std.proofs.Common.{zero, suc, ◌≡◌, ℕ, ◌+◌, ◌-◌, ◌<◌, inl, inr, List, [], ◌∷◌, ◌++◌, length, get_or, set, map, replicate, drop, Option, Some, None, refl, sym, ap, ◌∙◌, subst, arith, length-set, length-append}
+use Rattle.std.proofs.Common.{zero, suc, ◌≡◌, ℕ, ◌+◌, ◌-◌, ◌<◌, inl, inr, List, [], ◌∷◌, ◌++◌, length, get_or, set, map, replicate, take, drop, Option, Some, None, refl, sym, ap, ◌∙◌, subst, arith, length-set, length-append}
 use Rattle.std.specs.List.{All, slice_get, slice_range}
 use Rattle.std.specs.Option.{option_map}
 use Rattle.std.proofs.lemmas.Bool.{cases_eq, cases_lt}
 use Rattle.std.proofs.lemmas.Option.{none-some, same_Some, slice_get-get_or, slice_get_within}
-use Rattle.std.proofs.lemmas.List.{map_push, map-set, take_rest, drop_at, get_or-replicate, get_or_past, length-replicate}
+use Rattle.std.proofs.lemmas.List.{map_push, map-set, take_more, get_or-map, get_or-take, get_or_default, length_push, take_rest, drop_at, get_or-replicate, get_or_past, length-replicate}
 use Rattle.std.proofs.lemmas.List.Elements.{All-push, All-head, All-tail, All-weaker, All-map, All-nil, All-take, All-drop}
 use Rattle.machine.specs.declared.alternative.Row.{Row}
 use Rattle.mrt.specs.declared.roster.Group.{Group}
 use Rattle.mrt.specs.declared.roster.Issue.{Issue}
-use Rattle.mrt.specs.Placements.{Operations, Placements, alternatives_of, rows_of}
+use Rattle.mrt.specs.Placements.{OperationAlternatives, Placements, alternatives_of, rows_of}
 use Rattle.mrt.specs.Rosters.{Table, table_of, placement, group_of, IsGroup, IsIssue, IsRoster}
 use Rattle.mrt.proofs.Lists.{slice_range-append, slice_get-set_same, slice_get-set_other}
 
@@ -74,6 +74,26 @@ group_of-pushed alternatives more whole groups group e all from to =
     let others : map (group_of whole) groups ≡ map (group_of alternatives) groups = rw e (group_of-grown alternatives more groups all) in
     map_push (group_of whole) groups group ∙ ap (λ xs. xs ++ group_of whole group ∷ []) others ∙ ap (λ x. map (group_of alternatives) groups ++ x ∷ []) own
 
+-- one operation more, which has the alternatives of an earlier one
+pub group_of-shared : (alternatives : List (List Row)) (groups : List Group) (operations : OperationAlternatives) (k e : ℕ) (group : Group)
+    → map (group_of alternatives) groups ≡ take k operations → length groups ≡ k → k < length operations → e < k → group ≡ get_or groups e group
+    → get_or operations e [] ≡ get_or operations k [] → map (group_of alternatives) (groups ++ group ∷ []) ≡ take (k + 1) operations
+group_of-shared alternatives groups operations k e group so_far long lt before is same =
+    let f = group_of alternatives in
+    let there : e < length groups = omega arith in
+    let own : f group ≡ get_or operations k [] =
+    ap f is ∙ sym (get_or-map f groups e group (f group) there) ∙ ap (λ xs. get_or xs e (f group)) so_far ∙ get_or-take k operations e (f group) before
+    ∙ get_or_default operations e (f group) [] (omega arith) ∙ same in
+    map_push f groups group ∙ ap (λ xs. xs ++ f group ∷ []) so_far ∙ ap (λ x. take k operations ++ x ∷ []) own ∙ sym (take_more operations k [] lt)
+
+pub IsGroup-shared : (count : ℕ) (groups : List Group) (e : ℕ) (group : Group) → All (IsGroup count) groups → e < length groups → group ≡ get_or groups e group
+    → All (IsGroup count) (groups ++ group ∷ [])
+IsGroup-shared count groups e group all there is = All-push (IsGroup count) groups group all (subst (IsGroup count) (sym is) (all e group there))
+
+-- numbers below the length of a list, which gets longer
+pub below-longer : {X : Type 0} (numbers : List ℕ) (xs : List X) (x : X) → All (λ k. k < length xs) numbers → All (λ k. k < length (xs ++ x ∷ [])) numbers
+below-longer numbers xs x all = All-weaker (λ k. k < length xs) (λ k. k < length (xs ++ x ∷ [])) (λ k lt. omega (arith, length_push xs x)) numbers all
+
 -- a write of one placement
 pub table_of-set : (ii : ℕ) (alternatives : List (List Row)) (groups : List Group) (issues : List (Option Issue)) (op : ℕ) (v : Option Issue)
     → table_of ii alternatives groups (set issues op v) ≡ record (table_of ii alternatives groups issues) { placed = set (map (option_map placement) issues) op (option_map placement v) }
@@ -98,12 +118,12 @@ pub map-replicate_none : (n : ℕ) → map (option_map placement) (replicate n N
 map-replicate_none zero = refl
 map-replicate_none (suc n) = ap (λ xs. None ∷ xs) (map-replicate_none n)
 
-pub table_of-new : (ii interval : ℕ) (alternatives : List (List Row)) (groups : List Group) (operations : Operations) (n : ℕ) → interval ≡ ii
+pub table_of-new : (ii interval : ℕ) (alternatives : List (List Row)) (groups : List Group) (operations : OperationAlternatives) (n : ℕ) → interval ≡ ii
     → map (group_of alternatives) groups ≡ operations
     → table_of interval alternatives groups (replicate n None) ≡ record { interval = ii; operations = operations; placed = replicate n None }
 table_of-new ii interval alternatives groups operations n i o =
     let first = λ (k : ℕ). let t : Table = record { interval = k; operations = map (group_of alternatives) groups; placed = map (option_map placement) (replicate n None) } in t in
-    let second = λ (os : Operations). let t : Table = record { interval = ii; operations = os; placed = map (option_map placement) (replicate n None) } in t in
+    let second = λ (os : OperationAlternatives). let t : Table = record { interval = ii; operations = os; placed = map (option_map placement) (replicate n None) } in t in
     let third = λ (ps : Placements). let t : Table = record { interval = ii; operations = operations; placed = ps } in t in
     ap first i ∙ ap second o ∙ ap third (map-replicate_none n)
 

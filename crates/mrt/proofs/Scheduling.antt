@@ -5,12 +5,12 @@ use Rattle.std.proofs.lemmas.Bool.{cases_Bool}
 use Rattle.std.proofs.lemmas.Option.{slice_get-get_or}
 use Rattle.machine.specs.declared.alternative.Row.{Row}
 use Rattle.machine.specs.Alternative.{residue_of, alternatives_meet, collides}
-use Rattle.mrt.specs.Placements.{Operations, Placements, Placement, placement_of, rows_of, IsMetBy, Fits, IsFree, Holds}
+use Rattle.mrt.specs.Placements.{OperationAlternatives, Placements, Placement, placement_of, rows_of, IsMetBy, Fits, IsFree, Holds}
 use Rattle.mrt.specs.Slots.{Takes, AreApart}
 use Rattle.mrt.proofs.Taking.{none_placed, takes_at, takes_from_met, takes_from_Holds, Holds-from_takes, Takes-removed}
 use Rattle.mrt.proofs.Marking.{AreApart-placed}
 
-module _ (ii : ℕ) (operations : Operations) (placed : Placements) where
+module _ (ii : ℕ) (operations : OperationAlternatives) (placed : Placements) where
   -- an alternative of which no row's slot has a holder fits, where it does not collide with itself
   pub fits_from_no_holders : (rows : List Row) (time : ℕ) → collides ii rows ≡ false
       → ((k : ℕ) (row : Row) → slice_get rows k ≡ Some row → (holder : ℕ) → Holds ii operations placed row time holder → ⊥) → Fits ii operations placed rows time
@@ -56,5 +56,5 @@ module _ (ii : ℕ) (operations : Operations) (placed : Placements) where
         | inr unmet ↦ unmet
       ]
 
-pub AreApart-none : (ii : ℕ) (operations : Operations) (n : ℕ) → AreApart ii operations (replicate n None)
+pub AreApart-none : (ii : ℕ) (operations : OperationAlternatives) (n : ℕ) → AreApart ii operations (replicate n None)
 AreApart-none ii operations n unit residue x y s t = absurd (none_placed n x s.at s.is_placed)

@@ -8,7 +8,7 @@ use Rattle.machine.specs.Alternative.{collides}
 use Rattle.std.specs.List.{All}
 use Rattle.mrt.specs.Slots.{meets_held, Occupies}
 use Rattle.mrt.proofs.Taking.{free_from_unmet}
-use Rattle.mrt.specs.Placements.{Operations, Placements, alternatives_of, rows_of, IsFree, IsFirstSlot}
+use Rattle.mrt.specs.Placements.{OperationAlternatives, Placements, alternatives_of, rows_of, IsFree, IsFirstSlot}
 
 -- the least cycle below a bound at which one of so many alternatives serves, and the first that does, or the bound
 pub record IsBest (F : ℕ → ℕ → Type 0) (bound first best alternatives : ℕ) : Type 0 where
@@ -48,7 +48,7 @@ module _ (F : ℕ → ℕ → Type 0) (bound : ℕ) where
     there = λ lt. omega (arith, b.there lt);
   }
 
-module _ (ii : ℕ) (operations : Operations) (placed : Placements) (op start : ℕ) where
+module _ (ii : ℕ) (operations : OperationAlternatives) (placed : Placements) (op start : ℕ) where
   -- the operation can be issued by an alternative some cycles later
   abbrev pub is_free_after : ℕ → ℕ → Type 0
   is_free_after cycle alternative = IsFree ii operations placed op (start + cycle) alternative
@@ -103,7 +103,7 @@ met_until M time passed cycles before within sooner lt =
     ]
 
 -- whether rows meet a slot that is held tells whether an operation can be issued by them
-module _ (ii : ℕ) (operations : Operations) (placed : Placements) (held : ℕ → ℕ → Bool) (some : 0 < ii) (o : Occupies ii 64 operations placed held) (op alternative : ℕ)
+module _ (ii : ℕ) (operations : OperationAlternatives) (placed : Placements) (held : ℕ → ℕ → Bool) (some : 0 < ii) (o : Occupies ii 64 operations placed held) (op alternative : ℕ)
     (there : alternative < length (alternatives_of operations op)) (covered : All (λ r. r.unit < 64) (rows_of operations op alternative)) (sound : collides ii (rows_of operations op alternative) ≡ false) where
   pub free_from_met : (time : ℕ) → meets_held ii held (rows_of operations op alternative) time ≡ false → IsFree ii operations placed op time alternative
   free_from_met time unmet =

@@ -9,7 +9,7 @@ use Rattle.std.proofs.lemmas.List.Folds.{list_any_at}
 use Rattle.machine.specs.declared.alternative.Row.{Row}
 use Rattle.machine.specs.Alternative.{residue_of, rows_meet, collides}
 use Rattle.mrt.specs.declared.slot.Slot.{Slot}
-use Rattle.mrt.specs.Placements.{Operations, Placements, Placement, placement_of, alternatives_of, rows_of, IsMetBy, IsFree, Holds}
+use Rattle.mrt.specs.Placements.{OperationAlternatives, Placements, Placement, placement_of, alternatives_of, rows_of, IsMetBy, IsFree, Holds}
 use Rattle.mrt.specs.Slots.{rows_in, takes, Takes, meets_held, Occupies}
 use Rattle.mrt.proofs.Lists.{list_any_place, slice_get-set_same, slice_get-set_other}
 
@@ -31,7 +31,7 @@ takes_at ii rows time unit residue k d lt u r =
     list_any_at (λ (row : Row). eqb unit row.unit && eqb residue (residue_of ii row time)) rows k d lt
     (and_from (eqb unit (get_or rows k d).unit) (eqb residue (residue_of ii (get_or rows k d) time)) (eq-eqb unit (get_or rows k d).unit u) (eq-eqb residue (residue_of ii (get_or rows k d) time) r))
 
-module _ (ii : ℕ) (operations : Operations) (placed : Placements) where
+module _ (ii : ℕ) (operations : OperationAlternatives) (placed : Placements) where
   -- ---- the definitions of the contract, by slots
   pub takes_from_met : (rows : List Row) (time other : ℕ) → IsMetBy ii operations placed rows time other
       → (k : ℕ) × (k < length rows) × ((d : Row) → Takes ii operations placed (get_or rows k d).unit (residue_of ii (get_or rows k d) time) other)
@@ -103,7 +103,7 @@ placement_of-some placed op at h =
 pub placed_within : (placed : Placements) (op : ℕ) (at : Placement) → placement_of placed op ≡ Some at → op < length placed
 placed_within placed op at h = slice_get_within placed op (Some at) (placement_of-some placed op at h)
 
-module _ (ii : ℕ) (operations : Operations) (placed : Placements) (op : ℕ) where
+module _ (ii : ℕ) (operations : OperationAlternatives) (placed : Placements) (op : ℕ) where
   pub takes_other : (v : Option Placement) (unit residue x : ℕ) → x ≢ op → Takes ii operations placed unit residue x → Takes ii operations (set placed op v) unit residue x
   takes_other v unit residue x ne t = record { at = t.at; is_placed = ap option_flatten (slice_get-set_other placed op x v ne) ∙ t.is_placed; takes = t.takes }
 
@@ -151,14 +151,14 @@ row_at slots rows k r d e h =
     sym (get_or-map (λ (s : Slot). s.row) slots k d r within) ∙ ap (λ rs. get_or rs k r) e ∙ get_or_from_slice_get rows k r r h
 
 -- an operation that is placed, and not where it would take the slot
-pub takes_not : (ii : ℕ) (operations : Operations) (placed : Placements) (unit residue op : ℕ) (at : Placement) → Some at ≡ placement_of placed op
+pub takes_not : (ii : ℕ) (operations : OperationAlternatives) (placed : Placements) (unit residue op : ℕ) (at : Placement) → Some at ≡ placement_of placed op
     → takes ii (rows_of operations op at.alternative) at.time unit residue ≡ false → Takes ii operations placed unit residue op → ⊥
 takes_not ii operations placed unit residue op at is_at apart t =
     let same : t.at ≡ at = same_Some t.at at (sym t.is_placed ∙ sym is_at) in
     let P : Placement → Type 0 = λ p. takes ii (rows_of operations op p.alternative) p.time unit residue ≡ true in
     both_ways (takes ii (rows_of operations op at.alternative) at.time unit residue) apart (subst P same t.takes)
 
-pub takes_unplaced : (ii : ℕ) (operations : Operations) (placed : Placements) (unit residue op : ℕ) → None ≡ placement_of placed op → Takes ii operations placed unit residue op → ⊥
+pub takes_unplaced : (ii : ℕ) (operations : OperationAlternatives) (placed : Placements) (unit residue op : ℕ) → None ≡ placement_of placed op → Takes ii operations placed unit residue op → ⊥
 takes_unplaced ii operations placed unit residue op none t = none-some t.at (none ∙ t.is_placed)
 
 pub unplaced_at_first : (n op : ℕ) → placement_of (replicate n None) op ≡ None

@@ -1,11 +1,11 @@
 -- Timelines.
-use Rattle.std.proofs.Common.{zero, suc, ◌≡◌, ◌≢◌, ℕ, ◌+◌, ◌-◌, ◌*◌, ◌/◌, ◌%◌, ◌^◌, ◌<◌, ◌≤◌, inl, inr, Bool, true, false, not, ◌&&◌, ◌||◌, cond, eqb, max, bit_or, List, [], ◌∷◌, length, get_or, set, take, refl, sym, ap, ◌∙◌, arith, eq-eqb, w64}
+use Rattle.std.proofs.Common.{zero, suc, ◌≡◌, ◌≢◌, ℕ, ◌+◌, ◌-◌, ◌*◌, ◌/◌, ◌%◌, ◌^◌, ◌<◌, ◌≤◌, ◌⊎◌, inl, inr, Bool, true, false, not, ◌&&◌, ◌||◌, cond, eqb, max, bit_and, bit_or, List, [], ◌∷◌, length, get_or, set, take, refl, sym, ap, ◌∙◌, arith, eq-eqb, w64}
 use Rattle.std.specs.Int.{bit_at}
 use Rattle.std.proofs.lemmas.Bool.{cases_eq, cases_lt, cases_Bool, ne_eqb, true≢false}
 use Rattle.std.proofs.lemmas.Nat.{pow_pos}
-use Rattle.std.proofs.lemmas.Nat.Bits.{bit_at-lt, bit_at_or, bit_at_not, bit_at_ones, bit_at-zero, bit_at_above, bit_at_cat_low, bit_at_cat_high}
+use Rattle.std.proofs.lemmas.Nat.Bits.{bit_at-lt, bit_at_or, bit_at_and, bit_at_not, bit_at_ones, bit_at-zero, bit_at_above, bit_at_cat_low, bit_at_cat_high}
 use Rattle.std.proofs.lemmas.List.{get_or-set_same, get_or-set_other}
-use Rattle.std.proofs.Math.Nat.{mod-add-div', mod-add-mod}
+use Rattle.std.proofs.Math.Nat.{mod-add-div', mod-add-mod, add-mod_left, mod-eq_of_lt}
 use Rattle.machine.specs.Alternative.{residue_of}
 use Rattle.mrt.specs.declared.slot.Slot.{Slot}
 use Rattle.mrt.specs.Slots.{rows_in, meets_held}
@@ -37,39 +37,42 @@ bit_at-shl_below n s k lt below =
     let whole : n * 2 ^ s + 0 ≡ n * 2 ^ s = omega arith in
     bit_at-mod (n * 2 ^ s) k lt ∙ ap (λ m. bit_at m k) (sym whole) ∙ bit_at_cat_low n s 0 k below ∙ bit_at-zero k
 
--- the second word, moved up by one place and by some more
-moved : ℕ → ℕ → ℕ
-moved high shift = high * 2 ^ 1 % 2 ^ 64 * 2 ^ (63 - shift) % 2 ^ 64
+-- two words as one number
+both : ℕ → ℕ → ℕ
+both low high = bit_or (high * 2 ^ 64 % 2 ^ 128) low
 
-moved_none : (high shift k : ℕ) → shift < 64 → k < 64 → shift + k < 64 → bit_at (moved high shift) k ≡ 0
-unfolding moved
-moved_none high shift k s lt near =
-    elim (cases_lt k (63 - shift)) [
-      | inl below ↦ bit_at-shl_below (high * 2 ^ 1 % 2 ^ 64) (63 - shift) k lt below
-      | inr last ↦
-          let first : k - (63 - shift) ≡ 0 = omega arith in
-          bit_at-shl_above (high * 2 ^ 1 % 2 ^ 64) (63 - shift) k lt last ∙ ap (λ j. bit_at (high * 2 ^ 1 % 2 ^ 64) j) first ∙ bit_at-shl_below high 1 0 (omega arith) (omega arith)
-    ]
+both_is : (high : ℕ) → high < 2 ^ 64 → high * 2 ^ 64 % 2 ^ 128 ≡ high * 2 ^ 64 + 0
+both_is high fits =
+    let small : high * 2 ^ 64 < 2 ^ 128 = omega arith in
+    let whole : high * 2 ^ 64 ≡ high * 2 ^ 64 + 0 = omega arith in
+    mod-eq_of_lt small ∙ whole
 
-moved_some : (high shift k : ℕ) → shift < 64 → k < 64 → 64 ≤ shift + k → bit_at (moved high shift) k ≡ bit_at high (shift + k - 64)
-unfolding moved
-moved_some high shift k s lt far =
-    let place : k - (63 - shift) - 1 ≡ shift + k - 64 = omega arith in
-    bit_at-shl_above (high * 2 ^ 1 % 2 ^ 64) (63 - shift) k lt (omega arith) ∙ bit_at-shl_above high 1 (k - (63 - shift)) (omega arith) (omega arith) ∙ ap (λ j. bit_at high j) place
+both_low : (low high i : ℕ) → high < 2 ^ 64 → i < 64 → bit_at (both low high) i ≡ bit_at low i
+unfolding both
+both_low low high i fits near =
+    let none : bit_at (high * 2 ^ 64 % 2 ^ 128) i ≡ 0 = ap (λ n. bit_at n i) (both_is high fits) ∙ bit_at_cat_low high 64 0 i near ∙ bit_at-zero i in
+    bit_at_or (high * 2 ^ 64 % 2 ^ 128) low i ∙ omega (arith, none)
 
-pub bit_across_low : (low high shift k : ℕ) → low < 2 ^ 64 → shift < 64 → k < 64 → shift + k < 64
-    → bit_at (bit_or (low / 2 ^ shift) (high * 2 % 2 ^ 64 * 2 ^ (63 - shift) % 2 ^ 64)) k ≡ bit_at low (shift + k)
-unfolding moved
-bit_across_low low high shift k fits s lt near =
-    bit_at_or (low / 2 ^ shift) (moved high shift) k ∙ ap (λ b. max (bit_at (low / 2 ^ shift) k) b) (moved_none high shift k s lt near) ∙ omega (arith, bit_at-shr low shift k)
+both_high : (low high i : ℕ) → low < 2 ^ 64 → high < 2 ^ 64 → 64 ≤ i → bit_at (both low high) i ≡ bit_at high (i - 64)
+unfolding both
+both_high low high i small fits far =
+    let none : bit_at low i ≡ 0 = bit_at_above low 64 i small far in
+    let some : bit_at (high * 2 ^ 64 % 2 ^ 128) i ≡ bit_at high (i - 64) = ap (λ n. bit_at n i) (both_is high fits) ∙ bit_at_cat_high high 64 0 i (pow_pos 64) far in
+    bit_at_or (high * 2 ^ 64 % 2 ^ 128) low i ∙ omega (arith, none, some)
 
-pub bit_across_high : (low high shift k : ℕ) → low < 2 ^ 64 → shift < 64 → k < 64 → 64 ≤ shift + k
-    → bit_at (bit_or (low / 2 ^ shift) (high * 2 % 2 ^ 64 * 2 ^ (63 - shift) % 2 ^ 64)) k ≡ bit_at high (shift + k - 64)
-unfolding moved
-bit_across_high low high shift k fits s lt far =
-    let none : bit_at low (shift + k) ≡ 0 = bit_at_above low 64 (shift + k) fits far in
-    let alone : max 0 (bit_at (moved high shift) k) ≡ bit_at (moved high shift) k = omega arith in
-    bit_at_or (low / 2 ^ shift) (moved high shift) k ∙ ap (λ b. max b (bit_at (moved high shift) k)) (bit_at-shr low shift k ∙ none) ∙ alone ∙ moved_some high shift k s lt far
+-- the low word of a number
+low_word : (n k : ℕ) → k < 64 → bit_at (bit_and n (2 ^ 64 - 1)) k ≡ bit_at n k
+low_word n k lt = bit_at_and n (2 ^ 64 - 1) k ∙ omega (arith, bit_at_ones 64 k lt, bit_at-lt n k)
+
+pub bit_across_low : (low high shift k : ℕ) → high < 2 ^ 64 → k < 64 → shift + k < 64
+    → bit_at (bit_and (bit_or (high * 2 ^ 64 % 2 ^ 128) low / 2 ^ shift) (2 ^ 64 - 1)) k ≡ bit_at low (shift + k)
+unfolding both
+bit_across_low low high shift k fits lt near = low_word (both low high / 2 ^ shift) k lt ∙ bit_at-shr (both low high) shift k ∙ both_low low high (shift + k) fits near
+
+pub bit_across_high : (low high shift k : ℕ) → low < 2 ^ 64 → high < 2 ^ 64 → k < 64 → 64 ≤ shift + k
+    → bit_at (bit_and (bit_or (high * 2 ^ 64 % 2 ^ 128) low / 2 ^ shift) (2 ^ 64 - 1)) k ≡ bit_at high (shift + k - 64)
+unfolding both
+bit_across_high low high shift k small fits lt far = low_word (both low high / 2 ^ shift) k lt ∙ bit_at-shr (both low high) shift k ∙ both_high low high (shift + k) small fits far
 
 -- ---- one bit is written
 pub off : (a b : Bool) → b ≡ false → (a && b) ≡ false
@@ -109,14 +112,53 @@ is_set-set words times own at word other place held lt a p written =
     ]
 
 -- ---- places with a residue
-pub next_residue : (ii place residue p : ℕ) → 0 < ii → place % ii ≡ residue → place < p → p < place + ii → p % ii ≢ residue
-next_residue ii place residue p some at from to e =
-    let below : residue < ii = omega arith in
-    let step = p - place in
-    let whole : place + step ≡ p = omega arith in
-    elim (cases_lt (residue + step) ii) [
-      | inl inside ↦ omega (arith, residue_later ii residue place step at inside, ap (λ n. n % ii) whole, e)
-      | inr past ↦ omega (arith, residue_around ii residue place step some at (omega arith) past, ap (λ n. n % ii) whole, e)
+-- the places that go on behind an interval of 64 or more
+pub residue_at : (ii residue p : ℕ) → 64 ≤ ii → p < ii + 64 → p % ii ≡ residue → (p ≡ residue) ⊎ (p ≡ residue + ii)
+residue_at ii residue p long lt at =
+    elim (cases_lt p ii) [
+      | inl inside ↦ inl (sym (mod-eq_of_lt inside) ∙ at)
+      | inr past ↦
+          let small : p - ii < ii = omega arith in
+          let whole : ii + (p - ii) ≡ p = omega arith in
+          let is : p - ii ≡ residue = sym (mod-eq_of_lt small) ∙ sym (add-mod_left ii (p - ii)) ∙ ap (λ n. n % ii) whole ∙ at in
+          inr (omega (arith, is))
+    ]
+
+residue_from : (ii residue p : ℕ) → residue < ii → (p ≡ residue) ⊎ (p ≡ residue + ii) → p % ii ≡ residue
+residue_from ii residue p lt (inl e) = ap (λ n. n % ii) e ∙ mod-eq_of_lt lt
+residue_from ii residue p lt (inr e) = let turn : residue + ii ≡ ii + residue = omega arith in ap (λ n. n % ii) (e ∙ turn) ∙ add-mod_left ii residue ∙ mod-eq_of_lt lt
+
+-- both places with the residue are written, or the one that there is
+pub two_written : (ii residue p : ℕ) (own held was mid new : Bool) → 64 ≤ ii → residue < ii → p < ii + 64 → mid ≡ cond (own && eqb p residue) held was
+    → new ≡ cond (own && eqb p (residue + ii)) held mid → new ≡ cond (own && eqb (p % ii) residue) held was
+two_written ii residue p false held was mid new long r lt m n = n ∙ m
+two_written ii residue p true held was mid new long r lt m n =
+    elim (cases_eq p residue) [
+      | inl e ↦
+          let apart : p ≢ residue + ii = λ f. absurd (omega (arith, e, f, long)) in
+          n ∙ ap (λ b. cond b held mid) (ne_eqb p (residue + ii) apart) ∙ m ∙ ap (λ b. cond b held was) (eq-eqb p residue e)
+          ∙ sym (ap (λ b. cond b held was) (eq-eqb (p % ii) residue (residue_from ii residue p r (inl e))))
+      | inr ne ↦
+          let mid_is : mid ≡ was = m ∙ ap (λ b. cond b held was) (ne_eqb p residue ne) in
+          elim (cases_eq p (residue + ii)) [
+            | inl f ↦
+                n ∙ ap (λ b. cond b held mid) (eq-eqb p (residue + ii) f) ∙ sym (ap (λ b. cond b held was) (eq-eqb (p % ii) residue (residue_from ii residue p r (inr f))))
+            | inr nf ↦
+                let none : p % ii ≢ residue = λ at. absurd (elim (residue_at ii residue p long lt at) [ inl e ↦ ne e | inr f ↦ nf f ]) in
+                n ∙ ap (λ b. cond b held mid) (ne_eqb p (residue + ii) nf) ∙ mid_is ∙ sym (ap (λ b. cond b held was) (ne_eqb (p % ii) residue none))
+          ]
+    ]
+
+pub one_written : (ii residue p : ℕ) (own held was new : Bool) → 64 ≤ ii → residue < ii → p < ii + 64 → 64 ≤ residue → new ≡ cond (own && eqb p residue) held was
+    → new ≡ cond (own && eqb (p % ii) residue) held was
+one_written ii residue p false held was new long r lt far n = n
+one_written ii residue p true held was new long r lt far n =
+    let past : p ≢ residue + ii = λ f. absurd (omega (arith, f, lt, far)) in
+    n ∙ elim (cases_eq p residue) [
+      | inl e ↦ ap (λ b. cond b held was) (eq-eqb p residue e) ∙ sym (ap (λ b. cond b held was) (eq-eqb (p % ii) residue (residue_from ii residue p r (inl e))))
+      | inr ne ↦
+          let none : p % ii ≢ residue = λ at. absurd (elim (residue_at ii residue p long lt at) [ inl e ↦ ne e | inr f ↦ past f ]) in
+          ap (λ b. cond b held was) (ne_eqb p residue ne) ∙ sym (ap (λ b. cond b held was) (ne_eqb (p % ii) residue none))
     ]
 
 -- ---- 64 cycles
@@ -140,7 +182,7 @@ met_more ii held slots time k i d was word lt here so_far =
     ∙ sym (meets_more ii held slots (time + k) i d lt)
 
 pub cycle_more : (ii words : ℕ) (times : List ℕ) (held : ℕ → ℕ → Bool) (slots : List Slot) (time k i : ℕ) (d : Slot) (at was word : ℕ) → i < length slots
-    → Tell ii words times held → (get_or slots i d).row.unit < 64 → at + k < 64 * words → at ≡ residue_of ii (get_or slots i d).row time
+    → Tell ii words times held → (get_or slots i d).row.unit < 64 → at + k < ii + 64 → at ≡ residue_of ii (get_or slots i d).row time
     → bit_at word k ≡ bit_at (get_or times ((get_or slots i d).row.unit * words + (at + k) / 64) 0) ((at + k) % 64)
     → eqb (bit_at was k) 1 ≡ meets_held ii held (rows_in (take i slots)) (time + k)
     → eqb (bit_at (bit_or was word) k) 1 ≡ meets_held ii held (rows_in (take (i + 1) slots)) (time + k)

@@ -14,8 +14,8 @@ pub record Placement : Type 0 where
   pub alternative : ℕ
 
 -- the alternatives of each operation
-abbrev pub Operations : Type 0
-Operations = List (List (List Row))
+abbrev pub OperationAlternatives : Type 0
+OperationAlternatives = List (List (List Row))
 
 -- for each operation its placement, where it has one
 abbrev pub Placements : Type 0
@@ -26,38 +26,38 @@ abbrev pub placement_of : Placements → ℕ → Option Placement
 placement_of placed op = option_flatten (slice_get placed op)
 
 -- the alternatives of an operation
-abbrev pub alternatives_of : Operations → ℕ → List (List Row)
+abbrev pub alternatives_of : OperationAlternatives → ℕ → List (List Row)
 alternatives_of operations op = slice_index_or operations op []
 
 -- the rows of an alternative of an operation
-abbrev pub rows_of : Operations → ℕ → ℕ → List Row
+abbrev pub rows_of : OperationAlternatives → ℕ → ℕ → List Row
 rows_of operations op alternative = slice_index_or (alternatives_of operations op) alternative []
 
 -- the operation is placed, and takes a slot that the rows take when they are issued at the time
-pub record IsMetBy (ii : ℕ) (operations : Operations) (placed : Placements) (rows : List Row) (time : ℕ) (other : ℕ) : Type 0 where
+pub record IsMetBy (ii : ℕ) (operations : OperationAlternatives) (placed : Placements) (rows : List Row) (time : ℕ) (other : ℕ) : Type 0 where
   pub at : Placement
   pub is_placed : placement_of placed other ≡ Some at
   pub meets : alternatives_meet ii rows time (rows_of operations other at.alternative) at.time ≡ true
 
 -- the rows can be issued at the time: no two of them take one slot, and no placed operation takes a slot of theirs
-pub record Fits (ii : ℕ) (operations : Operations) (placed : Placements) (rows : List Row) (time : ℕ) : Type 0 where
+pub record Fits (ii : ℕ) (operations : OperationAlternatives) (placed : Placements) (rows : List Row) (time : ℕ) : Type 0 where
   pub sound : collides ii rows ≡ false
   pub meets_none : (other : ℕ) → IsMetBy ii operations placed rows time other → ⊥
 
 -- the operation has this alternative, and can be issued by it at the time
-pub record IsFree (ii : ℕ) (operations : Operations) (placed : Placements) (op time alternative : ℕ) : Type 0 where
+pub record IsFree (ii : ℕ) (operations : OperationAlternatives) (placed : Placements) (op time alternative : ℕ) : Type 0 where
   pub there : alternative < length (alternatives_of operations op)
   pub fits : Fits ii operations placed (rows_of operations op alternative) time
 
 -- the first alternative by which the operation can be issued at the time, or none where there is none
-abbrev pub IsFirstFree : ℕ → Operations → Placements → ℕ → ℕ → Option ℕ → Type 0
+abbrev pub IsFirstFree : ℕ → OperationAlternatives → Placements → ℕ → ℕ → Option ℕ → Type 0
 IsFirstFree ii operations placed op time found =
     MatchOption found
     ((alternative : ℕ) → IsFree ii operations placed op time alternative → ⊥)
     (λ alternative. IsFree ii operations placed op time alternative × ((sooner : ℕ) → sooner < alternative → IsFree ii operations placed op time sooner → ⊥))
 
 -- the least time from `start` on and before `start + ii` at which the operation can be issued, and the first alternative there
-abbrev pub IsFirstSlot : ℕ → Operations → Placements → ℕ → ℕ → Option (ℕ × ℕ) → Type 0
+abbrev pub IsFirstSlot : ℕ → OperationAlternatives → Placements → ℕ → ℕ → Option (ℕ × ℕ) → Type 0
 IsFirstSlot ii operations placed op start found =
     MatchOption found
     ((time alternative : ℕ) → start ≤ time → time < start + ii → IsFree ii operations placed op time alternative → ⊥)
@@ -65,7 +65,7 @@ IsFirstSlot ii operations placed op start found =
     × ((sooner alternative : ℕ) → start ≤ sooner → sooner < slot.0 → IsFree ii operations placed op sooner alternative → ⊥))
 
 -- the operation is placed, and one of its rows takes the slot that a row issued at the time takes
-pub record Holds (ii : ℕ) (operations : Operations) (placed : Placements) (row : Row) (time : ℕ) (holder : ℕ) : Type 0 where
+pub record Holds (ii : ℕ) (operations : OperationAlternatives) (placed : Placements) (row : Row) (time : ℕ) (holder : ℕ) : Type 0 where
   pub at : Placement
   pub is_placed : placement_of placed holder ≡ Some at
   pub own : ℕ
@@ -73,7 +73,7 @@ pub record Holds (ii : ℕ) (operations : Operations) (placed : Placements) (row
   pub same : rows_meet ii row time (slice_index_or (rows_of operations holder at.alternative) own row) at.time ≡ true
 
 -- the one operation that holds the slot that a row issued at the time takes, or none where no operation does
-abbrev pub IsHolder : ℕ → Operations → Placements → Row → ℕ → Option ℕ → Type 0
+abbrev pub IsHolder : ℕ → OperationAlternatives → Placements → Row → ℕ → Option ℕ → Type 0
 IsHolder ii operations placed row time found =
     MatchOption found
     ((holder : ℕ) → Holds ii operations placed row time holder → ⊥)

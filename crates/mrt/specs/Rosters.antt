@@ -4,12 +4,12 @@ use Rattle.std.specs.List.{All, slice_range}
 use Rattle.machine.specs.declared.alternative.Row.{Row}
 use Rattle.mrt.specs.declared.roster.Group.{Group}
 use Rattle.mrt.specs.declared.roster.Issue.{Issue}
-use Rattle.mrt.specs.Placements.{Operations, Placements, Placement, alternatives_of}
+use Rattle.mrt.specs.Placements.{OperationAlternatives, Placements, Placement, alternatives_of}
 
 -- what a table stands for: an interval, the alternatives of some operations, and their placements
 pub record Table : Type 0 where
   pub interval : ℕ
-  pub operations : Operations
+  pub operations : OperationAlternatives
   pub placed : Placements
 
 -- the placement that is kept
@@ -30,7 +30,7 @@ pub record IsGroup (count : ℕ) (group : Group) : Type 0 where
   pub within : group.end ≤ count
 
 -- the time's residue is kept beside it, and the operation has the alternative
-pub record IsIssue (ii : ℕ) (operations : Operations) (op : ℕ) (issue : Issue) : Type 0 where
+pub record IsIssue (ii : ℕ) (operations : OperationAlternatives) (op : ℕ) (issue : Issue) : Type 0 where
   pub base : issue.base ≡ issue.time % ii
   pub there : issue.alternative < length (alternatives_of operations op)
 

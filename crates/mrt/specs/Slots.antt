@@ -5,7 +5,7 @@ use Rattle.std.specs.List.{list_any}
 use Rattle.machine.specs.declared.alternative.Row.{Row}
 use Rattle.machine.specs.Alternative.{residue_of}
 use Rattle.mrt.specs.declared.slot.Slot.{Slot}
-use Rattle.mrt.specs.Placements.{Operations, Placements, Placement, placement_of, rows_of}
+use Rattle.mrt.specs.Placements.{OperationAlternatives, Placements, Placement, placement_of, rows_of}
 
 -- the row is one that a machine may have, and what is kept beside it is its offset modulo the interval and the bit of its unit
 pub record IsSlot (ii : ℕ) (slot : Slot) : Type 0 where
@@ -30,7 +30,7 @@ abbrev pub takes : ℕ → List Row → ℕ → ℕ → ℕ → Bool
 takes ii rows time unit residue = list_any (λ row. (unit == row.unit) && (residue == residue_of ii row time)) rows
 
 -- the operation is placed, and takes the slot
-pub record Takes (ii : ℕ) (operations : Operations) (placed : Placements) (unit residue op : ℕ) : Type 0 where
+pub record Takes (ii : ℕ) (operations : OperationAlternatives) (placed : Placements) (unit residue op : ℕ) : Type 0 where
   pub at : Placement
   pub is_placed : placement_of placed op ≡ Some at
   pub takes : takes ii (rows_of operations op at.alternative) at.time unit residue ≡ true
@@ -40,15 +40,15 @@ abbrev pub meets_held : ℕ → (ℕ → ℕ → Bool) → List Row → ℕ → 
 meets_held ii held rows time = list_any (λ row. held row.unit (residue_of ii row time)) rows
 
 -- of the units below a number, exactly the slots that some operation takes are held
-pub record Occupies (ii units : ℕ) (operations : Operations) (placed : Placements) (held : ℕ → ℕ → Bool) : Type 0 where
+pub record Occupies (ii units : ℕ) (operations : OperationAlternatives) (placed : Placements) (held : ℕ → ℕ → Bool) : Type 0 where
   pub marked : (unit residue op : ℕ) → unit < units → residue < ii → Takes ii operations placed unit residue op → held unit residue ≡ true
   pub owed : (unit residue : ℕ) → unit < units → residue < ii → held unit residue ≡ true → (op : ℕ) × Takes ii operations placed unit residue op
 
 -- no two operations take one slot
-abbrev pub AreApart : ℕ → Operations → Placements → Type 0
+abbrev pub AreApart : ℕ → OperationAlternatives → Placements → Type 0
 AreApart ii operations placed = (unit residue op other : ℕ) → Takes ii operations placed unit residue op → Takes ii operations placed unit residue other → op ≡ other
 
 -- the owner of a slot is the operation that takes it, or `free` where none does
-pub record Owns (ii units free : ℕ) (operations : Operations) (placed : Placements) (owner : ℕ → ℕ → ℕ) : Type 0 where
+pub record Owns (ii units free : ℕ) (operations : OperationAlternatives) (placed : Placements) (owner : ℕ → ℕ → ℕ) : Type 0 where
   pub kept : (unit residue op : ℕ) → unit < units → residue < ii → Takes ii operations placed unit residue op → owner unit residue ≡ op
   pub owed : (unit residue : ℕ) → unit < units → residue < ii → owner unit residue ≢ free → Takes ii operations placed unit residue (owner unit residue)

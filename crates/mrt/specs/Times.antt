@@ -7,9 +7,9 @@ use Rattle.std.specs.List.{slice_index}
 abbrev pub is_set : ℕ → List ℕ → ℕ → ℕ → Bool
 is_set words times unit place = bit_at (slice_index times (unit * words + place / 64)) (place % 64) == 1
 
--- the timelines tell of each unit and time whether the slot is held
+-- the timelines tell of each unit and time whether the slot is held, and go on for 64 cycles from each residue
 abbrev pub Tell : ℕ → ℕ → List ℕ → (ℕ → ℕ → Bool) → Type 0
-Tell ii words times held = (unit place : ℕ) → unit < 64 → place < 64 * words → is_set words times unit place ≡ held unit (place % ii)
+Tell ii words times held = (unit place : ℕ) → unit < 64 → place < ii + 64 → is_set words times unit place ≡ held unit (place % ii)
 
 -- whether the bit of a residue is set in the word of a unit
 abbrev pub is_on : List ℕ → ℕ → ℕ → Bool

@@ -39,18 +39,18 @@ impl Model for Choices {
 }
 
 impl Choices {
-    /// No alternatives yet.
-    pub(crate) fn new(alloc: Global, ii: usize) -> Choices
+    /// No alternatives yet, with room for some, so that few of them take memory once more.
+    pub(crate) fn new(alloc: Global, ii: usize) -> Result<Choices, OutOfMemory>
         requires some { 0 < ii }
         requires few { ii ≤ 16384 }
-        ensures interval { result.interval ≡ ii }
-        ensures empty { result.alternatives ≡ [] }
+        ensures interval { IfOk result (λ c. c.interval ≡ ii) }
+        ensures empty { IfOk result (λ c. c.alternatives ≡ []) }
     {
-        Choices {
+        Ok(Choices {
             ii,
-            slots: Vec::new(alloc),
-            spans: Vec::new(alloc),
-        }
+            slots: Vec::with_capacity(alloc, 64)?,
+            spans: Vec::with_capacity(alloc, 32)?,
+        })
     }
 
     /// The interval, in cycles.

@@ -3,6 +3,7 @@
 #![tactic(auto)]
 
 mod choices;
+mod kinds;
 mod mask;
 mod owner;
 mod roster;

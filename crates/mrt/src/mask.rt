@@ -126,7 +126,7 @@ impl MaskTable {
 }
 
 impl ModuloTable for MaskTable {
-    ghost use Rattle.mrt.specs.Placements.{Operations, Placements, IsHolder};
+    ghost use Rattle.mrt.specs.Placements.{OperationAlternatives, Placements, IsHolder};
 
     ghost placed = { λ t. t.placed };
 
@@ -235,12 +235,13 @@ fn mark_units(times: &mut [u64], words: usize, slots: &[Slot], ii: usize, base: 
     requires all { length times.old ≡ 64 * words }
     requires few_words { words ≤ 257 }
     requires one { ii < 64 → words ≡ 1 }
+    requires reach { 64 ≤ ii → ii + 64 ≤ 64 * words }
     requires slots { All (IsSlot ii) slots.now }
     requires base { base < ii }
     requires few { ii ≤ 16384 }
     ensures once { (time unit place : ℕ) → ii < 64 → time % ii ≡ base → unit < 64 → place < 64
         → is_on times.new unit place ≡ (if takes ii (rows_in slots.now) time unit place then held else is_on times.old unit place) }
-    ensures marked { (time unit place : ℕ) → 64 ≤ ii → time % ii ≡ base → unit < 64 → place < 64 * words
+    ensures marked { (time unit place : ℕ) → 64 ≤ ii → time % ii ≡ base → unit < 64 → place < ii + 64
         → is_set words times.new unit place ≡ (if takes ii (rows_in slots.now) time unit (place % ii) then held else is_set words times.old unit place) }
 {
     if ii < LEAST {

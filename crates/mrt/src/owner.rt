@@ -56,7 +56,7 @@ impl OwnerTable {
 }
 
 impl ModuloTable for OwnerTable {
-    ghost use Rattle.mrt.specs.Placements.{Operations, Placements, IsFirstFree, IsFirstSlot, IsHolder};
+    ghost use Rattle.mrt.specs.Placements.{OperationAlternatives, Placements, IsFirstFree, IsFirstSlot, IsHolder};
 
     ghost placed = { λ t. t.placed };
 

@@ -7,8 +7,10 @@ ghost use Rattle.mrt.specs.Placements.{placement_of, alternatives_of, rows_of};
 ghost use Rattle.mrt.specs.Slots.{IsSlot, rows_in, HasUnits, takes, Takes};
 
 use crate::choices::Choices;
+use crate::kinds::of_kind;
 use crate::slot::Slot;
 use machine::{Alternative, Alternatives, OutOfMemory};
+use smallvec::SmallVec;
 use std::alloc::Global;
 use std::marker::Model;
 
@@ -49,7 +51,8 @@ impl Model for Roster {
 impl Roster {
     ghost use Rattle.mrt.specs.Rosters.{placement, IsIssue};
 
-    /// These operations, with nothing placed.
+    /// These operations, with nothing placed. Operations that have the same alternatives share one group
+    /// of them.
     pub(crate) fn new(
         alloc: Global,
         operations: &[Alternatives],
@@ -61,14 +64,20 @@ impl Roster {
         ensures value { IfOk result
             (λ r. r ≡ record { interval = ii; operations = operations.now; placed = replicate (length operations.now) None }) }
     {
-        let mut choices = Choices::new(alloc, ii);
+        let mut choices = Choices::new(alloc, ii)?;
         let mut groups = Vec::with_capacity(alloc, operations.len())?;
         let issues = vec![in alloc; None; operations.len()]?;
+        let mut kinds: SmallVec<usize, 16> = SmallVec::new(alloc);
         for operation in operations {
-            let first = choices.len();
-            push_all(&mut choices, operation.as_slice())?;
-            let end = choices.len();
-            groups.push(Group { first, end })?;
+            let alternatives = operation.as_slice();
+            let group = match of_kind(operations, kinds.as_slice(), alternatives) {
+                Some(earlier) => groups[earlier],
+                None => {
+                    kinds.push(groups.len())?;
+                    added(&mut choices, alternatives)?
+                }
+            };
+            groups.push(group)?;
         }
         Ok(Roster {
             choices,
@@ -237,7 +246,21 @@ fn takes(slots: &[Slot], ii: usize, base: usize, unit: u8, residue: usize) -> bo
     false
 }
 
-/// Adds the alternatives of one operation.
+/// The group of some alternatives, which are added.
+fn added(choices: &mut Choices, alternatives: &[Alternative]) -> Result<Group, OutOfMemory>
+    requires { All IsAlternative alternatives.now }
+    ensures interval { choices.new.interval ≡ choices.old.interval }
+    ensures pushed { IfOk result (λ _. choices.new.alternatives ≡ choices.old.alternatives ++ alternatives.now) }
+    ensures first { IfOk result (λ g. g.first ≡ length choices.old.alternatives) }
+    ensures end { IfOk result (λ g. g.end ≡ length choices.new.alternatives) }
+{
+    let first = choices.len();
+    push_all(choices, alternatives)?;
+    let end = choices.len();
+    Ok(Group { first, end })
+}
+
+/// Adds alternatives.
 fn push_all(choices: &mut Choices, alternatives: &[Alternative]) -> Result<(), OutOfMemory>
     requires { All IsAlternative alternatives.now }
     ensures interval { choices.new.interval ≡ choices.old.interval }

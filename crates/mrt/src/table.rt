@@ -2,7 +2,7 @@
 
 ghost use Rattle.std.specs.Prelude.{◌≡◌, ◌+◌, ◌^◌, ◌<◌, ◌≤◌, ℕ, List, length, replicate, Option, Some, None, IsNone, IsSome, IfOk, slice_set, slice_index_or, slice_get};
 ghost use Rattle.machine.specs.declared.alternative.Row.{Row};
-ghost use Rattle.mrt.specs.Placements.{Operations, Placements, Placement, placement_of, alternatives_of, rows_of, IsFree, IsFirstFree, IsFirstSlot, IsHolder};
+ghost use Rattle.mrt.specs.Placements.{OperationAlternatives, Placements, Placement, placement_of, alternatives_of, rows_of, IsFree, IsFirstFree, IsFirstSlot, IsHolder};
 
 use machine::{Alternatives, OutOfMemory};
 use std::alloc::Global;
@@ -16,7 +16,7 @@ pub trait ModuloTable: Drop {
     ghost placed: { Self → Placements };
 
     /// The alternatives of each operation.
-    ghost operations: { Self → Operations };
+    ghost operations: { Self → OperationAlternatives };
 
     /// The initiation interval, in cycles.
     ghost interval: { Self → ℕ };

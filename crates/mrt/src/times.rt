@@ -107,8 +107,8 @@ fn sixty_four(times: &[u64], words: usize, unit: u8, place: usize) -> u64
     ensures { (k : ℕ) → k < 64 → bit_at result k ≡ bit_at (slice_index times.now (unit * words + (place + k) / 64)) ((place + k) % 64) }
 {
     let first = usize::from(unit) * words + place / 64;
-    let shift = place % 64;
-    (times[first] >> shift) | ((times[first + 1] << 1) << (63 - shift))
+    let both = (u128::from(times[first + 1]) << 64) | u128::from(times[first]);
+    ((both >> (place % 64)) & u128::from(u64::MAX)) as u64
 }
 
 /// Sets or clears the bits of slots, for an operation issued at a time whose residue is `base`.
@@ -121,11 +121,13 @@ pub(crate) fn mark_times(
     held: bool,
 )
     requires all { length times.old ≡ 64 * words }
+    requires reach { ii + 64 ≤ 64 * words }
     requires few_words { words ≤ 257 }
     requires slots { All (IsSlot ii) slots.now }
     requires base { base < ii }
+    requires long { 64 ≤ ii }
     requires few { ii ≤ 16384 }
-    ensures marked { (time unit place : ℕ) → time % ii ≡ base → unit < 64 → place < 64 * words
+    ensures marked { (time unit place : ℕ) → time % ii ≡ base → unit < 64 → place < ii + 64
         → is_set words times.new unit place ≡ (if takes ii (rows_in slots.now) time unit (place % ii) then held else is_set words times.old unit place) }
 {
     for slot in slots {
@@ -143,17 +145,30 @@ pub(crate) fn mark_times(
 /// Sets or clears the bits of a unit at all times with a residue.
 fn write(times: &mut [u64], words: usize, unit: u8, ii: usize, residue: usize, held: bool)
     requires all { length times.old ≡ 64 * words }
+    requires reach { ii + 64 ≤ 64 * words }
     requires few_words { words ≤ 257 }
     requires unit { unit < 64 }
     requires residue { residue < ii }
+    requires long { 64 ≤ ii }
     requires few { ii ≤ 16384 }
-    ensures marked { (other place : ℕ) → other < 64 → place < 64 * words
+    ensures marked { (other place : ℕ) → other < 64 → place < ii + 64
         → is_set words times.new other place ≡ (if (other == unit) && (place % ii == residue) then held else is_set words times.old other place) }
 {
-    let mut place = residue;
-    while place < 64 * words {
-        let at = usize::from(unit) * words + place / 64;
-        times[at] = with_bit(times[at], 1 << (place % 64), held);
-        place += ii;
+    write_one(times, words, unit, residue, held);
+    if residue < 64 {
+        write_one(times, words, unit, residue + ii, held);
     }
+}
+
+/// Sets or clears the bit of a unit at one place.
+fn write_one(times: &mut [u64], words: usize, unit: u8, place: usize, held: bool)
+    requires all { length times.old ≡ 64 * words }
+    requires few_words { words ≤ 257 }
+    requires unit { unit < 64 }
+    requires place { place < 64 * words }
+    ensures marked { (other p : ℕ) → p < 64 * words
+        → is_set words times.new other p ≡ (if (other == unit) && (p == place) then held else is_set words times.old other p) }
+{
+    let at = usize::from(unit) * words + place / 64;
+    times[at] = with_bit(times[at], 1 << (place % 64), held);
 }

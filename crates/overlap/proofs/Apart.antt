@@ -6,7 +6,7 @@ use Rattle.std.proofs.lemmas.Int.{ints}
 use Rattle.kernel.specs.Overlapped.{physical}
 use Rattle.overlap.specs.declared.lifetime.Lifetime.{Lifetime}
 use Rattle.overlap.specs.Lifetimes.{IsLiveIn}
-use Rattle.overlap.specs.Allotments.{IsLawful}
+use Rattle.overlap.specs.Allotments.{IsLawfulAllotment}
 
 pub cases-int : (a b : ℤ) → (a ≤ℤ b) ⊎ (b <ℤ a)
 cases-int (pos a) (pos b) = elim (cases_lt b a) [
@@ -21,7 +21,7 @@ cases-int (negsuc a) (negsuc b) = elim (cases_lt a b) [
 ]
 
 -- an instance lives in a cycle; another one in the same register that lives in an earlier one does so before the first begins
-pub before-or_same : (ii registers : ℕ) (lives : List Lifetime) (numbers : List ℕ) → IsLawful ii registers lives numbers
+pub before-or_same : (ii registers : ℕ) (lives : List Lifetime) (numbers : List ℕ) → IsLawfulAllotment ii registers lives numbers
     → (k l : ℕ) (x y : Lifetime) (i j : ℤ) → slice_get lives k ≡ Some x → slice_get lives l ≡ Some y
     → physical registers (slice_index numbers k) i ≡ physical registers (slice_index numbers l) j
     → (late early : ℤ) → IsLiveIn ii x i late → IsLiveIn ii y j early → early ≤ℤ late

@@ -37,7 +37,7 @@ pairs-append R (x ∷ xs) ys a b cross =
     ])
     (pairs-append R xs ys (pairs-tail R x xs a) b (λ u v c d. cross u v (contains-tail x xs u c) d))
 
-flat-back : {A : Type 0} (f : ℕ → List A) (xs : List ℕ) (y : A) → Contains (flat_map f xs) y → (x : ℕ) × Contains xs x × Contains (f x) y
+pub flat-back : {A : Type 0} (f : ℕ → List A) (xs : List ℕ) (y : A) → Contains (flat_map f xs) y → (x : ℕ) × Contains xs x × Contains (f x) y
 flat-back f [] y c = absurd (let l = c.1 in omega arith)
 flat-back f (x ∷ xs) y c = elim (Contains-append_cases (f x) (flat_map f xs) y c) [
   | inl here ↦ (x, contains-head x xs, here)

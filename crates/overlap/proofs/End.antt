@@ -7,6 +7,7 @@ use Rattle.std.proofs.lemmas.Int.{ints}
 use Rattle.std.proofs.lemmas.List.{same_lists, get_or_default}
 use Rattle.std.proofs.lemmas.List.Elements.{All-contains, Contains-get_or}
 use Rattle.std.proofs.Math.Nat.{mul-add, lt-div-mul-add}
+use Rattle.std.proofs.lemmas.Option.{same_Some}
 use Rattle.iterations.specs.declared.language.statement.Statement.{Statement}
 use Rattle.iterations.specs.Loops.{LoopData, GivesValue, HasInitial}
 use Rattle.iterations.specs.Run.{MemoryData, RunState, start, after_iterations, end_of, earlier_value, plain, cell_index}
@@ -15,7 +16,7 @@ use Rattle.graph.specs.Promises.{issue_of}
 use Rattle.graph.specs.Units.{greatest_of}
 use Rattle.kernel.specs.declared.parts.Parts.{Parts}
 use Rattle.kernel.specs.Overlapped.{Target, InRegister, InCell, Write, physical, value_or, preloaded, last_of_all, writes_before, all_writes, overlapped, turns_of, cells_after, arrays_left, out_after, last_turn}
-use Rattle.overlap.specs.Allotments.{AllotmentData, number_of}
+use Rattle.overlap.specs.Allotments.{AllotmentData, allotted_number}
 use Rattle.overlap.specs.Lifetimes.{IsLiveIn, is_out, landing_of, last_landing, last_cycle, lifetime_of, lifetimes_of, rank_of}
 use Rattle.ims.specs.Schedules.{ScheduleData, IsSchedule, stages_of}
 use Rattle.overlap.specs.Emission.{out_of, emitted}
@@ -27,7 +28,7 @@ use Rattle.overlap.proofs.Issued.{issued-from_sequence, sequence-from_issued}
 use Rattle.overlap.proofs.Landing.{contains-cases, last-of_all_is, none-of_all}
 use Rattle.overlap.proofs.LastStores.{holds-last}
 use Rattle.overlap.proofs.Lives.{times-more, greatest-of, contains-map, begins-by_landing, lasts-to_landing, lasts-to_end, life-at_rank, rank-one, flag-on}
-use Rattle.overlap.proofs.Loads.{lands-first, some-same}
+use Rattle.overlap.proofs.Loads.{lands-first}
 use Rattle.overlap.proofs.Made.{writes-are_of_values}
 use Rattle.iterations.proofs.Instances.{arrays-first, earlier-at, initial-at, slice_get-within}
 use Rattle.overlap.proofs.Preloaded.{preloaded-is}
@@ -106,8 +107,8 @@ cell-end schedule allotment memory r a i ha hi =
           let target : v.target ≡ InCell a i = t ∙ last.same_cell in
           elim (last.last is.op is.iteration is.statement v is.is_statement (inl is.within) is.is_write target) [
             | inl same ↦
-                let x : is.statement ≡ last.statement = some-same is.statement last.statement (sym is.is_statement ∙ ap (slice_get loop.statements) same.0 ∙ last.is_statement) in
-                inl (some-same v w (sym is.is_write
+                let x : is.statement ≡ last.statement = same_Some is.statement last.statement (sym is.is_statement ∙ ap (slice_get loop.statements) same.0 ∙ last.is_statement) in
+                inl (same_Some v w (sym is.is_write
                 ∙ ap (λ n. write_of_instance schedule allotment memory.arrays n is.iteration is.statement) same.0
                 ∙ ap (λ n. write_of_instance schedule allotment memory.arrays last.store n is.statement) same.1
                 ∙ ap (write_of_instance schedule allotment memory.arrays last.store last.stored_in) x ∙ last.is_write))
@@ -223,7 +224,7 @@ out-name registers number stages trip some one =
 -- at the end it holds the value of the last iteration
 out-lands : (schedule : ScheduleData) (allotment : AllotmentData) (memory : MemoryData) → IsRun schedule allotment memory
     → (x k : ℕ) (s : Statement) → slice_get schedule.problem.loop.statements x ≡ Some s → is_some s.name ≡ true → is_out schedule.problem.loop x ≡ true → memory.trip ≡ suc k
-    → last_of_all (sequence_before schedule allotment memory (cycles schedule allotment memory.trip)) (InRegister (physical allotment.registers (number_of schedule.problem.loop allotment x) (pos k)))
+    → last_of_all (sequence_before schedule allotment memory (cycles schedule allotment memory.trip)) (InRegister (physical allotment.registers (allotted_number schedule.problem.loop allotment x) (pos k)))
     ≡ write_of_instance schedule allotment memory.arrays x k s
 out-lands schedule allotment memory r x k s there named out trip =
     let loop = schedule.problem.loop in
@@ -234,7 +235,7 @@ out-lands schedule allotment memory r x k s there named out trip =
     let issued : List Write = sequence_before schedule allotment memory final in
     let shape = (sc.problem.loop.each x s there).shape in
     let w : Write = record {
-      target = InRegister (physical allotment.registers (number_of loop allotment x) (pos k));
+      target = InRegister (physical allotment.registers (allotted_number loop allotment x) (pos k));
       value = given_by loop memory.arrays x k s;
       start = issue_of ii schedule.times x k + slice_index schedule.problem.graph.latencies x;
     } in
@@ -248,7 +249,7 @@ out-lands schedule allotment memory r x k s there named out trip =
     last-of_all_is issued w c (λ v d t.
     let is = issued-from_sequence schedule allotment memory final v d in
     let is_shape = (sc.problem.loop.each is.op is.statement is.is_statement).shape in
-    let ir = into-register schedule allotment memory.arrays is.op is.iteration is.statement v (physical allotment.registers (number_of loop allotment x) (pos k)) is_shape is.is_write t in
+    let ir = into-register schedule allotment memory.arrays is.op is.iteration is.statement v (physical allotment.registers (allotted_number loop allotment x) (pos k)) is_shape is.is_write t in
     let land : IsLiveIn ii (lifetime_of schedule is.op) (pos is.iteration) (pos v.start)
     = subst (λ n. IsLiveIn ii (lifetime_of schedule is.op) (pos is.iteration) (pos n)) (sym ir.2) (lives-at_landing schedule sc is.op is.iteration) in
     let bl = lands-by_last schedule sc is.op is.statement is.is_statement in
@@ -261,8 +262,8 @@ out-lands schedule allotment memory r x k s there named out trip =
       | inl same ↦
           let op : x ≡ is.op = rank-one loop x is.op s is.statement there named is.is_statement ir.0 same.0 in
           let it : is.iteration ≡ k = let z = same.1 in omega (arith, ints) in
-          let xs : is.statement ≡ s = some-same is.statement s (sym is.is_statement ∙ ap (slice_get loop.statements) (sym op) ∙ there) in
-          inl (some-same v w (sym is.is_write
+          let xs : is.statement ≡ s = same_Some is.statement s (sym is.is_statement ∙ ap (slice_get loop.statements) (sym op) ∙ there) in
+          inl (same_Some v w (sym is.is_write
           ∙ ap (λ y. write_of_instance schedule allotment memory.arrays y is.iteration is.statement) (sym op)
           ∙ ap (λ y. write_of_instance schedule allotment memory.arrays x y is.statement) it
           ∙ ap (write_of_instance schedule allotment memory.arrays x k) xs ∙ is_write))
@@ -275,8 +276,8 @@ named-in loop x g = (g.0, g.1, g.2)
 
 out-same : (schedule : ScheduleData) (allotment : AllotmentData) (memory : MemoryData) → IsRun schedule allotment memory
     → (trip : ℕ) → memory.trip ≡ trip → (x : ℕ) → Contains schedule.problem.loop.outs x
-    → value_or (last_of_all (sequence_before schedule allotment memory (cycles schedule allotment memory.trip)) (InRegister (physical allotment.registers (number_of schedule.problem.loop allotment x) (pos trip -ℤ pos 1))))
-    (preloaded (emitted schedule allotment) (physical allotment.registers (number_of schedule.problem.loop allotment x) (pos trip -ℤ pos 1)))
+    → value_or (last_of_all (sequence_before schedule allotment memory (cycles schedule allotment memory.trip)) (InRegister (physical allotment.registers (allotted_number schedule.problem.loop allotment x) (pos trip -ℤ pos 1))))
+    (preloaded (emitted schedule allotment) (physical allotment.registers (allotted_number schedule.problem.loop allotment x) (pos trip -ℤ pos 1)))
     ≡ earlier_value schedule.problem.loop (after_iterations schedule.problem.loop trip (start memory.arrays)).history x 1
 out-same schedule allotment memory r zero none x c =
     let loop = schedule.problem.loop in
@@ -284,7 +285,7 @@ out-same schedule allotment memory r zero none x c =
     let gives = named-in loop x (All-contains (λ o. GivesValue loop o × HasInitial loop o 1) loop.outs x sc.problem.loop.outs c).0 in
     let out : is_out loop x ≡ true = any-there loop.outs x c in
     let flag = flag-on (is_out loop x) out in
-    let register : ℕ = physical allotment.registers (number_of loop allotment x) (pos 0 -ℤ pos 1) in
+    let register : ℕ = physical allotment.registers (allotted_number loop allotment x) (pos 0 -ℤ pos 1) in
     ap (λ o. value_or o (preloaded (emitted schedule allotment) register)) (none-of_all (sequence_before schedule allotment memory (cycles schedule allotment memory.trip)) (InRegister register) (λ v d t.
     let is = issued-from_sequence schedule allotment memory (cycles schedule allotment memory.trip) v d in
     let w = is.within in absurd (omega arith)))
@@ -298,9 +299,9 @@ out-same schedule allotment memory r (suc k) trip x c =
     let shape = (sc.problem.loop.each x gives.0 gives.1).shape in
     let issued : List Write = sequence_before schedule allotment memory (cycles schedule allotment memory.trip) in
     let e : (pos (suc k) -ℤ pos 1) ≡ pos k = omega (arith, ints) in
-    let at : ℤ → ℤ = λ z. value_or (last_of_all issued (InRegister (physical allotment.registers (number_of loop allotment x) z))) (preloaded (emitted schedule allotment) (physical allotment.registers (number_of loop allotment x) z)) in
+    let at : ℤ → ℤ = λ z. value_or (last_of_all issued (InRegister (physical allotment.registers (allotted_number loop allotment x) z))) (preloaded (emitted schedule allotment) (physical allotment.registers (allotted_number loop allotment x) z)) in
     ap at e
-    ∙ ap (λ o. value_or o (preloaded (emitted schedule allotment) (physical allotment.registers (number_of loop allotment x) (pos k))))
+    ∙ ap (λ o. value_or o (preloaded (emitted schedule allotment) (physical allotment.registers (allotted_number loop allotment x) (pos k))))
     (out-lands schedule allotment memory r x k gives.0 gives.1 gives.2 out trip ∙ makes-value schedule allotment memory.arrays x k gives.0 shape gives.2)
     ∙ ap (λ n. given_by loop memory.arrays x n gives.0) (let z : k ≡ suc k - 1 = omega arith in z)
     ∙ sym (earlier-at loop memory.arrays x (suc k) 1 gives.0 gives.1 (omega arith) (omega arith))
@@ -313,7 +314,7 @@ unfolding emitted
 out-end schedule allotment memory r x c =
     let issued : List Write = sequence_before schedule allotment memory (cycles schedule allotment memory.trip) in
     ap (λ n. value_or (last_of_all issued (InRegister n)) (preloaded (emitted schedule allotment) n))
-    (out-name allotment.registers (number_of schedule.problem.loop allotment x) (stages_of schedule) memory.trip r.belong.allotted.some (omega arith))
+    (out-name allotment.registers (allotted_number schedule.problem.loop allotment x) (stages_of schedule) memory.trip r.belong.allotted.some (omega arith))
     ∙ out-same schedule allotment memory r memory.trip refl x c
 
 whole : ℕ → List (List ℤ) → List ℤ → MemoryData

@@ -2,6 +2,7 @@
 use Rattle.std.proofs.Common.{◌≡◌, ◌⊎◌, ℕ, suc, zero, ◌<◌, ◌≤◌, length, Option, Some, None, refl, sym, ap, ◌∙◌, subst, inl, inr, arith}
 use Rattle.std.specs.Prelude.{slice_get}
 use Rattle.std.proofs.lemmas.Bool.{cases_Bool, true≢false, cond-true, cond-false}
+use Rattle.std.proofs.lemmas.Option.{same_Some}
 use Rattle.iterations.specs.declared.language.statement.Statement.{Statement}
 use Rattle.iterations.specs.Run.{MemoryData}
 use Rattle.graph.specs.Dependences.{ComesFirst}
@@ -13,7 +14,7 @@ use Rattle.overlap.specs.Overlap.{IsLastStore}
 use Rattle.overlap.proofs.Landing.{target-from_same, same-self}
 use Rattle.iterations.proofs.Instances.{arrays-next, slice_get-within}
 use Rattle.iterations.proofs.InstanceCells.{HaveBlocks, cell, blocks-next, there-is}
-use Rattle.iterations.proofs.LastStores.{before-cases, before-more, nothing-first, before-iteration, before-iteration_back, some-same}
+use Rattle.iterations.proofs.LastStores.{before-cases, before-more, nothing-first, before-iteration, before-iteration_back}
 use Rattle.overlap.proofs.Cells.{put, cell-next}
 
 -- no store before writes the cell
@@ -47,7 +48,7 @@ skip schedule allotment memory op j a i s there unmet same (inl last) =
         last = λ p k x w g f e t. elim (before-cases p k op j f) [
           | inl old ↦ l.last p k x w g old e t
           | inr now ↦
-              let px : x ≡ s = some-same x s (sym (sym (ap (slice_get schedule.problem.loop.statements) now.0) ∙ g) ∙ there) in
+              let px : x ≡ s = same_Some x s (sym (sym (ap (slice_get schedule.problem.loop.statements) now.0) ∙ g) ∙ there) in
               absurd (unmet w (sym (ap (λ n. write_of_instance schedule allotment memory.arrays n k x) now.0 ∙ ap (λ n. write_of_instance schedule allotment memory.arrays op n x) now.1 ∙ ap (write_of_instance schedule allotment memory.arrays op j) px) ∙ e) t)
         ];
       },
@@ -58,7 +59,7 @@ skip schedule allotment memory op j a i s there unmet same (inr none) =
       λ p k x w g f e t. elim (before-cases p k op j f) [
         | inl old ↦ none.0 p k x w g old e t
         | inr now ↦
-            let px : x ≡ s = some-same x s (sym (sym (ap (slice_get schedule.problem.loop.statements) now.0) ∙ g) ∙ there) in
+            let px : x ≡ s = same_Some x s (sym (sym (ap (slice_get schedule.problem.loop.statements) now.0) ∙ g) ∙ there) in
             unmet w (sym (ap (λ n. write_of_instance schedule allotment memory.arrays n k x) now.0 ∙ ap (λ n. write_of_instance schedule allotment memory.arrays op n x) now.1 ∙ ap (write_of_instance schedule allotment memory.arrays op j) px) ∙ e) t
       ],
       same ∙ none.1,

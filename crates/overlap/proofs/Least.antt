@@ -4,7 +4,7 @@ use Rattle.std.specs.Prelude.{slice_get, slice_index}
 use Rattle.std.proofs.lemmas.Bool.{cases_order}
 use Rattle.std.proofs.lemmas.List.{take_all, length-take}
 use Rattle.overlap.specs.declared.lifetime.Lifetime.{Lifetime}
-use Rattle.overlap.specs.Allotments.{IsLawful, IsLeast, AreLeast, LeastIsOne, LeastOrNone, LeastIsLawful}
+use Rattle.overlap.specs.Allotments.{IsLawfulAllotment, IsLeast, AreLeast, LeastIsOne, LeastOrNone, LeastIsLawful}
 
 pub there-is : (xs : List Lifetime) (k : ℕ) → k < length xs → (x : Lifetime) × (slice_get xs k ≡ Some x)
 there-is [] k h = absurd (omega arith)
@@ -96,7 +96,7 @@ least-or_none ii registers lives numbers a none =
     let within = place-within lives none.life none.place none.is_life in
     let same = least-is_one ii registers (take none.place lives) (take none.place numbers) none.numbers (least-before ii registers lives numbers a none.place (omega arith)) none.least_before in
     none.none (slice_index numbers none.place)
-    (subst (λ ns. IsLawful ii registers (take none.place lives ++ none.life ∷ []) (ns ++ slice_index numbers none.place ∷ [])) same (a.least none.place none.life none.is_life).lawful)
+    (subst (λ ns. IsLawfulAllotment ii registers (take none.place lives ++ none.life ∷ []) (ns ++ slice_index numbers none.place ∷ [])) same (a.least none.place none.life none.is_life).lawful)
 
 -- least numbers are lawful
 
@@ -108,23 +108,23 @@ take-life [] k x e = cc
 take-life (y ∷ xs) zero x e = let z : y ≡ x = cc in ap (λ w. w ∷ []) z
 take-life (y ∷ xs) (suc k) x e = ap (λ ys. y ∷ ys) (take-life xs k x e)
 
-pub empty-lawful : (ii registers : ℕ) (numbers : List ℕ) → length numbers ≡ 0 → IsLawful ii registers [] numbers
+pub empty-lawful : (ii registers : ℕ) (numbers : List ℕ) → length numbers ≡ 0 → IsLawfulAllotment ii registers [] numbers
 empty-lawful ii registers numbers none = record {
   each = none;
   there = λ k d h. absurd (omega arith);
   apart = λ k l i j m. absurd (nothing k m.one m.is_one);
 }
 
-taken-lawful : (ii registers : ℕ) (lives : List Lifetime) (numbers : List ℕ) → AreLeast ii registers lives numbers → (n : ℕ) → n ≤ length lives → IsLawful ii registers (take n lives) (take n numbers)
+taken-lawful : (ii registers : ℕ) (lives : List Lifetime) (numbers : List ℕ) → AreLeast ii registers lives numbers → (n : ℕ) → n ≤ length lives → IsLawfulAllotment ii registers (take n lives) (take n numbers)
 taken-lawful ii registers lives numbers a zero le = empty-lawful ii registers (take 0 numbers) refl
 taken-lawful ii registers lives numbers a (suc n) le =
     let x = there-is lives n (omega arith) in
     let e = a.each in
-    subst (λ ls. IsLawful ii registers ls (take (suc n) numbers)) (sym (take-life lives n x.0 x.1))
-    (subst (IsLawful ii registers (take n lives ++ x.0 ∷ [])) (sym (take-more numbers n (omega arith))) (a.least n x.0 x.1).lawful)
+    subst (λ ls. IsLawfulAllotment ii registers ls (take (suc n) numbers)) (sym (take-life lives n x.0 x.1))
+    (subst (IsLawfulAllotment ii registers (take n lives ++ x.0 ∷ [])) (sym (take-more numbers n (omega arith))) (a.least n x.0 x.1).lawful)
 
 pub least-is_lawful : LeastIsLawful
 least-is_lawful ii registers lives numbers a =
     let e = a.each in
-    subst (λ ls. IsLawful ii registers ls numbers) (take_all (length lives) lives (omega arith))
-    (subst (IsLawful ii registers (take (length lives) lives)) (take_all (length lives) numbers (omega arith)) (taken-lawful ii registers lives numbers a (length lives) (omega arith)))
+    subst (λ ls. IsLawfulAllotment ii registers ls numbers) (take_all (length lives) lives (omega arith))
+    (subst (IsLawfulAllotment ii registers (take (length lives) lives)) (take_all (length lives) numbers (omega arith)) (taken-lawful ii registers lives numbers a (length lives) (omega arith)))

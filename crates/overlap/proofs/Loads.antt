@@ -4,6 +4,7 @@ use Rattle.std.specs.Prelude.{slice_get, slice_index, ◌≤ℤ◌, neg_ℤ}
 use Rattle.std.specs.List.{Contains}
 use Rattle.std.proofs.lemmas.Bool.{cases_lt, cases_order}
 use Rattle.std.proofs.lemmas.Int.{ints}
+use Rattle.std.proofs.lemmas.Option.{same_Some}
 use Rattle.machine.specs.declared.opcode.Opcode.{Opcode}
 use Rattle.machine.specs.declared.opcode.Opcode.TheVariants.{Load, Store}
 use Rattle.iterations.specs.declared.language.statement.Statement.{Statement}
@@ -67,9 +68,6 @@ order-cases p i q j = elim (cases_order i j) [
 load-or_store : (o : Opcode) → o ≡ Load → o ≡ Store → ⊥
 load-or_store o a b = let e : Load ≡ Store = sym a ∙ b in cc
 
-pub some-same : {X : Type 0} (x y : X) → Some x ≡ Some y → x ≡ y
-some-same x y e = cc
-
 -- a store that lands on a cell by the time of its load comes first in the plain run
 comes-first : (schedule : ScheduleData) (allotment : AllotmentData) (memory : MemoryData) → IsSchedule schedule
     → (q j : ℕ) (s : Statement) (place : Place) → slice_get schedule.problem.loop.statements q ≡ Some s → s.opcode ≡ Load → s.place ≡ Some place
@@ -84,9 +82,9 @@ comes-first schedule allotment memory sc q j s place there load is_place v is t 
       | inl first ↦ first
       | inr o ↦ elim o [
         | inl same ↦
-            let e : s ≡ is.statement = some-same s is.statement (sym there ∙ ap (slice_get loop.statements) (sym same.0) ∙ is.is_statement) in
+            let e : s ≡ is.statement = same_Some s is.statement (sym there ∙ ap (slice_get loop.statements) (sym same.0) ∙ is.is_statement) in
             let h = st.1 in
-            let f : h.0 ≡ is.statement = some-same h.0 is.statement (sym h.1 ∙ is.is_statement) in
+            let f : h.0 ≡ is.statement = same_Some h.0 is.statement (sym h.1 ∙ is.is_statement) in
             absurd (load-or_store s.opcode load (ap (λ (x : Statement). x.opcode) (e ∙ sym f) ∙ h.2))
         | inr later ↦
             let l = loads-in_time loop schedule.problem.graph.latencies schedule.ii schedule.times (keeps-dependences schedule sc) q j is.op is.iteration
@@ -140,8 +138,8 @@ load-finds schedule allotment memory run q j s place there load is_place within 
     let first = comes-first schedule allotment memory sc q j s place there load is_place v is target early in
     elim (last.last is.op is.iteration is.statement v is.is_statement first is.is_write target) [
       | inl same ↦
-          let x : is.statement ≡ last.statement = some-same is.statement last.statement (sym is.is_statement ∙ ap (slice_get loop.statements) same.0 ∙ last.is_statement) in
-          inl (some-same v w (sym is.is_write
+          let x : is.statement ≡ last.statement = same_Some is.statement last.statement (sym is.is_statement ∙ ap (slice_get loop.statements) same.0 ∙ last.is_statement) in
+          inl (same_Some v w (sym is.is_write
           ∙ ap (λ n. write_of_instance schedule allotment memory.arrays n is.iteration is.statement) same.0
           ∙ ap (λ n. write_of_instance schedule allotment memory.arrays last.store n is.statement) same.1
           ∙ ap (write_of_instance schedule allotment memory.arrays last.store last.stored_in) x ∙ last.is_write))

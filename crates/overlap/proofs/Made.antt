@@ -15,7 +15,7 @@ use Rattle.graph.specs.Promises.{issue_of}
 use Rattle.kernel.specs.declared.operation.Operation.{Operation}
 use Rattle.kernel.specs.declared.parts.Parts.{Parts}
 use Rattle.kernel.specs.Overlapped.{Target, InRegister, InCell, Write, physical, addressed, cell_landed, load_landed, source_at, write_of, write_given, to_register, to_cell, is_issued, turn_of, writes_in, writes_before}
-use Rattle.overlap.specs.Allotments.{AllotmentData, number_of}
+use Rattle.overlap.specs.Allotments.{AllotmentData, allotted_number}
 use Rattle.ims.specs.Schedules.{ScheduleData, stage_of, row_of}
 use Rattle.overlap.specs.Emission.{name_of, address_of, operation_of, operations_from, emitted}
 use Rattle.overlap.specs.Sequence.{state_before, read_by, stored_by, made_by, write_by_opcode, write_of_instance, write_now, sequence_in, sequence_before}
@@ -52,7 +52,7 @@ stored-same schedule allotment arrays q j s (Some place) some =
 made-same : (schedule : ScheduleData) (allotment : AllotmentData) (arrays : List (List ℤ)) (q j : ℕ) (s : Statement) (v : ℤ) (name : Option (List ℕ)) → 0 < schedule.ii → 0 < allotment.registers → is_some name ≡ true
     → to_register (emitted schedule allotment) (issue_of schedule.ii schedule.times q j) (operation_of schedule allotment q s) v (option_map (λ (n : List ℕ). name_of schedule allotment q 0 (stage_of schedule q)) name)
     ≡ Some (record {
-      target = InRegister (physical allotment.registers (number_of schedule.problem.loop allotment q) (pos j));
+      target = InRegister (physical allotment.registers (allotted_number schedule.problem.loop allotment q) (pos j));
       value = v;
       start = issue_of schedule.ii schedule.times q j + slice_index schedule.problem.graph.latencies q;
     })
@@ -66,8 +66,8 @@ made-same schedule allotment arrays q j s v (Some n) some registers named =
     }) in
     let t : issue_of schedule.ii schedule.times q j / schedule.ii ≡ stage_of schedule q + j = turn-of_issue schedule.ii (slice_index schedule.times q) j some in
     ap (λ k. at (physical allotment.registers (name_of schedule allotment q 0 (stage_of schedule q)) (pos k))) t
-    ∙ ap at (name-in_turn allotment.registers (number_of schedule.problem.loop allotment q) 0 (stage_of schedule q) j registers
-    ∙ ap (physical allotment.registers (number_of schedule.problem.loop allotment q)) (let e : (pos j -ℤ pos 0) ≡ pos j = omega (arith, ints) in e))
+    ∙ ap at (name-in_turn allotment.registers (allotted_number schedule.problem.loop allotment q) 0 (stage_of schedule q) j registers
+    ∙ ap (physical allotment.registers (allotted_number schedule.problem.loop allotment q)) (let e : (pos j -ℤ pos 0) ≡ pos j = omega (arith, ints) in e))
 
 -- by opcodes
 
@@ -112,7 +112,7 @@ write-same schedule allotment memory r q j s there within =
     let shape = (r.belong.scheduled.problem.loop.each q s there).shape in
     let reads : List ℤ = read_by loop memory.arrays q j s in
     let made : ℤ → Option Write = λ v. Some (record {
-      target = InRegister (physical allotment.registers (number_of loop allotment q) (pos j));
+      target = InRegister (physical allotment.registers (allotted_number loop allotment q) (pos j));
       value = v;
       start = cycle + slice_index schedule.problem.graph.latencies q;
     }) in

@@ -4,6 +4,7 @@ use Rattle.std.specs.Prelude.{slice_get, slice_index, is_some}
 use Rattle.std.proofs.lemmas.Bool.{and_parts, and_from, eqb-true, leb-true, ltb-true, eq-eqb, le-leb, lt-ltb}
 use Rattle.std.proofs.lemmas.Int.{ints}
 use Rattle.std.proofs.lemmas.List.Elements.{All-contains}
+use Rattle.std.proofs.lemmas.Option.{same_Some}
 use Rattle.iterations.specs.declared.language.statement.Statement.{Statement}
 use Rattle.iterations.specs.declared.language.statement.Operand.{Operand}
 use Rattle.iterations.specs.declared.language.statement.Operand.TheVariants.{Value}
@@ -12,14 +13,14 @@ use Rattle.iterations.specs.Run.{cell_index}
 use Rattle.graph.specs.Promises.{issue_of}
 use Rattle.kernel.specs.declared.operation.Operation.{Operation}
 use Rattle.kernel.specs.Overlapped.{physical, preloaded, is_issued}
-use Rattle.overlap.specs.Allotments.{AllotmentData, number_of}
+use Rattle.overlap.specs.Allotments.{AllotmentData, allotted_number}
 use Rattle.ims.specs.Schedules.{ScheduleData, stage_of, row_of}
 use Rattle.overlap.specs.Emission.{name_of, source_of, operation_of, operations_from, emitted}
 use Rattle.overlap.specs.Overlap.{IsLastStore, InstancesAreIssuedOnce, NamesAreOfInstances, RegistersHoldValues, LoadsFollowStores}
 use Rattle.overlap.proofs.Issued.{cycle-from_row, row-of_issue, turn-of_issue}
 use Rattle.overlap.proofs.LastStores.{holds-last}
 use Rattle.overlap.proofs.Lives.{carried-far}
-use Rattle.overlap.proofs.Loads.{load-finds, load-opens, some-same}
+use Rattle.overlap.proofs.Loads.{load-finds, load-opens}
 use Rattle.iterations.proofs.Instances.{slice_get-within}
 use Rattle.overlap.proofs.Preloaded.{preloaded-is}
 use Rattle.overlap.proofs.Registers.{register-lands, register-opens}
@@ -99,7 +100,7 @@ names-are_of_instances schedule allotment b reader operand value distance iterat
       name_of schedule allotment value distance stage,
       ap (λ (x : Operation). slice_get x.sources operand) (sym e) ∙ source-in schedule allotment stage s.operands operand (Value value distance) is_operand,
       ap (λ n. physical allotment.registers (name_of schedule allotment value distance stage) (pos n)) t
-          ∙ name-in_turn allotment.registers (number_of loop allotment value) distance stage iteration b.allotted.some,
+          ∙ name-in_turn allotment.registers (allotted_number loop allotment value) distance stage iteration b.allotted.some,
     )
 
 pub registers-hold_values : RegistersHoldValues
@@ -108,14 +109,14 @@ registers-hold_values schedule allotment memory r value distance reader iteratio
     let may : MayRead loop reader (Value value distance)
     = All-contains (MayRead loop reader) u.0.operands (Value value distance) (r.belong.scheduled.problem.loop.each reader u.0 u.1).operands u.2 in
     let gives = may.0 in
-    let same : gives.0 ≡ s = some-same gives.0 s (sym gives.1 ∙ there) in
+    let same : gives.0 ≡ s = same_Some gives.0 s (sym gives.1 ∙ there) in
     let named : is_some s.name ≡ true = ap (λ (x : Statement). is_some x.name) (sym same) ∙ gives.2 in
     let far = carried-far loop value reader distance u in (
       λ le. register-lands schedule allotment memory r value reader distance iteration s there named u within le,
       λ lt.
           let z : (pos iteration -ℤ pos distance) ≡ (pos 0 -ℤ pos (distance - iteration)) = omega (arith, ints) in (
             register-opens schedule allotment memory r value reader distance iteration s there named u lt,
-            ap (λ i. preloaded (emitted schedule allotment) (physical allotment.registers (number_of loop allotment value) i)) z
+            ap (λ i. preloaded (emitted schedule allotment) (physical allotment.registers (allotted_number loop allotment value) i)) z
                 ∙ preloaded-is schedule allotment r.belong value (distance - iteration) s there named (omega arith) (omega arith),
           ),
     )
@@ -137,7 +138,7 @@ loads-follow_stores schedule allotment memory r op iteration s place there load 
       λ write. (
         λ landed. elim h.1 [
           | inl last ↦
-              let e : last.0 ≡ write = some-same last.0 write (sym (load-finds schedule allotment memory r op iteration s place there load is_place within last.0 last.1) ∙ landed) in
+              let e : last.0 ≡ write = same_Some last.0 write (sym (load-finds schedule allotment memory r op iteration s place there load is_place within last.0 last.1) ∙ landed) in
               subst (IsLastStore schedule allotment memory op iteration place.array (cell_index c)) e last.1
           | inr none ↦ let e : None ≡ Some write = sym (load-opens schedule allotment memory r op iteration s place there load is_place none.0) ∙ landed in cc
         ],

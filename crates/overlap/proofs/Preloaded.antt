@@ -4,12 +4,12 @@ use Rattle.std.specs.Prelude.{slice_get, is_some, flat_map}
 use Rattle.std.specs.List.{Contains}
 use Rattle.std.proofs.lemmas.Bool.{cases_Bool, cases_eq, eq-eqb, ne_eqb, cond-true, cond-false}
 use Rattle.std.proofs.lemmas.Int.{ints}
-use Rattle.std.proofs.lemmas.List.Elements.{Contains-append_left, Contains-append_right, Contains-append_cases}
+use Rattle.std.proofs.lemmas.List.Elements.{Contains-append_left, Contains-append_right}
 use Rattle.iterations.specs.declared.language.statement.Statement.{Statement}
 use Rattle.iterations.specs.Run.{initial_of}
 use Rattle.kernel.specs.declared.parts.Preload.{Preload}
 use Rattle.kernel.specs.Overlapped.{physical, preloaded}
-use Rattle.overlap.specs.Allotments.{AllotmentData, number_of}
+use Rattle.overlap.specs.Allotments.{AllotmentData, allotted_number}
 use Rattle.overlap.specs.Lifetimes.{IsLiveIn, carried, values_from, values_of, rank_of, lifetime_of}
 use Rattle.ims.specs.Schedules.{ScheduleData, IsSchedule}
 use Rattle.overlap.specs.Emission.{name_of, preloads_from, preloads_of, emitted}
@@ -18,6 +18,7 @@ use Rattle.overlap.proofs.Landing.{contains-cases, contains-head, contains-tail}
 use Rattle.overlap.proofs.Turned.{physical-is}
 use Rattle.overlap.proofs.Lives.{times-more, begins-by_interval, lasts-when_carried, life-at_rank, rank-one, value-at_rank}
 use Rattle.overlap.proofs.Registers.{times-back}
+use Rattle.overlap.proofs.Different.{flat-back}
 
 found-in : (ps : List Preload) (r : ℕ) (v : ℤ) (p : Preload) → Contains ps p → p.register ≡ r → ((q : Preload) → Contains ps q → q.register ≡ r → q.value ≡ v)
     → unwrap_or (option_map (λ (q : Preload). q.value) (find (λ (q : Preload). eqb q.register r) ps)) (pos 0) ≡ v
@@ -84,13 +85,6 @@ number-there schedule allotment value from (suc n) (suc k) lt =
     contains-tail (at from) (preloads_from schedule allotment value (from + 1) n) (at (from + suc k))
     (subst (λ m. Contains (preloads_from schedule allotment value (from + 1) n) (at m)) z (number-there schedule allotment value (from + 1) n k (omega arith)))
 
-flat-back : {A : Type 0} (f : ℕ → List A) (xs : List ℕ) (y : A) → Contains (flat_map f xs) y → (x : ℕ) × Contains xs x × Contains (f x) y
-flat-back f [] y c = absurd (let l = c.1 in omega arith)
-flat-back f (x ∷ xs) y c = elim (Contains-append_cases (f x) (flat_map f xs) y c) [
-  | inl here ↦ (x, contains-head x xs, here)
-  | inr d ↦ let r = flat-back f xs y d in (r.0, contains-tail x xs r.0 r.1, r.2)
-]
-
 flat-there : {A : Type 0} (f : ℕ → List A) (xs : List ℕ) (x : ℕ) (y : A) → Contains xs x → Contains (f x) y → Contains (flat_map f xs) y
 flat-there f [] x y c d = absurd (let l = c.1 in omega arith)
 flat-there f (z ∷ xs) x y c d = elim (contains-cases z xs x c) [
@@ -144,8 +138,8 @@ pub preloads-one : (schedule : ScheduleData) (allotment : AllotmentData) → Bel
 preloads-one schedule allotment b x m y n s t hx nx hy ny m1 mc n1 nc e =
     let loop = schedule.problem.loop in
     let some : 0 < allotment.registers = b.allotted.some in
-    let same : physical allotment.registers (number_of loop allotment x) (pos 0 -ℤ pos m) ≡ physical allotment.registers (number_of loop allotment y) (pos 0 -ℤ pos n)
-    = sym (name-physical allotment.registers (number_of loop allotment x) m some) ∙ e ∙ name-physical allotment.registers (number_of loop allotment y) n some in
+    let same : physical allotment.registers (allotted_number loop allotment x) (pos 0 -ℤ pos m) ≡ physical allotment.registers (allotted_number loop allotment y) (pos 0 -ℤ pos n)
+    = sym (name-physical allotment.registers (allotted_number loop allotment x) m some) ∙ e ∙ name-physical allotment.registers (allotted_number loop allotment y) n some in
     let r = b.suits.apart (rank_of loop x) (rank_of loop y) (pos 0 -ℤ pos m) (pos 0 -ℤ pos n) (record {
       one = lifetime_of schedule x;
       is_one = life-at_rank schedule x s hx nx;
@@ -161,13 +155,13 @@ preloads-one schedule allotment b x m y n s t hx nx hy ny m1 mc n1 nc e =
 -- the register of an initial value opens with it
 pub preloaded-is : (schedule : ScheduleData) (allotment : AllotmentData) → Belong schedule allotment → (x m : ℕ) (s : Statement)
     → slice_get schedule.problem.loop.statements x ≡ Some s → is_some s.name ≡ true → 1 ≤ m → m ≤ carried schedule.problem.loop x
-    → preloaded (emitted schedule allotment) (physical allotment.registers (number_of schedule.problem.loop allotment x) (pos 0 -ℤ pos m)) ≡ initial_of schedule.problem.loop x m
+    → preloaded (emitted schedule allotment) (physical allotment.registers (allotted_number schedule.problem.loop allotment x) (pos 0 -ℤ pos m)) ≡ initial_of schedule.problem.loop x m
 unfolding emitted
 preloaded-is schedule allotment b x m s hx nx m1 mc =
     let loop = schedule.problem.loop in
     let some : 0 < allotment.registers = b.allotted.some in
-    let r : ℕ = physical allotment.registers (number_of loop allotment x) (pos 0 -ℤ pos m) in
-    let name : name_of schedule allotment x m 0 ≡ r = name-physical allotment.registers (number_of loop allotment x) m some in
+    let r : ℕ = physical allotment.registers (allotted_number loop allotment x) (pos 0 -ℤ pos m) in
+    let name : name_of schedule allotment x m 0 ≡ r = name-physical allotment.registers (allotted_number loop allotment x) m some in
     let back : 1 + (m - 1) ≡ m = omega arith in
     let at : ℕ → Preload = λ n. record { register = name_of schedule allotment x n 0; value = initial_of loop x n } in
     found-in (preloads_of schedule allotment) r (initial_of loop x m) (at m)

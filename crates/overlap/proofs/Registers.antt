@@ -5,13 +5,14 @@ use Rattle.std.specs.List.{Contains}
 use Rattle.std.proofs.lemmas.Bool.{cases_lt}
 use Rattle.std.proofs.lemmas.Int.{ints}
 use Rattle.std.proofs.Math.IntN.{negsuc-*ℤ-pos}
+use Rattle.std.proofs.lemmas.Option.{same_Some}
 use Rattle.iterations.specs.declared.language.statement.Statement.{Statement}
 use Rattle.iterations.specs.Run.{MemoryData}
 use Rattle.graph.specs.Dependences.{Uses}
 use Rattle.graph.specs.Promises.{issue_of}
 use Rattle.graph.proofs.Promised.{values-in_time}
 use Rattle.kernel.specs.Overlapped.{InRegister, Write, physical, last_landed}
-use Rattle.overlap.specs.Allotments.{AllotmentData, number_of}
+use Rattle.overlap.specs.Allotments.{AllotmentData, allotted_number}
 use Rattle.overlap.specs.Lifetimes.{IsLiveIn, first_cycle, lifetime_of, lifetimes_of, rank_of}
 use Rattle.ims.specs.Schedules.{ScheduleData, IsSchedule}
 use Rattle.overlap.specs.Sequence.{write_of_instance, given_by, sequence_before}
@@ -64,14 +65,14 @@ disturbs : (schedule : ScheduleData) (allotment : AllotmentData) (memory : Memor
     → (x q d j : ℕ) (s : Statement) → slice_get schedule.problem.loop.statements x ≡ Some s → is_some s.name ≡ true
     → (first : first_cycle schedule x + schedule.ii * j ≤ slice_index schedule.times q + schedule.ii * j + schedule.ii * d) → Uses schedule.problem.loop q x d
     → (v : Write) → (is : IsIssued schedule allotment memory (issue_of schedule.ii schedule.times q j) v)
-    → v.target ≡ InRegister (physical allotment.registers (number_of schedule.problem.loop allotment x) (pos j -ℤ pos d))
+    → v.target ≡ InRegister (physical allotment.registers (allotted_number schedule.problem.loop allotment x) (pos j -ℤ pos d))
     → v.start ≤ issue_of schedule.ii schedule.times q j
     → ((x ≡ is.op) × ((pos j -ℤ pos d) ≡ pos is.iteration)) ⊎ (pos v.start <ℤ (pos (first_cycle schedule x) +ℤ ((pos j -ℤ pos d) *ℤ pos schedule.ii)))
 disturbs schedule allotment memory run x q d j s there named first u v is target early =
     let loop = schedule.problem.loop in
     let sc = run.belong.scheduled in
     let shape = (sc.problem.loop.each is.op is.statement is.is_statement).shape in
-    let r : ℕ = physical allotment.registers (number_of loop allotment x) (pos j -ℤ pos d) in
+    let r : ℕ = physical allotment.registers (allotted_number loop allotment x) (pos j -ℤ pos d) in
     let w = into-register schedule allotment memory.arrays is.op is.iteration is.statement v r shape is.is_write target in
     let land : IsLiveIn schedule.ii (lifetime_of schedule is.op) (pos is.iteration) (pos v.start)
     = subst (λ n. IsLiveIn schedule.ii (lifetime_of schedule is.op) (pos is.iteration) (pos n)) (sym w.2) (lives-at_landing schedule sc is.op is.iteration) in
@@ -83,15 +84,12 @@ disturbs schedule allotment memory run x q d j s there named first u v is target
       | inr before ↦ inr before
     ]
 
-some-same : {X : Type 0} (x y : X) → Some x ≡ Some y → x ≡ y
-some-same x y e = cc
-
 -- of a value of the run
 pub register-lands : (schedule : ScheduleData) (allotment : AllotmentData) (memory : MemoryData) → IsRun schedule allotment memory
     → (x q d j : ℕ) (s : Statement) → slice_get schedule.problem.loop.statements x ≡ Some s → is_some s.name ≡ true
     → Uses schedule.problem.loop q x d → j < memory.trip → d ≤ j
     → last_landed (sequence_before schedule allotment memory (issue_of schedule.ii schedule.times q j))
-    (InRegister (physical allotment.registers (number_of schedule.problem.loop allotment x) (pos j -ℤ pos d))) (issue_of schedule.ii schedule.times q j)
+    (InRegister (physical allotment.registers (allotted_number schedule.problem.loop allotment x) (pos j -ℤ pos d))) (issue_of schedule.ii schedule.times q j)
     ≡ write_of_instance schedule allotment memory.arrays x (j - d) s
 register-lands schedule allotment memory run x q d j s there named u within le =
     let loop = schedule.problem.loop in
@@ -103,7 +101,7 @@ register-lands schedule allotment memory run x q d j s there named u within le =
     let latency : ℕ = slice_index schedule.problem.graph.latencies x in
     let shape = (sc.problem.loop.each x s there).shape in
     let w : Write = record {
-      target = InRegister (physical allotment.registers (number_of loop allotment x) (pos k));
+      target = InRegister (physical allotment.registers (allotted_number loop allotment x) (pos k));
       value = given_by loop memory.arrays x k s;
       start = issue_of ii schedule.times x k + latency;
     } in
@@ -119,16 +117,16 @@ register-lands schedule allotment memory run x q d j s there named u within le =
     let same : (pos j -ℤ pos d) ≡ pos k = omega (arith, ints) in
     let c : Contains (sequence_before schedule allotment memory cycle) w
     = sequence-from_issued schedule allotment memory cycle w some x k s there (omega arith) (omega arith) is_write in
-    let target : InRegister (physical allotment.registers (number_of loop allotment x) (pos j -ℤ pos d)) ≡ w.target
-    = ap (λ z. InRegister (physical allotment.registers (number_of loop allotment x) z)) same in
+    let target : InRegister (physical allotment.registers (allotted_number loop allotment x) (pos j -ℤ pos d)) ≡ w.target
+    = ap (λ z. InRegister (physical allotment.registers (allotted_number loop allotment x) z)) same in
     ap (λ t. last_landed (sequence_before schedule allotment memory cycle) t cycle) target
     ∙ last-landed_is (sequence_before schedule allotment memory cycle) cycle w c in_time (λ v e t early.
     let is = issued-from_sequence schedule allotment memory cycle v e in
     elim (disturbs schedule allotment memory run x q d j s there named first u v is (t ∙ sym target) early) [
       | inl met ↦
           let it : is.iteration ≡ k = let z = met.1 in omega (arith, ints) in
-          let st : is.statement ≡ s = some-same is.statement s (sym is.is_statement ∙ ap (slice_get loop.statements) (sym met.0) ∙ there) in
-          inl (some-same v w (sym is.is_write
+          let st : is.statement ≡ s = same_Some is.statement s (sym is.is_statement ∙ ap (slice_get loop.statements) (sym met.0) ∙ there) in
+          inl (same_Some v w (sym is.is_write
           ∙ ap (λ n. write_of_instance schedule allotment memory.arrays n is.iteration is.statement) (sym met.0)
           ∙ ap (λ n. write_of_instance schedule allotment memory.arrays x n is.statement) it
           ∙ ap (write_of_instance schedule allotment memory.arrays x k) st ∙ is_write))
@@ -143,7 +141,7 @@ pub register-opens : (schedule : ScheduleData) (allotment : AllotmentData) (memo
     → (x q d j : ℕ) (s : Statement) → slice_get schedule.problem.loop.statements x ≡ Some s → is_some s.name ≡ true
     → Uses schedule.problem.loop q x d → j < d
     → last_landed (sequence_before schedule allotment memory (issue_of schedule.ii schedule.times q j))
-    (InRegister (physical allotment.registers (number_of schedule.problem.loop allotment x) (pos j -ℤ pos d))) (issue_of schedule.ii schedule.times q j)
+    (InRegister (physical allotment.registers (allotted_number schedule.problem.loop allotment x) (pos j -ℤ pos d))) (issue_of schedule.ii schedule.times q j)
     ≡ None
 register-opens schedule allotment memory run x q d j s there named u lt =
     let loop = schedule.problem.loop in
@@ -155,7 +153,7 @@ register-opens schedule allotment memory run x q d j s there named u lt =
     let m : ii * d ≡ ii * j + ii * (d - j) = times-more ii j d (omega arith) in
     let one : ii * (d - j) ≡ ii * 1 + ii * (d - j - 1) = times-more ii 1 (d - j) (omega arith) in
     let first : first_cycle schedule x + ii * j ≤ slice_index schedule.times q + ii * j + ii * d = omega arith in
-    none-landed (sequence_before schedule allotment memory cycle) (InRegister (physical allotment.registers (number_of loop allotment x) (pos j -ℤ pos d))) cycle (λ v e t.
+    none-landed (sequence_before schedule allotment memory cycle) (InRegister (physical allotment.registers (allotted_number loop allotment x) (pos j -ℤ pos d))) cycle (λ v e t.
     let is = issued-from_sequence schedule allotment memory cycle v e in
     elim (cases_lt cycle v.start) [
       | inl late ↦ late

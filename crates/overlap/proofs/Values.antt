@@ -16,7 +16,7 @@ use Rattle.graph.specs.Dependences.{Uses}
 use Rattle.graph.specs.Promises.{issue_of}
 use Rattle.kernel.specs.declared.operation.Source.{Source}
 use Rattle.kernel.specs.Overlapped.{Target, InRegister, InCell, Write, physical, last_landed, value_or, preloaded, cell_landed, register_at, source_at, addressed, write_of, write_given, to_register, to_cell, is_issued, turn_of, writes_in, writes_before}
-use Rattle.overlap.specs.Allotments.{AllotmentData, number_of}
+use Rattle.overlap.specs.Allotments.{AllotmentData, allotted_number}
 use Rattle.ims.specs.Schedules.{ScheduleData, stage_of}
 use Rattle.overlap.specs.Emission.{name_of, source_of, emitted}
 use Rattle.overlap.specs.Sequence.{state_before, read_by, sequence_before}
@@ -57,12 +57,12 @@ value-same : (schedule : ScheduleData) (allotment : AllotmentData) (memory : Mem
     → (q j : ℕ) (s : Statement) → slice_get schedule.problem.loop.statements q ≡ Some s → j < memory.trip
     → (x d : ℕ) → Contains s.operands (operand.Value x d) → MayRead schedule.problem.loop q (operand.Value x d)
     → value_or (last_landed (sequence_before schedule allotment memory (issue_of schedule.ii schedule.times q j))
-    (InRegister (physical allotment.registers (number_of schedule.problem.loop allotment x) (pos j -ℤ pos d))) (issue_of schedule.ii schedule.times q j))
-    (preloaded (emitted schedule allotment) (physical allotment.registers (number_of schedule.problem.loop allotment x) (pos j -ℤ pos d)))
+    (InRegister (physical allotment.registers (allotted_number schedule.problem.loop allotment x) (pos j -ℤ pos d))) (issue_of schedule.ii schedule.times q j))
+    (preloaded (emitted schedule allotment) (physical allotment.registers (allotted_number schedule.problem.loop allotment x) (pos j -ℤ pos d)))
     ≡ read_operand schedule.problem.loop (state_before schedule.problem.loop memory.arrays q j) (operand.Value x d)
 value-same schedule allotment memory run q j s there within x d c may =
     let loop = schedule.problem.loop in
-    let r : ℕ = physical allotment.registers (number_of loop allotment x) (pos j -ℤ pos d) in
+    let r : ℕ = physical allotment.registers (allotted_number loop allotment x) (pos j -ℤ pos d) in
     let opening : ℤ = preloaded (emitted schedule allotment) r in
     let gives = may.0 in
     let u : Uses loop q x d = (s, there, c) in
@@ -76,7 +76,7 @@ value-same schedule allotment memory run q j s there within x d c may =
           let z : (pos j -ℤ pos d) ≡ (pos 0 -ℤ pos (d - j)) = omega (arith, ints) in
           let far = carried-far loop x q d u in
           ap (λ o. value_or o opening) (register-opens schedule allotment memory run x q d j gives.0 gives.1 gives.2 u lt)
-          ∙ ap (λ i. preloaded (emitted schedule allotment) (physical allotment.registers (number_of loop allotment x) i)) z
+          ∙ ap (λ i. preloaded (emitted schedule allotment) (physical allotment.registers (allotted_number loop allotment x) i)) z
           ∙ preloaded-is schedule allotment run.belong x (d - j) gives.0 gives.1 gives.2 (omega arith) (omega arith)
           ∙ sym (read-initial loop memory.arrays q j x d lt)
     ]
@@ -95,7 +95,7 @@ source-same schedule allotment memory run q j s there within (operand.Value x d)
     let t : cycle / schedule.ii ≡ stage_of schedule q + j = turn-of_issue schedule.ii (slice_index schedule.times q) j run.belong.scheduled.ii_some in
     ap (λ k. register_at (emitted schedule allotment) (sequence_before schedule allotment memory cycle) (physical allotment.registers (name_of schedule allotment x d (stage_of schedule q)) (pos k)) cycle) t
     ∙ ap (λ r. register_at (emitted schedule allotment) (sequence_before schedule allotment memory cycle) r cycle)
-    (name-in_turn allotment.registers (number_of loop allotment x) d (stage_of schedule q) j run.belong.allotted.some)
+    (name-in_turn allotment.registers (allotted_number loop allotment x) d (stage_of schedule q) j run.belong.allotted.some)
     ∙ value-same schedule allotment memory run q j s there within x d c may
 
 pub map-same : {X Y : Type 0} (f g : X → Y) (xs : List X) → ((x : X) → Contains xs x → f x ≡ g x) → map f xs ≡ map g xs

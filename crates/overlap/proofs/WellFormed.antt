@@ -23,7 +23,7 @@ use Rattle.kernel.specs.declared.parts.Preload.{Preload}
 use Rattle.kernel.specs.declared.parts.Out.{Out}
 use Rattle.kernel.specs.Kernels.{HasOperationShape}
 use Rattle.kernel.specs.Check.{SourceIsThere, RegistersAreThere, ParameterIsThere, IsShaped, AddressIsThere, IsPlaced}
-use Rattle.overlap.specs.Allotments.{AllotmentData, number_of}
+use Rattle.overlap.specs.Allotments.{AllotmentData, allotted_number}
 use Rattle.overlap.specs.Lifetimes.{carried, values_from, values_of}
 use Rattle.ims.specs.Schedules.{ScheduleData, IsSchedule, stage_of, stages_of}
 use Rattle.overlap.specs.Emission.{name_of, source_of, address_of, operation_of, operations_from, preloads_from, preloads_of, out_of, emitted}
@@ -101,7 +101,7 @@ shape-kept opcode schedule allotment q s h = (
 source-there : (schedule : ScheduleData) (allotment : AllotmentData) → 0 < allotment.registers → (stage : ℕ) (o : Operand) → SourceIsThere allotment.registers (source_of schedule allotment stage o)
 source-there schedule allotment some stage (operand.Constant v) = tt
 source-there schedule allotment some stage (operand.Parameter n) = tt
-source-there schedule allotment some stage (operand.Value x d) = mod-lt (number_of schedule.problem.loop allotment x + d + stage) some
+source-there schedule allotment some stage (operand.Value x d) = mod-lt (allotted_number schedule.problem.loop allotment x + d + stage) some
 
 parameter-there : (schedule : ScheduleData) (allotment : AllotmentData) (stage q : ℕ) (o : Operand) → MayRead schedule.problem.loop q o → ParameterIsThere (length schedule.problem.loop.params) (source_of schedule allotment stage o)
 parameter-there schedule allotment stage q (operand.Constant v) may = tt
@@ -113,7 +113,7 @@ destination-there : (schedule : ScheduleData) (allotment : AllotmentData) → 0 
 destination-there schedule allotment some q None name e = cc
 destination-there schedule allotment some q (Some n) name e =
     let m : name_of schedule allotment q 0 (stage_of schedule q) ≡ name = cc in
-    let l : name_of schedule allotment q 0 (stage_of schedule q) < allotment.registers = mod-lt (number_of schedule.problem.loop allotment q + 0 + stage_of schedule q) some in
+    let l : name_of schedule allotment q 0 (stage_of schedule q) < allotment.registers = mod-lt (allotted_number schedule.problem.loop allotment q + 0 + stage_of schedule q) some in
     omega arith
 
 address-there : (schedule : ScheduleData) (allotment : AllotmentData) (q : ℕ) (s : Statement) (o : Option Place) → s.place ≡ o → IsStatement schedule.problem.loop q s
@@ -177,7 +177,7 @@ preload-below : (schedule : ScheduleData) (allotment : AllotmentData) → 0 < al
 preload-below schedule allotment some p c =
     let is = preload-back schedule allotment p c in
     let e : p.register ≡ name_of schedule allotment is.value is.number 0 = ap (λ (q : Preload). q.register) is.is in
-    let l : name_of schedule allotment is.value is.number 0 < allotment.registers = mod-lt (number_of schedule.problem.loop allotment is.value + is.number + 0) some in
+    let l : name_of schedule allotment is.value is.number 0 < allotment.registers = mod-lt (allotted_number schedule.problem.loop allotment is.value + is.number + 0) some in
     omega arith
 
 map-pairs : (ps : List Preload) → AllPairs Differ ps → AllPairs (λ x y. x ≢ y) (map (λ (p : Preload). p.register) ps)
@@ -244,5 +244,5 @@ kernels-are_well_formed schedule allotment b =
         different = differ;
       };
       out = All-map (λ (o : Out). o.register < allotment.registers) (out_of schedule allotment) loop.outs (λ k d l.
-          mod-lt (number_of loop allotment (get_or loop.outs k d) + 0 + (stages_of schedule - 1)) some);
+          mod-lt (allotted_number loop allotment (get_or loop.outs k d) + 0 + (stages_of schedule - 1)) some);
     }

@@ -12,7 +12,7 @@ use Rattle.iterations.specs.Run.{writes, first_of, cell_index}
 use Rattle.graph.specs.Schedules.{KeepsEdge}
 use Rattle.graph.specs.Promises.{KeepsDependences, issue_of}
 use Rattle.kernel.specs.Overlapped.{Target, InRegister, InCell, Write, physical}
-use Rattle.overlap.specs.Allotments.{AllotmentData, number_of}
+use Rattle.overlap.specs.Allotments.{AllotmentData, allotted_number}
 use Rattle.ims.specs.Schedules.{ScheduleData, IsSchedule}
 use Rattle.overlap.specs.Sequence.{read_by, given_by, stored_by, made_by, write_by_opcode, write_of_instance}
 use Rattle.iterations.proofs.Instances.{slice_get-within}
@@ -80,7 +80,7 @@ stored-is schedule arrays op j s (Some place) w p e =
 
 -- what a write is, by its instance
 pub data Kind (schedule : ScheduleData) (allotment : AllotmentData) (arrays : List (List ℤ)) (op j : ℕ) (s : Statement) (w : Write) : Type 0 where
-  made : s.name ≡ s.name → is_some s.name ≡ true → w.target ≡ InRegister (physical allotment.registers (number_of schedule.problem.loop allotment op) (pos j))
+  made : s.name ≡ s.name → is_some s.name ≡ true → w.target ≡ InRegister (physical allotment.registers (allotted_number schedule.problem.loop allotment op) (pos j))
       → w.start ≡ issue_of schedule.ii schedule.times op j + slice_index schedule.problem.graph.latencies op → Kind schedule allotment arrays op j s w
   stored : s.opcode ≡ Store → IsStored schedule arrays op j s w → Kind schedule allotment arrays op j s w
 
@@ -91,7 +91,7 @@ kind-of schedule allotment arrays op j s w shape e = elim (kinds s.opcode) [
   | inl store ↦ stored store (stored-is schedule arrays op j s s.place w refl (sym (ap (λ o. write_by_opcode schedule allotment arrays op j o s) store) ∙ e))
   | inr other ↦
       let v : Write = record {
-        target = InRegister (physical allotment.registers (number_of schedule.problem.loop allotment op) (pos j));
+        target = InRegister (physical allotment.registers (allotted_number schedule.problem.loop allotment op) (pos j));
         value = given_by schedule.problem.loop arrays op j s;
         start = issue_of schedule.ii schedule.times op j + slice_index schedule.problem.graph.latencies op;
       } in
@@ -115,9 +115,9 @@ makes-value schedule allotment arrays op j s shape named = elim (kinds s.opcode)
 -- a write into a register
 pub into-register : (schedule : ScheduleData) (allotment : AllotmentData) (arrays : List (List ℤ)) (op j : ℕ) (s : Statement) (w : Write) (r : ℕ) → HasShape s.opcode s
     → write_of_instance schedule allotment arrays op j s ≡ Some w → w.target ≡ InRegister r
-    → (is_some s.name ≡ true) × (r ≡ physical allotment.registers (number_of schedule.problem.loop allotment op) (pos j)) × (w.start ≡ issue_of schedule.ii schedule.times op j + slice_index schedule.problem.graph.latencies op)
+    → (is_some s.name ≡ true) × (r ≡ physical allotment.registers (allotted_number schedule.problem.loop allotment op) (pos j)) × (w.start ≡ issue_of schedule.ii schedule.times op j + slice_index schedule.problem.graph.latencies op)
 into-register schedule allotment arrays op j s w r shape e t = elim (kind-of schedule allotment arrays op j s w shape e) [
-  | made _ named target start ↦ (named, register-target r (physical allotment.registers (number_of schedule.problem.loop allotment op) (pos j)) (sym t ∙ target), start)
+  | made _ named target start ↦ (named, register-target r (physical allotment.registers (allotted_number schedule.problem.loop allotment op) (pos j)) (sym t ∙ target), start)
   | stored _ is ↦ absurd (not-both r is.place.array (cell_index (pos j +ℤ is.place.offset)) (sym is.target ∙ t))
 ]
 
@@ -126,6 +126,6 @@ pub into-cell : (schedule : ScheduleData) (allotment : AllotmentData) (arrays : 
     → write_of_instance schedule allotment arrays op j s ≡ Some w → w.target ≡ InCell a i
     → (s.opcode ≡ Store) × IsStored schedule arrays op j s w
 into-cell schedule allotment arrays op j s w a i shape e t = elim (kind-of schedule allotment arrays op j s w shape e) [
-  | made _ named target start ↦ absurd (not-both (physical allotment.registers (number_of schedule.problem.loop allotment op) (pos j)) a i (sym t ∙ target))
+  | made _ named target start ↦ absurd (not-both (physical allotment.registers (allotted_number schedule.problem.loop allotment op) (pos j)) a i (sym t ∙ target))
   | stored store is ↦ (store, is)
 ]

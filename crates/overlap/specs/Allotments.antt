@@ -24,15 +24,15 @@ pub record DoMeet (ii registers : ℕ) (lives : List Lifetime) (numbers : List �
   pub other_lives : IsLiveIn ii other j cycle
 
 -- a number for each lifetime, such that no two different instances, of any whole numbers, stand in one register in one cycle
-pub record IsLawful (ii registers : ℕ) (lives : List Lifetime) (numbers : List ℕ) : Type 0 where
+pub record IsLawfulAllotment (ii registers : ℕ) (lives : List Lifetime) (numbers : List ℕ) : Type 0 where
   pub each : length numbers ≡ length lives
   pub there : All (λ number. number < registers) numbers
   pub apart : (k l : ℕ) (i j : ℤ) → DoMeet ii registers lives numbers k i l j → (k ≡ l) × (i ≡ j)
 
 -- the least number that is lawful for one more lifetime beside the numbers before it
 pub record IsLeast (ii registers : ℕ) (before : List Lifetime) (numbers : List ℕ) (life : Lifetime) (number : ℕ) : Type 0 where
-  pub lawful : IsLawful ii registers (before ++ life ∷ []) (numbers ++ number ∷ [])
-  pub least : (other : ℕ) → other < number → ¬ IsLawful ii registers (before ++ life ∷ []) (numbers ++ other ∷ [])
+  pub lawful : IsLawfulAllotment ii registers (before ++ life ∷ []) (numbers ++ number ∷ [])
+  pub least : (other : ℕ) → other < number → ¬ IsLawfulAllotment ii registers (before ++ life ∷ []) (numbers ++ other ∷ [])
 
 -- each number is the least one behind those before it
 pub record AreLeast (ii registers : ℕ) (lives : List Lifetime) (numbers : List ℕ) : Type 0 where
@@ -47,7 +47,7 @@ pub record HaveNone (ii registers : ℕ) (lives : List Lifetime) : Type 0 where
   pub is_life : slice_get lives place ≡ Some life
   pub numbers : List ℕ
   pub least_before : AreLeast ii registers (take place lives) numbers
-  pub none : (number : ℕ) → ¬ IsLawful ii registers (take place lives ++ life ∷ []) (numbers ++ number ∷ [])
+  pub none : (number : ℕ) → ¬ IsLawfulAllotment ii registers (take place lives ++ life ∷ []) (numbers ++ number ∷ [])
 
 -- an allotment of 1 to 256 registers
 pub record IsAllotment (allotment : AllotmentData) : Type 0 where
@@ -57,7 +57,7 @@ pub record IsAllotment (allotment : AllotmentData) : Type 0 where
 
 -- the allotment is lawful for the schedule's values
 abbrev pub Suits : ScheduleData → AllotmentData → Type 0
-Suits schedule allotment = IsLawful schedule.ii allotment.registers (lifetimes_of schedule) allotment.numbers
+Suits schedule allotment = IsLawfulAllotment schedule.ii allotment.registers (lifetimes_of schedule) allotment.numbers
 
 -- the least allotment of the schedule's values, and that there is none
 abbrev pub LeastFor : ScheduleData → AllotmentData → Type 0
@@ -67,14 +67,14 @@ abbrev pub NoneFor : ScheduleData → ℕ → Type 0
 NoneFor schedule registers = HaveNone schedule.ii registers (lifetimes_of schedule)
 
 -- the number of a statement's value
-abbrev pub number_of : LoopData → AllotmentData → ℕ → ℕ
-number_of loop allotment statement = slice_index allotment.numbers (rank_of loop statement)
+abbrev pub allotted_number : LoopData → AllotmentData → ℕ → ℕ
+allotted_number loop allotment statement = slice_index allotment.numbers (rank_of loop statement)
 
 -- laws
 
 -- least numbers are lawful, there is one list of them, and none where some lifetime has none
 abbrev pub LeastIsLawful : Type 0
-LeastIsLawful = (ii registers : ℕ) (lives : List Lifetime) (numbers : List ℕ) → AreLeast ii registers lives numbers → IsLawful ii registers lives numbers
+LeastIsLawful = (ii registers : ℕ) (lives : List Lifetime) (numbers : List ℕ) → AreLeast ii registers lives numbers → IsLawfulAllotment ii registers lives numbers
 
 abbrev pub LeastIsOne : Type 0
 LeastIsOne = (ii registers : ℕ) (lives : List Lifetime) (numbers others : List ℕ) → AreLeast ii registers lives numbers → AreLeast ii registers lives others → numbers ≡ others

@@ -14,13 +14,13 @@ use Rattle.kernel.specs.declared.operation.Source.TheVariants.{Register, Paramet
 use Rattle.kernel.specs.declared.parts.Parts.{Parts}
 use Rattle.kernel.specs.declared.parts.Preload.{Preload}
 use Rattle.kernel.specs.declared.parts.Out.{Out}
-use Rattle.overlap.specs.Allotments.{AllotmentData, number_of}
+use Rattle.overlap.specs.Allotments.{AllotmentData, allotted_number}
 use Rattle.overlap.specs.Lifetimes.{carried, values_of}
 use Rattle.ims.specs.Schedules.{ScheduleData, stage_of, row_of, stages_of}
 
 -- the name, in an operation of a stage, of the register of a value as it was so many iterations ago
 abbrev pub name_of : ScheduleData → AllotmentData → ℕ → ℕ → ℕ → ℕ
-name_of schedule allotment value distance stage = (number_of schedule.problem.loop allotment value + distance + stage) % allotment.registers
+name_of schedule allotment value distance stage = (allotted_number schedule.problem.loop allotment value + distance + stage) % allotment.registers
 
 abbrev pub source_of : ScheduleData → AllotmentData → ℕ → Operand → Source
 source_of schedule allotment stage (operand.Constant value) = Constant value

@@ -13,7 +13,7 @@ use Rattle.kernel.specs.declared.operation.Source.TheVariants.{Register}
 use Rattle.kernel.specs.declared.parts.Parts.{Parts}
 use Rattle.kernel.specs.Check.{IsWellFormed}
 use Rattle.kernel.specs.Overlapped.{InRegister, InCell, Write, physical, last_landed, preloaded, is_issued, turn_of, writes_before, overlapped, value_or}
-use Rattle.overlap.specs.Allotments.{AllotmentData, IsAllotment, Suits, number_of}
+use Rattle.overlap.specs.Allotments.{AllotmentData, IsAllotment, Suits, allotted_number}
 use Rattle.overlap.specs.Emission.{emitted}
 use Rattle.ims.specs.Schedules.{ScheduleData, IsSchedule}
 use Rattle.overlap.specs.Sequence.{state_before, write_of_instance, sequence_before}
@@ -37,13 +37,13 @@ KernelsAreWellFormed = (schedule : ScheduleData) (allotment : AllotmentData) →
 abbrev pub times_of : Parts → List ℕ
 times_of parts = map (λ (o : Operation). o.stage * parts.ii + o.row) parts.operations
 
-abbrev pub alternatives_of : Parts → List ℕ
-alternatives_of parts = map (λ (o : Operation). o.alternative) parts.operations
+abbrev pub choices_of : Parts → List ℕ
+choices_of parts = map (λ (o : Operation). o.alternative) parts.operations
 
 -- and give back the schedule
 abbrev pub KernelsKeepSchedules : Type 0
 KernelsKeepSchedules = (schedule : ScheduleData) (allotment : AllotmentData) → IsSchedule schedule
-    → (times_of (emitted schedule allotment) ≡ schedule.times) × (alternatives_of (emitted schedule allotment) ≡ schedule.choices)
+    → (times_of (emitted schedule allotment) ≡ schedule.times) × (choices_of (emitted schedule allotment) ≡ schedule.choices)
 
 -- (i) an operation is issued in just the cycles of its instances
 abbrev pub InstancesAreIssuedOnce : Type 0
@@ -61,7 +61,7 @@ NamesAreOfInstances = (schedule : ScheduleData) (allotment : AllotmentData) → 
     → slice_get (emitted schedule allotment).operations reader ≡ Some o
     → (name : ℕ) × (slice_get o.sources operand ≡ Some (Register name))
     × (physical allotment.registers name (pos (turn_of (emitted schedule allotment) (issue_of schedule.ii schedule.times reader iteration)))
-    ≡ physical allotment.registers (number_of schedule.problem.loop allotment value) (pos iteration -ℤ pos distance))
+    ≡ physical allotment.registers (allotted_number schedule.problem.loop allotment value) (pos iteration -ℤ pos distance))
 
 -- and what landed there last, when the reader is issued, is that instance's write; where it is of an iteration before the first,
 -- nothing has landed there, and the register's initial value is the instance's
@@ -70,7 +70,7 @@ RegistersHoldValues = (schedule : ScheduleData) (allotment : AllotmentData) (mem
     → (value distance reader iteration : ℕ) (s : Statement) → Uses schedule.problem.loop reader value distance → iteration < memory.trip
     → slice_get schedule.problem.loop.statements value ≡ Some s
     → let cycle = issue_of schedule.ii schedule.times reader iteration in
-    let register = physical allotment.registers (number_of schedule.problem.loop allotment value) (pos iteration -ℤ pos distance) in
+    let register = physical allotment.registers (allotted_number schedule.problem.loop allotment value) (pos iteration -ℤ pos distance) in
     (distance ≤ iteration → last_landed (sequence_before schedule allotment memory cycle) (InRegister register) cycle
     ≡ write_of_instance schedule allotment memory.arrays value (iteration - distance) s)
     × (iteration < distance → (last_landed (sequence_before schedule allotment memory cycle) (InRegister register) cycle ≡ None)

@@ -10,7 +10,7 @@ unfoldable pub use Rattle.iterations.specs.Instances.{state_before}
 use Rattle.iterations.specs.Run.{MemoryData, writes, first_of, cell_index}
 use Rattle.graph.specs.Promises.{issue_of}
 use Rattle.kernel.specs.Overlapped.{Write, InRegister, InCell, physical}
-use Rattle.overlap.specs.Allotments.{AllotmentData, number_of}
+use Rattle.overlap.specs.Allotments.{AllotmentData, allotted_number}
 use Rattle.ims.specs.Schedules.{ScheduleData, stage_of, row_of}
 
 -- the write of an instance
@@ -28,7 +28,7 @@ stored_by schedule arrays op iteration s (Some place) =
 
 abbrev pub made_by : ScheduleData → AllotmentData → List (List ℤ) → ℕ → ℕ → Statement → Option Write
 made_by schedule allotment arrays op iteration s = Some (record {
-  target = InRegister (physical allotment.registers (number_of schedule.problem.loop allotment op) (pos iteration));
+  target = InRegister (physical allotment.registers (allotted_number schedule.problem.loop allotment op) (pos iteration));
   value = given_by schedule.problem.loop arrays op iteration s;
   start = issue_of schedule.ii schedule.times op iteration + slice_index schedule.problem.graph.latencies op;
 })

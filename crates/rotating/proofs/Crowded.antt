@@ -1,22 +1,22 @@
 -- Where more instances live in one cycle than there are registers, the least numbers come to an end.
-use Rattle.std.proofs.Common.{◌≡◌, ◌⊎◌, ℕ, suc, zero, ◌+◌, ◌-◌, ◌*◌, ◌/◌, ◌%◌, ◌<◌, ◌≤◌, ℤ, pos, ◌+ℤ◌, ◌-ℤ◌, ◌*ℤ◌, List, [], ◌∷◌, ◌++◌, length, get_or, set, take, replicate, Option, Some, None, sym, ap, ◌∙◌, subst, inl, inr, arith}
+use Rattle.std.proofs.Common.{◌≡◌, ◌⊎◌, ℕ, suc, zero, ◌+◌, ◌-◌, ◌*◌, ◌/◌, ◌%◌, ◌<◌, ◌≤◌, ℤ, pos, ◌+ℤ◌, ◌-ℤ◌, ◌*ℤ◌, List, [], ◌∷◌, ◌++◌, length, get_or, set, take, replicate, Some, None, sym, ap, ◌∙◌, subst, inl, inr, arith}
 use Rattle.std.specs.List.{All}
-use Rattle.std.specs.Prelude.{slice_get, slice_index}
+use Rattle.std.specs.Prelude.{slice_index}
 use Rattle.std.proofs.lemmas.Bool.{cases_eq, cases_lt}
 use Rattle.std.proofs.lemmas.Int.{ints}
 use Rattle.std.proofs.lemmas.List.{take_all, length-replicate, length-set}
 use Rattle.std.proofs.Math.Nat.{div-add-mod', mod-lt}
 use Rattle.kernel.specs.Overlapped.{physical}
 use Rattle.overlap.specs.declared.lifetime.Lifetime.{Lifetime}
-use Rattle.overlap.specs.Allotments.{IsLawful, IsLeast, HaveNone}
+use Rattle.overlap.specs.Allotments.{IsLawfulAllotment, IsLeast, HaveNone}
 use Rattle.overlap.specs.Lifetimes.{IsLiveIn}
 use Rattle.overlap.proofs.Apart.{cases-int}
 use Rattle.overlap.proofs.Least.{there-is, taken-at, least-is_lawful}
 use Rattle.overlap.proofs.Lives.{times-more}
-use Rattle.rotating.specs.Crowds.{total, nobody, least_age, ages_end, instances_in, crowd_in}
-use Rattle.rotating.specs.Residues.{Forbids, IsFree, IsSpan, least_shift, greatest_shift, distance_up}
+use Rattle.rotating.specs.Crowds.{nobody, least_age, ages_end, instances_in, crowd_in}
+use Rattle.rotating.specs.Residues.{IsFreeNumber, IsLifeSpan, least_shift, greatest_shift, distance_up}
 use Rattle.rotating.proofs.Filled.{LeastBelow, spans-below, below-lawful, below-least, below-none, below-more}
-use Rattle.rotating.proofs.Marked.{free-more, one-there, span-at, least-found, fits-not}
+use Rattle.rotating.proofs.Freed.{free-more, one-there, span-at, least-found, fits-not}
 use Rattle.rotating.proofs.Meeting.{times-diff}
 use Rattle.rotating.proofs.Pigeons.{AreApart, total-le}
 use Rattle.rotating.proofs.Shifts.{forbids-between, round, round-pos}
@@ -54,7 +54,7 @@ register-of registers n j some =
     ap (round registers) e ∙ round-pos registers (n + j) some
 
 -- lawful numbers keep them in registers of their own
-crowd-fits : (ii registers row : ℕ) (lives : List Lifetime) (numbers : List ℕ) → row < ii → 1 ≤ registers → IsLawful ii registers lives numbers → crowd_in ii row lives (length lives) ≤ registers
+crowd-fits : (ii registers row : ℕ) (lives : List Lifetime) (numbers : List ℕ) → row < ii → 1 ≤ registers → IsLawfulAllotment ii registers lives numbers → crowd_in ii row lives (length lives) ≤ registers
 crowd-fits ii registers row lives numbers lt some lawful =
     let life : ℕ → Lifetime = λ k. get_or lives k nobody in
     let count : ℕ → ℕ = λ k. instances_in ii row (life k) in
@@ -92,8 +92,8 @@ search-below P is (suc n) = elim (search-below P is n) [
   | inr some ↦ let l = some.1 in inr (some.0, omega arith, some.2, some.3)
 ]
 
-is-free : (ii registers : ℕ) (lives : List Lifetime) (numbers : List ℕ) (other : Lifetime) (c : ℕ) → 1 ≤ ii → 1 ≤ registers → All IsSpan lives → IsSpan other
-    → (n : ℕ) → n ≤ length lives → IsFree ii registers (take n lives) numbers other c ⊎ (¬ IsFree ii registers (take n lives) numbers other c)
+is-free : (ii registers : ℕ) (lives : List Lifetime) (numbers : List ℕ) (other : Lifetime) (c : ℕ) → 1 ≤ ii → 1 ≤ registers → All IsLifeSpan lives → IsLifeSpan other
+    → (n : ℕ) → n ≤ length lives → IsFreeNumber ii registers (take n lives) numbers other c ⊎ (¬ IsFreeNumber ii registers (take n lives) numbers other c)
 is-free ii registers lives numbers other c some regs spans span zero le = inl (λ k one e. let l = (taken-at lives zero k one e).1 in absurd (omega arith))
 is-free ii registers lives numbers other c some regs spans span (suc n) le =
     let x = there-is lives n (omega arith) in
@@ -102,7 +102,7 @@ is-free ii registers lives numbers other c some regs spans span (suc n) le =
     let one = span-at lives n x.0 x.1 spans in
     let between = forbids-between ii registers number c x.0 other some regs one.ordered span.ordered in
     let low : ℤ = least_shift ii x.0 other +ℤ pos (distance_up registers number (least_shift ii x.0 other) c) in
-    let here : (IsFree ii registers (take (n + 1) lives) numbers other c) ⊎ (¬ IsFree ii registers (take (n + 1) lives) numbers other c)
+    let here : (IsFreeNumber ii registers (take (n + 1) lives) numbers other c) ⊎ (¬ IsFreeNumber ii registers (take (n + 1) lives) numbers other c)
     = elim (is-free ii registers lives numbers other c some regs spans span n (omega arith)) [
       | inl free ↦ elim (cases-int low (greatest_shift ii x.0 other)) [
         | inl meets ↦ inr (λ h. (more.0 h).1 (between.1 meets))
@@ -111,23 +111,23 @@ is-free ii registers lives numbers other c some regs spans span (suc n) le =
       | inr taken ↦ inr (λ h. taken (more.0 h).0)
     ] in
     let e : n + 1 ≡ suc n = omega arith in
-    subst (λ m. IsFree ii registers (take m lives) numbers other c ⊎ (¬ IsFree ii registers (take m lives) numbers other c)) e here
+    subst (λ m. IsFreeNumber ii registers (take m lives) numbers other c ⊎ (¬ IsFreeNumber ii registers (take m lives) numbers other c)) e here
 
-next-number : (ii registers : ℕ) (lives : List Lifetime) (numbers : List ℕ) (other : Lifetime) → 1 ≤ ii → 1 ≤ registers → All IsSpan lives → IsSpan other → IsLawful ii registers lives numbers
-    → ((c : ℕ) → ¬ IsLawful ii registers (lives ++ other ∷ []) (numbers ++ c ∷ [])) ⊎ ((c : ℕ) × IsLeast ii registers lives numbers other c)
+next-number : (ii registers : ℕ) (lives : List Lifetime) (numbers : List ℕ) (other : Lifetime) → 1 ≤ ii → 1 ≤ registers → All IsLifeSpan lives → IsLifeSpan other → IsLawfulAllotment ii registers lives numbers
+    → ((c : ℕ) → ¬ IsLawfulAllotment ii registers (lives ++ other ∷ []) (numbers ++ c ∷ [])) ⊎ ((c : ℕ) × IsLeast ii registers lives numbers other c)
 next-number ii registers lives numbers other some regs spans span lawful = elim (cases_lt ((other.last - other.first) / ii) registers) [
   | inl fits ↦
       let whole : take (length lives) lives ≡ lives = take_all (length lives) lives (omega arith) in
-      let is = λ (c : ℕ). subst (λ ls. IsFree ii registers ls numbers other c ⊎ (¬ IsFree ii registers ls numbers other c)) whole
+      let is = λ (c : ℕ). subst (λ ls. IsFreeNumber ii registers ls numbers other c ⊎ (¬ IsFreeNumber ii registers ls numbers other c)) whole
       (is-free ii registers lives numbers other c some regs spans span (length lives) (omega arith)) in
-      elim (search-below (λ c. IsFree ii registers lives numbers other c) is registers) [
+      elim (search-below (λ c. IsFreeNumber ii registers lives numbers other c) is registers) [
         | inl none ↦ inl (least-found None ii registers lives numbers other some regs span.ordered lawful fits none)
         | inr found ↦ inr (found.0, least-found (Some found.0) ii registers lives numbers other some regs span.ordered lawful fits (found.1, found.2, found.3))
       ]
   | inr long ↦ inl (fits-not ii registers lives numbers other some regs span.ordered lawful.each (λ f. omega arith))
 ]
 
-numbers-of : (ii registers : ℕ) (lives : List Lifetime) → 1 ≤ ii → 1 ≤ registers → All IsSpan lives → (n : ℕ) → n ≤ length lives
+numbers-of : (ii registers : ℕ) (lives : List Lifetime) → 1 ≤ ii → 1 ≤ registers → All IsLifeSpan lives → (n : ℕ) → n ≤ length lives
     → ((numbers : List ℕ) × (length numbers ≡ length lives) × LeastBelow ii registers lives numbers n) ⊎ HaveNone ii registers lives
 numbers-of ii registers lives some regs spans zero le = inl (replicate (length lives) 0, length-replicate (length lives) 0, λ m life lt. absurd (omega arith))
 numbers-of ii registers lives some regs spans (suc n) le = elim (numbers-of ii registers lives some regs spans n (omega arith)) [
@@ -146,7 +146,7 @@ numbers-of ii registers lives some regs spans (suc n) le = elim (numbers-of ii r
   | inr none ↦ inr none
 ]
 
-pub crowded-none : (ii registers row : ℕ) (lives : List Lifetime) → row < ii → 1 ≤ registers → All IsSpan lives → registers < crowd_in ii row lives (length lives) → HaveNone ii registers lives
+pub crowded-none : (ii registers row : ℕ) (lives : List Lifetime) → row < ii → 1 ≤ registers → All IsLifeSpan lives → registers < crowd_in ii row lives (length lives) → HaveNone ii registers lives
 crowded-none ii registers row lives lt regs spans crowd = elim (numbers-of ii registers lives (omega arith) regs spans (length lives) (omega arith)) [
   | inl found ↦
       let least = below-least ii registers lives found.0 (length lives) found.1 (omega arith) found.2 in

@@ -1,16 +1,13 @@
 -- Numbers that are written one after another are the least ones.
-use Rattle.std.proofs.Common.{◌≡◌, ℕ, suc, zero, ◌+◌, ◌<◌, ◌≤◌, List, [], ◌∷◌, ◌++◌, length, get_or, set, take, replicate, Some, refl, sym, ap, ◌∙◌, subst, inl, inr, arith, ℤ}
+use Rattle.std.proofs.Common.{◌≡◌, ℕ, suc, zero, ◌+◌, ◌<◌, ◌≤◌, List, [], ◌∷◌, ◌++◌, length, get_or, set, take, Some, refl, sym, ap, ◌∙◌, subst, inl, inr, arith, ℤ}
 use Rattle.std.specs.List.{All}
 use Rattle.std.specs.Prelude.{slice_get, slice_index}
 use Rattle.std.proofs.lemmas.Bool.{cases_eq}
-use Rattle.std.proofs.lemmas.List.{take-set-le, length-take, length-set, get_or-set_other, get_or-set_same}
+use Rattle.std.proofs.lemmas.List.{take-set-le, length-take, get_or-set_other, get_or-set_same}
 use Rattle.kernel.specs.Overlapped.{physical}
 use Rattle.overlap.specs.declared.lifetime.Lifetime.{Lifetime}
-use Rattle.overlap.specs.Allotments.{IsLawful, IsLeast, AreLeast, HaveNone}
-use Rattle.rotating.specs.Residues.{IsSpan}
-use Rattle.rotating.specs.Turns.{IsSmall, AreNumbered, numbered_of}
-use Rattle.rotating.specs.declared.turns.Numbered.{Numbered}
-use Rattle.rotating.proofs.Marked.{at-taken, one-there}
+use Rattle.overlap.specs.Allotments.{IsLawfulAllotment, IsLeast, AreLeast, HaveNone}
+use Rattle.rotating.specs.Residues.{IsLifeSpan}
 use Rattle.overlap.proofs.Least.{there-is, take-more, place-within, take-life, taken-at, take-twice, index-taken, empty-lawful}
 
 -- the numbers of so many values are least
@@ -19,12 +16,12 @@ LeastBelow ii registers lives numbers k = (n : ℕ) (life : Lifetime) → n < k 
     → IsLeast ii registers (take n lives) (take n numbers) life (slice_index numbers n)
 
 pub below-lawful : (ii registers : ℕ) (lives : List Lifetime) (numbers : List ℕ) (k : ℕ) → length numbers ≡ length lives → k ≤ length lives
-    → LeastBelow ii registers lives numbers k → IsLawful ii registers (take k lives) (take k numbers)
+    → LeastBelow ii registers lives numbers k → IsLawfulAllotment ii registers (take k lives) (take k numbers)
 below-lawful ii registers lives numbers zero long le least = empty-lawful ii registers (take 0 numbers) refl
 below-lawful ii registers lives numbers (suc n) long le least =
     let x = there-is lives n (omega arith) in
-    subst (λ ls. IsLawful ii registers ls (take (suc n) numbers)) (sym (take-life lives n x.0 x.1))
-    (subst (IsLawful ii registers (take n lives ++ x.0 ∷ [])) (sym (take-more numbers n (omega arith))) (least n x.0 (omega arith) x.1).lawful)
+    subst (λ ls. IsLawfulAllotment ii registers ls (take (suc n) numbers)) (sym (take-life lives n x.0 x.1))
+    (subst (IsLawfulAllotment ii registers (take n lives ++ x.0 ∷ [])) (sym (take-more numbers n (omega arith))) (least n x.0 (omega arith) x.1).lawful)
 
 pub below-least : (ii registers : ℕ) (lives : List Lifetime) (numbers : List ℕ) (k : ℕ) → length numbers ≡ length lives → length lives ≤ k
     → LeastBelow ii registers lives numbers k → AreLeast ii registers lives numbers
@@ -34,7 +31,7 @@ below-least ii registers lives numbers k long le least = record {
 }
 
 pub below-none : (ii registers : ℕ) (lives : List Lifetime) (numbers : List ℕ) (k : ℕ) (life : Lifetime) → length numbers ≡ length lives → k < length lives → slice_get lives k ≡ Some life
-    → LeastBelow ii registers lives numbers k → ((c : ℕ) → ¬ IsLawful ii registers (take k lives ++ life ∷ []) (take k numbers ++ c ∷ []))
+    → LeastBelow ii registers lives numbers k → ((c : ℕ) → ¬ IsLawfulAllotment ii registers (take k lives ++ life ∷ []) (take k numbers ++ c ∷ []))
     → HaveNone ii registers lives
 below-none ii registers lives numbers k life long lt there least none = record {
   place = k;
@@ -85,7 +82,7 @@ meets-same registers numbers n k l i j kn ln e =
     ap (λ c. physical registers c i) (sym (index-taken numbers n k kn)) ∙ e ∙ ap (λ c. physical registers c j) (index-taken numbers n l ln)
 
 -- lawful numbers are lawful as far as one likes
-pub lawful-before : (ii registers : ℕ) (lives : List Lifetime) (numbers : List ℕ) (n : ℕ) → IsLawful ii registers lives numbers → IsLawful ii registers (take n lives) (take n numbers)
+pub lawful-before : (ii registers : ℕ) (lives : List Lifetime) (numbers : List ℕ) (n : ℕ) → IsLawfulAllotment ii registers lives numbers → IsLawfulAllotment ii registers (take n lives) (take n numbers)
 lawful-before ii registers lives numbers n h =
     let e = h.each in
     record {
@@ -116,10 +113,10 @@ pub number-take : (xs : List ℕ) (k : ℕ) → k < length xs → take (k + 1) x
 number-take xs k lt = let z : k + 1 ≡ suc k = omega arith in ap (λ n. take n xs) z ∙ take-more xs k lt
 
 pub more-lawful : (ii registers : ℕ) (lives : List Lifetime) (numbers : List ℕ) (k : ℕ) (x : Lifetime) → slice_get lives k ≡ Some x → k < length numbers
-    → IsLawful ii registers lives numbers → IsLawful ii registers (take k lives ++ x ∷ []) (take k numbers ++ slice_index numbers k ∷ [])
+    → IsLawfulAllotment ii registers lives numbers → IsLawfulAllotment ii registers (take k lives ++ x ∷ []) (take k numbers ++ slice_index numbers k ∷ [])
 more-lawful ii registers lives numbers k x there lt h =
-    subst (λ ls. IsLawful ii registers ls (take k numbers ++ slice_index numbers k ∷ [])) (life-take lives k x there)
-    (subst (IsLawful ii registers (take (k + 1) lives)) (number-take numbers k lt) (lawful-before ii registers lives numbers (k + 1) h))
+    subst (λ ls. IsLawfulAllotment ii registers ls (take k numbers ++ slice_index numbers k ∷ [])) (life-take lives k x there)
+    (subst (IsLawfulAllotment ii registers (take (k + 1) lives)) (number-take numbers k lt) (lawful-before ii registers lives numbers (k + 1) h))
 
 pub take-front : (xs ys : List ℕ) (n : ℕ) → n ≡ length xs → take n (xs ++ ys) ≡ xs
 take-front [] ys zero e = refl
@@ -129,67 +126,8 @@ take-front (x ∷ xs) ys (suc n) e = ap (λ zs. x ∷ zs) (take-front xs ys n (o
 
 -- the lifetimes that have numbers
 
-pub spans-below : (lives : List Lifetime) (k : ℕ) → All IsSpan lives → All IsSpan (take k lives)
+pub spans-below : (lives : List Lifetime) (k : ℕ) → All IsLifeSpan lives → All IsLifeSpan (take k lives)
 spans-below lives k spans = λ j d l.
     let n : j < k = omega (arith, length-take k lives) in
     let m : j < length lives = omega (arith, length-take k lives) in
-    subst IsSpan (sym (index-taken-or lives k j d n)) (spans j d m)
-
-abbrev pub NumberedBelow : ℕ → List Lifetime → List ℕ → List Numbered → ℕ → Type 0
-NumberedBelow ii lives numbers ones k = (n : ℕ) (life : Lifetime) → n < k → slice_get lives n ≡ Some life → slice_get ones n ≡ Some (numbered_of ii life (slice_index numbers n))
-
-pub numbered-below : (ii : ℕ) (lives : List Lifetime) (numbers : List ℕ) (ones : List Numbered) (k : ℕ) → k ≤ length lives → k ≤ length ones
-    → NumberedBelow ii lives numbers ones k → AreNumbered ii (take k lives) (take k numbers) (take k ones)
-numbered-below ii lives numbers ones k le few h = (
-  omega (arith, length-take k ones, length-take k lives),
-  λ j life e.
-      let t = taken-at lives k j life e in
-      subst (λ n. slice_get (take k ones) j ≡ Some (numbered_of ii life n)) (sym (index-taken numbers k j t.1))
-      (at-taken ones k j (numbered_of ii life (slice_index numbers j)) (h j life t.1 t.0) t.1),
-)
-
-pub numbered-more : (ii : ℕ) (lives : List Lifetime) (numbers : List ℕ) (ones : List Numbered) (k c : ℕ) (life : Lifetime) (one : Numbered) → k < length numbers → k < length ones
-    → slice_get lives k ≡ Some life → one ≡ numbered_of ii life c → NumberedBelow ii lives numbers ones k → NumberedBelow ii lives (set numbers k c) (set ones k one) (k + 1)
-numbered-more ii lives numbers ones k c life one lt few there is h n x below e = elim (cases_eq n k) [
-  | inl same ↦
-      let le : Some life ≡ Some x = sym there ∙ ap (slice_get lives) (sym same) ∙ e in
-      let y : life ≡ x = cc in
-      let z : slice_index (set numbers k c) n ≡ c = ap (slice_index (set numbers k c)) same ∙ get_or-set_same numbers k c 0 lt in
-      let long : n < length (set ones k one) = omega (arith, length-set ones k one) in
-      one-there (set ones k one) n one long
-      ∙ ap (λ m. Some (get_or (set ones k one) m one)) same
-      ∙ ap (λ (v : Numbered). Some v) (get_or-set_same ones k one one few ∙ is)
-      ∙ ap (λ (l : Lifetime). Some (numbered_of ii l c)) y
-      ∙ ap (λ m. Some (numbered_of ii x m)) (sym z)
-  | inr apart ↦
-      let z : slice_index (set numbers k c) n ≡ slice_index numbers n = get_or-set_other numbers k n c 0 apart in
-      let before : slice_get ones n ≡ Some (numbered_of ii x (slice_index numbers n)) = h n x (omega arith) e in
-      let within : n < length ones = place-within ones (numbered_of ii x (slice_index numbers n)) n before in
-      let long : n < length (set ones k one) = omega (arith, length-set ones k one) in
-      one-there (set ones k one) n one long
-      ∙ ap (λ (v : Numbered). Some v) (get_or-set_other ones k n one one apart)
-      ∙ sym (one-there ones n one within)
-      ∙ before
-      ∙ ap (λ m. Some (numbered_of ii x m)) (sym z)
-]
-
-pub small-more : (ones : List Numbered) (k : ℕ) (one : Numbered) → All IsSmall ones → IsSmall one → All IsSmall (set ones k one)
-small-more ones k one all small = λ n d l.
-    let long : n < length ones = omega (arith, length-set ones k one) in
-    elim (cases_eq n k) [
-      | inl same ↦ subst IsSmall (sym (ap (λ m. get_or (set ones k one) m d) same ∙ get_or-set_same ones k one d (omega arith))) small
-      | inr apart ↦ subst IsSmall (sym (get_or-set_other ones k n one d apart)) (all n d long)
-    ]
-
-small-at : (n : ℕ) (one : Numbered) → IsSmall one → (k : ℕ) (d : Numbered) → k < length (replicate n one) → IsSmall (get_or (replicate n one) k d)
-small-at zero one small k d l = absurd (omega arith)
-small-at (suc n) one small zero d l = small
-small-at (suc n) one small (suc k) d l = small-at n one small k d (omega arith)
-
-pub small-all : (n : ℕ) (one : Numbered) → IsSmall one → All IsSmall (replicate n one)
-small-all n one small = small-at n one small
-
-pub all-zero : (n c : ℕ) → slice_index (replicate n zero) c ≡ zero
-all-zero zero c = refl
-all-zero (suc n) zero = refl
-all-zero (suc n) (suc c) = all-zero n c
+    subst IsLifeSpan (sym (index-taken-or lives k j d n)) (spans j d m)

@@ -1,8 +1,7 @@
 pub mod Shifts
 pub mod More
 pub mod Meeting
-pub mod Marked
-pub mod Marking
+pub mod Freed
 pub mod Filled
 pub mod Spans
 pub mod Greatest
@@ -11,3 +10,6 @@ pub mod Stated
 pub mod Pigeons
 pub mod Crowded
 pub mod Emitted
+pub mod Taking
+pub mod Fitting
+pub mod Placing

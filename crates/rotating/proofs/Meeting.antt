@@ -1,4 +1,4 @@
--- The registers that are taken are those of the turns at which two lifetimes meet.
+-- The registers that a value forbids another one are those of the turns at which the two meet.
 use Rattle.std.proofs.Common.{◌≡◌, ◌↔◌, ◌⊎◌, ℕ, suc, ◌+◌, ◌-◌, ◌*◌, ◌/◌, ◌%◌, ◌<◌, ◌≤◌, ℤ, pos, negsuc, ◌+ℤ◌, ◌-ℤ◌, ◌*ℤ◌, refl, sym, ap, ◌∙◌, subst, inl, inr, arith}
 use Rattle.std.proofs.lemmas.Bool.{cases_lt, cases_order}
 use Rattle.std.proofs.lemmas.Int.{ints}
@@ -7,8 +7,8 @@ use Rattle.std.proofs.Math.IntN.{negsuc-*ℤ-pos}
 use Rattle.kernel.specs.Overlapped.{physical}
 use Rattle.overlap.specs.declared.lifetime.Lifetime.{Lifetime}
 use Rattle.overlap.proofs.Lives.{times-more}
-use Rattle.rotating.specs.Residues.{MeetsAt, Forbids, IsSpan}
-use Rattle.rotating.specs.Turns.{point_of, numbered_of, sought_of, least_turn, greatest_turn, IsAmong}
+use Rattle.rotating.specs.Residues.{MeetsAt, Forbids, FitsItself, IsLifeSpan}
+use Rattle.rotating.specs.Turns.{point_of}
 use Rattle.rotating.proofs.Shifts.{above-up, up-above, below-down, down-below, shifts-are_between, round, round-more, round-shift, round-pos}
 
 -- numbers of two digits are compared by the first one, and then by the second
@@ -77,23 +77,12 @@ meets-nat ii one other at base some oh ot =
           ),
     )
 
-under-quotient : (n m : ℕ) → n / 16384 ≤ m ↔ n < (m + 1) * 16384
-under-quotient n m =
-    let s : (n / 16384) * 16384 + n % 16384 ≡ n = div-add-mod' n 16384 in
-    let l : n % 16384 < 16384 = mod-lt n (omega arith) in
-    (λ h. omega arith, λ h. omega arith)
-
-over-quotient : (n m : ℕ) → m ≤ n / 16384 ↔ m * 16384 ≤ n
-over-quotient n m =
-    let s : (n / 16384) * 16384 + n % 16384 ≡ n = div-add-mod' n 16384 in
-    let l : n % 16384 < 16384 = mod-lt n (omega arith) in
-    (λ h. omega arith, λ h. omega arith)
-
--- the turns between the least and the greatest one are those at which the two meet
-turns-meet : (ii registers n at : ℕ) (one other : Lifetime) → 1 ≤ ii → ii ≤ 16384 → 1 ≤ registers → IsSpan one → IsSpan other
+-- the turns at which two values meet, told by points; there are 2^33 turns more for each register, so that none is below 0
+turns-meet : (ii registers n at : ℕ) (one other : Lifetime) → 1 ≤ ii → ii ≤ 16384
     → ((one.first + (n + registers * 8589934592) * ii ≤ other.last + at * ii) × (other.first + at * ii ≤ one.last + (n + registers * 8589934592) * ii))
-    ↔ ((least_turn (numbered_of ii one n) (sought_of ii registers other) ≤ at) × (at < greatest_turn (numbered_of ii one n) (sought_of ii registers other) + 1))
-turns-meet ii registers n at one other some few regs ho ht =
+    ↔ ((point_of ii one.first + n * 16384 + registers * 140737488355328 ≤ point_of ii other.last + at * 16384)
+    × (point_of ii other.first + at * 16384 ≤ point_of ii one.last + n * 16384 + registers * 140737488355328))
+turns-meet ii registers n at one other some few =
     let a : ℕ = n + registers * 8589934592 in
     let oq : ℕ = one.first / ii in let or : ℕ = one.first % ii in
     let lq : ℕ = one.last / ii in let lr : ℕ = one.last % ii in
@@ -105,25 +94,17 @@ turns-meet ii registers n at one other some few regs ho ht =
     let ue : uq * ii + ur ≡ other.last = div-add-mod' other.last ii in
     let ol : or < ii = mod-lt one.first some in let ll : lr < ii = mod-lt one.last some in
     let tl : tr < ii = mod-lt other.first some in let ul : ur < ii = mod-lt other.last some in
-    let ts : tq ≤ other.first = div-le_self other.first ii in let us : uq ≤ other.last = div-le_self other.last ii in
-    let to = ht.ordered in let th = ht.short in
     let d1 : (oq + a) * ii ≡ oq * ii + a * ii = omega arith in
     let d2 : (uq + at) * ii ≡ uq * ii + at * ii = omega arith in
     let d3 : (tq + at) * ii ≡ tq * ii + at * ii = omega arith in
-    let d4 : (lq + a) * ii ≡ lq * ii + a * ii = omega arith in
-    let x : ℕ = point_of ii n one.first + (registers * 140737488355328 + 16383 - point_of ii 0 other.last) in
-    let y : ℕ = point_of ii n one.last + (registers * 140737488355328 - point_of ii 0 other.first) in
-    let under = under-quotient x at in
-    let over = over-quotient y at in (
+    let d4 : (lq + a) * ii ≡ lq * ii + a * ii = omega arith in (
       λ h.
           let low = h.0 in let high = h.1 in
           let l : (oq + a) * 16384 + or ≤ (uq + at) * 16384 + ur = lex-move (oq + a) (uq + at) or ur ii 16384 ol ul (omega arith) (omega arith) (omega arith) in
           let g : (tq + at) * 16384 + tr ≤ (lq + a) * 16384 + lr = lex-move (tq + at) (lq + a) tr lr ii 16384 tl ll (omega arith) (omega arith) (omega arith) in
-          (under.1 (omega arith), (let z : at ≤ y / 16384 = over.1 (omega arith) in omega arith)),
+          (omega arith, omega arith),
       λ h.
-          let low : x < (at + 1) * 16384 = under.0 h.0 in
-          let top = h.1 in
-          let high : at * 16384 ≤ y = over.0 (omega arith) in
+          let low = h.0 in let high = h.1 in
           let l : (oq + a) * ii + or ≤ (uq + at) * ii + ur = lex-move (oq + a) (uq + at) or ur 16384 ii (omega arith) (omega arith) ol ul (omega arith) in
           let g : (tq + at) * ii + tr ≤ (lq + a) * ii + lr = lex-move (tq + at) (lq + a) tr lr 16384 ii (omega arith) (omega arith) tl ll (omega arith) in
           (omega arith, omega arith),
@@ -163,18 +144,71 @@ turn-of ii one other (negsuc k) base some oh ot short far m =
     (base - suc k, omega (arith, ints))
 
 -- a register is forbidden where it is that of such a turn
-pub forbids-among : (ii registers n c : ℕ) (one other : Lifetime) → 1 ≤ ii → ii ≤ 16384 → 1 ≤ registers → IsSpan one → IsSpan other → c < registers
-    → Forbids ii registers one n other c ↔ IsAmong registers (least_turn (numbered_of ii one n) (sought_of ii registers other)) (greatest_turn (numbered_of ii one n) (sought_of ii registers other) + 1) c
-forbids-among ii registers n c one other some few regs ho ht lt =
+abbrev pub MeetsIn : ℕ → ℕ → Lifetime → ℕ → Lifetime → ℕ → Type 0
+MeetsIn ii registers one n other at =
+    (point_of ii one.first + n * 16384 + registers * 140737488355328 ≤ point_of ii other.last + at * 16384)
+    × (point_of ii other.first + at * 16384 ≤ point_of ii one.last + n * 16384 + registers * 140737488355328)
+
+pub forbids-in : (ii registers n c : ℕ) (one other : Lifetime) → 1 ≤ ii → ii ≤ 16384 → 1 ≤ registers → IsLifeSpan one → IsLifeSpan other → c < registers
+    → Forbids ii registers one n other c ↔ ((at : ℕ) × MeetsIn ii registers one n other at × (at % registers ≡ c))
+forbids-in ii registers n c one other some few regs ho ht lt =
     let base : ℕ = n + registers * 8589934592 in (
       λ f.
           let at = turn-of ii one other f.0 base some ho.ordered ht.ordered ht.short (omega arith) f.1 in
           let m : MeetsAt ii one other (pos at.0 -ℤ pos base) = subst (MeetsAt ii one other) at.1 f.1 in
-          let w = (turns-meet ii registers n at.0 one other some few regs ho ht).0 ((meets-nat ii one other at.0 base some ho.ordered ht.ordered).0 m) in
+          let w = (turns-meet ii registers n at.0 one other some few).0 ((meets-nat ii one other at.0 base some ho.ordered ht.ordered).0 m) in
           let p : physical registers n (pos 0) ≡ physical registers c (pos at.0 -ℤ pos base) = f.2 ∙ ap (physical registers c) at.1 in
-          (at.0, w.0, w.1, (same-register registers n at.0 c regs lt).0 p),
+          (at.0, w, (same-register registers n at.0 c regs lt).0 p),
       λ h.
           let at : ℕ = h.0 in
-          let m = (meets-nat ii one other at base some ho.ordered ht.ordered).1 ((turns-meet ii registers n at one other some few regs ho ht).1 (h.1, h.2)) in
-          ((pos at -ℤ pos base), m, (same-register registers n at c regs lt).1 h.3),
+          let m = (meets-nat ii one other at base some ho.ordered ht.ordered).1 ((turns-meet ii registers n at one other some few).1 h.1) in
+          ((pos at -ℤ pos base), m, (same-register registers n at c regs lt).1 h.2),
+    )
+
+-- points come in the order of their cycles
+
+pub point-order : (ii m n : ℕ) → 1 ≤ ii → ii ≤ 16384 → m ≤ n → point_of ii m ≤ point_of ii n
+point-order ii m n some few le =
+    let me : (m / ii) * ii + m % ii ≡ m = div-add-mod' m ii in
+    let ne : (n / ii) * ii + n % ii ≡ n = div-add-mod' n ii in
+    let ml : m % ii < ii = mod-lt m some in let nl : n % ii < ii = mod-lt n some in
+    lex-move (m / ii) (n / ii) (m % ii) (n % ii) ii 16384 ml nl (omega arith) (omega arith) (omega arith)
+
+pub point-small : (ii n : ℕ) → 1 ≤ ii → ii ≤ 16384 → n ≤ 4294967296 → point_of ii n ≤ 70368744194048
+point-small ii n some few le =
+    let q : n / ii ≤ n = div-le_self n ii in
+    let l : n % ii < ii = mod-lt n some in
+    omega arith
+
+-- a value fits itself where it is not as long as all registers
+pub fits-length : (ii registers : ℕ) (life : Lifetime) → 1 ≤ ii → ii ≤ 16384 → life.first ≤ life.last
+    → FitsItself ii registers life ↔ (point_of ii life.last - point_of ii life.first < registers * 16384)
+fits-length ii registers life some few order =
+    let fq : ℕ = life.first / ii in let fr : ℕ = life.first % ii in
+    let lq : ℕ = life.last / ii in let lr : ℕ = life.last % ii in
+    let fe : fq * ii + fr ≡ life.first = div-add-mod' life.first ii in
+    let le : lq * ii + lr ≡ life.last = div-add-mod' life.last ii in
+    let fl : fr < ii = mod-lt life.first some in let ll : lr < ii = mod-lt life.last some in
+    let d : ℕ = life.last - life.first in
+    let de : (d / ii) * ii + d % ii ≡ d = div-add-mod' d ii in
+    let dl : d % ii < ii = mod-lt d some in
+    let far : (fq + registers) * ii ≡ fq * ii + registers * ii = omega arith in (
+      λ fits. elim (cases_lt (point_of ii life.last - point_of ii life.first) (registers * 16384)) [
+        | inl lt ↦ lt
+        | inr ge ↦
+            let g : (fq + registers) * ii + fr ≤ lq * ii + lr = lex-move (fq + registers) lq fr lr 16384 ii (omega arith) (omega arith) fl ll (omega arith) in
+            let over : ii * registers ≡ ii * suc (d / ii) + ii * (registers - suc (d / ii)) = times-more ii (suc (d / ii)) registers fits in
+            let e : ii * suc (d / ii) ≡ (d / ii) * ii + ii = omega arith in
+            let r : registers * ii ≡ ii * registers = omega arith in
+            absurd (omega arith)
+      ],
+      λ short. elim (cases_lt (d / ii) registers) [
+        | inl lt ↦ lt
+        | inr ge ↦
+            let over : ii * (d / ii) ≡ ii * registers + ii * (d / ii - registers) = times-more ii registers (d / ii) ge in
+            let r : registers * ii ≡ ii * registers = omega arith in
+            let q : (d / ii) * ii ≡ ii * (d / ii) = omega arith in
+            let g : (fq + registers) * 16384 + fr ≤ lq * 16384 + lr = lex-move (fq + registers) lq fr lr ii 16384 fl ll (omega arith) (omega arith) (omega arith) in
+            absurd (omega arith)
+      ],
     )

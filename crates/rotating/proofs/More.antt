@@ -10,8 +10,8 @@ use Rattle.std.proofs.Math.Nat.{mul-add, div-add-mod', mod-eq_of_lt, lt-div-mul-
 use Rattle.std.proofs.Math.IntN.{negsuc-*ℤ-pos}
 use Rattle.kernel.specs.Overlapped.{physical}
 use Rattle.overlap.specs.declared.lifetime.Lifetime.{Lifetime}
-use Rattle.overlap.specs.Allotments.{DoMeet, IsLawful}
-use Rattle.rotating.specs.Residues.{MeetsAt, Forbids, FitsItself, IsFree, LawfulMore}
+use Rattle.overlap.specs.Allotments.{DoMeet, IsLawfulAllotment}
+use Rattle.rotating.specs.Residues.{MeetsAt, Forbids, FitsItself, IsFreeNumber, LawfulMore}
 use Rattle.overlap.proofs.Lives.{times-more}
 use Rattle.rotating.proofs.Shifts.{round, round-shift, round-more, round-pos}
 
@@ -216,7 +216,7 @@ longer ii registers lives numbers y c long k l i j m =
     }
 
 -- a meeting of an old value and the new one
-old-new : (ii registers : ℕ) (lives : List Lifetime) (numbers : List ℕ) (y : Lifetime) (c : ℕ) → 1 ≤ registers → length numbers ≡ length lives → IsFree ii registers lives numbers y c
+old-new : (ii registers : ℕ) (lives : List Lifetime) (numbers : List ℕ) (y : Lifetime) (c : ℕ) → 1 ≤ registers → length numbers ≡ length lives → IsFreeNumber ii registers lives numbers y c
     → (k l : ℕ) (i j : ℤ) (m : DoMeet ii registers (lives ++ y ∷ []) (numbers ++ c ∷ []) k i l j) → slice_get lives k ≡ Some m.one → l ≡ length lives → m.other ≡ y → ⊥
 old-new ii registers lives numbers y c some long free k l i j m a b e =
     let ka = place-within lives m.one k a in
@@ -228,7 +228,7 @@ old-new ii registers lives numbers y c some long free k l i j m a b e =
     free k m.one a (subst (λ o. Forbids ii registers m.one (slice_index numbers k) o c) e h)
 
 apart-more : (ii registers : ℕ) (lives : List Lifetime) (numbers : List ℕ) (y : Lifetime) (c : ℕ) → 1 ≤ ii → 1 ≤ registers → y.first ≤ y.last → length numbers ≡ length lives
-    → IsLawful ii registers lives numbers → FitsItself ii registers y → IsFree ii registers lives numbers y c
+    → IsLawfulAllotment ii registers lives numbers → FitsItself ii registers y → IsFreeNumber ii registers lives numbers y c
     → (k l : ℕ) (i j : ℤ) → DoMeet ii registers (lives ++ y ∷ []) (numbers ++ c ∷ []) k i l j → (k ≡ l) × (i ≡ j)
 unfolding swapped forbids-from_meeting
 apart-more ii registers lives numbers y c some regs order long lawful fits free k l i j m =
@@ -253,7 +253,7 @@ apart-more ii registers lives numbers y c some regs order long lawful fits free 
     ]
 
 fits-itself : (ii registers : ℕ) (lives : List Lifetime) (numbers : List ℕ) (y : Lifetime) (c : ℕ) → 1 ≤ ii → 1 ≤ registers → y.first ≤ y.last → length numbers ≡ length lives
-    → IsLawful ii registers (lives ++ y ∷ []) (numbers ++ c ∷ []) → FitsItself ii registers y
+    → IsLawfulAllotment ii registers (lives ++ y ∷ []) (numbers ++ c ∷ []) → FitsItself ii registers y
 fits-itself ii registers lives numbers y c some regs order long lawful =
     let d : ℕ = y.last - y.first in
     elim (cases_lt (d / ii) registers) [
@@ -286,7 +286,7 @@ fits-itself ii registers lives numbers y c some regs order long lawful =
     ]
 
 is-free : (ii registers : ℕ) (lives : List Lifetime) (numbers : List ℕ) (y : Lifetime) (c : ℕ) → length numbers ≡ length lives
-    → IsLawful ii registers (lives ++ y ∷ []) (numbers ++ c ∷ []) → IsFree ii registers lives numbers y c
+    → IsLawfulAllotment ii registers (lives ++ y ∷ []) (numbers ++ c ∷ []) → IsFreeNumber ii registers lives numbers y c
 is-free ii registers lives numbers y c long lawful k one there (shift, meets, same) =
     let n : ℕ = length lives in
     let within = place-within lives one k there in

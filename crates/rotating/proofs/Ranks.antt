@@ -1,7 +1,7 @@
 -- Tables over the values of a loop, statement by statement.
 use Rattle.std.proofs.Common.{◌≡◌, ℕ, suc, zero, ◌+◌, ◌-◌, ◌<◌, ◌≤◌, Bool, true, false, List, [], ◌∷◌, length, get_or, map, set, take, drop, Some, refl, sym, ap, ◌∙◌, inl, inr, arith, length-append}
 use Rattle.std.specs.Prelude.{slice_get, slice_index, is_some, replicate, if◌then◌else◌}
-use Rattle.std.proofs.lemmas.Bool.{cases_eq, cases_lt, cond-true, cond-false}
+use Rattle.std.proofs.lemmas.Bool.{cases_eq, cases_lt, cases_Bool, cond-true, cond-false}
 use Rattle.std.proofs.lemmas.List.{get_or-set_other, get_or-set_same}
 use Rattle.std.proofs.lemmas.List.Elements.{All-get_or, All-contains}
 use Rattle.iterations.specs.declared.language.statement.Statement.{Statement}
@@ -10,7 +10,7 @@ use Rattle.iterations.specs.Loops.{LoopData, IsLoop, MayRead}
 use Rattle.iterations.specs.Run.{initial_of}
 use Rattle.graph.specs.Units.{greatest_of}
 use Rattle.ims.specs.Schedules.{ScheduleData}
-use Rattle.overlap.specs.Lifetimes.{Use, carried, is_out, uses_of, values_from}
+use Rattle.overlap.specs.Lifetimes.{Use, carried, is_out, uses_of, values_from, lifetime_of, lifetimes_of}
 use Rattle.overlap.specs.Allotments.{AllotmentData, IsAllotment}
 use Rattle.overlap.specs.Emission.{name_of, preloads_from}
 use Rattle.overlap.proofs.Lives.{values-append, contains-map_back, greatest-reached, use-back}
@@ -117,3 +117,21 @@ preloads-more schedule allotment value k count lt =
     ap (preloads_from schedule allotment value (1 + k)) n
     ∙ ap (λ m. record { register = name_of schedule allotment value m 0; value = initial_of schedule.problem.loop value m } ∷ preloads_from schedule allotment value ((1 + k) + 1) (count - (k + 1))) a
     ∙ ap (λ m. record { register = name_of schedule allotment value (k + 1) 0; value = initial_of schedule.problem.loop value (k + 1) } ∷ preloads_from schedule allotment value m (count - (k + 1))) b
+
+-- no more values than statements
+pub values-few : (xs : List Statement) (q : ℕ) → length (values_from q xs) ≤ length xs
+values-few [] q = omega arith
+values-few (s ∷ xs) q =
+    let r = values-few xs (q + 1) in
+    elim (cases_Bool (is_some s.name)) [
+      | inl named ↦ let e = ap length (value-yes q s xs named) in omega arith
+      | inr unnamed ↦ let e = ap length (value-no q s xs unnamed) in omega arith
+    ]
+
+length-map-few : (schedule : ScheduleData) (vs : List ℕ) → length (map (lifetime_of schedule) vs) ≡ length vs
+length-map-few schedule [] = refl
+length-map-few schedule (v ∷ vs) = ap suc (length-map-few schedule vs)
+
+pub lives-few : (schedule : ScheduleData) → length (lifetimes_of schedule) ≤ length schedule.problem.loop.statements
+unfolding lifetimes_of
+lives-few schedule = let a = values-few schedule.problem.loop.statements 0 in let b = length-map-few schedule (values_from 0 schedule.problem.loop.statements) in omega arith

@@ -12,7 +12,7 @@ use Rattle.graph.specs.Units.{greatest_of}
 use Rattle.graph.proofs.Promised.{values-in_time}
 use Rattle.overlap.specs.Lifetimes.{uses_of, is_out, landing_of, read_at, last_read, last_landing, lifetime_of, lifetimes_of, values_of}
 use Rattle.ims.specs.Schedules.{ScheduleData, IsSchedule, stages_of}
-use Rattle.rotating.specs.Residues.{IsSpan}
+use Rattle.rotating.specs.Residues.{IsLifeSpan}
 use Rattle.overlap.proofs.Lives.{contains-map_back, use-back, begins-by_landing, lasts-to_landing}
 use Rattle.overlap.proofs.Landing.{contains-head, contains-tail}
 use Rattle.overlap.proofs.Writes.{keeps-dependences}
@@ -84,7 +84,7 @@ end-few schedule is =
     let f = is.ii_few in
     omega arith
 
-span-of : (schedule : ScheduleData) → IsSchedule schedule → (value : ℕ) → IsSpan (lifetime_of schedule value)
+span-of : (schedule : ScheduleData) → IsSchedule schedule → (value : ℕ) → IsLifeSpan (lifetime_of schedule value)
 span-of schedule is value =
     let b = begins-by_landing schedule value in
     let l = lasts-to_landing values-in_time schedule (keeps-dependences schedule is) value in
@@ -104,11 +104,11 @@ span-of schedule is value =
       ];
     }
 
-spans-of : (schedule : ScheduleData) → IsSchedule schedule → (values : List ℕ) → All IsSpan (map (lifetime_of schedule) values)
-spans-of schedule is [] = All-nil IsSpan
-spans-of schedule is (value ∷ values) = All-cons IsSpan (lifetime_of schedule value) (map (lifetime_of schedule) values) (span-of schedule is value) (spans-of schedule is values)
+spans-of : (schedule : ScheduleData) → IsSchedule schedule → (values : List ℕ) → All IsLifeSpan (map (lifetime_of schedule) values)
+spans-of schedule is [] = All-nil IsLifeSpan
+spans-of schedule is (value ∷ values) = All-cons IsLifeSpan (lifetime_of schedule value) (map (lifetime_of schedule) values) (span-of schedule is value) (spans-of schedule is values)
 
-pub are-spans : (schedule : ScheduleData) → IsSchedule schedule → All IsSpan (lifetimes_of schedule)
+pub are-spans : (schedule : ScheduleData) → IsSchedule schedule → All IsLifeSpan (lifetimes_of schedule)
 unfolding lifetimes_of
 are-spans schedule is = spans-of schedule is (values_of schedule.problem.loop)
 

@@ -4,8 +4,9 @@ pub use Rattle.overlap.specs.Lifetimes
 pub use Rattle.overlap.specs.Allotments
 pub use Rattle.overlap.specs.Emission
 pub use Rattle.overlap.specs.Overlap
-pub mod Answers
+pub mod CheckAnswers
 pub mod Crowds
+pub mod Gaps
 pub mod Naming
 pub mod Residues
 pub mod Turns

@@ -4,7 +4,7 @@ use Rattle.std.specs.Prelude.{◌≡◌, ℕ, ℤ, pos, ◌-◌, ◌/◌, ◌+�
 use Rattle.std.specs.Int.{int_div_euclid}
 use Rattle.kernel.specs.Overlapped.{physical}
 use Rattle.overlap.specs.declared.lifetime.Lifetime.{Lifetime}
-use Rattle.overlap.specs.Allotments.{IsLawful}
+use Rattle.overlap.specs.Allotments.{IsLawfulAllotment}
 use Rattle.overlap.specs.Lifetimes.{IsLiveIn}
 
 -- rounded up and down; the divisor is above 0
@@ -52,20 +52,20 @@ abbrev pub FitsItself : ℕ → ℕ → Lifetime → Type 0
 FitsItself ii registers life = (life.last - life.first) / ii < registers
 
 -- nor one of the values that have numbers
-abbrev pub IsFree : ℕ → ℕ → List Lifetime → List ℕ → Lifetime → ℕ → Type 0
-IsFree ii registers lives numbers life number =
+abbrev pub IsFreeNumber : ℕ → ℕ → List Lifetime → List ℕ → Lifetime → ℕ → Type 0
+IsFreeNumber ii registers lives numbers life number =
     (k : ℕ) (one : Lifetime) → slice_get lives k ≡ Some one → ¬ Forbids ii registers one (slice_index numbers k) life number
 
 -- a number for one more value is lawful beside lawful ones just where these two hold
 abbrev pub LawfulMore : Type 0
 LawfulMore = (ii registers : ℕ) (lives : List Lifetime) (numbers : List ℕ) (life : Lifetime) (number : ℕ) → 1 ≤ ii → 1 ≤ registers → life.first ≤ life.last
     → length numbers ≡ length lives
-    → (IsLawful ii registers (lives ++ life ∷ []) (numbers ++ number ∷ [])
-    → IsLawful ii registers lives numbers × (number < registers) × FitsItself ii registers life × IsFree ii registers lives numbers life number)
-    × (IsLawful ii registers lives numbers × (number < registers) × FitsItself ii registers life × IsFree ii registers lives numbers life number
-    → IsLawful ii registers (lives ++ life ∷ []) (numbers ++ number ∷ []))
+    → (IsLawfulAllotment ii registers (lives ++ life ∷ []) (numbers ++ number ∷ [])
+    → IsLawfulAllotment ii registers lives numbers × (number < registers) × FitsItself ii registers life × IsFreeNumber ii registers lives numbers life number)
+    × (IsLawfulAllotment ii registers lives numbers × (number < registers) × FitsItself ii registers life × IsFreeNumber ii registers lives numbers life number
+    → IsLawfulAllotment ii registers (lives ++ life ∷ []) (numbers ++ number ∷ []))
 
 -- a lifetime that ends no earlier than it begins, and within 2^32 cycles
-pub record IsSpan (life : Lifetime) : Type 0 where
+pub record IsLifeSpan (life : Lifetime) : Type 0 where
   pub ordered : life.first ≤ life.last
   pub short : life.last ≤ 4294967296

@@ -3,17 +3,17 @@
 ghost use Rattle.std.specs.Prelude.{◌≡◌, ◌<◌, ◌≤◌, IfOk, MatchOption, true, false, length, slice_index, vec_len};
 ghost use Rattle.std.specs.List.{All};
 ghost use Rattle.overlap.specs.Allotments.{IsAllotment, AreLeast, HaveNone, LeastFor, NoneFor, Suits};
-ghost use Rattle.rotating.specs.Answers.{CheckAnswers};
-ghost use Rattle.rotating.specs.Residues.{IsSpan};
+ghost use Rattle.rotating.specs.CheckAnswers.{CheckAnswers};
+ghost use Rattle.rotating.specs.Residues.{IsLifeSpan};
 
 use crate::crowd::are_crowded;
+use crate::gaps::{Gap, least_fit, number_of, take};
 use crate::lawful::are_lawful;
-use crate::lifetime::fill_lifetimes;
-use crate::number::least_number;
-use crate::turns::Numbered;
+use crate::lifetime::{fill_lifetimes, lifetimes};
+use crate::turns::{Arc, point_of};
 use ims::Schedule;
 use machine::OutOfMemory;
-use machine::limits::MAX_STATEMENTS;
+use machine::limits::{MAX_INTERVAL, MAX_STATEMENTS};
 use overlap::Lifetime;
 use std::alloc::Global;
 use std::marker::Model;
@@ -81,50 +81,73 @@ impl Allotment {
     }
 }
 
-/// Writes the least numbers of these values, and says whether each of them has one.
-fn fill_least(ii: u64, registers: usize, lives: &[Lifetime], numbers: &mut [usize]) -> bool
+/// Writes the least numbers of these values, and says whether each of them has one. The first value's first
+/// point is the origin, so that no arc goes past the last point around the registers to the first.
+fn fill_least(
+    alloc: Global,
+    ii: u64,
+    registers: usize,
+    lives: &[Lifetime],
+    numbers: &mut [usize],
+) -> Result<bool, OutOfMemory>
     requires some { 1 ≤ ii }
     requires few { ii ≤ 16384 }
     requires registers_some { 1 ≤ registers }
     requires registers_few { registers ≤ 256 }
-    requires lives { All IsSpan lives.now }
-    requires few_lives { length lives.now ≤ 128 }
+    requires lives { All IsLifeSpan lives.now }
     requires each { length numbers.old ≡ length lives.now }
     ensures each { length numbers.new ≡ length lives.now }
-    ensures least { result ≡ true → AreLeast ii registers lives.now numbers.new }
-    ensures none { result ≡ false → HaveNone ii registers lives.now }
+    ensures least { result ≡ Ok true → AreLeast ii registers lives.now numbers.new }
+    ensures none { result ≡ Ok false → HaveNone ii registers lives.now }
 {
-    let mut marks = [0; 256];
-    let mut ones = [Numbered::default(); MAX_STATEMENTS];
-    for k in 0..lives.len() {
-        match least_number(&mut marks, k as u8 + 1, ii, registers, &ones[..k], lives[k]) {
-            Some(number) => {
-                numbers[k] = number;
-                ones[k] = Numbered::of(ii, lives[k], number);
-            }
-            None => return false,
-        }
+    if lives.is_empty() {
+        return Ok(true);
     }
-    true
+    let origin = point_of(ii, lives[0].first);
+    let mut gaps = Vec::with_capacity(alloc, lives.len())?;
+    gaps.push_reserved(Gap {
+        start: 0,
+        room: registers as u64 * MAX_INTERVAL,
+    });
+    for k in 0..lives.len() {
+        let arc = Arc::of(ii, registers, origin, lives[k]);
+        let Some(fit) = least_fit(gaps.as_slice(), registers, arc) else {
+            return Ok(false);
+        };
+        numbers[k] = number_of(registers, arc.turn, fit.turn);
+        take(
+            &mut gaps,
+            fit.gap,
+            fit.turn * MAX_INTERVAL + arc.phase,
+            arc.length,
+        )?;
+    }
+    Ok(true)
 }
 
 /// As [`fill_least`], but at once where more values live in one cycle than there are registers.
-fn find_least(ii: u64, registers: usize, lives: &[Lifetime], numbers: &mut [usize]) -> bool
+fn find_least(
+    alloc: Global,
+    ii: u64,
+    registers: usize,
+    lives: &[Lifetime],
+    numbers: &mut [usize],
+) -> Result<bool, OutOfMemory>
     requires some { 1 ≤ ii }
     requires few { ii ≤ 16384 }
     requires registers_some { 1 ≤ registers }
     requires registers_few { registers ≤ 256 }
-    requires lives { All IsSpan lives.now }
+    requires lives { All IsLifeSpan lives.now }
     requires few_lives { length lives.now ≤ 128 }
     requires each { length numbers.old ≡ length lives.now }
     ensures each { length numbers.new ≡ length lives.now }
-    ensures least { result ≡ true → AreLeast ii registers lives.now numbers.new }
-    ensures none { result ≡ false → HaveNone ii registers lives.now }
+    ensures least { result ≡ Ok true → AreLeast ii registers lives.now numbers.new }
+    ensures none { result ≡ Ok false → HaveNone ii registers lives.now }
 {
     if are_crowded(ii, registers, lives) {
-        return false;
+        return Ok(false);
     }
-    fill_least(ii, registers, lives, numbers)
+    fill_least(alloc, ii, registers, lives, numbers)
 }
 
 /// So many zeros.
@@ -153,15 +176,16 @@ pub fn allot(
     ensures exact { IfOk result (λ found. MatchOption found (NoneFor schedule.now registers) (λ a. (a.registers ≡ registers) × LeastFor schedule.now a)) }
     ensures lawful { IfOk result (λ found. MatchOption found (Unit {0}) (Suits schedule.now)) }
 {
-    let mut lives = [Lifetime::default(); MAX_STATEMENTS];
-    let count = fill_lifetimes(schedule, &mut lives);
-    let mut numbers = zeros(alloc, count)?;
-    if find_least(
+    let lives = lifetimes(alloc, schedule)?;
+    let mut numbers = zeros(alloc, lives.len())?;
+    let found = find_least(
+        alloc,
         schedule.ii(),
         registers as usize,
-        &lives[..count],
+        lives.as_slice(),
         numbers.as_mut_slice(),
-    ) {
+    )?;
+    if found {
         Ok(Some(Allotment { registers, numbers }))
     } else {
         Ok(None)

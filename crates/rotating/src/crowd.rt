@@ -4,7 +4,7 @@ ghost use Rattle.std.specs.Prelude.{◌≡◌, ◌<◌, ◌≤◌, true, length}
 ghost use Rattle.std.specs.List.{All};
 ghost use Rattle.overlap.specs.Allotments.{HaveNone};
 ghost use Rattle.rotating.specs.Crowds.{instances_in, crowd_in};
-ghost use Rattle.rotating.specs.Residues.{IsSpan};
+ghost use Rattle.rotating.specs.Residues.{IsLifeSpan};
 
 use machine::limits::MAX_STATEMENTS;
 use overlap::Lifetime;
@@ -16,7 +16,7 @@ const MAX_ROWS: u64 = 256;
 fn instances_in(ii: u64, row: u64, life: Lifetime) -> u64
     requires few { ii ≤ 16384 }
     requires row { row < ii }
-    requires life { IsSpan life }
+    requires life { IsLifeSpan life }
     ensures value { result ≡ instances_in ii row life }
     ensures few { result ≤ 4294983680 }
 {
@@ -27,7 +27,7 @@ fn instances_in(ii: u64, row: u64, life: Lifetime) -> u64
 fn crowd_in(ii: u64, row: u64, lives: &[Lifetime]) -> u64
     requires few { ii ≤ 16384 }
     requires row { row < ii }
-    requires lives { All IsSpan lives.now }
+    requires lives { All IsLifeSpan lives.now }
     requires few_lives { length lives.now ≤ 128 }
     ensures { result ≡ crowd_in ii row lives.now (length lives.now) }
 {
@@ -39,7 +39,7 @@ fn crowd_in(ii: u64, row: u64, lives: &[Lifetime]) -> u64
 }
 
 /// Writes how many instances more live in each row than in the one before; fewer are told by wrapping.
-fn fill_changes(ii: u64, lives: &[Lifetime], changes: &mut [u64])
+fn fill_changes(ii: u64, lives: &[Lifetime], changes: &mut [u32])
     requires some { 1 ≤ ii }
     requires few { ii ≤ 256 }
     requires long { length changes.old ≡ 257 }
@@ -54,14 +54,14 @@ fn fill_changes(ii: u64, lives: &[Lifetime], changes: &mut [u64])
 }
 
 /// The row in which the most instances live.
-fn greatest_row(ii: u64, changes: &[u64]) -> u64
+fn greatest_row(ii: u64, changes: &[u32]) -> u64
     requires some { 1 ≤ ii }
     requires few { ii ≤ 256 }
     requires long { length changes.now ≡ 257 }
     ensures { result < ii }
 {
     // (so that no sum is below 0)
-    let mut crowd = MAX_STATEMENTS as u64;
+    let mut crowd = MAX_STATEMENTS as u32;
     let mut greatest = 0;
     let mut found = 0;
     for row in 0..ii {
@@ -94,7 +94,7 @@ pub(crate) fn are_crowded(ii: u64, registers: usize, lives: &[Lifetime]) -> bool
     requires some { 1 ≤ ii }
     requires few { ii ≤ 16384 }
     requires registers_some { 1 ≤ registers }
-    requires lives { All IsSpan lives.now }
+    requires lives { All IsLifeSpan lives.now }
     requires few_lives { length lives.now ≤ 128 }
     ensures { result ≡ true → HaveNone ii registers lives.now }
 {

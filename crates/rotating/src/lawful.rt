@@ -2,8 +2,8 @@
 
 ghost use Rattle.std.specs.Prelude.{◌≡◌, ◌<◌, ◌≤◌, ◌↔◌, ◌++◌, ◌∷◌, [], true, length};
 ghost use Rattle.std.specs.List.{All};
-ghost use Rattle.overlap.specs.Allotments.{IsLawful};
-ghost use Rattle.rotating.specs.Residues.{IsFree, IsSpan};
+ghost use Rattle.overlap.specs.Allotments.{IsLawfulAllotment};
+ghost use Rattle.rotating.specs.Residues.{IsFreeNumber, IsLifeSpan};
 
 use crate::shift::forbids;
 use overlap::Lifetime;
@@ -21,12 +21,12 @@ fn is_free(
     requires few { ii ≤ 16384 }
     requires registers_some { 1 ≤ registers }
     requires registers_few { registers ≤ 256 }
-    requires lives { All IsSpan lives.now }
-    requires other { IsSpan other }
+    requires lives { All IsLifeSpan lives.now }
+    requires other { IsLifeSpan other }
     requires each { length numbers.now ≡ length lives.now }
     requires there { All (λ n. n < registers) numbers.now }
     requires number { number < registers }
-    ensures { (result ≡ true) ↔ IsFree ii registers lives.now numbers.now other number }
+    ensures { (result ≡ true) ↔ IsFreeNumber ii registers lives.now numbers.now other number }
 {
     for k in 0..lives.len() {
         if forbids(ii, registers, lives[k], numbers[k], other, number) {
@@ -49,10 +49,10 @@ fn is_lawful_more(
     requires few { ii ≤ 16384 }
     requires registers_some { 1 ≤ registers }
     requires registers_few { registers ≤ 256 }
-    requires lives { All IsSpan lives.now }
-    requires other { IsSpan other }
-    requires lawful { IsLawful ii registers lives.now numbers.now }
-    ensures { (result ≡ true) ↔ IsLawful ii registers (lives.now ++ other ∷ []) (numbers.now ++ number ∷ []) }
+    requires lives { All IsLifeSpan lives.now }
+    requires other { IsLifeSpan other }
+    requires lawful { IsLawfulAllotment ii registers lives.now numbers.now }
+    ensures { (result ≡ true) ↔ IsLawfulAllotment ii registers (lives.now ++ other ∷ []) (numbers.now ++ number ∷ []) }
 {
     if number >= registers || (other.last - other.first) / ii >= registers as u64 {
         return false;
@@ -66,8 +66,8 @@ pub(crate) fn are_lawful(ii: u64, registers: usize, lives: &[Lifetime], numbers:
     requires few { ii ≤ 16384 }
     requires registers_some { 1 ≤ registers }
     requires registers_few { registers ≤ 256 }
-    requires lives { All IsSpan lives.now }
-    ensures { (result ≡ true) ↔ IsLawful ii registers lives.now numbers.now }
+    requires lives { All IsLifeSpan lives.now }
+    ensures { (result ≡ true) ↔ IsLawfulAllotment ii registers lives.now numbers.now }
 {
     if numbers.len() != lives.len() {
         return false;

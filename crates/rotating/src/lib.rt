@@ -4,13 +4,12 @@
 mod allotment;
 mod crowd;
 mod emission;
+mod gaps;
 mod lawful;
 mod laws;
 mod lifetime;
 mod lists;
-mod marks;
 mod naming;
-mod number;
 mod operations;
 mod preloads;
 mod shift;

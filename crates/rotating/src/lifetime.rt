@@ -1,6 +1,6 @@
 //! How long values live.
 
-ghost use Rattle.std.specs.Prelude.{◌≡◌, ◌<◌, ◌≤◌, ◌+◌, ◌*◌, max, length, map, take, zip, IfOk, if◌then◌else◌};
+ghost use Rattle.std.specs.Prelude.{◌≡◌, ◌<◌, ◌≤◌, ◌+◌, ◌*◌, [], max, length, map, take, zip, IfOk, if◌then◌else◌, vec_len, vec_capacity};
 ghost use Rattle.graph.specs.Units.{greatest_of};
 ghost use Rattle.ims.specs.Schedules.{IsSchedule, stages_of};
 ghost use Rattle.overlap.specs.Lifetimes.{carried, first_cycle, is_out, landing_of, last_landing, lifetime_of, lifetimes_of, read_at, uses_of};
@@ -8,7 +8,6 @@ ghost use Rattle.overlap.specs.Lifetimes.{carried, first_cycle, is_out, landing_
 use crate::uses::{fill_carried, fill_lasts};
 use ims::Schedule;
 use machine::OutOfMemory;
-use machine::limits::MAX_STATEMENTS;
 use overlap::Lifetime;
 use std::alloc::Global;
 
@@ -36,17 +35,17 @@ fn landing_of(schedule: &Schedule, value: u8) -> u64
 }
 
 /// The end of the last stage, or the last landing where that is later.
-fn end_of(schedule: &Schedule) -> u64
+fn end_of(schedule: &Schedule) -> u32
     ensures { result ≡ max (schedule.now.ii * stages_of schedule.now) (last_landing schedule.now) }
 {
     let ii = schedule.ii();
     let stages = schedule.stages();
-    (ii * stages).max(last_landing(schedule))
+    (ii * stages).max(last_landing(schedule)) as u32
 }
 
 /// The first cycle of a value that lands in this cycle and is carried on to so many later iterations
 /// at the farthest.
-fn first_cycle(schedule: &Schedule, value: u8, farthest: u64, landing: u64) -> u64
+fn first_cycle(schedule: &Schedule, value: u8, farthest: u32, landing: u64) -> u64
     requires farthest { farthest ≡ carried schedule.now.problem.loop value }
     requires landing { landing ≡ landing_of schedule.now value }
     ensures { result ≡ first_cycle schedule.now value }
@@ -60,7 +59,7 @@ fn first_cycle(schedule: &Schedule, value: u8, farthest: u64, landing: u64) -> u
 
 /// The lifetime of a value that is carried on to so many later iterations at the farthest, and is last
 /// read, or else wanted, in this cycle.
-fn lifetime_of(schedule: &Schedule, value: u8, farthest: u64, last: u64) -> Lifetime
+fn lifetime_of(schedule: &Schedule, value: u8, farthest: u32, last: u32) -> Lifetime
     requires there { value < length schedule.now.problem.loop.statements }
     requires farthest { farthest ≡ carried schedule.now.problem.loop value }
     requires last { last ≡ max (greatest_of (map (read_at schedule.now) (uses_of schedule.now.problem.loop value))) (if is_out schedule.now.problem.loop value then max (schedule.now.ii * stages_of schedule.now) (last_landing schedule.now) else 0) }
@@ -70,7 +69,7 @@ fn lifetime_of(schedule: &Schedule, value: u8, farthest: u64, last: u64) -> Life
     Lifetime {
         operation: value,
         first: first_cycle(schedule, value, farthest, landing),
-        last: landing.max(last),
+        last: landing.max(u64::from(last)),
     }
 }
 
@@ -85,16 +84,37 @@ pub(crate) fn fill_lifetimes(schedule: &Schedule, lives: &mut [Lifetime]) -> usi
     let mut carried = [0; 256];
     fill_carried(innermost, &mut carried);
     let mut lasts = [0; 256];
-    fill_lasts(schedule, end_of(schedule), &mut lasts);
+    let end = end_of(schedule);
+    fill_lasts(schedule, end, &mut lasts);
     let statements = innermost.statements();
     let mut count = 0;
-    for value in 0..statements.len() {
-        if statements[value].name.is_some() {
-            lives[count] = lifetime_of(schedule, value as u8, carried[value], lasts[value]);
+    for op in 0..statements.len() {
+        if statements[op].name.is_some() {
+            lives[count] = lifetime_of(schedule, op as u8, carried[op], lasts[op]);
             count += 1;
         }
     }
     count
+}
+
+/// Adds the lifetimes in iteration 0, in text order.
+fn push_lifetimes(schedule: &Schedule, list: &mut Vec<Lifetime>)
+    requires none { vec_len list.old ≡ 0 }
+    requires empty { list.old.items ≡ [] }
+    requires room { length schedule.now.problem.loop.statements ≤ vec_capacity list.old }
+    ensures { list.new.items ≡ lifetimes_of schedule.now }
+{
+    let innermost = schedule.prepared().innermost();
+    let mut carried = [0; 256];
+    fill_carried(innermost, &mut carried);
+    let mut lasts = [0; 256];
+    fill_lasts(schedule, end_of(schedule), &mut lasts);
+    let statements = innermost.statements();
+    for value in 0..statements.len() {
+        if statements[value].name.is_some() {
+            list.push_reserved(lifetime_of(schedule, value as u8, carried[value], lasts[value]));
+        }
+    }
 }
 
 /// When each value of a schedule lives, in text order.
@@ -109,7 +129,8 @@ pub(crate) fn fill_lifetimes(schedule: &Schedule, lives: &mut [Lifetime]) -> usi
 pub fn lifetimes(alloc: Global, schedule: &Schedule) -> Result<Vec<Lifetime>, OutOfMemory>
     ensures exact { IfOk result (λ v. v.items ≡ lifetimes_of schedule.now) }
 {
-    let mut lives = [Lifetime::default(); MAX_STATEMENTS];
-    let count = fill_lifetimes(schedule, &mut lives);
-    Vec::from_slice(alloc, &lives[..count])
+    let count = schedule.prepared().operations();
+    let mut list = Vec::with_capacity(alloc, count)?;
+    push_lifetimes(schedule, &mut list);
+    Ok(list)
 }

@@ -3,7 +3,7 @@
 ghost use Rattle.std.specs.Prelude.{◌≡◌, ◌<◌, ◌≤◌, ◌+◌, ◌%◌, ℕ, length, map, slice_index};
 ghost use Rattle.std.specs.List.{All};
 ghost use Rattle.iterations.specs.Loops.{MayRead};
-ghost use Rattle.overlap.specs.Allotments.{number_of};
+ghost use Rattle.overlap.specs.Allotments.{allotted_number};
 ghost use Rattle.overlap.specs.Emission.{address_of, source_of};
 ghost use Rattle.rotating.specs.Naming.{AreNumbers};
 

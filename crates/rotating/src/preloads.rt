@@ -3,7 +3,7 @@
 ghost use Rattle.std.specs.Prelude.{◌≡◌, ◌<◌, ◌≤◌, ◌+◌, ◌++◌, ℕ, [], length, slice_index, IfOk, vec_len, vec_capacity};
 ghost use Rattle.iterations.specs.Loops.{IsLoop};
 ghost use Rattle.iterations.specs.Run.{initial_of};
-ghost use Rattle.overlap.specs.Allotments.{number_of};
+ghost use Rattle.overlap.specs.Allotments.{allotted_number};
 ghost use Rattle.overlap.specs.Emission.{name_of, preloads_from, preloads_of};
 ghost use Rattle.overlap.specs.Lifetimes.{carried, values_of};
 ghost use Rattle.rotating.specs.Naming.{AreCarried, AreNumbers, preload_count};
@@ -25,7 +25,7 @@ fn preload_of(
     value: u8,
     number: u8,
 ) -> Preload
-    requires register { register ≡ number_of schedule.now.problem.loop allotment.now value }
+    requires register { register ≡ allotted_number schedule.now.problem.loop allotment.now value }
     ensures { result ≡ record { register = name_of schedule.now allotment.now value number 0; value = initial_of schedule.now.problem.loop value number } }
 {
     Preload {
@@ -40,10 +40,10 @@ fn push_value(
     allotment: &Allotment,
     register: usize,
     value: u8,
-    count: u64,
+    count: u32,
     list: &mut Vec<Preload>,
 )
-    requires register { register ≡ number_of schedule.now.problem.loop allotment.now value }
+    requires register { register ≡ allotted_number schedule.now.problem.loop allotment.now value }
     requires few { count ≤ 16 }
     requires room { vec_len list.old + count ≤ vec_capacity list.old }
     ensures items { list.new.items ≡ list.old.items ++ preloads_from schedule.now allotment.now value 1 count }
@@ -56,7 +56,7 @@ fn push_value(
 }
 
 /// How many initial values all values have in registers.
-fn count_preloads(innermost: &Loop, carried: &[u64]) -> usize
+fn count_preloads(innermost: &Loop, carried: &[u32]) -> usize
     requires { AreCarried innermost.now carried.now }
     ensures { result ≡ preload_count innermost.now (values_of innermost.now) }
 {
@@ -75,7 +75,7 @@ fn push_preloads(
     schedule: &Schedule,
     allotment: &Allotment,
     numbers: &[usize],
-    carried: &[u64],
+    carried: &[u32],
     list: &mut Vec<Preload>,
 )
     requires numbers { AreNumbers schedule.now.problem.loop allotment.now numbers.now }

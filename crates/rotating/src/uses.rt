@@ -13,7 +13,7 @@ use iterations::{Loop, Operand};
 
 /// Raises the entry of each value that these operands read to the read: `base`, and `step` more for
 /// each iteration that the value is old.
-fn raise(operands: &[Operand], base: u64, step: u64, table: &mut [u64])
+fn raise(operands: &[Operand], base: u32, step: u32, table: &mut [u32])
     requires base { base ≤ 1048576 }
     requires step { step ≤ 16384 }
     requires long { length table.old ≡ 256 }
@@ -27,13 +27,13 @@ fn raise(operands: &[Operand], base: u64, step: u64, table: &mut [u64])
         } = operands[k]
         {
             let value = statement as usize;
-            table[value] = table[value].max(base + step * u64::from(distance));
+            table[value] = table[value].max(base + step * u32::from(distance));
         }
     }
 }
 
 /// Raises the entries of the values that are live at the end to this number.
-fn raise_outs(outs: &[u8], least: u64, table: &mut [u64])
+fn raise_outs(outs: &[u8], least: u32, table: &mut [u32])
     requires long { length table.old ≡ 256 }
     ensures long { length table.new ≡ 256 }
     ensures each { (v : ℕ) → v < 256 → slice_index table.new v ≡ max (slice_index table.old v) (if list_any (λ o. o == v) outs.now then least else 0) }
@@ -45,7 +45,7 @@ fn raise_outs(outs: &[u8], least: u64, table: &mut [u64])
 }
 
 /// Raises the entry of each value to the iterations for which it is carried on.
-fn raise_carried(innermost: &Loop, table: &mut [u64])
+fn raise_carried(innermost: &Loop, table: &mut [u32])
     requires long { length table.old ≡ 256 }
     ensures long { length table.new ≡ 256 }
     ensures each { (v : ℕ) → v < 256 → slice_index table.new v ≡ max (slice_index table.old v) (carried innermost.now v) }
@@ -59,7 +59,7 @@ fn raise_carried(innermost: &Loop, table: &mut [u64])
 }
 
 /// Writes into a table of zeros for how many iterations each value is carried on.
-pub(crate) fn fill_carried(innermost: &Loop, table: &mut [u64])
+pub(crate) fn fill_carried(innermost: &Loop, table: &mut [u32])
     requires long { length table.old ≡ 256 }
     requires zeros { (v : ℕ) → slice_index table.old v ≡ 0 }
     ensures carried { AreCarried innermost.now table.new }
@@ -68,22 +68,22 @@ pub(crate) fn fill_carried(innermost: &Loop, table: &mut [u64])
 }
 
 /// Raises the entry of each value to the last cycle in which the value of iteration 0 is read.
-fn raise_reads(schedule: &Schedule, table: &mut [u64])
+fn raise_reads(schedule: &Schedule, table: &mut [u32])
     requires long { length table.old ≡ 256 }
     ensures long { length table.new ≡ 256 }
     ensures each { (v : ℕ) → v < 256 → slice_index table.new v ≡ max (slice_index table.old v) (greatest_of (map (read_at schedule.now) (uses_of schedule.now.problem.loop v))) }
 {
-    let ii = schedule.ii();
+    let ii = schedule.ii() as u32;
     let statements = schedule.prepared().innermost().statements();
     for q in 0..statements.len() {
-        let time = schedule.time(q);
+        let time = schedule.time(q) as u32;
         raise(statements[q].operands.as_slice(), time, ii, table);
     }
 }
 
 /// Writes into a table of zeros the last cycle in which the value of iteration 0 is read, and for
 /// those that are live at the end at least `end`.
-pub(crate) fn fill_lasts(schedule: &Schedule, end: u64, table: &mut [u64])
+pub(crate) fn fill_lasts(schedule: &Schedule, end: u32, table: &mut [u32])
     requires long { length table.old ≡ 256 }
     requires zeros { (v : ℕ) → slice_index table.old v ≡ 0 }
     ensures long { length table.new ≡ 256 }

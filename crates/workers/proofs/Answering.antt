@@ -6,7 +6,7 @@ use Rattle.std.proofs.lemmas.List.Elements.{All-nil, All-cons}
 use Rattle.machine.specs.declared.fault.MachineFault.{MachineFault}
 use Rattle.machine.specs.declared.fault.MachineFault.TheVariants as machine_fault
 use Rattle.machine.specs.declared.opcode.Opcode.{Opcode}
-use Rattle.machine.specs.Answers as machine_answers
+use Rattle.machine.specs.MachineAnswer.{MachineAnswer}
 use Rattle.machine.specs.Machines.{MachineData}
 use Rattle.loops.specs.LoopFault.{LoopFault}
 use Rattle.loops.specs.LoopFaultKind.{LoopFaultKind}
@@ -38,7 +38,7 @@ module _ {A : Type 0} where
       go (Err Memory) a = tt
 
   pub file_refused : (F : MachineData → List LoopData → A → Type 0) (fault : MachineFault) (meaning : Result MachineData MachineFault) (ls : Result (List LoopData) LoopFault)
-      → machine_answers.Answers {A = MachineData} (Err fault) meaning → AnswersFile F meaning ls (Err (of_machine fault))
+      → MachineAnswer {A = MachineData} (Err fault) meaning → AnswersFile F meaning ls (Err (of_machine fault))
   file_refused F machine_fault.Memory meaning ls a = tt
   file_refused F fault meaning ls a = subst (λ m. AnswersFile F m ls (Err (Machine fault))) a refl
 

@@ -18,7 +18,7 @@ use Rattle.candidates.specs.Outcomes.{GivesKernel, FailsBy, OneOutcome}
 use Rattle.candidates.specs.Choices.{IsChoice}
 use Rattle.workers.specs.Entries.{In, ReportData, IsEntry, IsTrueAt}
 use Rattle.workers.specs.Gathered.{tried, missing_in, retried_from}
-use Rattle.workers.specs.Settled.{IsWorkedOut, IsWhole, met_at}
+use Rattle.workers.specs.Settled.{IsWorkedOut, HasNoRefusal, met_at}
 use Rattle.workers.specs.Worked.{mii_at}
 use Rattle.workers.proofs.Open.{IsTrueFound, IsOpenEntry, IsChosen, tried_up, retried_up, IsWholeReport, IsSettled}
 use Rattle.workers.proofs.Nothing.{open_law, all_in}
@@ -28,7 +28,7 @@ use Rattle.board.specs.declared.view.View.{View}
 use Rattle.board.specs.declared.view.Terms.{Terms}
 use Rattle.board.specs.Rule.{least_of}
 use Rattle.std.proofs.Common.{add-zero, zero-add, ◌≢◌}
-use Rattle.std.proofs.lemmas.Option.{slice_get_within, slice_get-map}
+use Rattle.std.proofs.lemmas.Option.{slice_get_within, slice_get-map, same_Some}
 
 -- the loop of that number gives a kernel at the interval
 abbrev pub wins_at : List ProblemData → ℕ → ℕ → Type 0
@@ -70,13 +70,6 @@ some_in : (ps : List ProblemData) (l : ℕ) → l < length ps → ProblemData
 some_in [] l near = absurd (omega arith)
 some_in (p ∷ ps) l near = p
 
-abbrev the_value : {X : Type 0} → X → Option X → X
-the_value d None = d
-the_value d (Some x) = x
-
-some_same : {X : Type 0} (x y : X) → Some x ≡ Some y → x ≡ y
-some_same x y is = ap (the_value x) is
-
 later : (p : ProblemData) (ps : List ProblemData) (ceiling l : ℕ) (o : Option ℕ) → IsChosen (wins_at ps) ps ceiling l o → IsChosen (wins_at (p ∷ ps)) (p ∷ ps) ceiling (suc l) o
 later p ps ceiling l None h = h
 later p ps ceiling l (Some ii) h = record { from_mii = h.from_mii; to_ceiling = h.to_ceiling; is_win = h.is_win; least = h.least }
@@ -94,7 +87,7 @@ chosen_at [] [] ceiling l o same h is = absurd (none_some l o is)
     none_some l o is = let k = slice_get_within nothing_there l o is in omega arith
 chosen_at [] (c ∷ cs) ceiling l o same h is = absurd h
 chosen_at (p ∷ ps) [] ceiling l o same h is = absurd h
-chosen_at (p ∷ ps) (c ∷ cs) ceiling zero o same h is = subst (IsChosen (wins_at (p ∷ ps)) (p ∷ ps) ceiling 0) (some_same (met_at c) o is) (first_chosen p ps ceiling c (same 0 p (omega arith)) h.0)
+chosen_at (p ∷ ps) (c ∷ cs) ceiling zero o same h is = subst (IsChosen (wins_at (p ∷ ps)) (p ∷ ps) ceiling 0) (same_Some (met_at c) o is) (first_chosen p ps ceiling c (same 0 p (omega arith)) h.0)
 chosen_at (p ∷ ps) (c ∷ cs) ceiling (suc l) o same h is = later p ps ceiling l o (chosen_at ps cs ceiling l o (λ k d near. same (suc k) d (omega arith)) h.1 is)
 
 same_tried : (p : ProblemData) (ceiling : ℕ) (c : Choice) → p.ceiling ≡ ceiling → tried_up (mii_of p) ceiling (met_at c) ≡ tried p c
@@ -144,7 +137,7 @@ module _ (one : OneOutcome) (loops : List ProblemData) (pieces : PiecesData) (te
 
   whole_report : (r : ReportData) → In r reports → IsWholeReport (wins_at loops) (fails_at loops) loops pieces r
   whole_report r at =
-      let w : IsWhole loops r = all_in (IsWhole loops) r reports h.whole at in
+      let w : HasNoRefusal loops r = all_in (HasNoRefusal loops) r reports h.whole at in
       record {
         same_loops = w.same_loops;
         entries = λ e is. open_entry e (all_in (IsEntry loops) e r.entries w.entries is);

@@ -2,9 +2,9 @@
 use Rattle.std.proofs.Common.{◌≡◌, ℕ, zero, suc, ◌+◌, ◌-◌, ◌<◌, ◌≤◌, ◌⊎◌, inl, inr, ⊎_elim, List, [], ◌∷◌, ◌++◌, map, sym, refl, ap, subst, arith}
 use Rattle.std.specs.List.{flat_map}
 use Rattle.std.proofs.lemmas.Bool.Decides.{nat_tests}
-use Rattle.board.specs.Rule.{times}
+use Rattle.board.specs.Rule.{occurrences}
 use Rattle.std.proofs.lemmas.Bool.{cases_lt}
-use Rattle.candidates.specs.Pieces.{PiecesData, IsIn, start_of, end_of, loop_of}
+use Rattle.candidates.specs.Pieces.{PiecesData, IsIn, start_of_piece, end_of_piece, loop_of_piece}
 use Rattle.ims.specs.Problems.{ProblemData}
 use Rattle.workers.specs.Worked.{from_on, mii_at, places_of}
 use Rattle.workers.specs.Entries.{In}
@@ -31,11 +31,11 @@ in_flat f x y [] h k = absurd h
 in_flat {X} f x y (z ∷ xs) h k = ⊎_elim (λ (is : z ≡ x). in_left y (f z) (flat_map f xs) (subst (λ u. In y (f u)) (sym is) k))
     (λ (r : In x xs). in_right y (f z) (flat_map f xs) (in_flat f x y xs r k)) h
 
-pub times_in : (x : ℕ) (xs : List ℕ) → 0 < times x xs → In x xs
+pub times_in : (x : ℕ) (xs : List ℕ) → 0 < occurrences x xs → In x xs
 times_in x [] h = absurd (omega arith)
-times_in x (y ∷ xs) h = ⊎_elim (λ (is : y ≡ x). inl is) (λ (r : 0 < times x xs). inr (times_in x xs r)) (split x y xs h)
+times_in x (y ∷ xs) h = ⊎_elim (λ (is : y ≡ x). inl is) (λ (r : 0 < occurrences x xs). inr (times_in x xs r)) (split x y xs h)
   where
-    split : (x y : ℕ) (xs : List ℕ) → 0 < times x (y ∷ xs) → (y ≡ x) ⊎ (0 < times x xs)
+    split : (x y : ℕ) (xs : List ℕ) → 0 < occurrences x (y ∷ xs) → (y ≡ x) ⊎ (0 < occurrences x xs)
     split x y xs h = grind (arith, nat_tests)
 
 pub in_from_on : (start n x : ℕ) → start ≤ x → x < start + n → In x (from_on start n)
@@ -51,5 +51,5 @@ in_places loops pieces p l above h =
     let place : ℕ → ℕ → ℕ × ℕ = λ k a. (k, mii_at loops k + a) in
     let low = h.from_start in
     let high = h.before_end in
-    let at = in_from_on (start_of pieces p) (end_of pieces p - start_of pieces p) above low (omega arith) in
-    subst (λ k. In (place k above) (places_of loops pieces p)) h.its_loop (in_map (place (loop_of pieces p)) above (from_on (start_of pieces p) (end_of pieces p - start_of pieces p)) at)
+    let at = in_from_on (start_of_piece pieces p) (end_of_piece pieces p - start_of_piece pieces p) above low (omega arith) in
+    subst (λ k. In (place k above) (places_of loops pieces p)) h.its_loop (in_map (place (loop_of_piece pieces p)) above (from_on (start_of_piece pieces p) (end_of_piece pieces p - start_of_piece pieces p)) at)

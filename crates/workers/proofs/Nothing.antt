@@ -6,17 +6,17 @@ use Rattle.std.proofs.lemmas.Bool.Decides.{nat_tests}
 use Rattle.board.specs.declared.view.View.{View}
 use Rattle.board.specs.declared.view.Terms.{Terms}
 use Rattle.board.proofs.Drawing.{nothing_left}
-use Rattle.board.specs.Rule.{total, times, times_posted, times_drawn, IsPosted, IsTrueAnswer, IsLeastPosted, least_of}
+use Rattle.board.specs.Rule.{total, occurrences, times_posted, times_drawn, IsPosted, IsTrueAnswer, IsLeastPosted, least_of}
 use Rattle.std.proofs.lemmas.Bool.{cases_lt, false≢true}
 use Rattle.std.proofs.Common.{add-zero, zero-add}
 use Rattle.std.proofs.lemmas.Option.{slice_get_within}
 use Rattle.std.proofs.Math.Numerals.{add-one}
-use Rattle.candidates.specs.Pieces.{PiecesData, number_of}
+use Rattle.candidates.specs.Pieces.{PiecesData, piece_count}
 use Rattle.ims.specs.Problems.{ProblemData}
 use Rattle.workers.specs.declared.entry.Entry.{Entry}
 use Rattle.workers.specs.declared.entry.Found.{Found}
 use Rattle.workers.specs.declared.entry.Found.TheVariants.{Won, Failed, Beaten, Unsettled}
-use Rattle.workers.specs.Entries.{In, ReportData, won_of, with_won, place_of, settles, is_settled, is_settled_in}
+use Rattle.workers.specs.Entries.{In, ReportData, won_of, with_won, entry_place, settles, is_settled, is_settled_in}
 use Rattle.workers.specs.Worked.{WorkedAs, Covers, HasLowerAnswer, HasLowerWin, mii_at, places_of}
 use Rattle.workers.specs.Gathered.{missing_in}
 use Rattle.workers.specs.Turns.{is_won}
@@ -40,45 +40,45 @@ find_view f pieces (v ∷ vs) (r ∷ rs) w h = ⊎_elim
     one_of (suc a) b h = inl (omega arith)
 
 -- a number that was drawn once and is a piece's stands among the pieces drawn
-times_filter : (p number : ℕ) (xs : List ℕ) → p < number → times p (filter (λ n. nat_lt n number) xs) ≡ times p xs
+times_filter : (p number : ℕ) (xs : List ℕ) → p < number → occurrences p (filter (λ n. nat_lt n number) xs) ≡ occurrences p xs
 times_filter p number [] near = refl
 times_filter p number (x ∷ xs) near = let r = times_filter p number xs near in grind (arith, nat_tests)
 
-kept_all : (pieces : PiecesData) (v : View) (r : ReportData) (c : Covers pieces v r) → r.lost ≡ 0 → (p : ℕ) → p < number_of pieces → 0 < times p v.drawn → In p c.kept
+kept_all : (pieces : PiecesData) (v : View) (r : ReportData) (c : Covers pieces v r) → r.lost ≡ 0 → (p : ℕ) → p < piece_count pieces → 0 < occurrences p v.drawn → In p c.kept
 kept_all pieces v r c none p near drawn =
     let e = c.each p in
-    let f = times_filter p (number_of pieces) v.drawn near in
+    let f = times_filter p (piece_count pieces) v.drawn near in
     let lost = c.lost in
-    let few : times p c.skipped ≤ length c.skipped = few_times p c.skipped in
+    let few : occurrences p c.skipped ≤ length c.skipped = few_times p c.skipped in
     times_in p c.kept (omega arith)
   where
-    few_times : (p : ℕ) (xs : List ℕ) → times p xs ≤ length xs
+    few_times : (p : ℕ) (xs : List ℕ) → occurrences p xs ≤ length xs
     few_times p [] = omega arith
     few_times p (x ∷ xs) = let r = few_times p xs in grind (arith, nat_tests)
 
 -- what was won stands in an entry
-won_entry : (place : ℕ × ℕ) (es : List Entry) → In place (won_of es) → (e : Entry) × In e es × (is_won e.found ≡ true) × (place_of e ≡ place)
+won_entry : (place : ℕ × ℕ) (es : List Entry) → In place (won_of es) → (e : Entry) × In e es × (is_won e.found ≡ true) × (entry_place e ≡ place)
 won_entry place [] h = absurd h
 won_entry place (e ∷ es) h = go (λ k. won_entry place es k) e.found refl h
   where
-    go : (In place (won_of es) → (x : Entry) × In x es × (is_won x.found ≡ true) × (place_of x ≡ place)) → (f : Found) → e.found ≡ f → In place (with_won f (place_of e) (won_of es)) → (x : Entry) × In x (e ∷ es) × (is_won x.found ≡ true) × (place_of x ≡ place)
-    go rest (Won k) is h = ⊎_elim (λ (here : place_of e ≡ place). (e, inl refl, ap is_won is, here)) (λ (r : In place (won_of es)). let k = rest r in (k.0, inr k.1, k.2, k.3)) h
+    go : (In place (won_of es) → (x : Entry) × In x es × (is_won x.found ≡ true) × (entry_place x ≡ place)) → (f : Found) → e.found ≡ f → In place (with_won f (entry_place e) (won_of es)) → (x : Entry) × In x (e ∷ es) × (is_won x.found ≡ true) × (entry_place x ≡ place)
+    go rest (Won k) is h = ⊎_elim (λ (here : entry_place e ≡ place). (e, inl refl, ap is_won is, here)) (λ (r : In place (won_of es)). let k = rest r in (k.0, inr k.1, k.2, k.3)) h
     go rest Beaten is h = let k = rest h in (k.0, inr k.1, k.2, k.3)
     go rest (Failed c) is h = let k = rest h in (k.0, inr k.1, k.2, k.3)
     go rest Unsettled is h = let k = rest h in (k.0, inr k.1, k.2, k.3)
 
-entry_won : (e : Entry) (es : List Entry) → In e es → is_won e.found ≡ true → In (place_of e) (won_of es)
+entry_won : (e : Entry) (es : List Entry) → In e es → is_won e.found ≡ true → In (entry_place e) (won_of es)
 entry_won e [] h is = absurd h
-entry_won e (x ∷ es) h is = ⊎_elim (λ (here : x ≡ e). mine x.found (ap (λ (u : Entry). is_won u.found) here ∙ is) (ap place_of here))
+entry_won e (x ∷ es) h is = ⊎_elim (λ (here : x ≡ e). mine x.found (ap (λ (u : Entry). is_won u.found) here ∙ is) (ap entry_place here))
     (λ (r : In e es). later x.found (entry_won e es r is)) h
   where
-    mine : (f : Found) → is_won f ≡ true → place_of x ≡ place_of e → In (place_of e) (with_won f (place_of x) (won_of es))
+    mine : (f : Found) → is_won f ≡ true → entry_place x ≡ entry_place e → In (entry_place e) (with_won f (entry_place x) (won_of es))
     mine (Won k) w same = inl same
     mine Beaten w same = absurd (false≢true w)
     mine (Failed c) w same = absurd (false≢true w)
     mine Unsettled w same = absurd (false≢true w)
 
-    later : (f : Found) → In (place_of e) (won_of es) → In (place_of e) (with_won f (place_of x) (won_of es))
+    later : (f : Found) → In (entry_place e) (won_of es) → In (entry_place e) (with_won f (entry_place x) (won_of es))
     later (Won w) k = inr k
     later Beaten k = k
     later (Failed c) k = k
@@ -194,12 +194,12 @@ module _ (wins fails : ℕ → ℕ → Type 0) (ps : List ProblemData) (pieces :
       let p : ℕ = piece.0 in
       let inside : p < terms.pieces = subst (λ n. p < n) (sym h.same_pieces) piece.1.there in
       let once : times_drawn views p ≡ 1 = nothing_left terms words views h.rule h.dry p inside in
-      let k = find_view (λ (v : View). times p v.drawn) pieces views reports h.worked (omega arith) in
+      let k = find_view (λ (v : View). occurrences p v.drawn) pieces views reports h.worked (omega arith) in
       let r : ReportData = k.1 in
       let kept = kept_all pieces k.0 r k.2.covers (h.whole r k.3).lost p piece.1.there k.4 in
       let at = subst (λ qs. In (l, mii_at qs l + above) (flat_map (places_of r.loops pieces) k.2.covers.kept)) (h.whole r k.3).same_loops
       (in_flat (places_of r.loops pieces) p (l, mii_at r.loops l + above) k.2.covers.kept kept (in_places r.loops pieces p l above piece.1)) in
-      let e = map_in place_of (l, mii_at ps l + above) r.entries (subst (λ qs. In (l, mii_at ps l + above) qs) (sym k.2.covers.entries) at) in
+      let e = map_in entry_place (l, mii_at ps l + above) r.entries (subst (λ qs. In (l, mii_at ps l + above) qs) (sym k.2.covers.entries) at) in
       record {
         report = r;
         listed = k.3;
@@ -301,8 +301,8 @@ module _ (wins fails : ℕ → ℕ → Type 0) (ps : List ProblemData) (pieces :
           let wins_here : is_won x.entry.found ≡ true = won_here x.entry.found settled (λ is.
           let f : fails x.entry.loop_number x.entry.interval = failed_true wins fails x.entry.found x.entry.loop_number x.entry.interval is there.truth in
           h.exclusive l ii best.is_win (subst (λ m. fails m ii) x.its_loop (subst (λ m. fails x.entry.loop_number m) x.its_interval f))) in
-          let listed : In (place_of x.entry) (won_of x.report.entries) = entry_won x.entry x.report.entries x.entered wins_here in
-          let same : place_of x.entry ≡ (l, ii) = λ i. (x.its_loop i, x.its_interval i) in
+          let listed : In (entry_place x.entry) (won_of x.report.entries) = entry_won x.entry x.report.entries x.entered wins_here in
+          let same : entry_place x.entry ≡ (l, ii) = λ i. (x.its_loop i, x.its_interval i) in
           total_some (λ (v : View). times_posted l ii v.posted) pieces views reports x.report h.worked x.listed
           (λ v w. in_posted l ii v.posted (subst (λ ps. In (l, ii) ps) (sym w.posted) (subst (λ q. In q (won_of x.report.entries)) same listed)))
 

@@ -6,7 +6,7 @@ use Rattle.board.specs.declared.view.View.{View}
 use Rattle.board.specs.declared.view.Terms.{Terms}
 use Rattle.board.specs.Rule.{Rule}
 use Rattle.board.specs.Views.{is_dry}
-use Rattle.candidates.specs.Pieces.{PiecesData, number_of, IsCutting}
+use Rattle.candidates.specs.Pieces.{PiecesData, piece_count, IsCutting}
 use Rattle.ims.specs.Problems.{ProblemData}
 use Rattle.workers.specs.declared.entry.Entry.{Entry}
 use Rattle.workers.specs.declared.entry.Found.{Found}
@@ -58,7 +58,7 @@ pub record IsSettled (wins fails : ℕ → ℕ → Type 0) (ps : List ProblemDat
   pub cutting : IsCutting pieces
   pub exclusive : (l ii : ℕ) → wins l ii → fails l ii → ⊥
   pub same_loops : terms.loops ≡ pieces.loops
-  pub same_pieces : terms.pieces ≡ number_of pieces
+  pub same_pieces : terms.pieces ≡ piece_count pieces
   pub rule : Rule terms words views
   pub dry : Any (λ v. IsTrue (is_dry terms.pieces v)) views
   pub worked : AllZip (WorkedAs pieces) views reports

@@ -4,7 +4,7 @@ use Rattle.std.specs.Prelude.{Option, Some, None, Ok, Err}
 use Rattle.machine.specs.declared.opcode.Opcode.{Opcode}
 use Rattle.machine.specs.Machines.{MachineData}
 use Rattle.loops.specs.Loops.{LoopData}
-use Rattle.graph.specs.Answers.{Answers}
+use Rattle.graph.specs.TablesAnswer.{TablesAnswer}
 use Rattle.graph.specs.declared.fault.GraphFault.TheVariants as graph_fault
 use Rattle.graph.specs.Units.{first_without_table, first_lacking, lacking_or}
 use Rattle.ims.specs.Problems.{ProblemData, IsProblemOf}
@@ -13,11 +13,11 @@ use Rattle.workers.specs.declared.faults.FileFault.TheVariants.{Machine, Loops, 
 use Rattle.workers.specs.Files.{AnswersOn, ArePrepared}
 
 module _ {A : Type 0} (P : A → Type 0) (name : List ℕ) where
-  pub one_ok : (missing : Option Opcode) (x : A) → Answers missing P (Ok x) → AnswersOn P (lacking_or name missing None) (Ok x)
+  pub one_ok : (missing : Option Opcode) (x : A) → TablesAnswer missing P (Ok x) → AnswersOn P (lacking_or name missing None) (Ok x)
   one_ok None x a = a
   one_ok (Some o) x a = cc
 
-  pub one_fault : (missing : Option Opcode) (o : Opcode) → Answers missing P (Err (graph_fault.NoTable o)) → AnswersOn P (lacking_or name missing None) (Err (NoTable name o))
+  pub one_fault : (missing : Option Opcode) (o : Opcode) → TablesAnswer missing P (Err (graph_fault.NoTable o)) → AnswersOn P (lacking_or name missing None) (Err (NoTable name o))
   one_fault None o a = absurd a
   one_fault (Some p) o a = cc
 

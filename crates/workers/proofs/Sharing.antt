@@ -13,7 +13,7 @@ use Rattle.board.specs.Names.{terms_of}
 use Rattle.board.specs.Views.{is_dry}
 use Rattle.ims.specs.Problems.{ProblemData, IsProblem}
 use Rattle.candidates.specs.Outcomes.{OneOutcome}
-use Rattle.candidates.specs.Pieces.{PiecesData, IsCutting, number_of}
+use Rattle.candidates.specs.Pieces.{PiecesData, IsCutting, piece_count}
 use Rattle.workers.specs.Entries.{ReportData}
 use Rattle.workers.specs.Places.{IsReportOn}
 use Rattle.workers.specs.Settled.{AreOfOneBoard, LeaveNothing}
@@ -81,12 +81,12 @@ module _ (b : WordBoard) (loops : List ProblemData) (pieces : PiecesData) (goes_
   all_worked (p ∷ ps) (r ∷ rs) h = (h.0.worked, all_worked ps rs h.1)
 
 some_dry : (pieces : PiecesData) (views : List View) (reports : List ReportData) → AllZip (WorkedAs pieces) views reports
-    → list_any (λ (r : ReportData). r.dry) reports ≡ true → list_any (λ (v : View). is_dry (number_of pieces) v) views ≡ true
+    → list_any (λ (r : ReportData). r.dry) reports ≡ true → list_any (λ (v : View). is_dry (piece_count pieces) v) views ≡ true
 some_dry pieces [] [] w h = h
 some_dry pieces [] (r ∷ rs) w h = absurd w
 some_dry pieces (v ∷ vs) [] w h = absurd w
 some_dry pieces (v ∷ vs) (r ∷ rs) w h =
-    either_way (is_dry (number_of pieces) v) (list_any (λ (r : ReportData). r.dry) rs) (list_any (λ (v : View). is_dry (number_of pieces) v) vs)
+    either_way (is_dry (piece_count pieces) v) (list_any (λ (r : ReportData). r.dry) rs) (list_any (λ (v : View). is_dry (piece_count pieces) v) vs)
     (subst (λ d. (d || list_any (λ (r : ReportData). r.dry) rs) ≡ true) w.0.dry h) (some_dry pieces vs rs w.1)
   where
     either_way : (a x y : Bool) → (a || x) ≡ true → (x ≡ true → y ≡ true) → (a || y) ≡ true
@@ -97,7 +97,7 @@ some_dry pieces (v ∷ vs) (r ∷ rs) w h =
 pub leave_nothing : OneOutcome → (loops : List ProblemData) (pieces : PiecesData) → All IsProblem loops → All (λ (p : ProblemData). p.ceiling ≡ pieces.ceiling) loops → pieces.loops ≡ length loops → IsCutting pieces
     → (workers : ℕ) (reports : List ReportData) → AreOfOneBoard pieces workers reports → LeaveNothing loops reports
 leave_nothing one loops pieces problems ceilings each cutting workers reports a dry whole choices are =
-    (left one loops pieces (terms_of pieces.loops (number_of pieces) workers) a.words a.views reports (record {
+    (left one loops pieces (terms_of pieces.loops (piece_count pieces) workers) a.words a.views reports (record {
       problems = problems;
       ceilings = ceilings;
       each_loop = each;
@@ -105,7 +105,7 @@ leave_nothing one loops pieces problems ceilings each cutting workers reports a 
       same_loops = refl;
       same_pieces = refl;
       rule = a.rule;
-      dry = Any-from_list_any (λ (v : View). is_dry (number_of pieces) v) a.views
+      dry = Any-from_list_any (λ (v : View). is_dry (piece_count pieces) v) a.views
           (some_dry pieces a.views reports a.worked (list_any-from_Any (λ (r : ReportData). r.dry) reports dry));
       worked = a.worked;
       whole = whole;

@@ -7,9 +7,9 @@ use Rattle.board.specs.Views.{with_seen}
 use Rattle.workers.specs.declared.entry.Entry.{Entry}
 use Rattle.workers.specs.declared.entry.Found.{Found}
 use Rattle.workers.specs.declared.entry.Found.TheVariants.{Won, Failed, Beaten, Unsettled}
-use Rattle.workers.specs.Entries.{ReportData, In, place_of, won_of, with_won}
+use Rattle.workers.specs.Entries.{ReportData, In, entry_place, won_of, with_won}
 use Rattle.workers.specs.Worked.{IsBeatenRightly, HasLowerAnswer, HasLowerWin, from_on, mii_at}
-use Rattle.workers.specs.Turns.{TakesOrPasses, is_won, entry_of, EntersOne, Gains, Adds}
+use Rattle.workers.specs.Turns.{TakesOrPasses, is_won, entry_of, EntersOne, ViewGains, Adds}
 use Rattle.ims.specs.Problems.{ProblemData, mii_of}
 use Rattle.workers.proofs.Members.{in_left, in_right}
 
@@ -29,8 +29,8 @@ pub won-append : (xs ys : List Entry) → won_of (xs ++ ys) ≡ won_of xs ++ won
 won-append [] ys = refl
 won-append (x ∷ xs) ys = go x.found (won-append xs ys)
   where
-    go : (f : Found) → won_of (xs ++ ys) ≡ won_of xs ++ won_of ys → with_won f (place_of x) (won_of (xs ++ ys)) ≡ with_won f (place_of x) (won_of xs) ++ won_of ys
-    go (Won k) rest = ap (λ r. place_of x ∷ r) rest
+    go : (f : Found) → won_of (xs ++ ys) ≡ won_of xs ++ won_of ys → with_won f (entry_place x) (won_of (xs ++ ys)) ≡ with_won f (entry_place x) (won_of xs) ++ won_of ys
+    go (Won k) rest = ap (λ r. entry_place x ∷ r) rest
     go (Failed c) rest = rest
     go Beaten rest = rest
     go Unsettled rest = rest
@@ -119,8 +119,8 @@ beaten_still v w es more e grows rightly b = ⊎_elim
 abbrev pub WonBelow : Bool → ℕ → ℕ → List Entry → Type 0
 WonBelow won l ii new = IsTrue won → (a : ℕ) × In (l, a) (won_of new) × (a < ii)
 
-gains_more : (won : Bool) (l ii : ℕ) (v w u : View) (before new : List Entry) (found : Found) → Gains v w (before ++ new) new → WonBelow won l ii new
-    → OneStep won l ii w u found → Gains v u (before ++ (new ++ entry_of l ii found ∷ [])) (new ++ entry_of l ii found ∷ [])
+gains_more : (won : Bool) (l ii : ℕ) (v w u : View) (before new : List Entry) (found : Found) → ViewGains v w (before ++ new) new → WonBelow won l ii new
+    → OneStep won l ii w u found → ViewGains v u (before ++ (new ++ entry_of l ii found ∷ [])) (new ++ entry_of l ii found ∷ [])
 gains_more won l ii v w u before new found g below s = record {
   drawn = s.drawn ∙ g.drawn;
   posted = s.posted ∙ ap (λ r. r ++ won_of last) g.posted ∙ append-assoc v.posted (won_of new) (won_of last) ∙ ap (λ r. v.posted ++ r) (sym (won-append new last));
@@ -173,11 +173,11 @@ halfway_on tells v w u l start count won wins before now next same h e = record 
     new = a.new ++ last;
     entries = all;
     lost = e.enters.same_lost ∙ a.lost;
-    places = map-append place_of a.new last ∙ ap (λ r. r ++ (l, mii_at now.loops l + (start + count)) ∷ []) a.places
+    places = map-append entry_place a.new last ∙ ap (λ r. r ++ (l, mii_at now.loops l + (start + count)) ∷ []) a.places
         ∙ ap (λ ps. map place (from_on start count) ++ (l, mii_at ps l + (start + count)) ∷ []) same
         ∙ sym (map-append place (from_on start count) ((start + count) ∷ [])) ∙ ap (map place) (sym (from_on-snoc start count));
-    gains = λ t. subst (λ es. Gains v u es (a.new ++ last)) (sym all)
-        (gains_more won l ii v w u before.entries a.new e.found (subst (λ es. Gains v w es a.new) a.entries (a.gains t)) low (step_of won l ii w u e.found (e.told t)));
+    gains = λ t. subst (λ es. ViewGains v u es (a.new ++ last)) (sym all)
+        (gains_more won l ii v w u before.entries a.new e.found (subst (λ es. ViewGains v w es a.new) a.entries (a.gains t)) low (step_of won l ii w u e.found (e.told t)));
   };
   below = subst (λ b. WonBelow b l (mii_at before.loops l + (start + suc count)) (a.new ++ last)) (sym e.is_won)
       (subst (λ k. WonBelow (won || is_won e.found) l k (a.new ++ last)) next_one (still_below won l ii a.new e.found low));

@@ -6,22 +6,22 @@ use Rattle.std.proofs.lemmas.Bool.{MatchBool-at_false}
 use Rattle.std.proofs.lemmas.Bool.Decides.{nat_tests}
 use Rattle.board.specs.declared.view.View.{View}
 use Rattle.board.specs.Views.{is_dry, beyond, Draws, DrawsUnlessDry}
-use Rattle.board.specs.Rule.{times}
+use Rattle.board.specs.Rule.{occurrences}
 use Rattle.board.specs.Drawing.{DrewPieces}
 use Rattle.board.proofs.Drawing.{wet, draws_count, draws_ascend, draws_end}
-use Rattle.board.proofs.Totals.{beyond-append, times-append}
-use Rattle.candidates.specs.Pieces.{PiecesData, number_of, loop_of, start_of, end_of}
+use Rattle.board.proofs.Totals.{beyond-append, occurrences-append}
+use Rattle.candidates.specs.Pieces.{PiecesData, piece_count, loop_of_piece, start_of_piece, end_of_piece}
 use Rattle.workers.specs.declared.entry.Entry.{Entry}
-use Rattle.workers.specs.Entries.{ReportData, In, place_of, won_of}
+use Rattle.workers.specs.Entries.{ReportData, In, entry_place, won_of}
 use Rattle.workers.specs.Worked.{IsBeatenRightly, Covers, WorkedAs, IsUnused, places_of, drawn_pieces}
-use Rattle.workers.specs.Turns.{Gains, Adds, Loses, Turned}
+use Rattle.workers.specs.Turns.{ViewGains, Adds, Loses, Turned}
 use Rattle.workers.proofs.Turning.{append-nil, append-assoc, map-append, won-append, in_append, beaten_still}
 
-times_in : (p n number : ℕ) (xs : List ℕ) → n < number → times p (filter (λ x. nat_lt x number) (xs ++ n ∷ [])) ≡ times p (filter (λ x. nat_lt x number) xs) + times p (n ∷ [])
+times_in : (p n number : ℕ) (xs : List ℕ) → n < number → occurrences p (filter (λ x. nat_lt x number) (xs ++ n ∷ [])) ≡ occurrences p (filter (λ x. nat_lt x number) xs) + occurrences p (n ∷ [])
 times_in p n number [] near = grind (arith, nat_tests)
 times_in p n number (x ∷ xs) near = let r = times_in p n number xs near in grind (arith, nat_tests)
 
-times_out : (p n number : ℕ) (xs : List ℕ) → number ≤ n → times p (filter (λ x. nat_lt x number) (xs ++ n ∷ [])) ≡ times p (filter (λ x. nat_lt x number) xs)
+times_out : (p n number : ℕ) (xs : List ℕ) → number ≤ n → occurrences p (filter (λ x. nat_lt x number) (xs ++ n ∷ [])) ≡ occurrences p (filter (λ x. nat_lt x number) xs)
 times_out p n number [] past = grind (arith, nat_tests)
 times_out p n number (x ∷ xs) past = let r = times_out p n number xs past in grind (arith, nat_tests)
 
@@ -42,8 +42,8 @@ same_draws pieces u w same d = record {
 pub record WorkedSoFar (pieces : PiecesData) (v : View) (report : ReportData) (k : ℕ) : Type 0 where
   pub worked : WorkedAs pieces v report
   pub drew : length v.drawn ≡ k
-  pub draws : DrewPieces (number_of pieces) v
-  pub few : length v.drawn ≤ number_of pieces
+  pub draws : DrewPieces (piece_count pieces) v
+  pub few : length v.drawn ≤ piece_count pieces
 
 pub worked_none : (pieces : PiecesData) (v : View) (report : ReportData) → IsUnused v → report.entries ≡ [] → report.lost ≡ 0 → report.dry ≡ false → WorkedSoFar pieces v report 0
 worked_none pieces v report un none lost dry = record {
@@ -51,33 +51,33 @@ worked_none pieces v report un none lost dry = record {
     covers = record {
       kept = [];
       skipped = [];
-      each = λ p. sym (ap (λ xs. times p (filter (λ n. nat_lt n (number_of pieces)) xs)) un.drawn);
+      each = λ p. sym (ap (λ xs. occurrences p (filter (λ n. nat_lt n (piece_count pieces)) xs)) un.drawn);
       lost = lost;
-      entries = ap (map place_of) none;
+      entries = ap (map entry_place) none;
     };
     posted = un.posted ∙ sym (ap won_of none);
     beaten = λ e at. absurd (subst (In e) none at);
-    dry = dry ∙ sym (ap (λ xs. nat_lt 0 (beyond (number_of pieces) xs)) un.drawn);
+    dry = dry ∙ sym (ap (λ xs. nat_lt 0 (beyond (piece_count pieces) xs)) un.drawn);
   };
   drew = ap length un.drawn;
   draws = record {
     ascending = subst (AllPairs (λ x y. x < y)) (sym un.drawn) (λ i j d lt near. absurd (omega arith));
-    inside = subst (All (λ x. x < number_of pieces)) (sym un.drawn) (λ k d near. absurd (omega arith));
+    inside = subst (All (λ x. x < piece_count pieces)) (sym un.drawn) (λ k d near. absurd (omega arith));
   };
-  few = subst (λ xs. length xs ≤ number_of pieces) (sym un.drawn) (omega arith);
+  few = subst (λ xs. length xs ≤ piece_count pieces) (sym un.drawn) (omega arith);
 }
 
-module _ (pieces : PiecesData) (n : ℕ) (near : n < number_of pieces) (v w : View) (before after : ReportData) (loops : after.loops ≡ before.loops) (drawn : w.drawn ≡ v.drawn ++ n ∷ []) (worked : WorkedAs pieces v before) where
-  tally : (p : ℕ) → times p (drawn_pieces (number_of pieces) w) ≡ times p (drawn_pieces (number_of pieces) v) + times p (n ∷ [])
-  tally p = ap (λ xs. times p (filter (λ x. nat_lt x (number_of pieces)) xs)) drawn ∙ times_in p n (number_of pieces) v.drawn near
+module _ (pieces : PiecesData) (n : ℕ) (near : n < piece_count pieces) (v w : View) (before after : ReportData) (loops : after.loops ≡ before.loops) (drawn : w.drawn ≡ v.drawn ++ n ∷ []) (worked : WorkedAs pieces v before) where
+  tally : (p : ℕ) → occurrences p (drawn_pieces (piece_count pieces) w) ≡ occurrences p (drawn_pieces (piece_count pieces) v) + occurrences p (n ∷ [])
+  tally p = ap (λ xs. occurrences p (filter (λ x. nat_lt x (piece_count pieces)) xs)) drawn ∙ times_in p n (piece_count pieces) v.drawn near
 
-  covers_added : (new : List Entry) → after.entries ≡ before.entries ++ new → after.lost ≡ before.lost → map place_of new ≡ places_of before.loops pieces n → Covers pieces w after
+  covers_added : (new : List Entry) → after.entries ≡ before.entries ++ new → after.lost ≡ before.lost → map entry_place new ≡ places_of before.loops pieces n → Covers pieces w after
   covers_added new entries lost places = record {
     kept = c.kept ++ n ∷ [];
     skipped = c.skipped;
-    each = λ p. let a = c.each p in let b = tally p in let d = times-append p c.kept (n ∷ []) in omega arith;
+    each = λ p. let a = c.each p in let b = tally p in let d = occurrences-append p c.kept (n ∷ []) in omega arith;
     lost = lost ∙ c.lost;
-    entries = ap (map place_of) entries ∙ map-append place_of before.entries new ∙ ap (λ r. map place_of before.entries ++ r) places
+    entries = ap (map entry_place) entries ∙ map-append entry_place before.entries new ∙ ap (λ r. map entry_place before.entries ++ r) places
         ∙ ap (λ r. r ++ places_of before.loops pieces n) c.entries
         ∙ ap (λ r. flat_map (places_of before.loops pieces) c.kept ++ r) (sym (append-nil (places_of before.loops pieces n)))
         ∙ sym (flat-append (places_of before.loops pieces) c.kept (n ∷ []))
@@ -91,9 +91,9 @@ module _ (pieces : PiecesData) (n : ℕ) (near : n < number_of pieces) (v w : Vi
   covers_lost entries lost = record {
     kept = c.kept;
     skipped = c.skipped ++ n ∷ [];
-    each = λ p. let a = c.each p in let b = tally p in let d = times-append p c.skipped (n ∷ []) in omega arith;
+    each = λ p. let a = c.each p in let b = tally p in let d = occurrences-append p c.skipped (n ∷ []) in omega arith;
     lost = lost ∙ ap (λ k. k + 1) c.lost ∙ sym (length-snoc c.skipped n);
-    entries = ap (map place_of) entries ∙ c.entries ∙ ap (λ ps. flat_map (places_of ps pieces) c.kept) (sym loops);
+    entries = ap (map entry_place) entries ∙ c.entries ∙ ap (λ ps. flat_map (places_of ps pieces) c.kept) (sym loops);
   }
     where
       c : Covers pieces v before
@@ -101,14 +101,14 @@ module _ (pieces : PiecesData) (n : ℕ) (near : n < number_of pieces) (v w : Vi
 
 -- a piece drawn and turned
 pub worked_on : (tells : Bool) (pieces : PiecesData) (n : ℕ) (v u w : View) (before after : ReportData) (k : ℕ) → IsTrue tells → WorkedSoFar pieces v before k
-    → DrawsUnlessDry (number_of pieces) v (Some n) u → n < number_of pieces
-    → Turned tells u w (loop_of pieces n) (start_of pieces n) (end_of pieces n - start_of pieces n) before after
+    → DrawsUnlessDry (piece_count pieces) v (Some n) u → n < piece_count pieces
+    → Turned tells u w (loop_of_piece pieces n) (start_of_piece pieces n) (end_of_piece pieces n - start_of_piece pieces n) before after
     → after.loops ≡ before.loops → after.dry ≡ false → WorkedSoFar pieces w after (k + 1)
 worked_on tells pieces n v u w before after k t so told near turned loops dry = ⊎_elim
-    (λ (a : Adds tells u w (loop_of pieces n) (start_of pieces n) (end_of pieces n - start_of pieces n) before after).
-    let g : Gains u w after.entries a.new = a.gains t in
+    (λ (a : Adds tells u w (loop_of_piece pieces n) (start_of_piece pieces n) (end_of_piece pieces n - start_of_piece pieces n) before after).
+    let g : ViewGains u w after.entries a.new = a.gains t in
     let drew : w.drawn ≡ u.drawn = g.drawn in
-    let up : DrewPieces (number_of pieces) w = same_draws (number_of pieces) u w drew above in
+    let up : DrewPieces (piece_count pieces) w = same_draws (piece_count pieces) u w drew above in
     record {
       worked = record {
         covers = covers_added pieces n near v w before after loops (drew ∙ drawn_is) so.worked a.new a.entries a.lost a.places;
@@ -118,37 +118,37 @@ worked_on tells pieces n v u w before after k t so told near turned loops dry = 
             (beaten_still v w before.entries a.new e (λ s at. g.seen s (seen_is s at)) (so.worked.beaten e old)))
             (λ (fresh : In e a.new). g.beaten e fresh)
             (in_append e before.entries a.new (subst (In e) a.entries at));
-        dry = dry ∙ sym (wet (number_of pieces) w up);
+        dry = dry ∙ sym (wet (piece_count pieces) w up);
       };
-      drew = ap length drew ∙ draws_count (number_of pieces) v u (Some n) so.draws told ∙ ap (λ m. m + 1) so.drew;
+      drew = ap length drew ∙ draws_count (piece_count pieces) v u (Some n) so.draws told ∙ ap (λ m. m + 1) so.drew;
       draws = up;
-      few = draws_end (number_of pieces) w up;
+      few = draws_end (piece_count pieces) w up;
     })
     (λ (l : Loses u w before after).
     let drew : w.drawn ≡ u.drawn = ap (λ (x : View). x.drawn) l.same_view in
-    let up : DrewPieces (number_of pieces) w = same_draws (number_of pieces) u w drew above in
+    let up : DrewPieces (piece_count pieces) w = same_draws (piece_count pieces) u w drew above in
     record {
       worked = record {
         covers = covers_lost pieces n near v w before after loops (drew ∙ drawn_is) so.worked l.entries l.lost;
         posted = ap (λ (x : View). x.posted) l.same_view ∙ posted_is ∙ so.worked.posted ∙ ap won_of (sym l.entries);
         beaten = λ e at. subst (λ es. IsBeatenRightly w es e) (append-nil before.entries ∙ sym l.entries)
             (beaten_still v w before.entries [] e (λ s at. subst (λ (x : View). In s x.seen) (sym l.same_view) (seen_is s at)) (so.worked.beaten e (subst (In e) l.entries at)));
-        dry = dry ∙ sym (wet (number_of pieces) w up);
+        dry = dry ∙ sym (wet (piece_count pieces) w up);
       };
-      drew = ap length drew ∙ draws_count (number_of pieces) v u (Some n) so.draws told ∙ ap (λ m. m + 1) so.drew;
+      drew = ap length drew ∙ draws_count (piece_count pieces) v u (Some n) so.draws told ∙ ap (λ m. m + 1) so.drew;
       draws = up;
-      few = draws_end (number_of pieces) w up;
+      few = draws_end (piece_count pieces) w up;
     })
     turned
   where
-    d : Draws (number_of pieces) v (Some n) u
-    d = MatchBool-at_false ((u ≡ v) × (Some n ≡ None)) (Draws (number_of pieces) v (Some n) u) (wet (number_of pieces) v so.draws) told
+    d : Draws (piece_count pieces) v (Some n) u
+    d = MatchBool-at_false ((u ≡ v) × (Some n ≡ None)) (Draws (piece_count pieces) v (Some n) u) (wet (piece_count pieces) v so.draws) told
 
-    above : DrewPieces (number_of pieces) u
-    above = draws_ascend (number_of pieces) v u (Some n) so.draws told refl
+    above : DrewPieces (piece_count pieces) u
+    above = draws_ascend (piece_count pieces) v u (Some n) so.draws told refl
 
     same_number : d.0 ≡ n
-    same_number = number_is (number_of pieces) n d.0 d.3
+    same_number = number_is (piece_count pieces) n d.0 d.3
       where
         number_is : (pieces n m : ℕ) → Some n ≡ (if nat_lt m pieces then Some m else None) → m ≡ n
         number_is pieces n m h = grind (arith, nat_tests)
@@ -182,30 +182,30 @@ lost_turned tells u w l start count before after turned = ⊎_elim (λ (a : Adds
     (λ (l : Loses u w before after). let k = l.lost in omega arith) turned
 
 -- nothing is left to draw
-pub worked_dry : (pieces : PiecesData) (v u : View) (before after : ReportData) (k : ℕ) → WorkedSoFar pieces v before k → DrawsUnlessDry (number_of pieces) v None u
+pub worked_dry : (pieces : PiecesData) (v u : View) (before after : ReportData) (k : ℕ) → WorkedSoFar pieces v before k → DrawsUnlessDry (piece_count pieces) v None u
     → after.loops ≡ before.loops → after.entries ≡ before.entries → after.lost ≡ before.lost → after.dry ≡ true → WorkedAs pieces u after
 worked_dry pieces v u before after k so told loops entries lost dry = record {
   covers = record {
     kept = c.kept;
     skipped = c.skipped;
-    each = λ p. c.each p ∙ sym (ap (λ xs. times p (filter (λ x. nat_lt x (number_of pieces)) xs)) drawn_is ∙ times_out p d.0 (number_of pieces) v.drawn past);
+    each = λ p. c.each p ∙ sym (ap (λ xs. occurrences p (filter (λ x. nat_lt x (piece_count pieces)) xs)) drawn_is ∙ times_out p d.0 (piece_count pieces) v.drawn past);
     lost = lost ∙ c.lost;
-    entries = ap (map place_of) entries ∙ c.entries ∙ ap (λ ps. flat_map (places_of ps pieces) c.kept) (sym loops);
+    entries = ap (map entry_place) entries ∙ c.entries ∙ ap (λ ps. flat_map (places_of ps pieces) c.kept) (sym loops);
   };
   posted = ap (λ (x : View). x.posted) d.1 ∙ so.worked.posted ∙ ap won_of (sym entries);
   beaten = λ e at. subst (λ es. IsBeatenRightly u es e) (append-nil before.entries ∙ sym entries)
       (beaten_still v u before.entries [] e (λ s at. subst (λ (x : View). In s x.seen) (sym d.1) at) (so.worked.beaten e (subst (In e) entries at)));
-  dry = dry ∙ sym (ap (λ xs. nat_lt 0 (beyond (number_of pieces) xs)) drawn_is ∙ wet_no_more (number_of pieces) d.0 v.drawn past);
+  dry = dry ∙ sym (ap (λ xs. nat_lt 0 (beyond (piece_count pieces) xs)) drawn_is ∙ wet_no_more (piece_count pieces) d.0 v.drawn past);
 }
   where
-    d : Draws (number_of pieces) v None u
-    d = MatchBool-at_false ((u ≡ v) × (None ≡ None)) (Draws (number_of pieces) v None u) (wet (number_of pieces) v so.draws) told
+    d : Draws (piece_count pieces) v None u
+    d = MatchBool-at_false ((u ≡ v) × (None ≡ None)) (Draws (piece_count pieces) v None u) (wet (piece_count pieces) v so.draws) told
 
     c : Covers pieces v before
     c = so.worked.covers
 
-    past : number_of pieces ≤ d.0
-    past = out (number_of pieces) d.0 d.3
+    past : piece_count pieces ≤ d.0
+    past = out (piece_count pieces) d.0 d.3
       where
         out : (pieces m : ℕ) → nothing ≡ (if nat_lt m pieces then Some m else None) → pieces ≤ m
         out pieces m h = grind (arith, nat_tests)

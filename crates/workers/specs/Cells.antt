@@ -7,7 +7,7 @@ use Rattle.workers.specs.Gathered.{tried}
 use Rattle.candidates.specs.declared.choices.Choice.{Choice}
 use Rattle.workers.specs.declared.cells.Settled.{Settled}
 use Rattle.workers.specs.declared.cells.Settled.TheVariants.{Won, Failed}
-use Rattle.workers.specs.declared.cells.Row.{Row}
+use Rattle.workers.specs.declared.cells.LoopCells.{LoopCells}
 use Rattle.workers.specs.declared.entry.Found.{Found}
 use Rattle.workers.specs.declared.entry.Found.TheVariants as found
 
@@ -28,28 +28,28 @@ kept_of (found.Failed cause) = Some (Failed cause)
 kept_of found.Beaten = None
 kept_of found.Unsettled = None
 
-abbrev pub cell_at : List (Option Settled) → ℕ → Option Settled
-cell_at [] above = None
-cell_at (c ∷ cs) zero = c
-cell_at (c ∷ cs) (suc above) = cell_at cs above
+abbrev pub known_at : List (Option Settled) → ℕ → Option Settled
+known_at [] above = None
+known_at (c ∷ cs) zero = c
+known_at (c ∷ cs) (suc above) = known_at cs above
 
-abbrev pub cell_in : List Row → ℕ → ℕ → Option Settled
-cell_in [] l above = None
-cell_in (r ∷ rs) zero above = cell_at r.cells.items above
-cell_in (r ∷ rs) (suc l) above = cell_in rs l above
+abbrev pub known_in : List LoopCells → ℕ → ℕ → Option Settled
+known_in [] l above = None
+known_in (r ∷ rs) zero above = known_at r.cells.items above
+known_in (r ∷ rs) (suc l) above = known_in rs l above
 
 -- a cell for each interval of the loop, each of them true
-pub record IsRowOf (p : ProblemData) (row : Row) : Type 0 where
+pub record AreCellsOf (p : ProblemData) (row : LoopCells) : Type 0 where
   pub long : length row.cells.items ≡ p.ceiling + 1
-  pub truth : (above : ℕ) → IsTrueCell p (mii_of p + above) (cell_at row.cells.items above)
+  pub truth : (above : ℕ) → IsTrueCell p (mii_of p + above) (known_at row.cells.items above)
 
 -- how many of so many cells, from one on, are empty
 abbrev pub empty_from : List (Option Settled) → ℕ → ℕ → ℕ
 empty_from cells above zero = 0
-empty_from cells above (suc n) = (if is_full (cell_at cells above) then 0 else 1) + empty_from cells (above + 1) n
+empty_from cells above (suc n) = (if is_full (known_at cells above) then 0 else 1) + empty_from cells (above + 1) n
 
 -- a choice for each of the first loops, as many as there are choices, and how many of their cells were empty up to it
-abbrev pub IsFirst : List ProblemData → List Row → List Choice → ℕ → Type 0
+abbrev pub IsFirst : List ProblemData → List LoopCells → List Choice → ℕ → Type 0
 IsFirst ps rs [] retried = retried ≡ 0
 IsFirst [] rs (c ∷ cs) retried = ⊥
 IsFirst (p ∷ ps) [] (c ∷ cs) retried = ⊥
@@ -61,7 +61,7 @@ pub record ChosenData : Type 0 where
   pub retried : ℕ
 
 -- a loop's choice is added
-pub record AddsChoice (p : ProblemData) (row : Row) (before after : ChosenData) : Type 0 where
+pub record AddsChoice (p : ProblemData) (row : LoopCells) (before after : ChosenData) : Type 0 where
   pub choice : Choice
   pub is_choice : IsChoice p choice
   pub choices : after.choices ≡ before.choices ++ choice ∷ []
@@ -69,13 +69,13 @@ pub record AddsChoice (p : ProblemData) (row : Row) (before after : ChosenData) 
   pub few : after.retried ≤ before.retried + 256
 
 -- empty rows for the first loops, as many as there are rows
-abbrev pub AreEmptyRows : List ProblemData → List Row → Type 0
-AreEmptyRows ps [] = Unit {0}
-AreEmptyRows [] (r ∷ rs) = ⊥
-AreEmptyRows (p ∷ ps) (r ∷ rs) = (r.cells.items ≡ replicate (p.ceiling + 1) None) × AreEmptyRows ps rs
+abbrev pub AreEmptyCells : List ProblemData → List LoopCells → Type 0
+AreEmptyCells ps [] = Unit {0}
+AreEmptyCells [] (r ∷ rs) = ⊥
+AreEmptyCells (p ∷ ps) (r ∷ rs) = (r.cells.items ≡ replicate (p.ceiling + 1) None) × AreEmptyCells ps rs
 
 -- an empty row more
-pub record AddsEmpty (p : ProblemData) (before after : List Row) : Type 0 where
-  pub row : Row
+pub record AddsEmpty (p : ProblemData) (before after : List LoopCells) : Type 0 where
+  pub row : LoopCells
   pub empty : row.cells.items ≡ replicate (p.ceiling + 1) None
   pub rows : after ≡ before ++ row ∷ []

@@ -41,8 +41,8 @@ In x [] = ⊥
 In x (y ∷ ys) = (y ≡ x) ⊎ In x ys
 
 -- the loop of an entry, and its interval
-abbrev pub place_of : Entry → ℕ × ℕ
-place_of e = (e.loop_number, e.interval)
+abbrev pub entry_place : Entry → ℕ × ℕ
+entry_place e = (e.loop_number, e.interval)
 
 -- each loop with an interval that was won, in order
 abbrev pub with_won : Found → ℕ × ℕ → List (ℕ × ℕ) → List (ℕ × ℕ)
@@ -51,7 +51,7 @@ with_won _ place rest = rest
 
 abbrev pub won_of : List Entry → List (ℕ × ℕ)
 won_of [] = []
-won_of (e ∷ es) = with_won e.found (place_of e) (won_of es)
+won_of (e ∷ es) = with_won e.found (entry_place e) (won_of es)
 
 -- won or failed
 abbrev pub is_settled : Found → Bool

@@ -5,13 +5,13 @@ use Rattle.std.specs.List.{All, AllZip}
 use Rattle.machine.specs.declared.fault.MachineFault.{MachineFault}
 use Rattle.machine.specs.declared.fault.MachineFault.TheVariants as machine_fault
 use Rattle.machine.specs.declared.opcode.Opcode.{Opcode}
-use Rattle.machine.specs.Faults as machine_told
+use Rattle.machine.specs.Faults.{machine_fault_text}
 use Rattle.machine.specs.Machines.{MachineData}
 use Rattle.machine.specs.Opcodes.{word_of}
 use Rattle.loops.specs.LoopFault.{LoopFault}
 use Rattle.loops.specs.LoopFaultKind.{LoopFaultKind}
 use Rattle.loops.specs.LoopFaultKind.TheVariants as kind
-use Rattle.loops.specs.Faults as loops_told
+use Rattle.loops.specs.Faults.{loop_fault_text}
 use Rattle.loops.specs.Loops.{LoopData}
 use Rattle.graph.specs.Units.{first_lacking}
 use Rattle.ims.specs.Problems.{ProblemData, IsProblemOf}
@@ -36,8 +36,8 @@ of_loops fault = of_kind fault.kind fault
 
 -- what is told of a fault
 abbrev pub told_of : FileFault → List ℕ
-told_of (Machine fault) = codes "machine: " ++ machine_told.fault_text fault
-told_of (Loops fault) = codes "loops: " ++ loops_told.fault_text fault
+told_of (Machine fault) = codes "machine: " ++ machine_fault_text fault
+told_of (Loops fault) = codes "loops: " ++ loop_fault_text fault
 told_of (NoTable name opcode) = codes "loops: loop " ++ (name ++ (codes ": no table for " ++ word_of opcode))
 told_of Memory = codes "out of memory"
 

@@ -11,14 +11,14 @@ use Rattle.candidates.specs.declared.choices.Choice.{Choice}
 use Rattle.candidates.specs.declared.choices.Choice.TheVariants.{Met, Failed}
 use Rattle.workers.specs.declared.entry.Entry.{Entry}
 use Rattle.workers.specs.declared.entry.Found.TheVariants.{Unsettled}
-use Rattle.candidates.specs.Pieces.{PiecesData, IsCutting, number_of}
+use Rattle.candidates.specs.Pieces.{PiecesData, IsCutting, piece_count}
 use Rattle.candidates.specs.Choices.{IsChoice}
 use Rattle.workers.specs.Entries.{ReportData, IsEntry}
 use Rattle.workers.specs.Gathered.{retried_from}
 use Rattle.workers.specs.Worked.{WorkedAs}
 
 -- a report of these loops, in which nothing was refused
-pub record IsWhole (loops : List ProblemData) (report : ReportData) : Type 0 where
+pub record HasNoRefusal (loops : List ProblemData) (report : ReportData) : Type 0 where
   pub same_loops : report.loops ≡ loops
   pub entries : All (IsEntry loops) report.entries
   pub settled : All (λ (e : Entry). e.found ≢ Unsettled) report.entries
@@ -31,23 +31,23 @@ pub record IsWorkedOut (loops : List ProblemData) (pieces : PiecesData) (terms :
   pub each_loop : pieces.loops ≡ length loops
   pub cutting : IsCutting pieces
   pub same_loops : terms.loops ≡ pieces.loops
-  pub same_pieces : terms.pieces ≡ number_of pieces
+  pub same_pieces : terms.pieces ≡ piece_count pieces
   pub rule : Rule terms words views
   pub dry : Any (λ v. IsTrue (is_dry terms.pieces v)) views
   pub worked : AllZip (WorkedAs pieces) views reports
-  pub whole : All (IsWhole loops) reports
+  pub whole : All (HasNoRefusal loops) reports
 
 -- the reports of so many workers on one board, which was closed over all of their passes
 pub record AreOfOneBoard (pieces : PiecesData) (workers : ℕ) (reports : List ReportData) : Type 0 where
   pub words : List ℕ
   pub views : List View
-  pub rule : Rule (terms_of pieces.loops (number_of pieces) workers) words views
+  pub rule : Rule (terms_of pieces.loops (piece_count pieces) workers) words views
   pub worked : AllZip (WorkedAs pieces) views reports
   pub each : length reports ≡ workers
 
 -- where some worker found no piece left, and nothing was refused, nothing is left to try
 abbrev pub LeaveNothing : List ProblemData → List ReportData → Type 0
-LeaveNothing loops reports = Any (λ (r : ReportData). IsTrue r.dry) reports → All (IsWhole loops) reports → (choices : List Choice) → AllZip IsChoice loops choices
+LeaveNothing loops reports = Any (λ (r : ReportData). IsTrue r.dry) reports → All (HasNoRefusal loops) reports → (choices : List Choice) → AllZip IsChoice loops choices
     → retried_from reports 0 loops choices ≡ 0
 
 -- the interval of a choice

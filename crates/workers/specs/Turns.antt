@@ -5,7 +5,7 @@ use Rattle.board.specs.Views.{with_seen, with_posted}
 use Rattle.workers.specs.declared.entry.Entry.{Entry}
 use Rattle.workers.specs.declared.entry.Found.{Found}
 use Rattle.workers.specs.declared.entry.Found.TheVariants.{Won, Failed, Beaten, Unsettled}
-use Rattle.workers.specs.Entries.{ReportData, In, place_of, won_of}
+use Rattle.workers.specs.Entries.{ReportData, In, entry_place, won_of}
 use Rattle.workers.specs.Worked.{IsBeatenRightly, from_on, mii_at}
 
 -- by what becomes of an interval: a lower answer; an answer and a post; an answer
@@ -43,7 +43,7 @@ pub record EntersOne (tells : Bool) (v w : View) (l ii : ℕ) (won wins : Bool) 
   pub told : IsTrue tells → TakesOrPasses won l ii v found w
 
 -- what a worker's view gains by new entries
-pub record Gains (v w : View) (entries new : List Entry) : Type 0 where
+pub record ViewGains (v w : View) (entries new : List Entry) : Type 0 where
   pub drawn : w.drawn ≡ v.drawn
   pub posted : w.posted ≡ v.posted ++ won_of new
   pub seen : (s : ℕ × Option ℕ) → In s v.seen → In s w.seen
@@ -55,8 +55,8 @@ pub record Adds (tells : Bool) (v w : View) (l start count : ℕ) (before after 
   pub new : List Entry
   pub entries : after.entries ≡ before.entries ++ new
   pub lost : after.lost ≡ before.lost
-  pub places : map place_of new ≡ map (λ (above : ℕ). (l, mii_at before.loops l + above)) (from_on start count)
-  pub gains : IsTrue tells → Gains v w after.entries new
+  pub places : map entry_place new ≡ map (λ (above : ℕ). (l, mii_at before.loops l + above)) (from_on start count)
+  pub gains : IsTrue tells → ViewGains v w after.entries new
 
 -- a piece is lost
 pub record Loses (v w : View) (before after : ReportData) : Type 0 where

@@ -2,13 +2,13 @@
 use Rattle.std.specs.Prelude.{◌≡◌, ℕ, zero, suc, ◌+◌, ◌-◌, ◌<◌, ◌⊎◌, nat_lt, List, [], ◌∷◌, length, map, filter, Some}
 use Rattle.std.specs.List.{flat_map}
 use Rattle.board.specs.declared.view.View.{View}
-use Rattle.board.specs.Rule.{times}
+use Rattle.board.specs.Rule.{occurrences}
 use Rattle.board.specs.Views.{is_dry}
 use Rattle.ims.specs.Problems.{ProblemData, mii_of}
-use Rattle.candidates.specs.Pieces.{PiecesData, number_of, loop_of, start_of, end_of}
+use Rattle.candidates.specs.Pieces.{PiecesData, piece_count, loop_of_piece, start_of_piece, end_of_piece}
 use Rattle.workers.specs.declared.entry.Entry.{Entry}
 use Rattle.workers.specs.declared.entry.Found.TheVariants.{Beaten}
-use Rattle.workers.specs.Entries.{ReportData, In, place_of, won_of}
+use Rattle.workers.specs.Entries.{ReportData, In, entry_place, won_of}
 
 -- so many numbers, from one on
 abbrev pub from_on : ℕ → ℕ → List ℕ
@@ -24,7 +24,7 @@ mii_at (p ∷ ps) (suc l) = mii_at ps l
 -- each loop with an interval of a piece, in order
 abbrev pub places_of : List ProblemData → PiecesData → ℕ → List (ℕ × ℕ)
 places_of loops pieces p =
-    map (λ (above : ℕ). (loop_of pieces p, mii_at loops (loop_of pieces p) + above)) (from_on (start_of pieces p) (end_of pieces p - start_of pieces p))
+    map (λ (above : ℕ). (loop_of_piece pieces p, mii_at loops (loop_of_piece pieces p) + above)) (from_on (start_of_piece pieces p) (end_of_piece pieces p - start_of_piece pieces p))
 
 -- the numbers drawn that are pieces
 abbrev pub drawn_pieces : ℕ → View → List ℕ
@@ -34,9 +34,9 @@ drawn_pieces number v = filter (λ n. nat_lt n number) v.drawn
 pub record Covers (pieces : PiecesData) (v : View) (report : ReportData) : Type 0 where
   pub kept : List ℕ
   pub skipped : List ℕ
-  pub each : (p : ℕ) → times p kept + times p skipped ≡ times p (drawn_pieces (number_of pieces) v)
+  pub each : (p : ℕ) → occurrences p kept + occurrences p skipped ≡ occurrences p (drawn_pieces (piece_count pieces) v)
   pub lost : report.lost ≡ length skipped
-  pub entries : map place_of report.entries ≡ flat_map (places_of report.loops pieces) kept
+  pub entries : map entry_place report.entries ≡ flat_map (places_of report.loops pieces) kept
 
 -- a lower interval was seen for the loop of an entry
 pub record HasLowerAnswer (v : View) (e : Entry) : Type 0 where
@@ -58,7 +58,7 @@ pub record WorkedAs (pieces : PiecesData) (v : View) (report : ReportData) : Typ
   pub covers : Covers pieces v report
   pub posted : v.posted ≡ won_of report.entries
   pub beaten : (e : Entry) → In e report.entries → IsBeatenRightly v report.entries e
-  pub dry : report.dry ≡ is_dry (number_of pieces) v
+  pub dry : report.dry ≡ is_dry (piece_count pieces) v
 
 -- nothing was done with the pass yet
 pub record IsUnused (v : View) : Type 0 where

@@ -3,7 +3,7 @@ ghost use Rattle.std.specs.Prelude.{◌≡◌, ◌<◌, ◌≤◌, ◌+◌, ◌|
 ghost use Rattle.std.specs.List.{All, AllZip, list_any, slice_set};
 ghost use Rattle.workers.specs.Entries.{IsEntry, is_settled_in, settles};
 ghost use Rattle.workers.specs.Worked.{mii_at};
-ghost use Rattle.workers.specs.Cells.{AddsEmpty, AreEmptyRows, IsRowOf, cell_at, cell_in, is_full, kept_of};
+ghost use Rattle.workers.specs.Cells.{AddsEmpty, AreEmptyCells, AreCellsOf, known_at, known_in, is_full, kept_of};
 
 use crate::entry::{Entry, Found};
 use crate::report::Report;
@@ -24,16 +24,16 @@ pub(crate) enum Settled {
 
 /// A cell for each interval of a loop.
 #[derive(Drop)]
-pub(crate) struct Row {
+pub(crate) struct LoopCells {
     pub(crate) cells: Vec<Option<Settled>>,
 }
 
-impl Row {
+impl LoopCells {
     /// So many empty cells.
-    fn empty(alloc: Global, count: usize) -> Result<Row, OutOfMemory>
+    fn empty(alloc: Global, count: usize) -> Result<LoopCells, OutOfMemory>
         ensures { IfOk result (λ r. r.cells.items ≡ replicate count None) }
     {
-        let mut row = Row {
+        let mut row = LoopCells {
             cells: Vec::with_capacity(alloc, count)?,
         };
         for _ in 0..count {
@@ -47,7 +47,7 @@ impl Row {
     /// What the cell has, which is empty from then on.
     pub(crate) fn take(&mut self, above: usize) -> Option<Settled>
         requires { above < length self.old.cells.items }
-        ensures was { result ≡ cell_at self.old.cells.items above }
+        ensures was { result ≡ known_at self.old.cells.items above }
         ensures new { self.new.cells.items ≡ slice_set self.old.cells.items above None }
     {
         self.cells[above].take()
@@ -63,22 +63,26 @@ impl Row {
 }
 
 /// Adds a row for a loop of which nothing is known.
-fn add_row(alloc: Global, rows: &mut Vec<Row>, prepared: &Prepared) -> Result<(), OutOfMemory>
+fn add_cells(
+    alloc: Global,
+    rows: &mut Vec<LoopCells>,
+    prepared: &Prepared,
+) -> Result<(), OutOfMemory>
     ensures { IfOk result (λ _. AddsEmpty prepared.now rows.old.items rows.new.items) }
 {
-    let row = Row::empty(alloc, prepared.ceiling() as usize + 1)?;
+    let row = LoopCells::empty(alloc, prepared.ceiling() as usize + 1)?;
     rows.push(row)?;
     Ok(())
 }
 
 /// A row for each loop, of which nothing is known.
-pub(crate) fn empty_rows(alloc: Global, loops: &[Prepared]) -> Result<Vec<Row>, OutOfMemory>
-    ensures rows { IfOk result (λ r. AreEmptyRows loops.now r.items) }
+pub(crate) fn empty_cells(alloc: Global, loops: &[Prepared]) -> Result<Vec<LoopCells>, OutOfMemory>
+    ensures rows { IfOk result (λ r. AreEmptyCells loops.now r.items) }
     ensures all { IfOk result (λ r. length r.items ≡ length loops.now) }
 {
     let mut rows = Vec::with_capacity(alloc, loops.len())?;
     for number in 0..loops.len() {
-        if let Err(fault) = add_row(alloc, &mut rows, &loops[number]) {
+        if let Err(fault) = add_cells(alloc, &mut rows, &loops[number]) {
             return Err(fault);
         }
     }
@@ -97,11 +101,11 @@ fn kept(found: Found) -> Option<Settled>
 }
 
 /// Moves what an entry tells into its cell.
-pub(crate) fn put(rows: &mut [Row], loops: &[Prepared], entry: Entry)
+pub(crate) fn put(rows: &mut [LoopCells], loops: &[Prepared], entry: Entry)
     requires truth { IsEntry loops.now entry }
-    requires rows { AllZip IsRowOf loops.now rows.old }
-    ensures rows { AllZip IsRowOf loops.now rows.new }
-    ensures fills { (l above : ℕ) → is_full (cell_in rows.new l above) ≡ (is_full (cell_in rows.old l above) || settles l (mii_at loops.now l + above) entry) }
+    requires rows { AllZip AreCellsOf loops.now rows.old }
+    ensures rows { AllZip AreCellsOf loops.now rows.new }
+    ensures fills { (l above : ℕ) → is_full (known_in rows.new l above) ≡ (is_full (known_in rows.old l above) || settles l (mii_at loops.now l + above) entry) }
 {
     let Entry {
         loop_number,
@@ -117,11 +121,11 @@ pub(crate) fn put(rows: &mut [Row], loops: &[Prepared], entry: Entry)
 }
 
 /// Moves what a report tells into its cells.
-fn take_in(rows: &mut [Row], loops: &[Prepared], report: Report<'_>)
+fn take_in(rows: &mut [LoopCells], loops: &[Prepared], report: Report<'_>)
     requires same { report.loops ≡ loops.now }
-    requires rows { AllZip IsRowOf loops.now rows.old }
-    ensures rows { AllZip IsRowOf loops.now rows.new }
-    ensures fills { (l above : ℕ) → is_full (cell_in rows.new l above) ≡ (is_full (cell_in rows.old l above) || list_any (settles l (mii_at loops.now l + above)) report.entry.entries) }
+    requires rows { AllZip AreCellsOf loops.now rows.old }
+    ensures rows { AllZip AreCellsOf loops.now rows.new }
+    ensures fills { (l above : ℕ) → is_full (known_in rows.new l above) ≡ (is_full (known_in rows.old l above) || list_any (settles l (mii_at loops.now l + above)) report.entry.entries) }
 {
     let mut entries = report.into_entries();
     while let Some(entry) = entries.pop() {
@@ -130,11 +134,11 @@ fn take_in(rows: &mut [Row], loops: &[Prepared], report: Report<'_>)
 }
 
 /// Moves what reports tell into the cells.
-pub(crate) fn fill(rows: &mut [Row], loops: &[Prepared], mut reports: Vec<Report<'_>>)
+pub(crate) fn fill(rows: &mut [LoopCells], loops: &[Prepared], mut reports: Vec<Report<'_>>)
     requires same { All (λ r. r.loops ≡ loops.now) reports.items }
-    requires rows { AllZip IsRowOf loops.now rows.old }
-    ensures rows { AllZip IsRowOf loops.now rows.new }
-    ensures fills { (l above : ℕ) → is_full (cell_in rows.new l above) ≡ (is_full (cell_in rows.old l above) || is_settled_in reports.entry.items l (mii_at loops.now l + above)) }
+    requires rows { AllZip AreCellsOf loops.now rows.old }
+    ensures rows { AllZip AreCellsOf loops.now rows.new }
+    ensures fills { (l above : ℕ) → is_full (known_in rows.new l above) ≡ (is_full (known_in rows.old l above) || is_settled_in reports.entry.items l (mii_at loops.now l + above)) }
 {
     while let Some(report) = reports.pop() {
         take_in(rows, loops, report);

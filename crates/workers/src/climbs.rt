@@ -5,9 +5,9 @@ ghost use Rattle.ims.specs.Problems.{IsProblem, mii_of};
 ghost use Rattle.candidates.specs.Outcomes.{Gives};
 ghost use Rattle.candidates.specs.Choices.{IsChoice};
 ghost use Rattle.workers.specs.Gathered.{tried};
-ghost use Rattle.workers.specs.Cells.{IsRowOf, IsTrueCell, cell_at, empty_from, is_full};
+ghost use Rattle.workers.specs.Cells.{AreCellsOf, IsTrueCell, known_at, empty_from, is_full};
 
-use crate::cells::{Row, Settled};
+use crate::cells::{LoopCells, Settled};
 use candidates::{Cause, Choice, Outcome, try_interval};
 use ims::Prepared;
 use machine::OutOfMemory;
@@ -17,15 +17,15 @@ use std::alloc::Global;
 fn settle(
     alloc: Global,
     prepared: &Prepared,
-    row: &mut Row,
+    row: &mut LoopCells,
     above: u64,
 ) -> Result<(Outcome, u64), OutOfMemory>
     requires inside { above < length row.old.cells.items }
     requires ceiling { above ≤ prepared.now.ceiling }
-    requires truth { IsTrueCell prepared.now (mii_of prepared.now + above) (cell_at row.old.cells.items above) }
+    requires truth { IsTrueCell prepared.now (mii_of prepared.now + above) (known_at row.old.cells.items above) }
     ensures row { row.new.cells.items ≡ slice_set row.old.cells.items above None }
     ensures gives { IfOk result (λ r. Gives prepared.now (mii_of prepared.now + above) r.0) }
-    ensures tries { IfOk result (λ r. r.1 ≡ (if is_full (cell_at row.old.cells.items above) then 0 else 1)) }
+    ensures tries { IfOk result (λ r. r.1 ≡ (if is_full (known_at row.old.cells.items above) then 0 else 1)) }
 {
     let ii = prepared.mii() + above;
     match row.take(above as usize) {
@@ -39,9 +39,9 @@ fn settle(
 pub(crate) fn climb(
     alloc: Global,
     prepared: &Prepared,
-    row: &mut Row,
+    row: &mut LoopCells,
 ) -> Result<(Choice, u64), OutOfMemory>
-    requires row { IsRowOf prepared.now row.old }
+    requires row { AreCellsOf prepared.now row.old }
     ensures choice { IfOk result (λ r. IsChoice prepared.now r.0) }
     ensures retried { IfOk result (λ r. r.1 ≡ empty_from row.old.cells.items 0 (tried prepared.now r.0)) }
     ensures few { IfOk result (λ r. r.1 ≤ 256) }

@@ -3,9 +3,9 @@ ghost use Rattle.std.specs.Prelude.{◌≡◌, ◌<◌, ◌≤◌, ◌+◌, ◌+
 ghost use Rattle.std.specs.List.{All, AllZip};
 ghost use Rattle.candidates.specs.Choices.{IsChoice};
 ghost use Rattle.workers.specs.Gathered.{retried_from, tried};
-ghost use Rattle.workers.specs.Cells.{AddsChoice, ChosenData, IsFirst, IsRowOf, cell_in, empty_from, is_full};
+ghost use Rattle.workers.specs.Cells.{AddsChoice, ChosenData, IsFirst, AreCellsOf, known_in, empty_from, is_full};
 
-use crate::cells::{Row, empty_rows, fill};
+use crate::cells::{LoopCells, empty_cells, fill};
 use crate::climbs::climb;
 use crate::report::Report;
 use candidates::Choice;
@@ -80,10 +80,10 @@ impl Chosen {
 fn choose(
     alloc: Global,
     prepared: &Prepared,
-    row: &mut Row,
+    row: &mut LoopCells,
     chosen: &mut Chosen,
 ) -> Result<(), OutOfMemory>
-    requires row { IsRowOf prepared.now row.old }
+    requires row { AreCellsOf prepared.now row.old }
     requires few { chosen.old.retried ≤ 1000000 }
     ensures { IfOk result (λ _. AddsChoice prepared.now row.old chosen.old chosen.new) }
 {
@@ -92,9 +92,13 @@ fn choose(
 }
 
 /// The choices of all loops.
-fn choose_all(alloc: Global, loops: &[Prepared], rows: &mut [Row]) -> Result<Chosen, OutOfMemory>
+fn choose_all(
+    alloc: Global,
+    loops: &[Prepared],
+    rows: &mut [LoopCells],
+) -> Result<Chosen, OutOfMemory>
     requires few { length loops.now ≤ 1024 }
-    requires rows { AllZip IsRowOf loops.now rows.old }
+    requires rows { AllZip AreCellsOf loops.now rows.old }
     ensures all { IfOk result (λ c. length c.choices ≡ length loops.now) }
     ensures first { IfOk result (λ c. IsFirst loops.now rows.old c.choices c.retried) }
 {
@@ -122,7 +126,7 @@ pub fn gather(
     ensures choices { IfOk result (λ c. AllZip IsChoice loops.now c.choices) }
     ensures retried { IfOk result (λ c. c.retried ≡ retried_from reports.entry.items 0 loops.now c.choices) }
 {
-    let mut rows = empty_rows(alloc, loops)?;
+    let mut rows = empty_cells(alloc, loops)?;
     fill(rows.as_mut_slice(), loops, reports);
     choose_all(alloc, loops, rows.as_mut_slice())
 }

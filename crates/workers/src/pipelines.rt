@@ -5,7 +5,7 @@ ghost use Rattle.board.specs.Boards.{IsNewPassOf, sizes_of};
 ghost use Rattle.board.specs.Names.{terms_of};
 ghost use Rattle.ims.specs.Problems.{IsProblem};
 ghost use Rattle.candidates.specs.Choices.{IsChoice};
-ghost use Rattle.candidates.specs.Pieces.{number_of};
+ghost use Rattle.candidates.specs.Pieces.{piece_count};
 ghost use Rattle.workers.specs.Places.{IsDonePlace, IsReadyPlace, IsReportOn};
 ghost use Rattle.workers.specs.Settled.{AreOfOneBoard, LeaveNothing};
 
@@ -192,7 +192,7 @@ fn close<'a, G: Gate>(
     _gate: &G,
 ) -> Vec<Report<'a>>
     requires on { AllZip (IsReportOn board loops.now pieces.now (G.always_goes_on _gate.now)) back.passes.items back.reports.items }
-    requires sizes { sizes_of board ≡ terms_of pieces.now.loops (number_of pieces.now) (vec_len back.passes) }
+    requires sizes { sizes_of board ≡ terms_of pieces.now.loops (piece_count pieces.now) (vec_len back.passes) }
     requires each_loop { pieces.now.loops ≡ length loops.now }
     requires ceilings { All (λ p. p.ceiling ≡ pieces.now.ceiling) loops.now }
     ensures same { All (λ (r : _). r.loops ≡ loops.now) result.items }

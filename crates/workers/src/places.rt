@@ -2,7 +2,7 @@
 ghost use Rattle.std.specs.Prelude.{◌≡◌, ◌<◌, length};
 ghost use Rattle.std.specs.List.{All};
 ghost use Rattle.board.specs.Boards.{sizes_of};
-ghost use Rattle.candidates.specs.Pieces.{number_of};
+ghost use Rattle.candidates.specs.Pieces.{piece_count};
 ghost use Rattle.workers.specs.Places.{IsDonePlace, IsReadyPlace};
 
 use crate::gate::Gate;
@@ -36,7 +36,7 @@ impl<'a> Place<'a> {
         requires each_loop { pieces.now.loops ≡ length loops.now }
         requires ceilings { All (λ p. p.ceiling ≡ pieces.now.ceiling) loops.now }
         requires loops { (sizes_of board.now).loops ≡ pieces.now.loops }
-        requires pieces { (sizes_of board.now).pieces ≡ number_of pieces.now }
+        requires pieces { (sizes_of board.now).pieces ≡ piece_count pieces.now }
         ensures { IsDonePlace board.now loops.now pieces.now (G.always_goes_on gate.now) self.new }
     {
         if let Some(pass) = self.pass.take() {
@@ -71,7 +71,7 @@ pub(crate) fn run_all<'a, R: Threads + Sync, G: Gate + Sync>(
     requires each_loop { pieces.now.loops ≡ length loops.now }
     requires ceilings { All (λ p. p.ceiling ≡ pieces.now.ceiling) loops.now }
     requires loops { (sizes_of board.now).loops ≡ pieces.now.loops }
-    requires pieces { (sizes_of board.now).pieces ≡ number_of pieces.now }
+    requires pieces { (sizes_of board.now).pieces ≡ piece_count pieces.now }
     ensures all { length places.new ≡ length places.old }
     ensures done { All (IsDonePlace board.now loops.now pieces.now (G.always_goes_on gate.now)) places.new }
 {

@@ -2,7 +2,7 @@
 ghost use Rattle.std.specs.Prelude.{◌≡◌, ◌↔◌, ◌≤◌, ◌<◌, ◌+◌, ◌-◌, IsTrue, true, false, [], vec_len, vec_capacity};
 ghost use Rattle.std.specs.List.{All};
 ghost use Rattle.workers.specs.Entries.{IsEntry, ReportData};
-ghost use Rattle.workers.specs.Settled.{IsWhole};
+ghost use Rattle.workers.specs.Settled.{HasNoRefusal};
 ghost use Rattle.workers.specs.Turns.{Enters};
 
 use crate::entry::Entry;
@@ -61,7 +61,7 @@ impl<'a> Report<'a> {
 
     /// Whether nothing was refused to its worker: no piece is lost, and no interval unsettled.
     pub fn is_whole(&self) -> bool
-        ensures { IsTrue result ↔ IsWhole self.now.loops self.now }
+        ensures { IsTrue result ↔ HasNoRefusal self.now.loops self.now }
     {
         self.lost == 0 && self.entries.iter().all(|entry| !entry.found.is_unsettled())
     }

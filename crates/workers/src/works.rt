@@ -1,7 +1,7 @@
 //! One worker over a shared board.
 ghost use Rattle.std.specs.Prelude.{◌≡◌, IsTrue, false, length};
 ghost use Rattle.std.specs.List.{All};
-ghost use Rattle.candidates.specs.Pieces.{number_of};
+ghost use Rattle.candidates.specs.Pieces.{piece_count};
 ghost use Rattle.workers.specs.Worked.{IsUnused, WorkedAs};
 
 use crate::gate::Gate;
@@ -30,7 +30,7 @@ pub fn work<'a, B: Board, G: Gate>(
     requires each_loop { pieces.now.loops ≡ length loops.now }
     requires ceilings { All (λ p. p.ceiling ≡ pieces.now.ceiling) loops.now }
     requires loops { B.loops board.now ≡ pieces.now.loops }
-    requires pieces { B.pieces board.now ≡ number_of pieces.now }
+    requires pieces { B.pieces board.now ≡ piece_count pieces.now }
     ensures of { B.is_of board.now result.0 }
     ensures loops { result.1.loops ≡ loops.entry.now }
     ensures dry { B.dry pass ≡ false → result.1.dry ≡ B.dry result.0 }

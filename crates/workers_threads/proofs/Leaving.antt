@@ -8,7 +8,7 @@ use Rattle.candidates.specs.Choices.{IsChoice}
 use Rattle.candidates.specs.declared.choices.Choice.{Choice}
 use Rattle.workers.specs.Entries.{ReportData}
 use Rattle.workers.specs.Gathered.{retried_from}
-use Rattle.workers.specs.Settled.{IsWhole, LeaveNothing}
+use Rattle.workers.specs.Settled.{HasNoRefusal, LeaveNothing}
 
 first_dry : (reports : List ReportData) → 0 < length reports → All (λ (r : ReportData). IsTrue r.dry) reports → Any (λ (r : ReportData). IsTrue r.dry) reports
 first_dry [] some dry = absurd (omega arith)
@@ -18,8 +18,8 @@ first_dry (r ∷ rs) some dry = Any-from_list_any (λ (r : ReportData). r.dry) (
     either_way a b is = subst (λ c. (c || b) ≡ true) (sym is) refl
 
 pub none_left : (loops : List ProblemData) (reports : List ReportData) (choices : List Choice) (workers retried : ℕ) → LeaveNothing loops reports
-    → All (λ (r : ReportData). IsTrue r.dry) reports → All (λ (r : ReportData). r.loops ≡ loops) reports → All (λ (r : ReportData). IsWhole r.loops r) reports
+    → All (λ (r : ReportData). IsTrue r.dry) reports → All (λ (r : ReportData). r.loops ≡ loops) reports → All (λ (r : ReportData). HasNoRefusal r.loops r) reports
     → length reports ≡ workers → 1 ≤ workers → AllZip IsChoice loops choices → retried ≡ retried_from reports 0 loops choices → retried ≡ 0
 none_left loops reports choices workers retried left dry same whole each some are told =
     told ∙ left (first_dry reports (omega arith) dry)
-    (λ k d near. subst (λ ls. IsWhole ls (slice_index_or reports k d)) (same k d near) (whole k d near)) choices are
+    (λ k d near. subst (λ ls. HasNoRefusal ls (slice_index_or reports k d)) (same k d near) (whole k d near)) choices are

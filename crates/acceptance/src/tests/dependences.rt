@@ -12,14 +12,14 @@ use std::process::Abort;
 use std::test::Fail;
 
 /// The edges of the loop of a text on the machine of a text.
-fn dependences_of(alloc: Global, machine: &str, text: &str) -> Result<Edges, Fail> {
+pub(super) fn dependences_of(alloc: Global, machine: &str, text: &str) -> Result<Edges, Fail> {
     let machine = read_machine(alloc, machine.as_bytes())?;
     let loops = read_loops(alloc, text.as_bytes())?;
     let innermost = loops.as_slice().first().ok_or("a loop")?;
     Ok(edges(alloc, &machine, innermost)?)
 }
 
-fn edge(from: u8, to: u8, distance: u8, delay: i8) -> Edge {
+pub(super) fn edge(from: u8, to: u8, distance: u8, delay: i8) -> Edge {
     Edge {
         from,
         to,

@@ -17,7 +17,7 @@ use std::test::Fail;
 
 /// An operation of a table.
 #[derive(Clone, Copy)]
-struct Given {
+struct BriefOperation {
     row: u16,
     stage: u8,
     opcode: Opcode,
@@ -28,8 +28,8 @@ struct Given {
 }
 
 /// A load into a register.
-fn load(row: u16, stage: u8, register: u16, array: u8, offset: i16) -> Given {
-    Given {
+fn load(row: u16, stage: u8, register: u16, array: u8, offset: i16) -> BriefOperation {
+    BriefOperation {
         row,
         stage,
         opcode: Opcode::Load,
@@ -48,8 +48,8 @@ fn store(
     offset: i16,
     value: Source,
     guard: Option<Source>,
-) -> Given {
-    Given {
+) -> BriefOperation {
+    BriefOperation {
         row,
         stage,
         opcode: Opcode::Store,
@@ -68,8 +68,8 @@ fn compute(
     register: u16,
     left: Source,
     right: Source,
-) -> Given {
-    Given {
+) -> BriefOperation {
+    BriefOperation {
         row,
         stage,
         opcode,
@@ -81,7 +81,7 @@ fn compute(
 }
 
 /// An operation that is given.
-fn operation(alloc: Global, given: &Given) -> Result<Operation, OutOfMemory> {
+fn operation(alloc: Global, given: &BriefOperation) -> Result<Operation, OutOfMemory> {
     let mut sources = SmallVec::new(alloc);
     for source in given.sources {
         if let Some(source) = source {
@@ -101,7 +101,7 @@ fn operation(alloc: Global, given: &Given) -> Result<Operation, OutOfMemory> {
 }
 
 /// The operations that are given.
-fn operations(alloc: Global, table: &[Given]) -> Result<Operations, OutOfMemory> {
+fn operations(alloc: Global, table: &[BriefOperation]) -> Result<Operations, OutOfMemory> {
     let mut list = Vec::new(alloc);
     for given in table {
         list.push(operation(alloc, given)?)?;

@@ -144,6 +144,17 @@ fn sums_up(rt: HostRuntime) -> Result<(), Fail> {
 }
 
 #[test]
+fn shows_cells_as_a_slice(rt: HostRuntime) -> Result<(), Fail> {
+    let after = left(rt.alloc(), ACC, 3)?;
+    check_cell(&rt, &after, 1, 2);
+    let cells = after.cells(1);
+    // from cell -64 to cell 66
+    assert_eq!(rt; cells.len(), 131);
+    assert_eq!(rt; cells.get(63..68), Some(&[0, 1, 3, 6, 0][..]));
+    Ok(())
+}
+
+#[test]
 fn leaves_cells(rt: HostRuntime) -> Result<(), Fail> {
     let cases = [
         (EDGE, 2, 0, 64, 5),

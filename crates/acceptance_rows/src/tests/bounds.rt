@@ -7,7 +7,7 @@ use super::given::{
     MUL_WITHOUT_TABLE, OFFSET_63_MACHINE, OFFSET_64_MACHINE, OUT_WITHOUT_INIT, POW,
     REGISTERS_0_MACHINE, SHIFT, SUBSCRIPT_PLUS_65, UNITS_64, UNITS_65, USE_AT_17_2,
 };
-use super::{ends, row_of};
+use super::{case_of, ends};
 use std::process::Abort;
 use std::test::Fail;
 use std::thread::Threads;
@@ -21,7 +21,7 @@ fn bounds(
     loops: &str,
     out: &str,
 ) -> Result<(), Fail> {
-    ends(rt, &row_of(WORDS, machine, loops), 0, out, "")
+    ends(rt, &case_of(WORDS, machine, loops), 0, out, "")
 }
 
 /// `bounds` refuses this machine.
@@ -30,7 +30,7 @@ fn bad_machine(
     machine: &str,
     line: &str,
 ) -> Result<(), Fail> {
-    ends(rt, &row_of(WORDS, machine, ACC), 4, "", line)
+    ends(rt, &case_of(WORDS, machine, ACC), 4, "", line)
 }
 
 /// `bounds` refuses these loops.
@@ -40,7 +40,7 @@ fn bad_loops(
     loops: &str,
     line: &str,
 ) -> Result<(), Fail> {
-    ends(rt, &row_of(WORDS, machine, loops), 5, "", line)
+    ends(rt, &case_of(WORDS, machine, loops), 5, "", line)
 }
 
 #[test]

@@ -1,7 +1,7 @@
 //! Files that cannot be read, texts of the greatest length, and outputs that fail.
 
-use super::given::{ACC, M1, REGISTERS_0_MACHINE};
-use super::{Row, STRIDE, ends, row_of};
+use super::given::{ACC, ACC_LISTING, M1, REGISTERS_0_MACHINE};
+use super::{Case, STRIDE, case_of, ends};
 use modsched::{Bytes, FaultyInput, FaultyOutput, Status, engine, parse_line};
 use std::alloc::{AllocError, Global};
 use std::process::Abort;
@@ -10,9 +10,6 @@ use std::thread::Threads;
 
 const WORDS: &[&str] = &["bounds", "m.toml", "l.txt"];
 
-/// What `bounds` writes for the machine and the loop of these tests.
-const WHOLE: &str = "loop acc ops 3 res 2 rec 1 mii 2\nloops 1\n";
-
 /// `bounds` of files one of which cannot be read.
 fn unread(
     rt: &(impl Abort + AllocGlobal + Threads + Sync),
@@ -20,10 +17,10 @@ fn unread(
     loops: Option<&str>,
     line: &str,
 ) -> Result<(), Fail> {
-    let row = Row {
+    let row = Case {
         machine,
         loops,
-        ..row_of(WORDS, "", "")
+        ..case_of(WORDS, "", "")
     };
     ends(rt, &row, 3, "", line)
 }
@@ -57,9 +54,9 @@ fn no_loops_and_a_bad_machine(rt: HostRuntime) -> Result<(), Fail> {
 
 #[test]
 fn writes_a_beginning(rt: HostRuntime) -> Result<(), Fail> {
-    let row = Row {
+    let row = Case {
         room: 10,
-        ..row_of(WORDS, M1, ACC)
+        ..case_of(WORDS, M1, ACC)
     };
     ends(&rt, &row, 6, "loop acc o", "modsched: cannot write\n")
 }
@@ -76,90 +73,216 @@ fn comments(alloc: Global, bytes: usize) -> Result<String, AllocError> {
 #[test]
 fn reads_the_longest_text(rt: HostRuntime) -> Result<(), Fail> {
     let text = comments(rt.alloc(), 1_048_576)?;
-    ends(&rt, &row_of(WORDS, M1, text.as_str()), 0, "loops 0\n", "")
+    ends(&rt, &case_of(WORDS, M1, text.as_str()), 0, "loops 0\n", "")
 }
 
 #[test]
 fn refuses_a_longer_text(rt: HostRuntime) -> Result<(), Fail> {
     let text = comments(rt.alloc(), 1_048_577)?;
     let line = "modsched: loops: line 0: limit\n";
-    ends(&rt, &row_of(WORDS, M1, text.as_str()), 5, "", line)
+    ends(&rt, &case_of(WORDS, M1, text.as_str()), 5, "", line)
 }
 
-/// The number that `bounds` exits with where its inputs give a byte a read, and fail after so many.
+/// A line, and what it writes for the machine and the loop of these tests, and for no loop.
+#[derive(Clone, Copy)]
+struct Line {
+    words: &'static [&'static str],
+    has_machine: bool,
+    out: &'static str,
+    none: &'static str,
+}
+
+const LINES: [Line; 4] = [
+    Line {
+        words: WORDS,
+        has_machine: true,
+        out: "loop acc ops 3 res 2 rec 1 mii 2\nloops 1\n",
+        none: "loops 0\n",
+    },
+    Line {
+        words: &["plain", "l.txt", "--trip", "3"],
+        has_machine: false,
+        out: "loop acc trip 3\nb[0] 1\nb[1] 3\nb[2] 6\nloops 1\n",
+        none: "loops 0\n",
+    },
+    Line {
+        words: &["schedule", "m.toml", "l.txt"],
+        has_machine: true,
+        out: ACC_LISTING,
+        none: "loops 0 met 0 failed 0\n",
+    },
+    Line {
+        words: &["run", "m.toml", "l.txt", "--trip", "3"],
+        has_machine: true,
+        out: "loop acc trip 3\nb[0] 1\nb[1] 3\nb[2] 6\nloops 1 met 1 failed 0\n",
+        none: "loops 0 met 0 failed 0\n",
+    },
+];
+
+/// The number that a line exits with where its inputs give a byte a read and fail after so many, and
+/// whether it is the machine's file that cannot be read. Its output is whole, or nothing is written.
 fn read_to(
     rt: &(impl Abort + Threads + Sync),
     alloc: Global,
+    line: &Line,
     machine: Option<u64>,
     loops: Option<u64>,
 ) -> (u8, bool) {
-    let command = parse_line(alloc, WORDS).expect(rt, "a command");
+    let command = parse_line(alloc, line.words).expect(rt, "a command");
     let mut machine = FaultyInput::new(M1.as_bytes(), 1, machine);
     let mut loops = FaultyInput::new(ACC.as_bytes(), 1, loops);
     let mut output = FaultyOutput::new(alloc, STRIDE, STRIDE, true).expect(rt, "an output");
     let status = engine(rt, alloc, &command, &mut machine, &mut loops, &mut output);
     let of_machine = matches!(status, Status::MachineUnread);
-    assert!(rt; output.as_slice().is_empty(), "nothing is written");
+    let wanted = if status.number() == 0 { line.out } else { "" };
+    assert!(rt; output.as_slice() == wanted.as_bytes(), "{wanted}");
     (status.number(), of_machine)
 }
 
+// Each read fails in turn, from the first to the one that finds the end. The machine's file is read first.
 #[test]
 fn fails_to_read(rt: HostRuntime) {
-    for reads in [0, 1, 40, M1.len() as u64] {
-        assert_eq!(rt;
-            read_to(&rt, rt.alloc(), Some(reads), None),
-            (3, true),
-            "{reads}"
-        );
-        assert_eq!(rt;
-            read_to(&rt, rt.alloc(), Some(reads), Some(0)),
-            (3, true),
-            "{reads}"
-        );
-    }
-    for reads in [0, 1, 40, ACC.len() as u64] {
-        assert_eq!(rt;
-            read_to(&rt, rt.alloc(), None, Some(reads)),
-            (3, false),
-            "{reads}"
-        );
+    for line in &LINES {
+        let out = line.out;
+        for reads in 0..=M1.len() as u64 {
+            let wanted = if line.has_machine {
+                [(3, true), (3, true)]
+            } else {
+                [(0, false), (3, false)]
+            };
+            assert_eq!(rt;
+                [
+                    read_to(&rt, rt.alloc(), line, Some(reads), None),
+                    read_to(&rt, rt.alloc(), line, Some(reads), Some(0))
+                ],
+                wanted,
+                "read {reads} for {out}"
+            );
+        }
+        for reads in 0..=ACC.len() as u64 {
+            assert_eq!(rt;
+                read_to(&rt, rt.alloc(), line, None, Some(reads)),
+                (3, false),
+                "read {reads} for {out}"
+            );
+        }
     }
 }
 
-/// `bounds` with an output that takes 7 bytes a write and so many in all, which is just what went out; the number that it exits with.
+/// A line with an output that takes 7 bytes a write and so many in all, which is just what went out; the
+/// number that it exits with.
 fn write_to(
     rt: &(impl Abort + Threads + Sync),
     alloc: Global,
+    line: &Line,
     room: usize,
     can_flush: bool,
-    out: &[u8],
 ) -> u8 {
-    let command = parse_line(alloc, WORDS).expect(rt, "a command");
+    let command = parse_line(alloc, line.words).expect(rt, "a command");
     let mut machine = Bytes::new(M1.as_bytes());
     let mut loops = Bytes::new(ACC.as_bytes());
     let mut output = FaultyOutput::new(alloc, 7, room, can_flush).expect(rt, "an output");
     let status = engine(rt, alloc, &command, &mut machine, &mut loops, &mut output);
-    assert!(rt; output.as_slice() == out, "room for {room}");
+    let out = line.out.as_bytes();
+    let took = room.min(out.len());
+    assert!(rt; output.as_slice() == &out[..took], "room for {room}");
     status.number()
 }
 
 #[test]
 fn writes_a_beginning_of_each_length(rt: HostRuntime) {
-    let whole = WHOLE.as_bytes();
-    for room in 0..whole.len() {
+    for line in &LINES {
+        let out = line.out;
+        for room in 0..out.len() {
+            assert_eq!(rt;
+                write_to(&rt, rt.alloc(), line, room, true),
+                6,
+                "room for {room} of {out}"
+            );
+        }
         assert_eq!(rt;
-            write_to(&rt, rt.alloc(), room, true, &whole[..room]),
-            6,
-            "room for {room}"
+            write_to(&rt, rt.alloc(), line, out.len(), true),
+            0,
+            "{out}"
         );
     }
-    assert_eq!(rt; write_to(&rt, rt.alloc(), whole.len(), true, whole), 0);
 }
 
 #[test]
 fn fails_to_flush(rt: HostRuntime) {
-    assert_eq!(rt;
-        write_to(&rt, rt.alloc(), STRIDE, false, WHOLE.as_bytes()),
-        6
-    );
+    for line in &LINES {
+        let out = line.out;
+        assert_eq!(rt; write_to(&rt, rt.alloc(), line, STRIDE, false), 6, "{out}");
+    }
+}
+
+/// The number that a line exits with for these texts, where nothing fails. What is written is this if the number is 0, and else nothing.
+fn number_for(
+    rt: &(impl Abort + Threads + Sync),
+    alloc: Global,
+    words: &[&str],
+    machine: &[u8],
+    loops: &[u8],
+    out: &str,
+) -> u8 {
+    let command = parse_line(alloc, words).expect(rt, "a command");
+    let mut machine = Bytes::new(machine);
+    let mut loops = Bytes::new(loops);
+    let mut output = FaultyOutput::new(alloc, STRIDE, STRIDE, true).expect(rt, "an output");
+    let status = engine(rt, alloc, &command, &mut machine, &mut loops, &mut output);
+    let wanted = if status.number() == 0 { out } else { "" };
+    assert!(rt; output.as_slice() == wanted.as_bytes(), "{wanted}");
+    status.number()
+}
+
+// A loop text that is cut is a text without loops, whole but for its last line feed, or refused.
+#[test]
+fn cuts_loop_texts(rt: HostRuntime) {
+    let text = ACC.as_bytes();
+    for line in &LINES {
+        for end in 0..=text.len() {
+            let (out, wanted) = match end {
+                0 => (line.none, 0),
+                _ if end + 1 >= text.len() => (line.out, 0),
+                _ => (line.out, 5),
+            };
+            assert_eq!(rt;
+                number_for(
+                    &rt,
+                    rt.alloc(),
+                    line.words,
+                    M1.as_bytes(),
+                    &text[..end],
+                    out
+                ),
+                wanted,
+                "cut after {end} for {out}"
+            );
+        }
+    }
+}
+
+// A machine text that is cut behind a whole table is a machine without the other ones, which the loop needs. Cut elsewhere it is
+// refused, unless it is whole but for its last line feed.
+#[test]
+fn cuts_machine_texts(rt: HostRuntime) {
+    let text = M1.as_bytes();
+    for line in &LINES {
+        let out = line.out;
+        for end in 0..=text.len() {
+            let cut = &text[..end];
+            let wanted = if !line.has_machine || end + 1 >= text.len() {
+                0
+            } else if cut.trim_ascii_end().ends_with(b"]]") {
+                5
+            } else {
+                4
+            };
+            assert_eq!(rt;
+                number_for(&rt, rt.alloc(), line.words, cut, ACC.as_bytes(), out),
+                wanted,
+                "cut after {end} for {out}"
+            );
+        }
+    }
 }

@@ -4,7 +4,7 @@ use super::given::{
     ACC, ACC_LISTING, ACCO, ALTS, CHAIN, FAR, FORCE, HOLD, KEEP, LAST, LAST_WITHOUT_OUT, LATE,
     LONE, M1, M2, M3, M4, M5, M6, M7, M8, ONE_REGISTER, POW, SHIFT, TWO_REGISTERS,
 };
-use super::{ends, row_of};
+use super::{case_of, ends};
 use std::test::Fail;
 
 const WORDS: &[&str] = &["schedule", "m.toml", "l.txt"];
@@ -29,7 +29,7 @@ const CEILING_0: &[&str] = &["schedule", "m.toml", "l.txt", "--ceiling", "0"];
 
 #[test]
 fn running_sum(rt: HostRuntime) -> Result<(), Fail> {
-    ends(&rt, &row_of(WORDS, M1, ACC), 0, ACC_LISTING, "")
+    ends(&rt, &case_of(WORDS, M1, ACC), 0, ACC_LISTING, "")
 }
 
 const RUNNING_SUM_IN_TWO_REGISTERS_LISTING: &str =
@@ -45,7 +45,7 @@ const RUNNING_SUM_IN_TWO_REGISTERS_LISTING: &str =
 fn running_sum_in_two_registers(rt: HostRuntime) -> Result<(), Fail> {
     ends(
         &rt,
-        &row_of(WORDS, TWO_REGISTERS, ACC),
+        &case_of(WORDS, TWO_REGISTERS, ACC),
         0,
         RUNNING_SUM_IN_TWO_REGISTERS_LISTING,
         "",
@@ -56,7 +56,7 @@ fn running_sum_in_two_registers(rt: HostRuntime) -> Result<(), Fail> {
 fn running_sum_lacks_a_register(rt: HostRuntime) -> Result<(), Fail> {
     ends(
         &rt,
-        &row_of(CEILING_3, ONE_REGISTER, ACC),
+        &case_of(CEILING_3, ONE_REGISTER, ACC),
         1,
         "loop acc ops 3 res 2 rec 1 mii 2 failed to 5: registers\nloops 1 met 0 failed 1\n",
         "",
@@ -75,7 +75,7 @@ const RECURRENCE_THROUGH_MEMORY_LISTING: &str = "loop chain ops 3 res 2 rec 5 mi
 fn recurrence_through_memory(rt: HostRuntime) -> Result<(), Fail> {
     ends(
         &rt,
-        &row_of(WORDS, M1, CHAIN),
+        &case_of(WORDS, M1, CHAIN),
         0,
         RECURRENCE_THROUGH_MEMORY_LISTING,
         "",
@@ -89,7 +89,7 @@ const SHIFT_LISTING: &str = "loop shift ops 2 res 2 rec 1 mii 2 ii 2 stages 2\n\
 
 #[test]
 fn shift(rt: HostRuntime) -> Result<(), Fail> {
-    ends(&rt, &row_of(WORDS, M1, SHIFT), 0, SHIFT_LISTING, "")
+    ends(&rt, &case_of(WORDS, M1, SHIFT), 0, SHIFT_LISTING, "")
 }
 
 const CONTENDED_UNIT_AT_RATIO_2_LISTING: &str = "loop force ops 3 res 4 rec 1 mii 4 ii 4 stages 2\n\
@@ -103,7 +103,7 @@ const CONTENDED_UNIT_AT_RATIO_2_LISTING: &str = "loop force ops 3 res 4 rec 1 mi
 fn contended_unit_at_ratio_2(rt: HostRuntime) -> Result<(), Fail> {
     ends(
         &rt,
-        &row_of(RATIO_2, M2, FORCE),
+        &case_of(RATIO_2, M2, FORCE),
         0,
         CONTENDED_UNIT_AT_RATIO_2_LISTING,
         "",
@@ -122,7 +122,7 @@ const CONTENDED_UNIT_AT_RATIO_1_LISTING: &str = "loop force ops 3 res 4 rec 1 mi
 fn contended_unit_at_ratio_1(rt: HostRuntime) -> Result<(), Fail> {
     ends(
         &rt,
-        &row_of(RATIO_1, M2, FORCE),
+        &case_of(RATIO_1, M2, FORCE),
         0,
         CONTENDED_UNIT_AT_RATIO_1_LISTING,
         "",
@@ -133,7 +133,7 @@ fn contended_unit_at_ratio_1(rt: HostRuntime) -> Result<(), Fail> {
 fn budget_used_up(rt: HostRuntime) -> Result<(), Fail> {
     ends(
         &rt,
-        &row_of(RATIO_1_CEILING_0, M2, FORCE),
+        &case_of(RATIO_1_CEILING_0, M2, FORCE),
         1,
         "loop force ops 3 res 4 rec 1 mii 4 failed to 4: budget\nloops 1 met 0 failed 1\n",
         "",
@@ -148,14 +148,14 @@ const LONE_MULTIPLY_LISTING: &str = "loop lone ops 1 res 2 rec 1 mii 2 ii 3 stag
 
 #[test]
 fn lone_multiply(rt: HostRuntime) -> Result<(), Fail> {
-    ends(&rt, &row_of(WORDS, M3, LONE), 0, LONE_MULTIPLY_LISTING, "")
+    ends(&rt, &case_of(WORDS, M3, LONE), 0, LONE_MULTIPLY_LISTING, "")
 }
 
 #[test]
 fn multiply_collides_with_itself(rt: HostRuntime) -> Result<(), Fail> {
     ends(
         &rt,
-        &row_of(CEILING_0, M3, LONE),
+        &case_of(CEILING_0, M3, LONE),
         1,
         "loop lone ops 1 res 2 rec 1 mii 2 failed to 2: table\nloops 1 met 0 failed 1\n",
         "",
@@ -172,7 +172,7 @@ const LOAD_BEFORE_STORE_LISTING: &str = "loop late ops 3 res 2 rec 1 mii 2 ii 2 
 fn load_before_store(rt: HostRuntime) -> Result<(), Fail> {
     ends(
         &rt,
-        &row_of(WORDS, M4, LATE),
+        &case_of(WORDS, M4, LATE),
         0,
         LOAD_BEFORE_STORE_LISTING,
         "",
@@ -189,7 +189,7 @@ const DISTANCE_TWO_LISTING: &str = "loop pow ops 2 res 1 rec 3 mii 3 ii 3 stages
 
 #[test]
 fn distance_two(rt: HostRuntime) -> Result<(), Fail> {
-    ends(&rt, &row_of(WORDS, M5, POW), 0, DISTANCE_TWO_LISTING, "")
+    ends(&rt, &case_of(WORDS, M5, POW), 0, DISTANCE_TWO_LISTING, "")
 }
 
 const CHOICE_OF_UNITS_LISTING: &str = "loop alts ops 3 res 2 rec 1 mii 2 ii 2 stages 2\n\
@@ -201,7 +201,7 @@ const CHOICE_OF_UNITS_LISTING: &str = "loop alts ops 3 res 2 rec 1 mii 2 ii 2 st
 fn choice_of_units(rt: HostRuntime) -> Result<(), Fail> {
     ends(
         &rt,
-        &row_of(WORDS, M6, ALTS),
+        &case_of(WORDS, M6, ALTS),
         0,
         CHOICE_OF_UNITS_LISTING,
         "",
@@ -215,14 +215,14 @@ const LONG_LATENCY_LISTING: &str = "loop far ops 2 res 1 rec 1 mii 1 ii 2 stages
 
 #[test]
 fn long_latency(rt: HostRuntime) -> Result<(), Fail> {
-    ends(&rt, &row_of(WORDS, M7, FAR), 0, LONG_LATENCY_LISTING, "")
+    ends(&rt, &case_of(WORDS, M7, FAR), 0, LONG_LATENCY_LISTING, "")
 }
 
 #[test]
 fn too_many_stages(rt: HostRuntime) -> Result<(), Fail> {
     ends(
         &rt,
-        &row_of(CEILING_0, M7, FAR),
+        &case_of(CEILING_0, M7, FAR),
         1,
         "loop far ops 2 res 1 rec 1 mii 1 failed to 1: stages\nloops 1 met 0 failed 1\n",
         "",
@@ -236,7 +236,7 @@ const GUARDED_STORE_LISTING: &str = "loop keep ops 3 res 2 rec 1 mii 2 ii 2 stag
 
 #[test]
 fn guarded_store(rt: HostRuntime) -> Result<(), Fail> {
-    ends(&rt, &row_of(WORDS, M8, KEEP), 0, GUARDED_STORE_LISTING, "")
+    ends(&rt, &case_of(WORDS, M8, KEEP), 0, GUARDED_STORE_LISTING, "")
 }
 
 const GUARDED_RECURRENCE_LISTING: &str = "loop hold ops 4 res 2 rec 5 mii 5 ii 6 stages 1\n\
@@ -252,7 +252,7 @@ const GUARDED_RECURRENCE_LISTING: &str = "loop hold ops 4 res 2 rec 5 mii 5 ii 6
 fn guarded_recurrence(rt: HostRuntime) -> Result<(), Fail> {
     ends(
         &rt,
-        &row_of(WORDS, M8, HOLD),
+        &case_of(WORDS, M8, HOLD),
         0,
         GUARDED_RECURRENCE_LISTING,
         "",
@@ -263,7 +263,7 @@ fn guarded_recurrence(rt: HostRuntime) -> Result<(), Fail> {
 fn guarded_recurrence_needs_another_interval(rt: HostRuntime) -> Result<(), Fail> {
     ends(
         &rt,
-        &row_of(CEILING_0, M8, HOLD),
+        &case_of(CEILING_0, M8, HOLD),
         1,
         "loop hold ops 4 res 2 rec 5 mii 5 failed to 5: budget\nloops 1 met 0 failed 1\n",
         "",
@@ -280,7 +280,7 @@ const LIVE_SUM_LISTING: &str = "version 2\n\
 
 #[test]
 fn live_sum(rt: HostRuntime) -> Result<(), Fail> {
-    ends(&rt, &row_of(WORDS, M1, ACCO), 0, LIVE_SUM_LISTING, "")
+    ends(&rt, &case_of(WORDS, M1, ACCO), 0, LIVE_SUM_LISTING, "")
 }
 
 const LIVE_SUM_IN_TWO_REGISTERS_LISTING: &str = "version 2\n\
@@ -297,7 +297,7 @@ const LIVE_SUM_IN_TWO_REGISTERS_LISTING: &str = "version 2\n\
 fn live_sum_in_two_registers(rt: HostRuntime) -> Result<(), Fail> {
     ends(
         &rt,
-        &row_of(WORDS, TWO_REGISTERS, ACCO),
+        &case_of(WORDS, TWO_REGISTERS, ACCO),
         0,
         LIVE_SUM_IN_TWO_REGISTERS_LISTING,
         "",
@@ -313,7 +313,7 @@ const LIVE_LOAD_LISTING: &str = "version 2\n\
 
 #[test]
 fn live_load(rt: HostRuntime) -> Result<(), Fail> {
-    ends(&rt, &row_of(WORDS, M1, LAST), 0, LIVE_LOAD_LISTING, "")
+    ends(&rt, &case_of(WORDS, M1, LAST), 0, LIVE_LOAD_LISTING, "")
 }
 
 const LIVE_LOAD_IN_TWO_REGISTERS_LISTING: &str = "version 2\n\
@@ -328,7 +328,7 @@ const LIVE_LOAD_IN_TWO_REGISTERS_LISTING: &str = "version 2\n\
 fn live_load_in_two_registers(rt: HostRuntime) -> Result<(), Fail> {
     ends(
         &rt,
-        &row_of(WORDS, TWO_REGISTERS, LAST),
+        &case_of(WORDS, TWO_REGISTERS, LAST),
         0,
         LIVE_LOAD_IN_TWO_REGISTERS_LISTING,
         "",
@@ -343,7 +343,7 @@ const LIVE_LOAD_LACKS_A_REGISTER_LISTING: &str = "version 2\n\
 fn live_load_lacks_a_register(rt: HostRuntime) -> Result<(), Fail> {
     ends(
         &rt,
-        &row_of(CEILING_0, TWO_REGISTERS, LAST),
+        &case_of(CEILING_0, TWO_REGISTERS, LAST),
         1,
         LIVE_LOAD_LACKS_A_REGISTER_LISTING,
         "",
@@ -358,7 +358,7 @@ const DEAD_LOAD_IN_TWO_REGISTERS_LISTING: &str = "loop last ops 1 res 1 rec 1 mi
 fn dead_load_in_two_registers(rt: HostRuntime) -> Result<(), Fail> {
     ends(
         &rt,
-        &row_of(WORDS, TWO_REGISTERS, LAST_WITHOUT_OUT),
+        &case_of(WORDS, TWO_REGISTERS, LAST_WITHOUT_OUT),
         0,
         DEAD_LOAD_IN_TWO_REGISTERS_LISTING,
         "",
@@ -369,7 +369,7 @@ fn dead_load_in_two_registers(rt: HostRuntime) -> Result<(), Fail> {
 fn no_loop(rt: HostRuntime) -> Result<(), Fail> {
     ends(
         &rt,
-        &row_of(WORDS, M1, ""),
+        &case_of(WORDS, M1, ""),
         0,
         "loops 0 met 0 failed 0\n",
         "",

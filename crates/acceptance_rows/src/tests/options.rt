@@ -1,7 +1,7 @@
 //! The settings of `schedule`: workers and cuts that change nothing, the limits of each option, and an output that fails.
 
 use super::given::{ACC, ACC_LISTING, M1, THREE, TWO_REGISTERS};
-use super::{Row, ends, refuses, row_of};
+use super::{Case, case_of, ends, refuses};
 use std::process::Abort;
 use std::test::Fail;
 use std::thread::Threads;
@@ -41,7 +41,7 @@ fn lists(
         "--cut",
         cut,
     ];
-    ends(rt, &row_of(&words, TWO_REGISTERS, THREE), 0, LISTING, "")
+    ends(rt, &case_of(&words, TWO_REGISTERS, THREE), 0, LISTING, "")
 }
 
 #[test]
@@ -96,7 +96,7 @@ fn takes(
     value: &str,
 ) -> Result<(), Fail> {
     let words = ["schedule", "m.toml", "l.txt", option, value];
-    ends(rt, &row_of(&words, M1, ACC), 0, ACC_LISTING, "")
+    ends(rt, &case_of(&words, M1, ACC), 0, ACC_LISTING, "")
 }
 
 #[test]
@@ -142,9 +142,9 @@ fn refuses_values_out_of_range(rt: HostRuntime) {
 
 #[test]
 fn writes_a_beginning(rt: HostRuntime) -> Result<(), Fail> {
-    let row = Row {
+    let row = Case {
         room: 10,
-        ..row_of(&["schedule", "m.toml", "l.txt"], M1, ACC)
+        ..case_of(&["schedule", "m.toml", "l.txt"], M1, ACC)
     };
     ends(&rt, &row, 6, "loop acc o", "modsched: cannot write\n")
 }

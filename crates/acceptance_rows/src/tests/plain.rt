@@ -5,7 +5,7 @@ use super::given::{
     SHIFT, SUBSCRIPT_MINUS_64, SUBSCRIPT_MINUS_65, SUBSCRIPT_PLUS_64, SUBSCRIPT_PLUS_65, SUM,
     USE_AT_16, USE_AT_17, WRAP,
 };
-use super::{ends, many_sums, refuses, row_of, statements};
+use super::{case_of, ends, many_sums, refuses, statements};
 use std::process::Abort;
 use std::test::Fail;
 use std::thread::Threads;
@@ -18,7 +18,7 @@ fn plain(
     out: &str,
 ) -> Result<(), Fail> {
     let words = ["plain", "l.txt", "--trip", trip];
-    ends(rt, &row_of(&words, "", loops), 0, out, "")
+    ends(rt, &case_of(&words, "", loops), 0, out, "")
 }
 
 /// `plain` refuses these loops.
@@ -28,7 +28,7 @@ fn bad_loops(
     line: &str,
 ) -> Result<(), Fail> {
     let words = ["plain", "l.txt", "--trip", "0"];
-    ends(rt, &row_of(&words, "", loops), 5, "", line)
+    ends(rt, &case_of(&words, "", loops), 5, "", line)
 }
 
 #[test]

@@ -3,7 +3,7 @@
 use super::given::{
     ACC, ACCO, CHAIN, HOLD, KEEP, LAST, LATE, M1, M4, M5, M8, POW, SHIFT, TWO_REGISTERS,
 };
-use super::{ends, many_sums, row_of};
+use super::{case_of, ends, many_sums};
 use std::process::Abort;
 use std::test::Fail;
 use std::thread::Threads;
@@ -17,7 +17,7 @@ fn run(
     out: &str,
 ) -> Result<(), Fail> {
     let words = ["run", "m.toml", "l.txt", "--trip", trip];
-    ends(rt, &row_of(&words, machine, loops), 0, out, "")
+    ends(rt, &case_of(&words, machine, loops), 0, out, "")
 }
 
 #[test]
@@ -234,7 +234,7 @@ fn loop_without_a_kernel(rt: HostRuntime) -> Result<(), Fail> {
     let loops = format!(in rt.alloc(); "{SHIFT}{ACC}")?;
     ends(
         &rt,
-        &row_of(&words, TWO_REGISTERS, loops.as_str()),
+        &case_of(&words, TWO_REGISTERS, loops.as_str()),
         1,
         out,
         "",

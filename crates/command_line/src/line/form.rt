@@ -3,7 +3,7 @@
 ghost use Rattle.std.specs.Prelude.{◌≡◌, codes, false, IfOk};
 ghost use Rattle.clap.specs.Words.{app_of, new_app, rule_of};
 ghost use Rattle.clap.specs.declared.builder.command.Command.TheViews.{out-Command};
-ghost use Rattle.command_line.specs.Lines.{program_line, bounds_line, plain_line, schedule_line, run_line, with_search, path_rule, trip_rule, option_rule, ratio_rule, ceiling_rule, workers_rule, cut_rule};
+ghost use Rattle.command_line.specs.Lines.{program_line, bounds_line, plain_line, edges_line, dot_line, schedule_line, json_line, explain_line, run_line, with_paths, with_search, path_rule, trip_rule, option_rule, ratio_rule, ceiling_rule, workers_rule, cut_rule};
 
 use crate::help;
 use clap::{Arg, Command, value_parser};
@@ -26,7 +26,11 @@ pub(super) fn program<'a>(alloc: Global) -> Result<Command<'a>, AllocError>
         .arg_required_else_help(true)
         .subcommand(schedule(alloc)?)?
         .subcommand(run(alloc)?)?
+        .subcommand(json(alloc)?)?
+        .subcommand(explain(alloc)?)?
         .subcommand(bounds(alloc)?)?
+        .subcommand(edges(alloc)?)?
+        .subcommand(dot(alloc)?)?
         .subcommand(plain(alloc)?)
 }
 
@@ -41,20 +45,28 @@ fn bare<'a>(alloc: Global, name: &'a str, about: &'a str, long_about: &'a str) -
         .after_long_help(help::LIMITS)
 }
 
+// A subcommand that has the paths of both files.
+fn over_files<'a>(
+    alloc: Global,
+    name: &'a str,
+    about: &'a str,
+    long_about: &'a str,
+) -> Result<Command<'a>, AllocError>
+    ensures app { IfOk result (λ c. app_of c ≡ with_paths name.entry.now) }
+    ensures local { IfOk result (λ c. (out-Command c).has_globals ≡ false) }
+{
+    bare(alloc, name, about, long_about)
+        .arg(machine(alloc))?
+        .arg(loops(alloc))
+}
+
 // The subcommand `schedule`.
 fn schedule<'a>(alloc: Global) -> Result<Command<'a>, AllocError>
     ensures app { IfOk result (λ c. app_of c ≡ schedule_line) }
     ensures local { IfOk result (λ c. (out-Command c).has_globals ≡ false) }
 {
-    let command = bare(
-        alloc,
-        "schedule",
-        help::SCHEDULE_ABOUT,
-        help::SCHEDULE_LONG_ABOUT,
-    )
-    .arg(machine(alloc))?
-    .arg(loops(alloc))?;
-    with_search(alloc, command)
+    let (about, long_about) = (help::SCHEDULE_ABOUT, help::SCHEDULE_LONG_ABOUT);
+    with_search(alloc, over_files(alloc, "schedule", about, long_about)?)
 }
 
 // The subcommand `run`.
@@ -62,10 +74,30 @@ fn run<'a>(alloc: Global) -> Result<Command<'a>, AllocError>
     ensures app { IfOk result (λ c. app_of c ≡ run_line) }
     ensures local { IfOk result (λ c. (out-Command c).has_globals ≡ false) }
 {
-    let command = bare(alloc, "run", help::RUN_ABOUT, help::RUN_LONG_ABOUT)
-        .arg(machine(alloc))?
-        .arg(loops(alloc))?
-        .arg(trip(alloc))?;
+    let command = over_files(alloc, "run", help::RUN_ABOUT, help::RUN_LONG_ABOUT)?;
+    with_search(alloc, command.arg(trip(alloc))?)
+}
+
+// The subcommand `json`.
+fn json<'a>(alloc: Global) -> Result<Command<'a>, AllocError>
+    ensures app { IfOk result (λ c. app_of c ≡ json_line) }
+    ensures local { IfOk result (λ c. (out-Command c).has_globals ≡ false) }
+{
+    let command = over_files(alloc, "json", help::JSON_ABOUT, help::JSON_LONG_ABOUT)?;
+    with_search(alloc, command)
+}
+
+// The subcommand `explain`.
+fn explain<'a>(alloc: Global) -> Result<Command<'a>, AllocError>
+    ensures app { IfOk result (λ c. app_of c ≡ explain_line) }
+    ensures local { IfOk result (λ c. (out-Command c).has_globals ≡ false) }
+{
+    let command = over_files(
+        alloc,
+        "explain",
+        help::EXPLAIN_ABOUT,
+        help::EXPLAIN_LONG_ABOUT,
+    )?;
     with_search(alloc, command)
 }
 
@@ -74,9 +106,23 @@ fn bounds<'a>(alloc: Global) -> Result<Command<'a>, AllocError>
     ensures app { IfOk result (λ c. app_of c ≡ bounds_line) }
     ensures local { IfOk result (λ c. (out-Command c).has_globals ≡ false) }
 {
-    bare(alloc, "bounds", help::BOUNDS_ABOUT, help::BOUNDS_LONG_ABOUT)
-        .arg(machine(alloc))?
-        .arg(loops(alloc))
+    over_files(alloc, "bounds", help::BOUNDS_ABOUT, help::BOUNDS_LONG_ABOUT)
+}
+
+// The subcommand `edges`.
+fn edges<'a>(alloc: Global) -> Result<Command<'a>, AllocError>
+    ensures app { IfOk result (λ c. app_of c ≡ edges_line) }
+    ensures local { IfOk result (λ c. (out-Command c).has_globals ≡ false) }
+{
+    over_files(alloc, "edges", help::EDGES_ABOUT, help::EDGES_LONG_ABOUT)
+}
+
+// The subcommand `dot`.
+fn dot<'a>(alloc: Global) -> Result<Command<'a>, AllocError>
+    ensures app { IfOk result (λ c. app_of c ≡ dot_line) }
+    ensures local { IfOk result (λ c. (out-Command c).has_globals ≡ false) }
+{
+    over_files(alloc, "dot", help::DOT_ABOUT, help::DOT_LONG_ABOUT)
 }
 
 // The subcommand `plain`.

@@ -25,8 +25,20 @@ pub(super) fn command_of(
     if let Some(values) = matches.subcommand_matches("run") {
         return run_given(alloc, values);
     }
+    if let Some(values) = matches.subcommand_matches("json") {
+        return json_given(alloc, values);
+    }
+    if let Some(values) = matches.subcommand_matches("explain") {
+        return explain_given(alloc, values);
+    }
     if let Some(values) = matches.subcommand_matches("bounds") {
         return bounds_given(alloc, values);
+    }
+    if let Some(values) = matches.subcommand_matches("edges") {
+        return edges_given(alloc, values);
+    }
+    if let Some(values) = matches.subcommand_matches("dot") {
+        return dot_given(alloc, values);
     }
     match matches.subcommand_matches("plain") {
         Some(values) => plain_given(alloc, values),
@@ -71,6 +83,42 @@ fn run_given(alloc: Global, values: &ArgMatches<'_>) -> Result<Option<Command>, 
     }
 }
 
+// The command of the values of `json`.
+fn json_given(alloc: Global, values: &ArgMatches<'_>) -> Result<Option<Command>, AllocError>
+    ensures meant { IfOk result (λ found. IfSome found (λ c. MeansNamed c (codes "json") (rows_of (found_of values.now)))) }
+    ensures none { IfOk result (λ found. IfNone found ((c : Command) → ¬ MeansNamed c (codes "json") (rows_of (found_of values.now)))) }
+{
+    let Some(settings) = settings_given(values) else {
+        return Ok(None);
+    };
+    match paths_given(alloc, values)? {
+        Some((machine, loops)) => Ok(Some(Command::Json {
+            machine,
+            loops,
+            settings,
+        })),
+        None => Ok(None),
+    }
+}
+
+// The command of the values of `explain`.
+fn explain_given(alloc: Global, values: &ArgMatches<'_>) -> Result<Option<Command>, AllocError>
+    ensures meant { IfOk result (λ found. IfSome found (λ c. MeansNamed c (codes "explain") (rows_of (found_of values.now)))) }
+    ensures none { IfOk result (λ found. IfNone found ((c : Command) → ¬ MeansNamed c (codes "explain") (rows_of (found_of values.now)))) }
+{
+    let Some(settings) = settings_given(values) else {
+        return Ok(None);
+    };
+    match paths_given(alloc, values)? {
+        Some((machine, loops)) => Ok(Some(Command::Explain {
+            machine,
+            loops,
+            settings,
+        })),
+        None => Ok(None),
+    }
+}
+
 // The command of the values of `bounds`.
 fn bounds_given(alloc: Global, values: &ArgMatches<'_>) -> Result<Option<Command>, AllocError>
     ensures meant { IfOk result (λ found. IfSome found (λ c. MeansNamed c (codes "bounds") (rows_of (found_of values.now)))) }
@@ -78,6 +126,28 @@ fn bounds_given(alloc: Global, values: &ArgMatches<'_>) -> Result<Option<Command
 {
     match paths_given(alloc, values)? {
         Some((machine, loops)) => Ok(Some(Command::Bounds { machine, loops })),
+        None => Ok(None),
+    }
+}
+
+// The command of the values of `edges`.
+fn edges_given(alloc: Global, values: &ArgMatches<'_>) -> Result<Option<Command>, AllocError>
+    ensures meant { IfOk result (λ found. IfSome found (λ c. MeansNamed c (codes "edges") (rows_of (found_of values.now)))) }
+    ensures none { IfOk result (λ found. IfNone found ((c : Command) → ¬ MeansNamed c (codes "edges") (rows_of (found_of values.now)))) }
+{
+    match paths_given(alloc, values)? {
+        Some((machine, loops)) => Ok(Some(Command::Edges { machine, loops })),
+        None => Ok(None),
+    }
+}
+
+// The command of the values of `dot`.
+fn dot_given(alloc: Global, values: &ArgMatches<'_>) -> Result<Option<Command>, AllocError>
+    ensures meant { IfOk result (λ found. IfSome found (λ c. MeansNamed c (codes "dot") (rows_of (found_of values.now)))) }
+    ensures none { IfOk result (λ found. IfNone found ((c : Command) → ¬ MeansNamed c (codes "dot") (rows_of (found_of values.now)))) }
+{
+    match paths_given(alloc, values)? {
+        Some((machine, loops)) => Ok(Some(Command::Dot { machine, loops })),
         None => Ok(None),
     }
 }

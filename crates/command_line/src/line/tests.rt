@@ -26,6 +26,25 @@ fn reads_the_paths(rt: HostRuntime) -> Result<(), Fail> {
 }
 
 #[test]
+fn reads_the_paths_of_graphs(rt: HostRuntime) -> Result<(), Fail> {
+    match parse_line(rt.alloc(), &["edges", "m.toml", "l.txt"])? {
+        Command::Edges { machine, loops } => {
+            assert_eq!(rt; machine.as_str(), "m.toml");
+            assert_eq!(rt; loops.as_str(), "l.txt");
+        }
+        other => panic!(rt; "{other:?}"),
+    }
+    match parse_line(rt.alloc(), &["dot", "m.toml", "l.txt"])? {
+        Command::Dot { machine, loops } => {
+            assert_eq!(rt; machine.as_str(), "m.toml");
+            assert_eq!(rt; loops.as_str(), "l.txt");
+        }
+        other => panic!(rt; "{other:?}"),
+    }
+    Ok(())
+}
+
+#[test]
 fn reads_the_trip_count(rt: HostRuntime) -> Result<(), Fail> {
     let lines: [(&[&str], &str, u64); 8] = [
         (&["plain", "l.txt", "--trip", "3"], "l.txt", 3),
@@ -138,6 +157,42 @@ fn reads_the_settings_of_a_run(rt: HostRuntime) -> Result<(), Fail> {
 }
 
 #[test]
+fn reads_the_settings_of_a_document(rt: HostRuntime) -> Result<(), Fail> {
+    let words = ["json", "--ratio", "2", "m", "l", "--ceiling", "9"];
+    match parse_line(rt.alloc(), &words)? {
+        Command::Json {
+            machine,
+            loops,
+            settings,
+        } => {
+            assert_eq!(rt; machine.as_str(), "m");
+            assert_eq!(rt; loops.as_str(), "l");
+            assert_eq!(rt; numbers_of(settings), [2, 9, 4, 4]);
+        }
+        other => panic!(rt; "{other:?}"),
+    }
+    Ok(())
+}
+
+#[test]
+fn reads_the_settings_of_an_explanation(rt: HostRuntime) -> Result<(), Fail> {
+    let words = ["explain", "m", "--ceiling", "9", "l"];
+    match parse_line(rt.alloc(), &words)? {
+        Command::Explain {
+            machine,
+            loops,
+            settings,
+        } => {
+            assert_eq!(rt; machine.as_str(), "m");
+            assert_eq!(rt; loops.as_str(), "l");
+            assert_eq!(rt; numbers_of(settings), [6, 9, 4, 4]);
+        }
+        other => panic!(rt; "{other:?}"),
+    }
+    Ok(())
+}
+
+#[test]
 fn refuses_other_settings(rt: HostRuntime) {
     let lines: [&[&str]; 12] = [
         &["schedule", "m", "l", "--ratio", "0"],
@@ -160,8 +215,12 @@ fn refuses_other_settings(rt: HostRuntime) {
 
 #[test]
 fn refuses_other_lines(rt: HostRuntime) {
-    let lines: [&[&str]; 14] = [
+    let lines: [&[&str]; 18] = [
         &[],
+        &["edges", "m"],
+        &["dot", "m", "l", "--ratio", "6"],
+        &["json", "m"],
+        &["json", "m", "l", "--trip", "3"],
         &["bounds"],
         &["bounds", "m"],
         &["bounds", "m", "l", "x"],
@@ -214,7 +273,11 @@ fn helps(rt: HostRuntime) {
     let of_program = [
         "schedule",
         "run",
+        "json",
+        "explain",
         "bounds",
+        "edges",
+        "dot",
         "plain",
         "Usage: modsched",
         "1,048,576 bytes",
@@ -242,7 +305,22 @@ fn helps(rt: HostRuntime) {
         "from 0 to 100000",
         "[default: 4]",
     ];
-    let lines: [(&[&str], &[&str]); 8] = [
+    let of_json = [
+        "Usage: modsched json [OPTIONS] <MACHINE> <LOOPS>",
+        "`failed_to` and `cause`",
+        "[default: 32]",
+    ];
+    let of_edges = [
+        "Usage: modsched edges <MACHINE> <LOOPS>",
+        "edge P NAME Q NAME KIND delay D distance N",
+    ];
+    let of_dot = ["Usage: modsched dot <MACHINE> <LOOPS>", "dot -Tsvg"];
+    let of_explain = [
+        "Usage: modsched explain [OPTIONS] <MACHINE> <LOOPS>",
+        "circuit delay D distance N needs C",
+        "[default: 32]",
+    ];
+    let lines: [(&[&str], &[&str]); 12] = [
         (&["--help"], &of_program),
         (&["help"], &of_program),
         (&["bounds", "--help"], &of_bounds),
@@ -251,6 +329,10 @@ fn helps(rt: HostRuntime) {
         (&["help", "plain"], &of_plain),
         (&["schedule", "--help"], &of_schedule),
         (&["run", "--help"], &of_run),
+        (&["json", "--help"], &of_json),
+        (&["explain", "--help"], &of_explain),
+        (&["edges", "--help"], &of_edges),
+        (&["dot", "--help"], &of_dot),
     ];
     for (words, parts) in lines {
         match parse_line(rt.alloc(), words) {
@@ -266,8 +348,12 @@ fn helps(rt: HostRuntime) {
 
 #[test]
 fn helps_in_short(rt: HostRuntime) {
-    let lines: [&[&str]; 5] = [
+    let lines: [&[&str]; 9] = [
         &["-h"],
+        &["explain", "-h"],
+        &["json", "-h"],
+        &["edges", "-h"],
+        &["dot", "-h"],
         &["schedule", "-h"],
         &["run", "-h"],
         &["bounds", "-h"],

@@ -7,17 +7,17 @@ use Rattle.std.proofs.lemmas.Bool.{eqb-true}
 use Rattle.loop_reader.proofs.faults.Checking.{not-from}
 use Rattle.loop_reader.specs.declared.lines.collect.Stop.{Stop}
 use Rattle.loop_reader.specs.declared.lines.collect.Stop.TheVariants as stops
-use Rattle.loop_reader.specs.declared.lines.entry.Entry.{Entry}
+use Rattle.loop_reader.specs.declared.lines.entry.LineEntry.{LineEntry}
 use Rattle.loop_reader.specs.declared.fault.LoopFault.{LoopFault}
 use Rattle.loop_reader.specs.declared.fault.LoopFaultKind.{LoopFaultKind}
 use Rattle.loop_reader.specs.declared.fault.LoopFaultKind.TheVariants.{Syntax, NoEnd, Limit}
 use Rattle.loop_lines.specs.Forms.{Form, EndLine}
-use Rattle.loop_reader.specs.Meaning.{whole, forms_of, inside_faults, outside_faults, number_of, is_statement, has_statement, at_line, when, faults_of, Kinds}
+use Rattle.loop_reader.specs.Meaning.{whole, forms_of, inside_faults, outside_faults, how_many, is_statement, has_statement, at_line, when, faults_of, Kinds}
 use Rattle.loop_reader.specs.inner.Blocks.{forms_in, entry_faults, StopsAt, StopsBlock, one_if}
 use Rattle.loop_reader.specs.inner.Checks.{first_in}
-use Rattle.loop_reader.proofs.lookups.Declared.{number_of-cons}
+use Rattle.loop_reader.proofs.lookups.Declared.{how_many-cons}
 
-pub unfit-block : (number : ℕ) (lines : List (Option Form)) (old new more : List Entry) (n line : ℕ) (rest : Bor (List ℕ))
+pub unfit-block : (number : ℕ) (lines : List (Option Form)) (old new more : List LineEntry) (n line : ℕ) (rest : Bor (List ℕ))
     → StopsAt number lines old (stops.Unfit line rest) → new ≡ old ++ more → forms_in new ≡ whole (forms_in old) (forms_of rest.now) → n ≡ length old → StopsBlock number lines new n (stops.Unfit line rest)
 unfit-block number lines old new more n line rest h e w l = λ names.
     let others = (h.1 names).0 in
@@ -38,15 +38,15 @@ no-faults (x ∷ xs) h = cc
 
 -- the `end` of a block without a statement
 
-none-or : (b : Bool) (forms : List Form) → (number_of is_statement forms == 0) ≡ not (has_statement forms) → ((one_if b + number_of is_statement forms) == 0) ≡ not (b || has_statement forms)
-none-or true forms h = not-from ((1 + number_of is_statement forms) == 0) (λ e. absurd (omega (arith, eqb-true (1 + number_of is_statement forms) 0 e)))
-none-or false forms h = ap (λ n. n == 0) (zero-add (number_of is_statement forms)) ∙ h
+none-or : (b : Bool) (forms : List Form) → (how_many is_statement forms == 0) ≡ not (has_statement forms) → ((one_if b + how_many is_statement forms) == 0) ≡ not (b || has_statement forms)
+none-or true forms h = not-from ((1 + how_many is_statement forms) == 0) (λ e. absurd (omega (arith, eqb-true (1 + how_many is_statement forms) 0 e)))
+none-or false forms h = ap (λ n. n == 0) (zero-add (how_many is_statement forms)) ∙ h
 
-none-counted : (block : List Form) → (number_of is_statement block == 0) ≡ not (has_statement block)
+none-counted : (block : List Form) → (how_many is_statement block == 0) ≡ not (has_statement block)
 none-counted [] = refl
-none-counted (form ∷ forms) = ap (λ n. n == 0) (number_of-cons is_statement form forms) ∙ none-or (is_statement form) forms (none-counted forms)
+none-counted (form ∷ forms) = ap (λ n. n == 0) (how_many-cons is_statement form forms) ∙ none-or (is_statement form) forms (none-counted forms)
 
-pub end-kinds : (block : List Form) (n : ℕ) → n ≡ number_of is_statement block → when (n == 0) Limit ≡ faults_of block block EndLine
+pub end-kinds : (block : List Form) (n : ℕ) → n ≡ how_many is_statement block → when (n == 0) Limit ≡ faults_of block block EndLine
 end-kinds block n e = ap (λ k. when (k == 0) Limit) e ∙ ap (λ b. when b Limit) (none-counted block)
 
 there : (b : Bool) → None ≡ first_in (when (not b) Limit) → b ≡ true
@@ -54,11 +54,11 @@ there true h = refl
 there false h = cc
 
 -- a block whose `end` has no fault has a statement
-pub statement-there : (block : List Form) (n : ℕ) → n ≡ number_of is_statement block → None ≡ first_in (when (n == 0) Limit) → has_statement block ≡ true
+pub statement-there : (block : List Form) (n : ℕ) → n ≡ how_many is_statement block → None ≡ first_in (when (n == 0) Limit) → has_statement block ≡ true
 statement-there block n e h = there (has_statement block) (h ∙ ap first_in (end-kinds block n e))
 
 -- whatever the block stops at, its faults begin with those of the lines before
-pub stop-front : (number : ℕ) (lines : List (Option Form)) (entries : List Entry) (sound : ℕ) (stop : Stop) → StopsBlock number lines entries sound stop
+pub stop-front : (number : ℕ) (lines : List (Option Form)) (entries : List LineEntry) (sound : ℕ) (stop : Stop) → StopsBlock number lines entries sound stop
     → (names : List (List ℕ)) → (others : List LoopFault) × (inside_faults number names [] lines ≡ entry_faults (forms_in entries) [] (take sound entries) ++ others)
 stop-front number lines entries sound (stops.End line rest) h names =
     (at_line line (faults_of (forms_in entries) (forms_in entries) EndLine) ++ outside_faults (line + 1) names (forms_of rest.now), h.1 names)

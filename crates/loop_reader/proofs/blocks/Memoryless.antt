@@ -1,7 +1,7 @@
 -- No line has a fault that is want of memory.
 use Rattle.std.proofs.Common.{◌≡◌, ℕ, Bool, true, false, List, [], ◌∷◌, ◌++◌, Some, sym, subst}
 use Rattle.std.specs.List.{AllByRecursion}
-use Rattle.loop_reader.specs.declared.lines.entry.Entry.{Entry}
+use Rattle.loop_reader.specs.declared.lines.entry.LineEntry.{LineEntry}
 use Rattle.loop_reader.specs.declared.fault.LoopFault.{LoopFault}
 use Rattle.loop_reader.specs.declared.fault.LoopFaultKind.{LoopFaultKind}
 use Rattle.loop_reader.specs.declared.fault.LoopFaultKind.TheVariants.{Syntax, Limit, RepeatedName, UnknownName, UseBeforeDefinition, MissingInit, NoEnd, Memory}
@@ -64,7 +64,7 @@ faults-at : (line : ℕ) (kinds : Kinds) (rest : List LoopFault) → AreKinds ki
 faults-at line [] rest h k = k
 faults-at line (x ∷ kinds) rest h k = (h.0, faults-at line kinds rest h.1 k)
 
-faults-in : (block before : List Form) (entries : List Entry) → AreFaults (entry_faults block before entries)
+faults-in : (block before : List Form) (entries : List LineEntry) → AreFaults (entry_faults block before entries)
 faults-in block before [] = tt
 faults-in block before (e ∷ entries) =
     faults-at e.line (faults_of before block (form_seen e.form)) (entry_faults block (before ++ form_seen e.form ∷ []) entries) (kinds-of before block (form_seen e.form)) (faults-in block (before ++ form_seen e.form ∷ []) entries)
@@ -76,5 +76,5 @@ first-kind : (faults : List LoopFault) (fault : LoopFault) → AreFaults faults 
 first-kind [] fault h e = cc
 first-kind (f ∷ faults) fault h e = subst (λ (x : LoopFault). IsKind x.kind) (sym (fault-same fault f e)) h.0
 
-pub entry-kind : (block before : List Form) (entries : List Entry) (fault : LoopFault) → Some fault ≡ first_in (entry_faults block before entries) → IsKind fault.kind
+pub entry-kind : (block before : List Form) (entries : List LineEntry) (fault : LoopFault) → Some fault ≡ first_in (entry_faults block before entries) → IsKind fault.kind
 entry-kind block before entries fault e = first-kind (entry_faults block before entries) fault (faults-in block before entries) e

@@ -13,7 +13,7 @@ use Rattle.loop_lines.specs.declared.form.Form.TheVariants as variants
 use Rattle.loop_lines.specs.Forms.{Form, LoopLine}
 use Rattle.iterations.specs.Names.{is_name}
 use Rattle.iterations.specs.Loops.{LoopData}
-use Rattle.loop_reader.specs.Meaning.{outside_faults, inside_faults, blocks_of, blocks_from, forms_of, loop_of, loops_in, first_fault, opening_faults, is_long, when, at_line, seen, Answers, AnswersFault}
+use Rattle.loop_reader.specs.Meaning.{outside_faults, inside_faults, blocks_of, blocks_from, forms_of, loop_of, loops_in, first_fault, opening_faults, is_long, when, at_line, seen, LoopsAnswer, AnswersFault}
 use Rattle.loop_lines.specs.Parsed.{form_seen}
 use Rattle.loop_reader.specs.inner.Checks.{first_in, line_at, IsNearForm}
 use Rattle.loop_reader.specs.inner.Texts.{UnlessMemory, UnlessMemoryKind}
@@ -159,6 +159,6 @@ few-loops names name h =
     below-limit (length names) (or-false-right (is_long name) (nat_le 1024 (length names)) (when-false (is_long name || nat_le 1024 (length names)) Limit a.0))
 
 -- a fault that is handed on
-pub handed-on : (r : Result (Vec LoopData Global) LoopFault) (fault : LoopFault) (meaning : Result (List LoopData) LoopFault) → IsErrAnd r (λ e. e ≡ fault) → AnswersFault fault.kind fault meaning → Answers (seen r) meaning
+pub handed-on : (r : Result (Vec LoopData Global) LoopFault) (fault : LoopFault) (meaning : Result (List LoopData) LoopFault) → IsErrAnd r (λ e. e ≡ fault) → AnswersFault fault.kind fault meaning → LoopsAnswer (seen r) meaning
 handed-on (Ok loops) fault meaning h a = absurd h
 handed-on (Err e) fault meaning h a = subst (λ (x : LoopFault). AnswersFault x.kind x meaning) (sym h) a

@@ -8,7 +8,7 @@ use Rattle.std.proofs.lemmas.List.Folds.{list_any-append}
 use Rattle.loop_lines.specs.declared.form.Form.TheVariants as variants
 use Rattle.std.proofs.lemmas.List.{append-nil, map-append}
 use Rattle.loop_reader.specs.declared.lines.collect.Stop.TheVariants as stops
-use Rattle.loop_reader.specs.declared.lines.entry.Entry.{Entry}
+use Rattle.loop_reader.specs.declared.lines.entry.LineEntry.{LineEntry}
 use Rattle.loop_lines.specs.declared.form.Form as code
 use Rattle.loop_reader.specs.declared.fault.LoopFault.{LoopFault}
 use Rattle.loop_reader.specs.declared.fault.LoopFaultKind.TheVariants.{Syntax, NoEnd}
@@ -73,7 +73,7 @@ blocks-line name before (OutLine n) lines h = refl
 blocks-line name before Malformed lines h = refl
 
 -- the lines from `line` on are read up to these entries and to `next` and what follows it
-pub record Reads (number : ℕ) (lines : List (Option Form)) (entries : List Entry) (line : ℕ) (left : List (Option Form)) : Type 0 where
+pub record Reads (number : ℕ) (lines : List (Option Form)) (entries : List LineEntry) (line : ℕ) (left : List (Option Form)) : Type 0 where
   pub faults : (block : List Form) (names : List (List ℕ)) → inside_in block number names [] lines ≡ entry_faults block [] entries ++ inside_in block line names (forms_in entries) left
   pub whole : whole [] lines ≡ whole (forms_in entries) left
   pub blocks : (name : List ℕ) → blocks_from name [] lines ≡ blocks_from name (forms_in entries) left
@@ -81,14 +81,14 @@ pub record Reads (number : ℕ) (lines : List (Option Form)) (entries : List Ent
 pub reads-start : (number : ℕ) (lines : List (Option Form)) → Reads number lines [] number lines
 reads-start number lines = record { faults = λ block names. refl; whole = refl; blocks = λ name. refl }
 
-pub reads-blank : (number : ℕ) (lines : List (Option Form)) (entries : List Entry) (line : ℕ) (left : List (Option Form)) → Reads number lines entries line (None ∷ left) → Reads number lines entries (line + 1) left
+pub reads-blank : (number : ℕ) (lines : List (Option Form)) (entries : List LineEntry) (line : ℕ) (left : List (Option Form)) → Reads number lines entries line (None ∷ left) → Reads number lines entries (line + 1) left
 reads-blank number lines entries line left r = record { faults = r.faults; whole = r.whole; blocks = r.blocks }
 
 -- what stands in the place of a left part
-pub reads-same : (number : ℕ) (lines : List (Option Form)) (entries : List Entry) (line : ℕ) (left other : List (Option Form)) → left ≡ other → Reads number lines entries line left → Reads number lines entries line other
+pub reads-same : (number : ℕ) (lines : List (Option Form)) (entries : List LineEntry) (line : ℕ) (left other : List (Option Form)) → left ≡ other → Reads number lines entries line left → Reads number lines entries line other
 reads-same number lines entries line left other e r = subst (λ ls. Reads number lines entries line ls) e r
 
-entry_faults-push : (block before : List Form) (entries : List Entry) (e : Entry) → entry_faults block before (entries ++ e ∷ []) ≡ entry_faults block before entries ++ at_line e.line (faults_of (before ++ forms_in entries) block (form_seen e.form))
+entry_faults-push : (block before : List Form) (entries : List LineEntry) (e : LineEntry) → entry_faults block before (entries ++ e ∷ []) ≡ entry_faults block before entries ++ at_line e.line (faults_of (before ++ forms_in entries) block (form_seen e.form))
 entry_faults-push block before [] e = append-nil (at_line e.line (faults_of before block (form_seen e.form))) ∙ ap (λ b. at_line e.line (faults_of b block (form_seen e.form))) (sym (append-nil before))
 entry_faults-push block before (x ∷ xs) e =
     let first = at_line x.line (faults_of before block (form_seen x.form)) in
@@ -103,10 +103,10 @@ with-standing before form h = ap (λ b. if b then before ++ form ∷ [] else bef
 faults-standing : (before block : List Form) (form : Form) → stands before form ≡ true → line_faults before block form ≡ faults_of before block form
 faults-standing before block form h = ap (λ b. if b then faults_of before block form else Syntax ∷ []) h
 
-forms_in-push : (entries : List Entry) (e : Entry) → forms_in (entries ++ e ∷ []) ≡ forms_in entries ++ form_seen e.form ∷ []
-forms_in-push entries e = map-append (λ (e : Entry). form_seen e.form) entries (e ∷ [])
+forms_in-push : (entries : List LineEntry) (e : LineEntry) → forms_in (entries ++ e ∷ []) ≡ forms_in entries ++ form_seen e.form ∷ []
+forms_in-push entries e = map-append (λ (e : LineEntry). form_seen e.form) entries (e ∷ [])
 
-pub reads-line : (number : ℕ) (lines : List (Option Form)) (entries : List Entry) (e : Entry) (left : List (Option Form)) → Reads number lines entries e.line (Some (form_seen e.form) ∷ left)
+pub reads-line : (number : ℕ) (lines : List (Option Form)) (entries : List LineEntry) (e : LineEntry) (left : List (Option Form)) → Reads number lines entries e.line (Some (form_seen e.form) ∷ left)
     → is_end (form_seen e.form) ≡ false → stands (forms_in entries) (form_seen e.form) ≡ true → Reads number lines (entries ++ e ∷ []) (e.line + 1) left
 reads-line number lines entries e left r other h =
     let before = forms_in entries in
@@ -124,14 +124,14 @@ reads-line number lines entries e left r other h =
       blocks = λ name. r.blocks name ∙ blocks-line name before form left other ∙ ap (λ b. blocks_from name b left) now;
     }
 
-pub reads-end : (number : ℕ) (lines : List (Option Form)) (entries : List Entry) (line : ℕ) (rest : Bor (List ℕ)) → Reads number lines entries line (Some EndLine ∷ forms_of rest.now) → StopsAt number lines entries (stops.End line rest)
+pub reads-end : (number : ℕ) (lines : List (Option Form)) (entries : List LineEntry) (line : ℕ) (rest : Bor (List ℕ)) → Reads number lines entries line (Some EndLine ∷ forms_of rest.now) → StopsAt number lines entries (stops.End line rest)
 reads-end number lines entries line rest r = (
   r.whole,
   λ names. inside-named number names [] lines ∙ ap (λ b. inside_in b number names [] lines) r.whole ∙ r.faults (forms_in entries) names,
   r.blocks,
 )
 
-pub reads-open : (number : ℕ) (lines : List (Option Form)) (entries : List Entry) (line : ℕ) → Reads number lines entries line [] → StopsAt number lines entries (stops.Open line)
+pub reads-open : (number : ℕ) (lines : List (Option Form)) (entries : List LineEntry) (line : ℕ) → Reads number lines entries line [] → StopsAt number lines entries (stops.Open line)
 reads-open number lines entries line r = (
   r.whole,
   λ names. inside-named number names [] lines ∙ ap (λ b. inside_in b number names [] lines) r.whole ∙ r.faults (forms_in entries) names,
@@ -143,7 +143,7 @@ unfit-faults before block form h = ap (λ b. if b then faults_of before block fo
 unfit-with : (before : List Form) (form : Form) → stands before form ≡ false → with_line before form ≡ before
 unfit-with before form h = ap (λ b. if b then before ++ form ∷ [] else before) h
 
-pub reads-unfit : (number : ℕ) (lines : List (Option Form)) (entries : List Entry) (line : ℕ) (form : Form) (rest : Bor (List ℕ)) → Reads number lines entries line (Some form ∷ forms_of rest.now)
+pub reads-unfit : (number : ℕ) (lines : List (Option Form)) (entries : List LineEntry) (line : ℕ) (form : Form) (rest : Bor (List ℕ)) → Reads number lines entries line (Some form ∷ forms_of rest.now)
     → is_end form ≡ false → stands (forms_in entries) form ≡ false → StopsAt number lines entries (stops.Unfit line rest)
 reads-unfit number lines entries line form rest r other h =
     let before = forms_in entries in
@@ -189,5 +189,5 @@ or-false true = refl
 or-false false = refl
 
 -- a test of all lines, with one more
-pub any-push : (p : Form → Bool) (entries : List Entry) (e : Entry) → list_any p (forms_in (entries ++ e ∷ [])) ≡ (list_any p (forms_in entries) || p (form_seen e.form))
+pub any-push : (p : Form → Bool) (entries : List LineEntry) (e : LineEntry) → list_any p (forms_in (entries ++ e ∷ [])) ≡ (list_any p (forms_in entries) || p (form_seen e.form))
 any-push p entries e = ap (list_any p) (forms_in-push entries e) ∙ list_any-append p (forms_in entries) (form_seen e.form ∷ []) ∙ ap (λ b. list_any p (forms_in entries) || b) (or-false (p (form_seen e.form)))

@@ -8,18 +8,18 @@ use Rattle.std.proofs.lemmas.List.Folds.{list_any-append}
 use Rattle.machine.specs.Opcodes.{same_word}
 use Rattle.loop_reader.specs.declared.fault.LoopFaultKind.TheVariants.{Limit, RepeatedName, UnknownName, UseBeforeDefinition, MissingInit}
 use Rattle.loop_reader.specs.declared.names.index.Counts.{Counts}
-use Rattle.loop_lines.specs.Forms.{Form, LoopLine, ArrayLine, ParamLine, InitLine, StatementLine, OutLine, EndLine, Malformed, Source, Use, Number, Plain, At}
-use Rattle.loop_reader.specs.Meaning.{Declared, AnArray, AParam, AValue, declared, first_declared, number_of, is_array, is_param, is_statement, is_value, is_init, is_out_of, has_init, has_inits, has_statement, is_uncovered, is_wide, is_wide_place, is_unknown, is_unknown_place, is_early, stands, any_name, faults_of, when, is_long, is_outside, Kinds}
+use Rattle.loop_lines.specs.Forms.{Form, LoopLine, ArrayLine, ParamLine, InitLine, StatementLine, OutLine, EndLine, Malformed, StatementForm, Use, Number, Plain, At}
+use Rattle.loop_reader.specs.Meaning.{Declared, AnArray, AParam, AValue, declared, first_declared, how_many, is_array, is_param, is_statement, is_value, is_init, is_out_of, has_init, has_inits, has_statement, is_uncovered, is_wide, is_wide_place, is_unknown, is_unknown_place, is_early, stands, any_name, faults_of, when, is_long, is_outside, Kinds}
 use Rattle.loop_reader.specs.inner.Blocks.{one_if}
 use Rattle.loop_reader.specs.inner.Checks.{is_that, is_given, is_live, covers, covers_name, lacks_init, kinds_at, IsCounted, IsGiven, IsNear, IsNearForm, IsNearUse}
 use Rattle.loop_reader.proofs.blocks.Reading.{is_end}
-use Rattle.loop_reader.proofs.lookups.Declared.{declared-append, same_word-here, number_of-cons}
+use Rattle.loop_reader.proofs.lookups.Declared.{declared-append, same_word-here, how_many-cons}
 use Rattle.std.proofs.lemmas.List.Sums.{sum_by-append}
 
-pub number_of-seam : (p : Form → Bool) (before : List Form) (form : Form) (forms : List Form) → p form ≡ true → number_of p before < number_of p (before ++ form ∷ forms)
-number_of-seam p before form forms h =
+pub how_many-seam : (p : Form → Bool) (before : List Form) (form : Form) (forms : List Form) → p form ≡ true → how_many p before < how_many p (before ++ form ∷ forms)
+how_many-seam p before form forms h =
     let a = sum_by-append (λ f. if p f then 1 else 0) before (form ∷ forms) in
-    let b = number_of-cons p form forms in
+    let b = how_many-cons p form forms in
     let c = ap one_if h in
     omega arith
 
@@ -29,10 +29,10 @@ below-either all false d rest h k = k
 
 first-below : (q : List ℕ) (before : List Form) (form : Form) (forms : List Form) → IsCounted (before ++ form ∷ forms) (first_declared q (before ++ form ∷ []) forms) → IsCounted (before ++ form ∷ forms) (first_declared q before (form ∷ forms))
 first-below q before (LoopLine n) forms rest = rest
-first-below q before (ArrayLine n c) forms rest = below-either (before ++ ArrayLine n c ∷ forms) (same_word q n) (AnArray (number_of is_array before)) (first_declared q (before ++ ArrayLine n c ∷ []) forms) (number_of-seam is_array before (ArrayLine n c) forms refl) rest
-first-below q before (ParamLine n v) forms rest = below-either (before ++ ParamLine n v ∷ forms) (same_word q n) (AParam (number_of is_param before)) (first_declared q (before ++ ParamLine n v ∷ []) forms) (number_of-seam is_param before (ParamLine n v) forms refl) rest
+first-below q before (ArrayLine n c) forms rest = below-either (before ++ ArrayLine n c ∷ forms) (same_word q n) (AnArray (how_many is_array before)) (first_declared q (before ++ ArrayLine n c ∷ []) forms) (how_many-seam is_array before (ArrayLine n c) forms refl) rest
+first-below q before (ParamLine n v) forms rest = below-either (before ++ ParamLine n v ∷ forms) (same_word q n) (AParam (how_many is_param before)) (first_declared q (before ++ ParamLine n v ∷ []) forms) (how_many-seam is_param before (ParamLine n v) forms refl) rest
 first-below q before (InitLine n m v) forms rest = rest
-first-below q before (StatementLine s) forms rest = below-either (before ++ StatementLine s ∷ forms) (any_name (same_word q) s.name) (AValue (number_of is_statement before)) (first_declared q (before ++ StatementLine s ∷ []) forms) (number_of-seam is_statement before (StatementLine s) forms refl) rest
+first-below q before (StatementLine s) forms rest = below-either (before ++ StatementLine s ∷ forms) (any_name (same_word q) s.name) (AValue (how_many is_statement before)) (first_declared q (before ++ StatementLine s ∷ []) forms) (how_many-seam is_statement before (StatementLine s) forms refl) rest
 first-below q before (OutLine n) forms rest = rest
 first-below q before EndLine forms rest = rest
 first-below q before Malformed forms rest = rest
@@ -57,50 +57,50 @@ apart m n h = false_from_ne_true (n == m) (λ e. absurd (omega (arith, eqb-true 
 repeated : (b : Bool) → b ≡ true → true ≡ not (not b)
 repeated b h = sym (ap (λ b. not (not b)) h)
 
-that-array : (block : List Form) (d rest : Option Declared) → IsCounted block d → rest ≡ Some (AnArray (number_of is_array block)) → not (is_that (AnArray (number_of is_array block)) (option_or d rest)) ≡ is_some d
-that-array block None rest h e = ap (λ r. not (is_that (AnArray (number_of is_array block)) r)) e ∙ ap not (eq-eqb (number_of is_array block) _ refl)
-that-array block (Some (AnArray n)) rest h e = ap not (apart n (number_of is_array block) h)
+that-array : (block : List Form) (d rest : Option Declared) → IsCounted block d → rest ≡ Some (AnArray (how_many is_array block)) → not (is_that (AnArray (how_many is_array block)) (option_or d rest)) ≡ is_some d
+that-array block None rest h e = ap (λ r. not (is_that (AnArray (how_many is_array block)) r)) e ∙ ap not (eq-eqb (how_many is_array block) _ refl)
+that-array block (Some (AnArray n)) rest h e = ap not (apart n (how_many is_array block) h)
 that-array block (Some (AParam n)) rest h e = refl
 that-array block (Some (AValue n)) rest h e = refl
 
-that-param : (block : List Form) (d rest : Option Declared) → IsCounted block d → rest ≡ Some (AParam (number_of is_param block)) → not (is_that (AParam (number_of is_param block)) (option_or d rest)) ≡ is_some d
-that-param block None rest h e = ap (λ r. not (is_that (AParam (number_of is_param block)) r)) e ∙ ap not (eq-eqb (number_of is_param block) _ refl)
+that-param : (block : List Form) (d rest : Option Declared) → IsCounted block d → rest ≡ Some (AParam (how_many is_param block)) → not (is_that (AParam (how_many is_param block)) (option_or d rest)) ≡ is_some d
+that-param block None rest h e = ap (λ r. not (is_that (AParam (how_many is_param block)) r)) e ∙ ap not (eq-eqb (how_many is_param block) _ refl)
 that-param block (Some (AnArray n)) rest h e = refl
-that-param block (Some (AParam n)) rest h e = ap not (apart n (number_of is_param block) h)
+that-param block (Some (AParam n)) rest h e = ap not (apart n (how_many is_param block) h)
 that-param block (Some (AValue n)) rest h e = refl
 
-that-value : (block : List Form) (d rest : Option Declared) → IsCounted block d → rest ≡ Some (AValue (number_of is_statement block)) → not (is_that (AValue (number_of is_statement block)) (option_or d rest)) ≡ is_some d
-that-value block None rest h e = ap (λ r. not (is_that (AValue (number_of is_statement block)) r)) e ∙ ap not (eq-eqb (number_of is_statement block) _ refl)
+that-value : (block : List Form) (d rest : Option Declared) → IsCounted block d → rest ≡ Some (AValue (how_many is_statement block)) → not (is_that (AValue (how_many is_statement block)) (option_or d rest)) ≡ is_some d
+that-value block None rest h e = ap (λ r. not (is_that (AValue (how_many is_statement block)) r)) e ∙ ap not (eq-eqb (how_many is_statement block) _ refl)
 that-value block (Some (AnArray n)) rest h e = refl
 that-value block (Some (AParam n)) rest h e = refl
-that-value block (Some (AValue n)) rest h e = ap not (apart n (number_of is_statement block) h)
+that-value block (Some (AValue n)) rest h e = ap not (apart n (how_many is_statement block) h)
 
 here-first : (b : Bool) (d : Declared) (rest : Option Declared) → b ≡ true → option_or (if b then Some d else None) rest ≡ Some d
 here-first b d rest h = ap (λ b. option_or (if b then Some d else None) rest) h
 
 pub repeated-array : (before after : List Form) (name : List ℕ) (cells : List (Option ℤ))
-    → not (is_that (AnArray (number_of is_array before)) (declared (before ++ ArrayLine name cells ∷ after) name)) ≡ is_some (declared before name)
+    → not (is_that (AnArray (how_many is_array before)) (declared (before ++ ArrayLine name cells ∷ after) name)) ≡ is_some (declared before name)
 repeated-array before after name cells =
-    ap (λ d. not (is_that (AnArray (number_of is_array before)) d)) (declared-append name before (ArrayLine name cells ∷ after))
+    ap (λ d. not (is_that (AnArray (how_many is_array before)) d)) (declared-append name before (ArrayLine name cells ∷ after))
     ∙ that-array before (declared before name) (first_declared name before (ArrayLine name cells ∷ after)) (declared-below before name)
-    (here-first (same_word name name) (AnArray (number_of is_array before)) (first_declared name (before ++ ArrayLine name cells ∷ []) after) (same_word-here name))
+    (here-first (same_word name name) (AnArray (how_many is_array before)) (first_declared name (before ++ ArrayLine name cells ∷ []) after) (same_word-here name))
 
 pub repeated-param : (before after : List Form) (name : List ℕ) (value : Option ℤ)
-    → not (is_that (AParam (number_of is_param before)) (declared (before ++ ParamLine name value ∷ after) name)) ≡ is_some (declared before name)
+    → not (is_that (AParam (how_many is_param before)) (declared (before ++ ParamLine name value ∷ after) name)) ≡ is_some (declared before name)
 repeated-param before after name value =
-    ap (λ d. not (is_that (AParam (number_of is_param before)) d)) (declared-append name before (ParamLine name value ∷ after))
+    ap (λ d. not (is_that (AParam (how_many is_param before)) d)) (declared-append name before (ParamLine name value ∷ after))
     ∙ that-param before (declared before name) (first_declared name before (ParamLine name value ∷ after)) (declared-below before name)
-    (here-first (same_word name name) (AParam (number_of is_param before)) (first_declared name (before ++ ParamLine name value ∷ []) after) (same_word-here name))
+    (here-first (same_word name name) (AParam (how_many is_param before)) (first_declared name (before ++ ParamLine name value ∷ []) after) (same_word-here name))
 
-pub repeated-value : (before after : List Form) (source : Source) (name : List ℕ) → source.name ≡ Some name
-    → not (is_that (AValue (number_of is_statement before)) (declared (before ++ StatementLine source ∷ after) name)) ≡ is_some (declared before name)
+pub repeated-value : (before after : List Form) (source : StatementForm) (name : List ℕ) → source.name ≡ Some name
+    → not (is_that (AValue (how_many is_statement before)) (declared (before ++ StatementLine source ∷ after) name)) ≡ is_some (declared before name)
 repeated-value before after source name h =
-    ap (λ d. not (is_that (AValue (number_of is_statement before)) d)) (declared-append name before (StatementLine source ∷ after))
+    ap (λ d. not (is_that (AValue (how_many is_statement before)) d)) (declared-append name before (StatementLine source ∷ after))
     ∙ that-value before (declared before name) (first_declared name before (StatementLine source ∷ after)) (declared-below before name)
-    (here-first (any_name (same_word name) source.name) (AValue (number_of is_statement before)) (first_declared name (before ++ StatementLine source ∷ []) after) (ap (any_name (same_word name)) h ∙ same_word-here name))
+    (here-first (any_name (same_word name) source.name) (AValue (how_many is_statement before)) (first_declared name (before ++ StatementLine source ∷ []) after) (ap (any_name (same_word name)) h ∙ same_word-here name))
 
-repeated-name : (before after : List Form) (source : Source) (maybe : Option (List ℕ)) → source.name ≡ maybe
-    → any_name (λ name. not (is_that (AValue (number_of is_statement before)) (declared (before ++ StatementLine source ∷ after) name))) maybe ≡ any_name (λ name. is_some (declared before name)) maybe
+repeated-name : (before after : List Form) (source : StatementForm) (maybe : Option (List ℕ)) → source.name ≡ maybe
+    → any_name (λ name. not (is_that (AValue (how_many is_statement before)) (declared (before ++ StatementLine source ∷ after) name))) maybe ≡ any_name (λ name. is_some (declared before name)) maybe
 repeated-name before after source None h = refl
 repeated-name before after source (Some name) h = repeated-value before after source name h
 
@@ -248,7 +248,7 @@ and-true false = refl
 
 -- the faults by look-ups are the line's
 pub kinds-same : (before : List Form) (form : Form) (after : List Form) (counts : Counts) (inits : List (Option ℤ)) (outs : List Bool)
-    → number_of is_array before ≡ counts.arrays → number_of is_param before ≡ counts.params → number_of is_statement before ≡ counts.statements
+    → how_many is_array before ≡ counts.arrays → how_many is_param before ≡ counts.params → how_many is_statement before ≡ counts.statements
     → IsGiven (before ++ form ∷ after) before inits outs → IsNearForm form → stands before form ≡ true → IsStanding (before ++ form ∷ []) after → is_end form ≡ false
     → kinds_at (before ++ form ∷ after) counts inits outs form ≡ faults_of before (before ++ form ∷ after) form
 kinds-same before (LoopLine n) after counts inits outs ea ep es g near s later other = refl
@@ -257,11 +257,11 @@ kinds-same before EndLine after counts inits outs ea ep es g near s later other 
 kinds-same before (ArrayLine name cells) after counts inits outs ea ep es g near s later other =
     let block = before ++ ArrayLine name cells ∷ after in
     let P : ℕ → Kinds = λ n. when (is_long name || list_any is_none cells || nat_lt 1024 (length cells) || nat_le 32 n) Limit ++ when (not (is_that (AnArray n) (declared block name))) RepeatedName in
-    sym (ap P ea) ∙ ap (λ b. when (is_long name || list_any is_none cells || nat_lt 1024 (length cells) || nat_le 32 (number_of is_array before)) Limit ++ when b RepeatedName) (repeated-array before after name cells)
+    sym (ap P ea) ∙ ap (λ b. when (is_long name || list_any is_none cells || nat_lt 1024 (length cells) || nat_le 32 (how_many is_array before)) Limit ++ when b RepeatedName) (repeated-array before after name cells)
 kinds-same before (ParamLine name value) after counts inits outs ea ep es g near s later other =
     let block = before ++ ParamLine name value ∷ after in
     let P : ℕ → Kinds = λ n. when (is_long name || is_none value || nat_le 64 n) Limit ++ when (not (is_that (AParam n) (declared block name))) RepeatedName in
-    sym (ap P ep) ∙ ap (λ b. when (is_long name || is_none value || nat_le 64 (number_of is_param before)) Limit ++ when b RepeatedName) (repeated-param before after name value)
+    sym (ap P ep) ∙ ap (λ b. when (is_long name || is_none value || nat_le 64 (how_many is_param before)) Limit ++ when b RepeatedName) (repeated-param before after name value)
 kinds-same before (InitLine name number value) after counts inits outs ea ep es g near s later other =
     let block = before ++ InitLine name number value ∷ after in
     ap (λ b. when (is_long name || is_outside number || is_none value) Limit ++ when b RepeatedName ++ when (not (is_value (declared block name))) UnknownName)
@@ -278,10 +278,10 @@ kinds-same before (StatementLine source) after counts inits outs ea ep es g near
     ++ when (list_any (is_early block n) source.uses) UseBeforeDefinition
     ++ when (list_any (lacks_init block inits) source.uses) MissingInit in
     let Q : Bool → Bool → Kinds = λ again lacking.
-    when (any_name is_long source.name || is_wide_place source.place || list_any is_wide source.uses || nat_le 128 (number_of is_statement before)) Limit
+    when (any_name is_long source.name || is_wide_place source.place || list_any is_wide source.uses || nat_le 128 (how_many is_statement before)) Limit
     ++ when again RepeatedName
     ++ when (is_unknown_place block source.place || list_any (is_unknown block) source.uses) UnknownName
-    ++ when (list_any (is_early block (number_of is_statement before)) source.uses) UseBeforeDefinition
+    ++ when (list_any (is_early block (how_many is_statement before)) source.uses) UseBeforeDefinition
     ++ when lacking MissingInit in
     sym (ap P es) ∙ ap (λ b. Q b (list_any (lacks_init block inits) source.uses)) (repeated-name before after source source.name refl)
     ∙ ap (Q (any_name (λ name. is_some (declared before name)) source.name)) (lacks-any block before inits outs g same source.uses near)

@@ -10,9 +10,9 @@ use Rattle.machine.specs.Opcodes.{same_word}
 use Rattle.loop_reader.specs.declared.fault.LoopFaultKind.TheVariants.{Limit, RepeatedName, UnknownName, MissingInit}
 use Rattle.loop_reader.specs.declared.fault.LoopFaultKind.{LoopFaultKind}
 use Rattle.loop_lines.specs.Forms.{Form, LoopLine, ArrayLine, ParamLine, InitLine, StatementLine, OutLine, EndLine, Malformed}
-use Rattle.loop_reader.specs.Meaning.{Declared, AnArray, AParam, AValue, declared, first_declared, number_of, is_array, is_param, is_statement, is_value, is_init, is_out_of, init_value, value_in, has_init, same_number, any_name, faults_of, when, is_long, is_outside, Kinds}
+use Rattle.loop_reader.specs.Meaning.{Declared, AnArray, AParam, AValue, declared, first_declared, how_many, is_array, is_param, is_statement, is_value, is_init, is_out_of, init_value, value_in, has_init, same_number, any_name, faults_of, when, is_long, is_outside, Kinds}
 use Rattle.loop_reader.specs.inner.Checks.{with_init, inits_with, with_live, outs_with, IsCounted, IsGiven, IsNear, IsNearForm}
-use Rattle.loop_reader.proofs.lookups.Declared.{number_of-push, option_or-none, option_or-assoc, same_word-here, same_word-yes}
+use Rattle.loop_reader.proofs.lookups.Declared.{how_many-push, option_or-none, option_or-assoc, same_word-here, same_word-yes}
 use Rattle.loop_reader.proofs.faults.Checking.{or-none, or-true, not-from, declared-below}
 
 -- two names do not stand for one value
@@ -31,24 +31,24 @@ from-either : (low : ℕ) (b : Bool) (d : Declared) (rest : Option Declared) →
 from-either low true d rest h k = h
 from-either low false d rest h k = k
 
-from-first : (q : List ℕ) (before : List Form) (form : Form) (forms : List Form) → IsFrom (number_of is_statement before) (first_declared q (before ++ form ∷ []) forms) → IsFrom (number_of is_statement before) (first_declared q before (form ∷ forms))
+from-first : (q : List ℕ) (before : List Form) (form : Form) (forms : List Form) → IsFrom (how_many is_statement before) (first_declared q (before ++ form ∷ []) forms) → IsFrom (how_many is_statement before) (first_declared q before (form ∷ forms))
 from-first q before (LoopLine n) forms rest = rest
-from-first q before (ArrayLine n c) forms rest = from-either (number_of is_statement before) (same_word q n) (AnArray (number_of is_array before)) (first_declared q (before ++ ArrayLine n c ∷ []) forms) tt rest
-from-first q before (ParamLine n v) forms rest = from-either (number_of is_statement before) (same_word q n) (AParam (number_of is_param before)) (first_declared q (before ++ ParamLine n v ∷ []) forms) tt rest
+from-first q before (ArrayLine n c) forms rest = from-either (how_many is_statement before) (same_word q n) (AnArray (how_many is_array before)) (first_declared q (before ++ ArrayLine n c ∷ []) forms) tt rest
+from-first q before (ParamLine n v) forms rest = from-either (how_many is_statement before) (same_word q n) (AParam (how_many is_param before)) (first_declared q (before ++ ParamLine n v ∷ []) forms) tt rest
 from-first q before (InitLine n m v) forms rest = rest
-from-first q before (StatementLine s) forms rest = from-either (number_of is_statement before) (any_name (same_word q) s.name) (AValue (number_of is_statement before)) (first_declared q (before ++ StatementLine s ∷ []) forms) (omega arith) rest
+from-first q before (StatementLine s) forms rest = from-either (how_many is_statement before) (any_name (same_word q) s.name) (AValue (how_many is_statement before)) (first_declared q (before ++ StatementLine s ∷ []) forms) (omega arith) rest
 from-first q before (OutLine n) forms rest = rest
 from-first q before EndLine forms rest = rest
 from-first q before Malformed forms rest = rest
 
-from-all : (q : List ℕ) (before forms : List Form) → IsFrom (number_of is_statement before) (first_declared q before forms)
+from-all : (q : List ℕ) (before forms : List Form) → IsFrom (how_many is_statement before) (first_declared q before forms)
 from-all q before [] = tt
 from-all q before (form ∷ forms) =
-    from-first q before form forms (from-wider (number_of is_statement (before ++ form ∷ [])) (number_of is_statement before) (first_declared q (before ++ form ∷ []) forms)
-    (omega (arith, number_of-push is_statement before form)) (from-all q (before ++ form ∷ []) forms))
+    from-first q before form forms (from-wider (how_many is_statement (before ++ form ∷ [])) (how_many is_statement before) (first_declared q (before ++ form ∷ []) forms)
+    (omega (arith, how_many-push is_statement before form)) (from-all q (before ++ form ∷ []) forms))
 
-least-in : (q : List ℕ) (before : List Form) (forms : List Form) (k : ℕ) → first_declared q before forms ≡ Some (AValue k) → number_of is_statement before ≤ k
-least-in q before forms k e = subst (IsFrom (number_of is_statement before)) e (from-all q before forms)
+least-in : (q : List ℕ) (before : List Form) (forms : List Form) (k : ℕ) → first_declared q before forms ≡ Some (AValue k) → how_many is_statement before ≤ k
+least-in q before forms k e = subst (IsFrom (how_many is_statement before)) e (from-all q before forms)
 
 value-number : (k n : ℕ) → Some (AValue k) ≡ Some (AValue n) → k ≡ n
 value-number k n e = cc
@@ -84,17 +84,17 @@ one-name-in : (a b : List ℕ) (before forms : List Form) (k : ℕ) → first_de
 one-name-in a b before [] k e f = absurd (none-value k e)
 one-name-in a b before (LoopLine n ∷ forms) k e f = one-name-in a b (before ++ LoopLine n ∷ []) forms k e f
 one-name-in a b before (ArrayLine n c ∷ forms) k e f = one-name-in a b (before ++ ArrayLine n c ∷ []) forms k
-    (skip-test (same_word a n) (AnArray (number_of is_array before)) k (first_declared a (before ++ ArrayLine n c ∷ []) forms) (array-other (number_of is_array before) k) e)
-    (skip-test (same_word b n) (AnArray (number_of is_array before)) k (first_declared b (before ++ ArrayLine n c ∷ []) forms) (array-other (number_of is_array before) k) f)
+    (skip-test (same_word a n) (AnArray (how_many is_array before)) k (first_declared a (before ++ ArrayLine n c ∷ []) forms) (array-other (how_many is_array before) k) e)
+    (skip-test (same_word b n) (AnArray (how_many is_array before)) k (first_declared b (before ++ ArrayLine n c ∷ []) forms) (array-other (how_many is_array before) k) f)
 one-name-in a b before (ParamLine n v ∷ forms) k e f = one-name-in a b (before ++ ParamLine n v ∷ []) forms k
-    (skip-test (same_word a n) (AParam (number_of is_param before)) k (first_declared a (before ++ ParamLine n v ∷ []) forms) (param-other (number_of is_param before) k) e)
-    (skip-test (same_word b n) (AParam (number_of is_param before)) k (first_declared b (before ++ ParamLine n v ∷ []) forms) (param-other (number_of is_param before) k) f)
+    (skip-test (same_word a n) (AParam (how_many is_param before)) k (first_declared a (before ++ ParamLine n v ∷ []) forms) (param-other (how_many is_param before) k) e)
+    (skip-test (same_word b n) (AParam (how_many is_param before)) k (first_declared b (before ++ ParamLine n v ∷ []) forms) (param-other (how_many is_param before) k) f)
 one-name-in a b before (InitLine n m v ∷ forms) k e f = one-name-in a b (before ++ InitLine n m v ∷ []) forms k e f
 one-name-in a b before (StatementLine s ∷ forms) k e f =
     let rest_a = first_declared a (before ++ StatementLine s ∷ []) forms in
     let rest_b = first_declared b (before ++ StatementLine s ∷ []) forms in
-    let n = number_of is_statement before in
-    let more = number_of-push is_statement before (StatementLine s) in
+    let n = how_many is_statement before in
+    let more = how_many-push is_statement before (StatementLine s) in
     ⊎_elim
     (λ x. ⊎_elim (λ y. x.2 ∙ name-same x.0 y.0 (sym x.1 ∙ y.1) ∙ sym y.2)
     (λ y. absurd (omega (arith, x.3, more, least-in b (before ++ StatementLine s ∷ []) forms k y)))
@@ -227,7 +227,7 @@ row-index k j m n hm hn apart e = apart (omega arith) (omega arith)
 
 -- the slots after one more initial value
 slots-more : (block before : List Form) (inits : List (Option ℤ)) (outs : List Bool) (other : List ℕ) (k m : ℕ) (v : ℤ) → IsGiven block before inits outs
-    → declared block other ≡ Some (AValue k) → m < 16 → k < number_of is_statement block → is_some (init_value other (suc m) before) ≡ false
+    → declared block other ≡ Some (AValue k) → m < 16 → k < how_many is_statement block → is_some (init_value other (suc m) before) ≡ false
     → (name : List ℕ) (j n : ℕ) → declared block name ≡ Some (AValue j) → n < 16
     → get_or (set inits (16 * k + m) (Some v)) (16 * j + n) None ≡ init_value name (suc n) (before ++ InitLine other (Some (suc m)) (Some v) ∷ [])
 slots-more block before inits outs other k m v g e hm hk fresh name j n f hn =
@@ -253,7 +253,7 @@ slots-more block before inits outs other k m v g e hm hk fresh name j n f hn =
     go (same_word name other && same_number (Some (suc n)) (Some (suc m))) refl
 
 pub given-init : (block before : List Form) (inits : List (Option ℤ)) (outs : List Bool) (other : List ℕ) (k m : ℕ) (v : ℤ) → IsGiven block before inits outs
-    → declared block other ≡ Some (AValue k) → m < 16 → k < number_of is_statement block → list_any (is_init other (Some (suc m))) before ≡ false
+    → declared block other ≡ Some (AValue k) → m < 16 → k < how_many is_statement block → list_any (is_init other (Some (suc m))) before ≡ false
     → IsGiven block (before ++ InitLine other (Some (suc m)) (Some v) ∷ []) (set inits (16 * k + m) (Some v)) outs
 given-init block before inits outs other k m v g e hm hk first =
     let form = InitLine other (Some (suc m)) (Some v) in
@@ -277,7 +277,7 @@ given-init block before inits outs other k m v g e hm hk first =
     }
 
 pub given-out : (block before : List Form) (inits : List (Option ℤ)) (outs : List Bool) (other : List ℕ) (k : ℕ) → IsGiven block before inits outs
-    → declared block other ≡ Some (AValue k) → k < number_of is_statement block
+    → declared block other ≡ Some (AValue k) → k < how_many is_statement block
     → IsGiven block (before ++ OutLine other ∷ []) inits (set outs k true)
 given-out block before inits outs other k g e hk =
     let form = OutLine other in
@@ -300,7 +300,7 @@ given-out block before inits outs other k g e hk =
           (or-cases (list_any (is_out_of name) before) (same_word name other) (sym (any-more (is_out_of name) before form) ∙ h));
     }
 
-below-value : (block : List Form) (other : List ℕ) (k : ℕ) → declared block other ≡ Some (AValue k) → k < number_of is_statement block
+below-value : (block : List Form) (other : List ℕ) (k : ℕ) → declared block other ≡ Some (AValue k) → k < how_many is_statement block
 below-value block other k e = subst (IsCounted block) e (declared-below block other)
 
 lt-true : (m n : ℕ) → m < n → nat_lt m n ≡ true
@@ -345,13 +345,13 @@ given-more block before inits outs (OutLine name) g near h =
     subst (λ os. IsGiven block (before ++ OutLine name ∷ []) inits os) (sym (ap (with_live outs) k.1)) (given-out block before inits outs name k.0 g k.1 (below-value block name k.0 k.1))
 
 -- nothing is given by no line
-pub given-none : (block : List Form) (inits : List (Option ℤ)) (outs : List Bool) → inits ≡ replicate (16 * number_of is_statement block) None → outs ≡ replicate (number_of is_statement block) false → IsGiven block [] inits outs
+pub given-none : (block : List Form) (inits : List (Option ℤ)) (outs : List Bool) → inits ≡ replicate (16 * how_many is_statement block) None → outs ≡ replicate (how_many is_statement block) false → IsGiven block [] inits outs
 given-none block inits outs e f = record {
-  room = ap length e ∙ length-replicate (16 * number_of is_statement block) None;
-  flags = ap length f ∙ length-replicate (number_of is_statement block) false;
-  slots = λ name k m d h. let low = below-value block name k d in ap (λ is. get_or is (16 * k + m) None) e ∙ get_or-replicate (16 * number_of is_statement block) (16 * k + m) None None (omega arith);
+  room = ap length e ∙ length-replicate (16 * how_many is_statement block) None;
+  flags = ap length f ∙ length-replicate (how_many is_statement block) false;
+  slots = λ name k m d h. let low = below-value block name k d in ap (λ is. get_or is (16 * k + m) None) e ∙ get_or-replicate (16 * how_many is_statement block) (16 * k + m) None None (omega arith);
   valued = λ name m. refl;
   known = λ name number h. cc;
-  marks = λ name k d. ap (λ os. get_or os k false) f ∙ get_or-replicate (number_of is_statement block) k false false (below-value block name k d);
+  marks = λ name k d. ap (λ os. get_or os k false) f ∙ get_or-replicate (how_many is_statement block) k false false (below-value block name k d);
   known_marks = λ name h. cc;
 }

@@ -9,7 +9,7 @@ use Rattle.std.specs.Ordering.{nat_cmp}
 use Rattle.std.proofs.Common.{take, get_or, length}
 use Rattle.std.proofs.lemmas.List.{take_more, map-append}
 use Rattle.std.proofs.lemmas.List.Sums.{sum_by_push}
-use Rattle.loop_reader.specs.declared.lines.entry.Entry.{Entry}
+use Rattle.loop_reader.specs.declared.lines.entry.LineEntry.{LineEntry}
 use Rattle.loop_lines.specs.Parsed.{form_seen}
 use Rattle.loop_reader.specs.inner.Blocks.{forms_in, one_if, declared_seen}
 use Rattle.std.proofs.Common.{option_map, zero-add}
@@ -24,7 +24,7 @@ use Rattle.std.proofs.lemmas.List.Sums.{sum_by-append}
 use Rattle.std.proofs.lemmas.List.{append-nil}
 use Rattle.machine.specs.Opcodes.{same_word}
 use Rattle.loop_lines.specs.Forms.{Form}
-use Rattle.loop_reader.specs.Meaning.{Declared, AnArray, AParam, AValue, declared_by, first_declared, declared, number_of, is_array, is_param, is_statement, any_name}
+use Rattle.loop_reader.specs.Meaning.{Declared, AnArray, AParam, AValue, declared_by, first_declared, declared, how_many, is_array, is_param, is_statement, any_name}
 
 pub option_or-none : {T : Type 0} (a : Option T) → option_or a None ≡ a
 option_or-none None = refl
@@ -40,7 +40,7 @@ none-there (Some x) p t e = absurd (both_ways true t refl)
 
 -- a declaration behind these lines
 abbrev pub declared_after : List ℕ → List Form → Form → Option Declared
-declared_after q before form = declared_by q (number_of is_array before) (number_of is_param before) (number_of is_statement before) form
+declared_after q before form = declared_by q (how_many is_array before) (how_many is_param before) (how_many is_statement before) form
 
 pub first_declared-append : (q : List ℕ) (before xs ys : List Form) → first_declared q before (xs ++ ys) ≡ option_or (first_declared q before xs) (first_declared q (before ++ xs) ys)
 first_declared-append q before [] ys = ap (λ b. first_declared q b ys) (sym (append-nil before))
@@ -105,27 +105,27 @@ kept {X} old new again name what first some is was q =
     by_case (same_word q name) refl
 
 -- the forms of one more line
-pub forms-more : (lines : List Entry) (i : ℕ) (d : Entry) → i < length lines → forms_in (take (i + 1) lines) ≡ forms_in (take i lines) ++ form_seen (get_or lines i d).form ∷ []
-forms-more lines i d h = ap forms_in (take_more lines i d h) ∙ map-append (λ (e : Entry). form_seen e.form) (take i lines) (get_or lines i d ∷ [])
+pub forms-more : (lines : List LineEntry) (i : ℕ) (d : LineEntry) → i < length lines → forms_in (take (i + 1) lines) ≡ forms_in (take i lines) ++ form_seen (get_or lines i d).form ∷ []
+forms-more lines i d h = ap forms_in (take_more lines i d h) ∙ map-append (λ (e : LineEntry). form_seen e.form) (take i lines) (get_or lines i d ∷ [])
 
-pub number_of-push : (p : Form → Bool) (before : List Form) (form : Form) → number_of p (before ++ form ∷ []) ≡ number_of p before + one_if (p form)
-number_of-push p before form = sum_by_push (λ f. if p f then 1 else 0) before form
+pub how_many-push : (p : Form → Bool) (before : List Form) (form : Form) → how_many p (before ++ form ∷ []) ≡ how_many p before + one_if (p form)
+how_many-push p before form = sum_by_push (λ f. if p f then 1 else 0) before form
 
-pub number_of-more : (p : Form → Bool) (lines : List Entry) (i : ℕ) (d : Entry) (n m : ℕ) → i < length lines
-    → n ≡ number_of p (forms_in (take i lines)) → m ≡ n + one_if (p (form_seen (get_or lines i d).form))
-    → m ≡ number_of p (forms_in (take (i + 1) lines))
-number_of-more p lines i d n m h e f =
+pub how_many-more : (p : Form → Bool) (lines : List LineEntry) (i : ℕ) (d : LineEntry) (n m : ℕ) → i < length lines
+    → n ≡ how_many p (forms_in (take i lines)) → m ≡ n + one_if (p (form_seen (get_or lines i d).form))
+    → m ≡ how_many p (forms_in (take (i + 1) lines))
+how_many-more p lines i d n m h e f =
     f ∙ ap (λ k. k + one_if (p (form_seen (get_or lines i d).form))) e
-    ∙ sym (ap (number_of p) (forms-more lines i d h) ∙ number_of-push p (forms_in (take i lines)) (form_seen (get_or lines i d).form))
+    ∙ sym (ap (how_many p) (forms-more lines i d h) ∙ how_many-push p (forms_in (take i lines)) (form_seen (get_or lines i d).form))
 
 pub one_if-le : (b : Bool) → one_if b ≤ 1
 one_if-le true = omega arith
 one_if-le false = omega arith
 
 -- a table of the names of some lines becomes one of the names of one more
-pub declared-more : (lines : List Entry) (i : ℕ) (d : Entry) (old new : List ℕ → Option meaning.Declared) (a p s : ℕ) → i < length lines
+pub declared-more : (lines : List LineEntry) (i : ℕ) (d : LineEntry) (old new : List ℕ → Option meaning.Declared) (a p s : ℕ) → i < length lines
     → ((q : List ℕ) → old q ≡ declared (forms_in (take i lines)) q)
-    → a ≡ number_of is_array (forms_in (take i lines)) → p ≡ number_of is_param (forms_in (take i lines)) → s ≡ number_of is_statement (forms_in (take i lines))
+    → a ≡ how_many is_array (forms_in (take i lines)) → p ≡ how_many is_param (forms_in (take i lines)) → s ≡ how_many is_statement (forms_in (take i lines))
     → ((q : List ℕ) → new q ≡ option_or (old q) (declared_by q a p s (form_seen (get_or lines i d).form)))
     → (q : List ℕ) → new q ≡ declared (forms_in (take (i + 1) lines)) q
 declared-more lines i d old new a p s h was ea ep es is q =
@@ -133,8 +133,8 @@ declared-more lines i d old new a p s h was ea ep es is q =
     let form = form_seen (get_or lines i d).form in
     is q ∙ ap (λ o. option_or o (declared_by q a p s form)) (was q)
     ∙ ap (λ n. option_or (declared before q) (declared_by q n p s form)) ea
-    ∙ ap (λ n. option_or (declared before q) (declared_by q (number_of is_array before) n s form)) ep
-    ∙ ap (λ n. option_or (declared before q) (declared_by q (number_of is_array before) (number_of is_param before) n form)) es
+    ∙ ap (λ n. option_or (declared before q) (declared_by q (how_many is_array before) n s form)) ep
+    ∙ ap (λ n. option_or (declared before q) (declared_by q (how_many is_array before) (how_many is_param before) n form)) es
     ∙ sym (declared-push q before form)
     ∙ sym (ap (λ fs. declared fs q) (forms-more lines i d h))
 
@@ -144,5 +144,5 @@ seen_or None true what = refl
 seen_or None false what = refl
 seen_or (Some x) b what = refl
 
-pub number_of-cons : (p : Form → Bool) (form : Form) (forms : List Form) → number_of p (form ∷ forms) ≡ one_if (p form) + number_of p forms
-number_of-cons p form forms = sum_by-append (λ f. if p f then 1 else 0) (form ∷ []) forms ∙ ap (λ n. n + number_of p forms) (zero-add (one_if (p form)))
+pub how_many-cons : (p : Form → Bool) (form : Form) (forms : List Form) → how_many p (form ∷ forms) ≡ one_if (p form) + how_many p forms
+how_many-cons p form forms = sum_by-append (λ f. if p f then 1 else 0) (form ∷ []) forms ∙ ap (λ n. n + how_many p forms) (zero-add (one_if (p form)))

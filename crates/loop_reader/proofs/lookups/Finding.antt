@@ -4,12 +4,12 @@ use Rattle.std.specs.Prelude.{option_to_list}
 use Rattle.std.specs.Borrow.{Bor}
 use Rattle.std.proofs.lemmas.List.{get_or_append_left, get_or_push, get_or-take, get_or_default, length_push, length-take-le, take_all, map-append}
 use Rattle.std.proofs.lemmas.Bool.Decides.{eqb_tells}
-use Rattle.loop_reader.specs.declared.lines.entry.Entry.{Entry}
+use Rattle.loop_reader.specs.declared.lines.entry.LineEntry.{LineEntry}
 use Rattle.loop_lines.specs.declared.form.Form as code
-use Rattle.loop_reader.specs.declared.names.found.Found.{Found}
+use Rattle.loop_reader.specs.declared.names.found.Targets.{Targets}
 use Rattle.loop_lines.specs.Forms.{Form}
-use Rattle.loop_lines.specs.Parsed.{form_seen, source_seen, subscript_seen, use_seen, uses_seen}
-use Rattle.loop_reader.specs.Meaning.{Declared, AnArray, AParam, AValue, declared, reads, operand_of, out_in, place_at, source_in, statement_of}
+use Rattle.loop_lines.specs.Parsed.{form_seen, statement_seen, subscript_seen, use_seen, uses_seen}
+use Rattle.loop_reader.specs.Meaning.{Declared, AnArray, AParam, AValue, declared, reads, operand_of, out_in, place_at, statement_in, statement_of}
 use Rattle.loop_reader.specs.inner.Found.{AreFound, IsFoundFor, IsFoundIn, array_in, operand_if, operands_with, reads_at, target_at, target_in, out_by, place_with, statement_by, statement_with}
 use Rattle.loop_lines.specs.declared.form.Form.TheVariants as forms
 use Rattle.loop_lines.specs.declared.form.StatementWords.{StatementWords}
@@ -20,14 +20,14 @@ use Rattle.loop_reader.specs.declared.names.found.Target.{Target}
 use Rattle.loop_lines.specs.declared.form.Uses.{Uses}
 use Rattle.iterations.specs.declared.language.statement.Operand.{Operand}
 
-found-as : (block : List Form) (line there : Entry) (found one : Found) → IsFoundFor block line.form found → there ≡ line → one ≡ found → IsFoundFor block there.form one
+found-as : (block : List Form) (line there : LineEntry) (found one : Targets) → IsFoundFor block line.form found → there ≡ line → one ≡ found → IsFoundFor block there.form one
 found-as block line there found one h e f = rw e (rw f h)
 
-pub found-none : (block : List Form) (lines : List Entry) → AreFound block (take 0 lines) []
+pub found-none : (block : List Form) (lines : List LineEntry) → AreFound block (take 0 lines) []
 found-none block lines = record { all = refl; each = λ i d e low. absurd (omega arith) }
 
 -- one more line
-pub found-more : (block : List Form) (lines : List Entry) (i : ℕ) (d : Entry) (found : List Found) (one : Found) → i < length lines → AreFound block (take i lines) found
+pub found-more : (block : List Form) (lines : List LineEntry) (i : ℕ) (d : LineEntry) (found : List Targets) (one : Targets) → i < length lines → AreFound block (take i lines) found
     → IsFoundFor block (get_or lines i d).form one → AreFound block (take (i + 1) lines) (found ++ one ∷ [])
 found-more block lines i d found one low v h =
     let before : length (take i lines) ≡ i = length-take-le i lines (omega arith) in
@@ -50,7 +50,7 @@ found-more block lines i d found one low v h =
     }
 
 -- all lines
-pub found-all : (block : List Form) (lines : List Entry) (i : ℕ) (found : List Found) → length lines ≤ i → AreFound block (take i lines) found → AreFound block lines found
+pub found-all : (block : List Form) (lines : List LineEntry) (i : ℕ) (found : List Targets) → length lines ≤ i → AreFound block (take i lines) found → AreFound block lines found
 found-all block lines i found all v = subst (λ ls. AreFound block ls found) (take_all i lines all) v
 
 -- a statement by what was found for it
@@ -69,7 +69,7 @@ operand-if block (Some (code_uses.Plain name)) target h =
 operand-if block (Some (code_uses.At name distance)) target h =
     ap (λ t. reads_at t (unwrap_or distance 0) ∷ []) h ∙ ap (λ x. x ∷ []) (reads-at (declared block name.now) (unwrap_or distance 0))
 
-operands-with : (block : List Form) (uses : Uses) (found : Found) → found.first ≡ target_in block uses.first → found.second ≡ target_in block uses.second → found.third ≡ target_in block uses.third
+operands-with : (block : List Form) (uses : Uses) (found : Targets) → found.first ≡ target_in block uses.first → found.second ≡ target_in block uses.second → found.third ≡ target_in block uses.third
     → operands_with uses found ≡ map (operand_of block) (uses_seen uses)
 operands-with block uses found e f g =
     let first = option_to_list uses.first in
@@ -87,14 +87,14 @@ place-with : (block : List Form) (place : Option Subscript) (array : ℕ) → ar
 place-with block None array h = refl
 place-with block (Some p) array h = ap (λ n. Some (record { array = n; offset = unwrap_or p.offset (pos 0) })) h
 
-statement-with : (block : List Form) (source : StatementWords) (found : Found) → IsFoundIn block source found → statement_with source found ≡ statement_of block (source_seen source)
+statement-with : (block : List Form) (source : StatementWords) (found : Targets) → IsFoundIn block source found → statement_with source found ≡ statement_of block (statement_seen source)
 statement-with block source found h =
     ap (λ n. record { opcode = source.opcode; name = option_map (λ (n : Bor (List ℕ)). n.now) source.name; place = n; operands = operands_with source.uses found }) (place-with block source.place found.number h.number)
     ∙ ap (λ os. record { opcode = source.opcode; name = option_map (λ (n : Bor (List ℕ)). n.now) source.name; place = option_map (place_at block) (option_map subscript_seen source.place); operands = os }) (operands-with block source.uses found h.first h.second h.third)
 
 -- the line's statement
-pub statement-by : (block : List Form) (form : code.Form) (found : Found) → IsFoundFor block form found
-    → option_to_list (statement_by form found) ≡ map (statement_of block) (option_to_list (source_in (form_seen form)))
+pub statement-by : (block : List Form) (form : code.Form) (found : Targets) → IsFoundFor block form found
+    → option_to_list (statement_by form found) ≡ map (statement_of block) (option_to_list (statement_in (form_seen form)))
 statement-by block (forms.Loop name) found h = refl
 statement-by block (forms.Array name cells) found h = refl
 statement-by block (forms.Param name value) found h = refl
@@ -105,7 +105,7 @@ statement-by block forms.End found h = refl
 statement-by block forms.Malformed found h = refl
 
 -- and its live value
-pub out-by : (block : List Form) (form : code.Form) (found : Found) → IsFoundFor block form found → option_to_list (out_by form found) ≡ option_to_list (out_in block (form_seen form))
+pub out-by : (block : List Form) (form : code.Form) (found : Targets) → IsFoundFor block form found → option_to_list (out_by form found) ≡ option_to_list (out_in block (form_seen form))
 out-by block (forms.Loop name) found h = refl
 out-by block (forms.Array name cells) found h = refl
 out-by block (forms.Param name value) found h = refl

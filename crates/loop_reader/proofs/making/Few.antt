@@ -3,19 +3,19 @@ use Rattle.std.proofs.Common.{◌≡◌, ℕ, zero, suc, pos, ◌<◌, List, [],
 use Rattle.std.specs.List.{AllByRecursion, filter_map, cons_option}
 use Rattle.std.proofs.lemmas.List.{append-nil}
 use Rattle.std.proofs.lemmas.Option.{none-some, same_Some}
-use Rattle.loop_reader.specs.declared.lines.entry.Entry.{Entry}
+use Rattle.loop_reader.specs.declared.lines.entry.LineEntry.{LineEntry}
 use Rattle.loop_reader.specs.declared.fault.LoopFault.{LoopFault}
 use Rattle.iterations.specs.declared.language.lists.Array.{Array}
 use Rattle.iterations.specs.declared.language.lists.Param.{Param}
 use Rattle.loop_reader.specs.inner.Blocks.{forms_in, entry_faults}
 use Rattle.loop_reader.specs.inner.Building.{IsFew, IsNamed, name_in}
 use Rattle.loop_reader.specs.inner.Checks.{IsBlock}
-use Rattle.loop_lines.specs.Forms.{Form, LoopLine, ArrayLine, ParamLine, InitLine, StatementLine, OutLine, EndLine, Malformed, Source}
+use Rattle.loop_lines.specs.Forms.{Form, LoopLine, ArrayLine, ParamLine, InitLine, StatementLine, OutLine, EndLine, Malformed, StatementForm}
 use Rattle.iterations.specs.Loops.{IsName}
-use Rattle.loop_reader.specs.Meaning.{number_of, is_array, is_param, is_statement, at_line, faults_of, array_in, param_in, source_in, Kinds}
+use Rattle.loop_reader.specs.Meaning.{how_many, is_array, is_param, is_statement, at_line, faults_of, array_in, param_in, statement_in, Kinds}
 use Rattle.loop_lines.specs.Parsed.{form_seen}
 use Rattle.loop_reader.proofs.making.Lawful.{IsFaultlessFrom}
-use Rattle.loop_reader.proofs.making.Lines.{IsClean, IsArrayAt, IsParamAt, IsSourceAt, arrays-at, params-at, sources-at, numbered-length, array-agrees, param-agrees, source-agrees}
+use Rattle.loop_reader.proofs.making.Lines.{IsClean, IsArrayAt, IsParamAt, IsStatementAt, arrays-at, params-at, sources-at, numbered-length, array-agrees, param-agrees, source-agrees}
 use Rattle.loop_reader.proofs.making.Numbered.{each-length, each-all}
 use Rattle.loop_reader.proofs.making.Spelled.{IsSpelled, block-spelled}
 
@@ -38,21 +38,21 @@ clean block is faultless =
 
 -- counts
 
-pub count-arrays : (forms : List Form) → length (filter_map array_in forms) ≡ number_of is_array forms
+pub count-arrays : (forms : List Form) → length (filter_map array_in forms) ≡ how_many is_array forms
 count-arrays forms = numbered-length is_array array_in array-agrees forms
 
-pub count-params : (forms : List Form) → length (filter_map param_in forms) ≡ number_of is_param forms
+pub count-params : (forms : List Form) → length (filter_map param_in forms) ≡ how_many is_param forms
 count-params forms = numbered-length is_param param_in param-agrees forms
 
-pub count-sources : (forms : List Form) → length (filter_map source_in forms) ≡ number_of is_statement forms
-count-sources forms = numbered-length is_statement source_in source-agrees forms
+pub count-sources : (forms : List Form) → length (filter_map statement_in forms) ≡ how_many is_statement forms
+count-sources forms = numbered-length is_statement statement_in source-agrees forms
 
 pub few : (block : List Form) → IsBlock block → IsFaultlessFrom block [] block → IsFew block
 few block is faultless =
     let whole = clean block is faultless in
     let a = each-length (IsArrayAt block) 32 (λ m x h. h.few) 0 (filter_map array_in block) (omega arith) (arrays-at block whole) in
     let p = each-length (IsParamAt block) 64 (λ m x h. h.few) 0 (filter_map param_in block) (omega arith) (params-at block whole) in
-    let s = each-length (IsSourceAt block) 128 (λ m x h. h.few) 0 (filter_map source_in block) (omega arith) (sources-at block whole) in
+    let s = each-length (IsStatementAt block) 128 (λ m x h. h.few) 0 (filter_map statement_in block) (omega arith) (sources-at block whole) in
     let ca = count-arrays block in
     let cp = count-params block in
     let cs = count-sources block in
@@ -77,8 +77,8 @@ named-if : (o : Option (List ℕ)) → ((name : List ℕ) → o ≡ Some name �
 named-if None h = tt
 named-if (Some name) h = h name refl
 
-abbrev IsNamedSource : Source → Type 0
-IsNamedSource s = (name : List ℕ) → s.name ≡ Some name → IsName name
+abbrev IsNamedStatement : StatementForm → Type 0
+IsNamedStatement s = (name : List ℕ) → s.name ≡ Some name → IsName name
 
 clean-named : (before after : List Form) (form : Form) → IsClean (before ++ form ∷ after) → IsNamed (name_in form)
 clean-named before after (ArrayLine name cells) whole =
@@ -94,8 +94,8 @@ clean-named before after (ParamLine name value) whole =
 clean-named before after (StatementLine source) whole =
     let block = before ++ StatementLine source ∷ after in
     named-if source.name
-    (picked IsNamedSource source_in before (StatementLine source) after source refl
-    (each-all (IsSourceAt block) IsNamedSource (λ m s h. h.named) 0 (filter_map source_in block) (sources-at block whole)))
+    (picked IsNamedStatement statement_in before (StatementLine source) after source refl
+    (each-all (IsStatementAt block) IsNamedStatement (λ m s h. h.named) 0 (filter_map statement_in block) (sources-at block whole)))
 clean-named before after (LoopLine name) whole = tt
 clean-named before after (InitLine name number value) whole = tt
 clean-named before after (OutLine name) whole = tt
@@ -111,13 +111,13 @@ at-none : (line : ℕ) (kinds : Kinds) (rest : List LoopFault) → at_line line 
 at-none line [] rest h = (refl, h)
 at-none line (k ∷ ks) rest h = cc
 
-pub faultless-lines : (block before : List Form) (entries : List Entry) → entry_faults block before entries ≡ [] → IsFaultlessFrom block before (forms_in entries)
+pub faultless-lines : (block before : List Form) (entries : List LineEntry) → entry_faults block before entries ≡ [] → IsFaultlessFrom block before (forms_in entries)
 faultless-lines block before [] h = tt
 faultless-lines block before (e ∷ es) h =
     let both = at-none e.line (faults_of before block (form_seen e.form)) (entry_faults block (before ++ form_seen e.form ∷ []) es) h in
     (both.0, faultless-lines block (before ++ form_seen e.form ∷ []) es both.1)
 
-split-at : (entries : List Entry) (k : ℕ) (d : Entry) → k < length entries → (before : List Form) × (after : List Form) × (forms_in entries ≡ before ++ form_seen (get_or entries k d).form ∷ after)
+split-at : (entries : List LineEntry) (k : ℕ) (d : LineEntry) → k < length entries → (before : List Form) × (after : List Form) × (forms_in entries ≡ before ++ form_seen (get_or entries k d).form ∷ after)
 split-at [] k d h = absurd (omega arith)
 split-at (e ∷ es) zero d h = ([], forms_in es, refl)
 split-at (e ∷ es) (suc k) d h =
@@ -125,7 +125,7 @@ split-at (e ∷ es) (suc k) d h =
     (form_seen e.form ∷ r.0, r.1, ap (λ fs. form_seen e.form ∷ fs) r.2)
 
 -- the name of a line of an index without a fault
-pub line-named : (index items : List Entry) → IsBlock (forms_in index) → entry_faults (forms_in index) [] index ≡ [] → items ≡ index → (k : ℕ) (d : Entry) → k < length items → IsNamed (name_in (form_seen (get_or items k d).form))
+pub line-named : (index items : List LineEntry) → IsBlock (forms_in index) → entry_faults (forms_in index) [] index ≡ [] → items ≡ index → (k : ℕ) (d : LineEntry) → k < length items → IsNamed (name_in (form_seen (get_or items k d).form))
 line-named index items is faultless e k d h =
     let r = split-at items k d h in
     let same : forms_in index ≡ r.0 ++ form_seen (get_or items k d).form ∷ r.1 = ap (λ es. forms_in es) (sym e) ∙ r.2 in

@@ -9,9 +9,9 @@ use Rattle.std.proofs.lemmas.Option.{none-some, same_Some, slice_get-map}
 use Rattle.machine.specs.Opcodes.{same_word}
 use Rattle.loop_reader.specs.declared.fault.LoopFaultKind.TheVariants.{Limit, RepeatedName, UnknownName, MissingInit}
 use Rattle.iterations.specs.declared.language.lists.Initial.{Initial}
-use Rattle.loop_lines.specs.Forms.{Form, InitLine, OutLine, Source}
+use Rattle.loop_lines.specs.Forms.{Form, InitLine, OutLine, StatementForm}
 use Rattle.iterations.specs.Loops.{LoopData, GivesValue, HasInitial, IsBefore, IsLong}
-use Rattle.loop_reader.specs.Meaning.{AValue, declared, is_value, is_init, init_value, init_numbers, value_in, has_init, same_number, is_out_of, when, is_long, is_outside, array_in, param_in, source_in, out_in, statement_of, inits_at, inits_from, number_at}
+use Rattle.loop_reader.specs.Meaning.{AValue, declared, is_value, is_init, init_value, init_numbers, value_in, has_init, same_number, is_out_of, when, is_long, is_outside, array_in, param_in, statement_in, out_in, statement_of, inits_at, inits_from, number_at}
 use Rattle.loop_reader.proofs.lookups.Declared.{same_word-here}
 use Rattle.loop_reader.proofs.making.Numbered.{EachFrom, Ascends, ascends-lower, ascends-append, ascends-pairs, Has, has-left, has-right, IsRun, run-has, run-ascends, run-bounds, all-join, all-filtered}
 use Rattle.loop_reader.proofs.making.Lines.{IsClean, append-none, when-only, value-named, one-name, value-of}
@@ -23,15 +23,15 @@ the_loop name block = record {
   name = name;
   arrays = filter_map array_in block;
   params = filter_map param_in block;
-  statements = map (statement_of block) (filter_map source_in block);
-  inits = inits_from block 0 (filter_map source_in block);
+  statements = map (statement_of block) (filter_map statement_in block);
+  inits = inits_from block 0 (filter_map statement_in block);
   outs = filter_map (out_in block) block;
 }
 
 pub gives-value : (loop : List ℕ) (block : List Form) (name : List ℕ) (v : ℕ) → declared block name ≡ Some (AValue v) → GivesValue (the_loop loop block) v
 gives-value loop block name v h =
     let s = value-named block name v h in
-    (statement_of block s.0, slice_get-map (statement_of block) (filter_map source_in block) v ∙ ap (option_map (statement_of block)) s.1, ap is_some s.2)
+    (statement_of block s.0, slice_get-map (statement_of block) (filter_map statement_in block) v ∙ ap (option_map (statement_of block)) s.1, ap is_some s.2)
 
 -- each initial value is written
 
@@ -83,12 +83,12 @@ initial statement number value = record { statement = statement; number = number
 abbrev pub initial_in : List Form → ℕ → List ℕ → ℕ → Option Initial
 initial_in block statement name number = option_map (initial statement number) (init_value name number block)
 
-pub inits-has : (block : List Form) (n : ℕ) (sources : List Source) (k : ℕ) (s : Source) (name : List ℕ) (i : Initial) → slice_get sources k ≡ Some s → s.name ≡ Some name → Has (inits_at block (n + k) (Some name)) i
+pub inits-has : (block : List Form) (n : ℕ) (sources : List StatementForm) (k : ℕ) (s : StatementForm) (name : List ℕ) (i : Initial) → slice_get sources k ≡ Some s → s.name ≡ Some name → Has (inits_at block (n + k) (Some name)) i
     → Has (inits_from block n sources) i
 inits-has block n [] k s name i e f h = absurd (none-some s e)
 inits-has block n (t ∷ sources) zero s name i e f h =
     let z : n + 0 ≡ n = omega arith in
-    let same = ap (λ (s : Source). s.name) (same_Some t s e) ∙ f in
+    let same = ap (λ (s : StatementForm). s.name) (same_Some t s e) ∙ f in
     has-left (inits_at block n t.name) (inits_from block (n + 1) sources) i (subst (λ o. Has (inits_at block n o) i) (sym same) (subst (λ m. Has (inits_at block m (Some name)) i) z h))
 inits-has block n (t ∷ sources) (suc k) s name i e f h =
     let z : n + suc k ≡ (n + 1) + k = omega arith in
@@ -102,7 +102,7 @@ has-initial loop block clean name v number is low high h =
     let i = initial v number z.0 in
     let here = run-has (initial_in block v name) 1 init_numbers 17 numbers-run number i low (omega arith) (ap (option_map (initial v number)) z.1) in
     let e : v ≡ 0 + v = omega arith in
-    let k = inits-has block 0 (filter_map source_in block) v s.0 name i s.1 s.2 (subst (λ m. Has (inits_at block m (Some name)) i) e here) in
+    let k = inits-has block 0 (filter_map statement_in block) v s.0 name i s.1 s.2 (subst (λ m. Has (inits_at block m (Some name)) i) e here) in
     (k.0, i, k.1, refl, refl)
 
 -- each initial value is of a value, and has a number of 1 to 16
@@ -126,7 +126,7 @@ inits-here Q block n (Some name) q =
     let number = is.1 in
     (subst Q (sym is.0) (q name refl), omega arith, omega arith)) init_numbers (run-bounds 1 1 init_numbers 17 (omega arith) numbers-run)
 
-pub inits-all : (Q : ℕ → Type 0) (block : List Form) (n : ℕ) (sources : List Source) → EachFrom (λ v (s : Source). (name : List ℕ) → s.name ≡ Some name → Q v) n sources → AllByRecursion (IsInitialOf Q) (inits_from block n sources)
+pub inits-all : (Q : ℕ → Type 0) (block : List Form) (n : ℕ) (sources : List StatementForm) → EachFrom (λ v (s : StatementForm). (name : List ℕ) → s.name ≡ Some name → Q v) n sources → AllByRecursion (IsInitialOf Q) (inits_from block n sources)
 inits-all Q block n [] q = tt
 inits-all Q block n (s ∷ sources) q = all-join (IsInitialOf Q) (inits_at block n s.name) (inits_from block (n + 1) sources) (inits-here Q block n s.name q.0) (inits-all Q block (n + 1) sources q.1)
 
@@ -165,12 +165,12 @@ long-here block n (Some name) all =
     all-filtered IsLongInitial (initial_in block n name) (λ m. (1 ≤ m) × (m < 17)) (λ m i b e. initial-long n m (init_value name m block) i (kept-value name m block all) e)
     init_numbers (run-bounds 1 1 init_numbers 17 (omega arith) numbers-run)
 
-long-from : (block : List Form) (n : ℕ) (sources : List Source) → AllByRecursion IsSpelled block → AllByRecursion IsLongInitial (inits_from block n sources)
+long-from : (block : List Form) (n : ℕ) (sources : List StatementForm) → AllByRecursion IsSpelled block → AllByRecursion IsLongInitial (inits_from block n sources)
 long-from block n [] all = tt
 long-from block n (s ∷ sources) all = all-join IsLongInitial (inits_at block n s.name) (inits_from block (n + 1) sources) (long-here block n s.name all) (long-from block (n + 1) sources all)
 
-pub inits-long : (block : List Form) → IsClean block → All (λ (i : Initial). IsLong i.value) (inits_from block 0 (filter_map source_in block))
-inits-long block clean = All-from_recursion IsLongInitial (inits_from block 0 (filter_map source_in block)) (long-from block 0 (filter_map source_in block) (spelled-from block [] block clean refl))
+pub inits-long : (block : List Form) → IsClean block → All (λ (i : Initial). IsLong i.value) (inits_from block 0 (filter_map statement_in block))
+inits-long block clean = All-from_recursion IsLongInitial (inits_from block 0 (filter_map statement_in block)) (long-from block 0 (filter_map statement_in block) (spelled-from block [] block clean refl))
 
 -- the initial values stand by statement and then by number
 
@@ -191,7 +191,7 @@ ascend-here block n (Some name) =
     rank-is i ∙ ap (λ k. k * 17 + i.number) is.0 ∙ ap (λ k. n * 17 + k) is.1) 1 init_numbers 17 numbers-run in
     subst (λ h. Ascends initial_rank (n * 17) (inits_at block n (Some name)) h) high (ascends-lower initial_rank (n * 17) (n * 17 + 1) (inits_at block n (Some name)) (n * 17 + 17) low run)
 
-ascend-from : (block : List Form) (n : ℕ) (sources : List Source) → Ascends initial_rank (n * 17) (inits_from block n sources) ((n + length sources) * 17)
+ascend-from : (block : List Form) (n : ℕ) (sources : List StatementForm) → Ascends initial_rank (n * 17) (inits_from block n sources) ((n + length sources) * 17)
 ascend-from block n [] = omega arith
 ascend-from block n (s ∷ sources) =
     let e : (n + 1) + length sources ≡ n + length (s ∷ sources) = omega arith in
@@ -206,7 +206,7 @@ before-by-rank a b low high h =
     (λ other. ⊎_elim (λ less. inl less) (λ more. absurd (omega arith)) other)
     (cases_order a.statement b.statement)
 
-pub inits-ascend : (Q : ℕ → Type 0) (block : List Form) (sources : List Source) → AllByRecursion (IsInitialOf Q) (inits_from block 0 sources) → AllPairs IsBefore (inits_from block 0 sources)
+pub inits-ascend : (Q : ℕ → Type 0) (block : List Form) (sources : List StatementForm) → AllByRecursion (IsInitialOf Q) (inits_from block 0 sources) → AllPairs IsBefore (inits_from block 0 sources)
 inits-ascend Q block sources all i j d l k =
     let inits = inits_from block 0 sources in
     let b = All-from_recursion (IsInitialOf Q) inits all j d k in

@@ -2,17 +2,17 @@
 use Rattle.std.proofs.Common.{◌≡◌, ℕ, zero, suc, ℤ, ◌+◌, ◌<◌, Bool, List, [], ◌∷◌, ◌++◌, Option, Some, None, option_map, refl, sym, ◌∙◌, ap, arith}
 use Rattle.std.specs.Prelude.{option_to_list}
 use Rattle.std.specs.List.{filter_map, cons_option}
-use Rattle.loop_reader.specs.declared.lines.entry.Entry.{Entry}
+use Rattle.loop_reader.specs.declared.lines.entry.LineEntry.{LineEntry}
 use Rattle.loop_reader.specs.declared.fault.LoopFault.{LoopFault}
 use Rattle.iterations.specs.declared.language.lists.Initial.{Initial}
 use Rattle.loop_reader.specs.inner.Blocks.{entry_faults, forms_in}
 use Rattle.loop_reader.specs.inner.Building.{row_of, row_if, rows_of}
 use Rattle.loop_reader.specs.inner.Checks.{IsBlock, IsGiven, slot}
-use Rattle.loop_lines.specs.Forms.{Form, Source}
-use Rattle.loop_reader.specs.Meaning.{AValue, Kinds, at_line, declared, faults_of, init_value, inits_at, inits_from, source_in}
+use Rattle.loop_lines.specs.Forms.{Form, StatementForm}
+use Rattle.loop_reader.specs.Meaning.{AValue, Kinds, at_line, declared, faults_of, init_value, inits_at, inits_from, statement_in}
 use Rattle.loop_lines.specs.Parsed.{form_seen}
 use Rattle.loop_reader.proofs.making.Lawful.{IsFaultlessFrom, clean-from}
-use Rattle.loop_reader.proofs.making.Lines.{IsSourceAt, sources-at}
+use Rattle.loop_reader.proofs.making.Lines.{IsStatementAt, sources-at}
 use Rattle.loop_reader.proofs.making.Numbered.{EachFrom}
 
 one-on : (i : ℕ) → i + 1 ≡ suc i
@@ -61,7 +61,7 @@ row-named block inits outs given n (Some name) is = row-given block inits outs g
 
 -- those of each statement
 
-rows-given : (block : List Form) (inits : List (Option ℤ)) (outs : List Bool) → IsGiven block block inits outs → (n : ℕ) (sources : List Source) → EachFrom (IsSourceAt block) n sources
+rows-given : (block : List Form) (inits : List (Option ℤ)) (outs : List Bool) → IsGiven block block inits outs → (n : ℕ) (sources : List StatementForm) → EachFrom (IsStatementAt block) n sources
     → rows_of inits n sources ≡ inits_from block n sources
 rows-given block inits outs given n [] each = refl
 rows-given block inits outs given n (s ∷ sources) each =
@@ -69,8 +69,8 @@ rows-given block inits outs given n (s ∷ sources) each =
     ∙ ap (λ xs. inits_at block n s.name ++ xs) (rows-given block inits outs given (n + 1) sources each.1)
 
 pub inits-given : (block : List Form) (inits : List (Option ℤ)) (outs : List Bool) → IsBlock block → IsFaultlessFrom block [] block → IsGiven block block inits outs
-    → rows_of inits 0 (filter_map source_in block) ≡ inits_from block 0 (filter_map source_in block)
-inits-given block inits outs is faultless given = rows-given block inits outs given 0 (filter_map source_in block) (sources-at block (clean-from block is faultless))
+    → rows_of inits 0 (filter_map statement_in block) ≡ inits_from block 0 (filter_map statement_in block)
+inits-given block inits outs is faultless given = rows-given block inits outs given 0 (filter_map statement_in block) (sources-at block (clean-from block is faultless))
 
 -- lines whose faults are none in a row have none each
 
@@ -78,7 +78,7 @@ line-faultless : (line : ℕ) (kinds : Kinds) (rest : List LoopFault) → at_lin
 line-faultless line [] rest h = (refl, h)
 line-faultless line (kind ∷ kinds) rest h = cc
 
-pub entries-faultless : (block before : List Form) (entries : List Entry) → entry_faults block before entries ≡ [] → IsFaultlessFrom block before (forms_in entries)
+pub entries-faultless : (block before : List Form) (entries : List LineEntry) → entry_faults block before entries ≡ [] → IsFaultlessFrom block before (forms_in entries)
 entries-faultless block before [] h = tt
 entries-faultless block before (entry ∷ entries) h =
     let parts = line-faultless entry.line (faults_of before block (form_seen entry.form)) (entry_faults block (before ++ form_seen entry.form ∷ []) entries) h in

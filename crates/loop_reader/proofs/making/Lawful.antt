@@ -13,13 +13,13 @@ use Rattle.iterations.specs.declared.language.statement.Place.{Place}
 use Rattle.iterations.specs.declared.language.statement.Statement.{Statement}
 use Rattle.loop_reader.specs.inner.Blocks.{one_if}
 use Rattle.loop_reader.specs.inner.Checks.{IsBlock, IsCounted}
-use Rattle.loop_lines.specs.Forms.{Form, Source, Subscript, Use, Number, Plain, At}
+use Rattle.loop_lines.specs.Forms.{Form, StatementForm, Subscript, Use, Number, Plain, At}
 use Rattle.iterations.specs.Loops.{IsLoop, IsName, IsStatement, IsPlace, MayRead, GivesValue, IsLong, declared_names}
-use Rattle.loop_reader.specs.Meaning.{Declared, AnArray, AParam, AValue, declared, number_of, number_at, is_array, is_param, is_statement, is_value, is_array_name, is_readable, is_value_from, same_number, has_init, has_inits, has_statement, is_long, faults_of, reads, array_in, param_in, source_in, statement_of, operand_of, place_at, inits_from, loop_of}
+use Rattle.loop_reader.specs.Meaning.{Declared, AnArray, AParam, AValue, declared, how_many, number_at, is_array, is_param, is_statement, is_value, is_array_name, is_readable, is_value_from, same_number, has_init, has_inits, has_statement, is_long, faults_of, reads, array_in, param_in, statement_in, statement_of, operand_of, place_at, inits_from, loop_of}
 use Rattle.loop_reader.proofs.faults.Checking.{declared-below, counted-as}
-use Rattle.loop_reader.proofs.lookups.Declared.{number_of-cons}
+use Rattle.loop_reader.proofs.lookups.Declared.{how_many-cons}
 use Rattle.loop_reader.proofs.making.Initials.{the_loop, gives-value, has-initial, inits-all, inits-ascend, inits-long, outs-different, outs-hold}
-use Rattle.loop_reader.proofs.making.Lines.{IsClean, IsArrayAt, IsParamAt, IsSourceAt, IsUseAt, arrays-at, params-at, sources-at, numbered-length, array-agrees, param-agrees, source-agrees, kept-long, value-of}
+use Rattle.loop_reader.proofs.making.Lines.{IsClean, IsArrayAt, IsParamAt, IsStatementAt, IsUseAt, arrays-at, params-at, sources-at, numbered-length, array-agrees, param-agrees, source-agrees, kept-long, value-of}
 use Rattle.loop_reader.proofs.making.Numbered.{EachFrom, each-get, each-weaker, each-map, each-all, each-length, all-join, all-mapped, all-filtered, Ascends, ascends-lower, ascends-append, ascends-pairs, mapped-ascends, filtered-ascends}
 use Rattle.loop_reader.proofs.making.Spelled.{IsSpelled, block-spelled}
 
@@ -51,29 +51,29 @@ arrays-few block clean = let l = each-length (IsArrayAt block) 32 (λ m a h. h.f
 params-few : (block : List Form) → IsClean block → length (filter_map param_in block) ≤ 64
 params-few block clean = let l = each-length (IsParamAt block) 64 (λ m p h. h.few) 0 (filter_map param_in block) (omega arith) (params-at block clean) in omega arith
 
-statements-few : (block : List Form) → IsClean block → length (map (statement_of block) (filter_map source_in block)) ≤ 128
+statements-few : (block : List Form) → IsClean block → length (map (statement_of block) (filter_map statement_in block)) ≤ 128
 statements-few block clean =
-    let l = each-length (IsSourceAt block) 128 (λ m s h. h.few) 0 (filter_map source_in block) (omega arith) (sources-at block clean) in
-    let e = length-map (filter_map source_in block) (statement_of block) in
+    let l = each-length (IsStatementAt block) 128 (λ m s h. h.few) 0 (filter_map statement_in block) (omega arith) (sources-at block clean) in
+    let e = length-map (filter_map statement_in block) (statement_of block) in
     omega arith
 
-counted-any : (p : Form → Bool) (forms : List Form) → list_any p forms ≡ true → 1 ≤ number_of p forms
+counted-any : (p : Form → Bool) (forms : List Form) → list_any p forms ≡ true → 1 ≤ how_many p forms
 counted-any p [] h = absurd (false≢true h)
 counted-any p (form ∷ forms) h =
-    let e = number_of-cons p form forms in
-    let step : (b : Bool) → (b || list_any p forms) ≡ true → 1 ≤ one_if b + number_of p forms = λ b.
-    elim b as (λ b. (b || list_any p forms) ≡ true → 1 ≤ one_if b + number_of p forms) [
+    let e = how_many-cons p form forms in
+    let step : (b : Bool) → (b || list_any p forms) ≡ true → 1 ≤ one_if b + how_many p forms = λ b.
+    elim b as (λ b. (b || list_any p forms) ≡ true → 1 ≤ one_if b + how_many p forms) [
       | true ↦ λ k. omega arith
       | false ↦ λ k. let r = counted-any p forms k in omega arith
     ] in
     let s = step (p form) h in
     omega arith
 
-statements-some : (block : List Form) → has_statement block ≡ true → 1 ≤ length (map (statement_of block) (filter_map source_in block))
+statements-some : (block : List Form) → has_statement block ≡ true → 1 ≤ length (map (statement_of block) (filter_map statement_in block))
 statements-some block h =
     let a = counted-any is_statement block h in
-    let b = numbered-length is_statement source_in source-agrees block in
-    let e = length-map (filter_map source_in block) (statement_of block) in
+    let b = numbered-length is_statement statement_in source-agrees block in
+    let e = length-map (filter_map statement_in block) (statement_of block) in
     omega arith
 
 -- names
@@ -97,19 +97,19 @@ unfolding name_rank
 value-rank a p n = refl
 
 abbrev value_names_of : List Form → List (List ℕ)
-value_names_of block = filter_map (λ (s : Statement). s.name) (map (statement_of block) (filter_map source_in block))
+value_names_of block = filter_map (λ (s : Statement). s.name) (map (statement_of block) (filter_map statement_in block))
 
-values-from : (block : List Form) (P : ℕ → List ℕ → Type 0) → ((n : ℕ) (s : Source) → IsSourceAt block n s → (name : List ℕ) → s.name ≡ Some name → P n name) → IsClean block
-    → EachFrom (λ n (s : Statement). (name : List ℕ) → s.name ≡ Some name → P n name) 0 (map (statement_of block) (filter_map source_in block))
+values-from : (block : List Form) (P : ℕ → List ℕ → Type 0) → ((n : ℕ) (s : StatementForm) → IsStatementAt block n s → (name : List ℕ) → s.name ≡ Some name → P n name) → IsClean block
+    → EachFrom (λ n (s : Statement). (name : List ℕ) → s.name ≡ Some name → P n name) 0 (map (statement_of block) (filter_map statement_in block))
 values-from block P w clean =
-    each-map (λ n (s : Statement). (name : List ℕ) → s.name ≡ Some name → P n name) (statement_of block) 0 (filter_map source_in block)
-    (each-weaker (IsSourceAt block) (λ n (s : Source). (name : List ℕ) → s.name ≡ Some name → P n name) w 0 (filter_map source_in block) (sources-at block clean))
+    each-map (λ n (s : Statement). (name : List ℕ) → s.name ≡ Some name → P n name) (statement_of block) 0 (filter_map statement_in block)
+    (each-weaker (IsStatementAt block) (λ n (s : StatementForm). (name : List ℕ) → s.name ≡ Some name → P n name) w 0 (filter_map statement_in block) (sources-at block clean))
 
 all-names : (loop : List ℕ) (block : List Form) → IsClean block → All IsName (declared_names (the_loop loop block))
 all-names loop block clean =
     let arrays = filter_map array_in block in
     let params = filter_map param_in block in
-    let statements = map (statement_of block) (filter_map source_in block) in
+    let statements = map (statement_of block) (filter_map statement_in block) in
     All-from_recursion IsName (declared_names (the_loop loop block))
     (all-join IsName (map (λ (a : Array). a.name) arrays ++ map (λ (p : Param). p.name) params) (value_names_of block)
     (all-join IsName (map (λ (a : Array). a.name) arrays) (map (λ (p : Param). p.name) params)
@@ -120,12 +120,12 @@ all-names loop block clean =
     (values-from block (λ n name. IsName name) (λ n s at. at.named) clean))))
 
 names-ascend : (loop : List ℕ) (block : List Form) → IsClean block → (a p : ℕ) → a ≡ length (filter_map array_in block) → p ≡ length (filter_map param_in block)
-    → Ascends (λ name. name_rank a p (declared block name)) 0 (declared_names (the_loop loop block)) ((a + p) + (0 + length (map (statement_of block) (filter_map source_in block))))
+    → Ascends (λ name. name_rank a p (declared block name)) 0 (declared_names (the_loop loop block)) ((a + p) + (0 + length (map (statement_of block) (filter_map statement_in block))))
 names-ascend loop block clean a p ea ep =
     let rank : List ℕ → ℕ = λ name. name_rank a p (declared block name) in
     let arrays = filter_map array_in block in
     let params = filter_map param_in block in
-    let statements = map (statement_of block) (filter_map source_in block) in
+    let statements = map (statement_of block) (filter_map statement_in block) in
     let xs = map (λ (a : Array). a.name) arrays in
     let ys = map (λ (p : Param). p.name) params in
     let zs = value_names_of block in
@@ -149,19 +149,19 @@ names-different loop block clean i j d l k same =
     let p = length (filter_map param_in block) in
     let names = declared_names (the_loop loop block) in
     let rank : List ℕ → ℕ = λ name. name_rank a p (declared block name) in
-    let up : rank (get_or names i d) < rank (get_or names j d) = ascends-pairs rank 0 names ((a + p) + (0 + length (map (statement_of block) (filter_map source_in block)))) (names-ascend loop block clean a p refl refl) i j d l k in
+    let up : rank (get_or names i d) < rank (get_or names j d) = ascends-pairs rank 0 names ((a + p) + (0 + length (map (statement_of block) (filter_map statement_in block)))) (names-ascend loop block clean a p refl refl) i j d l k in
     let e : rank (get_or names i d) ≡ rank (get_or names j d) = ap rank same in
     omega arith
 
 -- statements
 
-array-under : (block : List Form) (d : Option Declared) → IsCounted block d → is_array_name d ≡ true → number_at d < number_of is_array block
+array-under : (block : List Form) (d : Option Declared) → IsCounted block d → is_array_name d ≡ true → number_at d < how_many is_array block
 array-under block None h e = absurd (false≢true e)
 array-under block (Some (AnArray n)) h e = h
 array-under block (Some (AParam n)) h e = absurd (false≢true e)
 array-under block (Some (AValue n)) h e = absurd (false≢true e)
 
-place-is : (loop : List ℕ) (block : List Form) (n : ℕ) (s : Source) → IsSourceAt block n s → (q : Subscript) → s.place ≡ Some q → IsPlace (the_loop loop block) (place_at block q)
+place-is : (loop : List ℕ) (block : List Form) (n : ℕ) (s : StatementForm) → IsStatementAt block n s → (q : Subscript) → s.place ≡ Some q → IsPlace (the_loop loop block) (place_at block q)
 place-is loop block n s at q e =
     let z = at.offset q e in
     let under = array-under block (declared block q.array) (declared-below block q.array) (at.array q e) in
@@ -192,7 +192,7 @@ plain-read : (loop : List ℕ) (block : List Form) → IsClean block → (n : �
 plain-read loop block clean n name None e h k = absurd (false≢true h)
 plain-read loop block clean n name (Some (AnArray m)) e h k = absurd (false≢true h)
 plain-read loop block clean n name (Some (AParam m)) e h k =
-    let under : m < number_of is_param block = counted-as block name (Some (AParam m)) (sym e) in
+    let under : m < how_many is_param block = counted-as block name (Some (AParam m)) (sym e) in
     let count = numbered-length is_param param_in param-agrees block in
     omega arith
 plain-read loop block clean n name (Some (AValue v)) e h k =
@@ -220,7 +220,7 @@ uses-read : (loop : List ℕ) (block : List Form) → IsClean block → (n : ℕ
 uses-read loop block clean n [] at = tt
 uses-read loop block clean n (u ∷ uses) at = (use-read loop block clean n u at.0, uses-read loop block clean n uses at.1)
 
-statement-is : (loop : List ℕ) (block : List Form) → IsClean block → (n : ℕ) (s : Source) → IsSourceAt block n s → IsStatement (the_loop loop block) n (statement_of block s)
+statement-is : (loop : List ℕ) (block : List Form) → IsClean block → (n : ℕ) (s : StatementForm) → IsStatementAt block n s → IsStatement (the_loop loop block) n (statement_of block s)
 statement-is loop block clean n s at =
     record {
       shape = at.shape;
@@ -228,20 +228,20 @@ statement-is loop block clean n s at =
       operands = All-from_recursion (MayRead (the_loop loop block) n) (map (operand_of block) s.uses) (uses-read loop block clean n s.uses at.uses);
     }
 
-statements-are : (loop : List ℕ) (block : List Form) → IsClean block → (number : ℕ) (s : Statement) → slice_get (map (statement_of block) (filter_map source_in block)) number ≡ Some s → IsStatement (the_loop loop block) number s
+statements-are : (loop : List ℕ) (block : List Form) → IsClean block → (number : ℕ) (s : Statement) → slice_get (map (statement_of block) (filter_map statement_in block)) number ≡ Some s → IsStatement (the_loop loop block) number s
 statements-are loop block clean number s e =
-    let sources = filter_map source_in block in
+    let sources = filter_map statement_in block in
     let each = each-map (IsStatement (the_loop loop block)) (statement_of block) 0 sources
-    (each-weaker (IsSourceAt block) (λ n s. IsStatement (the_loop loop block) n (statement_of block s)) (statement-is loop block clean) 0 sources (sources-at block clean)) in
+    (each-weaker (IsStatementAt block) (λ n s. IsStatement (the_loop loop block) n (statement_of block s)) (statement-is loop block clean) 0 sources (sources-at block clean)) in
     subst (λ n. IsStatement (the_loop loop block) n s) (zero-add number) (each-get (IsStatement (the_loop loop block)) 0 (map (statement_of block) sources) each number s e)
 
 -- initial values
 
 inits-are : (loop : List ℕ) (block : List Form) → IsClean block
-    → AllByRecursion (λ (i : Initial). GivesValue (the_loop loop block) i.statement × (1 ≤ i.number) × (i.number ≤ 16)) (inits_from block 0 (filter_map source_in block))
+    → AllByRecursion (λ (i : Initial). GivesValue (the_loop loop block) i.statement × (1 ≤ i.number) × (i.number ≤ 16)) (inits_from block 0 (filter_map statement_in block))
 inits-are loop block clean =
-    inits-all (GivesValue (the_loop loop block)) block 0 (filter_map source_in block)
-    (each-weaker (IsSourceAt block) (λ v (s : Source). (name : List ℕ) → s.name ≡ Some name → GivesValue (the_loop loop block) v) (λ v s at name e. gives-value loop block name v (at.is name e)) 0 (filter_map source_in block) (sources-at block clean))
+    inits-all (GivesValue (the_loop loop block)) block 0 (filter_map statement_in block)
+    (each-weaker (IsStatementAt block) (λ v (s : StatementForm). (name : List ℕ) → s.name ≡ Some name → GivesValue (the_loop loop block) v) (λ v s at name e. gives-value loop block name v (at.is name e)) 0 (filter_map statement_in block) (sources-at block clean))
 
 cells-are : (block : List Form) → IsClean block → All (λ (a : Array). length a.cells ≤ 1024) (filter_map array_in block)
 cells-are block clean =
@@ -275,9 +275,9 @@ clean-loop loop block name some clean =
       names = all-names loop block clean;
       different = names-different loop block clean;
       each = statements-are loop block clean;
-      inits = All-from_recursion (λ (i : Initial). GivesValue (the_loop loop block) i.statement × (1 ≤ i.number) × (i.number ≤ 16)) (inits_from block 0 (filter_map source_in block)) (inits-are loop block clean);
+      inits = All-from_recursion (λ (i : Initial). GivesValue (the_loop loop block) i.statement × (1 ≤ i.number) × (i.number ≤ 16)) (inits_from block 0 (filter_map statement_in block)) (inits-are loop block clean);
       init_values = inits-long block clean;
-      inits_ascend = inits-ascend (GivesValue (the_loop loop block)) block (filter_map source_in block) (inits-are loop block clean);
+      inits_ascend = inits-ascend (GivesValue (the_loop loop block)) block (filter_map statement_in block) (inits-are loop block clean);
       outs = outs-hold loop block clean;
       outs_different = outs-different block clean;
     }

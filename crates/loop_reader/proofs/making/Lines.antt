@@ -12,12 +12,12 @@ use Rattle.loop_reader.specs.declared.fault.LoopFaultKind.TheVariants.{Limit, Re
 use Rattle.iterations.specs.declared.language.lists.Array.{Array}
 use Rattle.iterations.specs.declared.language.lists.Param.{Param}
 use Rattle.loop_reader.specs.inner.Blocks.{one_if}
-use Rattle.loop_lines.specs.Forms.{Form, LoopLine, ArrayLine, ParamLine, InitLine, StatementLine, OutLine, EndLine, Malformed, Source, Subscript, Use}
+use Rattle.loop_lines.specs.Forms.{Form, LoopLine, ArrayLine, ParamLine, InitLine, StatementLine, OutLine, EndLine, Malformed, StatementForm, Subscript, Use}
 use Rattle.iterations.specs.Loops.{IsName, IsLong, HasShape}
-use Rattle.loop_reader.specs.Meaning.{Declared, AnArray, AParam, AValue, declared, first_declared, number_of, is_array, is_param, is_statement, is_out, is_value, is_array_name, any_name, faults_of, when, Kinds, is_long, is_wide, is_wide_place, is_unknown, is_unknown_place, is_early, is_uncovered, array_in, param_in, source_in, out_in, statement_of, number_at}
-use Rattle.loop_reader.proofs.lookups.Declared.{declared-append, declared_after, same_word-here, same_word-yes, number_of-push, number_of-cons}
+use Rattle.loop_reader.specs.Meaning.{Declared, AnArray, AParam, AValue, declared, first_declared, how_many, is_array, is_param, is_statement, is_out, is_value, is_array_name, any_name, faults_of, when, Kinds, is_long, is_wide, is_wide_place, is_unknown, is_unknown_place, is_early, is_uncovered, array_in, param_in, statement_in, out_in, statement_of, number_at}
+use Rattle.loop_reader.proofs.lookups.Declared.{declared-append, declared_after, same_word-here, same_word-yes, how_many-push, how_many-cons}
 use Rattle.loop_reader.proofs.making.Numbered.{EachFrom}
-use Rattle.loop_reader.proofs.making.Spelled.{IsSpelled, IsSpelledUse, IsSource, IsOffset, IsKept, OnSome}
+use Rattle.loop_reader.proofs.making.Spelled.{IsSpelled, IsSpelledUse, IsStatementForm, IsOffset, IsKept, OnSome}
 
 -- each line of a block is spelled and has no fault behind the lines before it
 pub record IsClean (block : List Form) : Type 0 where
@@ -26,24 +26,24 @@ pub record IsClean (block : List Form) : Type 0 where
 
 -- what the lines of a form give, by its number
 
-numbered-step : {Y : Type 0} (P : ℕ → Y → Type 0) (p : Form → Bool) (before : List Form) (form : Form) (o : Option Y) (ys : List Y) → is_some o ≡ p form → ((y : Y) → o ≡ Some y → P (number_of p before) y)
-    → EachFrom P (number_of p (before ++ form ∷ [])) ys → EachFrom P (number_of p before) (cons_option o ys)
+numbered-step : {Y : Type 0} (P : ℕ → Y → Type 0) (p : Form → Bool) (before : List Form) (form : Form) (o : Option Y) (ys : List Y) → is_some o ≡ p form → ((y : Y) → o ≡ Some y → P (how_many p before) y)
+    → EachFrom P (how_many p (before ++ form ∷ [])) ys → EachFrom P (how_many p before) (cons_option o ys)
 numbered-step P p before form None ys h each rest =
-    let k = number_of-push p before form ∙ ap (λ b. number_of p before + one_if b) (sym h) in
-    let e : number_of p (before ++ form ∷ []) ≡ number_of p before = omega arith in
+    let k = how_many-push p before form ∙ ap (λ b. how_many p before + one_if b) (sym h) in
+    let e : how_many p (before ++ form ∷ []) ≡ how_many p before = omega arith in
     subst (λ n. EachFrom P n ys) e rest
-numbered-step P p before form (Some y) ys h each rest = (each y refl, subst (λ n. EachFrom P n ys) (number_of-push p before form ∙ ap (λ b. number_of p before + one_if b) (sym h)) rest)
+numbered-step P p before form (Some y) ys h each rest = (each y refl, subst (λ n. EachFrom P n ys) (how_many-push p before form ∙ ap (λ b. how_many p before + one_if b) (sym h)) rest)
 
 numbered-from : {Y : Type 0} (P : ℕ → Y → Type 0) (p : Form → Bool) (f : Form → Option Y) → ((form : Form) → is_some (f form) ≡ p form) → (block before forms : List Form)
-    → ((front : List Form) (form : Form) (after : List Form) → block ≡ front ++ form ∷ after → (y : Y) → f form ≡ Some y → P (number_of p front) y)
-    → block ≡ before ++ forms → EachFrom P (number_of p before) (filter_map f forms)
+    → ((front : List Form) (form : Form) (after : List Form) → block ≡ front ++ form ∷ after → (y : Y) → f form ≡ Some y → P (how_many p front) y)
+    → block ≡ before ++ forms → EachFrom P (how_many p before) (filter_map f forms)
 numbered-from P p f agree block before [] each e = tt
 numbered-from P p f agree block before (form ∷ forms) each e =
     numbered-step P p before form (f form) (filter_map f forms) (agree form) (λ y h. each before form forms e y h)
     (numbered-from P p f agree block (before ++ form ∷ []) forms each (e ∙ sym (append_assoc before (form ∷ []) forms)))
 
 pub numbered : {Y : Type 0} (P : ℕ → Y → Type 0) (p : Form → Bool) (f : Form → Option Y) → ((form : Form) → is_some (f form) ≡ p form) → (block : List Form)
-    → ((front : List Form) (form : Form) (after : List Form) → block ≡ front ++ form ∷ after → (y : Y) → f form ≡ Some y → P (number_of p front) y)
+    → ((front : List Form) (form : Form) (after : List Form) → block ≡ front ++ form ∷ after → (y : Y) → f form ≡ Some y → P (how_many p front) y)
     → EachFrom P 0 (filter_map f block)
 numbered P p f agree block each = numbered-from P p f agree block [] block each refl
 
@@ -51,12 +51,12 @@ count-step : {Y : Type 0} (b : Bool) (o : Option Y) (ys : List Y) → is_some o 
 count-step b None ys h = let e = ap one_if h in omega arith
 count-step b (Some y) ys h = let e = ap one_if h in omega arith
 
-pub numbered-length : {Y : Type 0} (p : Form → Bool) (f : Form → Option Y) → ((form : Form) → is_some (f form) ≡ p form) → (forms : List Form) → length (filter_map f forms) ≡ number_of p forms
+pub numbered-length : {Y : Type 0} (p : Form → Bool) (f : Form → Option Y) → ((form : Form) → is_some (f form) ≡ p form) → (forms : List Form) → length (filter_map f forms) ≡ how_many p forms
 numbered-length p f agree [] = refl
 numbered-length p f agree (form ∷ forms) =
     let a = count-step (p form) (f form) (filter_map f forms) (agree form) in
     let b = numbered-length p f agree forms in
-    let c = number_of-cons p form forms in
+    let c = how_many-cons p form forms in
     omega arith
 
 pub array-agrees : (form : Form) → is_some (array_in form) ≡ is_array form
@@ -67,7 +67,7 @@ pub param-agrees : (form : Form) → is_some (param_in form) ≡ is_param form
 param-agrees (ParamLine n v) = refl
 param-agrees _ = refl
 
-pub source-agrees : (form : Form) → is_some (source_in form) ≡ is_statement form
+pub source-agrees : (form : Form) → is_some (statement_in form) ≡ is_statement form
 source-agrees (StatementLine s) = refl
 source-agrees _ = refl
 
@@ -133,13 +133,13 @@ pub record IsArrayAt (block : List Form) (n : ℕ) (a : Array) : Type 0 where
   pub is : declared block a.name ≡ Some (AnArray n)
 
 array-line : (block front after : List Form) (name : List ℕ) (cells : List (Option ℤ)) → IsClean block → block ≡ front ++ ArrayLine name cells ∷ after
-    → IsArrayAt block (number_of is_array front) (record { name = name; cells = map (λ cell. unwrap_or cell (pos 0)) cells })
+    → IsArrayAt block (how_many is_array front) (record { name = name; cells = map (λ cell. unwrap_or cell (pos 0)) cells })
 array-line block front after name cells clean e =
     let spelled = clean.spelled front (ArrayLine name cells) after e in
     let faults = clean.faultless front (ArrayLine name cells) after e in
-    let wide = is_long name || list_any is_none cells || nat_lt 1024 (length cells) || nat_le 32 (number_of is_array front) in
+    let wide = is_long name || list_any is_none cells || nat_lt 1024 (length cells) || nat_le 32 (how_many is_array front) in
     let parts = when-parts wide Limit (when (is_some (declared front name)) RepeatedName) faults in
-    let many = or_parts (is_long name || list_any is_none cells || nat_lt 1024 (length cells)) (nat_le 32 (number_of is_array front)) parts.0 in
+    let many = or_parts (is_long name || list_any is_none cells || nat_lt 1024 (length cells)) (nat_le 32 (how_many is_array front)) parts.0 in
     let large = or_parts (is_long name || list_any is_none cells) (nat_lt 1024 (length cells)) many.0 in
     let long = or_parts (is_long name) (list_any is_none cells) large.0 in
     let size = ltb-false 1024 (length cells) large.1 in
@@ -148,14 +148,14 @@ array-line block front after name cells clean e =
       name = record { formed = spelled.0; short = ltb-false 16 (length name) long.0 };
       cells = omega arith;
       values = cells-long cells spelled.1;
-      few = leb-false 32 (number_of is_array front) many.1;
-      is = declared-here block front (ArrayLine name cells) after name (AnArray (number_of is_array front)) e (when-only (is_some (declared front name)) RepeatedName parts.1)
-          (ap (λ b. if b then Some (AnArray (number_of is_array front)) else None) (same_word-here name));
+      few = leb-false 32 (how_many is_array front) many.1;
+      is = declared-here block front (ArrayLine name cells) after name (AnArray (how_many is_array front)) e (when-only (is_some (declared front name)) RepeatedName parts.1)
+          (ap (λ b. if b then Some (AnArray (how_many is_array front)) else None) (same_word-here name));
     }
 
-array-at : (block : List Form) → IsClean block → (front : List Form) (form : Form) (after : List Form) → block ≡ front ++ form ∷ after → (a : Array) → array_in form ≡ Some a → IsArrayAt block (number_of is_array front) a
+array-at : (block : List Form) → IsClean block → (front : List Form) (form : Form) (after : List Form) → block ≡ front ++ form ∷ after → (a : Array) → array_in form ≡ Some a → IsArrayAt block (how_many is_array front) a
 array-at block clean front (ArrayLine name cells) after e a h =
-    subst (IsArrayAt block (number_of is_array front)) (same_Some (record { name = name; cells = map (λ cell. unwrap_or cell (pos 0)) cells }) a h) (array-line block front after name cells clean e)
+    subst (IsArrayAt block (how_many is_array front)) (same_Some (record { name = name; cells = map (λ cell. unwrap_or cell (pos 0)) cells }) a h) (array-line block front after name cells clean e)
 array-at block clean front _ after e a h = absurd (none-some a h)
 
 pub arrays-at : (block : List Form) → IsClean block → EachFrom (IsArrayAt block) 0 (filter_map array_in block)
@@ -170,24 +170,24 @@ pub record IsParamAt (block : List Form) (n : ℕ) (p : Param) : Type 0 where
   pub is : declared block p.name ≡ Some (AParam n)
 
 param-line : (block front after : List Form) (name : List ℕ) (value : Option ℤ) → IsClean block → block ≡ front ++ ParamLine name value ∷ after
-    → IsParamAt block (number_of is_param front) (record { name = name; value = unwrap_or value (pos 0) })
+    → IsParamAt block (how_many is_param front) (record { name = name; value = unwrap_or value (pos 0) })
 param-line block front after name value clean e =
     let spelled = clean.spelled front (ParamLine name value) after e in
     let faults = clean.faultless front (ParamLine name value) after e in
-    let parts = when-parts (is_long name || is_none value || nat_le 64 (number_of is_param front)) Limit (when (is_some (declared front name)) RepeatedName) faults in
-    let many = or_parts (is_long name || is_none value) (nat_le 64 (number_of is_param front)) parts.0 in
+    let parts = when-parts (is_long name || is_none value || nat_le 64 (how_many is_param front)) Limit (when (is_some (declared front name)) RepeatedName) faults in
+    let many = or_parts (is_long name || is_none value) (nat_le 64 (how_many is_param front)) parts.0 in
     let long = or_parts (is_long name) (is_none value) many.0 in
     record {
       name = record { formed = spelled.0; short = ltb-false 16 (length name) long.0 };
       value = kept-long value spelled.1;
-      few = leb-false 64 (number_of is_param front) many.1;
-      is = declared-here block front (ParamLine name value) after name (AParam (number_of is_param front)) e (when-only (is_some (declared front name)) RepeatedName parts.1)
-          (ap (λ b. if b then Some (AParam (number_of is_param front)) else None) (same_word-here name));
+      few = leb-false 64 (how_many is_param front) many.1;
+      is = declared-here block front (ParamLine name value) after name (AParam (how_many is_param front)) e (when-only (is_some (declared front name)) RepeatedName parts.1)
+          (ap (λ b. if b then Some (AParam (how_many is_param front)) else None) (same_word-here name));
     }
 
-param-at : (block : List Form) → IsClean block → (front : List Form) (form : Form) (after : List Form) → block ≡ front ++ form ∷ after → (p : Param) → param_in form ≡ Some p → IsParamAt block (number_of is_param front) p
+param-at : (block : List Form) → IsClean block → (front : List Form) (form : Form) (after : List Form) → block ≡ front ++ form ∷ after → (p : Param) → param_in form ≡ Some p → IsParamAt block (how_many is_param front) p
 param-at block clean front (ParamLine name value) after e p h =
-    subst (IsParamAt block (number_of is_param front)) (same_Some (record { name = name; value = unwrap_or value (pos 0) }) p h) (param-line block front after name value clean e)
+    subst (IsParamAt block (how_many is_param front)) (same_Some (record { name = name; value = unwrap_or value (pos 0) }) p h) (param-line block front after name value clean e)
 param-at block clean front _ after e p h = absurd (none-some p h)
 
 pub params-at : (block : List Form) → IsClean block → EachFrom (IsParamAt block) 0 (filter_map param_in block)
@@ -203,7 +203,7 @@ pub record IsUseAt (block : List Form) (n : ℕ) (u : Use) : Type 0 where
   pub late : is_early block n u ≡ false
   pub covered : is_uncovered block u ≡ false
 
-pub record IsSourceAt (block : List Form) (n : ℕ) (s : Source) : Type 0 where
+pub record IsStatementAt (block : List Form) (n : ℕ) (s : StatementForm) : Type 0 where
   pub few : n < 128
   pub named : (name : List ℕ) → s.name ≡ Some name → IsName name
   pub is : (name : List ℕ) → s.name ≡ Some name → declared block name ≡ Some (AValue n)
@@ -225,10 +225,10 @@ uses-at block n (u ∷ uses) near wide unknown early uncovered =
 offset-at : (p : Subscript) → IsOffset p.offset → is_none p.offset ≡ false → (z : ℤ) × (p.offset ≡ Some z) × IsOffset (Some z)
 offset-at p near narrow = let s = some-is p.offset narrow in (s.0, s.1, subst IsOffset s.1 near)
 
-source-line : (block front after : List Form) (s : Source) → IsClean block → block ≡ front ++ StatementLine s ∷ after → IsSourceAt block (number_of is_statement front) s
+source-line : (block front after : List Form) (s : StatementForm) → IsClean block → block ≡ front ++ StatementLine s ∷ after → IsStatementAt block (how_many is_statement front) s
 source-line block front after s clean e =
-    let n = number_of is_statement front in
-    let spelled : IsSource s = clean.spelled front (StatementLine s) after e in
+    let n = how_many is_statement front in
+    let spelled : IsStatementForm s = clean.spelled front (StatementLine s) after e in
     let faults = clean.faultless front (StatementLine s) after e in
     let limit = when (any_name is_long s.name || is_wide_place s.place || list_any is_wide s.uses || nat_le 128 n) Limit in
     let repeated = when (any_name (λ name. is_some (declared front name)) s.name) RepeatedName in
@@ -259,12 +259,12 @@ source-line block front after s clean e =
       uses = uses-at block n s.uses spelled.uses wide.1 strange.1 p4 p5;
     }
 
-source-at : (block : List Form) → IsClean block → (front : List Form) (form : Form) (after : List Form) → block ≡ front ++ form ∷ after → (s : Source) → source_in form ≡ Some s → IsSourceAt block (number_of is_statement front) s
-source-at block clean front (StatementLine source) after e s h = subst (IsSourceAt block (number_of is_statement front)) (same_Some source s h) (source-line block front after source clean e)
+source-at : (block : List Form) → IsClean block → (front : List Form) (form : Form) (after : List Form) → block ≡ front ++ form ∷ after → (s : StatementForm) → statement_in form ≡ Some s → IsStatementAt block (how_many is_statement front) s
+source-at block clean front (StatementLine source) after e s h = subst (IsStatementAt block (how_many is_statement front)) (same_Some source s h) (source-line block front after source clean e)
 source-at block clean front _ after e s h = absurd (none-some s h)
 
-pub sources-at : (block : List Form) → IsClean block → EachFrom (IsSourceAt block) 0 (filter_map source_in block)
-sources-at block clean = numbered (IsSourceAt block) is_statement source_in source-agrees block (source-at block clean)
+pub sources-at : (block : List Form) → IsClean block → EachFrom (IsStatementAt block) 0 (filter_map statement_in block)
+sources-at block clean = numbered (IsStatementAt block) is_statement statement_in source-agrees block (source-at block clean)
 
 -- the value that a name stands for is that of a statement of this name
 
@@ -272,17 +272,17 @@ name-is : (name : List ℕ) (o : Option (List ℕ)) → any_name (same_word name
 name-is name None h = absurd (false≢true h)
 name-is name (Some n) h = ap Some (sym (same_word-yes name n h))
 
-in-statement : (before : List Form) (s : Source) (forms : List Form) (name : List ℕ) (v : ℕ) (b : Bool) (rest : Option Declared) → any_name (same_word name) s.name ≡ b
-    → option_or (if b then Some (AValue (number_of is_statement before)) else None) rest ≡ Some (AValue v)
-    → (rest ≡ Some (AValue v) → (k : ℕ) × (t : Source) × (v ≡ number_of is_statement (before ++ StatementLine s ∷ []) + k) × (slice_get (filter_map source_in forms) k ≡ Some t) × (t.name ≡ Some name))
-    → (k : ℕ) × (t : Source) × (v ≡ number_of is_statement before + k) × (slice_get (filter_map source_in (StatementLine s ∷ forms)) k ≡ Some t) × (t.name ≡ Some name)
+in-statement : (before : List Form) (s : StatementForm) (forms : List Form) (name : List ℕ) (v : ℕ) (b : Bool) (rest : Option Declared) → any_name (same_word name) s.name ≡ b
+    → option_or (if b then Some (AValue (how_many is_statement before)) else None) rest ≡ Some (AValue v)
+    → (rest ≡ Some (AValue v) → (k : ℕ) × (t : StatementForm) × (v ≡ how_many is_statement (before ++ StatementLine s ∷ []) + k) × (slice_get (filter_map statement_in forms) k ≡ Some t) × (t.name ≡ Some name))
+    → (k : ℕ) × (t : StatementForm) × (v ≡ how_many is_statement before + k) × (slice_get (filter_map statement_in (StatementLine s ∷ forms)) k ≡ Some t) × (t.name ≡ Some name)
 in-statement before s forms name v true rest e h later =
     let same = ap number_at h in
     (0, s, omega arith, refl, name-is name s.name e)
 in-statement before s forms name v false rest e h later =
     let r = later h in
     let is = r.2 in
-    let push = number_of-push is_statement before (StatementLine s) in
+    let push = how_many-push is_statement before (StatementLine s) in
     (suc r.0, r.1, omega arith, r.3, r.4)
 
 not-first : (b : Bool) (d : Declared) (rest : Option Declared) (v : ℕ) → is_value (Some d) ≡ false → option_or (if b then Some d else None) rest ≡ Some (AValue v) → rest ≡ Some (AValue v)
@@ -290,12 +290,12 @@ not-first true d rest v other h = absurd (false≢true (sym other ∙ ap is_valu
 not-first false d rest v other h = h
 
 abbrev IsValueIn : List ℕ → ℕ → List Form → List Form → Type 0
-IsValueIn name v before forms = (k : ℕ) × (t : Source) × (v ≡ number_of is_statement before + k) × (slice_get (filter_map source_in forms) k ≡ Some t) × (t.name ≡ Some name)
+IsValueIn name v before forms = (k : ℕ) × (t : StatementForm) × (v ≡ how_many is_statement before + k) × (slice_get (filter_map statement_in forms) k ≡ Some t) × (t.name ≡ Some name)
 
 other-line : (name : List ℕ) (v : ℕ) (before : List Form) (form : Form) (forms : List Form) → is_statement form ≡ false → IsValueIn name v (before ++ form ∷ []) forms → IsValueIn name v before forms
 other-line name v before form forms other r =
     let is = r.2 in
-    let push = number_of-push is_statement before form ∙ ap (λ b. number_of is_statement before + one_if b) other in
+    let push = how_many-push is_statement before form ∙ ap (λ b. how_many is_statement before + one_if b) other in
     (r.0, r.1, omega arith, r.3, r.4)
 
 value-from : (name : List ℕ) (v : ℕ) (before forms : List Form) → first_declared name before forms ≡ Some (AValue v) → IsValueIn name v before forms
@@ -303,10 +303,10 @@ value-from name v before [] h = absurd (none-some (AValue v) h)
 value-from name v before (LoopLine n ∷ forms) h = other-line name v before (LoopLine n) forms refl (value-from name v (before ++ LoopLine n ∷ []) forms h)
 value-from name v before (ArrayLine n c ∷ forms) h =
     other-line name v before (ArrayLine n c) forms refl (value-from name v (before ++ ArrayLine n c ∷ []) forms
-    (not-first (same_word name n) (AnArray (number_of is_array before)) (first_declared name (before ++ ArrayLine n c ∷ []) forms) v refl h))
+    (not-first (same_word name n) (AnArray (how_many is_array before)) (first_declared name (before ++ ArrayLine n c ∷ []) forms) v refl h))
 value-from name v before (ParamLine n c ∷ forms) h =
     other-line name v before (ParamLine n c) forms refl (value-from name v (before ++ ParamLine n c ∷ []) forms
-    (not-first (same_word name n) (AParam (number_of is_param before)) (first_declared name (before ++ ParamLine n c ∷ []) forms) v refl h))
+    (not-first (same_word name n) (AParam (how_many is_param before)) (first_declared name (before ++ ParamLine n c ∷ []) forms) v refl h))
 value-from name v before (InitLine n m c ∷ forms) h = other-line name v before (InitLine n m c) forms refl (value-from name v (before ++ InitLine n m c ∷ []) forms h)
 value-from name v before (StatementLine s ∷ forms) h =
     in-statement before s forms name v (any_name (same_word name) s.name) (first_declared name (before ++ StatementLine s ∷ []) forms) refl h (λ r. value-from name v (before ++ StatementLine s ∷ []) forms r)
@@ -314,14 +314,14 @@ value-from name v before (OutLine n ∷ forms) h = other-line name v before (Out
 value-from name v before (EndLine ∷ forms) h = other-line name v before EndLine forms refl (value-from name v (before ++ EndLine ∷ []) forms h)
 value-from name v before (Malformed ∷ forms) h = other-line name v before Malformed forms refl (value-from name v (before ++ Malformed ∷ []) forms h)
 
-pub value-named : (block : List Form) (name : List ℕ) (v : ℕ) → declared block name ≡ Some (AValue v) → (t : Source) × (slice_get (filter_map source_in block) v ≡ Some t) × (t.name ≡ Some name)
+pub value-named : (block : List Form) (name : List ℕ) (v : ℕ) → declared block name ≡ Some (AValue v) → (t : StatementForm) × (slice_get (filter_map statement_in block) v ≡ Some t) × (t.name ≡ Some name)
 unfolding declared
 value-named block name v h =
     let r = value-from name v [] block h in
     let is = r.2 in
-    let none : number_of is_statement [] ≡ 0 = refl in
+    let none : how_many is_statement [] ≡ 0 = refl in
     let e : r.0 ≡ v = omega arith in
-    (r.1, ap (slice_get (filter_map source_in block)) (sym e) ∙ r.3, r.4)
+    (r.1, ap (slice_get (filter_map statement_in block)) (sym e) ∙ r.3, r.4)
 
 -- a value has one name
 pub one-name : (block : List Form) (a b : List ℕ) (v : ℕ) → declared block a ≡ Some (AValue v) → declared block b ≡ Some (AValue v) → a ≡ b
@@ -329,7 +329,7 @@ one-name block a b v h k =
     let x = value-named block a v h in
     let y = value-named block b v k in
     let same = same_Some x.0 y.0 (sym x.1 ∙ y.1) in
-    same_Some a b (sym x.2 ∙ ap (λ (s : Source). s.name) same ∙ y.2)
+    same_Some a b (sym x.2 ∙ ap (λ (s : StatementForm). s.name) same ∙ y.2)
 
 pub value-of : (d : Option Declared) → is_value d ≡ true → (v : ℕ) × (d ≡ Some (AValue v))
 value-of None h = absurd (false≢true h)

@@ -10,7 +10,7 @@ use Rattle.machine.specs.declared.opcode.Opcode.TheVariants.{Load, Store}
 use Rattle.machine.specs.Opcodes.{same_word, opcode_named}
 use Rattle.iterations.specs.declared.language.statement.Statement.{Statement}
 use Rattle.loop_reader.specs.inner.Checks.{IsBlock, IsNear}
-use Rattle.loop_lines.specs.Forms.{Form, LoopLine, ArrayLine, ParamLine, InitLine, StatementLine, OutLine, EndLine, Malformed, Source, Subscript, Use, Number, Plain, At, form_of, line_form, is_number, small_of, signed_of, int_of, ints_of, with_int, at_of, named_use_of, or_use, use_of, uses_of, with_use, offset_of, subscript_of, place_of, formed, loop_line, array_line, param_line, init_line, init_of, store_line, store_of, out_line, end_line, load_line, compute_line, value_of, value_line}
+use Rattle.loop_lines.specs.Forms.{Form, LoopLine, ArrayLine, ParamLine, InitLine, StatementLine, OutLine, EndLine, Malformed, StatementForm, Subscript, Use, Number, Plain, At, form_of, line_form, is_number, small_of, signed_of, int_of, ints_of, with_int, at_of, named_use_of, or_use, use_of, uses_of, with_use, offset_of, subscript_of, place_of, formed, loop_line, array_line, param_line, init_line, init_of, store_line, store_of, out_line, end_line, load_line, compute_line, value_of, value_line}
 use Rattle.iterations.specs.Names.{is_name}
 use Rattle.iterations.specs.Arithmetic.{is_memory, operands_of}
 use Rattle.iterations.specs.Loops.{HasShape, IsLong}
@@ -38,7 +38,7 @@ IsSpelledUse (Plain name) = Unit {0}
 IsSpelledUse (At name distance) = IsNear distance
 
 -- what the words of a statement give
-pub record IsSource (s : Source) : Type 0 where
+pub record IsStatementForm (s : StatementForm) : Type 0 where
   pub named : (name : List ℕ) → s.name ≡ Some name → is_name name ≡ true
   pub shape : (block : List Form) → HasShape s.opcode (statement_of block s)
   pub place : OnSome (λ (p : Subscript). IsOffset p.offset) s.place
@@ -49,7 +49,7 @@ abbrev pub IsSpelled : Form → Type 0
 IsSpelled (ArrayLine name cells) = (is_name name ≡ true) × AllByRecursion IsKept cells
 IsSpelled (ParamLine name value) = (is_name name ≡ true) × IsKept value
 IsSpelled (InitLine name number value) = IsKept value
-IsSpelled (StatementLine source) = IsSource source
+IsSpelled (StatementLine source) = IsStatementForm source
 IsSpelled _ = Unit {0}
 
 if-some : {T : Type 0} (P : T → Type 0) (b : Bool) (o : Option T) → (b ≡ true → OnSome P o) → OnSome P (if b then o else None)

@@ -4,11 +4,11 @@ use Rattle.std.specs.Borrow.{Bor}
 use Rattle.machine.specs.Opcodes.{same_word}
 use Rattle.loop_lines.specs.Forms.{Form, EndLine}
 use Rattle.loop_reader.specs.Meaning as meaning
-use Rattle.loop_reader.specs.Meaning.{number_of, is_array, is_param, is_statement, at_line, faults_of, whole, inside_faults, outside_faults, blocks_from, blocks_of, forms_of}
+use Rattle.loop_reader.specs.Meaning.{how_many, is_array, is_param, is_statement, at_line, faults_of, whole, inside_faults, outside_faults, blocks_from, blocks_of, forms_of}
 use Rattle.loop_lines.specs.Parsed.{form_seen}
 use Rattle.loop_reader.specs.declared.lines.collect.Stop.{Stop}
 use Rattle.loop_reader.specs.declared.lines.collect.Stop.TheVariants as stops
-use Rattle.loop_reader.specs.declared.lines.entry.Entry.{Entry}
+use Rattle.loop_reader.specs.declared.lines.entry.LineEntry.{LineEntry}
 use Rattle.loop_reader.specs.declared.fault.LoopFault.{LoopFault}
 use Rattle.loop_reader.specs.declared.fault.LoopFaultKind.TheVariants.{Syntax, NoEnd}
 use Rattle.loop_reader.specs.declared.names.index.Counts.{Counts}
@@ -16,8 +16,8 @@ use Rattle.loop_reader.specs.declared.names.index.Declared.{Declared}
 use Rattle.loop_reader.specs.declared.names.index.Declared.TheVariants as variants
 
 -- the forms of lines
-abbrev pub forms_in : List Entry → List Form
-forms_in entries = map (λ (e : Entry). form_seen e.form) entries
+abbrev pub forms_in : List LineEntry → List Form
+forms_in entries = map (λ (e : LineEntry). form_seen e.form) entries
 
 abbrev pub declared_seen : Declared → meaning.Declared
 declared_seen (variants.Array number) = meaning.AnArray number
@@ -33,14 +33,14 @@ abbrev pub one_if : Bool → ℕ
 one_if b = if b then 1 else 0
 
 -- the faults of standing lines behind others, in a block
-abbrev pub entry_faults : List Form → List Form → List Entry → List LoopFault
+abbrev pub entry_faults : List Form → List Form → List LineEntry → List LoopFault
 entry_faults block before [] = []
 entry_faults block before (entry ∷ entries) =
     at_line entry.line (faults_of before block (form_seen entry.form)) ++ entry_faults block (before ++ form_seen entry.form ∷ []) entries
 
 -- where the lines that stand in a block stop: the faults of the lines from this number on are those of the standing lines and then
 -- those of the line where they stop and of what follows
-abbrev pub StopsAt : ℕ → List (Option Form) → List Entry → Stop → Type 0
+abbrev pub StopsAt : ℕ → List (Option Form) → List LineEntry → Stop → Type 0
 StopsAt number lines entries (stops.End line rest) =
     (whole [] lines ≡ forms_in entries)
     × ((names : List (List ℕ)) → inside_faults number names [] lines
@@ -62,12 +62,12 @@ IsBehind bound (stops.Open line) = line ≤ bound
 
 -- how many lines of each form there are
 pub record IsCounts (block : List Form) (counts : Counts) : Type 0 where
-  pub arrays : counts.arrays ≡ number_of is_array block
-  pub params : counts.params ≡ number_of is_param block
-  pub statements : counts.statements ≡ number_of is_statement block
+  pub arrays : counts.arrays ≡ how_many is_array block
+  pub params : counts.params ≡ how_many is_param block
+  pub statements : counts.statements ≡ how_many is_statement block
 
 -- the same for a whole block, of which the lines up to this many stand before the line where they stop
-abbrev pub StopsBlock : ℕ → List (Option Form) → List Entry → ℕ → Stop → Type 0
+abbrev pub StopsBlock : ℕ → List (Option Form) → List LineEntry → ℕ → Stop → Type 0
 StopsBlock number lines entries sound (stops.End line rest) =
     (sound ≡ length entries)
     × ((names : List (List ℕ)) → inside_faults number names [] lines

@@ -1,16 +1,16 @@
 -- The loop of a block as the reader makes it.
 use Rattle.std.specs.Prelude.{ℕ, zero, suc, ℤ, ◌+◌, ◌<◌, ◌≤◌, List, [], ◌∷◌, ◌++◌, Option, Some, None, option_to_list, option_map}
-use Rattle.loop_lines.specs.Forms.{Form, ArrayLine, ParamLine, StatementLine, Source}
+use Rattle.loop_lines.specs.Forms.{Form, ArrayLine, ParamLine, StatementLine, StatementForm}
 use Rattle.iterations.specs.Loops.{IsName}
-use Rattle.loop_reader.specs.Meaning.{Declared, AnArray, AParam, AValue, number_of, is_array, is_param, is_statement}
+use Rattle.loop_reader.specs.Meaning.{Declared, AnArray, AParam, AValue, how_many, is_array, is_param, is_statement}
 use Rattle.loop_reader.specs.inner.Checks.{slot}
 use Rattle.iterations.specs.declared.language.lists.Initial.{Initial}
 
 -- so few lines of each form that their numbers fit a byte
 pub record IsFew (block : List Form) : Type 0 where
-  pub arrays : number_of is_array block ≤ 32
-  pub params : number_of is_param block ≤ 64
-  pub statements : number_of is_statement block ≤ 128
+  pub arrays : how_many is_array block ≤ 32
+  pub params : how_many is_param block ≤ 64
+  pub statements : how_many is_statement block ≤ 128
 
 abbrev pub IsFewNumber : Option Declared → Type 0
 IsFewNumber None = Unit {0}
@@ -32,7 +32,7 @@ abbrev pub row_if : List (Option ℤ) → ℕ → Option (List ℕ) → List Ini
 row_if inits statement None = []
 row_if inits statement (Some name) = row_of inits statement 16
 
-abbrev pub rows_of : List (Option ℤ) → ℕ → List Source → List Initial
+abbrev pub rows_of : List (Option ℤ) → ℕ → List StatementForm → List Initial
 rows_of inits statement [] = []
 rows_of inits statement (source ∷ sources) = row_if inits statement source.name ++ rows_of inits (statement + 1) sources
 

@@ -4,7 +4,7 @@ use Rattle.std.specs.Prelude.{◌≡◌, ℕ, zero, suc, ℤ, ◌+◌, ◌*◌, 
 use Rattle.std.specs.List.{list_any, AllByRecursion}
 use Rattle.loop_lines.specs.Forms.{Form, LoopLine, ArrayLine, ParamLine, InitLine, StatementLine, OutLine, EndLine, Malformed, Use, At}
 use Rattle.iterations.specs.Names.{is_name}
-use Rattle.loop_reader.specs.Meaning.{Declared, AnArray, AParam, AValue, declared, is_value, is_array, is_param, is_statement, number_of, is_long, is_outside, is_wide, is_wide_place, is_unknown, is_unknown_place, is_early, any_name, is_init, init_value, is_out_of, when, whole, forms_of, Kinds}
+use Rattle.loop_reader.specs.Meaning.{Declared, AnArray, AParam, AValue, declared, is_value, is_array, is_param, is_statement, how_many, is_long, is_outside, is_wide, is_wide_place, is_unknown, is_unknown_place, is_early, any_name, is_init, init_value, is_out_of, when, whole, forms_of, Kinds}
 use Rattle.loop_lines.specs.Parsed.{use_seen}
 use Rattle.loop_reader.specs.declared.fault.LoopFaultKind.{LoopFaultKind}
 use Rattle.loop_reader.specs.declared.fault.LoopFaultKind.TheVariants.{Limit, RepeatedName, UnknownName, UseBeforeDefinition, MissingInit, Memory}
@@ -116,9 +116,9 @@ outs_with block outs _ = outs
 -- a declaration's number is below the number of lines of its form
 abbrev pub IsCounted : List Form → Option Declared → Type 0
 IsCounted block None = Unit {0}
-IsCounted block (Some (AnArray number)) = number < number_of is_array block
-IsCounted block (Some (AParam number)) = number < number_of is_param block
-IsCounted block (Some (AValue number)) = number < number_of is_statement block
+IsCounted block (Some (AnArray number)) = number < how_many is_array block
+IsCounted block (Some (AParam number)) = number < how_many is_param block
+IsCounted block (Some (AValue number)) = number < how_many is_statement block
 
 -- a distance, or the number of an initial value, of at most 16
 abbrev pub IsNear : Option ℕ → Type 0
@@ -147,8 +147,8 @@ IsRoomFor room _ = Unit {0}
 
 -- the tables hold what the lines so far give to the values of a block
 pub record IsGiven (block before : List Form) (inits : List (Option ℤ)) (outs : List Bool) : Type 0 where
-  pub room : length inits ≡ 16 * number_of is_statement block
-  pub flags : length outs ≡ number_of is_statement block
+  pub room : length inits ≡ 16 * how_many is_statement block
+  pub flags : length outs ≡ how_many is_statement block
   pub slots : (name : List ℕ) (value m : ℕ) → declared block name ≡ Some (AValue value) → m < 16 → slot inits value m ≡ init_value name (suc m) before
   pub valued : (name : List ℕ) (m : ℕ) → list_any (is_init name (Some m)) before ≡ is_some (init_value name m before)
   pub known : (name : List ℕ) (number : Option ℕ) → list_any (is_init name number) before ≡ true → (is_value (declared block name) ≡ true) × (m : ℕ) × (number ≡ Some (suc m)) × (m < 16)

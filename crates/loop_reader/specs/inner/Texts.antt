@@ -24,7 +24,7 @@ UnlessMemoryKind Memory P = Unit {0}
 UnlessMemoryKind kind P = P
 
 -- a block without a fault, its loop and what follows it
-pub record IsRead (name : List ℕ) (number : ℕ) (text : List ℕ) (block : BlockRead) : Type 0 where
+pub record IsBlockRead (name : List ℕ) (number : ℕ) (text : List ℕ) (block : BlockRead) : Type 0 where
   pub faults : (names : List (List ℕ)) → inside_faults number names [] (forms_of text) ≡ outside_faults block.line names (forms_of block.rest.now)
   pub following : blocks_from name [] (forms_of text) ≡ (name, whole [] (forms_of text)) ∷ blocks_of (forms_of block.rest.now)
   pub found : block.found ≡ loop_of (name, whole [] (forms_of text))
@@ -34,7 +34,7 @@ pub record IsRead (name : List ℕ) (number : ℕ) (text : List ℕ) (block : Bl
 
 -- the answer for a block whose lines have numbers from this one on
 abbrev pub AnswersBlock : List ℕ → ℕ → List ℕ → Result BlockRead LoopFault → Type 0
-AnswersBlock name number text (Ok block) = IsRead name number text block
+AnswersBlock name number text (Ok block) = IsBlockRead name number text block
 AnswersBlock name number text (Err fault) = UnlessMemory fault.kind fault ((names : List (List ℕ)) → first_in (inside_faults number names [] (forms_of text)) ≡ Some fault)
 
 -- a set has these names

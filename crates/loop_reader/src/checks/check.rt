@@ -6,9 +6,9 @@ ghost use Rattle.std.specs.List.{AllByRecursion};
 ghost use Rattle.loop_reader.specs.declared.names.index.Counts.{Counts};
 ghost use Rattle.loop_lines.specs.Forms.{ArrayLine, ParamLine, InitLine, StatementLine, OutLine};
 ghost use Rattle.loop_reader.specs.Meaning as meaning;
-ghost use Rattle.loop_reader.specs.Meaning.{any_name, declared, number_of, number_at, is_statement, AValue};
+ghost use Rattle.loop_reader.specs.Meaning.{any_name, declared, how_many, number_at, is_statement, AValue};
 ghost use Rattle.loop_lines.specs.Cells.{cells_seen};
-ghost use Rattle.loop_lines.specs.Parsed.{form_seen, source_seen, subscript_seen, uses_seen};
+ghost use Rattle.loop_lines.specs.Parsed.{form_seen, statement_seen, subscript_seen, uses_seen};
 ghost use Rattle.loop_reader.specs.inner.Blocks.{declared_seen, entry_faults, forms_in};
 ghost use Rattle.loop_reader.specs.inner.Building.{IsFew};
 ghost use Rattle.loop_reader.specs.inner.Found.{array_in, fault_in, target_in, AreFound, IsFoundFor, IsFoundIn};
@@ -16,7 +16,7 @@ ghost use Rattle.loop_reader.specs.inner.Checks.{any_use, covers_name, first_in,
 
 use crate::checks::given::Given;
 use crate::fault::{LoopFault, LoopFaultKind};
-use crate::names::found::{Found, Target, declared_number, target_of};
+use crate::names::found::{Target, Targets, declared_number, target_of};
 use crate::names::index::{Counts, Declared, Index};
 use loop_lines::{CellWords, Form, StatementWords, Subscript, Use, are_wide};
 use machine::limits::{MAX_ARRAYS, MAX_DISTANCE, MAX_NAME, MAX_PARAMETERS, MAX_STATEMENTS};
@@ -102,7 +102,7 @@ fn look_up<'a>(
     statement: usize,
     read: &Option<Use<'a>>,
 ) -> Looked
-    requires room { length given.now.inits ≡ 16 * number_of is_statement (forms_in index.now) }
+    requires room { length given.now.inits ≡ 16 * how_many is_statement (forms_in index.now) }
     requires near { IsNearRead read.now }
     ensures unknown { result.unknown ≡ any_use (meaning.is_unknown (forms_in index.now)) read.now }
     ensures early { result.early ≡ any_use (meaning.is_early (forms_in index.now) statement) read.now }
@@ -239,7 +239,7 @@ fn init_fault<'a>(
     number: Option<u8>,
     value: Option<i64>,
 ) -> Option<LoopFaultKind>
-    requires room { length given.now.inits ≡ 16 * number_of is_statement (forms_in index.now) }
+    requires room { length given.now.inits ≡ 16 * how_many is_statement (forms_in index.now) }
     requires near { IsNear number }
     ensures { (counts : Counts) (outs : List Bool) → result
         ≡ first_in (kinds_at (forms_in index.now) counts given.now.inits outs (InitLine name.now number value)) }
@@ -264,11 +264,11 @@ fn check_statement<'a>(
     counts: Counts,
     given: &Given,
     source: &StatementWords<'a>,
-) -> Result<Found, LoopFaultKind>
-    requires room { length given.now.inits ≡ 16 * number_of is_statement (forms_in index.now) }
+) -> Result<Targets, LoopFaultKind>
+    requires room { length given.now.inits ≡ 16 * how_many is_statement (forms_in index.now) }
     requires near { AllByRecursion IsNearUse (uses_seen source.now.uses) }
     ensures fault { (outs : List Bool) → fault_in result
-        ≡ first_in (kinds_at (forms_in index.now) counts given.now.inits outs (StatementLine (source_seen source.now))) }
+        ≡ first_in (kinds_at (forms_in index.now) counts given.now.inits outs (StatementLine (statement_seen source.now))) }
     ensures found { IfOk result (λ found. IsFew (forms_in index.now) → IsFoundIn (forms_in index.now) source.now found) }
 {
     let uses = &source.uses;
@@ -298,7 +298,7 @@ fn check_statement<'a>(
     if first.lacking || second.lacking || third.lacking {
         return Err(LoopFaultKind::MissingInit);
     }
-    Ok(Found {
+    Ok(Targets {
         number: place.number,
         first: first.target,
         second: second.target,
@@ -310,9 +310,9 @@ fn check_out<'a>(
     index: &Index<'_, 'a>,
     given: &Given,
     name: &'a [u8],
-) -> Result<Found, LoopFaultKind>
-    requires room { length given.now.inits ≡ 16 * number_of is_statement (forms_in index.now) }
-    requires flags { length given.now.outs.items ≡ number_of is_statement (forms_in index.now) }
+) -> Result<Targets, LoopFaultKind>
+    requires room { length given.now.inits ≡ 16 * how_many is_statement (forms_in index.now) }
+    requires flags { length given.now.outs.items ≡ how_many is_statement (forms_in index.now) }
     ensures fault { (counts : Counts) → fault_in result
         ≡ first_in (kinds_at (forms_in index.now) counts given.now.inits given.now.outs.items (OutLine name.now)) }
     ensures found { IfOk result (λ found. IsFew (forms_in index.now) → found.number ≡ number_at (declared (forms_in index.now) name.now)) }
@@ -323,9 +323,9 @@ fn check_out<'a>(
     let found = index.declared(name);
     match found {
         Some(Declared::Value(value)) if given.outs[value] => Err(LoopFaultKind::RepeatedName),
-        Some(Declared::Value(value)) if given.covers(value, 1) => Ok(Found {
+        Some(Declared::Value(value)) if given.covers(value, 1) => Ok(Targets {
             number: declared_number(found),
-            ..Found::NOTHING
+            ..Targets::NOTHING
         }),
         Some(Declared::Value(_)) => Err(LoopFaultKind::MissingInit),
         _ => Err(LoopFaultKind::UnknownName),
@@ -333,11 +333,11 @@ fn check_out<'a>(
 }
 
 /// A line that uses no name.
-fn nothing_unless(fault: Option<LoopFaultKind>) -> Result<Found, LoopFaultKind>
+fn nothing_unless(fault: Option<LoopFaultKind>) -> Result<Targets, LoopFaultKind>
     ensures { fault_in result ≡ fault }
 {
     match fault {
-        None => Ok(Found::NOTHING),
+        None => Ok(Targets::NOTHING),
         Some(kind) => Err(kind),
     }
 }
@@ -350,15 +350,15 @@ pub(crate) fn check_line<'a>(
     counts: Counts,
     given: &Given,
     form: &Form<'a>,
-) -> Result<Found, LoopFaultKind>
-    requires room { length given.now.inits ≡ 16 * number_of is_statement (forms_in index.now) }
-    requires flags { length given.now.outs.items ≡ number_of is_statement (forms_in index.now) }
+) -> Result<Targets, LoopFaultKind>
+    requires room { length given.now.inits ≡ 16 * how_many is_statement (forms_in index.now) }
+    requires flags { length given.now.outs.items ≡ how_many is_statement (forms_in index.now) }
     requires near { IsNearForm (form_seen form.now) }
     ensures fault { fault_in result ≡ first_in (kinds_at (forms_in index.now) counts given.now.inits given.now.outs.items (form_seen form.now)) }
     ensures found { IfOk result (λ found. IsFew (forms_in index.now) → IsFoundFor (forms_in index.now) form.now found) }
 {
     match form {
-        Form::Loop(_) | Form::Malformed => Ok(Found::NOTHING),
+        Form::Loop(_) | Form::Malformed => Ok(Targets::NOTHING),
         Form::Array(name, cells) => nothing_unless(array_fault(index, counts, *name, *cells)),
         Form::Param(name, value) => nothing_unless(param_fault(index, counts, *name, *value)),
         Form::Init(name, number, value) => {
@@ -367,14 +367,14 @@ pub(crate) fn check_line<'a>(
         Form::Statement(source) => check_statement(index, counts, given, source),
         Form::Out(name) => check_out(index, given, *name),
         Form::End if counts.statements == 0 => Err(LoopFaultKind::Limit),
-        Form::End => Ok(Found::NOTHING),
+        Form::End => Ok(Targets::NOTHING),
     }
 }
 
 /// Takes down what one more line gives to the block's values.
 fn give<'a>(given: &mut Given, index: &Index<'_, 'a>, form: &Form<'a>)
-    requires room { length given.old.inits ≡ 16 * number_of is_statement (forms_in index.now) }
-    requires flags { length given.old.outs.items ≡ number_of is_statement (forms_in index.now) }
+    requires room { length given.old.inits ≡ 16 * how_many is_statement (forms_in index.now) }
+    requires flags { length given.old.outs.items ≡ how_many is_statement (forms_in index.now) }
     ensures inits { given.new.inits ≡ inits_with (forms_in index.now) given.old.inits (form_seen form.now) }
     ensures outs { given.new.outs.items ≡ outs_with (forms_in index.now) given.old.outs.items (form_seen form.now) }
 {
@@ -410,11 +410,11 @@ pub(crate) fn first_fault<'a>(
     index: &Index<'_, 'a>,
     sound: usize,
     given: &mut Given,
-    found: &mut Vec<Found>,
+    found: &mut Vec<Targets>,
 ) -> Result<Option<LoopFault>, AllocError>
     requires sound { sound ≤ length index.now }
-    requires inits { given.old.inits ≡ replicate (16 * number_of is_statement (forms_in index.now)) None }
-    requires outs { given.old.outs.items ≡ replicate (number_of is_statement (forms_in index.now)) false }
+    requires inits { given.old.inits ≡ replicate (16 * how_many is_statement (forms_in index.now)) None }
+    requires outs { given.old.outs.items ≡ replicate (how_many is_statement (forms_in index.now)) false }
     requires block { IsBlock (forms_in index.now) }
     ensures value { IfOk result (λ fault. fault ≡ first_in (entry_faults (forms_in index.now) [] (take sound index.now))) }
     ensures given { result ≡ Ok None → IsGiven (forms_in index.now) (forms_in (take sound index.now)) given.new.inits given.new.outs.items }

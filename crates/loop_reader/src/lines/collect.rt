@@ -5,9 +5,9 @@ ghost use Rattle.loop_lines.specs.Forms as spec;
 ghost use Rattle.loop_reader.specs.Meaning.{stands, has_statement, has_out, is_statement, is_out, whole, forms_of};
 ghost use Rattle.loop_lines.specs.Parsed.{form_seen};
 ghost use Rattle.loop_reader.specs.inner.Blocks.{forms_in, StopsAt, StopsBlock, IsBehind, IsPast};
-ghost use Rattle.loop_reader.specs.declared.lines.entry.Entry.{Entry};
+ghost use Rattle.loop_reader.specs.declared.lines.entry.LineEntry.{LineEntry};
 
-use crate::lines::entry::Entry;
+use crate::lines::entry::LineEntry;
 use loop_lines::{Form, form_of, next_line};
 use std::alloc::AllocError;
 
@@ -64,7 +64,7 @@ impl Seen {
 /// Collects the lines of a block, which begins with the line of this number, up to its `end` or to
 /// the first line that may not stand in it.
 fn collect<'a>(
-    lines: &mut Vec<Entry<'a>>,
+    lines: &mut Vec<LineEntry<'a>>,
     text: &'a [u8],
     number: usize,
 ) -> Result<(Seen, Stop<'a>), AllocError>
@@ -90,7 +90,7 @@ fn collect<'a>(
                     if !seen.allows(form) {
                         return Ok((seen, Stop::Unfit(line, after)));
                     }
-                    lines.push(Entry { line, form })?;
+                    lines.push(LineEntry { line, form })?;
                     seen = seen.with(form);
                 }
             },
@@ -104,14 +104,14 @@ fn collect<'a>(
 /// Collects the other lines that stand in the block, behind one that does not. Their numbers are not
 /// asked for.
 fn collect_rest<'a>(
-    lines: &mut Vec<Entry<'a>>,
+    lines: &mut Vec<LineEntry<'a>>,
     mut seen: Seen,
     text: &'a [u8],
 ) -> Result<(), AllocError>
     requires statement { seen.statement ≡ has_statement (forms_in lines.old.items) }
     requires out { seen.out ≡ has_out (forms_in lines.old.items) }
     ensures whole { OnOk result (forms_in lines.new.items ≡ whole (forms_in lines.old.items) (forms_of text.now)) }
-    ensures more { OnOk result ((more : List Entry) × (lines.new.items ≡ lines.old.items ++ more)) }
+    ensures more { OnOk result ((more : List LineEntry) × (lines.new.items ≡ lines.old.items ++ more)) }
     ensures few { OnOk result (length lines.new.items ≤ length lines.old.items + length text.now) }
 {
     let mut rest = text;
@@ -123,7 +123,7 @@ fn collect_rest<'a>(
                 Form::End => return Ok(()),
                 _ => {
                     if seen.allows(form) {
-                        lines.push(Entry { line: 0, form })?;
+                        lines.push(LineEntry { line: 0, form })?;
                         seen = seen.with(form);
                     }
                 }
@@ -137,7 +137,7 @@ fn collect_rest<'a>(
 /// Collects the lines that stand in a block, which begins with the line of this number. The result is
 /// how many of them stand before the first line that may not stand there, and where the block stops.
 pub(crate) fn collect_block<'a>(
-    lines: &mut Vec<Entry<'a>>,
+    lines: &mut Vec<LineEntry<'a>>,
     text: &'a [u8],
     number: usize,
 ) -> Result<(usize, Stop<'a>), AllocError>

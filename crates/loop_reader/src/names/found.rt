@@ -17,7 +17,7 @@ pub(crate) enum Target {
 
 /// What the names that a line uses stand for. What the line lacks is a 0 here.
 #[derive(Clone, Copy)]
-pub(crate) struct Found {
+pub(crate) struct Targets {
     /// The number of the array of a statement's place, or that of the statement of an `out`.
     pub(crate) number: u8,
     pub(crate) first: Target,
@@ -25,9 +25,9 @@ pub(crate) struct Found {
     pub(crate) third: Target,
 }
 
-impl Found {
+impl Targets {
     /// What is found for a line that uses no name.
-    pub(crate) const NOTHING: Found = Found {
+    pub(crate) const NOTHING: Targets = Targets {
         number: 0,
         first: Target::Value(0),
         second: Target::Value(0),

@@ -6,7 +6,7 @@ ghost use Rattle.loop_reader.specs.Meaning.{declared, declared_by, is_array, is_
 ghost use Rattle.loop_lines.specs.Parsed.{form_seen};
 ghost use Rattle.loop_reader.specs.inner.Blocks.{declared_seen, declared_if, forms_in, one_if, IsCounts};
 
-use crate::lines::entry::Entry;
+use crate::lines::entry::LineEntry;
 use crate::names::known::Names;
 use loop_lines::Form;
 use std::alloc::AllocError;
@@ -80,7 +80,7 @@ fn declaration<'a>(form: &Form<'a>, before: Counts) -> Option<(&'a [u8], Declare
 /// The result is how many lines of each form there are. The table's room is used again.
 pub(crate) fn index_names<'a>(
     names: &mut Names<'a>,
-    lines: &[Entry<'a>],
+    lines: &[LineEntry<'a>],
 ) -> Result<Counts, AllocError>
     ensures names { OnOk result ((q : List ℕ) → option_map declared_seen (known_as names.new q) ≡ declared (forms_in lines.now) q) }
     ensures counts { IfOk result (λ counts. IsCounts (forms_in lines.now) counts) }
@@ -99,18 +99,18 @@ pub(crate) fn index_names<'a>(
 /// The lines of a block with an index of their names. Contracts see the lines.
 #[derive(Drop)]
 pub(crate) struct Index<'t, 'a> {
-    lines: &'t [Entry<'a>],
+    lines: &'t [LineEntry<'a>],
     names: &'t Names<'a>,
 }
 
 impl<'t, 'a> Model for Index<'t, 'a> {
     ghost use Rattle.std.specs.Prelude.{◌≡◌, ℕ, List, option_map};
     ghost use Rattle.loop_reader.specs.inner.Known.{known_as};
-    ghost use Rattle.loop_reader.specs.declared.lines.entry.Entry.{Entry};
+    ghost use Rattle.loop_reader.specs.declared.lines.entry.LineEntry.{LineEntry};
     ghost use Rattle.loop_reader.specs.Meaning.{declared};
     ghost use Rattle.loop_reader.specs.inner.Blocks.{forms_in, declared_seen};
 
-    ghost Value = { List Entry };
+    ghost Value = { List LineEntry };
 
     ghost view = { λ a. a.lines.now };
 
@@ -125,7 +125,7 @@ impl<'t, 'a> Index<'t, 'a> {
     ghost use Rattle.loop_reader.specs.inner.Checks.{IsCounted};
 
     /// An index of these lines by the table of their names.
-    pub(crate) fn new(names: &'t Names<'a>, lines: &'t [Entry<'a>]) -> Index<'t, 'a>
+    pub(crate) fn new(names: &'t Names<'a>, lines: &'t [LineEntry<'a>]) -> Index<'t, 'a>
         requires names { (q : List ℕ) → option_map declared_seen (known_as names.now q) ≡ declared (forms_in lines.now) q }
         ensures { result ≡ lines.now }
     {
@@ -133,7 +133,7 @@ impl<'t, 'a> Index<'t, 'a> {
     }
 
     /// The lines.
-    pub(crate) fn lines(&self) -> &'t [Entry<'a>]
+    pub(crate) fn lines(&self) -> &'t [LineEntry<'a>]
         ensures { result.now ≡ self.now }
     {
         self.lines

@@ -8,11 +8,11 @@ use Rattle.iterations.specs.Loops.{LoopData, IsLoop}
 use Rattle.loop_reader.specs.Meaning.{at_line, inside_faults, is_long, opening_faults, outside_faults, when}
 use Rattle.loops.proofs.faultless.HeadLines.{arrays-fine, params-fine, no-fault, no-faults}
 use Rattle.loops.proofs.faultless.InitLines.{head_forms, inits-fine}
-use Rattle.loops.proofs.faultless.Insides.{AreFine, ended, fine-append, inside-fine}
+use Rattle.loops.proofs.faultless.Insides.{AreFine, fine-append, inside-fine}
 use Rattle.loops.proofs.faultless.OutLines.{has-statement, main_forms, outs-fine}
 use Rattle.loops.proofs.faultless.ShortNames.{not-long}
 use Rattle.loops.proofs.faultless.StatementLines.{lead_forms, statements-fine}
-use Rattle.loops.proofs.returned.Written.{array_form, param_form, init_form, statement_form, out_form, body_forms, written_forms}
+use Rattle.loops.proofs.returned.Written.{array_form, param_form, init_form, statement_form, out_form, body_forms, written_forms, ended}
 
 -- each line between the first and the last may stand where it does, and has no fault
 pub body-fine : (l : LoopData) → IsLoop l → AreFine (body_forms l) [] (body_forms l)

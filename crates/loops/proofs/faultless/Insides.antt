@@ -6,6 +6,7 @@ use Rattle.loop_reader.specs.declared.fault.LoopFault.{LoopFault}
 use Rattle.loop_reader.specs.declared.fault.LoopFaultKind.TheVariants.{Syntax, Limit}
 use Rattle.loop_lines.specs.Forms.{Form, EndLine}
 use Rattle.loop_reader.specs.Meaning.{stands, with_line, whole, has_statement, faults_of, line_faults, at_line, when, inside_faults}
+use Rattle.loops.proofs.returned.Written.{ended}
 
 abbrev pub is_end : Form → Bool
 is_end EndLine = true
@@ -40,9 +41,6 @@ pub fine-mapped : {X : Type 0} (block start : List Form) (g : X → Form) (xs : 
 fine-mapped block start g xs each = subst (λ b. AreFine block b (map g xs)) (append-nil start) (mapped-from block start g xs each [] xs refl)
 
 -- lines up to an `end`
-
-abbrev pub ended : List Form → List (Option Form)
-ended forms = map Some (forms ++ EndLine ∷ [])
 
 joined : (before : List Form) (form : Form) → stands before form ≡ true → with_line before form ≡ before ++ form ∷ []
 joined before form h = cond-true (stands before form) (before ++ form ∷ []) before h

@@ -16,12 +16,13 @@ use Rattle.iterations.specs.declared.language.statement.Statement.{Statement}
 use Rattle.loop_reader.specs.inner.Blocks.{one_if}
 use Rattle.loop_lines.specs.Forms.{Form, ArrayLine, ParamLine, StatementLine}
 use Rattle.iterations.specs.Loops.{LoopData, IsLoop, GivesValue, HasInitial, declared_names, value_names}
-use Rattle.loop_reader.specs.Meaning.{Declared, AnArray, AParam, AValue, declared_by, first_declared, declared, number_of, is_array, is_param, is_statement, is_init, has_init, any_name}
+use Rattle.loop_reader.specs.Meaning.{Declared, AnArray, AParam, AValue, declared_by, first_declared, declared, how_many, is_array, is_param, is_statement, is_init, has_init, any_name}
 use Rattle.loops.specs.Text.{array_name, param_name, value_name}
 use Rattle.loop_reader.proofs.faults.Checking.{not-from}
-use Rattle.loop_reader.proofs.lookups.Declared.{declared_after, declared-append, number_of-cons, same_word-here, same_word-yes}
+use Rattle.loop_reader.proofs.lookups.Declared.{declared_after, declared-append, how_many-cons, same_word-here, same_word-yes}
 use Rattle.loop_reader.proofs.making.Numbered.{Has, has-behind, has-first}
 use Rattle.loops.proofs.returned.Written.{array_form, param_form, init_form, statement_form, out_form, body_forms}
+use Rattle.loops.proofs.spelling.LoopNames.{get-some}
 
 -- lists cut at an element
 
@@ -75,7 +76,7 @@ first_declared-none : (name : List ℕ) (before forms : List Form) → (Has (nam
 first_declared-none name before [] h = refl
 first_declared-none name before (form ∷ forms) h =
     ap (λ o. option_or o (first_declared name (before ++ form ∷ []) forms))
-    (declared_by-none name (number_of is_array before) (number_of is_param before) (number_of is_statement before) form (λ e. h (has-first (name_in form) (names_in forms) name e)))
+    (declared_by-none name (how_many is_array before) (how_many is_param before) (how_many is_statement before) form (λ e. h (has-first (name_in form) (names_in forms) name e)))
     ∙ first_declared-none name (before ++ form ∷ []) forms (λ k. h (has-behind (name_in form) (names_in forms) name k))
 
 -- a name that no line declares
@@ -143,22 +144,22 @@ declared-there l is before after form name d split named here =
 
 -- lines of one kind, counted
 
-pub number_of-append : (p : Form → Bool) (xs ys : List Form) → number_of p (xs ++ ys) ≡ number_of p xs + number_of p ys
-number_of-append p xs ys = sum_by-append (λ f. cond (p f) 1 0) xs ys
+pub how_many-append : (p : Form → Bool) (xs ys : List Form) → how_many p (xs ++ ys) ≡ how_many p xs + how_many p ys
+how_many-append p xs ys = sum_by-append (λ f. cond (p f) 1 0) xs ys
 
-pub number_of-all : {X : Type 0} (p : Form → Bool) (f : X → Form) (xs : List X) → ((x : X) → p (f x) ≡ true) → number_of p (map f xs) ≡ length xs
-number_of-all p f [] h = refl
-number_of-all p f (x ∷ xs) h =
-    let c = number_of-cons p (f x) (map f xs) in
+pub how_many-all : {X : Type 0} (p : Form → Bool) (f : X → Form) (xs : List X) → ((x : X) → p (f x) ≡ true) → how_many p (map f xs) ≡ length xs
+how_many-all p f [] h = refl
+how_many-all p f (x ∷ xs) h =
+    let c = how_many-cons p (f x) (map f xs) in
     let one = ap one_if (h x) in
-    omega (arith, number_of-all p f xs h)
+    omega (arith, how_many-all p f xs h)
 
-pub number_of-none : {X : Type 0} (p : Form → Bool) (f : X → Form) (xs : List X) → ((x : X) → p (f x) ≡ false) → number_of p (map f xs) ≡ 0
-number_of-none p f [] h = refl
-number_of-none p f (x ∷ xs) h =
-    let c = number_of-cons p (f x) (map f xs) in
+pub how_many-none : {X : Type 0} (p : Form → Bool) (f : X → Form) (xs : List X) → ((x : X) → p (f x) ≡ false) → how_many p (map f xs) ≡ 0
+how_many-none p f [] h = refl
+how_many-none p f (x ∷ xs) h =
+    let c = how_many-cons p (f x) (map f xs) in
     let one = ap one_if (h x) in
-    omega (arith, number_of-none p f xs h)
+    omega (arith, how_many-none p f xs h)
 
 -- where the lines of each kind stand
 
@@ -226,22 +227,17 @@ pub array-found : (l : LoopData) → IsLoop l → (k : ℕ) (a : Array) → slic
 array-found l is k a e =
     let c = cut-at l.arrays k a e in
     let before = map array_form c.0 in
-    let count = number_of-all is_array array_form c.0 (λ x. refl) ∙ c.3 in
+    let count = how_many-all is_array array_form c.0 (λ x. refl) ∙ c.3 in
     let split = array-cut l c.0 a c.1 c.2 in
     declared-there l is before split.0 (array_form a) a.name (AnArray k) split.1 refl
-    (ap (λ b. cond b (Some (AnArray (number_of is_array before))) None) (same_word-here a.name) ∙ ap (λ n. Some (AnArray n)) count)
+    (ap (λ b. cond b (Some (AnArray (how_many is_array before))) None) (same_word-here a.name) ∙ ap (λ n. Some (AnArray n)) count)
 
 pub array_named : (l : LoopData) (k : ℕ) (a : Array) → slice_get l.arrays k ≡ Some a → array_name l k ≡ a.name
 array_named l k a e = ap (λ o. unwrap_or (option_map (λ (a : Array). a.name) o) []) e
 
-element-at : {X : Type 0} (xs : List X) (k : ℕ) → k < length xs → (x : X) × (slice_get xs k ≡ Some x)
-element-at [] k h = absurd (omega arith)
-element-at (x ∷ xs) zero h = (x, refl)
-element-at (x ∷ xs) (suc k) h = element-at xs k (omega arith)
-
 pub declared-array : (l : LoopData) → IsLoop l → (k : ℕ) → k < length l.arrays → declared (body_forms l) (array_name l k) ≡ Some (AnArray k)
 declared-array l is k inside =
-    let a = element-at l.arrays k inside in
+    let a = get-some l.arrays k inside in
     ap (declared (body_forms l)) (array_named l k a.0 a.1) ∙ array-found l is k a.0 a.1
 
 -- parameters
@@ -251,21 +247,21 @@ param-found l is k p e =
     let c = cut-at l.params k p e in
     let arrays = map array_form l.arrays in
     let front = map param_form c.0 in
-    let others = number_of-none is_param array_form l.arrays (λ x. refl) in
-    let own = number_of-all is_param param_form c.0 (λ x. refl) in
-    let joined = number_of-append is_param arrays front in
+    let others = how_many-none is_param array_form l.arrays (λ x. refl) in
+    let own = how_many-all is_param param_form c.0 (λ x. refl) in
+    let joined = how_many-append is_param arrays front in
     let size = c.3 in
-    let count : number_of is_param (arrays ++ front) ≡ k = omega arith in
+    let count : how_many is_param (arrays ++ front) ≡ k = omega arith in
     let split = param-cut l c.0 p c.1 c.2 in
     declared-there l is (arrays ++ front) split.0 (param_form p) p.name (AParam k) split.1 refl
-    (ap (λ b. cond b (Some (AParam (number_of is_param (arrays ++ front)))) None) (same_word-here p.name) ∙ ap (λ n. Some (AParam n)) count)
+    (ap (λ b. cond b (Some (AParam (how_many is_param (arrays ++ front)))) None) (same_word-here p.name) ∙ ap (λ n. Some (AParam n)) count)
 
 pub param_named : (l : LoopData) (k : ℕ) (p : Param) → slice_get l.params k ≡ Some p → param_name l k ≡ p.name
 param_named l k p e = ap (λ o. unwrap_or (option_map (λ (p : Param). p.name) o) []) e
 
 pub declared-param : (l : LoopData) → IsLoop l → (k : ℕ) → k < length l.params → declared (body_forms l) (param_name l k) ≡ Some (AParam k)
 declared-param l is k inside =
-    let p = element-at l.params k inside in
+    let p = get-some l.params k inside in
     ap (declared (body_forms l)) (param_named l k p.0 p.1) ∙ param-found l is k p.0 p.1
 
 -- values
@@ -277,20 +273,20 @@ value-found l is k s name e named =
     let params = map param_form l.params in
     let inits = map (init_form l) l.inits in
     let front = map (statement_form l) c.0 in
-    let n1 = number_of-none is_statement array_form l.arrays (λ x. refl) in
-    let n2 = number_of-none is_statement param_form l.params (λ x. refl) in
-    let n3 = number_of-none is_statement (init_form l) l.inits (λ x. refl) in
-    let n4 = number_of-all is_statement (statement_form l) c.0 (λ x. refl) in
-    let j1 = number_of-append is_statement arrays params in
-    let j2 = number_of-append is_statement (arrays ++ params) inits in
+    let n1 = how_many-none is_statement array_form l.arrays (λ x. refl) in
+    let n2 = how_many-none is_statement param_form l.params (λ x. refl) in
+    let n3 = how_many-none is_statement (init_form l) l.inits (λ x. refl) in
+    let n4 = how_many-all is_statement (statement_form l) c.0 (λ x. refl) in
+    let j1 = how_many-append is_statement arrays params in
+    let j2 = how_many-append is_statement (arrays ++ params) inits in
     let before = ((arrays ++ params) ++ inits) ++ front in
-    let j3 = number_of-append is_statement ((arrays ++ params) ++ inits) front in
+    let j3 = how_many-append is_statement ((arrays ++ params) ++ inits) front in
     let size = c.3 in
-    let count : number_of is_statement before ≡ k = omega arith in
+    let count : how_many is_statement before ≡ k = omega arith in
     let split = statement-cut l c.0 s c.1 c.2 in
     declared-there l is before split.0 (statement_form l s) name (AValue k) split.1 named
-    (ap (λ o. cond (any_name (same_word name) o) (Some (AValue (number_of is_statement before))) None) named
-    ∙ ap (λ b. cond b (Some (AValue (number_of is_statement before))) None) (same_word-here name) ∙ ap (λ n. Some (AValue n)) count)
+    (ap (λ o. cond (any_name (same_word name) o) (Some (AValue (how_many is_statement before))) None) named
+    ∙ ap (λ b. cond b (Some (AValue (how_many is_statement before))) None) (same_word-here name) ∙ ap (λ n. Some (AValue n)) count)
 
 some-there : {X : Type 0} (o : Option X) → IsSome o → (x : X) × (o ≡ Some x)
 some-there None h = absurd (false≢true h)

@@ -13,12 +13,12 @@ use Rattle.iterations.specs.declared.language.statement.Place.{Place}
 use Rattle.iterations.specs.declared.language.statement.Statement.{Statement}
 use Rattle.loop_lines.specs.Forms.{Form, Subscript, Use}
 use Rattle.iterations.specs.Loops.{LoopData, IsLoop, IsPlace, IsStatement, MayRead, HasInitial}
-use Rattle.loop_reader.specs.Meaning.{any_name, declared, has_init, has_inits, is_array_name, is_early, is_long, is_out, is_readable, is_statement, is_uncovered, is_unknown, is_unknown_place, is_value_from, is_wide, is_wide_place, number_of, same_number, when}
+use Rattle.loop_reader.specs.Meaning.{any_name, declared, has_init, has_inits, is_array_name, is_early, is_long, is_out, is_readable, is_statement, is_uncovered, is_unknown, is_unknown_place, is_value_from, is_wide, is_wide_place, how_many, same_number, when}
 use Rattle.loops.specs.Text.{array_name, param_name, value_name}
 use Rattle.loops.proofs.faultless.HeadLines.{no-fault, no-faults, not-declared}
 use Rattle.loops.proofs.faultless.InitLines.{head_forms, value-known}
 use Rattle.loops.proofs.faultless.Insides.{IsFine, AreFine, fine-mapped}
-use Rattle.loops.proofs.faultless.Lookups.{declared-array, declared-new, declared-param, declared-value, has_init-there, number_of-all, number_of-append, number_of-none, statement-cut}
+use Rattle.loops.proofs.faultless.Lookups.{declared-array, declared-new, declared-param, declared-value, has_init-there, how_many-all, how_many-append, how_many-none, statement-cut}
 use Rattle.loops.proofs.Parts.{all-weaker, at-front, front-within, none-joined, none-made, none-mapped}
 use Rattle.loops.proofs.faultless.ShortNames.{array-short, not-long, param-short, statement-named, value-short}
 use Rattle.loops.proofs.returned.Written.{array_form, param_form, init_form, place_form, use_form, statement_form, body_forms}
@@ -86,16 +86,16 @@ lead-none l p a q i =
     (none-made p (init_form l) i l.inits)
 
 -- the number of a statement's line among those of statements
-line-number : (l : LoopData) (front : List Statement) → number_of is_statement (lead_forms l ++ map (statement_form l) front) ≡ length front
+line-number : (l : LoopData) (front : List Statement) → how_many is_statement (lead_forms l ++ map (statement_form l) front) ≡ length front
 line-number l front =
     let arrays : List Form = map array_form l.arrays in
     let params : List Form = map param_form l.params in
     let inits : List Form = map (init_form l) l.inits in
-    let a : number_of is_statement arrays ≡ 0 = number_of-none is_statement array_form l.arrays (λ a. refl) in
-    let p : number_of is_statement params ≡ 0 = number_of-none is_statement param_form l.params (λ p. refl) in
-    let i : number_of is_statement inits ≡ 0 = number_of-none is_statement (init_form l) l.inits (λ i. refl) in
-    let s : number_of is_statement (map (statement_form l) front) ≡ length front = number_of-all is_statement (statement_form l) front (λ s. refl) in
-    omega (arith, number_of-append is_statement (lead_forms l) (map (statement_form l) front), number_of-append is_statement (arrays ++ params) inits, number_of-append is_statement arrays params)
+    let a : how_many is_statement arrays ≡ 0 = how_many-none is_statement array_form l.arrays (λ a. refl) in
+    let p : how_many is_statement params ≡ 0 = how_many-none is_statement param_form l.params (λ p. refl) in
+    let i : how_many is_statement inits ≡ 0 = how_many-none is_statement (init_form l) l.inits (λ i. refl) in
+    let s : how_many is_statement (map (statement_form l) front) ≡ length front = how_many-all is_statement (statement_form l) front (λ s. refl) in
+    omega (arith, how_many-append is_statement (lead_forms l) (map (statement_form l) front), how_many-append is_statement (arrays ++ params) inits, how_many-append is_statement arrays params)
 
 statement-fine : (l : LoopData) → IsLoop l → (front : List Statement) (s : Statement) (after : List Statement) → l.statements ≡ front ++ s ∷ after
     → IsFine (body_forms l) (lead_forms l ++ map (statement_form l) front) (statement_form l s)
@@ -104,8 +104,8 @@ statement-fine l is front s after e =
     let before : List Form = lead_forms l ++ map (statement_form l) front in
     let uses : List Use = map (use_form l) s.operands in
     let place : Option Subscript = option_map (place_form l) s.place in
-    let count : number_of is_statement before ≡ length front = line-number l front in
-    let number : ℕ = number_of is_statement before in
+    let count : how_many is_statement before ≡ length front = line-number l front in
+    let number : ℕ = how_many is_statement before in
     let at : slice_get l.statements number ≡ Some s = ap (slice_get l.statements) count ∙ at-front l.statements front s after e in
     let lawful : IsStatement l number s = is.each number s at in
     let few : number < 128 = omega (arith, front-within l.statements front s after e, is.statements_few) in

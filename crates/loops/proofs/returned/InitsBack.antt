@@ -7,7 +7,7 @@ use Rattle.std.proofs.lemmas.Option.{none-some, same_Some, cond_some, slice_get-
 use Rattle.machine.specs.Opcodes.{same_word}
 use Rattle.iterations.specs.declared.language.lists.Initial.{Initial}
 use Rattle.iterations.specs.declared.language.statement.Statement.{Statement}
-use Rattle.loop_lines.specs.Forms.{Form, Source}
+use Rattle.loop_lines.specs.Forms.{Form, StatementForm}
 use Rattle.iterations.specs.Loops.{LoopData, IsLoop, GivesValue, IsBefore}
 use Rattle.loop_reader.specs.Meaning.{AValue, declared, number_at, value_in, init_value, init_numbers, inits_at, inits_from}
 use Rattle.loops.specs.Text.{value_name}
@@ -228,7 +228,7 @@ inits-back l is =
     let sources = map (source_form l) l.statements in
     let given = inits_from (body_forms l) 0 sources in
     let any : ℕ → Type 0 = λ n. Unit {0} in
-    let ascend = inits-ascend any (body_forms l) sources (inits-all any (body_forms l) 0 sources (each-from (λ n (s : Source). (name : List ℕ) → s.name ≡ Some name → any n) 0 sources (λ k s e name f. tt))) in
+    let ascend = inits-ascend any (body_forms l) sources (inits-all any (body_forms l) 0 sources (each-from (λ n (s : StatementForm). (name : List ℕ) → s.name ≡ Some name → any n) 0 sources (λ k s e name f. tt))) in
     let own = rows-have l is 0 l.statements (each-from (λ n s. slice_get l.statements n ≡ Some s) 0 l.statements (λ k s e. subst (λ m. slice_get l.statements m ≡ Some s) (sym (zero-add k)) e)) in
     same-ordered IsBefore (λ a h. before-apart a a h refl refl) before-one_way given l.inits (ordered-from IsBefore given ascend) (ordered-from IsBefore l.inits is.inits_ascend)
     (λ i has. all-has (Has l.inits) given own i has) (λ i has. initial-given l is i has)

@@ -9,12 +9,7 @@ use Rattle.loop_lines.specs.Forms.{Form, LoopLine, ArrayLine, ParamLine, InitLin
 use Rattle.iterations.specs.Loops.{LoopData, IsLoop}
 use Rattle.loop_reader.specs.Meaning.{is_statement, is_out, has_statement, has_out, stands, with_line, blocks_of, blocks_from}
 use Rattle.loop_reader.proofs.faults.Checking.{IsStanding}
-use Rattle.loops.proofs.returned.Written.{array_form, param_form, init_form, statement_form, out_form, body_forms, written_forms}
-
--- lines that stand, up to `end`
-
-abbrev ended : List Form → List (Option Form)
-ended forms = map Some (forms ++ EndLine ∷ [])
+use Rattle.loops.proofs.returned.Written.{array_form, param_form, init_form, statement_form, out_form, body_forms, written_forms, ended}
 
 -- a line that ends no block
 abbrev IsInner : Form → Type 0

@@ -13,11 +13,12 @@ use Rattle.iterations.specs.declared.language.statement.Place.{Place}
 use Rattle.iterations.specs.declared.language.statement.Statement.{Statement}
 use Rattle.loop_lines.specs.Forms.{Form}
 use Rattle.iterations.specs.Loops.{LoopData, IsLoop, IsPlace, MayRead, GivesValue, HasInitial}
-use Rattle.loop_reader.specs.Meaning.{number_at, reads, array_in, param_in, source_in, out_in, place_at, operand_of, statement_of, inits_from, blocks_of, loop_of}
+use Rattle.loop_reader.specs.Meaning.{number_at, reads, array_in, param_in, statement_in, out_in, place_at, operand_of, statement_of, inits_from, blocks_of, loop_of}
 use Rattle.loops.proofs.returned.InitsBack.{inits-back}
 use Rattle.loops.proofs.faultless.Lookups.{declared-array, declared-param, declared-value}
 use Rattle.loops.proofs.returned.OneBlock.{blocks-written}
 use Rattle.loops.proofs.returned.Written.{array_form, param_form, init_form, use_form, place_form, source_form, statement_form, out_form, body_forms, written_forms}
+use Rattle.loops.proofs.Parts.{all-each}
 
 -- what is kept of the lines of each kind
 
@@ -32,10 +33,6 @@ kept-made f h g each (x ∷ xs) = ap (λ o. cons_option o (filter_map h (map f x
 kept-nothing : {X Y : Type 0} (f : X → Form) (h : Form → Option Y) → ((x : X) → h (f x) ≡ None) → (xs : List X) → filter_map h (map f xs) ≡ []
 kept-nothing f h none [] = refl
 kept-nothing f h none (x ∷ xs) = ap (λ o. cons_option o (filter_map h (map f xs))) (none x) ∙ kept-nothing f h none xs
-
-each-holds : {X : Type 0} (P : X → Type 0) → ((x : X) → P x) → (xs : List X) → AllByRecursion P xs
-each-holds P h [] = tt
-each-holds P h (x ∷ xs) = (h x, each-holds P h xs)
 
 kept-body : {Y : Type 0} (h : Form → Option Y) (l : LoopData) → filter_map h (body_forms l)
     ≡ (((filter_map h (map array_form l.arrays) ++ filter_map h (map param_form l.params)) ++ filter_map h (map (init_form l) l.inits)) ++ filter_map h (map (statement_form l) l.statements))
@@ -78,7 +75,7 @@ arrays-back l =
     ∙ without ((a ++ p) ++ i) s (kept-nothing (statement_form l) array_in (λ x. refl) l.statements)
     ∙ without (a ++ p) i (kept-nothing (init_form l) array_in (λ x. refl) l.inits)
     ∙ without a p (kept-nothing param_form array_in (λ x. refl) l.params)
-    ∙ kept-same array_form array_in l.arrays (each-holds (λ x. array_in (array_form x) ≡ Some x) array-back l.arrays)
+    ∙ kept-same array_form array_in l.arrays (all-each (λ x. array_in (array_form x) ≡ Some x) array-back l.arrays)
 
 params-back : (l : LoopData) → filter_map param_in (body_forms l) ≡ l.params
 params-back l =
@@ -92,7 +89,7 @@ params-back l =
     ∙ without ((a ++ p) ++ i) s (kept-nothing (statement_form l) param_in (λ x. refl) l.statements)
     ∙ without (a ++ p) i (kept-nothing (init_form l) param_in (λ x. refl) l.inits)
     ∙ ap (λ ys. ys ++ p) (kept-nothing array_form param_in (λ x. refl) l.arrays)
-    ∙ kept-same param_form param_in l.params (each-holds (λ x. param_in (param_form x) ≡ Some x) (λ x. refl) l.params)
+    ∙ kept-same param_form param_in l.params (all-each (λ x. param_in (param_form x) ≡ Some x) (λ x. refl) l.params)
 
 -- statements
 
@@ -127,20 +124,20 @@ mapped-back : {X Y : Type 0} (f : X → Y) (g : Y → X) (xs : List X) → ((k :
 mapped-back f g [] each = refl
 mapped-back f g (x ∷ xs) each = ap (λ y. y ∷ map g (map f xs)) (each zero x refl) ∙ ap (λ ys. x ∷ ys) (mapped-back f g xs (λ k y e. each (suc k) y e))
 
-sources-back : (l : LoopData) → filter_map source_in (body_forms l) ≡ map (source_form l) l.statements
+sources-back : (l : LoopData) → filter_map statement_in (body_forms l) ≡ map (source_form l) l.statements
 sources-back l =
-    let a = filter_map source_in (map array_form l.arrays) in
-    let p = filter_map source_in (map param_form l.params) in
-    let i = filter_map source_in (map (init_form l) l.inits) in
-    let s = filter_map source_in (map (statement_form l) l.statements) in
-    let o = filter_map source_in (map (out_form l) l.outs) in
-    kept-body source_in l
-    ∙ without (((a ++ p) ++ i) ++ s) o (kept-nothing (out_form l) source_in (λ x. refl) l.outs)
+    let a = filter_map statement_in (map array_form l.arrays) in
+    let p = filter_map statement_in (map param_form l.params) in
+    let i = filter_map statement_in (map (init_form l) l.inits) in
+    let s = filter_map statement_in (map (statement_form l) l.statements) in
+    let o = filter_map statement_in (map (out_form l) l.outs) in
+    kept-body statement_in l
+    ∙ without (((a ++ p) ++ i) ++ s) o (kept-nothing (out_form l) statement_in (λ x. refl) l.outs)
     ∙ ap (λ ys. ys ++ s)
-    (without (a ++ p) i (kept-nothing (init_form l) source_in (λ x. refl) l.inits)
-    ∙ without a p (kept-nothing param_form source_in (λ x. refl) l.params)
-    ∙ kept-nothing array_form source_in (λ x. refl) l.arrays)
-    ∙ kept-made (statement_form l) source_in (source_form l) (λ x. refl) l.statements
+    (without (a ++ p) i (kept-nothing (init_form l) statement_in (λ x. refl) l.inits)
+    ∙ without a p (kept-nothing param_form statement_in (λ x. refl) l.params)
+    ∙ kept-nothing array_form statement_in (λ x. refl) l.arrays)
+    ∙ kept-made (statement_form l) statement_in (source_form l) (λ x. refl) l.statements
 
 statements-back : (l : LoopData) → IsLoop l → map (statement_of (body_forms l)) (map (source_form l) l.statements) ≡ l.statements
 statements-back l is = mapped-back (source_form l) (statement_of (body_forms l)) l.statements (statement-back l is)
@@ -177,7 +174,7 @@ unfolding loop_of
 loop-back l is =
     let body = body_forms l in
     let params = filter_map param_in body in
-    let sources = filter_map source_in body in
+    let sources = filter_map statement_in body in
     let outs = filter_map (out_in body) body in
     ap (λ x. loop_with l.name x params (map (statement_of body) sources) (inits_from body 0 sources) outs) (arrays-back l)
     ∙ ap (λ x. loop_with l.name l.arrays x (map (statement_of body) sources) (inits_from body 0 sources) outs) (params-back l)

@@ -1,5 +1,5 @@
 -- The forms of the lines of a loop's canonical text.
-use Rattle.std.proofs.Common.{ℕ, zero, suc, List, [], ◌∷◌, ◌++◌, map, Some}
+use Rattle.std.proofs.Common.{ℕ, zero, suc, List, [], ◌∷◌, ◌++◌, map, Option, Some}
 use Rattle.std.specs.Option.{option_map}
 use Rattle.iterations.specs.declared.language.lists.Array.{Array}
 use Rattle.iterations.specs.declared.language.lists.Param.{Param}
@@ -8,7 +8,7 @@ use Rattle.iterations.specs.declared.language.statement.Operand.{Operand}
 use Rattle.iterations.specs.declared.language.statement.Operand.TheVariants.{Constant, Parameter, Value}
 use Rattle.iterations.specs.declared.language.statement.Place.{Place}
 use Rattle.iterations.specs.declared.language.statement.Statement.{Statement}
-use Rattle.loop_lines.specs.Forms.{Form, LoopLine, ArrayLine, ParamLine, InitLine, StatementLine, OutLine, EndLine, Use, Number, Plain, At, Source, Subscript}
+use Rattle.loop_lines.specs.Forms.{Form, LoopLine, ArrayLine, ParamLine, InitLine, StatementLine, OutLine, EndLine, Use, Number, Plain, At, StatementForm, Subscript}
 use Rattle.iterations.specs.Loops.{LoopData}
 use Rattle.loops.specs.Text.{array_name, param_name, value_name}
 
@@ -31,7 +31,7 @@ use_form loop (Value statement (suc d)) = At (value_name loop statement) (Some (
 abbrev pub place_form : LoopData → Place → Subscript
 place_form loop place = record { array = array_name loop place.array; offset = Some place.offset }
 
-abbrev pub source_form : LoopData → Statement → Source
+abbrev pub source_form : LoopData → Statement → StatementForm
 source_form loop s = record { opcode = s.opcode; name = s.name; place = option_map (place_form loop) s.place; uses = map (use_form loop) s.operands }
 
 abbrev pub statement_form : LoopData → Statement → Form
@@ -49,3 +49,7 @@ body_forms loop =
 
 abbrev pub written_forms : LoopData → List Form
 written_forms loop = LoopLine loop.name ∷ (body_forms loop ++ EndLine ∷ [])
+
+-- lines up to an `end`
+abbrev pub ended : List Form → List (Option Form)
+ended forms = map Some (forms ++ EndLine ∷ [])

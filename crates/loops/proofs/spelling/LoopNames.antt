@@ -10,6 +10,7 @@ use Rattle.iterations.specs.declared.language.lists.Param.{Param}
 use Rattle.iterations.specs.declared.language.statement.Statement.{Statement}
 use Rattle.iterations.specs.Loops.{LoopData, IsLoop, IsName, GivesValue, declared_names, value_names}
 use Rattle.loops.specs.Text.{array_name, param_name, value_name}
+use Rattle.loops.proofs.Parts.{all-unmapped}
 
 -- elements by their numbers
 
@@ -43,15 +44,7 @@ all-parts P (x ∷ xs) ys h =
     let r = all-parts P xs ys h.1 in
     ((h.0, r.0), r.1)
 
-pub all-unmapped : {X Y : Type 0} (P : Y → Type 0) (f : X → Y) (xs : List X) → AllByRecursion P (map f xs) → AllByRecursion (λ x. P (f x)) xs
-all-unmapped P f [] h = tt
-all-unmapped P f (x ∷ xs) h = (h.0, all-unmapped P f xs h.1)
-
 -- what two facts of each element give
-pub all-both : {X : Type 0} (P Q R : X → Type 0) → ((x : X) → P x → Q x → R x) → (xs : List X) → AllByRecursion P xs → AllByRecursion Q xs → AllByRecursion R xs
-all-both P Q R w [] h k = tt
-all-both P Q R w (x ∷ xs) h k = (w x h.0 k.0, all-both P Q R w xs h.1 k.1)
-
 first-given : {Y : Type 0} (P : Y → Type 0) (o : Option Y) (ys : List Y) → AllByRecursion P (cons_option o ys) → ((y : Y) → o ≡ Some y → P y) × AllByRecursion P ys
 first-given P None ys h = ((λ y e. absurd (none-some y e)), h)
 first-given P (Some x) ys h = ((λ y e. subst P (same_Some x y e) h.0), h.1)

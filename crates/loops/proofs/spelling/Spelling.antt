@@ -24,7 +24,7 @@ use Rattle.loop_reader.specs.Meaning.{forms_of}
 use Rattle.loops.specs.Text.{array_name, param_name, value_name, at_distance, operand_word, place_word, place_words, offset_text, array_words, param_words, init_words, words_by, statement_words, out_words, words_of_loop, text_of}
 use Rattle.loop_lines.specs.Words.{lines_of, words_of}
 use Rattle.loops.proofs.returned.Written.{array_form, param_form, init_form, use_form, place_form, statement_form, out_form, written_forms}
-use Rattle.loops.proofs.spelling.LoopNames.{all-both, all-numbered, arrays-named, params-named, statement-named, array_name-named, param_name-named, value_name-named}
+use Rattle.loops.proofs.spelling.LoopNames.{all-numbered, arrays-named, params-named, statement-named, array_name-named, param_name-named, value_name-named}
 use Rattle.loops.proofs.spelling.Names.{is_plain-name, use_of-name}
 use Rattle.loops.proofs.spelling.Numerals.{int_of-signed_decimal}
 use Rattle.loops.proofs.spelling.PlainWords.{long-fits, is_plain-signed, is_plain-distance, is_plain-place, is_plain-opcode}
@@ -32,6 +32,7 @@ use Rattle.loops.proofs.spelling.Forming.{form_of-loop, form_of-array, form_of-p
 use Rattle.loops.proofs.spelling.Placing.{subscript_of-text, place_of-parts}
 use Rattle.loops.proofs.spelling.Splitting.{is_plain, ArePlain, IsPlainLine, lines_of-text}
 use Rattle.loops.proofs.spelling.StatementForms.{Computes, form_of-load, form_of-compute, form_of-store, form_of-guarded, form_of-init, uses_of-words}
+use Rattle.loops.proofs.Parts.{all-both}
 
 -- the words of a line, which has this form
 abbrev IsWritten : List (List ℕ) → Form → Type 0

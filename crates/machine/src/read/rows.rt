@@ -5,7 +5,7 @@ ghost use Rattle.std.specs.Str.{all_ascii_digits};
 ghost use Rattle.std.specs.Str.Parse.{digits_value};
 ghost use Rattle.machine.specs.Opcodes.{same_word};
 ghost use Rattle.toml.specs.View.{view};
-ghost use Rattle.machine.specs.Reads.{Reads};
+ghost use Rattle.machine.specs.Reads.{ReadsPart};
 ghost use Rattle.machine.specs.MachineText.{words_in, row_faults, row_in, alternative_faults, rows_of, faults_of_alternatives, alternatives_of};
 
 use crate::alternative::{Alternative, Alternatives, Row};
@@ -27,7 +27,7 @@ pub(crate) fn read_alternatives(
     value: Option<&Value>,
 ) -> Result<Alternatives, MachineFault>
     requires { length units.now ≤ 64 }
-    ensures { let found = option_map (λ v. view v.now) value.entry in Reads (faults_of_alternatives path.now units.now found) (λ alternatives. alternatives ≡ alternatives_of units.now found) result }
+    ensures { let found = option_map (λ v. view v.now) value.entry in ReadsPart (faults_of_alternatives path.now units.now found) (λ alternatives. alternatives ≡ alternatives_of units.now found) result }
 {
     let Some(value) = value else {
         return Err(MachineFault::MissingKey(path.to_key(alloc, "")?));
@@ -53,7 +53,7 @@ fn read_alternative(
     value: &Value,
 ) -> Result<Alternative, MachineFault>
     requires { length units.now ≤ 64 }
-    ensures { Reads (alternative_faults path.now units.now (view value.now)) (λ rows. rows ≡ rows_of units.now (view value.now)) result }
+    ensures { ReadsPart (alternative_faults path.now units.now (view value.now)) (λ rows. rows ≡ rows_of units.now (view value.now)) result }
 {
     let Some(values) = value.as_array() else {
         return Err(MachineFault::WrongType(path.to_key(alloc, "")?));
@@ -78,7 +78,7 @@ fn read_row(
     value: &Value,
 ) -> Result<Row, MachineFault>
     requires { length units.now ≤ 64 }
-    ensures { Reads (row_faults path.now units.now before.now (view value.now)) (λ row. row ≡ row_in units.now (view value.now)) result }
+    ensures { ReadsPart (row_faults path.now units.now before.now (view value.now)) (λ row. row ≡ row_in units.now (view value.now)) result }
 {
     let Some((unit, digits)) = row_words(value) else {
         return Err(MachineFault::WrongType(path.to_key(alloc, "")?));

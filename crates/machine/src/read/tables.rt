@@ -2,7 +2,7 @@
 
 ghost use Rattle.std.specs.Prelude.{◌≡◌, ◌≤◌, length, option_map, replicate, IfOk};
 ghost use Rattle.toml.specs.View.{view};
-ghost use Rattle.machine.specs.Reads.{Reads};
+ghost use Rattle.machine.specs.Reads.{ReadsPart};
 ghost use Rattle.machine.specs.Opcodes.{word_of};
 ghost use Rattle.machine.specs.MachineText.{table_faults, operation_of, faults_of_tables, tables_of};
 
@@ -24,7 +24,7 @@ pub(crate) fn read_tables(
     value: Option<&Value>,
 ) -> Result<Vec<Option<OpcodeTable>>, MachineFault>
     requires { length units.now ≤ 64 }
-    ensures { let found = option_map (λ v. view v.now) value.entry in Reads (faults_of_tables units.now found) (λ tables. tables.items ≡ tables_of units.now found) result }
+    ensures { let found = option_map (λ v. view v.now) value.entry in ReadsPart (faults_of_tables units.now found) (λ tables. tables.items ≡ tables_of units.now found) result }
 {
     let Some(value) = value else {
         return Err(MachineFault::MissingKey(Key::of(alloc, "ops")?));
@@ -61,7 +61,7 @@ fn read_operation(
     value: &Value,
 ) -> Result<OpcodeTable, MachineFault>
     requires { length units.now ≤ 64 }
-    ensures { Reads (table_faults units.now (word_of opcode) (view value.now)) (λ table. table ≡ operation_of units.now (view value.now)) result }
+    ensures { ReadsPart (table_faults units.now (word_of opcode) (view value.now)) (λ table. table ≡ operation_of units.now (view value.now)) result }
 {
     let word = opcode.word();
     let Some(table) = value.as_table() else {

@@ -4,7 +4,7 @@ ghost use Rattle.std.specs.Prelude.{◌≡◌, option_map};
 ghost use Rattle.std.specs.List.{list_any, list_all};
 ghost use Rattle.machine.specs.Opcodes.{same_word};
 ghost use Rattle.toml.specs.View.{view};
-ghost use Rattle.machine.specs.Reads.{Reads};
+ghost use Rattle.machine.specs.Reads.{ReadsPart};
 ghost use Rattle.machine.specs.Machines.{is_unit_word, is_unit_byte};
 ghost use Rattle.machine.specs.MachineText.{is_unit_name, unit_faults, text_of, faults_of_units, names_of};
 
@@ -17,7 +17,7 @@ use toml::Value;
 
 /// The names of the units.
 pub(crate) fn read_units(alloc: Global, value: Option<&Value>) -> Result<Vec<Name>, MachineFault>
-    ensures { let found = option_map (λ v. view v.now) value.entry in Reads (faults_of_units found) (λ names. names.items ≡ names_of found) result }
+    ensures { let found = option_map (λ v. view v.now) value.entry in ReadsPart (faults_of_units found) (λ names. names.items ≡ names_of found) result }
 {
     let Some(value) = value else {
         return Err(MachineFault::MissingKey(Key::of(alloc, "units")?));
@@ -38,7 +38,7 @@ pub(crate) fn read_units(alloc: Global, value: Option<&Value>) -> Result<Vec<Nam
 
 /// The name of a unit behind others.
 fn read_unit(alloc: Global, before: &[Name], value: &Value) -> Result<Name, MachineFault>
-    ensures { Reads (unit_faults before.now (view value.now)) (λ name. name ≡ text_of (view value.now)) result }
+    ensures { ReadsPart (unit_faults before.now (view value.now)) (λ name. name ≡ text_of (view value.now)) result }
 {
     let Some(text) = value.as_str() else {
         return Err(MachineFault::WrongType(Key::of(alloc, "units")?));

@@ -5,7 +5,7 @@ ghost use Rattle.std.specs.List.{All};
 ghost use Rattle.board.specs.Boards.{IsNewPassOf, IsPassOf, sizes_of};
 ghost use Rattle.board.specs.Closes.{loops_of};
 ghost use Rattle.board.specs.Names.{terms_of};
-ghost use Rattle.workers.specs.Settled.{IsWhole};
+ghost use Rattle.workers.specs.Settled.{HasNoRefusal};
 
 use super::boards::{Count, FirstPiece, NoPiece, ZeroLooks};
 use super::gates::{Limited, Meeting};
@@ -272,7 +272,7 @@ fn two_threads_of_a_caller_are_at_work_at_once(rt: HostRuntime) -> Result<(), Fa
 
 /// Whether nothing was refused to the workers of the reports.
 fn all_whole(reports: &[Report<'_>]) -> bool
-    ensures { IsTrue result → All (λ (r : _). IsWhole r.loops r) reports.now }
+    ensures { IsTrue result → All (λ (r : _). HasNoRefusal r.loops r) reports.now }
 {
     reports.iter().all(|report| report.is_whole())
 }

@@ -6,7 +6,7 @@ use Rattle.std.proofs.lemmas.List.Elements.{All-push}
 use Rattle.std.specs.Vec.Iter.{into_iter_items}
 use Rattle.candidates.specs.declared.choices.Choice.{Choice}
 use Rattle.candidates.specs.declared.listings.Row.{Row}
-use Rattle.candidates.specs.Listings.{IsRow, rows_of}
+use Rattle.candidates.specs.Listings.{IsRow, listing_rows}
 use Rattle.candidates.proofs.Rowing.{rows_more}
 use Rattle.candidates.proofs.listings.fill_rows.Goals as goal
 use Rattle.candidates.proofs.listings.fill_rows.Goals.{in-Some, in_default}
@@ -19,7 +19,7 @@ loop-prepared-preserved c =
             let at = c.loop-prepared in
             let left = into_iter_items c.next.new.self in
             let more = rows_more at.rows.items c.args.loops.now at.prepared-index c.prepared-item.result w.in-Some.choice left (omega arith) c.prepared-item.is in
-            let drawn = ap (λ (cs : List Choice). at.rows.items ++ rows_of (drop at.prepared-index c.args.loops.now) cs) w.in-Some.ensures.items in
+            let drawn = ap (λ (cs : List Choice). at.rows.items ++ listing_rows (drop at.prepared-index c.args.loops.now) cs) w.in-Some.ensures.items in
             cc (w.push_reserved.ensures.items, w.row_of.ensures.value, at.invariant.rows, w.rows-is, more, drawn);
         are_rows =
             subst (λ (v : Vec Row Global). All IsRow v.items) (sym w.rows-is) (subst (All IsRow) (sym w.push_reserved.ensures.items)

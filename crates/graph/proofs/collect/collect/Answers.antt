@@ -1,10 +1,10 @@
 use Rattle.std.proofs.Common.{◌≡◌, ◌<◌, ◌≤◌, [], length, get_or, Some, None, arith}
 use Rattle.std.specs.List.{slice_get}
 use Rattle.iterations.specs.declared.language.statement.Statement.{Statement}
-use Rattle.graph.specs.Subscripts.{Gains, HasUses}
+use Rattle.graph.specs.Subscripts.{GainsEdges, HasUses}
 use Rattle.std.proofs.lemmas.Option.{slice_get-get_or}
 use Rattle.machine.specs.declared.opcode.Opcode.TheVariants.{Load}
-use Rattle.graph.proofs.Found.{all-more, Gains-found, found-within}
+use Rattle.graph.proofs.Found.{all-more, GainsEdges-found, found-within}
 use Rattle.graph.proofs.collect.collect.Goals as goal
 
 no_statement : Statement
@@ -16,11 +16,11 @@ loop-to-preserved c =
     let reader : Statement = get_or c.args.statements.now c.loop-to.to d in
     let within : c.loop-to.to < length c.args.statements.now = c.loop-to-test.true in
     let at : slice_get c.args.statements.now c.loop-to.to ≡ Some reader = slice_get-get_or c.args.statements.now c.loop-to.to d within in
-    let used : Gains c.args.statements.now c.args.latencies.now c.loop-to.list.items c.push_uses.new.list.items = c.in_ok-push_uses.ensures.gains in
-    let met : Gains c.args.statements.now c.args.latencies.now c.push_uses.new.list.items c.push_meetings.new.list.items = c.in_ok-push_meetings.ensures.gains in
+    let used : GainsEdges c.args.statements.now c.args.latencies.now c.loop-to.list.items c.push_uses.new.list.items = c.in_ok-push_uses.ensures.gains in
+    let met : GainsEdges c.args.statements.now c.args.latencies.now c.push_uses.new.list.items c.push_meetings.new.list.items = c.in_ok-push_meetings.ensures.gains in
     let uses : HasUses c.args.latencies.now c.loop-to.to reader.operands c.push_uses.new.list.items = c.in_ok-push_uses.ensures.complete reader at in (
-      Gains-found c.args.statements.now c.args.latencies.now c.push_uses.new.list.items c.push_meetings.new.list.items met
-          (Gains-found c.args.statements.now c.args.latencies.now c.loop-to.list.items c.push_uses.new.list.items used c.loop-to.invariant.0),
+      GainsEdges-found c.args.statements.now c.args.latencies.now c.push_uses.new.list.items c.push_meetings.new.list.items met
+          (GainsEdges-found c.args.statements.now c.args.latencies.now c.loop-to.list.items c.push_uses.new.list.items used c.loop-to.invariant.0),
       all-more c.args.statements.now c.args.latencies.now c.loop-to.to c.loop-to.list.items c.push_uses.new.list.items c.push_meetings.new.list.items reader
           at c.loop-to.invariant.1 used uses met c.in_ok-push_meetings.ensures.complete,
     )

@@ -2,7 +2,7 @@ use Rattle.std.proofs.Common.{rules, ◌≡◌, ℕ, ◌+◌, ◌-◌, ◌<◌, 
 use Rattle.std.proofs.lemmas.Option.{slice_get_read}
 use Rattle.std.specs.List.{slice_get}
 use Rattle.graph.specs.SameArrays.{IsLink}
-use Rattle.graph.proofs.Found.{Gains-none, meetings-pushed, meetings-passed}
+use Rattle.graph.proofs.Found.{GainsEdges-none, meetings-pushed, meetings-passed}
 use Rattle.graph.proofs.SameArrays.{meetings-skipped, next-link, touches-also}
 use Rattle.graph.proofs.collect.push_meetings.Goals as goal
 use Rattle.graph.proofs.collect.push_meetings.Goals.{in-Some-memory_edge+in_ok-push, in_default-memory_edge}
@@ -17,7 +17,7 @@ loop-from-init c =
     record {
       touches = touches-also c.args.statements.now c.index-statements-to.result c.in-Some.place _ c.in-Some.is link.touches;
       collected = (
-        Gains-none c.args.statements.now c.args.latencies.now c.args.list.now.items,
+        GainsEdges-none c.args.statements.now c.args.latencies.now c.args.list.now.items,
         meetings-skipped c.args.statements.now c.args.latencies.now c.args.to 0 _ c.index-statements-to.result c.in-Some.place c.args.list.now.items there c.in-Some.is link.skips
             (λ e to_is below meets. absurd (omega arith)),
       );

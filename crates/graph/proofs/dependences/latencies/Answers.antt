@@ -2,7 +2,7 @@ use Rattle.std.proofs.Common.{◌≡◌, ℕ, ◌<◌, ◌≤◌, Vec, Global, l
 use Rattle.std.proofs.lemmas.List.Elements.{All-push}
 use Rattle.graph.specs.declared.fault.GraphFault.TheVariants.{NoTable}
 use Rattle.graph.specs.Dependences.{latencies_of}
-use Rattle.graph.specs.Answers.{Answers}
+use Rattle.graph.specs.TablesAnswer.{TablesAnswer}
 use Rattle.graph.proofs.Latencies.{find-passed, find-missing, take-latency}
 use Rattle.graph.proofs.dependences.latencies.Goals as goal
 
@@ -13,7 +13,7 @@ returns-in-None-clause-exact c =
     let is : c.statement-item.result ≡ get_or c.args.innermost.now.statements c.loop-statement.statement-index c.statement-item.result
     = c.statement-item.is ∙ ap (λ l. get_or l c.loop-statement.statement-index c.statement-item.result) value in
     let first = find-missing c.args.machine.now c.args.innermost.now c.loop-statement.statement-index c.statement-item.result within is c.in-None.ensures.value c.loop-statement.invariant.0 in
-    subst (λ missing. Answers {A = Vec ℕ Global} missing (λ v. v.items ≡ latencies_of c.args.machine.now c.args.innermost.now) (Err (NoTable c.statement-item.result.opcode))) first refl
+    subst (λ missing. TablesAnswer {A = Vec ℕ Global} missing (λ v. v.items ≡ latencies_of c.args.machine.now c.args.innermost.now) (Err (NoTable c.statement-item.result.opcode))) first refl
 
 pub loop-statement-preserved : goal.loop-statement-preserved
 loop-statement-preserved c =

@@ -7,7 +7,7 @@ use Rattle.graph.proofs.relaxation.relax.Goals as goal
 
 pub loop-made-init : goal.loop-made-init
 loop-made-init c = record {
-  reaches = c.first_numbers-numbers.ensures;
+  reaches = c.set_first.ensures;
   via = vias-none c.args.edges.now 128;
   risen = inl refl;
 }

@@ -1,8 +1,8 @@
-use Rattle.std.proofs.Common.{rules, ◌≡◌, ℕ, ◌+◌, ◌-◌, ◌*◌, ◌<◌, ◌≤◌, ◌==◌, List, length, get_or, filter, sym, ◌∙◌, subst, arith, Some}
+use Rattle.std.proofs.Common.{rules, ◌≡◌, ℕ, ◌+◌, ◌-◌, ◌*◌, ◌<◌, ◌≤◌, ◌==◌, List, length, get_or, filter, pos, sym, ◌∙◌, subst, arith, Some}
 use Rattle.std.specs.Prelude.{IfSome}
 use Rattle.std.specs.List.{Contains}
+use Rattle.std.proofs.lemmas.List.Elements.{Contains-get_or}
 use Rattle.std.proofs.Math.ListN.{length-set}
-use Rattle.std.proofs.lemmas.Option.{IfSome_then}
 use Rattle.graph.specs.Dependences.{EdgeData}
 use Rattle.graph.specs.Graphs.{IsGraph}
 use Rattle.graph.specs.Reaches.{IsReach, IsRaised, IsRise}
@@ -25,42 +25,45 @@ pub raised-raised-requires-clause-own_small : goal.raised-raised-requires-clause
 raised-raised-requires-clause-own_small c =
     let within : c.loop-operation.operation ≤ length c.args.edges.now.latencies = c.loop-operation.invariant.within in
     let some : 0 < c.loop-operation.operation = c.loop-operation-test.true in
-    swept-small c.args.edges.now c.args.interval c.args.made c.loop-operation.operation c.loop-operation.numbers c.out_of.ensures.well_formed c.requires.few
+    swept-small c.args.edges.now c.args.interval c.args.made c.loop-operation.operation c.loop-operation.numbers c.out_of-outgoing.ensures.well_formed c.requires.few
     c.loop-operation.invariant.swept (c.loop-operation.operation - 1) (omega arith)
 
 pub raised-raised-requires-clause-small : goal.raised-raised-requires-clause-small
 raised-raised-requires-clause-small c =
-    small-targets c.args.edges.now c.loop-operation.numbers c.out_of.ensures.well_formed
-    (swept-small c.args.edges.now c.args.interval c.args.made c.loop-operation.operation c.loop-operation.numbers c.out_of.ensures.well_formed c.requires.few
-    c.loop-operation.invariant.swept) (c.loop-operation.operation - 1) c.out_of.result.now c.out_of.ensures.value
+    small-targets c.args.edges.now c.loop-operation.numbers c.out_of-outgoing.ensures.well_formed
+    (swept-small c.args.edges.now c.args.interval c.args.made c.loop-operation.operation c.loop-operation.numbers c.out_of-outgoing.ensures.well_formed c.requires.few
+    c.loop-operation.invariant.swept) (c.loop-operation.operation - 1) c.out_of-outgoing.result.now c.out_of-outgoing.ensures.value
 
 pub loop-operation-preserved-then-own-raised : goal.loop-operation-preserved-then-own-raised
 loop-operation-preserved-then-own-raised c =
     let i : ℕ = c.loop-operation.operation - 1 in
     let best : ℕ = c.raised-raised.result.number in
-    let g : IsGraph c.args.edges.now = c.out_of.ensures.well_formed in
+    let g : IsGraph c.args.edges.now = c.out_of-outgoing.ensures.well_formed in
     let few : length c.args.edges.now.latencies ≤ 128 = g.few in
     let some : 0 < c.loop-operation.operation = c.loop-operation-test.true in
     let within : c.loop-operation.operation ≤ length c.args.edges.now.latencies = c.loop-operation.invariant.within in
     let at : i + 1 ≡ c.loop-operation.operation = omega arith in
     let r : IsRaised (filter (λ (e : EdgeData). e.from == i) c.args.edges.now.edges) c.args.interval c.loop-operation.numbers (get_or c.loop-operation.numbers i 0) best
-    = subst (λ l. IsRaised l c.args.interval c.loop-operation.numbers (get_or c.loop-operation.numbers i 0) best) c.out_of.ensures.value c.raised-raised.ensures.raised in
+    = subst (λ l. IsRaised l c.args.interval c.loop-operation.numbers (get_or c.loop-operation.numbers i 0) best) c.out_of-outgoing.ensures.value c.raised-raised.ensures.raised in
     let new : IsReach c.args.edges.now c.args.interval (128 * c.args.made + (length c.args.edges.now.latencies - i)) (c.args.made + 1) i best
     = swept-reach c.args.edges.now c.args.interval c.args.made c.loop-operation.operation i best c.loop-operation.numbers
-    c.out_of.ensures.well_formed at within c.loop-operation.invariant.swept r in
+    c.out_of-outgoing.ensures.well_formed at within c.loop-operation.invariant.swept r in
     let long : length c.loop-operation.numbers ≡ 128 = c.loop-operation.invariant.long in
     let vias_long : length c.loop-operation.via ≡ 128 = c.loop-operation.invariant.vias_long in
     let rise : IsRise c.args.edges.now c.args.interval c.args.made i
     = rise-from_reach c.args.edges.now c.args.interval _ _ c.args.made _ i _ c.raised-raised.result.number (omega arith)
     (c.loop-operation.invariant.swept.each i (omega arith)) new c.if-own-raised.true in
+    let zero : EdgeData = record { from = 0; to = 0; distance = 0; delay = pos 0 } in
+    let edge : EdgeData = get_or c.out_of-outgoing.result.now c.raised-raised.result.via zero in
     record {
       long = length-set c.loop-operation.numbers i c.raised-raised.result.number ∙ long;
-      vias_long = length-set c.loop-operation.via i c.raised-raised.result.via ∙ vias_long;
+      vias_long = length-set c.loop-operation.via i (Some edge) ∙ vias_long;
       within = omega arith;
       swept = swept-risen c.args.edges.now c.args.interval c.args.made c.loop-operation.operation i c.raised-raised.result.number c.loop-operation.numbers g at within
           (omega arith) c.loop-operation.invariant.swept new;
-      via = vias-set c.args.edges.now c.loop-operation.via i c.raised-raised.result.via c.loop-operation.invariant.via (omega arith) (IfSome_then c.raised-raised.result.via c.raised-raised.ensures.via
-          (λ e there. let h = edge-outgoing c.args.edges.now g i c.out_of.result.now c.out_of.ensures.value e there in (h.0, h.1)));
+      via = vias-set c.args.edges.now c.loop-operation.via i (Some edge) c.loop-operation.invariant.via (omega arith)
+          (let h = edge-outgoing c.args.edges.now g i c.out_of-outgoing.result.now c.out_of-outgoing.ensures.value edge
+          (Contains-get_or c.out_of-outgoing.result.now c.raised-raised.result.via zero (c.raised-raised.ensures.via c.if-own-raised.true)) in (h.0, h.1));
       rises = λ p is. (let here : i ≡ p = cc in subst (IsRise c.args.edges.now c.args.interval c.args.made) here rise);
       stays = λ wrong. cc;
     }
@@ -73,10 +76,10 @@ loop-operation-preserved c =
     let within : c.loop-operation.operation ≤ length c.args.edges.now.latencies = c.loop-operation.invariant.within in
     let at : i + 1 ≡ c.loop-operation.operation = omega arith in
     let r : IsRaised (filter (λ (e : EdgeData). e.from == i) c.args.edges.now.edges) c.args.interval c.loop-operation.numbers (get_or c.loop-operation.numbers i 0) best
-    = subst (λ l. IsRaised l c.args.interval c.loop-operation.numbers (get_or c.loop-operation.numbers i 0) best) c.out_of.ensures.value c.raised-raised.ensures.raised in
+    = subst (λ l. IsRaised l c.args.interval c.loop-operation.numbers (get_or c.loop-operation.numbers i 0) best) c.out_of-outgoing.ensures.value c.raised-raised.ensures.raised in
     let new : IsReach c.args.edges.now c.args.interval (128 * c.args.made + (length c.args.edges.now.latencies - i)) (c.args.made + 1) i best
     = swept-reach c.args.edges.now c.args.interval c.args.made c.loop-operation.operation i best c.loop-operation.numbers
-    c.out_of.ensures.well_formed at within c.loop-operation.invariant.swept r in
+    c.out_of-outgoing.ensures.well_formed at within c.loop-operation.invariant.swept r in
     let low : c.raised-raised.result.number ≤ get_or c.loop-operation.numbers i 0 = c.if-own-raised.false in
     let up : get_or c.loop-operation.numbers i 0 ≤ c.raised-raised.result.number = r.no_lower in
     let same : c.raised-raised.result.number ≡ get_or c.loop-operation.numbers i 0 = omega arith in
@@ -84,7 +87,7 @@ loop-operation-preserved c =
       long = c.loop-operation.invariant.long;
       vias_long = c.loop-operation.invariant.vias_long;
       within = omega arith;
-      swept = swept-kept c.args.edges.now c.args.interval c.args.made c.loop-operation.operation i c.loop-operation.numbers c.out_of.ensures.well_formed at within
+      swept = swept-kept c.args.edges.now c.args.interval c.args.made c.loop-operation.operation i c.loop-operation.numbers c.out_of-outgoing.ensures.well_formed at within
           c.loop-operation.invariant.swept (subst (IsReach c.args.edges.now c.args.interval _ _ i) same new);
       via = c.loop-operation.invariant.via;
       rises = c.loop-operation.invariant.rises;

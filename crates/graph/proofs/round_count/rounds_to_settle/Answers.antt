@@ -25,7 +25,7 @@ round-requires-clause-small c = λ p below.
 
 pub loop-made-init : goal.loop-made-init
 loop-made-init c = record {
-  reaches = c.first_numbers-numbers.ensures;
+  reaches = c.set_first.ensures;
   changed = λ fewer from to. absurd (omega arith);
 }
 

@@ -1,16 +1,16 @@
 use Rattle.std.proofs.Common.{◌≡◌, ◌+◌, ◌*◌, ◌-◌, ◌<◌, ◌≤◌, List, length, None, Ok, sym, subst, arith}
 use Rattle.machine.specs.declared.alternative.Row.{Row}
-use Rattle.graph.specs.Answers.{Answers}
+use Rattle.graph.specs.TablesAnswer.{TablesAnswer}
 use Rattle.graph.specs.Units.{IsUnitBound, operations_of, first_without_table}
-use Rattle.graph.specs.Uses.{AtMost, Progress}
+use Rattle.graph.specs.Uses.{AtMost, CountsRows}
 use Rattle.graph.proofs.Chosen.{length-operations}
 use Rattle.graph.proofs.UnitBound.{IsUnitBound-from, bound-le-interval, bound-range, operations_well_formed}
 use Rattle.graph.proofs.Passes.{passes, passes-more}
-use Rattle.graph.proofs.Tally.{Progress-none, AtMost-none}
+use Rattle.graph.proofs.Tally.{CountsRows-none, AtMost-none}
 use Rattle.graph.proofs.units.res_mii.Goals as goal
 
 pub loop-freedom-init : goal.loop-freedom-init
-loop-freedom-init c = (omega arith, Progress-none, AtMost-none, λ h. absurd (omega arith))
+loop-freedom-init c = (omega arith, CountsRows-none, AtMost-none, λ h. absurd (omega arith))
 
 pub loop-freedom-preserved : goal.loop-freedom-preserved
 loop-freedom-preserved c =
@@ -18,7 +18,7 @@ loop-freedom-preserved c =
     let some : 0 < c.loop-freedom.freedom = c.loop-freedom.invariant.0 in
     let n : (c.loop-freedom.freedom + 1) - 1 ≡ c.loop-freedom.freedom = omega arith in (
       omega arith,
-      subst (λ l. Progress l c.with_operations-uses.result.counts c.with_operations-uses.result.greatest) (passes-more operations c.loop-freedom.freedom some)
+      subst (λ l. CountsRows l c.with_operations-uses.result.counts c.with_operations-uses.result.greatest) (passes-more operations c.loop-freedom.freedom some)
           (c.with_operations-uses.ensures.taken (passes operations (c.loop-freedom.freedom - 1)) c.loop-freedom.invariant.1),
       subst (λ k. AtMost (2048 * k) c.with_operations-uses.result.counts) (sym n) c.with_operations-uses.ensures.grown,
       λ h. (c.with_operations-uses.ensures.machine, c.with_operations-uses.ensures.innermost),
@@ -50,7 +50,7 @@ range c =
 pub returns-clause-exact : goal.returns-clause-exact
 returns-clause-exact c =
     let none : None ≡ first_without_table c.args.machine.now c.args.innermost.now = c.in_default.ensures in
-    subst (λ missing. Answers missing (IsUnitBound (operations_of c.args.machine.now c.args.innermost.now)) (Ok c.from.result)) none (bound c)
+    subst (λ missing. TablesAnswer missing (IsUnitBound (operations_of c.args.machine.now c.args.innermost.now)) (Ok c.from.result)) none (bound c)
 
 pub returns-clause-below : goal.returns-clause-below
 returns-clause-below c = bound-le-interval (operations_of c.args.machine.now c.args.innermost.now) c.from.result (bound c)

@@ -2,11 +2,11 @@ use Rattle.std.proofs.Common.{◌*◌, ◌-◌, ◌<◌}
 use Rattle.machine.specs.Machines.{IsMachine}
 use Rattle.iterations.specs.Loops.{IsLoop}
 use Rattle.graph.specs.Units.{operations_of}
-use Rattle.graph.specs.Uses.{AtMost, Progress}
+use Rattle.graph.specs.Uses.{AtMost, CountsRows}
 use Rattle.graph.proofs.Passes.{passes}
 use Rattle.graph.proofs.units.res_mii.Given as goal
 
 abbrev pub invariant-loop-freedom : goal.invariant-loop-freedom
 invariant-loop-freedom l =
-    (0 < l.freedom) × Progress (passes (operations_of l.machine l.innermost) (l.freedom - 1)) l.uses.counts l.uses.greatest
+    (0 < l.freedom) × CountsRows (passes (operations_of l.machine l.innermost) (l.freedom - 1)) l.uses.counts l.uses.greatest
     × AtMost (2048 * (l.freedom - 1)) l.uses.counts × (1 < l.freedom → IsMachine l.machine × IsLoop l.innermost)

@@ -1,8 +1,8 @@
 use Rattle.std.proofs.Common.{◌≡◌, ℕ, ◌/◌, ◌<◌, ◌≤◌, List, ◌++◌, length, take, drop, refl, sym, ap, ◌∙◌, subst, arith}
 use Rattle.std.specs.List.{All, slice_index}
 use Rattle.ims.specs.Schedules.{IsSchedule}
-use Rattle.ims.specs.Attempts.{HasAll}
-use Rattle.ims.proofs.Answering.{Answers, same_lists_schedule}
+use Rattle.ims.specs.Attempts.{IsAllPlaced}
+use Rattle.ims.proofs.Answering.{AttemptAnswer, same_lists_schedule}
 use Rattle.ims.proofs.Ranking.{all_written}
 use Rattle.ims.proofs.attempts.answer.Goals as goal
 
@@ -14,7 +14,7 @@ returns-then-not-have_few_stages c = λ budget stops free.
     let also : length choices ≡ length c.args.prepared.now.operations = omega arith in
     let read : c.deref.result.now ≡ times = c.deref.ensures.value ∙ all_written c.args.times.len times (drop (length times) c.args.times.items) (omega arith) in
     let late = c.if-not-have_few_stages.ensures.late in
-    let all : HasAll c.args.prepared.now c.args.progress.now.state times choices
+    let all : IsAllPlaced c.args.prepared.now c.args.progress.now.state times choices
     = record { each_time = long; each_choice = also; each = λ op there. c.if-not-read_off.ensures.all op (omega (arith, c.requires.whole)) } in (
       free,
       record {
@@ -36,7 +36,7 @@ new-requires c =
     let t : take c.args.times.len (times ++ drop (length times) c.args.times.items) ≡ times = all_written c.args.times.len times (drop (length times) c.args.times.items) (omega arith) in
     let w : take c.args.choices.len (choices ++ drop (length choices) c.args.choices.items) ≡ choices
     = all_written c.args.choices.len choices (drop (length choices) c.args.choices.items) (omega arith) in
-    let all : HasAll c.args.prepared.now c.args.progress.now.state times choices
+    let all : IsAllPlaced c.args.prepared.now c.args.progress.now.state times choices
     = record { each_time = long; each_choice = also; each = λ op there. c.if-not-read_off.ensures.all op (omega (arith, c.requires.whole)) } in
     let is : IsSchedule (record { problem = c.args.prepared.now; ii = c.args.ii; times = times; choices = choices })
     = record {
@@ -58,7 +58,7 @@ returns c = λ budget stops free.
     let t : take c.args.times.len (times ++ drop (length times) c.args.times.items) ≡ times = all_written c.args.times.len times (drop (length times) c.args.times.items) (omega arith) in
     let w : take c.args.choices.len (choices ++ drop (length choices) c.args.choices.items) ≡ choices
     = all_written c.args.choices.len choices (drop (length choices) c.args.choices.items) (omega arith) in
-    let all : HasAll c.args.prepared.now c.args.progress.now.state times choices
+    let all : IsAllPlaced c.args.prepared.now c.args.progress.now.state times choices
     = record { each_time = long; each_choice = also; each = λ op there. c.if-not-read_off.ensures.all op (omega (arith, c.requires.whole)) } in
     let is : IsSchedule (record { problem = c.args.prepared.now; ii = c.args.ii; times = times; choices = choices })
     = record {
@@ -71,5 +71,5 @@ returns c = λ budget stops free.
     let same : c.new.result ≡ record { problem = c.args.prepared.now; ii = c.args.ii; times = times; choices = choices }
     = c.new.ensures ∙ same_lists_schedule c.args.prepared.now c.args.ii times (take c.args.times.len (times ++ drop (length times) c.args.times.items))
     choices (take c.args.choices.len (choices ++ drop (length choices) c.args.choices.items)) t w in
-    subst (Answers c.args.prepared.now c.args.ii budget) (sym same)
+    subst (AttemptAnswer c.args.prepared.now c.args.ii budget) (sym same)
     (free, record { state = c.args.progress.now.state; stops = stops; has_all = all }, refl, refl, is)

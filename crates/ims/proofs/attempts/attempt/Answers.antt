@@ -1,7 +1,7 @@
 use Rattle.std.proofs.Common.{◌≡◌, ℕ, ◌<◌, List, length, drop, sym, ◌∙◌, subst, arith}
 use Rattle.std.specs.List.{slice_index}
 use Rattle.graph.specs.Reaches.{AreHeights}
-use Rattle.mrt.specs.Placements.{Operations, alternatives_of}
+use Rattle.mrt.specs.Placements.{OperationAlternatives, alternatives_of}
 use Rattle.ims.specs.Scheduling.{IsFirstSound, Stops}
 use Rattle.ims.proofs.Answering.{unblocked, lawful_end}
 use Rattle.ims.proofs.Ranking.{all_written}
@@ -15,7 +15,7 @@ run-requires-clause-sound g c =
     = c.deref.ensures.value ∙ all_written c.in_ok-sound.sound.len sound (drop (length sound) c.in_ok-sound.sound.items) (omega arith) in
     let same : g.T.ModuloTable.operations c.in_ok-table.table ≡ c.args.prepared.now.operations = c.in_ok-table.ensures.operations ∙ c.alternatives.ensures.value in
     subst (λ (s : List ℕ). (op : ℕ) → op < length c.args.prepared.now.operations → IsFirstSound ii (alternatives_of c.args.prepared.now.operations op) (slice_index s op)) (sym read)
-    (subst (λ (os : Operations). (op : ℕ) → op < length os → IsFirstSound ii (alternatives_of os op) (slice_index sound op)) same c.if-not-find_sound.ensures.all)
+    (subst (λ (os : OperationAlternatives). (op : ℕ) → op < length os → IsFirstSound ii (alternatives_of os op) (slice_index sound op)) same c.if-not-find_sound.ensures.all)
 
 pub answer-requires-clause-lawful : goal.answer-requires-clause-lawful
 answer-requires-clause-lawful g c =
@@ -39,5 +39,5 @@ returns g c =
     let offered : g.T.ModuloTable.operations c.in_ok-table.table ≡ c.args.prepared.now.operations = c.in_ok-table.ensures.operations ∙ c.alternatives.ensures.value in
     let each : (op : ℕ) → op < length c.args.prepared.now.operations → IsFirstSound c.args.ii (alternatives_of c.args.prepared.now.operations op) (slice_index sound op)
     = subst (λ n. (op : ℕ) → op < length c.args.prepared.now.operations → IsFirstSound n (alternatives_of c.args.prepared.now.operations op) (slice_index sound op)) same
-    (subst (λ (os : Operations). (op : ℕ) → op < length os → IsFirstSound ii (alternatives_of os op) (slice_index sound op)) offered c.if-not-find_sound.ensures.all) in
+    (subst (λ (os : OperationAlternatives). (op : ℕ) → op < length os → IsFirstSound ii (alternatives_of os op) (slice_index sound op)) offered c.if-not-find_sound.ensures.all) in
     record { exact = c.answer.ensures c.args.budget stops (unblocked c.args.prepared.now c.args.ii sound each) }

@@ -2,7 +2,7 @@ use Rattle.std.proofs.Common.{◌≡◌, ℕ, ◌<◌, false, List, [], length, 
 use Rattle.std.proofs.lemmas.List.{get_or_default}
 use Rattle.machine.specs.declared.alternative.Row.{Row}
 use Rattle.machine.specs.Alternative.{collides}
-use Rattle.mrt.specs.Placements.{Operations, alternatives_of, rows_of, IsFree}
+use Rattle.mrt.specs.Placements.{OperationAlternatives, alternatives_of, rows_of, IsFree}
 use Rattle.ims.specs.Listed.{IsHeld}
 use Rattle.ims.proofs.Checking.{IsFree-unheld, free_unless}
 use Rattle.ims.proofs.check.is_free.Goals as goal
@@ -10,7 +10,7 @@ use Rattle.ims.proofs.check.is_free.Goals as goal
 pub returns-then-not-collides-clause-yes : goal.returns-then-not-collides-clause-yes
 returns-then-not-collides-clause-yes g c =
     let ii : ℕ = g.T.ModuloTable.interval c.args.table.now in
-    let operations : Operations = c.args.operations.now in
+    let operations : OperationAlternatives = c.args.operations.now in
     let rows : List Row = rows_of operations c.args.op c.args.alternative in
     let alternatives : List (List Row) = c.as_slice.result.now in
     let offered : alternatives ≡ alternatives_of operations c.args.op
@@ -26,4 +26,4 @@ returns-then-not-collides-clause-yes g c =
     (IsFree ii operations (g.T.ModuloTable.placed c.args.table.now) c.args.op c.args.time c.args.alternative)
     c.is_held.ensures.no
     (λ none. IsFree-unheld ii operations (g.T.ModuloTable.placed c.args.table.now) c.args.op c.args.time c.args.alternative c.requires.alternative sound
-    (subst (λ (os : Operations). IsHeld ii os (g.T.ModuloTable.placed c.args.table.now) (rows_of os c.args.op c.args.alternative) c.args.time → ⊥) c.requires.operations none))
+    (subst (λ (os : OperationAlternatives). IsHeld ii os (g.T.ModuloTable.placed c.args.table.now) (rows_of os c.args.op c.args.alternative) c.args.time → ⊥) c.requires.operations none))

@@ -1,5 +1,5 @@
 use Rattle.std.proofs.Common.{◌≡◌, ℕ, ◌+◌, ◌<◌, length, sym, ◌∙◌, subst, arith}
-use Rattle.mrt.specs.Placements.{Operations, Placements}
+use Rattle.mrt.specs.Placements.{OperationAlternatives, Placements}
 use Rattle.ims.proofs.Checking.{ArePlaced, ArePlaced-more, clash_breaks, KeepsUnits-all, clash_at, free_at}
 use Rattle.ims.proofs.check.keep_units.Goals as goal
 
@@ -7,7 +7,7 @@ pub returns-then-not-is_free-clause-no : goal.returns-then-not-is_free-clause-no
 returns-then-not-is_free-clause-no g c =
     let i = c.loop-op.invariant in
     let ii : ℕ = g.T.ModuloTable.interval c.args.table.now in
-    let operations : Operations = c.args.operations.now in
+    let operations : OperationAlternatives = c.args.operations.now in
     let placed : Placements = g.T.ModuloTable.placed c.loop-op.table in
     let listed : c.loop-op.op < length c.args.places.now = omega arith in
     let there : c.loop-op.op < length operations = omega (arith, c.requires.places.whole) in
@@ -18,7 +18,7 @@ pub loop-op-preserved : goal.loop-op-preserved
 loop-op-preserved g c =
     let i = c.loop-op.invariant in
     let ii : ℕ = g.T.ModuloTable.interval c.args.table.now in
-    let operations : Operations = c.args.operations.now in
+    let operations : OperationAlternatives = c.args.operations.now in
     let placed : Placements = g.T.ModuloTable.placed c.loop-op.table in
     let listed : c.loop-op.op < length c.args.places.now = omega arith in
     let there : c.loop-op.op < length operations = omega (arith, c.requires.places.whole) in

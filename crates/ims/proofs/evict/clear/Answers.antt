@@ -2,7 +2,7 @@ use Rattle.std.proofs.Common.{rules, ◌≡◌, ℕ, ◌+◌, ◌<◌, List, len
 use Rattle.std.specs.List.{slice_get}
 use Rattle.std.specs.Option.{IsSome}
 use Rattle.machine.specs.declared.alternative.Row.{Row}
-use Rattle.mrt.specs.Placements.{Operations, Placements, Placement, rows_of}
+use Rattle.mrt.specs.Placements.{OperationAlternatives, Placements, Placement, rows_of}
 use Rattle.mrt.proofs.Taking.{placed_within}
 use Rattle.ims.specs.Evictions.{AreCleared}
 use Rattle.ims.specs.Progress.{ProgressData}
@@ -14,7 +14,7 @@ pub release-requires-clause-there : goal.release-requires-clause-there
 release-requires-clause-there g c =
     let i = c.loop-row.invariant in
     let d : Row = record { unit = 0; offset = 0 } in
-    let operations : Operations = g.T.ModuloTable.operations c.args.table.now in
+    let operations : OperationAlternatives = g.T.ModuloTable.operations c.args.table.now in
     let left : Placements = g.T.ModuloTable.placed c.loop-row.table in
     let below : c.loop-row.row < length (rows_of operations c.args.op c.args.alternative) = omega (arith, c.requires.rows) in
     let h = holder_of (g.T.ModuloTable.interval c.args.table.now) (g.T.ModuloTable.interval c.loop-row.table) operations (g.T.ModuloTable.operations c.loop-row.table)
@@ -29,7 +29,7 @@ pub release-requires-clause-placed : goal.release-requires-clause-placed
 release-requires-clause-placed g c =
     let i = c.loop-row.invariant in
     let d : Row = record { unit = 0; offset = 0 } in
-    let operations : Operations = g.T.ModuloTable.operations c.args.table.now in
+    let operations : OperationAlternatives = g.T.ModuloTable.operations c.args.table.now in
     let left : Placements = g.T.ModuloTable.placed c.loop-row.table in
     let below : c.loop-row.row < length (rows_of operations c.args.op c.args.alternative) = omega (arith, c.requires.rows) in
     let h = holder_of (g.T.ModuloTable.interval c.args.table.now) (g.T.ModuloTable.interval c.loop-row.table) operations (g.T.ModuloTable.operations c.loop-row.table)
@@ -41,7 +41,7 @@ pub release-requires-in-Some : goal.release-requires-in-Some
 release-requires-in-Some g c =
     let i = c.loop-row.invariant in
     let d : Row = record { unit = 0; offset = 0 } in
-    let operations : Operations = g.T.ModuloTable.operations c.args.table.now in
+    let operations : OperationAlternatives = g.T.ModuloTable.operations c.args.table.now in
     let left : Placements = g.T.ModuloTable.placed c.loop-row.table in
     let below : c.loop-row.row < length (rows_of operations c.args.op c.args.alternative) = omega (arith, c.requires.rows) in
     let h = holder_of (g.T.ModuloTable.interval c.args.table.now) (g.T.ModuloTable.interval c.loop-row.table) operations (g.T.ModuloTable.operations c.loop-row.table)
@@ -53,7 +53,7 @@ loop-row-preserved g c =
     let i = c.loop-row.invariant in
     let d : Row = record { unit = 0; offset = 0 } in
     let ii : ℕ = g.T.ModuloTable.interval c.args.table.now in
-    let operations : Operations = g.T.ModuloTable.operations c.args.table.now in
+    let operations : OperationAlternatives = g.T.ModuloTable.operations c.args.table.now in
     let placed : Placements = g.T.ModuloTable.placed c.args.table.now in
     let left : Placements = g.T.ModuloTable.placed c.loop-row.table in
     let rows : List Row = rows_of operations c.args.op c.args.alternative in
@@ -90,7 +90,7 @@ loop-row-preserved g c =
 
 pub returns-clause-free : goal.returns-clause-free
 returns-clause-free g c =
-    let operations : Operations = g.T.ModuloTable.operations c.args.table.now in
+    let operations : OperationAlternatives = g.T.ModuloTable.operations c.args.table.now in
     let all : length (rows_of operations c.args.op c.args.alternative) ≡ c.loop-row.row = omega (arith, c.requires.rows) in
     record {
       there = c.requires.alternative;

@@ -1,5 +1,5 @@
 use Rattle.std.proofs.Common.{◌≡◌, ℕ, ◌+◌, ◌<◌, Option, None, sym, ap, ◌∙◌, subst, arith}
-use Rattle.mrt.specs.Placements.{Operations, Placements, IsFirstSlot}
+use Rattle.mrt.specs.Placements.{OperationAlternatives, Placements, IsFirstSlot}
 use Rattle.ims.specs.Scheduling.{IsEarliest, forced_time}
 use Rattle.ims.proofs.Forced.{last_below, forced_below}
 use Rattle.ims.proofs.settle.settle.Goals as goal
@@ -19,7 +19,7 @@ returns-clause-place g c =
     let none : Option (ℕ × ℕ) = None in
     let slot : IsFirstSlot ii c.args.prepared.now.operations c.args.progress.now.state.placed c.args.op start none
     = subst (λ (p : Placements). IsFirstSlot ii c.args.prepared.now.operations p c.args.op start none) c.requires.tied
-    (subst (λ (os : Operations). IsFirstSlot ii os (g.T.ModuloTable.placed c.args.table.now) c.args.op start none) c.requires.operations c.in_default.ensures) in
+    (subst (λ (os : OperationAlternatives). IsFirstSlot ii os (g.T.ModuloTable.placed c.args.table.now) c.args.op start none) c.requires.operations c.in_default.ensures) in
     record {
       earliest = start;
       is_earliest = subst (λ i. IsEarliest c.args.prepared.now i c.args.progress.now.state c.args.op start) c.ii.ensures c.earliest-start.ensures.exact;

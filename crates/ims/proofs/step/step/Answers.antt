@@ -1,9 +1,9 @@
-use Rattle.std.proofs.Common.{◌+◌, ◌≤◌, ◌≡◌, ℕ, ◌<◌, eqb, List, length, filter, set, Some, sym, ap, ◌∙◌, subst, arith}
+use Rattle.std.proofs.Common.{◌+◌, ◌≤◌, ◌≡◌, ℕ, ◌<◌, eqb, List, [], length, filter, set, Some, sym, ap, ◌∙◌, subst, arith}
 use Rattle.std.specs.List.{All, Contains}
 use Rattle.std.proofs.lemmas.List.Elements.{All-filter, All-weaker}
 use Rattle.graph.specs.Dependences.{EdgeData}
 use Rattle.graph.specs.Graphs.{GraphData}
-use Rattle.mrt.specs.Placements.{Operations, Placements, Placement, rows_of, IsMetBy, IsFree}
+use Rattle.mrt.specs.Placements.{OperationAlternatives, Placements, Placement, alternatives_of, rows_of, IsMetBy, IsFree}
 use Rattle.ims.specs.Evictions.{StaysOr, IsBrokenAt, IsCutOff}
 use Rattle.ims.proofs.Placing.{still_free, times_grow, IsPlacing-from}
 use Rattle.ims.proofs.step.step.Goals as goal
@@ -24,7 +24,7 @@ cut-requires-clause-ends g c =
 pub claim-requires-clause-free : goal.claim-requires-clause-free
 claim-requires-clause-free g c =
     let ii : ℕ = g.T.ModuloTable.interval c.args.table.now in
-    let operations : Operations = c.args.prepared.now.operations in
+    let operations : OperationAlternatives = c.args.prepared.now.operations in
     let at : Placement = record { time = c.settle-time.result.0; alternative = c.settle-time.result.1 } in
     let cleared : Placements = g.T.ModuloTable.placed c.settle-time.new.table in
     let left : Placements = g.T.ModuloTable.placed c.cut.new.table in
@@ -41,12 +41,12 @@ claim-requires-clause-free g c =
     let free : IsFree ii operations left c.args.op at.time at.alternative
     = still_free c.args.prepared.now ii c.args.progress.now.state c.args.op at cleared left within each_cleared c.settle-time.ensures.free each_left in
     subst (λ i. IsFree i (g.T.ModuloTable.operations c.cut.new.table) left c.args.op at.time at.alternative) (sym (c.cut.ensures.interval ∙ c.settle-time.ensures.interval))
-    (subst (λ (os : Operations). IsFree ii os left c.args.op at.time at.alternative) (sym (c.cut.ensures.operations ∙ c.settle-time.ensures.operations ∙ c.requires.operations)) free)
+    (subst (λ (os : OperationAlternatives). IsFree ii os left c.args.op at.time at.alternative) (sym (c.cut.ensures.operations ∙ c.settle-time.ensures.operations ∙ c.requires.operations)) free)
 
 pub returns-clause-step : goal.returns-clause-step
 returns-clause-step g c =
     let ii : ℕ = g.T.ModuloTable.interval c.args.table.now in
-    let operations : Operations = c.args.prepared.now.operations in
+    let operations : OperationAlternatives = c.args.prepared.now.operations in
     let at : Placement = record { time = c.settle-time.result.0; alternative = c.settle-time.result.1 } in
     let cleared : Placements = g.T.ModuloTable.placed c.settle-time.new.table in
     let left : Placements = g.T.ModuloTable.placed c.cut.new.table in
@@ -73,7 +73,7 @@ returns-clause-step g c =
 pub returns-clause-grown : goal.returns-clause-grown
 returns-clause-grown g c = λ limit times.
     let ii : ℕ = g.T.ModuloTable.interval c.args.table.now in
-    let operations : Operations = c.args.prepared.now.operations in
+    let operations : OperationAlternatives = c.args.prepared.now.operations in
     let at : Placement = record { time = c.settle-time.result.0; alternative = c.settle-time.result.1 } in
     let cleared : Placements = g.T.ModuloTable.placed c.settle-time.new.table in
     let left : Placements = g.T.ModuloTable.placed c.cut.new.table in
@@ -94,3 +94,11 @@ returns-clause-grown g c = λ limit times.
     let le : limit ≤ limit + ii + 65 = omega arith in
     times_grow c.args.prepared.now ii c.args.progress.now.state c.args.op at cleared left within each_cleared c.settle-time.ensures.free each_left
     limit (limit + ii + 65) c.place.new.self.state times le new placed previous
+
+pub place-requires-clause-alternative : goal.place-requires-clause-alternative
+place-requires-clause-alternative g c =
+    let operations : OperationAlternatives = c.args.prepared.now.operations in
+    let offered = c.edges.ensures.well_formed.offered c.args.op [] c.requires.there in
+    let there : c.settle-time.result.1 < length (alternatives_of operations c.args.op) = c.settle-time.ensures.free.there in
+    let few : length (alternatives_of operations c.args.op) ≤ 8 = offered.few in
+    omega arith

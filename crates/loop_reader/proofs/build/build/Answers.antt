@@ -1,13 +1,13 @@
 use Rattle.std.proofs.Common.{ap, ◌∙◌, ◌++◌, sym, subst, length, take, [], arith}
 use Rattle.std.proofs.lemmas.List.{length-map, take_all}
-use Rattle.loop_reader.specs.Meaning.{array_in, param_in, source_in, out_in, statement_of, number_of, is_statement}
+use Rattle.loop_reader.specs.Meaning.{array_in, param_in, statement_in, out_in, statement_of, how_many, is_statement}
 use Rattle.loop_reader.specs.inner.Blocks.{forms_in}
 use Rattle.iterations.specs.Loops.{IsLoop}
 use Rattle.loop_reader.proofs.making.Built.{extend-lines, extend-mapped, extend-rows, statement-placed}
 use Rattle.loop_reader.specs.inner.Found.{AreFound}
-use Rattle.loop_reader.specs.declared.lines.entry.Entry.{Entry}
+use Rattle.loop_reader.specs.declared.lines.entry.LineEntry.{LineEntry}
 use Rattle.loop_lines.specs.declared.form.Form.TheVariants as forms
-use Rattle.loop_reader.specs.declared.names.found.Found.{Found}
+use Rattle.loop_reader.specs.declared.names.found.Targets.{Targets}
 use Rattle.loop_reader.specs.declared.names.found.Target.TheVariants as targets
 use Rattle.loop_reader.proofs.lookups.Finding.{statement-by, out-by}
 use Rattle.loop_reader.proofs.making.Few.{few, line-named}
@@ -17,11 +17,11 @@ use Rattle.loop_reader.proofs.making.Made.{made-of}
 use Rattle.loop_reader.proofs.build.build.Goals as goal
 
 -- what stands past the last line
-abbrev no-line : Entry
+abbrev no-line : LineEntry
 no-line = record { line = 0; form = forms.Loop (record { ref_ptr = (0, 0); now = [] }) }
 
 -- and past what was found for it
-abbrev none : Found
+abbrev none : Targets
 none = record { number = 0; first = targets.Param 0; second = targets.Param 0; third = targets.Param 0 }
 
 pub bounds-found-i : goal.bounds-found-i
@@ -39,14 +39,14 @@ add-requires-clause-few c =
     let small = few (forms_in c.args.index.now) c.requires.block (entries-faultless (forms_in c.args.index.now) [] c.args.index.now c.requires.faultless) in
     let most = small.statements in
     let placed = statement-placed c.lines-lines.result.now c.loop-i.i no-line (length c.loop-i.parts.statements.items) c.loop-i-test.true (ap length c.loop-i.invariant.statements ∙ length-map _ _) in
-    let same = ap (λ ls. number_of is_statement (forms_in ls)) c.loop-i.invariant.items in
+    let same = ap (λ ls. how_many is_statement (forms_in ls)) c.loop-i.invariant.items in
     omega (arith, most, placed, same)
 
 pub add-requires-clause-room : goal.add-requires-clause-room
 add-requires-clause-room c =
     let room = c.requires.given.room in
     let placed = statement-placed c.lines-lines.result.now c.loop-i.i no-line (length c.loop-i.parts.statements.items) c.loop-i-test.true (ap length c.loop-i.invariant.statements ∙ length-map _ _) in
-    let same = ap (λ ls. number_of is_statement (forms_in ls)) c.loop-i.invariant.items in
+    let same = ap (λ ls. how_many is_statement (forms_in ls)) c.loop-i.invariant.items in
     omega (arith, room, placed, same)
 
 pub loop-i-preserved : goal.loop-i-preserved
@@ -62,7 +62,7 @@ loop-i-preserved c =
       items = inv.items;
       arrays = extend-lines array_in _ _ _ _ _ h inv.arrays add.arrays;
       params = extend-lines param_in _ _ _ _ _ h inv.params add.params;
-      statements = extend-mapped source_in (statement_of (forms_in c.args.index.now)) _ _ _ _ _ h inv.statements (add.statements ∙ ap (λ xs. c.loop-i.parts.statements.items ++ xs) (statement-by block _ _ found));
+      statements = extend-mapped statement_in (statement_of (forms_in c.args.index.now)) _ _ _ _ _ h inv.statements (add.statements ∙ ap (λ xs. c.loop-i.parts.statements.items ++ xs) (statement-by block _ _ found));
       inits = extend-rows _ _ _ _ _ _ _ h (ap length inv.statements ∙ length-map _ _) inv.inits add.inits;
       outs = extend-lines (out_in (forms_in c.args.index.now)) _ _ _ _ _ h inv.outs (add.outs ∙ ap (λ xs. c.loop-i.parts.outs.items ++ xs) (out-by block _ _ found));
     }

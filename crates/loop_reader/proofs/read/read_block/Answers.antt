@@ -2,9 +2,9 @@ use Rattle.std.proofs.Common.{◌≡◌, ◌∙◌, ◌+◌, ◌++◌, ◌∷◌
 use Rattle.std.proofs.lemmas.List.Sums.{count_by-le-length}
 use Rattle.std.proofs.lemmas.List.{length-map}
 use Rattle.loop_lines.specs.Forms.{EndLine}
-use Rattle.loop_reader.specs.declared.lines.entry.Entry.{Entry}
+use Rattle.loop_reader.specs.declared.lines.entry.LineEntry.{LineEntry}
 use Rattle.loop_reader.specs.declared.fault.LoopFaultKind.TheVariants.{Syntax}
-use Rattle.loop_reader.specs.Meaning.{number_of, forms_of, faults_of, at_line, is_statement, whole, outside_faults, blocks_of, loop_of}
+use Rattle.loop_reader.specs.Meaning.{how_many, forms_of, faults_of, at_line, is_statement, whole, outside_faults, blocks_of, loop_of}
 use Rattle.loop_lines.specs.Parsed.{form_seen}
 use Rattle.loop_reader.specs.inner.Blocks.{forms_in, entry_faults, StopsBlock, IsBehind, IsPast}
 use Rattle.loop_reader.specs.declared.fault.LoopFault.{LoopFault}
@@ -16,9 +16,9 @@ use Rattle.loop_reader.proofs.read.read_block.Goals as goal
 pub reset-requires : goal.reset-requires
 reset-requires c =
     let same : c.new-index.result ≡ c.collect_block.new.lines.items = c.new-index.ensures ∙ c.as_slice-2.ensures.value in
-    let counted : c.in_ok-counts.counts.statements ≡ number_of is_statement (forms_in c.new-index.result) = c.in_ok-counts.ensures.counts.statements ∙ ap (λ ls. number_of is_statement (forms_in ls)) (c.as_slice.ensures.value ∙ sym same) in
+    let counted : c.in_ok-counts.counts.statements ≡ how_many is_statement (forms_in c.new-index.result) = c.in_ok-counts.ensures.counts.statements ∙ ap (λ ls. how_many is_statement (forms_in ls)) (c.as_slice.ensures.value ∙ sym same) in
     let all = count_by-le-length is_statement (forms_in c.new-index.result) in
-    let l : length (forms_in c.new-index.result) ≡ length c.collect_block.new.lines.items = length-map c.new-index.result (λ (e : Entry). form_seen e.form) ∙ ap length same in
+    let l : length (forms_in c.new-index.result) ≡ length c.collect_block.new.lines.items = length-map c.new-index.result (λ (e : LineEntry). form_seen e.form) ∙ ap length same in
     omega (arith, all, l, c.in_ok-sound.ensures.few, counted)
 
 pub returns-in-Some : goal.returns-in-Some
@@ -45,7 +45,7 @@ pub returns-in-Err : goal.returns-in-Err
 returns-in-Err c =
     let block = forms_in c.new-index.result in
     let same : c.new-index.result ≡ c.collect_block.new.lines.items = c.new-index.ensures ∙ c.as_slice-2.ensures.value in
-    let counted : c.in_ok-counts.counts.statements ≡ number_of is_statement (forms_in c.new-index.result) = c.in_ok-counts.ensures.counts.statements ∙ ap (λ ls. number_of is_statement (forms_in ls)) (c.as_slice.ensures.value ∙ sym same) in
+    let counted : c.in_ok-counts.counts.statements ≡ how_many is_statement (forms_in c.new-index.result) = c.in_ok-counts.ensures.counts.statements ∙ ap (λ ls. how_many is_statement (forms_in ls)) (c.as_slice.ensures.value ∙ sym same) in
     let clean : None ≡ first_in (entry_faults block [] (take c.in_ok-sound.sound c.new-index.result)) = sym c.in_default.is ∙ c.in_ok-first.ensures.value in
     let h = subst (λ ls. StopsBlock c.args.number (forms_of c.args.text.now) ls c.in_ok-sound.sound c.in_ok-sound.stop) (sym same) c.in_ok-sound.ensures.stops in
     let at = subst (StopsBlock c.args.number (forms_of c.args.text.now) c.new-index.result c.in_ok-sound.sound) c.in-End.is h in
@@ -59,14 +59,14 @@ returns-in-Err c =
 pub build-requires-clause-some : goal.build-requires-clause-some
 build-requires-clause-some c =
     let same : c.new-index.result ≡ c.collect_block.new.lines.items = c.new-index.ensures ∙ c.as_slice-2.ensures.value in
-    let counted : c.in_ok-counts.counts.statements ≡ number_of is_statement (forms_in c.new-index.result) = c.in_ok-counts.ensures.counts.statements ∙ ap (λ ls. number_of is_statement (forms_in ls)) (c.as_slice.ensures.value ∙ sym same) in
+    let counted : c.in_ok-counts.counts.statements ≡ how_many is_statement (forms_in c.new-index.result) = c.in_ok-counts.ensures.counts.statements ∙ ap (λ ls. how_many is_statement (forms_in ls)) (c.as_slice.ensures.value ∙ sym same) in
     statement-there (forms_in c.new-index.result) c.in_ok-counts.counts.statements counted c.in_default-check_end.ensures.fault
 
 pub returns : goal.returns
 returns c =
     let block = forms_in c.new-index.result in
     let same : c.new-index.result ≡ c.collect_block.new.lines.items = c.new-index.ensures ∙ c.as_slice-2.ensures.value in
-    let counted : c.in_ok-counts.counts.statements ≡ number_of is_statement (forms_in c.new-index.result) = c.in_ok-counts.ensures.counts.statements ∙ ap (λ ls. number_of is_statement (forms_in ls)) (c.as_slice.ensures.value ∙ sym same) in
+    let counted : c.in_ok-counts.counts.statements ≡ how_many is_statement (forms_in c.new-index.result) = c.in_ok-counts.ensures.counts.statements ∙ ap (λ ls. how_many is_statement (forms_in ls)) (c.as_slice.ensures.value ∙ sym same) in
     let clean : None ≡ first_in (entry_faults block [] (take c.in_ok-sound.sound c.new-index.result)) = sym c.in_default.is ∙ c.in_ok-first.ensures.value in
     let h = subst (λ ls. StopsBlock c.args.number (forms_of c.args.text.now) ls c.in_ok-sound.sound c.in_ok-sound.stop) (sym same) c.in_ok-sound.ensures.stops in
     let at = subst (StopsBlock c.args.number (forms_of c.args.text.now) c.new-index.result c.in_ok-sound.sound) c.in-End.is h in

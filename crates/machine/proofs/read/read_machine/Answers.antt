@@ -1,6 +1,6 @@
 use Rattle.std.proofs.Common.{sym}
 use Rattle.std.proofs.lemmas.Bool.{false≢true}
-use Rattle.machine.proofs.Whole.{Answers-from_Reads, text-long, text-not_utf8, text-not_toml, text-tree}
+use Rattle.machine.proofs.Whole.{MachineAnswer-from_Reads, text-long, text-not_utf8, text-not_toml, text-tree}
 use Rattle.machine.proofs.read.read_machine.Goals as goal
 
 pub returns-then-text-gt-MAX_TEXT : goal.returns-then-text-gt-MAX_TEXT
@@ -13,7 +13,7 @@ pub returns-in-Ok-table_from_str : goal.returns-in-Ok-table_from_str
 returns-in-Ok-table_from_str c =
     let utf8 = c.in-Ok.ensures.cases in
     let parsed = rw utf8.0 at c.in-Ok-table_from_str.ensures.ok in
-    record { exact = rw (text-tree _ c.if-text-gt-MAX_TEXT.false _ utf8.1 parsed) (Answers-from_Reads _ _ c.read_tree.result c.read_tree.ensures) }
+    record { exact = rw (text-tree _ c.if-text-gt-MAX_TEXT.false _ utf8.1 parsed) (MachineAnswer-from_Reads _ _ c.read_tree.result c.read_tree.ensures) }
 
 pub returns-else-is_memory : goal.returns-else-is_memory
 returns-else-is_memory c =

@@ -1,13 +1,13 @@
 use Rattle.std.proofs.Common.{codes, ◌∙◌}
 use Rattle.toml.proofs.Views.{table_get}
-use Rattle.machine.proofs.Faults.{Reads-err, first-append, first-then, none-append}
+use Rattle.machine.proofs.Faults.{ReadsPart-err, first-append, first-then, none-append}
 use Rattle.machine.proofs.Laws.{units-law, machine-law}
 use Rattle.machine.proofs.TableFaults.{tree-of, tree-is}
 use Rattle.machine.proofs.read.read_tree.Goals as goal
 
 pub returns-in_err-check_keys : goal.returns-in_err-check_keys
 returns-in_err-check_keys c =
-    Reads-err _ _ c.from_residual.result c.in_err-check_keys.field-0.0 c.from_residual.ensures.1 (λ ne.
+    ReadsPart-err _ _ c.from_residual.result c.in_err-check_keys.field-0.0 c.from_residual.ensures.1 (λ ne.
     let first = rw c.top.ensures at (c.in_err-check_keys.ensures ne) in
     rw (tree-of _) (first-append _ _ _ (first-append _ _ _ (first-append _ _ _ first))))
 
@@ -15,7 +15,7 @@ pub returns-in_err-units : goal.returns-in_err-units
 returns-in_err-units c =
     let keys = rw c.top.ensures at c.in_ok-check_keys.ensures in
     let got = table_get c.get.result (codes "units") c.args.tree.now.entries c.get.ensures.value in
-    Reads-err _ _ c.from_residual-in_err-units.result c.in_err-units.field-0.0 c.from_residual-in_err-units.ensures.1 (λ ne.
+    ReadsPart-err _ _ c.from_residual-in_err-units.result c.in_err-units.field-0.0 c.from_residual-in_err-units.ensures.1 (λ ne.
     let first = rw got at (c.in_err-units.ensures ne) in
     rw (tree-of _) (first-append _ _ _ (first-append _ _ _ (first-then _ _ _ keys.0 first))))
 
@@ -24,7 +24,7 @@ returns-in_err-registers c =
     let keys = rw c.top.ensures at c.in_ok-check_keys.ensures in
     let units = rw (table_get c.get.result (codes "units") c.args.tree.now.entries c.get.ensures.value) at c.in_ok-units.ensures in
     let got = table_get c.get-2.result (codes "registers") c.args.tree.now.entries c.get-2.ensures.value in
-    Reads-err _ _ c.from_residual-in_err-registers.result c.in_err-registers.field-0.0 c.from_residual-in_err-registers.ensures.1 (λ ne.
+    ReadsPart-err _ _ c.from_residual-in_err-registers.result c.in_err-registers.field-0.0 c.from_residual-in_err-registers.ensures.1 (λ ne.
     let first = rw (c.top-path.ensures, got) at (c.in_err-registers.ensures ne) in
     rw (tree-of _) (first-append _ _ _ (first-then _ _ _ (none-append _ _ keys.0 units.0) first)))
 
@@ -34,7 +34,7 @@ returns-in_err-tables c =
     let units = rw (table_get c.get.result (codes "units") c.args.tree.now.entries c.get.ensures.value) at c.in_ok-units.ensures in
     let registers = rw (c.top-path.ensures, table_get c.get-2.result (codes "registers") c.args.tree.now.entries c.get-2.ensures.value) at c.in_ok-registers.ensures in
     let got = table_get c.get-3.result (codes "ops") c.args.tree.now.entries c.get-3.ensures.value in
-    Reads-err _ _ c.from_residual-in_err-tables.result c.in_err-tables.field-0.0 c.from_residual-in_err-tables.ensures.1 (λ ne.
+    ReadsPart-err _ _ c.from_residual-in_err-tables.result c.in_err-tables.field-0.0 c.from_residual-in_err-tables.ensures.1 (λ ne.
     let first = rw (c.as_slice.ensures.value, units.1, got) at (c.in_err-tables.ensures ne) in
     rw (tree-of _) (first-then _ _ _ (none-append _ _ (none-append _ _ keys.0 units.0) registers.0) first))
 

@@ -5,7 +5,7 @@ use Rattle.machine.specs.MachineText.{machine_of}
 use Rattle.loops.specs.Meaning.{loops_in}
 use Rattle.ims.specs.Problems.{ProblemData}
 use Rattle.candidates.specs.declared.listings.Row as row
-use Rattle.candidates.specs.Texts.{last_line}
+use Rattle.candidates.specs.Texts.{counts_line}
 use Rattle.workers.specs.Files.{PreparesAndLists}
 use Rattle.workers.proofs.Answering.{lists_of}
 use Rattle.modsched.specs.Schedule.{are_met}
@@ -45,12 +45,12 @@ returns-clause-exact g c =
     let text = c.push_counts.new.text.items in
     let rows : c.push_rows.new.text.items ≡ flat_map (λ (pair : ProblemData × row.Row). choice_lines c.args.trip listing.ceiling pair.0.loop pair.1 pair.1.choice) (zip prepared.items listing.rows)
     = ◌∙◌ {A = List ℕ} c.in_ok-push_rows.ensures (ap₂ (λ (t : List ℕ) (ps : List ProblemData). t ++ flat_map (λ (pair : ProblemData × row.Row). choice_lines c.args.trip listing.ceiling pair.0.loop pair.1 pair.1.choice) (zip ps listing.rows)) c.new-text.ensures.items c.as_slice.ensures.value) in
-    let told : text ≡ c.push_rows.new.text.items ++ last_line listing.rows
-    = ◌∙◌ {A = List ℕ} c.in_ok-push_counts.ensures (ap (λ (rs : List row.Row). c.push_rows.new.text.items ++ last_line rs) c.rows.ensures.value) in
+    let told : text ≡ c.push_rows.new.text.items ++ counts_line listing.rows
+    = ◌∙◌ {A = List ℕ} c.in_ok-push_counts.ensures (ap (λ (rs : List row.Row). c.push_rows.new.text.items ++ counts_line rs) c.rows.ensures.value) in
     written (PreparesAndLists r k) (IsRunText c.args.trip r k) (machine_of c.args.machine.now) (loops_in c.args.loops.now) (prepared, listing) text c.are_met.result
     (λ m ls f. record {
       listing = listing;
       lists = lists_of m r k ls prepared.items listing f.0 f.1;
-      is_text = told ∙ ap (λ (t : List ℕ). t ++ last_line listing.rows) (rows ∙ told_prepared c.args.trip listing.ceiling m r k ls prepared.items listing.rows f.0);
+      is_text = told ∙ ap (λ (t : List ℕ). t ++ counts_line listing.rows) (rows ∙ told_prepared c.args.trip listing.ceiling m r k ls prepared.items listing.rows f.0);
       met = c.are_met.ensures ∙ ap are_met c.rows-2.ensures.value;
     }) c.in_ok-prepared.ensures.exact

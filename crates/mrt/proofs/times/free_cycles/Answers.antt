@@ -13,7 +13,7 @@ returns-then-met c held time k tell base small asked =
     let lt : i < length slots = omega arith in
     let slot = c.requires.slots i zero lt in
     let more = cycle_more c.args.ii c.args.words c.args.times.now held slots time k i zero c.residue.result c.loop-slot.met c.sixty_four-met.result lt tell slot.unit
-    (omega (arith, c.residue.ensures.below, c.requires.reach)) (c.residue.ensures.value time base) (c.sixty_four-met.ensures k small) (c.loop-slot.invariant held time k tell base small asked) in
+    (omega (arith, c.residue.ensures.below)) (c.residue.ensures.value time base) (c.sixty_four-met.ensures k small) (c.loop-slot.invariant held time k tell base small asked) in
     let met = meets_whole c.args.ii held slots (i + 1) (time + k) (sym more ∙ all_set _ k c.if-met.true small) in
     none_set k _ met
 
@@ -25,7 +25,7 @@ loop-slot-preserved c held time k tell base small asked =
     let lt : i < length slots = omega arith in
     let slot = c.requires.slots i zero lt in
     cycle_more c.args.ii c.args.words c.args.times.now held slots time k i zero c.residue.result c.loop-slot.met c.sixty_four-met.result lt tell slot.unit
-    (omega (arith, c.residue.ensures.below, c.requires.reach)) (c.residue.ensures.value time base) (c.sixty_four-met.ensures k small) (c.loop-slot.invariant held time k tell base small asked)
+    (omega (arith, c.residue.ensures.below)) (c.residue.ensures.value time base) (c.sixty_four-met.ensures k small) (c.loop-slot.invariant held time k tell base small asked)
 
 pub returns : goal.returns
 returns c held time k tell base small asked =

@@ -1,5 +1,4 @@
-use Rattle.std.proofs.Common.{◌<◌, length, arith}
-use Rattle.rotating.specs.Crowds.{crowd_in}
+use Rattle.std.proofs.Common.{arith}
 use Rattle.rotating.proofs.Crowded.{crowded-none}
 use Rattle.rotating.proofs.crowd.are_crowded.Goals as goal
 

@@ -1,7 +1,7 @@
 use Rattle.std.proofs.Common.{◌≡◌, ◌<◌, ◌≤◌, length, get_or, sym, ap, ◌∙◌, subst, arith, true, false}
 use Rattle.std.specs.Prelude.{slice_index, is_some}
 use Rattle.iterations.specs.declared.language.statement.Statement.{Statement}
-use Rattle.overlap.specs.Allotments.{number_of}
+use Rattle.overlap.specs.Allotments.{allotted_number}
 use Rattle.overlap.specs.Lifetimes.{rank_of}
 use Rattle.iterations.specs.Loops.{LoopData}
 use Rattle.ims.specs.Problems.{ProblemData}
@@ -23,7 +23,7 @@ loop-q-preserved c =
     let auto = c.loop-q.auto.table in
     let low : c.loop-q.rank ≤ c.loop-q.q = c.loop-q.invariant.0 in
     let rank : c.loop-q.rank ≡ rank_of loop c.loop-q.q = c.loop-q.invariant.1 in
-    let v : c.if-rank-numbers.table ≡ number_of loop c.args.allotment.now c.loop-q.q = elim c.if-rank-numbers.branch [
+    let v : c.if-rank-numbers.table ≡ allotted_number loop c.args.allotment.now c.loop-q.q = elim c.if-rank-numbers.branch [
       | then-rank-numbers w ↦ w.table-is ∙ ap (λ xs. slice_index xs c.loop-q.rank) ns ∙ ap (slice_index c.args.allotment.now.numbers) rank
       | else-rank-numbers w ↦
           let f = w.if-rank-numbers.false in
@@ -38,5 +38,5 @@ loop-q-preserved c =
         | then-is_some w ↦ let r = w.rank-is in let y = rank-yes loop.statements c.loop-q.q s l at (subst (λ (x : Statement). is_some x.name ≡ true) (sym c.index-statements-q.is) (sym c.is_some.ensures ∙ w.if-is_some.true)) in omega arith
         | else-is_some w ↦ let r = w.rank-is in let y = rank-no loop.statements c.loop-q.q s l at (subst (λ (x : Statement). is_some x.name ≡ false) (sym c.index-statements-q.is) (sym c.is_some.ensures ∙ w.if-is_some.false)) in omega arith
       ],
-      table-more c.loop-q.table c.loop-q.q c.if-rank-numbers.table (number_of loop c.args.allotment.now) (omega arith) c.loop-q.invariant.2 v,
+      table-more c.loop-q.table c.loop-q.q c.if-rank-numbers.table (allotted_number loop c.args.allotment.now) (omega arith) c.loop-q.invariant.2 v,
     )

@@ -1,5 +1,5 @@
 use Rattle.std.proofs.Common.{sym, subst, arith, ℕ, slice_index_or}
-use Rattle.workers.specs.Cells.{IsRowOf}
+use Rattle.workers.specs.Cells.{AreCellsOf}
 use Rattle.workers.proofs.Filling.{row_there, row_of}
 use Rattle.workers.proofs.Choosing.{chosen_on}
 use Rattle.workers.proofs.gathers.choose_all.Goals as goal
@@ -10,8 +10,8 @@ bounds-rows-number c = let near = c.loop-number-test.true in let a = row_there c
 pub choose-requires-clause-row : goal.choose-requires-clause-row
 choose-requires-clause-row c =
     let n : ℕ = c.loop-number.number in
-    subst (λ p. IsRowOf p (slice_index_or c.loop-number.rows n c.index-rows-number.result)) (sym c.index-loops-number.is)
-    (subst (IsRowOf (slice_index_or c.args.loops.now n c.index-loops-number.result)) (sym (c.loop-number.invariant.4 n c.index-rows-number.result (omega arith)))
+    subst (λ p. AreCellsOf p (slice_index_or c.loop-number.rows n c.index-rows-number.result)) (sym c.index-loops-number.is)
+    (subst (AreCellsOf (slice_index_or c.args.loops.now n c.index-loops-number.result)) (sym (c.loop-number.invariant.4 n c.index-rows-number.result (omega arith)))
     (row_of c.args.loops.now c.args.rows.now n c.index-loops-number.result c.index-rows-number.result c.requires.rows c.loop-number-test.true))
 
 pub loop-number-preserved : goal.loop-number-preserved

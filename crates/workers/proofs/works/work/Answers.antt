@@ -3,7 +3,7 @@ use Rattle.std.specs.Prelude.{IsTrue, Some, None}
 use Rattle.board.specs.Views.{DrawsUnlessDry}
 use Rattle.workers.specs.Entries.{ReportData}
 use Rattle.board.specs.declared.view.View.{View}
-use Rattle.candidates.specs.Pieces.{PiecesData, number_of, loop_of, start_of, end_of}
+use Rattle.candidates.specs.Pieces.{PiecesData, piece_count, loop_of_piece, start_of_piece, end_of_piece}
 use Rattle.workers.specs.Turns.{Turned}
 use Rattle.workers.specs.Worked.{WorkedAs}
 use Rattle.workers.proofs.Working.{worked_none, worked_on, worked_dry, count_drawn, count_turned, lost_turned, turned_at}
@@ -29,19 +29,19 @@ loop-preserved g c =
     let v = g.B.Board.view c.loop.pass in
     let u = g.B.Board.view c.draw.new.pass in
     let w = g.B.Board.view c.turn.new.pass in
-    let turned : Turned g.B.Board.tells u w (loop_of c.args.pieces.now n) (start_of c.args.pieces.now n) (end_of c.args.pieces.now n - start_of c.args.pieces.now n) c.loop.report c.turn.new.report =
-    turned_at g.B.Board.tells u w c.loop.report c.turn.new.report c.piece.result.loop_number (loop_of c.args.pieces.now n) c.piece.result.start (start_of c.args.pieces.now n) c.piece.result.end (end_of c.args.pieces.now n)
+    let turned : Turned g.B.Board.tells u w (loop_of_piece c.args.pieces.now n) (start_of_piece c.args.pieces.now n) (end_of_piece c.args.pieces.now n - start_of_piece c.args.pieces.now n) c.loop.report c.turn.new.report =
+    turned_at g.B.Board.tells u w c.loop.report c.turn.new.report c.piece.result.loop_number (loop_of_piece c.args.pieces.now n) c.piece.result.start (start_of_piece c.args.pieces.now n) c.piece.result.end (end_of_piece c.args.pieces.now n)
     c.piece.ensures.its_loop c.piece.ensures.start c.piece.ensures.end c.turn.ensures.turned in
-    let told : IsTrue g.B.Board.tells → DrawsUnlessDry (number_of c.args.pieces.now) v (Some n) u = λ t. subst (λ m. DrawsUnlessDry m v (Some n) u) c.requires.pieces (c.in-Some.ensures.told t) in
-    let few = lost_turned g.B.Board.tells u w (loop_of c.args.pieces.now n) (start_of c.args.pieces.now n) (end_of c.args.pieces.now n - start_of c.args.pieces.now n) c.loop.report c.turn.new.report turned in
+    let told : IsTrue g.B.Board.tells → DrawsUnlessDry (piece_count c.args.pieces.now) v (Some n) u = λ t. subst (λ m. DrawsUnlessDry m v (Some n) u) c.requires.pieces (c.in-Some.ensures.told t) in
+    let few = lost_turned g.B.Board.tells u w (loop_of_piece c.args.pieces.now n) (start_of_piece c.args.pieces.now n) (end_of_piece c.args.pieces.now n - start_of_piece c.args.pieces.now n) c.loop.report c.turn.new.report turned in
     let lost = i.2 in (
       c.turn.ensures.of,
       c.turn.ensures.loops ∙ i.1,
       omega arith,
       c.turn.ensures.same_dry ∙ i.3,
       (λ dry. c.turn.ensures.same_dryness ∙ c.in-Some.ensures.dries),
-      (λ t. count_turned g.B.Board.tells u w (loop_of c.args.pieces.now n) (start_of c.args.pieces.now n) (end_of c.args.pieces.now n - start_of c.args.pieces.now n) c.loop.report c.turn.new.report t turned
-          ∙ count_drawn (number_of c.args.pieces.now) v u (Some n) (told t) ∙ i.5 t),
+      (λ t. count_turned g.B.Board.tells u w (loop_of_piece c.args.pieces.now n) (start_of_piece c.args.pieces.now n) (end_of_piece c.args.pieces.now n - start_of_piece c.args.pieces.now n) c.loop.report c.turn.new.report t turned
+          ∙ count_drawn (piece_count c.args.pieces.now) v u (Some n) (told t) ∙ i.5 t),
       λ t un. worked_on g.B.Board.tells c.args.pieces.now n v u w c.loop.report c.turn.new.report c.loop.counter t (i.6 t un) (told t) (subst (λ m. n < m) c.requires.pieces c.in-Some.ensures.piece) turned c.turn.ensures.loops (c.turn.ensures.same_dry ∙ i.3),
     )
 

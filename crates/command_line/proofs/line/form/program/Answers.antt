@@ -36,7 +36,15 @@ returns c =
     c.in_ok-subcommand.ensures.shape c.in_ok-schedule.ensures.local ∙ ap₂ with_subcommand empty (ap (λ (a : App). a.top) c.in_ok-schedule.ensures.app) in
     let with_run =
     c.in_ok-subcommand-2.ensures.shape c.in_ok-run.ensures.local ∙ ap₂ with_subcommand with_schedule (ap (λ (a : App). a.top) c.in_ok-run.ensures.app) in
+    let with_json =
+    c.in_ok-subcommand-3.ensures.shape c.in_ok-json.ensures.local ∙ ap₂ with_subcommand with_run (ap (λ (a : App). a.top) c.in_ok-json.ensures.app) in
+    let with_explain =
+    c.in_ok-subcommand-4.ensures.shape c.in_ok-explain.ensures.local ∙ ap₂ with_subcommand with_json (ap (λ (a : App). a.top) c.in_ok-explain.ensures.app) in
     let with_bounds =
-    c.in_ok-subcommand-3.ensures.shape c.in_ok-bounds.ensures.local ∙ ap₂ with_subcommand with_run (ap (λ (a : App). a.top) c.in_ok-bounds.ensures.app) in
-    IfOk-weaker c.subcommand-4.result _ _ (λ r h. h.shape c.in_ok-plain.ensures.local
-    ∙ ap₂ with_subcommand with_bounds (ap (λ (a : App). a.top) c.in_ok-plain.ensures.app)) c.subcommand-4.ensures
+    c.in_ok-subcommand-5.ensures.shape c.in_ok-bounds.ensures.local ∙ ap₂ with_subcommand with_explain (ap (λ (a : App). a.top) c.in_ok-bounds.ensures.app) in
+    let with_edges =
+    c.in_ok-subcommand-6.ensures.shape c.in_ok-edges.ensures.local ∙ ap₂ with_subcommand with_bounds (ap (λ (a : App). a.top) c.in_ok-edges.ensures.app) in
+    let with_dot =
+    c.in_ok-subcommand-7.ensures.shape c.in_ok-dot.ensures.local ∙ ap₂ with_subcommand with_edges (ap (λ (a : App). a.top) c.in_ok-dot.ensures.app) in
+    IfOk-weaker c.subcommand-8.result _ _ (λ r h. h.shape c.in_ok-plain.ensures.local
+    ∙ ap₂ with_subcommand with_dot (ap (λ (a : App). a.top) c.in_ok-plain.ensures.app)) c.subcommand-8.ensures

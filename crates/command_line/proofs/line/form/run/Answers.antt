@@ -8,7 +8,5 @@ use Rattle.command_line.proofs.line.form.run.Goals as goal
 pub returns-clause-app : goal.returns-clause-app
 unfolding run_line
 returns-clause-app c =
-    let first = adds _ _ _ _ _ c.in_ok-arg.ensures c.machine.ensures.local c.bare.ensures.app c.machine.ensures.rule in
-    let both = adds _ _ _ _ _ c.in_ok-arg-2.ensures c.loops.ensures.local first c.loops.ensures.rule in
-    let all = adds _ _ _ _ _ c.in_ok-command.ensures c.trip.ensures.local both c.trip.ensures.rule in
+    let all = adds _ _ _ _ _ c.in_ok-arg.ensures c.trip.ensures.local c.in_ok-command.ensures.app c.trip.ensures.rule in
     IfOk-weaker c.with_search.result _ _ (λ r h. h ∙ ap (λ (a : App). with_search a) all) c.with_search.ensures.app

@@ -10,8 +10,10 @@ returns-in_ok-from_str-in-Some-Some-clause-meant c =
     let loops : Some c.in-Some-Some.loops.now ≡ first_of (codes "loops") (rows_of (found_of c.args.values.now)) =
     c.in-Some-Some.ensures ∙ first_value-rows (found_of c.args.values.now) (codes "loops") in (
       refl,
-      sym loops ∙ ap (λ (text : List ℕ). Some text) (sym c.in_ok-from_str-in-Some-Some.ensures.ok),
-      c.in-Some-Some.ensures'.says,
+      (
+        sym loops ∙ ap (λ (text : List ℕ). Some text) (sym c.in_ok-from_str-in-Some-Some.ensures.ok),
+        c.in-Some-Some.ensures'.says,
+      ),
     )
 
 pub returns-in_default-clause-none : goal.returns-in_default-clause-none

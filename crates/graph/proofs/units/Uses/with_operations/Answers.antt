@@ -1,8 +1,8 @@
 use Rattle.std.proofs.Common.{◌≡◌, ◌≢◌, ◌+◌, ◌*◌, ◌-◌, ◌<◌, ◌≤◌, [], ◌++◌, ◌==◌, filter, take, length, get_or, sym, ap, ◌∙◌, subst, arith}
 use Rattle.machine.specs.Machines.{IsMachine}
 use Rattle.graph.specs.Units.{alternatives_in, operations_of}
-use Rattle.graph.specs.Uses.{Progress}
-use Rattle.graph.proofs.Chosen.{Progress-taken, Progress-passed, operation_at, take_operations}
+use Rattle.graph.specs.Uses.{CountsRows}
+use Rattle.graph.proofs.Chosen.{CountsRows-taken, CountsRows-passed, operation_at, take_operations}
 use Rattle.graph.proofs.units.Uses.with_operations.Goals as goal
 use Rattle.graph.proofs.units.Uses.with_operations.Goals.{in-Some+then-alternatives-freedom, in-Some+else-alternatives-freedom, in_default}
 
@@ -28,7 +28,7 @@ loop-statement-preserved c =
           (let same : w.as_slice-alternatives.result.now ≡ get_or (operations_of c.args.machine.now c.args.innermost.now) c.loop-statement.statement-index []
           = w.as_slice-alternatives.ensures.value ∙ w.alternatives.ensures ∙ ap alternatives_in w.in-Some.ensures.value ∙ sym at.1 in
           rw w.uses-is (
-            λ done p. Progress-taken done (operations_of c.args.machine.now c.args.innermost.now) c.loop-statement.statement-index c.args.freedom w.as_slice-alternatives.result.now
+            λ done p. CountsRows-taken done (operations_of c.args.machine.now c.args.innermost.now) c.loop-statement.statement-index c.args.freedom w.as_slice-alternatives.result.now
                 c.loop-statement.uses.counts w.with_best-uses.result.counts c.loop-statement.uses.greatest w.with_best-uses.result.greatest
                 at.0 same w.if-alternatives-freedom.true w.with_best-uses.ensures.best (c.loop-statement.invariant.0 done p),
             λ unit. let g = w.with_best-uses.ensures.grown _ c.loop-statement.invariant.1 unit in omega arith,
@@ -40,7 +40,7 @@ loop-statement-preserved c =
           let other : length (get_or (operations_of c.args.machine.now c.args.innermost.now) c.loop-statement.statement-index []) ≢ c.args.freedom
           = λ e. w.if-alternatives-freedom.false (ap length same ∙ e) in
           rw w.uses-is (
-            λ done p. Progress-passed done (operations_of c.args.machine.now c.args.innermost.now) c.loop-statement.statement-index c.args.freedom
+            λ done p. CountsRows-passed done (operations_of c.args.machine.now c.args.innermost.now) c.loop-statement.statement-index c.args.freedom
                 c.loop-statement.uses.counts c.loop-statement.uses.greatest at.0 other (c.loop-statement.invariant.0 done p),
             λ unit. let g = c.loop-statement.invariant.1 unit in omega arith,
             λ _. formed,
@@ -52,7 +52,7 @@ loop-statement-preserved c =
           = λ e. let zero : length (get_or (operations_of c.args.machine.now c.args.innermost.now) c.loop-statement.statement-index []) ≡ 0 = ap length none in
           let some : 0 < c.args.freedom = c.requires.some in omega arith in
           rw w.uses-is (
-            λ done p. Progress-passed done (operations_of c.args.machine.now c.args.innermost.now) c.loop-statement.statement-index c.args.freedom
+            λ done p. CountsRows-passed done (operations_of c.args.machine.now c.args.innermost.now) c.loop-statement.statement-index c.args.freedom
                 c.loop-statement.uses.counts c.loop-statement.uses.greatest at.0 other (c.loop-statement.invariant.0 done p),
             λ unit. let g = c.loop-statement.invariant.1 unit in omega arith,
             λ _. formed,
@@ -65,7 +65,7 @@ returns-clause-taken c =
     let all : take c.loop-statement.statement-index (operations_of c.args.machine.now c.args.innermost.now) ≡ operations_of c.args.machine.now c.args.innermost.now
     = take_operations c.args.machine.now c.args.innermost.now c.loop-statement.statement-index
     (let same : length c.statements-statement-items.result.now ≡ length c.args.innermost.now.statements = ap length items in omega arith) in
-    λ done p. subst (λ operations. Progress (done ++ filter (λ alternatives. length alternatives == c.args.freedom) operations) c.loop-statement.uses.counts c.loop-statement.uses.greatest)
+    λ done p. subst (λ operations. CountsRows (done ++ filter (λ alternatives. length alternatives == c.args.freedom) operations) c.loop-statement.uses.counts c.loop-statement.uses.greatest)
     all (c.loop-statement.invariant.0 done p)
 
 pub returns-clause-grown : goal.returns-clause-grown

@@ -2,12 +2,12 @@ use Rattle.std.proofs.Common.{◌+◌, ◌*◌, ◌-◌, ◌==◌, ◌<◌, List
 use Rattle.machine.specs.declared.alternative.Row.{Row}
 use Rattle.machine.specs.Machines.{IsMachine}
 use Rattle.graph.specs.Units.{operations_of}
-use Rattle.graph.specs.Uses.{AtMost, Progress}
+use Rattle.graph.specs.Uses.{AtMost, CountsRows}
 use Rattle.graph.proofs.units.Uses.with_operations.Given as goal
 
 abbrev pub invariant-loop-statement : goal.invariant-loop-statement
 invariant-loop-statement l =
-    ((done : List (List (List Row))) → Progress done l.fn.self.counts l.fn.self.greatest
-    → Progress (done ++ filter (λ alternatives. length alternatives == l.freedom) (take l.statement-index (operations_of l.machine l.innermost))) l.uses.counts l.uses.greatest)
+    ((done : List (List (List Row))) → CountsRows done l.fn.self.counts l.fn.self.greatest
+    → CountsRows (done ++ filter (λ alternatives. length alternatives == l.freedom) (take l.statement-index (operations_of l.machine l.innermost))) l.uses.counts l.uses.greatest)
     × AtMost (2048 * (l.freedom - 1) + 16 * l.statement-index) l.uses.counts
     × (0 < l.statement-index → IsMachine l.machine)

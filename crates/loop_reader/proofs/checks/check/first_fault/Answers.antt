@@ -1,10 +1,10 @@
 use Rattle.std.proofs.Common.{◌∙◌, ◌+◌, [], refl, sym, ap, subst, arith, take}
-use Rattle.loop_reader.specs.declared.lines.entry.Entry.{Entry}
+use Rattle.loop_reader.specs.declared.lines.entry.LineEntry.{LineEntry}
 use Rattle.loop_lines.specs.declared.form.Form.TheVariants as forms
 use Rattle.loop_reader.specs.Meaning.{is_array, is_param, is_statement}
 use Rattle.loop_reader.specs.inner.Blocks.{forms_in, entry_faults}
 use Rattle.loop_reader.specs.inner.Checks.{first_in}
-use Rattle.loop_reader.proofs.lookups.Declared.{number_of-more, one_if-le}
+use Rattle.loop_reader.proofs.lookups.Declared.{how_many-more, one_if-le}
 use Rattle.loop_reader.specs.inner.Found.{AreFound}
 use Rattle.loop_reader.proofs.lookups.Finding.{found-none, found-more, found-all}
 use Rattle.loop_reader.proofs.faults.Giving.{given-none}
@@ -12,7 +12,7 @@ use Rattle.loop_reader.proofs.faults.Turns.{line-fault, line-near, turn-faulty, 
 use Rattle.loop_reader.proofs.checks.check.first_fault.Goals as goal
 
 -- what stands past the last line
-none : Entry
+none : LineEntry
 none = record { line = 0; form = forms.Loop (record { ref_ptr = (0, 0); now = [] }) }
 
 pub loop-entry-init : goal.loop-entry-init
@@ -63,9 +63,9 @@ loop-entry-preserved c =
           (turn-given block lines i none _ c.loop-entry.given.inits c.loop-entry.given.outs.items c.loop-entry-test.true same clean near v.given);
       found = λ few. subst (AreFound block (take (i + 1) lines)) (sym c.in_ok-push-in-Ok.ensures.items)
           (found-more block lines i none c.loop-entry.found.items c.in-Ok.line c.loop-entry-test.true (v.found few) (c.in-Ok.ensures.found few));
-      arrays = number_of-more is_array lines i none _ _ c.loop-entry-test.true v.arrays h.arrays;
-      params = number_of-more is_param lines i none _ _ c.loop-entry-test.true v.params h.params;
-      statements = number_of-more is_statement lines i none _ _ c.loop-entry-test.true v.statements h.statements;
+      arrays = how_many-more is_array lines i none _ _ c.loop-entry-test.true v.arrays h.arrays;
+      params = how_many-more is_param lines i none _ _ c.loop-entry-test.true v.params h.params;
+      statements = how_many-more is_statement lines i none _ _ c.loop-entry-test.true v.statements h.statements;
       few_arrays = omega (arith, h.arrays, v.few_arrays, one_if-le);
       few_params = omega (arith, h.params, v.few_params, one_if-le);
       few_statements = omega (arith, h.statements, v.few_statements, one_if-le);

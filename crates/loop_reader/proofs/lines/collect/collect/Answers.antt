@@ -4,7 +4,7 @@ use Rattle.loop_lines.specs.Forms as spec
 use Rattle.loop_reader.specs.Meaning.{has_statement, has_out, is_statement, is_out, forms_of}
 use Rattle.loop_lines.specs.Parsed.{form_seen}
 use Rattle.loop_reader.specs.inner.Blocks.{forms_in}
-use Rattle.loop_reader.specs.declared.lines.entry.Entry.{Entry}
+use Rattle.loop_reader.specs.declared.lines.entry.LineEntry.{LineEntry}
 use Rattle.loop_reader.proofs.blocks.Reading.{reads-blank, reads-line, reads-same, reads-end, reads-open, reads-unfit, forms-next, forms-none, other-than-end, any-push}
 use Rattle.loop_reader.proofs.lines.collect.collect.Goals as goal
 use Rattle.loop_reader.proofs.lines.collect.collect.Goals.{in-None, in-Some+in_default+else-not-allows+in_ok-push-in_default}
@@ -53,7 +53,7 @@ loop-rest-preserved c =
           }
       | in-Some+in_default+else-not-allows+in_ok-push-in_default w ↦
           let form = form_seen w.in-Some.form in
-          let e : Entry = record { line = c.loop-rest.line; form = w.in-Some.form } in
+          let e : LineEntry = record { line = c.loop-rest.line; form = w.in-Some.form } in
           let next = forms-next c.loop-rest.rest.now c.next_line.result.0.now c.next_line.result.1.now (Some form) c.next_line.ensures.lines w.in-Some.ensures in
           let is = w.lines-is in
           let items = ap (λ l. l.items) w.lines-is ∙ w.in_ok-push-in_default.ensures.items in

@@ -4,7 +4,7 @@ use Rattle.machine.specs.Opcodes.{same_word}
 use Rattle.loop_reader.specs.Meaning.{declared, is_array, is_param, is_statement}
 use Rattle.loop_reader.specs.inner.Blocks.{declared_seen, declared_if}
 use Rattle.loop_reader.specs.inner.Known.{known_as}
-use Rattle.loop_reader.proofs.lookups.Declared.{declared-more, number_of-more, one_if-le, seen_or, option_or-none}
+use Rattle.loop_reader.proofs.lookups.Declared.{declared-more, how_many-more, one_if-le, seen_or, option_or-none}
 use Rattle.loop_reader.proofs.names.index.index_names.Goals as goal
 use Rattle.loop_reader.proofs.names.index.index_names.Goals.{in-Some+in_ok-add, in_default}
 
@@ -38,9 +38,9 @@ loop-entry-preserved c =
                 ap (λ m. option_map declared_seen (known_as m q)) w.names-is
                 ∙ sym (ap (option_or (option_map declared_seen (known_as c.loop-entry.names q))) (c.declaration.ensures q ∙ ap (declared_if q) w.in_default.is) ∙ option_or-none (option_map declared_seen (known_as c.loop-entry.names q)))
           ]);
-      arrays = number_of-more is_array lines i _ _ _ c.loop-entry-test.true v.arrays h.arrays;
-      params = number_of-more is_param lines i _ _ _ c.loop-entry-test.true v.params h.params;
-      statements = number_of-more is_statement lines i _ _ _ c.loop-entry-test.true v.statements h.statements;
+      arrays = how_many-more is_array lines i _ _ _ c.loop-entry-test.true v.arrays h.arrays;
+      params = how_many-more is_param lines i _ _ _ c.loop-entry-test.true v.params h.params;
+      statements = how_many-more is_statement lines i _ _ _ c.loop-entry-test.true v.statements h.statements;
       few_arrays = omega (arith, h.arrays, v.few_arrays, one_if-le);
       few_params = omega (arith, h.params, v.few_params, one_if-le);
       few_statements = omega (arith, h.statements, v.few_statements, one_if-le);

@@ -1,7 +1,7 @@
 use Rattle.std.proofs.Common.{◌≡◌, ℕ, ◌≤◌, List, take, option_map}
 use Rattle.loop_reader.specs.inner.Known.{known_as}
 use Rattle.loop_reader.specs.inner.Blocks.{forms_in, declared_seen}
-use Rattle.loop_reader.specs.Meaning.{declared, number_of, is_array, is_param, is_statement}
+use Rattle.loop_reader.specs.Meaning.{declared, how_many, is_array, is_param, is_statement}
 use Rattle.loop_reader.proofs.names.index.index_names.Given as goal
 
 abbrev pub invariant-loop-entry : goal.invariant-loop-entry
@@ -9,9 +9,9 @@ invariant-loop-entry l =
     let before = forms_in (take l.entry-index l.lines) in
     record {
       names : (q : List ℕ) → option_map declared_seen (known_as l.names q) ≡ declared before q;
-      arrays : l.counts.arrays ≡ number_of is_array before;
-      params : l.counts.params ≡ number_of is_param before;
-      statements : l.counts.statements ≡ number_of is_statement before;
+      arrays : l.counts.arrays ≡ how_many is_array before;
+      params : l.counts.params ≡ how_many is_param before;
+      statements : l.counts.statements ≡ how_many is_statement before;
       few_arrays : l.counts.arrays ≤ l.entry-index;
       few_params : l.counts.params ≤ l.entry-index;
       few_statements : l.counts.statements ≤ l.entry-index;

@@ -3,7 +3,7 @@ use Rattle.std.proofs.lemmas.List.{append-nil}
 use Rattle.toml.specs.View.{view}
 use Rattle.machine.specs.MachineText.{alternative_faults, rows_of, row_faults, row_in}
 use Rattle.machine.proofs.AlternativeFaults.{alternative-wrong_type, alternative-limit, alternative-of, alternative-rows}
-use Rattle.machine.proofs.Faults.{Reads-err}
+use Rattle.machine.proofs.Faults.{ReadsPart-err}
 use Rattle.machine.proofs.Laws.{alternative-law}
 use Rattle.machine.proofs.Turns.{count-data_of, made-more, made-all, turn-none, turn-more, turn-fault, turn-all}
 use Rattle.machine.proofs.read.rows.read_alternative.Goals as goal
@@ -40,7 +40,7 @@ returns-in_err-row c =
     let vs = c.in-Some.values.now in
     let count = count-data_of vs c.len.result c.len.ensures in
     let below : c.loop-value.value-index < length c.deref-value-items.result.now = omega arith in
-    Reads-err _ _ c.from_residual-in_err-row.result c.in_err-row.field-0.0 c.from_residual-in_err-row.ensures.1 (λ ne.
+    ReadsPart-err _ _ c.from_residual-in_err-row.result c.in_err-row.field-0.0 c.from_residual-in_err-row.ensures.1 (λ ne.
     let first = rw c.as_slice.ensures at (c.in_err-row.ensures ne) in
     let all = rw c.deref-value-items.ensures.value at (turn-fault (row_faults c.args.path.now c.args.units.now) (row_in c.args.units.now) c.deref-value-items.result.now c.loop-value.value-index c.value-item.result _ below c.value-item.is c.loop-value.invariant.no_fault _ first) in
     rw (alternative-of _ _ _ _ c.in-Some.ensures (rw count (sym c.if-not-is_within.ensures))) all)

@@ -3,7 +3,7 @@ use Rattle.std.proofs.lemmas.List.{append-nil}
 use Rattle.toml.specs.View.{view}
 use Rattle.machine.specs.MachineText.{alternative_faults, rows_of, faults_of_alternatives, alternatives_of}
 use Rattle.machine.proofs.AlternativeFaults.{alternatives-missing, alternatives-wrong_type, alternatives-limit, alternatives-of, alternatives-rows}
-use Rattle.machine.proofs.Faults.{Reads-err}
+use Rattle.machine.proofs.Faults.{ReadsPart-err}
 use Rattle.machine.proofs.Laws.{alternatives-law}
 use Rattle.machine.proofs.Turns.{count-data_of, made-more, made-all, each-none, each-more, each-fault, each-all}
 use Rattle.machine.proofs.read.rows.read_alternatives.Goals as goal
@@ -43,7 +43,7 @@ returns-in_err-read_alternative c =
     let vs = c.in-Some-as_array.values.now in
     let count = count-data_of vs c.len.result c.len.ensures in
     let below : c.loop-value.value-index < length c.deref-value-items.result.now = omega arith in
-    Reads-err _ _ c.from_residual-in_err-read_alternative.result c.in_err-read_alternative.field-0.0 c.from_residual-in_err-read_alternative.ensures.1 (λ ne.
+    ReadsPart-err _ _ c.from_residual-in_err-read_alternative.result c.in_err-read_alternative.field-0.0 c.from_residual-in_err-read_alternative.ensures.1 (λ ne.
     let first = c.in_err-read_alternative.ensures ne in
     let all = rw c.deref-value-items.ensures.value at (each-fault (alternative_faults c.args.path.now c.args.units.now) c.deref-value-items.result.now c.loop-value.value-index c.value-item.result below c.value-item.is c.loop-value.invariant.no_fault _ first) in
     rw (c.in-Some.is, alternatives-of _ _ _ _ c.in-Some-as_array.ensures (rw count (sym c.if-not-is_within.ensures))) all)

@@ -1,7 +1,7 @@
 use Rattle.std.proofs.Common.{[], codes, ◌∙◌, arith}
 use Rattle.std.proofs.lemmas.List.{append-nil}
 use Rattle.toml.proofs.Views.{table_get}
-use Rattle.machine.proofs.Faults.{Reads-err, first-append, first-then, none-append}
+use Rattle.machine.proofs.Faults.{ReadsPart-err, first-append, first-then, none-append}
 use Rattle.machine.proofs.Laws.{number-law}
 use Rattle.machine.proofs.TableFaults.{table-wrong_type, table-of, table-is}
 use Rattle.machine.proofs.read.tables.read_operation.Goals as goal
@@ -11,7 +11,7 @@ returns-in_default c = λ _. rw (c.in_ok-to_key.ensures, append-nil, c.table.ens
 
 pub returns-in_err-check_keys : goal.returns-in_err-check_keys
 returns-in_err-check_keys c =
-    Reads-err _ _ c.from_residual-in_err-check_keys.result c.in_err-check_keys.field-0.0 c.from_residual-in_err-check_keys.ensures.1 (λ ne.
+    ReadsPart-err _ _ c.from_residual-in_err-check_keys.result c.in_err-check_keys.field-0.0 c.from_residual-in_err-check_keys.ensures.1 (λ ne.
     let first = rw (c.inside.ensures, c.word-word.ensures) at (c.in_err-check_keys.ensures ne) in
     rw (table-of _ _ _ _ c.in-Some.ensures) (first-append _ _ _ (first-append _ _ _ first)))
 
@@ -19,7 +19,7 @@ pub returns-in_err-latency : goal.returns-in_err-latency
 returns-in_err-latency c =
     let got = table_get c.get.result (codes "latency") c.in-Some.table.now.entries c.get.ensures.value in
     let keys = rw (c.inside.ensures, c.word-word.ensures) at c.in_ok-check_keys.ensures in
-    Reads-err _ _ c.from_residual-in_err-latency.result c.in_err-latency.field-0.0 c.from_residual-in_err-latency.ensures.1 (λ ne.
+    ReadsPart-err _ _ c.from_residual-in_err-latency.result c.in_err-latency.field-0.0 c.from_residual-in_err-latency.ensures.1 (λ ne.
     let first = rw (c.inside-path.ensures, c.word-word.ensures, got) at (c.in_err-latency.ensures ne) in
     rw (table-of _ _ _ _ c.in-Some.ensures) (first-append _ _ _ (first-then _ _ _ keys.0 first)))
 
@@ -29,7 +29,7 @@ returns-in_err-alternatives c =
     let alts = table_get c.get-2.result (codes "alts") c.in-Some.table.now.entries c.get-2.ensures.value in
     let keys = rw (c.inside.ensures, c.word-word.ensures) at c.in_ok-check_keys.ensures in
     let latency = rw (c.inside-path.ensures, c.word-word.ensures, got) at c.in_ok-latency.ensures in
-    Reads-err _ _ c.from_residual-in_err-alternatives.result c.in_err-alternatives.field-0.0 c.from_residual-in_err-alternatives.ensures.1 (λ ne.
+    ReadsPart-err _ _ c.from_residual-in_err-alternatives.result c.in_err-alternatives.field-0.0 c.from_residual-in_err-alternatives.ensures.1 (λ ne.
     let first = rw (c.inside-2.ensures, c.word-word.ensures, alts) at (c.in_err-alternatives.ensures ne) in
     rw (table-of _ _ _ _ c.in-Some.ensures) (first-then _ _ _ (none-append _ _ keys.0 latency.0) first))
 

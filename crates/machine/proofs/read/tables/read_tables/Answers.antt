@@ -2,7 +2,7 @@ use Rattle.std.proofs.Common.{◌≡◌, Some, set, sym, ◌∙◌, refl, rules,
 use Rattle.std.specs.List.{flat_map}
 use Rattle.toml.specs.View.{view, members_view}
 use Rattle.machine.specs.MachineText.{entries_of, entry_faults}
-use Rattle.machine.proofs.Faults.{Reads-err}
+use Rattle.machine.proofs.Faults.{ReadsPart-err}
 use Rattle.machine.proofs.TableFaults.{tables-missing, tables-wrong_type, tables-of, tables-keys}
 use Rattle.machine.proofs.Slots.{SlotsRight, slots-none, slots-more, slots-all, entry-unknown, entry-fault, entry-more, entries-all}
 use Rattle.machine.proofs.read.tables.read_tables.Goals as goal
@@ -38,7 +38,7 @@ pub returns-in_err-read_operation : goal.returns-in_err-read_operation
 returns-in_err-read_operation c =
     let entries = all_entries (goal.at.returns-in_err-read_operation c).After-into_iter-key-iterator in
     let named = rw c.as_bytes.ensures.value at (sym c.in-Some-named.ensures) in
-    Reads-err _ _ c.from_residual-in_err-read_operation.result c.in_err-read_operation.field-0.0 c.from_residual-in_err-read_operation.ensures.1 (λ ne.
+    ReadsPart-err _ _ c.from_residual-in_err-read_operation.result c.in_err-read_operation.field-0.0 c.from_residual-in_err-read_operation.ensures.1 (λ ne.
     let first = entry-fault c.args.units.now (members_view c.into_iter-key-iterator.result) c.loop-key.key-iterator c.in-Some-2.key.now c.in-Some-2.value.now c.next.new.self c.in-Some-2.ensures.steps c.loop-key.invariant.no_fault _ named _ (c.in_err-read_operation.ensures ne) in
     rw (c.in-Some.is, tables-of _ _ _ c.in-Some-as_table.ensures) (rw entries at first))
 

@@ -1,6 +1,6 @@
 use Rattle.std.proofs.Common.{◌<◌, ◌≤◌, length, sym, ◌∙◌, arith}
 use Rattle.machine.specs.MachineText.{unit_faults, text_of}
-use Rattle.machine.proofs.Faults.{Reads-err, units-missing, units-wrong_type, units-limit, units-of, units-names}
+use Rattle.machine.proofs.Faults.{ReadsPart-err, units-missing, units-wrong_type, units-limit, units-of, units-names}
 use Rattle.machine.proofs.Turns.{count-data_of, made-more, made-all, turn-none, turn-more, turn-fault, turn-all}
 use Rattle.machine.proofs.read.units.read_units.Goals as goal
 
@@ -38,7 +38,7 @@ returns-in_err-name c =
     let vs = c.in-Some-as_array.units.now in
     let count = count-data_of vs c.len.result c.len.ensures in
     let below : c.loop-unit.unit-index < length c.deref-unit-items.result.now = omega arith in
-    Reads-err _ _ c.from_residual-in_err-name.result c.in_err-name.field-0.0 c.from_residual-in_err-name.ensures.1 (λ ne.
+    ReadsPart-err _ _ c.from_residual-in_err-name.result c.in_err-name.field-0.0 c.from_residual-in_err-name.ensures.1 (λ ne.
     let first = rw c.as_slice.ensures.value at (c.in_err-name.ensures ne) in
     let all = rw c.deref-unit-items.ensures.value at (turn-fault unit_faults text_of c.deref-unit-items.result.now c.loop-unit.unit-index c.unit-item.result _ below c.unit-item.is c.loop-unit.invariant.no_fault _ first) in
     rw (c.in-Some.is, units-of _ _ c.in-Some-as_array.ensures (rw count (sym c.if-not-is_within.ensures))) all)

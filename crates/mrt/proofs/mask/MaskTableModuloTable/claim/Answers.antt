@@ -26,6 +26,6 @@ invariant_of-self c =
       AreTimes-marked t.interval c.self.inside.words c.self.inside.times.items c.mark_units.new.times c.self.inside.busy.items c.mark.new.busy
           (rows_of t.operations c.args.op c.args.alternative) c.args.time true c.ii-ii.ensures.some c.self.invariant.1 times_long
           (λ unit place short u p. rw (c.ii-ii.ensures.value, c.slots-slots.ensures.rows, c.deref_mut-2.ensures.value) at (c.mark_units.ensures.once c.args.time unit place (rw c.ii-ii.ensures.value short) (rw c.ii-ii.ensures.value base) u p))
-          (λ unit place far u p. rw (c.ii-ii.ensures.value, c.slots-slots.ensures.rows, c.deref_mut-2.ensures.value) at (c.mark_units.ensures.marked c.args.time unit place (rw c.ii-ii.ensures.value far) (rw c.ii-ii.ensures.value base) u p))
+          (λ unit place far u p. rw (c.ii-ii.ensures.value, c.slots-slots.ensures.rows, c.deref_mut-2.ensures.value) at (c.mark_units.ensures.marked c.args.time unit place (rw c.ii-ii.ensures.value far) (rw c.ii-ii.ensures.value base) u (rw c.ii-ii.ensures.value p)))
           held,
     )

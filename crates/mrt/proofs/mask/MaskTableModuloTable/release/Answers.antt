@@ -24,6 +24,6 @@ invariant_of-self c =
       AreTimes-marked t.interval c.self.inside.words c.self.inside.times.items c.mark_units.new.times c.self.inside.busy.items c.mark.new.busy
           (rows_of t.operations c.args.op at.alternative) at.time false c.ii-ii.ensures.some c.self.invariant.1 times_long
           (λ unit place short u p. rw (c.ii-ii.ensures.value, c.slots-slots.ensures.rows, c.deref_mut-in-Some.ensures.value) at (c.mark_units.ensures.once at.time unit place (rw c.ii-ii.ensures.value short) (rw c.ii-ii.ensures.value base) u p))
-          (λ unit place far u p. rw (c.ii-ii.ensures.value, c.slots-slots.ensures.rows, c.deref_mut-in-Some.ensures.value) at (c.mark_units.ensures.marked at.time unit place (rw c.ii-ii.ensures.value far) (rw c.ii-ii.ensures.value base) u p))
+          (λ unit place far u p. rw (c.ii-ii.ensures.value, c.slots-slots.ensures.rows, c.deref_mut-in-Some.ensures.value) at (c.mark_units.ensures.marked at.time unit place (rw c.ii-ii.ensures.value far) (rw c.ii-ii.ensures.value base) u (rw c.ii-ii.ensures.value p)))
           held,
     )

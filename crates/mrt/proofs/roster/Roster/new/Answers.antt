@@ -1,23 +1,46 @@
-use Rattle.std.proofs.Common.{◌≡◌, ◌+◌, ◌<◌, ◌++◌, ◌∷◌, [], length, None, replicate, take, sym, ap, ◌∙◌, arith, rules}
-use Rattle.std.proofs.lemmas.List.{take_all, take_more, length_push}
-use Rattle.mrt.proofs.Rostering.{IsGroup-pushed, group_of-pushed, IsRoster-new, table_of-new}
+use Rattle.std.proofs.Common.{◌≡◌, ℕ, ◌+◌, ◌<◌, ◌++◌, ◌∷◌, [], List, length, get_or, None, replicate, map, take, sym, ap, ◌∙◌, arith, rules}
+use Rattle.std.specs.List.{All}
+use Rattle.std.proofs.lemmas.List.{take_all, take_more, length_push, get_or_default}
+use Rattle.std.proofs.lemmas.List.Elements.{All-push, All-contains}
+use Rattle.mrt.specs.declared.roster.Group.{Group}
+use Rattle.mrt.specs.Placements.{OperationAlternatives}
+use Rattle.mrt.proofs.Rostering.{IsGroup-pushed, group_of-pushed, group_of-shared, IsGroup-shared, below-longer, IsRoster-new, table_of-new}
 use Rattle.mrt.proofs.roster.Roster.new.Goals as goal
+use Rattle.mrt.proofs.roster.Roster.new.Goals.{in-Some, in-None+in_ok-push-in-None+in_ok-group-in-None}
 
 pub loop-operation-preserved : goal.loop-operation-preserved
 loop-operation-preserved c =
     let i = c.loop-operation.invariant in
+    let operations : OperationAlternatives = c.args.operations.now in
+    let groups : List Group = c.loop-operation.groups.items in
     let k = c.loop-operation.operation-index in
-    let lt : k < length c.args.operations.now = omega arith in
-    let next = take_more c.args.operations.now k c.operation-item.result lt in
-    let item = c.as_slice.ensures.value ∙ c.operation-item.is in
-    let pushed = c.in_ok-push_all.ensures.pushed in
-    record {
-      interval = c.push_all.ensures.interval ∙ i.interval;
-      groups = rw c.in_ok-push.ensures.items (group_of-pushed _ _ _ _ _ pushed i.each_group c.len-first.ensures c.len-end.ensures
-          ∙ ap (λ gs. gs ++ c.as_slice.result.now ∷ []) i.groups ∙ ap (λ g. take k c.args.operations.now ++ g ∷ []) item ∙ sym next);
-      each_group = rw c.in_ok-push.ensures.items (IsGroup-pushed _ _ _ _ _ pushed i.each_group c.len-first.ensures c.len-end.ensures);
-      count = rw c.in_ok-push.ensures.items (length_push _ _ ∙ ap (λ n. n + 1) i.count);
-    }
+    let lt : k < length operations = omega arith in
+    let next = take_more operations k c.operation-item.result lt in
+    let item = c.as_slice-alternatives.ensures.value ∙ c.operation-item.is in
+    elim c.match-of_kind.branch [
+      | in-Some w ↦
+          let e = w.in-Some.earlier in
+          let before : e < length groups = All-contains (λ n. n < length groups) c.as_slice.result.now e (rw c.as_slice.ensures i.kinds) w.in-Some.ensures.0 in
+          let same : get_or operations e [] ≡ get_or operations k [] = w.in-Some.ensures.1 ∙ item ∙ get_or_default operations k c.operation-item.result [] lt in
+          record {
+            interval = rw w.choices-is i.interval;
+            groups = rw (c.in_ok-push.ensures.items, w.choices-is, w.group-is) (group_of-shared _ groups operations k e w.index.result.now i.groups i.count lt (omega (arith, i.count)) w.index.ensures same);
+            each_group = rw (c.in_ok-push.ensures.items, w.choices-is, w.group-is) (IsGroup-shared _ groups e w.index.result.now i.each_group before w.index.ensures);
+            count = rw c.in_ok-push.ensures.items (length_push _ _ ∙ ap (λ n. n + 1) i.count);
+            kinds = rw (c.in_ok-push.ensures.items, w.kinds-is) (below-longer _ groups _ i.kinds);
+          }
+      | in-None+in_ok-push-in-None+in_ok-group-in-None w ↦
+          let g = w.in_ok-group-in-None in
+          record {
+            interval = rw w.choices-is (w.added.ensures.interval ∙ i.interval);
+            groups = rw (c.in_ok-push.ensures.items, w.choices-is, w.group-is) (group_of-pushed _ _ _ groups g.group g.ensures.pushed i.each_group g.ensures.first g.ensures.end
+                ∙ ap (λ gs. gs ++ c.as_slice-alternatives.result.now ∷ []) i.groups ∙ ap (λ a. take k operations ++ a ∷ []) item ∙ sym next);
+            each_group = rw (c.in_ok-push.ensures.items, w.choices-is, w.group-is) (IsGroup-pushed _ _ _ groups g.group g.ensures.pushed i.each_group g.ensures.first g.ensures.end);
+            count = rw c.in_ok-push.ensures.items (length_push _ _ ∙ ap (λ n. n + 1) i.count);
+            kinds = rw (c.in_ok-push.ensures.items, w.kinds-is, w.in_ok-push-in-None.ensures.ok)
+                (All-push (λ n. n < length (groups ++ c.match-of_kind.group ∷ [])) _ _ (below-longer _ groups _ i.kinds) (omega (arith, length_push groups c.match-of_kind.group)));
+          }
+    ]
 
 none : goal.After-loop-operation → Type 0
 none c = c.in_ok-issues.issues.items ≡ replicate (length c.args.operations.now) None
@@ -32,7 +55,7 @@ invariant_of-result c =
     rw (issues_are_none c) (IsRoster-new _ _ _ (length c.args.operations.now) (omega (arith, c.loop-operation.invariant.count)) c.loop-operation.invariant.each_group)
 
 pub returns-clause-value : goal.returns-clause-value
-unfolding none
 returns-clause-value c =
     let all = take_all c.loop-operation.operation-index c.args.operations.now (omega arith) in
-    rw (issues_are_none c) (table_of-new _ _ _ _ _ _ c.loop-operation.invariant.interval (c.loop-operation.invariant.groups ∙ all))
+    let no_issues = c.in_ok-issues.ensures.items_if_clones_equal (λ y h. search rules) in
+    rw no_issues (table_of-new _ _ _ _ _ _ c.loop-operation.invariant.interval (c.loop-operation.invariant.groups ∙ all))

@@ -1,4 +1,4 @@
-use Rattle.std.proofs.Common.{◌≡◌, length, map, take}
+use Rattle.std.proofs.Common.{◌≡◌, ◌<◌, length, map, take}
 use Rattle.std.specs.List.{All}
 use Rattle.mrt.specs.Rosters.{group_of, IsGroup}
 use Rattle.mrt.proofs.roster.Roster.new.Given as goal
@@ -9,4 +9,5 @@ invariant-loop-operation l = record {
   groups : map (group_of l.choices.alternatives) l.groups.items ≡ take l.operation-index l.operations;
   each_group : All (IsGroup (length l.choices.alternatives)) l.groups.items;
   count : length l.groups.items ≡ l.operation-index;
+  kinds : All (λ k. k < length l.groups.items) l.kinds.items;
 }

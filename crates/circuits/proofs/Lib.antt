@@ -1,0 +1,6 @@
+pub mod Farthest
+pub mod Growth
+pub mod Layers
+pub mod Returns
+pub mod Rounds
+pub mod Tables

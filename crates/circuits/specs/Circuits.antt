@@ -1,0 +1,12 @@
+-- Circuits that do not fit an interval.
+use Rattle.std.specs.Prelude.{◌≢◌, ℕ, pos, ◌*◌, ◌<ℤ◌, List}
+use Rattle.std.specs.List.{AllPairs}
+use Rattle.graph.specs.Dependences.{EdgeData}
+use Rattle.graph.specs.Walks.{IsWalk, delay_of, distance_of}
+
+-- a circuit that takes more cycles than so many intervals of this length as its distance: it comes to no operation twice
+pub record IsCircuitAbove (edges : List EdgeData) (ii : ℕ) (walk : List EdgeData) : Type 0 where
+  pub start : ℕ
+  pub closed : IsWalk edges start walk start
+  pub exceeds : pos (ii * distance_of walk) <ℤ delay_of walk
+  pub once : AllPairs (λ (a b : EdgeData). a.from ≢ b.from) walk

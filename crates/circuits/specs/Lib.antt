@@ -1,0 +1,4 @@
+pub mod Circuits
+pub mod Promises
+pub mod inner
+pub use Rattle.graph.specs.Walks

@@ -1,0 +1,4 @@
+pub mod Circuits
+pub mod Parts
+pub mod Rows
+pub mod Tried

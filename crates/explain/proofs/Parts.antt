@@ -1,0 +1,123 @@
+-- What is told of loops, one after another.
+use Rattle.std.proofs.Common.{◌≡◌, ℕ, ◌+◌, Bool, cond, List, [], ◌∷◌, ◌++◌, length, Option, Some, None, refl, sym, ap, ◌∙◌, subst, append_assoc, arith}
+use Rattle.std.specs.Prelude.{Ok, Err, count_by}
+use Rattle.std.proofs.lemmas.List.{append-nil}
+use Rattle.std.proofs.lemmas.List.Sums.{sum_by-append}
+use Rattle.machine.specs.Machines.{MachineData}
+use Rattle.machine.specs.declared.opcode.Opcode.{Opcode}
+use Rattle.iterations.specs.Loops.{LoopData}
+use Rattle.graph.specs.TablesAnswer.{TablesAnswer}
+use Rattle.graph.specs.declared.fault.GraphFault.TheVariants as graph_fault
+use Rattle.graph.specs.Units.{first_lacking, first_without_table, lacking_or}
+use Rattle.graph_text.specs.declared.fault.TextFault.{TextFault}
+use Rattle.graph_text.specs.declared.fault.TextFault.TheVariants.{NoTable}
+use Rattle.graph_text.specs.declared.measuring.LowerBounds.{LowerBounds}
+use Rattle.graph_text.specs.Bounds.{bounds_line}
+use Rattle.graph_text.specs.Faults.{TextAnswers, lacking_in}
+use Rattle.graph_text.proofs.Lacking.{complete, first_lacking-append, refused_or}
+use Rattle.graph_text.proofs.Texts.{all_zip-push, behind, zipped-push}
+use Rattle.ims.specs.Problems.{ProblemData}
+use Rattle.candidates.specs.declared.choices.Choice.{Choice}
+use Rattle.candidates.specs.Listings.{is_met, is_failed}
+use Rattle.explain.specs.CircuitTexts.{IsCircuitText}
+use Rattle.explain.specs.Explanations.{ArePartsOf, IsExplained, IsPartOf, PartData, bounds_of}
+use Rattle.explain.specs.Tries.{AreTries}
+
+-- the parts of what is told of a loop
+pub explained : (units : List ℕ) (p : ProblemData) (choice : Choice) (loop : LoopData) (bounds : LowerBounds) (old a u b new : List ℕ) → loop ≡ p.loop → bounds ≡ bounds_of p
+    → a ≡ old ++ bounds_line loop bounds → u ≡ a ++ units → ((part : List ℕ) × IsCircuitText p part × (b ≡ u ++ part)) → ((tries : List ℕ) × AreTries p choice tries × (new ≡ b ++ tries))
+    → (part : List ℕ) × IsExplained units p choice part × (new ≡ old ++ part)
+explained units p choice loop bounds old a u b new same_loop same_bounds head lines circuit tries =
+    let line = bounds_line p.loop (bounds_of p) in
+    let first : a ≡ old ++ line = head ∙ ap (λ (l : LoopData). old ++ bounds_line l bounds) same_loop ∙ ap (λ (x : LowerBounds). old ++ bounds_line p.loop x) same_bounds in
+    let both : u ≡ old ++ (line ++ units) = behind old line a units u first lines in (
+      ((line ++ units) ++ circuit.0) ++ tries.0,
+      record { circuit = circuit.0; is_circuit = circuit.1; tries = tries.0; are_tries = tries.1; is_text = refl },
+      behind old ((line ++ units) ++ circuit.0) b tries.0 new (behind old (line ++ units) u circuit.0 b both circuit.2) tries.2,
+    )
+
+-- what the preparation of a loop tells
+pub prepared-ok : {A : Type 0} (missing : Option Opcode) (P : A → Type 0) (x : A) → TablesAnswer missing P (Ok x) → (missing ≡ None) × P x
+prepared-ok None P x a = (refl, a)
+prepared-ok (Some o) P x a = cc
+
+pub prepared-fault : {A B : Type 0} (missing : Option Opcode) (P : A → Type 0) (Q : B → Type 0) (name : List ℕ) (o : Opcode) → TablesAnswer missing P (Err (graph_fault.NoTable o))
+    → TextAnswers (lacking_or name missing None) Q (Err (NoTable name o))
+prepared-fault None P Q name o a = absurd a
+prepared-fault (Some p) P Q name o a = cc
+
+pub told-ok : {B : Type 0} (machine : MachineData) (loop : LoopData) (Q : B → Type 0) (y : B) → first_without_table machine loop ≡ None → Q y → TextAnswers (lacking_in machine loop) Q (Ok y)
+told-ok machine loop Q y none q = complete (lacking_in machine loop) Q y (ap (λ o. lacking_or loop.name o None) none) q
+
+count-push : {X : Type 0} (p : X → Bool) (xs : List X) (y : X) → count_by p (xs ++ y ∷ []) ≡ count_by p xs + count_by p (y ∷ [])
+count-push p xs y = sum_by-append (λ x. cond (p x) 1 0) xs (y ∷ [])
+
+-- one loop more
+parts-push : (machine : MachineData) (ratio ceiling : ℕ) (loops : List LoopData) (text : List ℕ) (met failed newer_met newer_failed : ℕ) (x : LoopData) (choice : Choice) (part : List ℕ)
+    → ArePartsOf machine ratio ceiling loops text met failed → IsPartOf machine ratio ceiling x choice part → newer_met ≡ met + count_by is_met (choice ∷ [])
+    → newer_failed ≡ failed + count_by is_failed (choice ∷ []) → ArePartsOf machine ratio ceiling (loops ++ x ∷ []) (text ++ part) newer_met newer_failed
+parts-push machine ratio ceiling loops text met failed newer_met newer_failed x choice part h r m f =
+    let y : PartData = record { choice = choice; text = part } in
+    let R = λ (loop : LoopData) (e : PartData). IsPartOf machine ratio ceiling loop e.choice e.text in
+    let text_of = λ (loop : LoopData) (e : PartData). e.text in
+    record {
+      parts = record {
+        values = h.parts.values ++ y ∷ [];
+        are_right = all_zip-push R loops h.parts.values x y h.parts.are_right r;
+        is_text = ap (λ t. t ++ part) h.parts.is_text ∙ sym (zipped-push R text_of loops h.parts.values x y h.parts.are_right);
+      };
+      number_met = m ∙ ap (λ n. n + count_by is_met (choice ∷ [])) h.number_met ∙ sym (count-push (λ (e : PartData). is_met e.choice) h.parts.values y);
+      number_failed = f ∙ ap (λ n. n + count_by is_failed (choice ∷ [])) h.number_failed ∙ sym (count-push (λ (e : PartData). is_failed e.choice) h.parts.values y);
+    }
+
+-- the loops before those that are left are told of, and none of them lacks a table
+pub record AreDone (machine : MachineData) (ratio ceiling : ℕ) (all left : List LoopData) (old new : List ℕ) (met failed : ℕ) : Type 0 where
+  pub done : List LoopData
+  pub split : all ≡ done ++ left
+  pub complete : first_lacking machine done ≡ None
+  pub text : List ℕ
+  pub parts : ArePartsOf machine ratio ceiling done text met failed
+  pub is_text : new ≡ old ++ text
+
+pub done-none : (machine : MachineData) (ratio ceiling : ℕ) (all : List LoopData) (old : List ℕ) → AreDone machine ratio ceiling all all old old 0 0
+done-none machine ratio ceiling all old = record {
+  done = [];
+  split = refl;
+  complete = refl;
+  text = [];
+  parts = record { parts = record { values = []; are_right = tt; is_text = refl }; number_met = refl; number_failed = refl };
+  is_text = sym (append-nil old);
+}
+
+pub done-more : (machine : MachineData) (ratio ceiling : ℕ) (all left rest : List LoopData) (old new newer : List ℕ) (met failed newer_met newer_failed : ℕ) (x : LoopData) (choice : Choice)
+    → AreDone machine ratio ceiling all left old new met failed → left ≡ x ∷ rest → lacking_in machine x ≡ None
+    → ((part : List ℕ) × IsPartOf machine ratio ceiling x choice part × (newer ≡ new ++ part)) → newer_met ≡ met + count_by is_met (choice ∷ [])
+    → newer_failed ≡ failed + count_by is_failed (choice ∷ []) → AreDone machine ratio ceiling all rest old newer newer_met newer_failed
+done-more machine ratio ceiling all left rest old new newer met failed newer_met newer_failed x choice d at none part m f = record {
+  done = d.done ++ x ∷ [];
+  split = d.split ∙ ap (λ ls. d.done ++ ls) at ∙ sym (append_assoc d.done (x ∷ []) rest);
+  complete = first_lacking-append machine d.done (x ∷ []) d.complete ∙ none;
+  text = d.text ++ part.0;
+  parts = parts-push machine ratio ceiling d.done d.text met failed newer_met newer_failed x choice part.0 d.parts part.1 m f;
+  is_text = behind old d.text new part.0 newer d.is_text part.2;
+}
+
+-- the loop at hand lacks a table, or memory ran out
+pub refused-here : {A B : Type 0} (P : A → Type 0) (Q : B → Type 0) (machine : MachineData) (ratio ceiling : ℕ) (all left rest : List LoopData) (old new : List ℕ) (met failed : ℕ) (x : LoopData)
+    (fault : TextFault) → AreDone machine ratio ceiling all left old new met failed → left ≡ x ∷ rest → TextAnswers (lacking_in machine x) P (Err fault)
+    → TextAnswers (first_lacking machine all) Q (Err fault)
+refused-here {A = A} {B = B} P Q machine ratio ceiling all left rest old new met failed x fault d at lacks =
+    let e : first_lacking machine all ≡ lacking_or x.name (first_without_table machine x) (first_lacking machine rest)
+    = ap (first_lacking machine) (d.split ∙ ap (λ ls. d.done ++ ls) at) ∙ first_lacking-append machine d.done (x ∷ rest) d.complete in
+    subst (λ (o : Option (List ℕ × Opcode)). TextAnswers {A = B} o Q (Err fault)) (sym e)
+    (refused_or P Q fault x.name (first_without_table machine x) (first_lacking machine rest) lacks)
+
+-- nothing is left
+pub all-done : (machine : MachineData) (ratio ceiling : ℕ) (all left : List LoopData) (old new : List ℕ) (met failed : ℕ) → AreDone machine ratio ceiling all left old new met failed
+    → length left ≡ 0 → (first_lacking machine all ≡ None) × ((parts : List ℕ) × ArePartsOf machine ratio ceiling all parts met failed × (new ≡ old ++ parts))
+all-done machine ratio ceiling all [] old new met failed d none =
+    let same : d.done ≡ all = sym (d.split ∙ append-nil d.done) in (
+      ap (first_lacking machine) (sym same) ∙ d.complete,
+      (d.text, subst (λ (ls : List LoopData). ArePartsOf machine ratio ceiling ls d.text met failed) same d.parts, d.is_text),
+    )
+all-done machine ratio ceiling all (x ∷ left) old new met failed d none = absurd (omega arith)

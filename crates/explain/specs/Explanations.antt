@@ -1,0 +1,61 @@
+-- Why loops have the intervals that they have, as text.
+use Rattle.std.specs.Prelude.{◌≡◌, ℕ, ◌==◌, codes, List, ◌++◌, length, count_by}
+use Rattle.machine.specs.Machines.{MachineData}
+use Rattle.iterations.specs.Loops.{LoopData}
+use Rattle.graph_text.specs.declared.measuring.LowerBounds.{LowerBounds}
+use Rattle.graph_text.specs.Bounds.{bounds_line}
+use Rattle.graph_text.specs.Texts.{AreTexts, told}
+use Rattle.graph.specs.Units.{operations_of}
+use Rattle.unit_uses.specs.Choices.{AreUnitChoices}
+use Rattle.unit_uses.specs.UnitLines.{unit_lines_of}
+use Rattle.ims.specs.Problems.{ProblemData, IsProblemOf}
+use Rattle.candidates.specs.declared.choices.Choice.{Choice}
+use Rattle.candidates.specs.Listings.{is_met, is_failed}
+use Rattle.explain.specs.declared.file.Explained.{Explained}
+use Rattle.explain.specs.CircuitTexts.{IsCircuitText}
+use Rattle.explain.specs.Tries.{AreTries}
+
+-- the two lower bounds of a problem
+abbrev pub bounds_of : ProblemData → LowerBounds
+bounds_of problem = record { resources = problem.resources; recurrences = problem.recurrences }
+
+-- a loop with its choice: the line of its lower bounds, the lines of the units, a circuit that asks for the recurrence-constrained
+-- bound, and what was tried
+pub record IsExplained (units : List ℕ) (problem : ProblemData) (choice : Choice) (text : List ℕ) : Type 0 where
+  pub circuit : List ℕ
+  pub is_circuit : IsCircuitText problem circuit
+  pub tries : List ℕ
+  pub are_tries : AreTries problem choice tries
+  pub is_text : text ≡ ((bounds_line problem.loop (bounds_of problem) ++ units) ++ circuit) ++ tries
+
+-- the problem of a loop on a machine, and the choices of the resource-constrained bound, with that
+pub record IsPartOf (machine : MachineData) (ratio ceiling : ℕ) (loop : LoopData) (choice : Choice) (text : List ℕ) : Type 0 where
+  pub problem : ProblemData
+  pub is_problem : IsProblemOf machine loop ratio ceiling problem
+  pub alternatives : List ℕ
+  pub are_best : AreUnitChoices (operations_of machine loop) alternatives
+  pub explained : IsExplained (unit_lines_of machine loop alternatives) problem choice text
+
+-- a loop's choice, and what is told of the loop
+pub record PartData : Type 0 where
+  pub choice : Choice
+  pub text : List ℕ
+
+-- what is told of loops, one after another, with how many have a kernel and how many have none
+pub record ArePartsOf (machine : MachineData) (ratio ceiling : ℕ) (loops : List LoopData) (text : List ℕ) (met failed : ℕ) : Type 0 where
+  pub parts : AreTexts (λ loop (part : PartData). IsPartOf machine ratio ceiling loop part.choice part.text) (λ loop part. part.text) loops text
+  pub number_met : met ≡ count_by (λ (part : PartData). is_met part.choice) parts.values
+  pub number_failed : failed ≡ count_by (λ (part : PartData). is_failed part.choice) parts.values
+
+-- `loops A met B failed F`, with a line feed
+abbrev pub last_line : ℕ → ℕ → ℕ → List ℕ
+last_line loops met failed = ((told (codes "loops ") loops ++ told (codes " met ") met) ++ told (codes " failed ") failed) ++ codes "\n"
+
+-- what is told of all loops of a file, with whether none is without a kernel
+pub record IsExplanationOf (machine : MachineData) (ratio ceiling : ℕ) (loops : List LoopData) (explained : Explained) : Type 0 where
+  pub text : List ℕ
+  pub met : ℕ
+  pub failed : ℕ
+  pub parts : ArePartsOf machine ratio ceiling loops text met failed
+  pub is_text : explained.text.items ≡ text ++ last_line (length loops) met failed
+  pub all_met : explained.all_met ≡ (failed == 0)

@@ -1,0 +1,4 @@
+pub mod CircuitTexts
+pub mod Explanations
+pub mod Holders
+pub mod Tries

@@ -1,0 +1,44 @@
+-- The lines of the intervals that are tried.
+use Rattle.std.specs.Prelude.{◌≡◌, ℕ, ◌+◌, ◌-◌, codes, List, [], ◌++◌}
+use Rattle.std.specs.List.{range_with_len}
+use Rattle.graph_text.specs.Texts.{AreTexts, told}
+use Rattle.ims.specs.Problems.{ProblemData, mii_of}
+use Rattle.candidates.specs.declared.outcomes.Cause.{Cause}
+use Rattle.candidates.specs.declared.choices.Choice.{Choice}
+use Rattle.candidates.specs.declared.choices.Choice.TheVariants.{Met, Failed}
+use Rattle.candidates.specs.Choices.{IsChoice}
+use Rattle.candidates.specs.Outcomes.{FailsBy}
+use Rattle.candidates.specs.Texts.{cause_word}
+use Rattle.explain.specs.declared.holder.Holder.{Holder}
+use Rattle.explain.specs.Holders.{IsHolder, holder_word}
+
+-- `try I CAUSE`, with a line feed
+abbrev pub try_line : ℕ → Cause → List ℕ
+try_line ii cause = (told (codes "try ") ii ++ (codes " " ++ cause_word cause)) ++ codes "\n"
+
+-- `try I kernel stages S`, with a line feed
+abbrev pub kernel_line : ℕ → ℕ → List ℕ
+kernel_line ii stages = (told (codes "try ") ii ++ told (codes " kernel stages ") stages) ++ codes "\n"
+
+-- `held by WORD`, with a line feed
+abbrev pub holder_line : Holder → List ℕ
+holder_line holder = (codes "held by " ++ holder_word holder) ++ codes "\n"
+
+-- how many intervals are tried that give no kernel: all before the chosen one, or all
+abbrev pub failures_of : ProblemData → Choice → ℕ
+failures_of problem (Met ii kernel) = ii - mii_of problem
+failures_of problem (Failed cause) = problem.ceiling + 1
+
+-- the chosen interval, and what holds it, where there is one
+abbrev pub IsEnd : ProblemData → Choice → List ℕ → Type 0
+IsEnd problem (Met ii kernel) text = (holder : Holder) × IsHolder problem ii holder × (text ≡ kernel_line ii kernel.stages ++ holder_line holder)
+IsEnd problem (Failed cause) text = text ≡ []
+
+-- the choice of a loop, with a line for each interval, from the least one on, that gives no kernel, with its cause
+pub record AreTries (problem : ProblemData) (choice : Choice) (text : List ℕ) : Type 0 where
+  pub is_choice : IsChoice problem choice
+  pub lines : List ℕ
+  pub are_lines : AreTexts (FailsBy problem) try_line (range_with_len (mii_of problem) (failures_of problem choice)) lines
+  pub end : List ℕ
+  pub is_end : IsEnd problem choice end
+  pub is_text : text ≡ lines ++ end

@@ -1,0 +1,154 @@
+//! What is told of the loops of a file.
+
+ghost use Rattle.std.specs.Prelude.{◌≡◌, ◌<◌, ◌+◌, ◌++◌, ℕ, List, Vec, [], ◌∷◌, count_by, OnOk};
+ghost use Rattle.std.specs.Global.{Global};
+ghost use Rattle.graph.specs.Units.{first_lacking, operations_of};
+ghost use Rattle.graph_text.specs.Faults.{TextAnswers, lacking_in};
+ghost use Rattle.candidates.specs.Listings.{is_failed, is_met};
+ghost use Rattle.candidates.specs.declared.choices.Choice.{Choice};
+ghost use Rattle.explain.specs.Explanations.{ArePartsOf, IsExplanationOf, IsPartOf, last_line};
+ghost use Rattle.unit_uses.specs.Choices.{AreUnitChoices};
+ghost use Rattle.unit_uses.specs.UnitLines.{unit_lines_of};
+ghost use Rattle.explain.specs.declared.file.Tally.{Tally};
+
+use crate::single::push_explanation;
+use candidates::{Choice, prepare};
+use graph::GraphFault;
+use graph_text::{TextFault, push_told};
+use iterations::Loop;
+use machine::Machine;
+use settings::Settings;
+use std::alloc::{AllocError, Global};
+use unit_uses::{push_unit_lines, unit_choices};
+
+/// A guess of how many bytes are told of a loop, for the first reservation.
+const PART: usize = 512;
+
+/// Why each loop of a file has its interval.
+#[derive(Debug, Drop)]
+pub struct Explained {
+    pub text: Vec<u8>,
+    /// Whether no loop is without a kernel.
+    pub all_met: bool,
+}
+
+/// How many loops have a kernel, and how many have none.
+#[derive(Clone, Copy)]
+pub(crate) struct Tally {
+    pub(crate) met: u64,
+    pub(crate) failed: u64,
+}
+
+impl Tally {
+    /// The tally with one loop more.
+    fn with(self, choice: &Choice) -> Tally
+        requires few { self.met + self.failed < 18446744073709551615 }
+        ensures met { result.met ≡ self.met + count_by is_met (choice.now ∷ []) }
+        ensures failed { result.failed ≡ self.failed + count_by is_failed (choice.now ∷ []) }
+        ensures one { result.met + result.failed ≡ self.met + self.failed + 1 }
+    {
+        match choice {
+            Choice::Met(_, _) => Tally {
+                met: self.met + 1,
+                failed: self.failed,
+            },
+            Choice::Failed(_) => Tally {
+                met: self.met,
+                failed: self.failed + 1,
+            },
+        }
+    }
+}
+
+/// The lines of the units that a loop uses, by the alternatives that its resource-constrained bound counts.
+fn unit_lines(alloc: Global, machine: &Machine, innermost: &Loop) -> Result<Vec<u8>, TextFault>
+    ensures exact { TextAnswers (lacking_in machine.now innermost.now) (λ (text : Vec ℕ Global). (alternatives : List ℕ) × AreUnitChoices (operations_of machine.now innermost.now) alternatives × (text.items ≡ unit_lines_of machine.now innermost.now alternatives)) result }
+{
+    match unit_choices(alloc, machine, innermost) {
+        Ok(alternatives) => {
+            let mut text = Vec::new(alloc);
+            push_unit_lines(&mut text, machine, innermost, alternatives.as_slice())?;
+            Ok(text)
+        }
+        Err(GraphFault::NoTable(opcode)) => {
+            Err(TextFault::NoTable(innermost.name().copied(), opcode))
+        }
+        Err(GraphFault::Memory) => Err(TextFault::Memory),
+    }
+}
+
+/// Appends what is told of a loop.
+fn push_loop(
+    alloc: Global,
+    text: &mut Vec<u8>,
+    machine: &Machine,
+    innermost: Loop,
+    settings: &Settings,
+) -> Result<Choice, TextFault>
+    ensures exact { TextAnswers (lacking_in machine.now innermost) (λ (choice : Choice). (part : List ℕ) × IsPartOf machine.now settings.now.ratio settings.now.ceiling innermost choice part × (text.new.items ≡ text.old.items ++ part)) result }
+{
+    let name = innermost.name().copied();
+    let units = unit_lines(alloc, machine, &innermost)?;
+    match prepare(alloc, machine, innermost, settings) {
+        Ok(prepared) => match push_explanation(alloc, text, units.as_slice(), &prepared) {
+            Ok(choice) => Ok(choice),
+            Err(_) => Err(TextFault::Memory),
+        },
+        Err(GraphFault::NoTable(opcode)) => Err(TextFault::NoTable(name, opcode)),
+        Err(GraphFault::Memory) => Err(TextFault::Memory),
+    }
+}
+
+/// Appends what is told of each loop.
+fn push_loops(
+    alloc: Global,
+    text: &mut Vec<u8>,
+    machine: &Machine,
+    loops: Vec<Loop>,
+    settings: &Settings,
+) -> Result<Tally, TextFault>
+    ensures exact { TextAnswers (first_lacking machine.now loops.items) (λ (tally : Tally). (parts : List ℕ) × ArePartsOf machine.now settings.now.ratio settings.now.ceiling loops.items parts tally.met tally.failed × (text.new.items ≡ text.old.items ++ parts)) result }
+{
+    let mut tally = Tally { met: 0, failed: 0 };
+    let mut loops = loops.into_iter();
+    while let Some(innermost) = loops.next() {
+        let choice = push_loop(alloc, text, machine, innermost, settings)?;
+        tally = tally.with(&choice);
+    }
+    Ok(tally)
+}
+
+/// Appends the last line, with the number of loops, of those with a kernel and of those without.
+fn push_last(text: &mut Vec<u8>, loops: u64, tally: Tally) -> Result<(), AllocError>
+    ensures ok { OnOk result (text.new.items ≡ text.old.items ++ last_line loops tally.met tally.failed) }
+{
+    push_told(text, b"loops ", loops)?;
+    push_told(text, b" met ", tally.met)?;
+    push_told(text, b" failed ", tally.failed)?;
+    text.extend_from_slice(b"\n")
+}
+
+/// Why each loop of a file has its interval, in order, with the ratio and the ceiling of the settings: what
+/// [`push_explanation`](crate::push_explanation) writes of each, and a last line `loops A met B failed F` with
+/// how many loops there are, how many have a kernel and how many have none.
+///
+/// # Errors
+/// [`TextFault::NoTable`] for the first statement whose opcode the machine has no table for, and
+/// [`TextFault::Memory`] where memory ran out.
+pub fn explain_lines(
+    alloc: Global,
+    machine: &Machine,
+    loops: Vec<Loop>,
+    settings: &Settings,
+) -> Result<Explained, TextFault>
+    ensures exact { TextAnswers (first_lacking machine.now loops.items) (IsExplanationOf machine.now settings.now.ratio settings.now.ceiling loops.items) result }
+{
+    let number = loops.len();
+    let mut text = Vec::with_capacity(alloc, PART.saturating_mul(number))?;
+    let tally = push_loops(alloc, &mut text, machine, loops, settings)?;
+    push_last(&mut text, number as u64, tally)?;
+    Ok(Explained {
+        text,
+        all_met: tally.failed == 0,
+    })
+}

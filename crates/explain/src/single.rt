@@ -1,0 +1,36 @@
+//! What is told of a loop.
+
+ghost use Rattle.std.specs.Prelude.{◌≡◌, ◌++◌, ℕ, List, IfOk};
+ghost use Rattle.explain.specs.Explanations.{IsExplained};
+
+use crate::circuit::push_circuit;
+use crate::tries::push_tries;
+use candidates::Choice;
+use graph_text::{LowerBounds, push_bounds_line};
+use ims::Prepared;
+use machine::OutOfMemory;
+use std::alloc::Global;
+
+/// Appends why a loop has its interval: the line of its lower bounds, the lines of the units that are given, a
+/// circuit that asks for the recurrence-constrained bound, each interval that is tried with its cause, and what
+/// holds the interval of its kernel. The choice is that of the loop.
+///
+/// # Errors
+/// Memory ran out. The text is left with a part of that.
+pub fn push_explanation(
+    alloc: Global,
+    text: &mut Vec<u8>,
+    units: &[u8],
+    prepared: &Prepared,
+) -> Result<Choice, OutOfMemory>
+    ensures exact { IfOk result (λ choice. (part : List ℕ) × IsExplained units.now prepared.now choice part × (text.new.items ≡ text.old.items ++ part)) }
+{
+    let bounds = LowerBounds {
+        resources: prepared.resources(),
+        recurrences: prepared.recurrences(),
+    };
+    push_bounds_line(text, prepared.innermost(), bounds)?;
+    text.extend_from_slice(units)?;
+    push_circuit(alloc, text, prepared)?;
+    push_tries(alloc, text, prepared)
+}

@@ -1,0 +1,11 @@
+use Rattle.std.proofs.Common.{ℕ, ◌<◌, List, length}
+use Rattle.machine.specs.declared.alternative.Row.{Row}
+use Rattle.graph.specs.Uses.{Tallies}
+use Rattle.graph.proofs.Best.{IsBestUpTo}
+use Rattle.graph.proofs.units.Uses.best_of.Given as goal
+
+abbrev pub invariant-loop-number : goal.invariant-loop-number
+invariant-loop-number l = record {
+  there : l.best < length l.alternatives;
+  best : (taken : List Row) → Tallies taken l.self.counts l.self.greatest → IsBestUpTo taken l.alternatives l.number l.best l.least;
+}

@@ -1,0 +1,5 @@
+pub mod Drawn
+pub mod KindRules
+pub mod Lacking
+pub mod Parts
+pub mod Texts

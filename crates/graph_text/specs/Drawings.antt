@@ -1,0 +1,30 @@
+-- The graphs of loops, each with a circuit that asks for the lower bound of its interval.
+use Rattle.std.specs.Prelude.{ℕ, ◌-◌, List, [], ◌∷◌}
+use Rattle.machine.specs.Machines.{MachineData}
+use Rattle.iterations.specs.Loops.{LoopData}
+use Rattle.graph.specs.Dependences.{EdgeData}
+use Rattle.graph.specs.Graphs.{GraphData}
+use Rattle.graph.specs.Walks.{FitsCircuits}
+use Rattle.circuits.specs.Circuits.{IsCircuitAbove}
+use Rattle.graph_text.specs.declared.measuring.LowerBounds.{LowerBounds}
+use Rattle.graph_text.specs.Bounds.{IsMeasured}
+use Rattle.graph_text.specs.Dot.{IsDotText}
+use Rattle.graph_text.specs.Texts.{AreTexts}
+
+-- a circuit that asks for a bound: it does not fit an interval that is one cycle shorter. There is none where all circuits fit that one
+abbrev pub IsCritical : List EdgeData → ℕ → List EdgeData → Type 0
+IsCritical edges bound [] = FitsCircuits edges (bound - 1)
+IsCritical edges bound (e ∷ circuit) = IsCircuitAbove edges (bound - 1) (e ∷ circuit)
+
+-- the graph of a loop on a machine, where such a circuit of the recurrence-constrained bound is bold
+pub record IsDotPart (machine : MachineData) (loop : LoopData) (text : List ℕ) : Type 0 where
+  pub bounds : LowerBounds
+  pub graph : GraphData
+  pub measured : IsMeasured machine loop bounds graph
+  pub circuit : List EdgeData
+  pub critical : IsCritical graph.edges bounds.recurrences circuit
+  pub is_text : IsDotText loop bounds graph circuit text
+
+-- the graphs of loops, one after another
+abbrev pub AreDotParts : MachineData → List LoopData → List ℕ → Type 0
+AreDotParts machine loops text = AreTexts (IsDotPart machine) (λ loop part. part) loops text

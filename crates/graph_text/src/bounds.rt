@@ -1,0 +1,61 @@
+//! The lines of the lower bounds of loops.
+
+ghost use Rattle.std.specs.Prelude.{◌≡◌, ◌++◌, Vec, ℕ, OnOk};
+ghost use Rattle.std.specs.Global.{Global};
+ghost use Rattle.graph.specs.Units.{first_lacking};
+ghost use Rattle.graph_text.specs.Bounds.{IsLines, bounds_line, bounds_told};
+ghost use Rattle.graph_text.specs.Faults.{TextAnswers};
+
+use crate::fault::TextFault;
+use crate::lines::{push_both, push_told};
+use crate::measuring::{LowerBounds, measure};
+use graph::mii;
+use iterations::Loop;
+use machine::Machine;
+use std::alloc::{AllocError, Global};
+
+/// A guess of how many bytes a line takes, for the first reservation.
+const LINE: usize = 64;
+
+/// Appends the bounds, each behind its word.
+pub(crate) fn push_bounds_told(text: &mut Vec<u8>, bounds: LowerBounds) -> Result<(), AllocError>
+    ensures ok { OnOk result (text.new.items ≡ text.old.items ++ bounds_told bounds) }
+{
+    push_told(text, b" res ", bounds.resources)?;
+    push_told(text, b" rec ", bounds.recurrences)?;
+    push_told(text, b" mii ", mii(bounds.resources, bounds.recurrences))
+}
+
+/// Appends the line of a loop with its lower bounds, as [`bounds_lines`] writes it.
+///
+/// # Errors
+/// [`AllocError`] where memory ran out. The text is left with a part of the line.
+pub fn push_bounds_line(
+    text: &mut Vec<u8>,
+    innermost: &Loop,
+    bounds: LowerBounds,
+) -> Result<(), AllocError>
+    ensures ok { OnOk result (text.new.items ≡ text.old.items ++ bounds_line innermost.now bounds) }
+{
+    push_both(text, b"loop ", innermost.name().as_str().as_bytes())?;
+    push_told(text, b" ops ", innermost.statements().len() as u64)?;
+    push_bounds_told(text, bounds)?;
+    text.extend_from_slice(b"\n")
+}
+
+/// A line for each loop, in order, `loop NAME ops O res R rec C mii M`: the number of its statements, its
+/// lower bounds in cycles by the units of the machine and by its recurrences, and the greater of the two.
+///
+/// # Errors
+/// [`TextFault::NoTable`] for the first statement whose opcode the machine has no table for, and
+/// [`TextFault::Memory`] where memory ran out.
+pub fn bounds_lines(alloc: Global, machine: &Machine, loops: &[Loop]) -> Result<Vec<u8>, TextFault>
+    ensures exact { TextAnswers (first_lacking machine.now loops.now) (λ (text : Vec ℕ Global). IsLines machine.now loops.now text.items) result }
+{
+    let mut text = Vec::with_capacity(alloc, LINE * (loops.len() + 1))?;
+    for innermost in loops {
+        let measured = measure(alloc, machine, innermost)?;
+        push_bounds_line(&mut text, innermost, measured.bounds)?;
+    }
+    Ok(text)
+}

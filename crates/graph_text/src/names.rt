@@ -1,0 +1,61 @@
+//! The names of operations.
+
+ghost use Rattle.std.specs.Prelude.{◌≡◌, ◌<◌, ◌++◌, length, OnOk};
+ghost use Rattle.iterations.specs.Loops.{IsPlace};
+ghost use Rattle.loops.specs.Text.{array_name, offset_text, place_word};
+ghost use Rattle.graph_text.specs.Names.{op_name, opcode_word};
+
+use crate::lines::{push_both, push_signed};
+use iterations::{Loop, Place};
+use std::alloc::AllocError;
+
+/// Appends the constant of a subscript with its sign, unless it is 0.
+fn push_offset(text: &mut Vec<u8>, offset: i8) -> Result<(), AllocError>
+    ensures ok { OnOk result (text.new.items ≡ text.old.items ++ offset_text offset) }
+{
+    match offset {
+        0 => Ok(()),
+        1.. => push_signed(text, b"+", offset),
+        _ => push_signed(text, b"", offset),
+    }
+}
+
+/// The name of an array.
+fn array_name(innermost: &Loop, array: u8) -> &str
+    requires { array < length innermost.now.arrays }
+    ensures { result.now ≡ array_name innermost.now array }
+{
+    innermost.arrays()[usize::from(array)].name.as_str()
+}
+
+/// Appends a place as it stands in a loop text.
+fn push_place(text: &mut Vec<u8>, innermost: &Loop, place: Place) -> Result<(), AllocError>
+    requires { IsPlace innermost.now place }
+    ensures ok { OnOk result (text.new.items ≡ text.old.items ++ place_word innermost.now place) }
+{
+    push_both(text, array_name(innermost, place.array).as_bytes(), b"[i")?;
+    push_offset(text, place.offset)?;
+    text.extend_from_slice(b"]")
+}
+
+/// Appends the name of the operation of this number: that of its value, or for a store its place as it
+/// stands in a loop text.
+pub fn push_name(text: &mut Vec<u8>, innermost: &Loop, number: u8) -> Result<(), AllocError>
+    requires { number < length innermost.now.statements }
+    ensures ok { OnOk result (text.new.items ≡ text.old.items ++ op_name innermost.now number) }
+{
+    let statement = &innermost.statements()[usize::from(number)];
+    match (&statement.name, statement.place) {
+        (Some(name), _) => text.extend_from_slice(name.as_str().as_bytes()),
+        (None, Some(place)) => push_place(text, innermost, place),
+        (None, None) => Ok(()),
+    }
+}
+
+/// The word of the opcode of the operation of this number.
+pub(crate) fn opcode_word(innermost: &Loop, number: u8) -> &'static str
+    requires { number < length innermost.now.statements }
+    ensures { result.now ≡ opcode_word innermost.now number }
+{
+    innermost.statements()[usize::from(number)].opcode.word()
+}

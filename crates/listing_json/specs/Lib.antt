@@ -1,0 +1,2 @@
+pub use Rattle.candidates.specs.Listings
+pub mod Documents

@@ -1,0 +1,10 @@
+//! Listings as JSON documents, for programs that read kernels.
+#![tactic(auto)]
+
+mod document;
+mod kernels;
+#[cfg(test)]
+mod tests;
+mod told;
+
+pub use document::document_text;

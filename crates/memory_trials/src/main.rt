@@ -1,0 +1,33 @@
+//! Makes calls that take memory, each twice with the same arguments, and prints for each what the two came to. It is for runs in which
+//! growths of memory are refused (`tests/refused_memory`). Then each call has to come to what it comes to with ample memory or to a
+//! refusal, and what it was lent has to be as it was, so that a second call with ample memory comes to the same.
+#![tactic(auto)]
+
+mod answers;
+mod bare;
+mod given;
+mod sharing;
+mod single;
+mod three;
+
+use answers::{NotBegun, tell_not_begun};
+use std::io;
+use three::{Three, given_three};
+
+fn main(rt: HostRuntime) -> io::Result<()> {
+    match given_three(&rt, rt.alloc()) {
+        Ok(three) => try_all(&rt, &three),
+        Err(NotBegun) => tell_not_begun(&rt),
+    }
+}
+
+/// Tells what all calls come to.
+fn try_all(rt: &(impl AllocGlobal + Print), three: &Three) -> io::Result<()> {
+    let prepared = &three.loops[0];
+    single::try_all(rt, prepared)?;
+    single::try_schedule(rt, prepared)?;
+    sharing::try_workers(rt, three)?;
+    sharing::try_bare_board(rt)?;
+    bare::try_tables(rt, prepared)?;
+    bare::try_numbers(rt)
+}
