@@ -25,11 +25,7 @@ const PART: usize = 1024;
 ///
 /// # Errors
 /// An [`AllocError`] where memory ran out.
-pub fn critical_circuit(
-    alloc: Global,
-    edges: &Edges,
-    bound: u64,
-) -> Result<Vec<Edge>, AllocError>
+pub fn critical_circuit(alloc: Global, edges: &Edges, bound: u64) -> Result<Vec<Edge>, AllocError>
     requires bound { IsRecurrenceBound edges.now.edges bound }
     requires limit { bound ≤ 8192 }
     ensures exact { IfOk result (λ circuit. IsCritical edges.now.edges bound circuit.items) }

@@ -46,7 +46,13 @@ fn no_kernel(rt: HostRuntime) -> Result<(), Fail> {
 
 #[test]
 fn no_loop(rt: HostRuntime) -> Result<(), Fail> {
-    ends(&rt, &case_of(WORDS, M1, ""), 0, "loops 0 met 0 failed 0\n", "")
+    ends(
+        &rt,
+        &case_of(WORDS, M1, ""),
+        0,
+        "loops 0 met 0 failed 0\n",
+        "",
+    )
 }
 
 #[test]
