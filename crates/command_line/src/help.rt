@@ -105,10 +105,16 @@ order of the file, its line of `modsched bounds`, and then
                                           D cycles over N iterations take intervals of at least C cycles.
                                           Its edges follow, as `modsched edges` prints them
   circuit none                            no circuit asks for it
-  try I CAUSE                             for each interval that was tried and gave no kernel, why it did not
+  try I CAUSE: ..                         for each interval that was tried and gave no kernel, why it did not,
+                                          and the operations or the value behind that
   try I kernel stages S                   the interval of the kernel
   held by WORD                            why it is no shorter: `units`, `recurrences` or `both`, by the bounds,
                                           or the cause of the interval before it
+  value NAME lives A to B register K      when each value lives, in cycles of iteration 0, and its register
+  row U U .. live                         the head of the schedule as a grid: the units that are used
+  R NAME/S . .. L                         each row of the interval: the operation with its stage in the slot of
+                                          each unit, and how many registers hold a value
+  idle units N                            units that no operation takes, where there are any
 
 The causes are those of `modsched schedule`. The last line is that of the listing. Workers and cut change
 nothing here.";

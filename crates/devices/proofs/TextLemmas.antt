@@ -1,11 +1,11 @@
 -- How a text is read and written part by part.
-use Rattle.std.proofs.Common.{◌≡◌, ◌+◌, ◌-◌, ◌<◌, ◌≤◌, ◌++◌, ◌∙◌, ℕ, List, [], Option, Some, None, take, drop, length, option_map}
+use Rattle.std.proofs.Common.{◌≡◌, ◌+◌, ◌-◌, ◌<◌, ◌≤◌, ◌++◌, ◌∙◌, ℕ, List, Option, Some, None, take, drop, length, option_map}
 use Rattle.std.proofs.Common.{◌↔◌, Result, Ok, Err, IsErrAnd, IsErrOf}
 use Rattle.devices.specs.declared.text.ReadTextError.{ReadTextError}
 use Rattle.devices.specs.declared.text.ReadTextError.TheVariants.{Fault, Memory}
-use Rattle.std.proofs.Common.{IfSome, refl, ap, ap₂, sym, arith, append_assoc, append-nil}
+use Rattle.std.proofs.Common.{IfSome, refl, ap, ap₂, sym, arith, append_assoc}
 use Rattle.std.proofs.lemmas.List.{take-append-drop, take-take, drop-take, drop-drop, length-drop, take_all, drop_all}
-use Rattle.devices.specs.Devices.{Reads, Writes, TakesBeginning, most_read, HoldsText}
+use Rattle.devices.specs.Devices.{Reads, Writes, most_read, HoldsText}
 
 -- a beginning is a shorter beginning and what follows there
 pub take-add : (n m : ℕ) (xs : List ℕ) → take (n + m) xs ≡ take n xs ++ take m (drop n xs)
@@ -33,13 +33,6 @@ pub record Written (taken now : Option (List ℕ)) (text rest : List ℕ) : Type
   pub left : rest ≡ drop done text
   pub took : now ≡ option_map (λ before. before ++ take done text) taken
 
-took_none : (taken : Option (List ℕ)) → taken ≡ option_map (λ (before : List ℕ). before ++ []) taken
-took_none None = refl
-took_none (Some before) = ap (λ (part : List ℕ). Some part) (sym (append-nil before))
-
-pub nothing_written : (taken : Option (List ℕ)) (text : List ℕ) → Written taken taken text text
-nothing_written taken text = record { done = 0; there = omega arith; left = refl; took = took_none taken }
-
 pub Written-write : (taken now after : Option (List ℕ)) (text rest later : List ℕ) (n : ℕ)
     → Written taken now text rest → Writes now after rest n → later ≡ drop n rest → Written taken after text later
 Written-write taken now after text rest later n w s e =
@@ -52,41 +45,11 @@ Written-write taken now after text rest later n w s e =
       took = takes-more taken now after text w.done n w.took (rw (← w.left) s.known);
     }
 
--- at the end of the loop all is written
-pub Written-all : (taken now : Option (List ℕ)) (text rest : List ℕ)
-    → Written taken now text rest → rest ≡ [] → now ≡ option_map (λ before. before ++ text) taken
-Written-all taken now text rest w e =
-    let none : length (drop w.done text) ≡ 0 = ap length (sym w.left ∙ e) in
-    let long : length (drop w.done text) ≡ length text - w.done = length-drop w.done text in
-    let all : take w.done text ≡ text = take_all w.done text (omega arith) in
-    rw all at w.took
-
--- before that, a beginning
-pub Written-beginning : (taken now : Option (List ℕ)) (text rest : List ℕ)
-    → Written taken now text rest → TakesBeginning taken now text
-Written-beginning taken now text rest w = (w.done, w.there, w.took)
-
 -- the first n bytes of an input stand at the front of a buffer, and the others are left
 pub record ReadSoFar (left now : Option (List ℕ)) (buffer : List ℕ) (n : ℕ) : Type 0 where
   pub known : (bytes : List ℕ) → left ≡ Some bytes → now ≡ Some (drop n bytes)
   pub given : (bytes : List ℕ) → left ≡ Some bytes → take n buffer ≡ take n bytes
   pub there : (bytes : List ℕ) → left ≡ Some bytes → n ≤ length bytes
-
-pub nothing_read : (left : Option (List ℕ)) (buffer : List ℕ) → ReadSoFar left left buffer 0
-nothing_read left buffer = record {
-  known = λ bytes e. e;
-  given = λ bytes e. refl;
-  there = λ bytes e. omega arith;
-}
-
--- a buffer that keeps its front keeps what was read
-pub ReadSoFar-front : (left now : Option (List ℕ)) (buffer other : List ℕ) (n : ℕ)
-    → take n other ≡ take n buffer → ReadSoFar left now buffer n → ReadSoFar left now other n
-ReadSoFar-front left now buffer other n e r = record {
-  known = r.known;
-  given = λ bytes h. e ∙ r.given bytes h;
-  there = r.there;
-}
 
 -- m more bytes were read behind the first n
 pub ReadSoFar-read : (left now after : Option (List ℕ)) (buffer other : List ℕ) (n m : ℕ)

@@ -1,4 +1,6 @@
 pub mod Circuits
 pub mod Parts
+pub mod Reasoned
 pub mod Rows
+pub mod Showing
 pub mod Tried

@@ -32,3 +32,8 @@ four-behind old a b c d first second third new x y z w = behind old ((a ++ b) ++
 pub written : {T E : Type 0} (r : Result T E) (new a b : List ℕ) → new ≡ (if (is_ok r) then a else b) → IfOk r (λ _. new ≡ a)
 written (Ok x) new a b h = h
 written (Err e) new a b h = tt
+
+-- .. and five
+pub five-behind : (old a b c d e first second third fourth new : List ℕ) → first ≡ old ++ a → second ≡ first ++ b → third ≡ second ++ c → fourth ≡ third ++ d → new ≡ fourth ++ e
+    → new ≡ old ++ ((((a ++ b) ++ c) ++ d) ++ e)
+five-behind old a b c d e first second third fourth new x y z w v = behind old (((a ++ b) ++ c) ++ d) fourth e new (four-behind old a b c d first second third fourth x y z w) v

@@ -9,16 +9,18 @@ use Rattle.candidates.specs.declared.outcomes.Cause.{Cause}
 use Rattle.candidates.specs.declared.choices.Choice.TheVariants.{Met, Failed}
 use Rattle.candidates.specs.Outcomes.{FailsBy, GivesKernel}
 use Rattle.candidates.proofs.Rising.{Risen, met_here, risen_on, unmet_here}
-use Rattle.explain.specs.declared.holder.Holder.{Holder}
-use Rattle.explain.specs.Holders.{IsHolder}
-use Rattle.explain.specs.Tries.{AreTries, holder_line, kernel_line, try_line}
+use Rattle.explain.specs.declared.hold.Hold.{Hold}
+use Rattle.explain.specs.declared.reasons.Reason.{Reason}
+use Rattle.explain.specs.Holds.{IsHold}
+use Rattle.explain.specs.Reasons.{FailsFor, IsReason, cause_of}
+use Rattle.explain.specs.Tries.{AreTries, hold_line, kernel_line, try_line}
 use Rattle.explain.proofs.Rows.{row-more}
 
 -- so many intervals were tried, none of which gives a kernel, and a line was written for each
 pub record AreTold (p : ProblemData) (above : ℕ) (last : Cause) (old new : List ℕ) : Type 0 where
   pub risen : Risen p above last
   pub lines : List ℕ
-  pub are_lines : AreTexts (FailsBy p) try_line (range_with_len (mii_of p) above) lines
+  pub are_lines : AreTexts (FailsFor p) (try_line p.loop) (range_with_len (mii_of p) above) lines
   pub is_text : new ≡ old ++ lines
 
 -- the cause of the interval before this one
@@ -29,15 +31,15 @@ before-of p m (suc k) last r same h = subst (λ n. FailsBy p n last) (at m (mii_
     at : (m n k : ℕ) → m ≡ n → n + k ≡ (m + suc k) - 1
     at m n k same = omega arith
 
-pub met-tries : (p : ProblemData) (m above : ℕ) (last : Cause) (kernel : Parts) (holder : Holder) (lines : List ℕ) → Risen p above last → GivesKernel p (m + above) kernel
-    → above ≤ p.ceiling → m ≡ mii_of p → AreTexts (FailsBy p) try_line (range_with_len (mii_of p) above) lines → IsHolder p (m + above) holder
-    → AreTries p (Met (m + above) kernel) (lines ++ (kernel_line (m + above) kernel.stages ++ holder_line holder))
-met-tries p m above last kernel holder lines r gives few same are held = record {
+pub met-tries : (p : ProblemData) (m above : ℕ) (last : Cause) (kernel : Parts) (hold : Hold) (lines : List ℕ) → Risen p above last → GivesKernel p (m + above) kernel
+    → above ≤ p.ceiling → m ≡ mii_of p → AreTexts (FailsFor p) (try_line p.loop) (range_with_len (mii_of p) above) lines → IsHold p (m + above) hold
+    → AreTries p (Met (m + above) kernel) (lines ++ (kernel_line (m + above) kernel.stages ++ hold_line hold))
+met-tries p m above last kernel hold lines r gives few same are held = record {
   is_choice = met_here p above m last kernel r gives few same;
   lines = lines;
-  are_lines = subst (λ (n : ℕ). AreTexts (FailsBy p) try_line (range_with_len (mii_of p) n) lines) (count m (mii_of p) above same) are;
-  end = kernel_line (m + above) kernel.stages ++ holder_line holder;
-  is_end = (holder, held, refl);
+  are_lines = subst (λ (n : ℕ). AreTexts (FailsFor p) (try_line p.loop) (range_with_len (mii_of p) n) lines) (count m (mii_of p) above same) are;
+  end = kernel_line (m + above) kernel.stages ++ hold_line hold;
+  is_end = (hold, held, refl);
   is_text = refl;
 }
   where
@@ -45,25 +47,26 @@ met-tries p m above last kernel holder lines r gives few same are held = record 
     count m n above same = omega arith
 
 pub unmet-tries : (p : ProblemData) (above : ℕ) (last : Cause) (lines : List ℕ) → Risen p above last → above ≡ p.ceiling + 1
-    → AreTexts (FailsBy p) try_line (range_with_len (mii_of p) above) lines → AreTries p (Failed last) (lines ++ [])
+    → AreTexts (FailsFor p) (try_line p.loop) (range_with_len (mii_of p) above) lines → AreTries p (Failed last) (lines ++ [])
 unmet-tries p above last lines r at are = record {
   is_choice = unmet_here p above last r at;
   lines = lines;
-  are_lines = subst (λ (n : ℕ). AreTexts (FailsBy p) try_line (range_with_len (mii_of p) n) lines) at are;
+  are_lines = subst (λ (n : ℕ). AreTexts (FailsFor p) (try_line p.loop) (range_with_len (mii_of p) n) lines) at are;
   end = [];
   is_end = refl;
   is_text = refl;
 }
 
 -- one interval more
-pub told-more : (p : ProblemData) (m above : ℕ) (last cause : Cause) (old new newer : List ℕ) → IsProblem p → m ≡ mii_of p → AreTold p above last old new → FailsBy p (m + above) cause
-    → newer ≡ new ++ try_line (m + above) cause → AreTold p (above + 1) cause old newer
-told-more p m above last cause old new newer is same t fails e =
+pub told-more : (p : ProblemData) (m above : ℕ) (last cause : Cause) (reason : Reason) (old new newer : List ℕ) → IsProblem p → m ≡ mii_of p → AreTold p above last old new
+    → FailsBy p (m + above) cause → cause_of reason ≡ cause → IsReason p (m + above) reason → newer ≡ new ++ try_line p.loop (m + above) reason → AreTold p (above + 1) cause old newer
+told-more p m above last cause reason old new newer is same t fails by reasoned e =
     let h : FailsBy p (mii_of p + above) cause = subst (λ (n : ℕ). FailsBy p (n + above) cause) same fails in
+    let r : IsReason p (mii_of p + above) reason = subst (λ (n : ℕ). IsReason p (n + above) reason) same reasoned in
     record {
       risen = risen_on p above last cause is t.risen h;
-      lines = t.lines ++ try_line (m + above) cause;
-      are_lines = subst (λ (n : ℕ). AreTexts (FailsBy p) try_line (range_with_len (mii_of p) (above + 1)) (t.lines ++ try_line (n + above) cause)) (sym same)
-          (row-more (FailsBy p) try_line (mii_of p) above t.lines cause t.are_lines h);
-      is_text = behind old t.lines new (try_line (m + above) cause) newer t.is_text e;
+      lines = t.lines ++ try_line p.loop (m + above) reason;
+      are_lines = subst (λ (n : ℕ). AreTexts (FailsFor p) (try_line p.loop) (range_with_len (mii_of p) (above + 1)) (t.lines ++ try_line p.loop (n + above) reason)) (sym same)
+          (row-more (FailsFor p) (try_line p.loop) (mii_of p) above t.lines reason t.are_lines (record { fails = subst (FailsBy p (mii_of p + above)) (sym by) h; is = r }));
+      is_text = behind old t.lines new (try_line p.loop (m + above) reason) newer t.is_text e;
     }

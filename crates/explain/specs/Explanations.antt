@@ -13,6 +13,7 @@ use Rattle.candidates.specs.declared.choices.Choice.{Choice}
 use Rattle.candidates.specs.Listings.{is_met, is_failed}
 use Rattle.explain.specs.declared.file.Explained.{Explained}
 use Rattle.explain.specs.CircuitTexts.{IsCircuitText}
+use Rattle.explain.specs.Shown.{IsShown}
 use Rattle.explain.specs.Tries.{AreTries}
 
 -- the two lower bounds of a problem
@@ -28,13 +29,21 @@ pub record IsExplained (units : List ℕ) (problem : ProblemData) (choice : Choi
   pub are_tries : AreTries problem choice tries
   pub is_text : text ≡ ((bounds_line problem.loop (bounds_of problem) ++ units) ++ circuit) ++ tries
 
+-- that, and the schedule and the registers of the chosen interval behind it
+pub record IsTold (machine : MachineData) (units : List ℕ) (problem : ProblemData) (choice : Choice) (text : List ℕ) : Type 0 where
+  pub explanation : List ℕ
+  pub is_explanation : IsExplained units problem choice explanation
+  pub shown : List ℕ
+  pub is_shown : IsShown machine problem choice shown
+  pub is_text : text ≡ explanation ++ shown
+
 -- the problem of a loop on a machine, and the choices of the resource-constrained bound, with that
 pub record IsPartOf (machine : MachineData) (ratio ceiling : ℕ) (loop : LoopData) (choice : Choice) (text : List ℕ) : Type 0 where
   pub problem : ProblemData
   pub is_problem : IsProblemOf machine loop ratio ceiling problem
   pub alternatives : List ℕ
   pub are_best : AreUnitChoices (operations_of machine loop) alternatives
-  pub explained : IsExplained (unit_lines_of machine loop alternatives) problem choice text
+  pub told : IsTold machine (unit_lines_of machine loop alternatives) problem choice text
 
 -- a loop's choice, and what is told of the loop
 pub record PartData : Type 0 where

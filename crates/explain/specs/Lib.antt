@@ -1,4 +1,6 @@
 pub mod CircuitTexts
 pub mod Explanations
-pub mod Holders
+pub mod Holds
+pub mod Reasons
+pub mod Shown
 pub mod Tries

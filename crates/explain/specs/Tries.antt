@@ -1,28 +1,29 @@
 -- The lines of the intervals that are tried.
 use Rattle.std.specs.Prelude.{◌≡◌, ℕ, ◌+◌, ◌-◌, codes, List, [], ◌++◌}
 use Rattle.std.specs.List.{range_with_len}
+use Rattle.iterations.specs.Loops.{LoopData}
 use Rattle.graph_text.specs.Texts.{AreTexts, told}
 use Rattle.ims.specs.Problems.{ProblemData, mii_of}
-use Rattle.candidates.specs.declared.outcomes.Cause.{Cause}
 use Rattle.candidates.specs.declared.choices.Choice.{Choice}
 use Rattle.candidates.specs.declared.choices.Choice.TheVariants.{Met, Failed}
 use Rattle.candidates.specs.Choices.{IsChoice}
-use Rattle.candidates.specs.Outcomes.{FailsBy}
 use Rattle.candidates.specs.Texts.{cause_word}
-use Rattle.explain.specs.declared.holder.Holder.{Holder}
-use Rattle.explain.specs.Holders.{IsHolder, holder_word}
+use Rattle.explain.specs.declared.hold.Hold.{Hold}
+use Rattle.explain.specs.declared.reasons.Reason.{Reason}
+use Rattle.explain.specs.Holds.{IsHold, hold_word}
+use Rattle.explain.specs.Reasons.{FailsFor, cause_of, reason_text}
 
--- `try I CAUSE`, with a line feed
-abbrev pub try_line : ℕ → Cause → List ℕ
-try_line ii cause = (told (codes "try ") ii ++ (codes " " ++ cause_word cause)) ++ codes "\n"
+-- `try I CAUSE:`, and what is behind it, with a line feed
+abbrev pub try_line : LoopData → ℕ → Reason → List ℕ
+try_line loop ii reason = (((told (codes "try ") ii ++ (codes " " ++ cause_word (cause_of reason))) ++ codes ":") ++ reason_text loop reason) ++ codes "\n"
 
 -- `try I kernel stages S`, with a line feed
 abbrev pub kernel_line : ℕ → ℕ → List ℕ
 kernel_line ii stages = (told (codes "try ") ii ++ told (codes " kernel stages ") stages) ++ codes "\n"
 
 -- `held by WORD`, with a line feed
-abbrev pub holder_line : Holder → List ℕ
-holder_line holder = (codes "held by " ++ holder_word holder) ++ codes "\n"
+abbrev pub hold_line : Hold → List ℕ
+hold_line hold = (codes "held by " ++ hold_word hold) ++ codes "\n"
 
 -- how many intervals are tried that give no kernel: all before the chosen one, or all
 abbrev pub failures_of : ProblemData → Choice → ℕ
@@ -31,14 +32,14 @@ failures_of problem (Failed cause) = problem.ceiling + 1
 
 -- the chosen interval, and what holds it, where there is one
 abbrev pub IsEnd : ProblemData → Choice → List ℕ → Type 0
-IsEnd problem (Met ii kernel) text = (holder : Holder) × IsHolder problem ii holder × (text ≡ kernel_line ii kernel.stages ++ holder_line holder)
+IsEnd problem (Met ii kernel) text = (hold : Hold) × IsHold problem ii hold × (text ≡ kernel_line ii kernel.stages ++ hold_line hold)
 IsEnd problem (Failed cause) text = text ≡ []
 
--- the choice of a loop, with a line for each interval, from the least one on, that gives no kernel, with its cause
+-- the choice of a loop, with a line for each interval, from the least one on, that gives no kernel, with its cause and what is behind it
 pub record AreTries (problem : ProblemData) (choice : Choice) (text : List ℕ) : Type 0 where
   pub is_choice : IsChoice problem choice
   pub lines : List ℕ
-  pub are_lines : AreTexts (FailsBy problem) try_line (range_with_len (mii_of problem) (failures_of problem choice)) lines
+  pub are_lines : AreTexts (FailsFor problem) (try_line problem.loop) (range_with_len (mii_of problem) (failures_of problem choice)) lines
   pub end : List ℕ
   pub is_end : IsEnd problem choice end
   pub is_text : text ≡ lines ++ end

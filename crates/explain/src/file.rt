@@ -1,22 +1,24 @@
 //! What is told of the loops of a file.
 
-ghost use Rattle.std.specs.Prelude.{◌≡◌, ◌<◌, ◌+◌, ◌++◌, ℕ, List, Vec, [], ◌∷◌, count_by, OnOk};
+ghost use Rattle.std.specs.Prelude.{◌≡◌, ◌<◌, ◌+◌, ◌++◌, ℕ, List, Vec, [], ◌∷◌, count_by, IfOk, OnOk};
 ghost use Rattle.std.specs.Global.{Global};
 ghost use Rattle.graph.specs.Units.{first_lacking, operations_of};
 ghost use Rattle.graph_text.specs.Faults.{TextAnswers, lacking_in};
 ghost use Rattle.candidates.specs.Listings.{is_failed, is_met};
 ghost use Rattle.candidates.specs.declared.choices.Choice.{Choice};
-ghost use Rattle.explain.specs.Explanations.{ArePartsOf, IsExplanationOf, IsPartOf, last_line};
+ghost use Rattle.explain.specs.Explanations.{ArePartsOf, IsExplanationOf, IsPartOf, IsTold, last_line};
 ghost use Rattle.unit_uses.specs.Choices.{AreUnitChoices};
 ghost use Rattle.unit_uses.specs.UnitLines.{unit_lines_of};
 ghost use Rattle.explain.specs.declared.file.Tally.{Tally};
 
+use crate::shown::push_shown;
 use crate::single::push_explanation;
 use candidates::{Choice, prepare};
 use graph::GraphFault;
 use graph_text::{TextFault, push_told};
+use ims::Prepared;
 use iterations::Loop;
-use machine::Machine;
+use machine::{Machine, OutOfMemory};
 use settings::Settings;
 use std::alloc::{AllocError, Global};
 use unit_uses::{push_unit_lines, unit_choices};
@@ -77,6 +79,21 @@ fn unit_lines(alloc: Global, machine: &Machine, innermost: &Loop) -> Result<Vec<
     }
 }
 
+/// Appends why a loop has its interval, and the schedule and the registers of its kernel.
+fn push_part(
+    alloc: Global,
+    text: &mut Vec<u8>,
+    machine: &Machine,
+    units: &[u8],
+    prepared: &Prepared,
+) -> Result<Choice, OutOfMemory>
+    ensures exact { IfOk result (λ choice. (part : List ℕ) × IsTold machine.now units.now prepared.now choice part × (text.new.items ≡ text.old.items ++ part)) }
+{
+    let choice = push_explanation(alloc, text, units, prepared)?;
+    push_shown(alloc, text, machine, prepared, &choice)?;
+    Ok(choice)
+}
+
 /// Appends what is told of a loop.
 fn push_loop(
     alloc: Global,
@@ -90,7 +107,7 @@ fn push_loop(
     let name = innermost.name().copied();
     let units = unit_lines(alloc, machine, &innermost)?;
     match prepare(alloc, machine, innermost, settings) {
-        Ok(prepared) => match push_explanation(alloc, text, units.as_slice(), &prepared) {
+        Ok(prepared) => match push_part(alloc, text, machine, units.as_slice(), &prepared) {
             Ok(choice) => Ok(choice),
             Err(_) => Err(TextFault::Memory),
         },

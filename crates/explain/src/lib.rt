@@ -3,8 +3,11 @@
 
 mod circuit;
 mod file;
-mod holder;
+mod hold;
 mod laws;
+mod reason_texts;
+mod reasons;
+mod shown;
 mod single;
 mod sums;
 #[cfg(test)]
@@ -12,6 +15,6 @@ mod tests;
 mod tries;
 
 pub use file::{Explained, explain_lines};
-pub use holder::Holder;
+pub use hold::Hold;
 pub use laws::circuits_need_bounds;
 pub use single::push_explanation;

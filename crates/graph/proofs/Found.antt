@@ -1,5 +1,5 @@
 -- Lists of edges that grow.
-use Rattle.std.proofs.Common.{◌≡◌, ℕ, ◌+◌, ◌<◌, ℤ, pos, ◌+ℤ◌, List, [], ◌∷◌, ◌++◌, length, get_or, take, refl, sym, ap, ◌∙◌, subst, inl, inr, arith, Some, None}
+use Rattle.std.proofs.Common.{◌≡◌, ℕ, ◌+◌, ◌<◌, ℤ, pos, ◌+ℤ◌, List, [], ◌∷◌, ◌++◌, length, get_or, take, refl, sym, ap, ◌∙◌, subst, inl, inr, arith, Some}
 use Rattle.std.proofs.lemmas.List.{append-nil, append_assoc, take_more, get_or_default}
 use Rattle.std.proofs.lemmas.Option.{slice_get_within}
 use Rattle.std.proofs.lemmas.List.Elements.{All-nil, All-push, All-append, Contains-append_left, Contains-get_or, Contains-push, Contains-push_cases}
@@ -169,15 +169,6 @@ meetings-passed statements latencies to i first second old list at there none h 
         absurd (none other x))
   ],
 )
-
--- an operation without a place comes upon no cell
-pub meetings-none : (statements : List Statement) (latencies : List ℕ) (to n : ℕ) (second : Statement) (list : List EdgeData) → slice_get statements to ≡ Some second
-    → second.place ≡ None → HasMeetings statements latencies to n list
-meetings-none statements latencies to n second list there none = λ e to_is below meets.
-    let q : Some meets.second ≡ Some second = sym meets.is_second ∙ ap (slice_get statements) to_is ∙ there in
-    let qf : meets.second ≡ second = cc in
-    let p : Some meets.edge.later ≡ None = sym meets.edge.is_later ∙ ap (λ (s : Statement). s.place) qf ∙ none in
-    cc
 
 -- the step of a loop that takes each operation in turn
 pub all-more : (statements : List Statement) (latencies : List ℕ) (to : ℕ) (old mid list : List EdgeData) (reader : Statement)

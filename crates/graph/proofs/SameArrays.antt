@@ -1,12 +1,12 @@
 -- The statements that touch each array are linked from the last one to the first.
-use Rattle.std.proofs.Common.{◌≡◌, ◌≢◌, ℕ, ◌+◌, ◌<◌, ◌≤◌, List, length, get_or, set, refl, sym, ap, ◌∙◌, subst, inl, inr, arith, get_or-set_other, get_or-set_same, Some, None}
+use Rattle.std.proofs.Common.{◌≡◌, ℕ, ◌+◌, ◌<◌, ◌≤◌, List, length, set, refl, sym, ap, ◌∙◌, subst, inl, inr, arith, get_or-set_other, get_or-set_same, Some, None}
 use Rattle.std.specs.List.{slice_index, slice_get}
 use Rattle.std.proofs.lemmas.Bool.{cases_lt, cases_eq}
 use Rattle.std.proofs.lemmas.Option.{slice_get_within}
 use Rattle.iterations.specs.declared.language.statement.Statement.{Statement}
 use Rattle.iterations.specs.declared.language.statement.Place.{Place}
 use Rattle.graph.specs.Dependences.{EdgeData}
-use Rattle.graph.specs.Subscripts.{IsMeeting, HasMeetings}
+use Rattle.graph.specs.Subscripts.{HasMeetings}
 use Rattle.graph.specs.SameArrays.{Skips, IsLink, IsNextTouch, AreLinked}
 
 -- one statement more that does not touch the array

@@ -1,6 +1,6 @@
 -- What it tells of an interval whether a round changes a number.
-use Rattle.std.proofs.Common.{◌≡◌, ◌⊎◌, ℕ, ◌+◌, ◌-◌, ◌==◌, Bool, true, false, filter, take, ◌*◌, ◌<◌, ◌≤◌, ℤ, pos, ◌+ℤ◌, ◌-ℤ◌, List, [], ◌∷◌, ◌++◌, length, refl, sym, ap, ◌∙◌, subst, inl, inr, arith}
-use Rattle.std.specs.Prelude.{not, ◌≤ℤ◌, ◌<ℤ◌}
+use Rattle.std.proofs.Common.{◌≡◌, ◌⊎◌, ℕ, ◌+◌, ◌-◌, ◌==◌, true, false, filter, take, ◌*◌, ◌<◌, ◌≤◌, ℤ, pos, List, [], ◌∷◌, length, refl, sym, ap, ◌∙◌, subst, inl, inr, arith}
+use Rattle.std.specs.Prelude.{◌≤ℤ◌, ◌<ℤ◌}
 use Rattle.std.specs.List.{slice_index, All, Contains}
 use Rattle.std.proofs.lemmas.Int.{ints}
 use Rattle.std.proofs.lemmas.Bool.{cases_lt}
@@ -9,14 +9,14 @@ use Rattle.std.proofs.lemmas.List.Elements.{All-contains, All-contains_itself}
 use Rattle.std.proofs.Math.Nat.{mul-add}
 use Rattle.graph.specs.Dependences.{EdgeData}
 use Rattle.graph.specs.Graphs.{GraphData, IsGraph}
-use Rattle.graph.specs.Walks.{IsWalk, delay_of, distance_of, length_of, FitsCircuits, Exceeds, IsHeight, IsRecurrenceBound}
-use Rattle.graph.specs.Rounds.{IsSettledAt, Settles, IsRounds, TellsFeasible}
+use Rattle.graph.specs.Walks.{IsWalk, delay_of, distance_of, length_of, FitsCircuits, Exceeds, IsHeight}
+use Rattle.graph.specs.Rounds.{IsSettledAt, Settles, IsRounds}
 use Rattle.graph.specs.Reaches.{IsReach, AreReaches, IsRaised, IsUnsettled, AreHeights}
 use Rattle.graph.specs.Promises.{SumsAreLimited}
 use Rattle.graph.proofs.Circuits.{exceeds_or_short}
 use Rattle.graph.proofs.Raises.{reach-raised}
 use Rattle.graph.proofs.Potentials.{KeepsHeight, fits-from_heights, fits-at_limit}
-use Rattle.graph.proofs.Recurrences.{fits-longer, bound-le-fitting}
+use Rattle.graph.proofs.Recurrences.{fits-longer}
 
 ends-walk : (graph : GraphData) → IsGraph graph → (p q : ℕ) (walk : List EdgeData) → p < length graph.latencies → IsWalk graph.edges p walk q → q < length graph.latencies
 ends-walk graph g p q [] below w = subst (λ k. k < length graph.latencies) w below
@@ -209,20 +209,6 @@ exceeds-below_bound edges ii bound x fits = elim (cases_lt ii bound) [
 -- no circuit exceeds an interval of 64 cycles for each operation
 pub exceeds-below_limit : (graph : GraphData) (ii : ℕ) → IsGraph graph → Exceeds graph.edges ii → ii < 64 * length graph.latencies
 exceeds-below_limit graph ii g x = exceeds-below_bound graph.edges ii (64 * length graph.latencies) x (fits-at_limit graph g)
-
--- an answer that is told by all circuits
-pub tells-feasible : (edges : List EdgeData) (ii : ℕ) (answer : Bool) → 1 ≤ ii → (answer ≡ true → FitsCircuits edges ii) → (answer ≡ false → Exceeds edges ii)
-    → TellsFeasible edges ii answer
-tells-feasible edges ii true some fits exceeds = λ bound b. (λ _. bound-le-fitting edges bound ii b some (fits refl), λ _. refl)
-tells-feasible edges ii false some fits exceeds = λ bound b. (
-  λ wrong. cc,
-  λ le. absurd (exceeds-not_fits edges ii (exceeds refl) (fits-at_longer edges bound ii le b.fits)),
-)
-
--- at a feasible interval rounds settle
-pub settled-at_feasible : (edges : List EdgeData) (ii : ℕ) (answer : Bool) → FitsCircuits edges ii → (answer ≡ false → Exceeds edges ii) → answer ≡ true
-settled-at_feasible edges ii true f exceeds = refl
-settled-at_feasible edges ii false f exceeds = absurd (exceeds-not_fits edges ii (exceeds refl) f)
 
 -- a height is 1 to 64 cycles for each operation
 pub height-range : (graph : GraphData) (ii p height : ℕ) → IsGraph graph → FitsCircuits graph.edges ii → p < length graph.latencies

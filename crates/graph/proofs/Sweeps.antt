@@ -1,17 +1,17 @@
 -- What sweeps of relaxation in place come to.
-use Rattle.std.proofs.Common.{◌≡◌, ◌≢◌, ◌⊎◌, ℕ, ◌+◌, ◌-◌, ◌*◌, ◌/◌, ◌<◌, ◌≤◌, ◌==◌, ℤ, pos, ◌+ℤ◌, ◌-ℤ◌, List, [], ◌∷◌, ◌++◌, length, get_or, set, filter, refl, sym, ap, ◌∙◌, subst, inl, inr, arith, get_or-set_other, get_or-set_same, Option, Some, None}
+use Rattle.std.proofs.Common.{◌≡◌, ◌⊎◌, ℕ, ◌+◌, ◌-◌, ◌*◌, ◌<◌, ◌≤◌, ◌==◌, ℤ, pos, ◌+ℤ◌, List, [], ◌∷◌, ◌++◌, length, get_or, set, filter, refl, sym, ap, subst, inl, inr, arith, get_or-set_other, get_or-set_same, Option, Some, None}
 use Rattle.std.specs.Prelude.{◌≤ℤ◌, ◌<ℤ◌, IfSome}
 use Rattle.std.specs.List.{slice_index, All, Contains}
 use Rattle.std.proofs.lemmas.Int.{ints}
-use Rattle.std.proofs.lemmas.Bool.{cases_lt, cases_eq, eq-eqb}
-use Rattle.std.proofs.lemmas.List.Elements.{All-contains, All-contains_itself}
+use Rattle.std.proofs.lemmas.Bool.{cases_eq, eq-eqb}
+use Rattle.std.proofs.lemmas.List.Elements.{All-contains}
 use Rattle.std.proofs.Math.Nat.{mul-le-mul}
 use Rattle.std.proofs.Math.ListN.{length-set, replicate}
 use Rattle.std.proofs.lemmas.List.{length-replicate, get_or-replicate}
 use Rattle.graph.specs.Dependences.{EdgeData}
 use Rattle.graph.specs.Graphs.{GraphData, IsGraph}
 use Rattle.graph.specs.Walks.{IsWalk, delay_of, distance_of, length_of, FitsCircuits, Exceeds}
-use Rattle.graph.specs.Reaches.{IsReach, AreReaches, KeepsNumber, KeepsNumbers, IsRaised, IsRise, IsUnsettled, AreHeights, AreVias}
+use Rattle.graph.specs.Reaches.{IsReach, AreReaches, KeepsNumber, KeepsNumbers, IsRaised, IsRise, AreHeights, AreVias}
 use Rattle.graph.proofs.Circuits.{exceeds_or_short, IsWalk-append, delay_of-append, distance_of-append}
 use Rattle.graph.proofs.Raises.{all-from_filter, reach-raised}
 use Rattle.graph.proofs.Settling.{reach-limited, exceeds-below_limit}

@@ -1,10 +1,10 @@
 //! The dependences of a loop, found by the subscripts of its statements.
 
 ghost use Rattle.iterations.specs.declared.language.statement.Statement.{Statement};
-ghost use Rattle.std.specs.Prelude.{slice_get, pos, ◌+ℤ◌, ◌≡◌, ℕ, ℤ, ◌+◌, ◌<◌, ◌≤◌, List, ◌++◌, length, slice_index, Some, IfSome, IfOk, OnErr};
+ghost use Rattle.std.specs.Prelude.{slice_get, pos, ◌+ℤ◌, ◌≡◌, ℕ, ℤ, ◌+◌, ◌<◌, ◌≤◌, length, Some, IfSome, IfOk};
 ghost use Rattle.std.specs.List.{All, Contains};
 ghost use Rattle.graph.specs.Dependences.{EdgeData};
-ghost use Rattle.graph.specs.Subscripts.{IsDelay, IsMemoryEdge, ReadsBelow, AreLatencies, IsFound, GainsEdges, HasUses, HasMeetings, HasAllEdges};
+ghost use Rattle.graph.specs.Subscripts.{IsDelay, IsMemoryEdge, ReadsBelow, AreLatencies, IsFound, GainsEdges, HasUses, HasMeetings};
 ghost use Rattle.graph.specs.SameArrays.{AreLinked};
 
 use crate::edge::Edge;

@@ -1,6 +1,6 @@
 //! All dependences of a loop.
 
-ghost use Rattle.std.specs.Prelude.{◌≡◌, ℕ, ◌<◌, ◌≤◌, length, IfOk, Vec};
+ghost use Rattle.std.specs.Prelude.{◌≡◌, ℕ, ◌<◌, ◌≤◌, IfOk, Vec};
 ghost use Rattle.std.specs.Global.{Global};
 ghost use Rattle.std.specs.List.{All, AllPairs, Contains};
 ghost use Rattle.graph.specs.TablesAnswer.{TablesAnswer};

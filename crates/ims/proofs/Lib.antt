@@ -1,4 +1,5 @@
 pub mod Answering
+pub mod Blaming
 pub mod Checking
 pub mod Clearing
 pub mod Cutting

@@ -10,4 +10,6 @@ pub mod Evictions
 pub mod Placings
 pub mod Listed
 pub mod Attempts
+pub mod Culprits
+pub mod Endings
 pub mod Promises

@@ -3,6 +3,7 @@
 
 mod attempts;
 mod check;
+mod culprits;
 mod ending;
 mod evict;
 mod laws;
@@ -18,10 +19,11 @@ mod sound;
 mod step;
 mod steps;
 
-pub use attempts::{Failure, Try, attempt};
+pub use attempts::{Culprit, Failure, Try, attempt};
+pub use culprits::culprit;
 pub use laws::{
-    attempts_are_lawful, one_answer, one_problem, problems_have_graphs, schedules_keep_dependences,
-    stages_are_few,
+    attempts_are_lawful, culprits_are_failures, one_answer, one_problem, problems_have_graphs,
+    schedules_keep_dependences, stages_are_few,
 };
 pub use prepared::Prepared;
 pub use schedule::Schedule;

@@ -1,7 +1,6 @@
 //! Alternatives that do not collide with themselves.
 
-ghost use Rattle.std.specs.Prelude.{◌≡◌, ℕ, ◌<◌, true, length, replicate, None, slice_index};
-ghost use Rattle.std.specs.Bool.{OnTrue, OnFalse};
+ghost use Rattle.std.specs.Prelude.{◌≡◌, ℕ, ◌<◌, true, length, replicate, None, MatchOption, slice_index};
 ghost use Rattle.std.specs.List.{All};
 ghost use Rattle.machine.specs.Alternative.{collides};
 ghost use Rattle.mrt.specs.Placements.{alternatives_of};
@@ -10,20 +9,20 @@ ghost use Rattle.ims.specs.Scheduling.{IsFirstSound};
 use mrt::ModuloTable;
 
 /// Writes for each operation of a table with nothing placed its first alternative that does not
-/// collide with itself, and tells whether each has one.
-pub(crate) fn find_sound<T: ModuloTable>(table: &T, sound: &mut [usize]) -> bool
+/// collide with itself, up to the first operation that has none, which is given where there is one.
+pub(crate) fn find_sound<T: ModuloTable>(table: &T, sound: &mut [usize]) -> Option<usize>
     requires empty { T.placed table.now ≡ replicate (length (T.operations table.now)) None }
     requires each { length sound.old ≡ length (T.operations table.now) }
-    ensures all { OnTrue result ((op : ℕ) → op < length (T.operations table.now)
-        → IsFirstSound (T.interval table.now) (alternatives_of (T.operations table.now) op) (slice_index sound.new op)) }
-    ensures blocked { OnFalse result ((op : ℕ) × (op < length (T.operations table.now))
-        × All (λ rows. collides (T.interval table.now) rows ≡ true) (alternatives_of (T.operations table.now) op)) }
+    ensures { MatchOption result
+        ((op : ℕ) → op < length (T.operations table.now) → IsFirstSound (T.interval table.now) (alternatives_of (T.operations table.now) op) (slice_index sound.new op))
+        (λ op. (op < length (T.operations table.now)) × All (λ rows. collides (T.interval table.now) rows ≡ true) (alternatives_of (T.operations table.now) op)
+        × ((sooner : ℕ) → sooner < op → ¬ All (λ rows. collides (T.interval table.now) rows ≡ true) (alternatives_of (T.operations table.now) sooner))) }
 {
     for op in 0..sound.len() {
         match table.free(op, 0) {
             Some(alternative) => sound[op] = alternative,
-            None => return false,
+            None => return Some(op),
         }
     }
-    true
+    None
 }

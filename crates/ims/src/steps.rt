@@ -1,16 +1,30 @@
 //! The steps of an attempt.
 
-ghost use Rattle.std.specs.Prelude.{◌≡◌, ℕ, ◌<◌, ◌≤◌, List, length, replicate, None, slice_index};
+ghost use Rattle.std.specs.Prelude.{◌≡◌, ℕ, ◌<◌, ◌≤◌, List, length, replicate, None, slice_index, IfOk};
 ghost use Rattle.graph.specs.Reaches.{AreHeights};
 ghost use Rattle.mrt.specs.Placements.{alternatives_of};
-ghost use Rattle.ims.specs.Problems.{IsProblem};
+ghost use Rattle.ims.specs.Problems.{mii_of};
 ghost use Rattle.ims.specs.Scheduling.{IsFirstSound, Stops, empty};
 ghost use Rattle.ims.specs.Waiting.{IsByHeight};
 
+use crate::order::by_height;
 use crate::prepared::Prepared;
 use crate::progress::Progress;
 use crate::step::step;
+use machine::OutOfMemory;
 use mrt::ModuloTable;
+use std::alloc::Global;
+
+/// Nothing is placed, and operations are taken by their heights at an interval.
+pub(crate) fn start(alloc: Global, prepared: &Prepared, ii: u64) -> Result<Progress, OutOfMemory>
+    requires from_mii { mii_of prepared.now ≤ ii }
+    requires limit { ii ≤ 16384 }
+    ensures empty { IfOk result (λ p. p.state ≡ empty (length prepared.now.operations)) }
+    ensures order { IfOk result (λ p. (heights : List ℕ) × AreHeights prepared.now.graph ii heights × (length heights ≡ length prepared.now.operations) × IsByHeight heights p.order) }
+{
+    let heights = graph::heights(alloc, prepared.edges(), ii)?;
+    Progress::new(alloc, by_height(alloc, &heights)?)
+}
 
 /// Places one operation after another, until all are placed or the budget is used up. `sound` has each
 /// operation's first alternative that does not collide with itself.

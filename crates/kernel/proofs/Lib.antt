@@ -8,6 +8,7 @@ pub mod Issuing
 pub mod Joining
 pub mod Landings
 pub mod Launching
+pub mod Naming
 pub mod Preloading
 pub mod Promised
 pub mod RowWrites

@@ -25,6 +25,8 @@ pub(crate) const SLOTS: usize = 128;
 #[derive(Drop)]
 pub(crate) struct Due {
     pub(crate) writes: Vec<Pending>,
+    /// Holds nothing: with it a slot takes four words, so that a shift finds it.
+    pub(crate) spare: usize,
 }
 
 impl Model for Due {

@@ -2,10 +2,10 @@
 
 ghost use Rattle.std.specs.Prelude.{◌≡◌, ◌%◌, ◌≤◌, ◌<◌, [], length, slice_set};
 ghost use Rattle.kernel.specs.Holding.{IsRing};
-ghost use Rattle.kernel.specs.Steps.{AreThere, arrays_landed, registers_landed, slot_at};
+ghost use Rattle.kernel.specs.Steps.{arrays_landed, registers_landed, slot_at};
 
 use crate::file::RegisterFile;
-use crate::flight::{Due, Pending, Place, SLOTS};
+use crate::flight::{Due, SLOTS};
 use iterations::Memory;
 
 /// Lands the writes of a cycle, which leaves their slot empty.
@@ -17,23 +17,6 @@ pub(crate) fn land(registers: &mut RegisterFile, memory: &mut Memory, ring: &mut
     ensures ring { ring.new ≡ slice_set ring.old (cycle % 128) [] }
 {
     let slot = &mut ring[cycle as usize % SLOTS];
-    land_all(registers, memory, slot.writes.as_slice());
+    registers.land(memory, slot.writes.as_slice());
     slot.writes.clear();
-}
-
-/// Lands writes, in order.
-fn land_all(registers: &mut RegisterFile, memory: &mut Memory, writes: &[Pending])
-    requires { AreThere (length registers.old) (length memory.old.arrays) memory.old.trip writes.now }
-    ensures many { length registers.new ≡ length registers.old }
-    ensures registers { registers.new ≡ registers_landed registers.old writes.now }
-    ensures memory { memory.new ≡ record memory.old { arrays = arrays_landed memory.old.arrays writes.now } }
-{
-    for write in writes {
-        match write.place {
-            Place::Register(register) => registers.set(register, write.value),
-            Place::Cell(array, cell) => {
-                memory.set_cell(array as usize, i64::from(cell), write.value);
-            }
-        }
-    }
 }

@@ -49,7 +49,7 @@ before_next p c cs h =
     ap (λ n. take n (c ∷ cs)) (position_next p c cs h ∙ one)
 
 -- a blank in front is passed over
-words_of-blank : (c : ℕ) (cs : List ℕ) → is_blank c ≡ true → words_of (c ∷ cs) ≡ words_of cs
+pub words_of-blank : (c : ℕ) (cs : List ℕ) → is_blank c ≡ true → words_of (c ∷ cs) ≡ words_of cs
 words_of-blank c cs h = ap pieces_of (before_next (λ x. x == 35) c cs (blank_no_hash c h)) ∙ rw h refl
 
 -- as a slice pattern takes it

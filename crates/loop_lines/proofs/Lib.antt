@@ -4,4 +4,5 @@ pub mod Lanes
 pub mod NameBytes
 pub mod Numbers
 pub mod Pieces
+pub mod Short
 pub mod Stores

@@ -5,3 +5,4 @@ pub mod Cells
 pub mod Forms
 pub mod Parsed
 pub mod Words
+pub mod inner

@@ -1,6 +1,7 @@
-//! Ends of lines and of words, found by sixteen bytes at a time.
+//! Ends of lines, of words and of numbers, found by sixteen bytes at a time.
 
-ghost use Rattle.std.specs.Prelude.{◌≡◌, ◌==◌, ◌+◌, ◌<◌, ◌≤◌, ℕ, false, true, length, nat_le, slice_index};
+ghost use Rattle.std.specs.Prelude.{◌≡◌, ◌==◌, ◌||◌, ◌+◌, ◌<◌, ◌≤◌, ℕ, false, true, length, nat_le, nat_lt, slice_index};
+ghost use Rattle.std.specs.Char.{is_ascii_digit};
 ghost use Rattle.std.specs.Int.{bit_at};
 ghost use Rattle.std.specs.List.{position_or_len};
 
@@ -54,6 +55,44 @@ pub(crate) fn count_high(text: &[u8]) -> usize
     ensures high { (k : ℕ) → k < result → nat_le (slice_index text.now k) 35 ≡ false }
 {
     low_bytes(load(text, 0)).trailing_zeros().min(16) as usize
+}
+
+/// Which of sixteen bytes are no digits, that of the lowest bit first.
+#[inline(always)]
+fn other_bytes(bytes: u8x16) -> u64
+    ensures { (k : ℕ) → k < 16 → (bit_at result k == 1) ≡ (nat_lt (slice_index bytes k) 48 || nat_lt 57 (slice_index bytes k)) }
+{
+    let below = bytes.simd_lt(u8x16::splat(b'0')).to_bitmask();
+    let above = bytes.simd_gt(u8x16::splat(b'9')).to_bitmask();
+    below | above
+}
+
+/// How many of the first sixteen bytes stand before the first that is no digit.
+#[inline(always)]
+fn count_front(text: &[u8]) -> usize
+    requires { 16 ≤ length text.now }
+    ensures few { result ≤ 16 }
+    ensures digits { (k : ℕ) → k < result → is_ascii_digit (slice_index text.now k) ≡ true }
+{
+    other_bytes(load(text, 0)).trailing_zeros().min(16) as usize
+}
+
+/// How many digits stand in front, of which at most sixteen are looked for. No lesser answer is wrong: it
+/// only decides how long a cell takes.
+#[inline(always)]
+pub(crate) fn count_digits(text: &[u8]) -> usize
+    ensures few { result ≤ 16 }
+    ensures within { result ≤ length text.now }
+    ensures digits { (k : ℕ) → k < result → is_ascii_digit (slice_index text.now k) ≡ true }
+{
+    if text.len() >= LANES {
+        return count_front(text);
+    }
+    let mut at = 0;
+    while at < text.len() && text[at].is_ascii_digit() {
+        at += 1;
+    }
+    at
 }
 
 /// How many bytes stand before the first line feed: all of them where there is none.

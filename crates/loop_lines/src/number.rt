@@ -1,6 +1,7 @@
 //! The numbers of a line.
 
-ghost use Rattle.std.specs.Prelude.{◌≡◌, ◌-◌, ◌^◌, min, if◌then◌else◌, Some, None};
+ghost use Rattle.std.specs.Prelude.{◌≡◌, ◌-◌, ◌^◌, ◌≤◌, min, if◌then◌else◌, true, ◌∷◌, length, pos, Some, None};
+ghost use Rattle.std.specs.Str.{all_ascii_digits};
 ghost use Rattle.std.specs.Str.Parse.{digits_value};
 ghost use Rattle.loop_lines.specs.Forms.{is_number, int_of, small_of, offset_of, subscript_of};
 
@@ -32,6 +33,32 @@ fn digits_of(word: &[u8]) -> Option<u64>
         rest = more;
     }
     Some(value)
+}
+
+/// The value of digits, of which there are sixteen at most.
+#[inline(always)]
+fn short_value(digits: &[u8]) -> i64
+    requires digits { all_ascii_digits digits.now ≡ true }
+    requires few { length digits.now ≤ 16 }
+    ensures { result ≡ pos (digits_value 10 digits.now) }
+{
+    let mut value = 0;
+    for digit in digits {
+        value = 10 * value + i64::from(*digit - b'0');
+    }
+    value
+}
+
+/// The value of an integer of sixteen digits at most, by its sign and them.
+#[inline(always)]
+#[tactic(auto, using(crate::proofs::Short::digits_are, crate::proofs::Short::minus_value, crate::proofs::Short::plus_value))]
+pub(crate) fn short_int(negative: bool, digits: &[u8]) -> i64
+    requires number { is_number digits.now ≡ true }
+    requires few { length digits.now ≤ 16 }
+    ensures { Some (Some result) ≡ int_of (if negative then 45 ∷ digits.now else digits.now) }
+{
+    let value = short_value(digits);
+    if negative { -value } else { value }
 }
 
 /// An integer's value: the outer `Option` is whether the word is one, the inner is `None` outside 64

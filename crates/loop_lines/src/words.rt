@@ -4,6 +4,7 @@ ghost use Rattle.std.specs.Prelude.{◌≡◌, ◌≢◌, ◌==◌, ◌-◌, ◌
 ghost use Rattle.std.specs.List.{before_first, after_first, position_or_len};
 ghost use Rattle.machine.specs.Opcodes.{same_word};
 ghost use Rattle.loop_lines.specs.Words.{is_blank, lines_of, starts_blank, stops_word, words_of};
+ghost use Rattle.loop_lines.specs.inner.Stops.{begins_stop};
 
 use crate::feeds::{LANES, count_high, count_line};
 
@@ -92,6 +93,27 @@ fn ends_word(byte: u8) -> bool
     ensures { result ≡ stops_word byte }
 {
     byte <= b'#' && (is_blank(byte) || byte == b'#')
+}
+
+/// No word goes on into this text.
+pub(crate) fn begins_stop(text: &[u8]) -> bool
+    ensures { result ≡ begins_stop text.now }
+{
+    match text {
+        [] => true,
+        [first, ..] => ends_word(*first),
+    }
+}
+
+/// What follows a space in front, if there is one.
+#[tactic(auto, using(crate::proofs::Short::space_passed))]
+pub(crate) fn without_space(rest: &[u8]) -> &[u8]
+    ensures { words_of result.now ≡ words_of rest.now }
+{
+    match after_byte(rest, b' ') {
+        Some(more) => more,
+        None => rest,
+    }
 }
 
 /// What follows the blanks in front.

@@ -5,3 +5,4 @@ pub mod Machines
 pub mod MachineText
 pub mod Opcodes
 pub mod Reads
+pub mod inner

@@ -8,6 +8,7 @@ use crate::OutOfMemory;
 use smallvec::SmallVec;
 use std::alloc::Global;
 use std::marker::Model;
+use std::sync::ArcSlice;
 
 /// A row of a reservation table: the operation holds the unit in the cycle that comes `offset`
 /// cycles after its issue.
@@ -70,7 +71,16 @@ impl Alternative {
 /// machine text. Contracts see the list of the alternatives' lists of rows.
 #[derive(Drop)]
 pub struct Alternatives {
-    list: Vec<Alternative>,
+    list: Shelf,
+}
+
+/// Where a list of alternatives is kept.
+#[derive(Drop)]
+enum Shelf {
+    /// In memory of its own.
+    Own(Vec<Alternative>),
+    /// In memory that all copies share, so that one more of them takes none.
+    Shared(ArcSlice<Alternative>),
 }
 
 impl Model for Alternatives {
@@ -80,10 +90,11 @@ impl Model for Alternatives {
     ghost Value = { List (List Row) };
 
     ghost use Rattle.machine.specs.Alternative.{AreAlternatives};
+    ghost use Rattle.machine.specs.inner.Shelves.{on_shelf};
 
-    ghost view = { λ a. a.list.items };
+    ghost view = { λ a. on_shelf a.list };
 
-    ghost invariant = { λ a. AreAlternatives a.list.items };
+    ghost invariant = { λ a. AreAlternatives (on_shelf a.list) };
 }
 
 impl Alternatives {
@@ -92,7 +103,20 @@ impl Alternatives {
         requires { AreAlternatives list.items }
         ensures { result ≡ list.items }
     {
-        Alternatives { list }
+        Alternatives {
+            list: Shelf::Own(list),
+        }
+    }
+
+    /// These alternatives, in memory that their copies share.
+    pub(crate) fn shared(list: Vec<Alternative>) -> Result<Alternatives, OutOfMemory>
+        requires { AreAlternatives list.items }
+        ensures { IfOk result (λ shared. shared ≡ list.items) }
+    {
+        let list = ArcSlice::from_vec(list)?;
+        Ok(Alternatives {
+            list: Shelf::Shared(list),
+        })
     }
 
     /// The alternatives, in order.
@@ -100,15 +124,21 @@ impl Alternatives {
         ensures value { result.now ≡ self.now }
         ensures well_formed { AreAlternatives self.now }
     {
-        self.list.as_slice()
+        match &self.list {
+            Shelf::Own(list) => list.as_slice(),
+            Shelf::Shared(list) => list.as_slice(),
+        }
     }
 
-    /// The same alternatives once more.
+    /// The same alternatives once more. Those of a machine text take no memory.
     pub fn copied(&self, alloc: Global) -> Result<Alternatives, OutOfMemory>
         ensures { IfOk result (λ copy. copy ≡ self.now) }
     {
-        let list = copied_all(alloc, self.as_slice())?;
-        Ok(Alternatives::new(list))
+        let list = match &self.list {
+            Shelf::Own(list) => Shelf::Own(copied_all(alloc, list.as_slice())?),
+            Shelf::Shared(list) => Shelf::Shared(list.clone()?),
+        };
+        Ok(Alternatives { list })
     }
 }
 

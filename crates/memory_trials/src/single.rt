@@ -1,12 +1,10 @@
 //! Calls on one loop, a running sum.
 
-ghost use Rattle.std.specs.Prelude.{◌≡◌};
 ghost use Rattle.graph.specs.Walks.{FitsCircuits};
 ghost use Rattle.rotating.specs.Allotments.{Suits};
 
 use crate::answers::{Answer, tell, tell_not_begun};
 use crate::bare::try_checks;
-use crate::given::ACC;
 use graph::{Edges, feasible, heights};
 use ims::{Prepared, Schedule, Try, attempt};
 use kernel::{Kernel, simulate};
@@ -15,6 +13,7 @@ use mrt::{MaskTable, ModuloTable, OwnerTable};
 use rotating::{Allotment, allot, emit};
 use std::alloc::Global;
 use std::io;
+use worked_texts::ACC;
 
 /// Tells what calls on the loop come to.
 pub fn try_all(rt: &(impl AllocGlobal + Print), prepared: &Prepared) -> io::Result<()> {

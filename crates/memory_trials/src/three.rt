@@ -6,12 +6,12 @@ ghost use Rattle.board.specs.Boards.{IsNewPassOf, sizes_of};
 ghost use Rattle.board.specs.Names.{terms_of};
 
 use crate::answers::NotBegun;
-use crate::given::{LOOPS, MACHINE};
 use board::{WordBoard, WordPass};
 use candidates::Settings;
 use ims::Prepared;
 use std::alloc::Global;
 use std::thread::Threads;
+use worked_texts::{THREE, TWO_REGISTERS};
 use workers::{OpenGate, pipeline};
 
 /// Three loops, prepared with a ceiling of 3. By one interval a piece that is 12 pieces.
@@ -25,7 +25,7 @@ pub struct Three {
 /// The three loops of the text.
 pub fn given_three<R: Threads + Sync>(rt: &R, alloc: Global) -> Result<Three, NotBegun> {
     let settings = Settings::new(6, 3, 1, 1)?;
-    let (machine, loops) = (MACHINE.as_bytes(), LOOPS.as_bytes());
+    let (machine, loops) = (TWO_REGISTERS.as_bytes(), THREE.as_bytes());
     let (loops, _) = pipeline(rt, alloc, machine, loops, &settings, &OpenGate)?;
     if loops.len() != 3 || !have_ceiling(loops.as_slice()) {
         return Err(NotBegun);

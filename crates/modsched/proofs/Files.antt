@@ -1,6 +1,6 @@
 -- What subcommands answer for files that workers answered for.
 use Rattle.std.proofs.Common.{◌≡◌, ℕ, List, Option, arith, refl, sym, subst}
-use Rattle.std.specs.Prelude.{Bool, Some, None, Ok, Err}
+use Rattle.std.specs.Prelude.{Bool, Some, None, Result, Ok, Err, IsErrAnd}
 use Rattle.machine.specs.Machines.{MachineData}
 use Rattle.machine.specs.declared.opcode.Opcode.{Opcode}
 use Rattle.loops.specs.Loops.{LoopData}
@@ -10,9 +10,11 @@ use Rattle.workers.specs.declared.faults.FileFault.{FileFault}
 use Rattle.workers.specs.declared.faults.FileFault.TheVariants as file
 use Rattle.workers.proofs.Answering.{on_ok}
 use Rattle.modsched.specs.Outcomes.{OutcomeIn, OutcomeOf, OutcomeOn, Written, NoTable as NoTableFor}
-use Rattle.modsched.specs.Refusals.{HasOneMemory, IsRefusal}
+use Rattle.modsched.specs.Refusals.{HasOneMemory, IsRefusal, PrintoutAnswer}
 use Rattle.modsched.specs.Statuses.{refusal_of_file}
-use Rattle.modsched.proofs.Refusing.{LoopLists, Machines, Texts, loops_memory, machine_memory, refused_loops, refused_machine}
+use Rattle.modsched.specs.declared.printout.Printout.{Printout}
+use Rattle.modsched.specs.declared.status.Status.{Status}
+use Rattle.modsched.proofs.Refusing.{LoopLists, Machines, Texts, answered, loops_memory, machine_memory, refused_loops, refused_machine}
 
 module _ {A : Type 0} where
   -- an answer that is right is of texts that mean something, and no loop lacks a table
@@ -51,16 +53,20 @@ module _ {A : Type 0} where
   refused_in F T m (Ok ls) (file.Loops f) a = refused_on (F ls) (T ls) (first_lacking m ls) (file.Loops f) a
   refused_in F T m (Ok ls) (file.NoTable name opcode) a = refused_on (F ls) (T ls) (first_lacking m ls) (file.NoTable name opcode) a
 
-  -- a file that has no listing
-  pub file_refused : (F : MachineData → List LoopData → A → Type 0) (IsText : Texts) (machine : Machines) (loops : LoopLists) (fault : FileFault)
+  file_refusal : (F : MachineData → List LoopData → A → Type 0) (IsText : Texts) (machine : Machines) (loops : LoopLists) (fault : FileFault)
       → AnswersFile F machine loops (Err fault) → IsRefusal (OutcomeOf IsText machine loops) (refusal_of_file fault)
-  file_refused F T machine loops file.Memory a = tt
-  file_refused F T (Err e) loops (file.Machine f) a = refused_machine f (OutcomeOf T (Err e) loops) (cc)
-  file_refused F T (Err e) loops (file.Loops f) a = absurd (cc)
-  file_refused F T (Err e) loops (file.NoTable name opcode) a = absurd (cc)
-  file_refused F T (Ok m) loops (file.Machine f) a = refused_in (F m) (T m) m loops (file.Machine f) a
-  file_refused F T (Ok m) loops (file.Loops f) a = refused_in (F m) (T m) m loops (file.Loops f) a
-  file_refused F T (Ok m) loops (file.NoTable name opcode) a = refused_in (F m) (T m) m loops (file.NoTable name opcode) a
+  file_refusal F T machine loops file.Memory a = tt
+  file_refusal F T (Err e) loops (file.Machine f) a = refused_machine f (OutcomeOf T (Err e) loops) (cc)
+  file_refusal F T (Err e) loops (file.Loops f) a = absurd (cc)
+  file_refusal F T (Err e) loops (file.NoTable name opcode) a = absurd (cc)
+  file_refusal F T (Ok m) loops (file.Machine f) a = refused_in (F m) (T m) m loops (file.Machine f) a
+  file_refusal F T (Ok m) loops (file.Loops f) a = refused_in (F m) (T m) m loops (file.Loops f) a
+  file_refusal F T (Ok m) loops (file.NoTable name opcode) a = refused_in (F m) (T m) m loops (file.NoTable name opcode) a
+
+  -- a file that has no listing
+  pub file_refused : (F : MachineData → List LoopData → A → Type 0) (IsText : Texts) (machine : Machines) (loops : LoopLists) (fault : FileFault) (r : Result Printout Status)
+      → IsErrAnd r (λ s. s ≡ refusal_of_file fault) → AnswersFile F machine loops (Err fault) → PrintoutAnswer (OutcomeOf IsText machine loops) r
+  file_refused F T machine loops fault r is a = answered (OutcomeOf T machine loops) (refusal_of_file fault) r is (file_refusal F T machine loops fault a)
 
 -- want of memory has one status
 pub file_memory : (fault : FileFault) → HasOneMemory (refusal_of_file fault)

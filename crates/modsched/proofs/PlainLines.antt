@@ -1,9 +1,7 @@
 -- The lines of a run, piece by piece.
 use Rattle.std.proofs.Common.{◌≡◌, ℕ, ℤ, pos, ◌+◌, ◌-ℤ◌, ◌<◌, ◌≤◌, Bool, true, false, List, [], ◌∷◌, ◌++◌, length, take, get_or, min, refl, sym, ap, ap₂, ◌∙◌, arith}
-use Rattle.std.specs.Prelude.{if◌then◌else◌, cond, not}
+use Rattle.std.specs.Prelude.{if◌then◌else◌, cond}
 use Rattle.std.specs.List.{enumerate_from, filter, flat_map, zip}
-use Rattle.std.specs.Ordering.{int_eq}
-use Rattle.std.proofs.lemmas.Bool.Decides.{Decides-int_eq}
 use Rattle.std.proofs.lemmas.List.{take_all, take_more, flat_map_more}
 use Rattle.std.proofs.lemmas.List.FromFn.{length-enumerate_from, get_or-enumerate_from, get_or-map-range_with_len, length-map-range_with_len}
 use Rattle.std.proofs.lemmas.Slice.Zip.{get_or-zip, length-zip}
@@ -83,22 +81,3 @@ cell_all opening after array name before now i all e =
     let long : length (cells_of after.trip) ≡ after.trip + 128 = length-cells_of after.trip in
     pieces_all (changed_line opening after array name) before now (cells_of after.trip) i (omega (arith, long)) e
     ∙ ap (λ t. before ++ t) (flat_map-filter (is_changed opening after array) (λ cell. cell_line name cell (cell_of after.arrays array cell)) (cells_of after.trip))
-
--- the line of a cell that kept its value, and of one that did not
-pub kept_line : (opening after : MemoryData) (array : ℕ) (name : List ℕ) (cell : ℤ) → cell_of after.arrays array cell ≡ cell_of opening.arrays array cell
-    → changed_line opening after array name cell ≡ []
-kept_line opening after array name cell e =
-    go (int_eq (cell_of after.arrays array cell) (cell_of opening.arrays array cell)) ((Decides-int_eq (cell_of after.arrays array cell) (cell_of opening.arrays array cell)).1 e)
-  where
-    go : (b : Bool) → b ≡ true → (if not b then cell_line name cell (cell_of after.arrays array cell) else []) ≡ []
-    go true h = refl
-    go false h = absurd (cc)
-
-pub other_line : (opening after : MemoryData) (array : ℕ) (name : List ℕ) (cell : ℤ) → (cell_of after.arrays array cell ≡ cell_of opening.arrays array cell → ⊥)
-    → changed_line opening after array name cell ≡ cell_line name cell (cell_of after.arrays array cell)
-other_line opening after array name cell n =
-    go (int_eq (cell_of after.arrays array cell) (cell_of opening.arrays array cell)) (λ h. n ((Decides-int_eq (cell_of after.arrays array cell) (cell_of opening.arrays array cell)).0 h))
-  where
-    go : (b : Bool) → (b ≡ true → ⊥) → (if not b then cell_line name cell (cell_of after.arrays array cell) else []) ≡ cell_line name cell (cell_of after.arrays array cell)
-    go true h = absurd (h refl)
-    go false h = refl

@@ -40,22 +40,6 @@ pub collides-drop : (ii : ℕ) (slots : List Slot) (k : ℕ) (d : Slot) → k < 
     → collides ii (rows_in (drop k slots)) ≡ (list_any (λ s. rows_meet ii (get_or slots k d).row 0 s 0) (rows_in (drop (k + 1) slots)) || collides ii (rows_in (drop (k + 1) slots)))
 collides-drop ii slots k d lt = ap (λ zs. collides ii (rows_in zs)) (drop_more slots k d lt)
 
-pub collides_here : (ii : ℕ) (slots rest : List Slot) (k : ℕ) (d : Slot) → k < length slots → rest ≡ drop (k + 1) slots
-    → collides ii (rows_in slots) ≡ collides ii (rows_in (drop k slots))
-    → true ≡ list_any (λ s. rows_meet ii (get_or slots k d).row 0 s 0) (rows_in rest)
-    → true ≡ collides ii (rows_in slots)
-collides_here ii slots rest k d lt e so_far h =
-    let h' = h ∙ ap (λ zs. list_any (λ s. rows_meet ii (get_or slots k d).row 0 s 0) (rows_in zs)) e in
-    sym (so_far ∙ collides-drop ii slots k d lt ∙ ap (λ b. b || collides ii (rows_in (drop (k + 1) slots))) (sym h'))
-
-pub collides_later : (ii : ℕ) (slots rest : List Slot) (k : ℕ) (d : Slot) → k < length slots → rest ≡ drop (k + 1) slots
-    → collides ii (rows_in slots) ≡ collides ii (rows_in (drop k slots))
-    → false ≡ list_any (λ s. rows_meet ii (get_or slots k d).row 0 s 0) (rows_in rest)
-    → collides ii (rows_in slots) ≡ collides ii (rows_in (drop (k + 1) slots))
-collides_later ii slots rest k d lt e so_far h =
-    let h' = h ∙ ap (λ zs. list_any (λ s. rows_meet ii (get_or slots k d).row 0 s 0) (rows_in zs)) e in
-    so_far ∙ collides-drop ii slots k d lt ∙ ap (λ b. b || collides ii (rows_in (drop (k + 1) slots))) (sym h')
-
 -- an old span, after slots are added
 pub IsSpan-kept : (ii : ℕ) (old new : List Slot) (span : Span) → take (length old) new ≡ old → length old ≤ length new → IsSpan ii old span → IsSpan ii new span
 IsSpan-kept ii old new span e le s = record {

@@ -2,7 +2,6 @@
 use Rattle.std.proofs.Common.{zero, suc, ◌≡◌, ℕ, ◌+◌, ◌^◌, ◌<◌, inl, inr, Bool, true, false, ◌&&◌, ◌||◌, cond, eqb, bit_and, bit_or, List, [], ◌∷◌, length, get_or, drop, take, refl, sym, ap, ◌∙◌}
 use Rattle.std.specs.List.{list_any}
 use Rattle.std.proofs.lemmas.Bool.{cases_Bool, true≢false}
-use Rattle.std.proofs.lemmas.Nat.Bits.{bit_at-zero}
 use Rattle.std.proofs.lemmas.List.{drop_more}
 use Rattle.std.proofs.lemmas.List.Folds.{list_any_more}
 use Rattle.machine.specs.declared.alternative.Row.{Row}
@@ -41,9 +40,6 @@ meets_none_of ii row rows h =
 -- what it tells that a mask meets no bit
 pub needs_not : (bits mask unit : ℕ) (rows : List Row) → mask ≡ 2 ^ unit → HasUnits bits rows → bit_and bits mask ≡ 0 → needs_unit unit rows ≡ false
 needs_not bits mask unit rows m has none = sym (has unit) ∙ test_clear bits mask unit m none
-
-pub HasUnits-none : HasUnits 0 []
-HasUnits-none unit = ap (λ n. eqb n 1) (bit_at-zero unit)
 
 or_last : (a b : Bool) → cond a true b ≡ (b || a)
 or_last true true = refl

@@ -25,7 +25,3 @@ residue_around ii base time step some b short h =
     let small : base + step - ii < ii = omega arith in
     let whole : ii + (base + step - ii) ≡ base + step = omega arith in
     sym (mod-add-mod time ii step) ∙ ap (λ n. (n + step) % ii) b ∙ sym (ap (λ n. n % ii) whole) ∙ add-mod_left ii (base + step - ii) ∙ mod-eq_of_lt small
-
--- a step more
-pub residue_more : (ii time passed step at : ℕ) → at ≡ (time + passed + step) % ii → (time + (passed + step)) % ii ≡ at
-residue_more ii time passed step at is = let whole : time + (passed + step) ≡ time + passed + step = omega arith in ap (λ n. n % ii) whole ∙ sym is

@@ -67,6 +67,17 @@ module _ (ii : ℕ) (operations : OperationAlternatives) (placed : Placements) (
     pub first_slot_none : ii ≤ first → IsFirstSlot ii operations placed op start None
     first_slot_none le = λ time alternative from to. none_before_first time alternative from (omega arith)
 
+  -- an alternative that serves at once, where none before it does
+  pub first_slot_at_once : (first best k : ℕ) → IsBest is_free_after ii first best k → 0 < first → IsFree ii operations placed op (start + 0) k → IsFirstSlot ii operations placed op start (Some (start, k))
+  first_slot_at_once first best k b some free =
+      let P : ℕ → ℕ → Type 0 = λ t a. IsFree ii operations placed op t a in
+      let at : start + 0 ≡ start = omega arith in (
+        (omega arith),
+        (omega (arith, b.few)),
+        (subst (λ t. P t k) at free, λ before lb now. b.none_sooner before lb 0 some (subst (λ t. P t before) (sym at) now)),
+        λ sooner alternative from ls. absurd (omega arith),
+      )
+
 -- the lowest bit that is set, if there is one below a bound
 pub lowest_bit : (n r most : ℕ) → n < 2 ^ 64 → most ≤ 64 → r ≡ min most (trailing_zeros w64 n) → ((k : ℕ) → k < r → bit_at n k ≡ 1 → ⊥) × (r < most → bit_at n r ≡ 1)
 unfolding count_trailing_zeros

@@ -1,6 +1,6 @@
 //! Alternatives in one piece of memory, prepared for one initiation interval.
 
-ghost use Rattle.std.specs.Prelude.{◌≡◌, ◌++◌, ◌∷◌, [], ◌<◌, ◌≤◌, ℕ, List, length, take, drop, IfOk, OnOk, slice_index_or};
+ghost use Rattle.std.specs.Prelude.{◌≡◌, ◌++◌, ◌∷◌, [], ◌<◌, ◌≤◌, ℕ, length, take, drop, IfOk, OnOk, slice_index_or};
 ghost use Rattle.std.specs.List.{All, list_any};
 ghost use Rattle.machine.specs.Alternative.{IsAlternative, collides, rows_meet};
 ghost use Rattle.mrt.specs.Slots.{IsSlot, rows_in, HasUnits};

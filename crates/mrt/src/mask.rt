@@ -1,9 +1,8 @@
 //! A modulo reservation table as a word of units for each residue, and a word or a timeline for each unit.
 
-ghost use Rattle.std.specs.Prelude.{◌≡◌, ◌↔◌, ◌+◌, ◌*◌, ◌%◌, ◌^◌, ◌<◌, ◌≤◌, ◌==◌, ◌&&◌, ℕ, List, length, replicate, Option, Some, None, IsNone, IsSome, IsTrue, IfOk, if◌then◌else◌, slice_set, slice_index_or, slice_get};
+ghost use Rattle.std.specs.Prelude.{◌≡◌, ◌↔◌, ◌+◌, ◌*◌, ◌%◌, ◌^◌, ◌<◌, ◌≤◌, ◌==◌, ℕ, length, Some, None, IsTrue, if◌then◌else◌};
 ghost use Rattle.std.specs.Int.{bit_at};
 ghost use Rattle.std.specs.List.{All};
-ghost use Rattle.machine.specs.Alternative.{residue_of};
 ghost use Rattle.mrt.specs.Placements.{alternatives_of, IsFree, IsFirstFree, IsFirstSlot};
 ghost use Rattle.mrt.specs.Slots.{IsSlot, rows_in, takes, meets_held};
 ghost use Rattle.mrt.specs.MaskTables.{is_held};
@@ -113,6 +112,9 @@ impl MaskTable {
         for alternative in 0..self.roster.count(op) {
             let cycle = self.first_cycle(op, alternative, base, first);
             if cycle < first {
+                if cycle == 0 {
+                    return Some((start, alternative));
+                }
                 first = cycle;
                 best = alternative;
             }
@@ -126,8 +128,6 @@ impl MaskTable {
 }
 
 impl ModuloTable for MaskTable {
-    ghost use Rattle.mrt.specs.Placements.{OperationAlternatives, Placements, IsHolder};
-
     ghost placed = { λ t. t.placed };
 
     ghost operations = { λ t. t.operations };

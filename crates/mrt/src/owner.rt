@@ -1,6 +1,6 @@
 //! A modulo reservation table as a row of owners for each residue.
 
-ghost use Rattle.std.specs.Prelude.{◌≡◌, ◌↔◌, ◌+◌, ◌*◌, ◌%◌, ◌^◌, ◌<◌, ◌≤◌, ℕ, List, length, replicate, Option, Some, None, IsNone, IsSome, IsTrue, IfOk, if◌then◌else◌, slice_set, slice_index_or, slice_get};
+ghost use Rattle.std.specs.Prelude.{◌≡◌, ◌↔◌, ◌+◌, ◌*◌, ◌%◌, ◌<◌, ◌≤◌, ℕ, length, Some, None, IsTrue, if◌then◌else◌};
 ghost use Rattle.std.specs.List.{All};
 ghost use Rattle.machine.specs.Alternative.{residue_of};
 ghost use Rattle.mrt.specs.Placements.{alternatives_of, IsFree};
@@ -56,8 +56,6 @@ impl OwnerTable {
 }
 
 impl ModuloTable for OwnerTable {
-    ghost use Rattle.mrt.specs.Placements.{OperationAlternatives, Placements, IsFirstFree, IsFirstSlot, IsHolder};
-
     ghost placed = { λ t. t.placed };
 
     ghost operations = { λ t. t.operations };

@@ -1,7 +1,7 @@
 //! For each unit a word which has a bit for each residue, at an interval below 64: turned round, it tells
 //! of all times at once.
 
-ghost use Rattle.std.specs.Prelude.{◌≡◌, ◌+◌, ◌-◌, ◌%◌, ◌<◌, ◌≤◌, ◌==◌, ℕ, Bool, not, true, false, length, slice_index, if◌then◌else◌};
+ghost use Rattle.std.specs.Prelude.{◌≡◌, ◌+◌, ◌-◌, ◌%◌, ◌<◌, ◌≤◌, ◌==◌, ℕ, Bool, not, true, false, length, if◌then◌else◌};
 ghost use Rattle.std.specs.Int.{bit_at};
 ghost use Rattle.std.specs.List.{All};
 ghost use Rattle.mrt.specs.Slots.{IsSlot, rows_in, takes, meets_held};

@@ -1,8 +1,8 @@
 //! What a modulo reservation table does, however it is kept.
 
-ghost use Rattle.std.specs.Prelude.{◌≡◌, ◌+◌, ◌^◌, ◌<◌, ◌≤◌, ℕ, List, length, replicate, Option, Some, None, IsNone, IsSome, IfOk, slice_set, slice_index_or, slice_get};
+ghost use Rattle.std.specs.Prelude.{◌≡◌, ◌+◌, ◌^◌, ◌<◌, ◌≤◌, ℕ, length, replicate, Some, None, IsSome, IfOk, slice_set, slice_get};
 ghost use Rattle.machine.specs.declared.alternative.Row.{Row};
-ghost use Rattle.mrt.specs.Placements.{OperationAlternatives, Placements, Placement, placement_of, alternatives_of, rows_of, IsFree, IsFirstFree, IsFirstSlot, IsHolder};
+ghost use Rattle.mrt.specs.Placements.{OperationAlternatives, Placements, placement_of, alternatives_of, rows_of, IsFree, IsFirstFree, IsFirstSlot, IsHolder};
 
 use machine::{Alternatives, OutOfMemory};
 use std::alloc::Global;

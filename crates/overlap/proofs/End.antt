@@ -15,7 +15,7 @@ use Rattle.graph.specs.Dependences.{ComesFirst}
 use Rattle.graph.specs.Promises.{issue_of}
 use Rattle.graph.specs.Units.{greatest_of}
 use Rattle.kernel.specs.declared.parts.Parts.{Parts}
-use Rattle.kernel.specs.Overlapped.{Target, InRegister, InCell, Write, physical, value_or, preloaded, last_of_all, writes_before, all_writes, overlapped, turns_of, cells_after, arrays_left, out_after, last_turn}
+use Rattle.kernel.specs.Overlapped.{InRegister, InCell, Write, physical, value_or, preloaded, last_of_all, all_writes, overlapped, turns_of, cells_after, arrays_left, out_after}
 use Rattle.overlap.specs.Allotments.{AllotmentData, allotted_number}
 use Rattle.overlap.specs.Lifetimes.{IsLiveIn, is_out, landing_of, last_landing, last_cycle, lifetime_of, lifetimes_of, rank_of}
 use Rattle.ims.specs.Schedules.{ScheduleData, IsSchedule, stages_of}

@@ -14,7 +14,7 @@ use Rattle.iterations.specs.Run.{MemoryData, RunState, cell_index, cell_of, load
 use Rattle.graph.specs.Promises.{issue_of}
 use Rattle.kernel.specs.declared.operation.Operation.{Operation}
 use Rattle.kernel.specs.declared.parts.Parts.{Parts}
-use Rattle.kernel.specs.Overlapped.{Target, InRegister, InCell, Write, physical, addressed, cell_landed, load_landed, source_at, write_of, write_given, to_register, to_cell, is_issued, turn_of, writes_in, writes_before}
+use Rattle.kernel.specs.Overlapped.{InRegister, InCell, Write, physical, addressed, cell_landed, load_landed, write_of, write_given, to_register, to_cell, is_issued, writes_in}
 use Rattle.overlap.specs.Allotments.{AllotmentData, allotted_number}
 use Rattle.ims.specs.Schedules.{ScheduleData, stage_of, row_of}
 use Rattle.overlap.specs.Emission.{name_of, address_of, operation_of, operations_from, emitted}

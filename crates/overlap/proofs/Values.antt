@@ -11,11 +11,11 @@ use Rattle.iterations.specs.declared.language.statement.Operand.{Operand}
 use Rattle.iterations.specs.declared.language.statement.Operand.TheVariants as operand
 use Rattle.iterations.specs.declared.language.statement.Place.{Place}
 use Rattle.iterations.specs.Loops.{LoopData, MayRead}
-use Rattle.iterations.specs.Run.{HasShapeOf, MemoryData, IsMemory, RunState, read_operand, initial_of, cell_index, cell_of, writes, first_of}
+use Rattle.iterations.specs.Run.{HasShapeOf, MemoryData, IsMemory, read_operand, cell_index, cell_of}
 use Rattle.graph.specs.Dependences.{Uses}
 use Rattle.graph.specs.Promises.{issue_of}
 use Rattle.kernel.specs.declared.operation.Source.{Source}
-use Rattle.kernel.specs.Overlapped.{Target, InRegister, InCell, Write, physical, last_landed, value_or, preloaded, cell_landed, register_at, source_at, addressed, write_of, write_given, to_register, to_cell, is_issued, turn_of, writes_in, writes_before}
+use Rattle.kernel.specs.Overlapped.{InRegister, physical, last_landed, value_or, preloaded, cell_landed, register_at, source_at}
 use Rattle.overlap.specs.Allotments.{AllotmentData, allotted_number}
 use Rattle.ims.specs.Schedules.{ScheduleData, stage_of}
 use Rattle.overlap.specs.Emission.{name_of, source_of, emitted}
@@ -41,15 +41,6 @@ name-in_turn registers number d stage j some =
     ∙ ap (λ n. physical registers n (pos (stage + j))) (let e : number + d + stage ≡ number + (d + stage) = omega arith in e)
     ∙ ap (λ z. physical registers (number + (d + stage)) z) (let e : pos (stage + j) ≡ ((pos j -ℤ pos d) +ℤ pos (d + stage)) = omega (arith, ints) in e)
     ∙ physical-later registers number (d + stage) (pos j -ℤ pos d) some
-
--- the turn of an instance's issue
-turn-of : (schedule : ScheduleData) (allotment : AllotmentData) (q j : ℕ) → 0 < schedule.ii → turn_of (emitted schedule allotment) (issue_of schedule.ii schedule.times q j) ≡ stage_of schedule q + j
-unfolding emitted
-turn-of schedule allotment q j some = turn-of_issue schedule.ii (slice_index schedule.times q) j some
-
-registers-of : (schedule : ScheduleData) (allotment : AllotmentData) → (emitted schedule allotment).registers ≡ allotment.registers
-unfolding emitted
-registers-of schedule allotment = refl
 
 -- what an operand's source gives
 

@@ -14,7 +14,7 @@ use Rattle.iterations.specs.declared.language.statement.Place.{Place}
 use Rattle.iterations.specs.declared.language.statement.Operand.{Operand}
 use Rattle.iterations.specs.declared.language.statement.Operand.TheVariants as operand
 use Rattle.iterations.specs.declared.language.lists.Array.{Array}
-use Rattle.iterations.specs.Loops.{HasShape, LoopData, MayRead, IsStatement, GivesValue, HasInitial}
+use Rattle.iterations.specs.Loops.{HasShape, MayRead, IsStatement, GivesValue, HasInitial}
 use Rattle.iterations.specs.Run.{initial_of}
 use Rattle.graph.specs.Units.{greatest_of}
 use Rattle.kernel.specs.declared.operation.Operation.{Operation}

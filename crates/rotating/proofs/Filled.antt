@@ -7,6 +7,7 @@ use Rattle.std.proofs.lemmas.List.{take-set-le, length-take, get_or-set_other, g
 use Rattle.kernel.specs.Overlapped.{physical}
 use Rattle.overlap.specs.declared.lifetime.Lifetime.{Lifetime}
 use Rattle.overlap.specs.Allotments.{IsLawfulAllotment, IsLeast, AreLeast, HaveNone}
+use Rattle.rotating.specs.Numberless.{HasNone}
 use Rattle.rotating.specs.Residues.{IsLifeSpan}
 use Rattle.overlap.proofs.Least.{there-is, take-more, place-within, take-life, taken-at, take-twice, index-taken, empty-lawful}
 
@@ -30,12 +31,11 @@ below-least ii registers lives numbers k long le least = record {
   least = λ n life there. let l = place-within lives life n there in least n life (omega arith) there;
 }
 
-pub below-none : (ii registers : ℕ) (lives : List Lifetime) (numbers : List ℕ) (k : ℕ) (life : Lifetime) → length numbers ≡ length lives → k < length lives → slice_get lives k ≡ Some life
+pub below-has_none : (ii registers : ℕ) (lives : List Lifetime) (numbers : List ℕ) (k : ℕ) (life : Lifetime) → length numbers ≡ length lives → k < length lives → slice_get lives k ≡ Some life
     → LeastBelow ii registers lives numbers k → ((c : ℕ) → ¬ IsLawfulAllotment ii registers (take k lives ++ life ∷ []) (take k numbers ++ c ∷ []))
-    → HaveNone ii registers lives
-below-none ii registers lives numbers k life long lt there least none = record {
+    → HasNone ii registers lives life
+below-has_none ii registers lives numbers k life long lt there least none = record {
   place = k;
-  life = life;
   is_life = there;
   numbers = take k numbers;
   least_before = record {
@@ -49,6 +49,15 @@ below-none ii registers lives numbers k life long lt there least none = record {
   };
   none = none;
 }
+
+pub none-of : (ii registers : ℕ) (lives : List Lifetime) (life : Lifetime) → HasNone ii registers lives life → HaveNone ii registers lives
+none-of ii registers lives life h =
+    record { place = h.place; life = life; is_life = h.is_life; numbers = h.numbers; least_before = h.least_before; none = h.none }
+
+pub below-none : (ii registers : ℕ) (lives : List Lifetime) (numbers : List ℕ) (k : ℕ) (life : Lifetime) → length numbers ≡ length lives → k < length lives → slice_get lives k ≡ Some life
+    → LeastBelow ii registers lives numbers k → ((c : ℕ) → ¬ IsLawfulAllotment ii registers (take k lives ++ life ∷ []) (take k numbers ++ c ∷ []))
+    → HaveNone ii registers lives
+below-none ii registers lives numbers k life long lt there least none = none-of ii registers lives life (below-has_none ii registers lives numbers k life long lt there least none)
 
 pub below-more : (ii registers : ℕ) (lives : List Lifetime) (numbers : List ℕ) (k c : ℕ) (life : Lifetime) → k < length numbers → slice_get lives k ≡ Some life
     → LeastBelow ii registers lives numbers k → IsLeast ii registers (take k lives) (take k numbers) life c

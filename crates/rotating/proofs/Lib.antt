@@ -9,6 +9,7 @@ pub mod Ranks
 pub mod Stated
 pub mod Pigeons
 pub mod Crowded
+pub mod Ages
 pub mod Emitted
 pub mod Taking
 pub mod Fitting

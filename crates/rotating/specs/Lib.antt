@@ -8,6 +8,7 @@ pub mod CheckAnswers
 pub mod Crowds
 pub mod Gaps
 pub mod Naming
+pub mod Numberless
 pub mod Residues
 pub mod Turns
 pub mod Uses

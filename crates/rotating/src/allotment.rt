@@ -1,9 +1,12 @@
 //! Registers for values.
 
-ghost use Rattle.std.specs.Prelude.{◌≡◌, ◌<◌, ◌≤◌, IfOk, MatchOption, true, false, length, slice_index, vec_len};
+ghost use Rattle.std.specs.Prelude.{◌≡◌, ◌<◌, ◌≤◌, ℕ, List, IfOk, MatchOption, true, false, length, slice_get, vec_len};
 ghost use Rattle.std.specs.List.{All};
 ghost use Rattle.overlap.specs.Allotments.{IsAllotment, AreLeast, HaveNone, LeastFor, NoneFor, Suits};
+ghost use Rattle.overlap.specs.Lifetimes.{lifetimes_of};
+ghost use Rattle.overlap.specs.declared.lifetime.Lifetime.{Lifetime};
 ghost use Rattle.rotating.specs.CheckAnswers.{CheckAnswers};
+ghost use Rattle.rotating.specs.Numberless.{HasNone};
 ghost use Rattle.rotating.specs.Residues.{IsLifeSpan};
 
 use crate::crowd::are_crowded;
@@ -81,15 +84,16 @@ impl Allotment {
     }
 }
 
-/// Writes the least numbers of these values, and says whether each of them has one. The first value's first
-/// point is the origin, so that no arc goes past the last point around the registers to the first.
+/// Writes the least numbers of these values, up to the first value that has none, whose place is given where
+/// there is one. The first value's first point is the origin, so that no arc goes past the last point around
+/// the registers to the first.
 fn fill_least(
     alloc: Global,
     ii: u64,
     registers: usize,
     lives: &[Lifetime],
     numbers: &mut [usize],
-) -> Result<bool, OutOfMemory>
+) -> Result<Option<usize>, OutOfMemory>
     requires some { 1 ≤ ii }
     requires few { ii ≤ 16384 }
     requires registers_some { 1 ≤ registers }
@@ -97,11 +101,11 @@ fn fill_least(
     requires lives { All IsLifeSpan lives.now }
     requires each { length numbers.old ≡ length lives.now }
     ensures each { length numbers.new ≡ length lives.now }
-    ensures least { result ≡ Ok true → AreLeast ii registers lives.now numbers.new }
-    ensures none { result ≡ Ok false → HaveNone ii registers lives.now }
+    ensures first { IfOk result (λ found. MatchOption found (AreLeast ii registers lives.now numbers.new)
+        (λ place. (life : Lifetime) × (slice_get lives.now place ≡ Some life) × HasNone ii registers lives.now life)) }
 {
     if lives.is_empty() {
-        return Ok(true);
+        return Ok(None);
     }
     let origin = point_of(ii, lives[0].first);
     let mut gaps = Vec::with_capacity(alloc, lives.len())?;
@@ -112,7 +116,7 @@ fn fill_least(
     for k in 0..lives.len() {
         let arc = Arc::of(ii, registers, origin, lives[k]);
         let Some(fit) = least_fit(gaps.as_slice(), registers, arc) else {
-            return Ok(false);
+            return Ok(Some(k));
         };
         numbers[k] = number_of(registers, arc.turn, fit.turn);
         take(
@@ -122,7 +126,7 @@ fn fill_least(
             arc.length,
         )?;
     }
-    Ok(true)
+    Ok(None)
 }
 
 /// As [`fill_least`], but at once where more values live in one cycle than there are registers.
@@ -147,7 +151,7 @@ fn find_least(
     if are_crowded(ii, registers, lives) {
         return Ok(false);
     }
-    fill_least(alloc, ii, registers, lives, numbers)
+    Ok(fill_least(alloc, ii, registers, lives, numbers)?.is_none())
 }
 
 /// So many zeros.
@@ -189,5 +193,35 @@ pub fn allot(
         Ok(Some(Allotment { registers, numbers }))
     } else {
         Ok(None)
+    }
+}
+
+/// The first value, in text order, that has no number behind the least numbers of those before it, by its
+/// lifetime; `None` where all have one. It is the value for which [`allot`] finds no allotment.
+///
+/// # Errors
+/// [`OutOfMemory`] where memory ran out.
+pub fn first_without_number(
+    alloc: Global,
+    schedule: &Schedule,
+    registers: u64,
+) -> Result<Option<Lifetime>, OutOfMemory>
+    requires some { 1 ≤ registers }
+    requires few { registers ≤ 256 }
+    ensures exact { IfOk result (λ found. MatchOption found ((numbers : List ℕ) × AreLeast schedule.now.ii registers (lifetimes_of schedule.now) numbers)
+        (HasNone schedule.now.ii registers (lifetimes_of schedule.now))) }
+{
+    let lives = lifetimes(alloc, schedule)?;
+    let mut numbers = zeros(alloc, lives.len())?;
+    let found = fill_least(
+        alloc,
+        schedule.ii(),
+        registers as usize,
+        lives.as_slice(),
+        numbers.as_mut_slice(),
+    )?;
+    match found {
+        Some(place) => Ok(Some(lives[place])),
+        None => Ok(None),
     }
 }

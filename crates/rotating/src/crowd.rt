@@ -3,9 +3,11 @@
 ghost use Rattle.std.specs.Prelude.{◌≡◌, ◌<◌, ◌≤◌, true, length};
 ghost use Rattle.std.specs.List.{All};
 ghost use Rattle.overlap.specs.Allotments.{HaveNone};
+ghost use Rattle.overlap.specs.Lifetimes.{lifetimes_of};
 ghost use Rattle.rotating.specs.Crowds.{instances_in, crowd_in};
 ghost use Rattle.rotating.specs.Residues.{IsLifeSpan};
 
+use ims::Schedule;
 use machine::limits::MAX_STATEMENTS;
 use overlap::Lifetime;
 
@@ -36,6 +38,16 @@ fn crowd_in(ii: u64, row: u64, lives: &[Lifetime]) -> u64
         crowd += instances_in(ii, row, lives[k]);
     }
     crowd
+}
+
+/// How many registers hold a value in the cycle of a row once the loop runs on and on: the instances of
+/// all values, of whatever iteration, that live in it. The lifetimes are those of the schedule.
+pub fn live_in(schedule: &Schedule, lives: &[Lifetime], row: u64) -> u64
+    requires lives { lives.now ≡ lifetimes_of schedule.now }
+    requires row { row < schedule.now.ii }
+    ensures value { result ≡ crowd_in schedule.now.ii row lives.now (length lives.now) }
+{
+    crowd_in(schedule.ii(), row, lives)
 }
 
 /// Writes how many instances more live in each row than in the one before; fewer are told by wrapping.

@@ -1,6 +1,8 @@
-//! Which numbers make the instances of two values meet in a register: the closed form by which numbers
-//! are found and tested, stated by the contracts of functions that do nothing.
+//! Which numbers make the instances of two values meet in a register, and which instances of a value live in
+//! one cycle: the closed forms by which numbers are found and tested, stated by the contracts of functions that
+//! do nothing.
 
+ghost use Rattle.rotating.specs.Crowds.{AgesAreBetween};
 ghost use Rattle.rotating.specs.Residues.{ForbidsBetween, LawfulMore, ShiftsAreBetween};
 
 /// The differences of iterations at which the instances of two values share a cycle are those from a
@@ -19,4 +21,10 @@ pub fn forbids_between()
 /// the others forbids the number.
 pub fn lawful_more()
     ensures { LawfulMore }
+{}
+
+/// The instances of a value that live in the cycle of a row, in whatever interval, are those whose
+/// iterations began from a least to a greatest number of intervals before.
+pub fn ages_are_between()
+    ensures { AgesAreBetween }
 {}

@@ -16,8 +16,9 @@ mod shift;
 mod turns;
 mod uses;
 
-pub use allotment::{Allotment, allot};
+pub use allotment::{Allotment, allot, first_without_number};
+pub use crowd::live_in;
 pub use emission::emit;
-pub use laws::{forbids_between, lawful_more, shifts_are_between};
+pub use laws::{ages_are_between, forbids_between, lawful_more, shifts_are_between};
 pub use lifetime::lifetimes;
 pub use overlap::Lifetime;

@@ -16,6 +16,11 @@ fn running_sum(rt: HostRuntime) -> Result<(), Fail> {
         edge 1 s 1 s value delay 1 distance 1\n\
         try 2 kernel stages 3\n\
         held by units\n\
+        value t lives 3 to 3 register 0\n\
+        value s lives 2 to 5 register 1\n\
+        row    mem alu live\n\
+        \x20 0    t/0   .    2\n\
+        \x20 1 b[i]/2 s/1    3 full\n\
         loops 1 met 1 failed 0\n";
     ends(&rt, &case_of(WORDS, M1, ACC), 0, text, "")
 }
@@ -26,9 +31,14 @@ fn one_above_the_bounds(rt: HostRuntime) -> Result<(), Fail> {
     let text = "loop lone ops 1 res 2 rec 1 mii 2\n\
         unit u uses 2 full: m*2\n\
         circuit none\n\
-        try 2 table\n\
+        try 2 table: m\n\
         try 3 kernel stages 1\n\
         held by table\n\
+        value m lives 1 to 1 register 0\n\
+        row   u live\n\
+        \x20 0 m/0    0\n\
+        \x20 1   .    1 full\n\
+        \x20 2 m/0    0\n\
         loops 1 met 1 failed 0\n";
     ends(&rt, &case_of(WORDS, M3, LONE), 0, text, "")
 }
@@ -39,7 +49,7 @@ fn no_kernel(rt: HostRuntime) -> Result<(), Fail> {
     let text = "loop lone ops 1 res 2 rec 1 mii 2\n\
         unit u uses 2 full: m*2\n\
         circuit none\n\
-        try 2 table\n\
+        try 2 table: m\n\
         loops 1 met 0 failed 1\n";
     ends(&rt, &case_of(words, M3, LONE), 1, text, "")
 }

@@ -1,6 +1,6 @@
 //! Devices in memory.
 
-ghost use Rattle.std.specs.Prelude.{◌≡◌, ◌+◌, ◌-◌, ◌^◌, ◌<◌, ◌≤◌, length, min, take, [], Some, None, IfOk, IsOk, OnOk, OnErr};
+ghost use Rattle.std.specs.Prelude.{◌≡◌, ◌+◌, ◌-◌, ◌^◌, ◌<◌, ◌≤◌, length, min, take, [], Some, IfOk, IsOk, OnOk, OnErr};
 ghost use Rattle.devices.specs.Devices.{Reads, Writes};
 
 use super::{Fault, Input, Output};

@@ -42,7 +42,7 @@ pub(crate) fn read_alternatives(
     for value in values {
         alternatives.push(read_alternative(alloc, path, units, value)?)?;
     }
-    Ok(Alternatives::new(alternatives))
+    Ok(Alternatives::shared(alternatives)?)
 }
 
 /// An alternative, of the alternatives at this path.

@@ -3,6 +3,7 @@
 use super::*;
 use kernel::simulate;
 use loops::{Memory, RunFault, opening, read_loops};
+use worked_texts::SUM;
 
 /// The memory before the first iteration of the loop of this text.
 fn opened(alloc: Global, text: &str, trip: u64) -> Result<Memory, Fail> {
@@ -32,9 +33,6 @@ fn gives(rt: &impl Abort, memory: &Memory, value: i64) {
     assert_eq!(rt; memory.out_count(), 1);
     assert_eq!(rt; memory.out(0), value);
 }
-
-const SUM: &str =
-    "loop sum\narray a = 1 2\narray c = 10 20\narray b =\nt = load a[i]\nu = load c[i]\nv = add t u\nstore b[i] v\nend\n";
 
 // The second load lands in the register of the first before the addition reads it.
 #[test]

@@ -1,4 +1,4 @@
-use Rattle.std.proofs.Common.{◌≡◌, ◌+◌, ◌-◌, ◌*◌, ◌<◌, ◌≤◌, length, inr, arith}
+use Rattle.std.proofs.Common.{◌-◌, ◌*◌, ◌<◌, ◌≤◌, length, inr, arith}
 use Rattle.graph.specs.Graphs.{IsGraph}
 use Rattle.graph.proofs.Sweeps.{asked_for-limited}
 use Rattle.graph.proofs.recurrence.rec_mii.Goals as goal

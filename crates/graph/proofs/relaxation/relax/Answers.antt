@@ -1,4 +1,4 @@
-use Rattle.std.proofs.Common.{◌≡◌, ℕ, ◌+◌, ◌-◌, ◌<◌, ◌≤◌, length, subst, inl, inr, refl, arith}
+use Rattle.std.proofs.Common.{◌≡◌, ◌+◌, ◌-◌, ◌<◌, ◌≤◌, length, subst, inl, inr, refl, arith}
 use Rattle.graph.specs.Graphs.{IsGraph}
 use Rattle.graph.specs.Reaches.{IsRise}
 use Rattle.graph.specs.Walks.{Exceeds}

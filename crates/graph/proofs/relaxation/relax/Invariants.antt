@@ -1,4 +1,4 @@
-use Rattle.std.proofs.Common.{◌≡◌, ◌⊎◌, ℕ, ◌-◌, ◌*◌, length}
+use Rattle.std.proofs.Common.{◌≡◌, ◌⊎◌, ℕ, ◌-◌, ◌*◌}
 use Rattle.graph.specs.Reaches.{AreReaches, AreVias, IsRise}
 use Rattle.graph.proofs.relaxation.relax.Given as goal
 

@@ -3,8 +3,8 @@ use Rattle.std.proofs.lemmas.List.{get_or_default}
 use Rattle.kernel.specs.Steps.{AreThere}
 use Rattle.kernel.proofs.land.land.Goals as goal
 
-pub land_all-requires : goal.land_all-requires
-land_all-requires c =
+pub land-requires : goal.land-requires
+land-requires c =
     let registers = length c.args.registers.now in
     let arrays = length c.args.memory.now.arrays in
     let trip = c.args.memory.now.trip in

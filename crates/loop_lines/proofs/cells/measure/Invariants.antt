@@ -5,10 +5,10 @@ use Rattle.loop_lines.specs.Words.{words_of}
 use Rattle.loop_lines.proofs.Pieces.{behind}
 use Rattle.loop_lines.proofs.cells.measure.Given as goal
 
-abbrev pub invariant-loop-word : goal.invariant-loop-word
-invariant-loop-word l =
+abbrev pub invariant-loop-cell : goal.invariant-loop-cell
+invariant-loop-cell l =
     (done : List (Option ℤ)) × (ints_of (words_of l.rest) ≡ behind done (ints_of (words_of l.left)))
     × (l.wide ≡ list_any is_none done) × (l.count ≡ length done) × (length done + length (words_of l.left) ≤ length l.rest)
 
-abbrev pub decreases-loop-word : goal.decreases-loop-word
-decreases-loop-word l = length (words_of l.left)
+abbrev pub decreases-loop-cell : goal.decreases-loop-cell
+decreases-loop-cell l = length (words_of l.left)

@@ -1,6 +1,5 @@
 use Rattle.std.proofs.Common.{◌≡◌, ◌++◌, ◌∙◌, ℕ, List, sym, subst, ap, ap₂}
 use Rattle.std.specs.List.{AllZip, flat_map, zip}
-use Rattle.std.proofs.lemmas.Result.{err_from_is_err_and}
 use Rattle.machine.specs.MachineText.{machine_of}
 use Rattle.loops.specs.Meaning.{loops_in}
 use Rattle.ims.specs.Problems.{ProblemData}
@@ -11,20 +10,19 @@ use Rattle.workers.proofs.Answering.{lists_of}
 use Rattle.modsched.specs.Schedule.{are_met}
 use Rattle.modsched.specs.Run.{IsRunText, IsRunnable, choice_lines}
 use Rattle.modsched.proofs.Files.{accepted, file_memory, file_refused, written}
+use Rattle.modsched.proofs.Refusing.{told}
 use Rattle.modsched.proofs.Runnable.{listed_runnable, told_prepared}
 use Rattle.modsched.proofs.kernel_runs.run_text.Goals as goal
 
 pub returns-in_err-prepared-clause-exact : goal.returns-in_err-prepared-clause-exact
 returns-in_err-prepared-clause-exact g c =
-    let p = err_from_is_err_and c.from_residual.result c.from_residual.ensures.1 in
     let r = c.args.settings.now.ratio in
     let k = c.args.settings.now.ceiling in
-    rw (p.1, p.2) (file_refused (PreparesAndLists r k) (IsRunText c.args.trip r k) (machine_of c.args.machine.now) (loops_in c.args.loops.now) _ c.in_err-prepared.ensures.exact)
+    file_refused (PreparesAndLists r k) (IsRunText c.args.trip r k) (machine_of c.args.machine.now) (loops_in c.args.loops.now) _ c.from_residual.result
+    c.from_residual.ensures.1 c.in_err-prepared.ensures.exact
 
 pub returns-in_err-prepared-clause-memory : goal.returns-in_err-prepared-clause-memory
-returns-in_err-prepared-clause-memory g c =
-    let p = err_from_is_err_and c.from_residual.result c.from_residual.ensures.1 in
-    rw (p.1, p.2) (file_memory _)
+returns-in_err-prepared-clause-memory g c = told _ _ c.from_residual.result c.from_residual.ensures.1 (file_memory _)
 
 pub push_rows-requires : goal.push_rows-requires
 push_rows-requires g c =

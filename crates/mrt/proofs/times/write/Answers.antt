@@ -1,4 +1,4 @@
-use Rattle.std.proofs.Common.{◌+◌, eqb, arith}
+use Rattle.std.proofs.Common.{eqb, arith}
 use Rattle.mrt.specs.Times.{is_set}
 use Rattle.mrt.proofs.Timing.{two_written, one_written}
 use Rattle.mrt.proofs.times.write.Goals as goal

@@ -1,4 +1,4 @@
-use Rattle.std.proofs.Common.{ℕ, ◌<◌, List, length}
+use Rattle.std.proofs.Common.{◌<◌, List, length}
 use Rattle.machine.specs.declared.alternative.Row.{Row}
 use Rattle.graph.specs.Uses.{Tallies}
 use Rattle.graph.proofs.Best.{IsBestUpTo}

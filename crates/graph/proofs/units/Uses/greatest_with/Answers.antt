@@ -1,4 +1,4 @@
-use Rattle.std.proofs.Common.{◌≡◌, ◌<◌, List, [], ◌∷◌, ◌++◌, get_or, sym, ap, ◌∙◌, arith}
+use Rattle.std.proofs.Common.{◌≡◌, ◌<◌, [], ◌∷◌, ◌++◌, get_or, sym, ap, ◌∙◌, arith}
 use Rattle.machine.specs.declared.alternative.Row.{Row}
 use Rattle.graph.specs.Units.{greatest_use}
 use Rattle.graph.proofs.Best.{single}

@@ -60,8 +60,8 @@ read c =
       made-all (rows_of c.args.units.now) vs.items _ _ past made ∙ alternatives-rows c.args.path.now _ _ _ c.in-Some-as_array.ensures,
     )
 
-pub new-requires : goal.new-requires
-new-requires c = rw (read c).1 (alternatives-law c.args.path.now _ c.requires _ (read c).0).0
+pub shared-requires : goal.shared-requires
+shared-requires c = rw (read c).1 (alternatives-law c.args.path.now _ c.requires _ (read c).0).0
 
 pub returns : goal.returns
-returns c = let h = read (goal.at.returns c).After-loop-value in (h.0, c.new.ensures ∙ h.1)
+returns c = let h = read (goal.at.returns c).After-loop-value in (h.0, c.in_ok-shared.ensures ∙ h.1)

@@ -1,8 +1,8 @@
 use Rattle.std.proofs.Common.{◌≡◌, ◌%◌, ◌<◌, ℕ, length, sym, arith}
 use Rattle.mrt.specs.Placements.{alternatives_of}
-use Rattle.mrt.proofs.Searching.{IsBest-taken, IsBest-kept, is_free_after, first_slot_some, first_slot_none}
+use Rattle.mrt.proofs.Searching.{IsBest-taken, IsBest-kept, is_free_after, first_slot_at_once, first_slot_some, first_slot_none}
 use Rattle.mrt.proofs.mask.MaskTable.first_by_alternatives.Goals as goal
-use Rattle.mrt.proofs.mask.MaskTable.first_by_alternatives.Goals.{then-cycle-first, else-cycle-first}
+use Rattle.mrt.proofs.mask.MaskTable.first_by_alternatives.Goals.{then-cycle-first+else-cycle-eq0, else-cycle-first}
 
 pub loop-alternative-preserved : goal.loop-alternative-preserved
 loop-alternative-preserved c =
@@ -14,9 +14,18 @@ loop-alternative-preserved c =
     let base : c.args.start % t.interval ≡ c.residue-base.result = rw (← c.self.view_is) (sym c.residue-base.ensures.value) in
     let none : (sooner : ℕ) → sooner < cycle → F sooner k → ⊥ = λ sooner lt. c.first_cycle-cycle.ensures.none_sooner c.args.start sooner base lt in
     elim c.if-cycle-first.branch [
-      | then-cycle-first w ↦ rw (w.first-is, w.best-is) (IsBest-taken F t.interval c.loop-alternative.first c.loop-alternative.best k cycle so_far w.if-cycle-first.true none (c.first_cycle-cycle.ensures.free c.args.start base w.if-cycle-first.true))
+      | then-cycle-first+else-cycle-eq0 w ↦ rw (w.first-is, w.best-is) (IsBest-taken F t.interval c.loop-alternative.first c.loop-alternative.best k cycle so_far w.if-cycle-first.true none (c.first_cycle-cycle.ensures.free c.args.start base w.if-cycle-first.true))
       | else-cycle-first w ↦ rw (w.first-is, w.best-is) (IsBest-kept F t.interval c.loop-alternative.first c.loop-alternative.best k cycle so_far w.if-cycle-first.false none)
     ]
+
+pub returns-then-cycle-eq0 : goal.returns-then-cycle-eq0
+returns-then-cycle-eq0 c =
+    let t = c.args.self.now in
+    let k = c.loop-alternative.alternative in
+    let base : c.args.start % t.interval ≡ c.residue-base.result = rw (← c.self.view_is) (sym c.residue-base.ensures.value) in
+    let free = c.first_cycle-cycle.ensures.free c.args.start base c.if-cycle-first.true in
+    let now = rw c.if-cycle-eq0.true at free in
+    first_slot_at_once t.interval t.operations t.placed c.args.op c.args.start c.loop-alternative.first c.loop-alternative.best k c.loop-alternative.invariant (omega (arith, c.if-cycle-first.true)) now
 
 pub returns-then-first-cycles : goal.returns-then-first-cycles
 returns-then-first-cycles c =

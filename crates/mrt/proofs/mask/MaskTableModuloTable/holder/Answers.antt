@@ -10,7 +10,6 @@ use Rattle.mrt.proofs.Choosing.{row_within}
 use Rattle.mrt.proofs.Taking.{row_at}
 use Rattle.mrt.proofs.Masking.{test_clear, unmarked, nobody_holds, holder_of_taker}
 use Rattle.mrt.proofs.mask.MaskTableModuloTable.holder.Goals as goal
-use Rattle.mrt.proofs.mask.MaskTableModuloTable.holder.Goals.{After-index}
 
 zero : Slot
 zero = record { row = record { unit = 0; offset = 0 }; turn = 0; mask = 0 }

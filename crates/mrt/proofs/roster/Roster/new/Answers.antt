@@ -1,5 +1,4 @@
-use Rattle.std.proofs.Common.{◌≡◌, ℕ, ◌+◌, ◌<◌, ◌++◌, ◌∷◌, [], List, length, get_or, None, replicate, map, take, sym, ap, ◌∙◌, arith, rules}
-use Rattle.std.specs.List.{All}
+use Rattle.std.proofs.Common.{◌≡◌, ◌+◌, ◌<◌, ◌++◌, ◌∷◌, [], List, length, get_or, None, replicate, take, sym, ap, ◌∙◌, arith, rules}
 use Rattle.std.proofs.lemmas.List.{take_all, take_more, length_push, get_or_default}
 use Rattle.std.proofs.lemmas.List.Elements.{All-push, All-contains}
 use Rattle.mrt.specs.declared.roster.Group.{Group}

@@ -1,0 +1,93 @@
+//! What is behind the failure of an interval.
+
+ghost use Rattle.std.specs.Prelude.{◌≡◌, ◌≢◌, ◌≤◌, IfOk, Some};
+ghost use Rattle.ims.specs.Culprits.{AnswersCulprit};
+ghost use Rattle.ims.specs.Problems.{IsProblem, budget_of, mii_of};
+ghost use Rattle.candidates.specs.Choices.{last_of};
+ghost use Rattle.candidates.specs.Outcomes.{FailsBy, LacksRegisters};
+ghost use Rattle.explain.specs.Reasons.{IsReason, LacksFor, cause_of};
+
+use candidates::Cause;
+use ims::{Culprit, Prepared, Try, attempt, culprit};
+use machine::OutOfMemory;
+use mrt::MaskTable;
+use rotating::{Lifetime, first_without_number};
+use std::alloc::Global;
+
+/// What is behind the failure of an interval.
+#[derive(Debug, Drop)]
+pub(crate) enum Reason {
+    /// What keeps the attempt from a schedule.
+    Attempt(Culprit),
+    /// The first value of the schedule that has no register.
+    Register(Lifetime),
+}
+
+/// How many placements an attempt may make.
+pub(crate) fn budget(prepared: &Prepared) -> u64
+    ensures value { result ≡ budget_of prepared.now }
+    ensures few { result ≤ 8192 }
+    ensures well_formed { IsProblem prepared.now }
+{
+    let operations = prepared.operations() as u64;
+    prove!(operations <= 128);
+    prepared.ratio() * operations
+}
+
+/// What keeps the attempt from a schedule, where an interval fails by another cause than registers.
+fn culprit_of(
+    alloc: Global,
+    prepared: &Prepared,
+    ii: u64,
+    _cause: Cause,
+) -> Result<Culprit, OutOfMemory>
+    requires from_mii { mii_of prepared.now ≤ ii }
+    requires to_last { ii ≤ last_of prepared.now }
+    requires fails { FailsBy prepared.now ii _cause }
+    requires attempt { _cause ≢ Cause.Registers }
+    ensures same { IfOk result (λ culprit. cause_of (Reason.Attempt culprit) ≡ _cause) }
+    ensures exact { IfOk result (λ culprit. AnswersCulprit prepared.now ii (budget_of prepared.now) (Some culprit)) }
+{
+    match culprit::<MaskTable>(alloc, prepared, ii, budget(prepared))? {
+        Some(culprit) => Ok(culprit),
+        None => unreachable!(),
+    }
+}
+
+/// The first value that has no register, where an interval lacks registers.
+fn life_without(alloc: Global, prepared: &Prepared, ii: u64) -> Result<Lifetime, OutOfMemory>
+    requires from_mii { mii_of prepared.now ≤ ii }
+    requires to_last { ii ≤ last_of prepared.now }
+    requires lacks { LacksRegisters prepared.now ii }
+    ensures { IfOk result (LacksFor prepared.now ii) }
+{
+    match attempt::<MaskTable>(alloc, prepared, ii, budget(prepared))? {
+        Try::Placed(schedule) => {
+            let registers = u64::from(prepared.registers());
+            match first_without_number(alloc, &schedule, registers)? {
+                Some(life) => Ok(life),
+                None => unreachable!(),
+            }
+        }
+        Try::Failed(_) => unreachable!(),
+    }
+}
+
+/// What is behind the failure of an interval, in cycles, with its cause.
+pub(crate) fn reason_of(
+    alloc: Global,
+    prepared: &Prepared,
+    ii: u64,
+    cause: Cause,
+) -> Result<Reason, OutOfMemory>
+    requires from_mii { mii_of prepared.now ≤ ii }
+    requires to_last { ii ≤ last_of prepared.now }
+    requires fails { FailsBy prepared.now ii cause }
+    ensures same { IfOk result (λ reason. cause_of reason ≡ cause) }
+    ensures exact { IfOk result (IsReason prepared.now ii) }
+{
+    match cause {
+        Cause::Registers => Ok(Reason::Register(life_without(alloc, prepared, ii)?)),
+        _ => Ok(Reason::Attempt(culprit_of(alloc, prepared, ii, cause)?)),
+    }
+}

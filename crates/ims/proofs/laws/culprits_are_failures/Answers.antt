@@ -1,0 +1,5 @@
+use Rattle.ims.proofs.Blaming.{culprits-are_failures}
+use Rattle.ims.proofs.laws.culprits_are_failures.Goals as goal
+
+pub returns : goal.returns
+returns c = culprits-are_failures

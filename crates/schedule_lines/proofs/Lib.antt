@@ -1,0 +1,6 @@
+pub mod Lines
+pub mod Lives
+pub mod Marks
+pub mod OneTaker
+pub mod Texts
+pub mod Widths

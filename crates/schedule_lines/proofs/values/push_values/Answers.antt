@@ -1,0 +1,27 @@
+use Rattle.std.proofs.Common.{◌≡◌, ◌<◌, ℕ, List, ◌++◌, length, get_or, sym, ap, ◌∙◌, subst}
+use Rattle.std.specs.List.{All, flat_map, range_with_len}
+use Rattle.std.proofs.lemmas.List.{flat_map_more}
+use Rattle.iterations.specs.Loops.{LoopData}
+use Rattle.graph_text.proofs.Texts.{numbers-push}
+use Rattle.ims.specs.Problems.{ProblemData}
+use Rattle.overlap.specs.declared.lifetime.Lifetime.{Lifetime}
+use Rattle.rotating.specs.Crowds.{nobody}
+use Rattle.schedule_lines.specs.ScheduleTexts.{value_line}
+use Rattle.schedule_lines.proofs.Lives.{lives-within}
+use Rattle.schedule_lines.proofs.values.push_values.Goals as goal
+
+pub push_value-requires : goal.push_value-requires
+push_value-requires c =
+    let schedule = c.args.schedule.now in
+    let same : c.innermost-innermost.result.now ≡ schedule.problem.loop
+    = c.innermost-innermost.ensures.value ∙ ap (λ (p : ProblemData). p.loop) c.prepared.ensures.value in
+    let all : All (λ (life : Lifetime). life.operation < length schedule.problem.loop.statements) c.args.lives.now
+    = subst (All (λ (life : Lifetime). life.operation < length schedule.problem.loop.statements)) (sym c.requires.lives) (lives-within schedule) in
+    subst (λ (loop : LoopData). (get_or c.args.lives.now c.loop-k.k nobody).operation < length loop.statements) (sym same) (all c.loop-k.k nobody c.loop-k-test.true)
+
+pub loop-k-preserved : goal.loop-k-preserved
+loop-k-preserved c =
+    let k = c.loop-k.k in
+    let old = c.args.text.now.items in
+    let f : ℕ → List ℕ = λ i. value_line c.innermost-innermost.result.now (get_or c.args.lives.now i nobody) (get_or c.args.numbers.now i 0) in
+    c.in_ok-push_value.ensures.ok ∙ ap (λ t. t ++ f k) c.loop-k.invariant ∙ flat_map_more f old (range_with_len 0 k) k ∙ ap (λ ns. old ++ flat_map f ns) (sym (numbers-push k))

@@ -1,0 +1,55 @@
+-- The grid of a schedule: its columns, their widths, and its lines.
+use Rattle.std.specs.Prelude.{ℕ, ◌-◌, ◌==◌, ◌&&◌, nat_lt, Bool, if◌then◌else◌, codes, decimal, List, [], ◌∷◌, ◌++◌, length, filter, map, replicate}
+use Rattle.std.specs.List.{flat_map, range_with_len, slice_index_or}
+use Rattle.machine.specs.Machines.{MachineData}
+use Rattle.graph.specs.Units.{greatest_of}
+use Rattle.ims.specs.Schedules.{ScheduleData}
+use Rattle.schedule_lines.specs.Slots.{greatest_live, is_used, live_count, live_counts, rows_in, slot_text}
+
+-- the width of a column: the length of its longest cell, in bytes
+abbrev pub width_of : List (List ℕ) → ℕ
+width_of cells = greatest_of (map length cells)
+
+-- a cell that stands to the right in its column, and the same behind a blank
+abbrev pub padded : ℕ → List ℕ → List ℕ
+padded width cell = replicate (width - length cell) 32 ++ cell
+
+abbrev pub cell_behind : ℕ → List ℕ → List ℕ
+cell_behind width cell = codes " " ++ padded width cell
+
+-- the units that some operation takes, in the machine's order
+unfoldable pub used_units : MachineData → ScheduleData → List ℕ
+used_units machine schedule = filter (is_used schedule) (range_with_len 0 (length machine.units))
+
+abbrev pub unit_name : MachineData → ℕ → List ℕ
+unit_name machine unit = slice_index_or machine.units unit []
+
+-- the first column: `row`, and the numbers of the rows
+unfoldable pub row_width : ScheduleData → ℕ
+row_width schedule = width_of (codes "row" ∷ map decimal (rows_in schedule))
+
+-- the column of a unit: its name, and what stands in its slots
+unfoldable pub unit_width : MachineData → ScheduleData → ℕ → ℕ
+unit_width machine schedule unit = width_of (unit_name machine unit ∷ map (slot_text schedule unit) (rows_in schedule))
+
+-- the last column: `live`, and how many registers are live in each row
+unfoldable pub live_width : ScheduleData → ℕ
+live_width schedule = width_of (codes "live" ∷ map decimal (live_counts schedule))
+
+-- what marks a row in which as many registers are live as in the fullest one, and at least one
+abbrev pub full_mark : ℕ → ℕ → List ℕ
+full_mark count greatest = if nat_lt 0 count && (count == greatest) then codes " full" else []
+
+-- the line of the names of the columns
+unfoldable pub head_line : MachineData → ScheduleData → List ℕ
+head_line machine schedule =
+    padded (row_width schedule) (codes "row")
+    ++ (flat_map (λ unit. cell_behind (unit_width machine schedule unit) (unit_name machine unit)) (used_units machine schedule)
+    ++ (cell_behind (live_width schedule) (codes "live") ++ codes "\n"))
+
+-- the line of a row
+unfoldable pub row_line : MachineData → ScheduleData → ℕ → List ℕ
+row_line machine schedule row =
+    padded (row_width schedule) (decimal row)
+    ++ (flat_map (λ unit. cell_behind (unit_width machine schedule unit) (slot_text schedule unit row)) (used_units machine schedule)
+    ++ (cell_behind (live_width schedule) (decimal (live_count schedule row)) ++ (full_mark (live_count schedule row) (greatest_live schedule) ++ codes "\n")))

@@ -1,0 +1,4 @@
+pub mod Slots
+pub mod Columns
+pub mod ScheduleTexts
+pub mod inner

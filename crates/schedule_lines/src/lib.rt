@@ -1,0 +1,17 @@
+//! Schedules as text: when each value lives and in which register, and the modulo reservation table as a grid.
+#![tactic(auto)]
+
+mod cells;
+mod columns;
+mod counts;
+mod grid;
+mod laws;
+mod schedule;
+mod slots;
+mod takers;
+#[cfg(test)]
+mod tests;
+mod values;
+
+pub use laws::slots_have_one_taker;
+pub use schedule::push_schedule;
