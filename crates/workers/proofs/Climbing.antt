@@ -24,16 +24,6 @@ pub record Climbed (p : ProblemData) (old now : LoopCells) (above retried : ℕ)
   pub long : length now.cells.items ≡ length old.cells.items
   pub rest : (a : ℕ) → above ≤ a → known_at now.cells.items a ≡ known_at old.cells.items a
 
-pub climbed_none : (p : ProblemData) (row : LoopCells) (last : Cause) → Climbed p row row 0 0 last
-climbed_none p row last = record {
-  none = λ ii kernel low less g. absurd (omega arith);
-  fails = λ k is. absurd (omega arith);
-  count = refl;
-  few = omega arith;
-  long = refl;
-  rest = λ a past. refl;
-}
-
 pub plus_one : (n : ℕ) → suc n ≡ n + 1
 plus_one n = omega arith
 

@@ -1,8 +1,7 @@
 -- What a cell more that is full comes to.
-use Rattle.std.proofs.Common.{◌≡◌, ℕ, zero, suc, ◌+◌, ◌-◌, ◌<◌, ◌≤◌, ⊎_elim, Bool, true, false, List, [], ◌∷◌, ◌++◌, length, sym, refl, ap, ◌∙◌, subst, arith, slice_index_or, slice_set}
+use Rattle.std.proofs.Common.{◌≡◌, ℕ, zero, suc, ◌+◌, ◌-◌, ◌<◌, ◌≤◌, ⊎_elim, Bool, true, false, List, [], ◌∷◌, length, sym, refl, ap, ◌∙◌, subst, arith, slice_index_or, slice_set}
 use Rattle.std.specs.Prelude.{◌||◌, ◌&&◌, ◌==◌, Option, Some}
-use Rattle.std.specs.List.{AllZip, list_any}
-use Rattle.std.proofs.lemmas.List.Folds.{list_any-append}
+use Rattle.std.specs.List.{AllZip}
 use Rattle.std.proofs.lemmas.Bool.{cases_lt}
 use Rattle.std.proofs.lemmas.Bool.Decides.{nat_tests}
 use Rattle.workers.specs.declared.cells.Settled.{Settled}
@@ -121,19 +120,3 @@ inside_row p row ii m is high same = let l = is.long in omega arith
 
 pub split_at : (ii m q : ℕ) → m ≡ q → q ≤ ii → ii ≡ q + (ii - m)
 split_at ii m q same low = omega arith
-
--- of (f or (the rest or the last)) and ((f or the last) or the rest)
-pub turned_or : (f rest last : Bool) → ((f || last) || rest) ≡ (f || (rest || last))
-turned_or true rest last = refl
-turned_or false true true = refl
-turned_or false true false = refl
-turned_or false false true = refl
-turned_or false false false = refl
-
-pub last_moved : {X : Type 0} (test : X → Bool) (xs all : List X) (x : X) (f g : Bool) → all ≡ xs ++ x ∷ [] → g ≡ (f || test x) → (g || list_any test xs) ≡ (f || list_any test all)
-last_moved test xs all x f g is moved =
-    ap (λ b. b || list_any test xs) moved ∙ turned_or f (list_any test xs) (test x)
-    ∙ ap (λ b. f || (list_any test xs || b)) (or_false (test x)) ∙ ap (λ b. f || b) (sym (list_any-append test xs (x ∷ []))) ∙ ap (λ ys. f || list_any test ys) (sym is)
-
-pub none_moved : {X : Type 0} (test : X → Bool) (xs : List X) (f : Bool) → xs ≡ [] → f ≡ (f || list_any test xs)
-none_moved test xs f is = or_false f ∙ ap (λ ys. f || list_any test ys) (sym is)

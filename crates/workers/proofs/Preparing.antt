@@ -8,8 +8,7 @@ use Rattle.graph.specs.TablesAnswer.{TablesAnswer}
 use Rattle.graph.specs.declared.fault.GraphFault.TheVariants as graph_fault
 use Rattle.graph.specs.Units.{first_without_table, first_lacking, lacking_or}
 use Rattle.ims.specs.Problems.{ProblemData, IsProblemOf}
-use Rattle.workers.specs.declared.faults.FileFault.{FileFault}
-use Rattle.workers.specs.declared.faults.FileFault.TheVariants.{Machine, Loops, NoTable, Memory}
+use Rattle.workers.specs.declared.faults.FileFault.TheVariants.{NoTable}
 use Rattle.workers.specs.Files.{AnswersOn, ArePrepared}
 
 module _ {A : Type 0} (P : A → Type 0) (name : List ℕ) where
@@ -26,24 +25,10 @@ module _ {A : Type 0} (P : A → Type 0) (name : List ℕ) where
   ok_of None x a = (refl, a)
   ok_of (Some o) x a = cc
 
--- the fault of a loop is that of the loops from it on
-pub fault_of : {A B : Type 0} (P : A → Type 0) (Q : B → Type 0) (name : List ℕ) (missing : Option Opcode) (rest : Option (List ℕ × Opcode)) (fault : FileFault)
-    → AnswersOn P (lacking_or name missing None) (Err fault) → AnswersOn Q (lacking_or name missing rest) (Err fault)
-fault_of P Q name missing rest Memory a = tt
-fault_of P Q name None rest (Machine f) a = absurd a
-fault_of P Q name None rest (Loops f) a = absurd a
-fault_of P Q name None rest (NoTable n o) a = absurd a
-fault_of P Q name (Some x) rest (Machine f) a = cc
-fault_of P Q name (Some x) rest (Loops f) a = cc
-fault_of P Q name (Some x) rest (NoTable n o) a = cc
-
 -- the first loops are prepared, and none of them lacks a table
 pub record Readied (machine : MachineData) (ratio ceiling : ℕ) (all left : List LoopData) (problems : List ProblemData) : Type 0 where
   pub zip : (more : List ProblemData) → ArePrepared machine ratio ceiling left more → ArePrepared machine ratio ceiling all (problems ++ more)
   pub lacking : first_lacking machine all ≡ first_lacking machine left
-
-pub readied_none : (machine : MachineData) (ratio ceiling : ℕ) (all : List LoopData) → Readied machine ratio ceiling all all []
-readied_none machine ratio ceiling all = record { zip = λ more h. h; lacking = refl }
 
 pub readied_on : (machine : MachineData) (ratio ceiling : ℕ) (all before left : List LoopData) (problems after : List ProblemData) (x : LoopData) (p : ProblemData)
     → Readied machine ratio ceiling all before problems → before ≡ x ∷ left → after ≡ problems ++ p ∷ []
@@ -68,10 +53,3 @@ readied_all machine ratio ceiling all left problems r long =
       subst (ArePrepared machine ratio ceiling all) (append-nil problems) (r.zip [] (subst (λ ls. ArePrepared machine ratio ceiling ls []) (sym none) tt)),
       r.lacking ∙ ap (first_lacking machine) none,
     )
-
--- a fault at the next loop
-pub readied_fault : {A B : Type 0} (P : A → Type 0) (Q : B → Type 0) (machine : MachineData) (ratio ceiling : ℕ) (all before left : List LoopData) (problems : List ProblemData) (x : LoopData) (fault : FileFault)
-    → Readied machine ratio ceiling all before problems → before ≡ x ∷ left
-    → AnswersOn P (lacking_or x.name (first_without_table machine x) None) (Err fault) → AnswersOn Q (first_lacking machine all) (Err fault)
-readied_fault P Q machine ratio ceiling all before left problems x fault r at a =
-    subst (λ o. AnswersOn Q o (Err fault)) (sym (r.lacking ∙ ap (first_lacking machine) at)) (fault_of P Q x.name (first_without_table machine x) (first_lacking machine left) fault a)

@@ -206,15 +206,3 @@ halfway_on tells v w u l start count won wins before now next same h e = record 
 
     next_one : ii + 1 ≡ mii_at before.loops l + (start + suc count)
     next_one = ap (λ ps. mii_at ps l + (start + count) + 1) same ∙ shift (mii_at before.loops l) start count
-
-pub halfway_none : (tells : Bool) (v : View) (l start : ℕ) (before now : ReportData) → now.entries ≡ before.entries → now.lost ≡ before.lost → Halfway tells v v l start 0 false before now
-halfway_none tells v l start before now same lost = record {
-  adds = record {
-    new = [];
-    entries = same ∙ sym (append-nil before.entries);
-    lost = lost;
-    places = refl;
-    gains = λ t. record { drawn = refl; posted = sym (append-nil v.posted); seen = λ s at. at; count = refl; beaten = λ e at. absurd at };
-  };
-  below = λ t. absurd (false≢true t);
-}

@@ -1,5 +1,5 @@
 //! What is known of each interval.
-ghost use Rattle.std.specs.Prelude.{◌≡◌, ◌<◌, ◌≤◌, ◌+◌, ◌||◌, ℕ, length, None, Some, IfOk, replicate};
+ghost use Rattle.std.specs.Prelude.{◌≡◌, ◌<◌, ◌+◌, ◌||◌, ℕ, length, None, Some, IfOk, replicate};
 ghost use Rattle.std.specs.List.{All, AllZip, list_any, slice_set};
 ghost use Rattle.workers.specs.Entries.{IsEntry, is_settled_in, settles};
 ghost use Rattle.workers.specs.Worked.{mii_at};

@@ -1,7 +1,7 @@
 //! A loop's choice, from what is known of its intervals.
 ghost use Rattle.std.specs.Prelude.{◌≡◌, ◌<◌, ◌≤◌, ◌+◌, length, None, IfOk, if◌then◌else◌};
 ghost use Rattle.std.specs.List.{slice_set};
-ghost use Rattle.ims.specs.Problems.{IsProblem, mii_of};
+ghost use Rattle.ims.specs.Problems.{mii_of};
 ghost use Rattle.candidates.specs.Outcomes.{Gives};
 ghost use Rattle.candidates.specs.Choices.{IsChoice};
 ghost use Rattle.workers.specs.Gathered.{tried};

@@ -1,9 +1,9 @@
 //! What is chosen for each loop, from reports.
-ghost use Rattle.std.specs.Prelude.{◌≡◌, ◌<◌, ◌≤◌, ◌+◌, ◌++◌, ◌∷◌, ℕ, false, length, [], IfOk};
+ghost use Rattle.std.specs.Prelude.{◌≡◌, ◌<◌, ◌≤◌, ◌+◌, ◌++◌, ◌∷◌, length, [], IfOk};
 ghost use Rattle.std.specs.List.{All, AllZip};
 ghost use Rattle.candidates.specs.Choices.{IsChoice};
-ghost use Rattle.workers.specs.Gathered.{retried_from, tried};
-ghost use Rattle.workers.specs.Cells.{AddsChoice, ChosenData, IsFirst, AreCellsOf, known_in, empty_from, is_full};
+ghost use Rattle.workers.specs.Gathered.{retried_from};
+ghost use Rattle.workers.specs.Cells.{AddsChoice, ChosenData, IsFirst, AreCellsOf};
 
 use crate::cells::{LoopCells, empty_cells, fill};
 use crate::climbs::climb;

@@ -1,5 +1,5 @@
 //! Workers in threads, and the choices that their reports come to.
-ghost use Rattle.std.specs.Prelude.{◌≡◌, ◌≤◌, ◌+◌, ℕ, [], IfOk, IsTrue, length, vec_len};
+ghost use Rattle.std.specs.Prelude.{◌≡◌, ◌≤◌, ◌+◌, [], IfOk, IsTrue, length, vec_len};
 ghost use Rattle.std.specs.List.{All, AllZip};
 ghost use Rattle.board.specs.Boards.{IsNewPassOf, sizes_of};
 ghost use Rattle.board.specs.Names.{terms_of};
