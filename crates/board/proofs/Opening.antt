@@ -9,7 +9,7 @@ use Rattle.board.specs.declared.view.View.{View}
 use Rattle.board.specs.declared.view.Terms.{Terms}
 use Rattle.board.specs.Views.{blank}
 use Rattle.board.specs.Rule.{total, occurrences, times_posted, least_of, IsLeastPosted, IsTrueAnswer, IsWithinParts, IsWithinLimits}
-use Rattle.board.specs.Steps.{Keeps}
+use Rattle.board.specs.inner.Steps.{Keeps}
 use Rattle.board.proofs.Totals.{total_set, total-append, all_set}
 use Rattle.board.proofs.Steps.{least_moves, answers_move, all_one, interval_none}
 

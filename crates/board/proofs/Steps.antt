@@ -12,7 +12,7 @@ use Rattle.board.specs.declared.view.View.{View}
 use Rattle.board.specs.declared.view.Terms.{Terms}
 use Rattle.board.specs.Views.{is_dry, with_drawn, with_posted, with_seen, IsAtMost, IsNoLater}
 use Rattle.board.specs.Rule.{total, occurrences, times_posted, times_drawn, IsPosted, next_of, interval_of, least_of, IsLeastPosted, EachWordIsLeast, IsTrueAnswer, IsWithinParts, Rule, IsWithinLimits}
-use Rattle.board.specs.Steps.{PassState, Keeps, loop_of_word, Drew, Looked, Posted}
+use Rattle.board.specs.inner.Steps.{PassState, Keeps, loop_of_word, Drew, Looked, Posted}
 use Rattle.board.proofs.Totals.{total_set, total_at, occurrences-append, times_posted-append, beyond-append, all_times, all_times_posted, all_at, all_set, all_by}
 use Rattle.board.proofs.Words.{next_bounded}
 

@@ -1,7 +1,6 @@
 pub mod Core
 pub mod Views
 pub mod Rule
-pub mod Steps
 pub mod Names
 pub mod Boards
 pub mod Together
@@ -9,3 +8,4 @@ pub mod Closes
 pub mod Last
 pub mod Events
 pub mod Drawing
+pub mod inner

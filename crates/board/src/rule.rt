@@ -1,5 +1,5 @@
 //! The rule of the shared table, and its steps.
-ghost use Rattle.board.specs.Steps.{Keeps, Drew, Looked, Posted, rest_of, both};
+ghost use Rattle.board.specs.inner.Steps.{Keeps, Drew, Looked, Posted, rest_of, both};
 ghost use Rattle.board.specs.Views.{blank};
 
 use crate::view::{Terms, View};

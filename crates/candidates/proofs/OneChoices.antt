@@ -1,7 +1,7 @@
 -- A loop has one choice.
 use Rattle.std.proofs.Common.{◌≡◌, ℕ, ◌<◌, ◌≤◌, ⊎_elim, sym, ap, ◌∙◌, subst, arith}
 use Rattle.std.proofs.lemmas.Bool.{cases_lt}
-use Rattle.kernel.specs.declared.parts.Parts.{Parts}
+use Rattle.kernel.specs.declared.kernels.parts.Parts.{Parts}
 use Rattle.candidates.specs.declared.outcomes.Outcome.{Outcome}
 use Rattle.candidates.specs.declared.outcomes.Outcome.TheVariants as given
 use Rattle.candidates.specs.declared.choices.Choice.{Choice}

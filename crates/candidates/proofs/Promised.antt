@@ -2,22 +2,22 @@
 use Rattle.std.proofs.Common.{◌≡◌, ℕ, ◌≤◌, List, [], ◌∷◌, refl, sym, ap, ◌∙◌, subst}
 use Rattle.std.specs.List.{AllZip}
 use Rattle.machine.specs.Machines.{MachineData}
-use Rattle.machine.specs.declared.alternative.Row.{Row}
+use Rattle.machine.specs.declared.issues.alternative.Row.{Row}
 use Rattle.iterations.specs.Loops.{LoopData}
 use Rattle.graph.specs.Schedules.{IsLawfulSchedule}
 use Rattle.ims.specs.Problems.{ProblemData, IsProblemOf}
 use Rattle.ims.specs.Schedules.{ScheduleData, IsSchedule}
-use Rattle.ims.proofs.OneProblems.{one-problem}
-use Rattle.ims.proofs.Promised.{problems-have}
-use Rattle.kernel.specs.declared.parts.Parts.{Parts}
+use Rattle.ims.proofs.problems.OneProblems.{one-problem}
+use Rattle.ims.proofs.answers.Promised.{problems-have}
+use Rattle.kernel.specs.declared.kernels.parts.Parts.{Parts}
 use Rattle.kernel.specs.Overlapped.{overlapped}
 use Rattle.overlap.specs.Allotments.{AllotmentData, IsAllotment, Suits}
 use Rattle.overlap.specs.Emission.{emitted}
 use Rattle.overlap.specs.Lifetimes.{lifetimes_of}
 use Rattle.overlap.specs.Overlap.{times_of, choices_of, RunsAsLoop}
 use Rattle.overlap.proofs.End.{overlap-is_sequence}
-use Rattle.overlap.proofs.Kept.{kernels-keep_schedules}
-use Rattle.overlap.proofs.Least.{least-is_lawful}
+use Rattle.overlap.proofs.in_flight.Kept.{kernels-keep_schedules}
+use Rattle.overlap.proofs.in_registers.Least.{least-is_lawful}
 use Rattle.candidates.specs.declared.choices.Choice.{Choice}
 use Rattle.candidates.specs.declared.choices.Choice.TheVariants.{Met, Failed}
 use Rattle.candidates.specs.declared.listings.Row as row

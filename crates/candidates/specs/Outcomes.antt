@@ -1,12 +1,12 @@
 -- What a loop gives at an interval: a kernel, or the cause for which it gives none.
 use Rattle.std.specs.Prelude.{◌≡◌, ℕ, ◌≤◌}
-use Rattle.ims.specs.declared.attempts.Try.TheVariants as try
-use Rattle.ims.specs.declared.attempts.Failure.{Failure}
-use Rattle.ims.specs.declared.attempts.Failure.TheVariants as failure
+use Rattle.ims.specs.declared.outcome.attempts.Try.TheVariants as try
+use Rattle.ims.specs.declared.outcome.attempts.Failure.{Failure}
+use Rattle.ims.specs.declared.outcome.attempts.Failure.TheVariants as failure
 use Rattle.ims.specs.Attempts.{AnswersAttempt}
 use Rattle.ims.specs.Problems.{ProblemData, IsProblem, mii_of, budget_of}
 use Rattle.ims.specs.Schedules.{ScheduleData}
-use Rattle.kernel.specs.declared.parts.Parts.{Parts}
+use Rattle.kernel.specs.declared.kernels.parts.Parts.{Parts}
 use Rattle.overlap.specs.Allotments.{AllotmentData, LeastFor, NoneFor}
 use Rattle.overlap.specs.Emission.{emitted}
 use Rattle.candidates.specs.declared.outcomes.Cause.{Cause}

@@ -7,7 +7,7 @@ use Rattle.graph.specs.Graphs.{GraphData, IsGraphOf}
 use Rattle.graph.specs.Schedules.{IsLawfulSchedule}
 use Rattle.graph.specs.Units.{operations_of}
 use Rattle.ims.specs.Problems.{ProblemData, IsProblemOf}
-use Rattle.kernel.specs.declared.parts.Parts.{Parts}
+use Rattle.kernel.specs.declared.kernels.parts.Parts.{Parts}
 use Rattle.overlap.specs.Overlap.{times_of, choices_of, RunsAsLoop}
 use Rattle.candidates.specs.declared.choices.Choice.{Choice}
 use Rattle.candidates.specs.declared.choices.Choice.TheVariants.{Met, Failed}

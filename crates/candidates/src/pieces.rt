@@ -1,6 +1,6 @@
 //! How the intervals of loops are cut into pieces.
 ghost use Rattle.std.specs.Prelude.{◌≡◌, ◌≤◌, ◌<◌, ◌+◌, ◌*◌, ◌/◌};
-ghost use Rattle.candidates.specs.Pieces.{PiecesData, IsCutting, piece_count, groups_of, loop_of_piece, start_of_piece, end_of_piece};
+ghost use Rattle.candidates.specs.Pieces.{PiecesData, IsCutting, piece_count, loop_of_piece, start_of_piece, end_of_piece};
 
 use std::marker::Model;
 

@@ -13,7 +13,7 @@ use Rattle.std.proofs.Math.Nat.{mul-add}
 use Rattle.graph.specs.Dependences.{EdgeData}
 use Rattle.graph.specs.Graphs.{GraphData, IsGraph}
 use Rattle.graph.specs.Walks.{IsWalk, delay_of, distance_of}
-use Rattle.graph.proofs.Circuits.{IsWalk-append, delay_of-append, distance_of-append}
+use Rattle.graph.proofs.walks.Circuits.{IsWalk-append, delay_of-append, distance_of-append}
 use Rattle.circuits.specs.Circuits.{IsCircuitAbove}
 use Rattle.circuits.specs.inner.Layers.{IsReturn}
 use Rattle.circuits.proofs.Returns.{GoesOnOnce}

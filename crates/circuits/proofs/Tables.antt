@@ -11,9 +11,9 @@ use Rattle.graph.specs.Dependences.{EdgeData}
 use Rattle.graph.specs.Graphs.{GraphData, IsGraph}
 use Rattle.graph.specs.Reaches.{KeepsNumber}
 use Rattle.graph.specs.Walks.{IsWalk, delay_of, distance_of, FitsCircuits}
-use Rattle.graph.proofs.Circuits.{IsWalk-append, delay_of-append, distance_of-append}
-use Rattle.graph.proofs.Raises.{all-from_filter, contained-from_filter}
-use Rattle.graph.proofs.Sweeps.{fits-from_kept_numbers, keeps-from_each}
+use Rattle.graph.proofs.walks.Circuits.{IsWalk-append, delay_of-append, distance_of-append}
+use Rattle.graph.proofs.walks.Raises.{all-from_filter, contained-from_filter}
+use Rattle.graph.proofs.walks.Sweeps.{fits-from_kept_numbers, keeps-from_each}
 use Rattle.circuits.specs.declared.layer.Layer.{Layer}
 use Rattle.circuits.specs.inner.Layers.{LeadsOn, IsLayer}
 use Rattle.circuits.proofs.Rounds.{Rises}

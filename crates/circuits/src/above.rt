@@ -2,7 +2,7 @@
 
 ghost use Rattle.std.specs.Prelude.{◌≡◌, ◌≢◌, ◌≤◌, ◌==◌, position, IfOk, MatchOption};
 ghost use Rattle.std.specs.List.{AllPairs};
-ghost use Rattle.graph.specs.declared.edge.Edge.{Edge};
+ghost use Rattle.graph.specs.declared.dependence.edge.Edge.{Edge};
 ghost use Rattle.graph.specs.Walks.{FitsCircuits};
 ghost use Rattle.circuits.specs.Circuits.{IsCircuitAbove};
 ghost use Rattle.circuits.specs.inner.Layers.{IsReturn};

@@ -1,8 +1,8 @@
 //! The longest walks from each operation at an interval, by how many edges they may have.
 
-ghost use Rattle.std.specs.Prelude.{◌≡◌, ◌≢◌, ℕ, pos, ◌*◌, ◌+◌, ◌+ℤ◌, ◌-ℤ◌, ◌≤ℤ◌, ◌<◌, ◌≤◌, length, slice_index, MatchOption};
-ghost use Rattle.std.specs.List.{All, AllPairs};
-ghost use Rattle.graph.specs.declared.edge.Edge.{Edge};
+ghost use Rattle.std.specs.Prelude.{◌≡◌, ℕ, pos, ◌*◌, ◌+◌, ◌+ℤ◌, ◌-ℤ◌, ◌≤ℤ◌, ◌<◌, ◌≤◌, length, slice_index, MatchOption};
+ghost use Rattle.std.specs.List.{All};
+ghost use Rattle.graph.specs.declared.dependence.edge.Edge.{Edge};
 ghost use Rattle.graph.specs.Graphs.{IsGraph};
 ghost use Rattle.circuits.specs.inner.Layers.{IsFarthest, IsLayer};
 

@@ -13,17 +13,18 @@ use Rattle.settings.specs.Settings.{AreSettings, SettingsData}
 use Rattle.clap.specs.declared.builder.command.Command.TheViews.{out-Command}
 use Rattle.std.specs.Prelude.{nat_eq}
 use Rattle.std.specs.Cmp.Lexicographic.{pointwise}
+use Rattle.std.proofs.lemmas.Bool.{and_parts}
 use Rattle.std.proofs.lemmas.Cmp.{nat_list_eq_equiv}
 use Rattle.command_line.specs.declared.line.Command.{Command}
 use Rattle.command_line.specs.declared.line.Command.TheVariants.{Bounds, Edges, Dot, Plain, Schedule, Json, Explain, Run}
 
-pub program_is_simple : is_simple program_line ≡ true
-unfolding program_line schedule_line run_line json_line explain_line bounds_line edges_line dot_line plain_line clap_on_literals
-program_is_simple = refl
-
 pub program_is_free : is_simple_and_free program_line ≡ true
 unfolding program_line schedule_line run_line json_line explain_line bounds_line edges_line dot_line plain_line clap_on_literals
 program_is_free = refl
+
+-- of which this is a part, so that it is not computed again
+pub program_is_simple : is_simple program_line ≡ true
+program_is_simple = (and_parts _ _ program_is_free).0
 
 -- an argument that is not global adds its rule
 pub adds : (old new : clap.Command) (arg : Arg) (app : App) (rule : Rule) → AddsArg old arg new → arg.global ≡ false

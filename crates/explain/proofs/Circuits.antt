@@ -8,7 +8,7 @@ use Rattle.std.proofs.lemmas.List.Elements.{All-contains}
 use Rattle.graph.specs.Dependences.{EdgeData, Dependence}
 use Rattle.graph.specs.Graphs.{GraphData}
 use Rattle.graph.specs.Walks.{IsWalk, delay_of, distance_of}
-use Rattle.graph.proofs.Circuits.{delay_of-append, distance_of-append}
+use Rattle.graph.proofs.walks.Circuits.{delay_of-append, distance_of-append}
 use Rattle.circuits.proofs.Rounds.{once-short}
 use Rattle.graph_text.specs.Drawings.{IsCritical}
 use Rattle.graph_text.specs.Edges.{edge_line}

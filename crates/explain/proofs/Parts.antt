@@ -4,13 +4,12 @@ use Rattle.std.specs.Prelude.{Ok, Err, count_by}
 use Rattle.std.proofs.lemmas.List.{append-nil}
 use Rattle.std.proofs.lemmas.List.Sums.{sum_by-append}
 use Rattle.machine.specs.Machines.{MachineData}
-use Rattle.machine.specs.declared.opcode.Opcode.{Opcode}
+use Rattle.machine.specs.declared.issues.opcode.Opcode.{Opcode}
 use Rattle.iterations.specs.Loops.{LoopData}
 use Rattle.graph.specs.TablesAnswer.{TablesAnswer}
 use Rattle.graph.specs.declared.fault.GraphFault.TheVariants as graph_fault
 use Rattle.graph.specs.Units.{first_lacking, first_without_table, lacking_or}
 use Rattle.graph_text.specs.declared.fault.TextFault.{TextFault}
-use Rattle.graph_text.specs.declared.fault.TextFault.TheVariants.{NoTable}
 use Rattle.graph_text.specs.declared.measuring.LowerBounds.{LowerBounds}
 use Rattle.graph_text.specs.Bounds.{bounds_line}
 use Rattle.graph_text.specs.Faults.{TextAnswers, lacking_in}
@@ -40,11 +39,6 @@ explained units p choice loop bounds old a u b new same_loop same_bounds head li
 pub prepared-ok : {A : Type 0} (missing : Option Opcode) (P : A → Type 0) (x : A) → TablesAnswer missing P (Ok x) → (missing ≡ None) × P x
 prepared-ok None P x a = (refl, a)
 prepared-ok (Some o) P x a = cc
-
-pub prepared-fault : {A B : Type 0} (missing : Option Opcode) (P : A → Type 0) (Q : B → Type 0) (name : List ℕ) (o : Opcode) → TablesAnswer missing P (Err (graph_fault.NoTable o))
-    → TextAnswers (lacking_or name missing None) Q (Err (NoTable name o))
-prepared-fault None P Q name o a = absurd a
-prepared-fault (Some p) P Q name o a = cc
 
 pub told-ok : {B : Type 0} (machine : MachineData) (loop : LoopData) (Q : B → Type 0) (y : B) → first_without_table machine loop ≡ None → Q y → TextAnswers (lacking_in machine loop) Q (Ok y)
 told-ok machine loop Q y none q = complete (lacking_in machine loop) Q y (ap (λ o. lacking_or loop.name o None) none) q

@@ -7,21 +7,21 @@ use Rattle.std.proofs.lemmas.List.Elements.{All-filter, Contains-get_or}
 use Rattle.std.proofs.lemmas.List.FromFn.{get_or-range_with_len, length-range_with_len}
 use Rattle.std.proofs.lemmas.Option.{slice_get-get_or, slice_get-map, slice_get_within}
 use Rattle.mrt.specs.Placements.{placement_of}
-use Rattle.ims.specs.declared.attempts.Culprit.{Culprit}
-use Rattle.ims.specs.declared.attempts.Failure.{Failure}
-use Rattle.ims.specs.declared.attempts.Failure.TheVariants as failure
-use Rattle.ims.specs.declared.attempts.Try.TheVariants as try
+use Rattle.ims.specs.declared.outcome.attempts.Culprit.{Culprit}
+use Rattle.ims.specs.declared.outcome.attempts.Failure.{Failure}
+use Rattle.ims.specs.declared.outcome.attempts.Failure.TheVariants as failure
+use Rattle.ims.specs.declared.outcome.attempts.Try.TheVariants as try
 use Rattle.ims.specs.Attempts.{AnswersAttempt}
 use Rattle.ims.specs.Culprits.{AnswersCulprit, EndsWithout, failure_of}
 use Rattle.ims.specs.Problems.{ProblemData, IsProblem, budget_of, mii_of}
 use Rattle.ims.specs.Schedules.{ScheduleData}
-use Rattle.ims.proofs.Blaming.{culprits-are_failures}
-use Rattle.ims.proofs.OneAnswers.{one-answer}
+use Rattle.ims.proofs.answers.Blaming.{culprits-are_failures}
+use Rattle.ims.proofs.answers.OneAnswers.{one-answer}
 use Rattle.overlap.specs.declared.lifetime.Lifetime.{Lifetime}
 use Rattle.overlap.specs.Allotments.{AreLeast, HaveNone}
 use Rattle.overlap.specs.Lifetimes.{lifetime_of, lifetimes_of, values_of}
-use Rattle.overlap.proofs.Least.{least-or_none}
-use Rattle.overlap.proofs.Preloaded.{value-back}
+use Rattle.overlap.proofs.in_registers.Least.{least-or_none}
+use Rattle.overlap.proofs.in_registers.Preloaded.{value-back}
 use Rattle.rotating.specs.Numberless.{HasNone}
 use Rattle.candidates.specs.declared.outcomes.Cause.{Cause}
 use Rattle.candidates.specs.declared.outcomes.Cause.TheVariants.{Table, Budget, Stages, Registers}

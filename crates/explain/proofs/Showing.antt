@@ -3,10 +3,10 @@ use Rattle.std.proofs.Common.{◌≡◌, ℕ, refl, ap, sym, ◌∙◌, subst}
 use Rattle.machine.specs.Machines.{MachineData}
 use Rattle.ims.specs.Problems.{ProblemData, IsProblem}
 use Rattle.ims.specs.Schedules.{ScheduleData}
-use Rattle.kernel.specs.declared.parts.Parts.{Parts}
+use Rattle.kernel.specs.declared.kernels.parts.Parts.{Parts}
 use Rattle.overlap.specs.Allotments.{AllotmentData, AreLeast, LeastFor, NoneFor}
 use Rattle.overlap.specs.Lifetimes.{lifetimes_of}
-use Rattle.overlap.proofs.Least.{least-or_none}
+use Rattle.overlap.proofs.in_registers.Least.{least-or_none}
 use Rattle.candidates.specs.Outcomes.{GivesKernel, IsPlacedAs}
 use Rattle.schedule_lines.specs.ScheduleTexts.{schedule_text}
 use Rattle.explain.specs.Shown.{IsShownAt}

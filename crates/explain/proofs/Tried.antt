@@ -4,13 +4,13 @@ use Rattle.std.specs.List.{range_with_len}
 use Rattle.graph_text.specs.Texts.{AreTexts}
 use Rattle.graph_text.proofs.Texts.{behind}
 use Rattle.ims.specs.Problems.{ProblemData, IsProblem, mii_of}
-use Rattle.kernel.specs.declared.parts.Parts.{Parts}
+use Rattle.kernel.specs.declared.kernels.parts.Parts.{Parts}
 use Rattle.candidates.specs.declared.outcomes.Cause.{Cause}
 use Rattle.candidates.specs.declared.choices.Choice.TheVariants.{Met, Failed}
 use Rattle.candidates.specs.Outcomes.{FailsBy, GivesKernel}
 use Rattle.candidates.proofs.Rising.{Risen, met_here, risen_on, unmet_here}
-use Rattle.explain.specs.declared.hold.Hold.{Hold}
-use Rattle.explain.specs.declared.reasons.Reason.{Reason}
+use Rattle.explain.specs.declared.intervals.hold.Hold.{Hold}
+use Rattle.explain.specs.declared.intervals.reasons.Reason.{Reason}
 use Rattle.explain.specs.Holds.{IsHold}
 use Rattle.explain.specs.Reasons.{FailsFor, IsReason, cause_of}
 use Rattle.explain.specs.Tries.{AreTries, hold_line, kernel_line, try_line}

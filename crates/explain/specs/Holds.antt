@@ -3,8 +3,8 @@ use Rattle.std.specs.Prelude.{◌≡◌, ℕ, ◌-◌, ◌<◌, codes, List}
 use Rattle.ims.specs.Problems.{ProblemData, mii_of}
 use Rattle.candidates.specs.Outcomes.{FailsBy}
 use Rattle.candidates.specs.Texts.{cause_word}
-use Rattle.explain.specs.declared.hold.Hold.{Hold}
-use Rattle.explain.specs.declared.hold.Hold.TheVariants.{Units, Recurrences, Both, Failure}
+use Rattle.explain.specs.declared.intervals.hold.Hold.{Hold}
+use Rattle.explain.specs.declared.intervals.hold.Hold.TheVariants.{Units, Recurrences, Both, Failure}
 
 abbrev pub hold_word : Hold → List ℕ
 hold_word Units = codes "units"

@@ -4,8 +4,8 @@ use Rattle.std.specs.List.{flat_map}
 use Rattle.iterations.specs.Loops.{LoopData}
 use Rattle.graph_text.specs.Names.{op_name}
 use Rattle.graph_text.specs.Texts.{told}
-use Rattle.ims.specs.declared.attempts.Culprit.{Culprit}
-use Rattle.ims.specs.declared.attempts.Culprit.TheVariants.{Blocked, Unplaced, Late}
+use Rattle.ims.specs.declared.outcome.attempts.Culprit.{Culprit}
+use Rattle.ims.specs.declared.outcome.attempts.Culprit.TheVariants.{Blocked, Unplaced, Late}
 use Rattle.ims.specs.Culprits.{AnswersCulprit, failure_of}
 use Rattle.ims.specs.Problems.{ProblemData, budget_of}
 use Rattle.ims.specs.Schedules.{ScheduleData}
@@ -15,8 +15,8 @@ use Rattle.rotating.specs.Numberless.{HasNone}
 use Rattle.candidates.specs.declared.outcomes.Cause.{Cause}
 use Rattle.candidates.specs.declared.outcomes.Cause.TheVariants.{Registers}
 use Rattle.candidates.specs.Outcomes as outcomes
-use Rattle.explain.specs.declared.reasons.Reason.{Reason}
-use Rattle.explain.specs.declared.reasons.Reason.TheVariants.{Attempt, Register}
+use Rattle.explain.specs.declared.intervals.reasons.Reason.{Reason}
+use Rattle.explain.specs.declared.intervals.reasons.Reason.TheVariants.{Attempt, Register}
 
 -- the cause that a reason is behind
 abbrev pub cause_of : Reason → Cause

@@ -8,8 +8,8 @@ use Rattle.candidates.specs.declared.choices.Choice.{Choice}
 use Rattle.candidates.specs.declared.choices.Choice.TheVariants.{Met, Failed}
 use Rattle.candidates.specs.Choices.{IsChoice}
 use Rattle.candidates.specs.Texts.{cause_word}
-use Rattle.explain.specs.declared.hold.Hold.{Hold}
-use Rattle.explain.specs.declared.reasons.Reason.{Reason}
+use Rattle.explain.specs.declared.intervals.hold.Hold.{Hold}
+use Rattle.explain.specs.declared.intervals.reasons.Reason.{Reason}
 use Rattle.explain.specs.Holds.{IsHold, hold_word}
 use Rattle.explain.specs.Reasons.{FailsFor, cause_of, reason_text}
 

@@ -2,12 +2,12 @@
 
 ghost use Rattle.std.specs.Prelude.{◌≡◌, ◌++◌, ◌≤◌, ℕ, List, OnOk};
 ghost use Rattle.ims.specs.Problems.{mii_of};
-ghost use Rattle.kernel.specs.declared.parts.Parts.{Parts};
+ghost use Rattle.kernel.specs.declared.kernels.parts.Parts.{Parts};
 ghost use Rattle.candidates.specs.Choices.{IsChoice, last_of};
 ghost use Rattle.candidates.specs.Outcomes.{GivesKernel};
 ghost use Rattle.explain.specs.Shown.{IsShown, IsShownAt};
 
-use crate::reasons::budget;
+use crate::intervals::reasons::budget;
 use candidates::Choice;
 use ims::{Prepared, Try, attempt};
 use machine::{Machine, OutOfMemory};

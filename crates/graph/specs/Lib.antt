@@ -4,13 +4,12 @@ pub mod TablesAnswer
 pub mod Dependences
 pub mod Faults
 pub mod Graphs
-pub mod Layout
 pub mod Promises
 pub mod Reaches
 pub mod Rounds
-pub mod SameArrays
 pub mod Schedules
 pub mod Subscripts
 pub mod Units
 pub mod Uses
 pub mod Walks
+pub mod inner

@@ -4,8 +4,8 @@ use Rattle.std.specs.List.{slice_index_or, All, Contains}
 use Rattle.graph.specs.Dependences.{EdgeData}
 use Rattle.graph.specs.Graphs.{GraphData}
 use Rattle.graph.specs.Walks.{IsWalk, IsHeight, length_of, FitsCircuits, Exceeds}
-use Rattle.graph.specs.declared.relaxation.Relaxed.{Relaxed}
-use Rattle.graph.specs.declared.relaxation.Relaxed.TheVariants.{Heights, Above}
+use Rattle.graph.specs.declared.paths.relaxation.Relaxed.{Relaxed}
+use Rattle.graph.specs.declared.paths.relaxation.Relaxed.TheVariants.{Heights, Above}
 
 -- the length of a walk of at most `long` edges from an operation, and no shorter than each walk of at most `most`
 pub record IsReach (graph : GraphData) (ii long most p reach : ℕ) : Type 0 where

@@ -1,7 +1,7 @@
 -- Lawful modulo schedules.
 use Rattle.std.specs.Prelude.{◌≡◌, ℕ, pos, ◌+ℤ◌, ◌≤ℤ◌, ◌+◌, ◌*◌, ◌<◌, true, List, [], length, slice_index}
 use Rattle.std.specs.List.{slice_index_or, All}
-use Rattle.machine.specs.declared.alternative.Row.{Row}
+use Rattle.machine.specs.declared.issues.alternative.Row.{Row}
 use Rattle.machine.specs.Alternative.{rows_meet}
 use Rattle.graph.specs.Dependences.{EdgeData}
 

@@ -1,30 +1,23 @@
 //! Dependences between the operations of a loop, and the lower bounds of its initiation interval.
 #![tactic(auto)]
 
-mod collect;
-mod dependences;
-mod edge;
+mod dependence;
 mod fault;
-mod graph;
-mod groups;
-mod height;
 mod laws;
-mod recurrence;
-mod relaxation;
-mod round_count;
-mod starts;
+mod layout;
+mod paths;
 mod units;
 
-pub use dependences::edges;
-pub use edge::Edge;
+pub use dependence::dependences::edges;
+pub use dependence::edge::Edge;
 pub use fault::GraphFault;
-pub use graph::Edges;
-pub use height::heights;
 pub use laws::{
     circuits_take_iterations, loads_in_time, longer_intervals_fit, recurrences_are_limited,
     schedules_keep_recurrences, stores_in_order, stores_in_time, sums_are_limited, values_in_time,
     walks_are_short,
 };
-pub use recurrence::{feasible, mii, rec_mii};
-pub use round_count::rounds;
+pub use layout::graph::Edges;
+pub use paths::height::heights;
+pub use paths::recurrence::{feasible, mii, rec_mii};
+pub use paths::round_count::rounds;
 pub use units::{missing_table, res_mii};

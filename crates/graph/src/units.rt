@@ -2,7 +2,7 @@
 
 ghost use Rattle.std.specs.Prelude.{◌≡◌, ◌≢◌, ℕ, ◌+◌, ◌*◌, ◌-◌, ◌<◌, ◌≤◌, ◌==◌, List, ◌++◌, length, filter, IfOk, IfErr};
 ghost use Rattle.std.specs.List.{All};
-ghost use Rattle.machine.specs.declared.alternative.Row.{Row};
+ghost use Rattle.machine.specs.declared.issues.alternative.Row.{Row};
 ghost use Rattle.machine.specs.Alternative.{AreAlternatives};
 ghost use Rattle.machine.specs.Machines.{IsMachine};
 ghost use Rattle.iterations.specs.Loops.{IsLoop};

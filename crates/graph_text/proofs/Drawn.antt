@@ -5,7 +5,7 @@ use Rattle.machine.specs.Machines.{MachineData}
 use Rattle.iterations.specs.Loops.{LoopData}
 use Rattle.graph.specs.Dependences.{EdgeData, Dependence, latencies_of}
 use Rattle.graph.specs.Graphs.{GraphData, IsGraph, IsGraphOf}
-use Rattle.graph.proofs.Latencies.{length-latencies}
+use Rattle.graph.proofs.finding.Latencies.{length-latencies}
 use Rattle.graph_text.specs.Kinds.{IsTimed}
 
 pub graph-length : (machine : MachineData) (loop : LoopData) (graph : GraphData) → IsGraphOf machine loop graph → length graph.latencies ≡ length loop.statements

@@ -1,14 +1,10 @@
 -- The parts of statements that were read, by their numbers.
-use Rattle.std.proofs.Common.{◌≡◌, ℕ, ◌<◌, List, [], length, get_or, refl, ap, subst, arith, Some}
+use Rattle.std.proofs.Common.{◌≡◌, ℕ, ◌<◌, List, length, get_or, refl, ap, subst, arith, Some}
 use Rattle.std.specs.List.{slice_get}
-use Rattle.std.specs.Option.{option_map}
-use Rattle.std.specs.Prelude.{unwrap_or}
 use Rattle.std.proofs.lemmas.Option.{slice_get_read}
-use Rattle.iterations.specs.declared.language.lists.Array.{Array}
 use Rattle.iterations.specs.declared.language.statement.Place.{Place}
 use Rattle.iterations.specs.declared.language.statement.Statement.{Statement}
 use Rattle.iterations.specs.Loops.{LoopData, IsLoop, IsPlace}
-use Rattle.loops.specs.Text.{array_name}
 use Rattle.graph_text.specs.Names.{name_of, name_or_place, op_name}
 
 -- the element that was read from a list that is another one
@@ -17,11 +13,6 @@ read {X = X} xs ys i k x same number within is =
     let there : i < length xs = omega (arith, ap length same) in
     let at : slice_get xs i ≡ Some x = slice_get_read xs (length xs) i x refl there is in
     subst (λ (n : ℕ). slice_get ys n ≡ Some x) number (subst (λ (zs : List X). slice_get zs i ≡ Some x) same at)
-
-pub array-named : (loop : LoopData) (arrays : List Array) (i k : ℕ) (a : Array) → arrays ≡ loop.arrays → i ≡ k → k < length loop.arrays → a ≡ get_or arrays i a
-    → array_name loop k ≡ a.name
-array-named loop arrays i k a same number within is =
-    ap (λ o. unwrap_or (option_map (λ (b : Array). b.name) o) []) (read arrays loop.arrays i k a same number within is)
 
 pub op-named : (loop : LoopData) (statements : List Statement) (i k : ℕ) (s : Statement) → statements ≡ loop.statements → i ≡ k → k < length loop.statements
     → s ≡ get_or statements i s → op_name loop k ≡ name_or_place loop s.name s.place

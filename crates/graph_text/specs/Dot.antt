@@ -5,7 +5,7 @@ use Rattle.std.specs.List.{Contains, flat_map}
 use Rattle.iterations.specs.Loops.{LoopData}
 use Rattle.graph.specs.Dependences.{EdgeData}
 use Rattle.graph.specs.Graphs.{GraphData}
-use Rattle.graph_text.specs.declared.dot.Stroke.{Stroke}
+use Rattle.graph_text.specs.declared.drawing.dot.Stroke.{Stroke}
 use Rattle.graph_text.specs.declared.measuring.LowerBounds.{LowerBounds}
 use Rattle.graph_text.specs.Bounds.{bounds_told}
 use Rattle.graph_text.specs.Kinds.{IsOfKind, kind_word}

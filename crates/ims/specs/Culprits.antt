@@ -3,11 +3,11 @@ use Rattle.std.specs.Prelude.{◌≡◌, ℕ, ◌/◌, ◌<◌, ◌≤◌, is_no
 use Rattle.std.specs.List.{All, range_with_len, slice_index_or}
 use Rattle.machine.specs.Alternative.{collides}
 use Rattle.mrt.specs.Placements.{placement_of}
-use Rattle.ims.specs.declared.attempts.Failure.{Failure}
-use Rattle.ims.specs.declared.attempts.Failure.TheVariants.{Table, Budget, Stages}
-use Rattle.ims.specs.declared.attempts.Try.TheVariants.{Placed, Failed}
-use Rattle.ims.specs.declared.attempts.Culprit.{Culprit}
-use Rattle.ims.specs.declared.attempts.Culprit.TheVariants.{Blocked, Unplaced, Late}
+use Rattle.ims.specs.declared.outcome.attempts.Failure.{Failure}
+use Rattle.ims.specs.declared.outcome.attempts.Failure.TheVariants.{Table, Budget, Stages}
+use Rattle.ims.specs.declared.outcome.attempts.Try.TheVariants.{Placed, Failed}
+use Rattle.ims.specs.declared.outcome.attempts.Culprit.{Culprit}
+use Rattle.ims.specs.declared.outcome.attempts.Culprit.TheVariants.{Blocked, Unplaced, Late}
 use Rattle.ims.specs.Attempts.{IsBlocked, EndsPlaced, AnswersAttempt}
 use Rattle.ims.specs.Problems.{ProblemData}
 use Rattle.ims.specs.Schedules.{ScheduleData}

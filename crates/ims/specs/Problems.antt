@@ -1,7 +1,7 @@
 -- What is scheduled: a loop, with the dependences between its operations and what a machine offers for each of them.
 use Rattle.std.specs.Prelude.{◌≡◌, ℕ, ◌*◌, ◌≤◌, max, List, length}
 use Rattle.std.specs.List.{All, Contains}
-use Rattle.machine.specs.declared.alternative.Row.{Row}
+use Rattle.machine.specs.declared.issues.alternative.Row.{Row}
 use Rattle.machine.specs.Alternative.{AreAlternatives}
 use Rattle.machine.specs.Machines.{MachineData}
 use Rattle.iterations.specs.Loops.{LoopData, IsLoop}

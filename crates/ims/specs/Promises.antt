@@ -5,7 +5,7 @@ use Rattle.iterations.specs.Loops.{LoopData}
 use Rattle.graph.specs.Graphs.{IsGraphOf}
 use Rattle.graph.specs.Promises.{KeepsDependences}
 use Rattle.graph.specs.Schedules.{IsLawfulSchedule}
-use Rattle.ims.specs.declared.attempts.Try.{Try}
+use Rattle.ims.specs.declared.outcome.attempts.Try.{Try}
 use Rattle.ims.specs.Problems.{ProblemData, IsProblem, IsProblemOf, mii_of}
 use Rattle.ims.specs.Schedules.{ScheduleData, IsSchedule, stage_of, stages_of}
 use Rattle.ims.specs.Attempts.{EndsPlaced, AnswersAttempt}

@@ -1,6 +1,6 @@
 //! The memory of a run.
 
-ghost use Rattle.std.specs.Prelude.{◌≡◌, ◌+◌, ◌-◌, ◌<◌, ◌≤◌, ◌+ℤ◌, ◌≤ℤ◌, ◌<ℤ◌, ℤ, pos, neg_ℤ, [], length, slice_index_or, slice_set, IfOk};
+ghost use Rattle.std.specs.Prelude.{◌≡◌, ◌+◌, ◌-◌, ◌<◌, ◌≤◌, ◌≤ℤ◌, ◌<ℤ◌, ℤ, pos, neg_ℤ, [], length, slice_index_or, slice_set, IfOk};
 ghost use Rattle.iterations.specs.Run.{MemoryData, IsMemory, cell_of, with_cell};
 
 use machine::limits::MAX_SUBSCRIPT;

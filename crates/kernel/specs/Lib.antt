@@ -3,9 +3,7 @@ pub use Rattle.machine.specs.Machines
 pub mod Check
 pub mod Kernels
 pub mod Overlapped
-pub mod Prepared
 pub mod Promises
 pub mod Rules
-pub mod Holding
-pub mod Steps
 pub mod Text
+pub mod inner

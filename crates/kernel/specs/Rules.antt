@@ -1,12 +1,12 @@
 -- The rules of well-formed kernels one by one, and what the check answers.
 use Rattle.std.specs.Prelude.{◌≡◌, ℕ, codes, List, ◌<◌, ◌≤◌, length, Result, Ok, Err}
 use Rattle.std.specs.List.{All}
-use Rattle.kernel.specs.declared.check.Rule.{Rule}
-use Rattle.kernel.specs.declared.check.Rule.TheVariants as rule
-use Rattle.kernel.specs.declared.check.BadKernel.{BadKernel}
-use Rattle.kernel.specs.declared.operation.Operation.{Operation}
-use Rattle.kernel.specs.declared.parts.Parts.{Parts}
-use Rattle.kernel.specs.declared.parts.Out.{Out}
+use Rattle.kernel.specs.declared.kernels.check.Rule.{Rule}
+use Rattle.kernel.specs.declared.kernels.check.Rule.TheVariants as rule
+use Rattle.kernel.specs.declared.kernels.check.BadKernel.{BadKernel}
+use Rattle.kernel.specs.declared.kernels.operation.Operation.{Operation}
+use Rattle.kernel.specs.declared.kernels.parts.Parts.{Parts}
+use Rattle.kernel.specs.declared.kernels.parts.Out.{Out}
 use Rattle.kernel.specs.Check.{HasSize, RegistersAreThere, IsShaped, IsPlaced, ArePreloads, IsWellFormed}
 
 -- one rule

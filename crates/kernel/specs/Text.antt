@@ -2,17 +2,17 @@
 use Rattle.std.specs.Prelude.{ℕ, ℤ, pos, negsuc, zero, suc, ◌+◌, ◌*◌, ◌==◌, codes, decimal, if◌then◌else◌, List, [], ◌∷◌, ◌++◌, map, filter, length, Option, Some, None}
 use Rattle.std.specs.List.{flat_map, slice_index_or}
 use Rattle.std.specs.Fmt.{signed_decimal}
-use Rattle.machine.specs.declared.opcode.Opcode.{Opcode}
-use Rattle.machine.specs.declared.opcode.Opcode.TheVariants.{Store}
+use Rattle.machine.specs.declared.issues.opcode.Opcode.{Opcode}
+use Rattle.machine.specs.declared.issues.opcode.Opcode.TheVariants.{Store}
 use Rattle.machine.specs.Opcodes.{word_of}
 use Rattle.iterations.specs.declared.language.lists.Param.{Param}
-use Rattle.kernel.specs.declared.operation.Operation.{Operation}
-use Rattle.kernel.specs.declared.operation.Address.{Address}
-use Rattle.kernel.specs.declared.operation.Source.{Source}
-use Rattle.kernel.specs.declared.operation.Source.TheVariants.{Register, Parameter, Constant}
-use Rattle.kernel.specs.declared.parts.Parts.{Parts}
-use Rattle.kernel.specs.declared.parts.Preload.{Preload}
-use Rattle.kernel.specs.declared.parts.Out.{Out}
+use Rattle.kernel.specs.declared.kernels.operation.Operation.{Operation}
+use Rattle.kernel.specs.declared.kernels.operation.Address.{Address}
+use Rattle.kernel.specs.declared.kernels.operation.Source.{Source}
+use Rattle.kernel.specs.declared.kernels.operation.Source.TheVariants.{Register, Parameter, Constant}
+use Rattle.kernel.specs.declared.kernels.parts.Parts.{Parts}
+use Rattle.kernel.specs.declared.kernels.parts.Preload.{Preload}
+use Rattle.kernel.specs.declared.kernels.parts.Out.{Out}
 
 -- `rN`
 abbrev pub register_text : ℕ → List ℕ

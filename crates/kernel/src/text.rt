@@ -3,14 +3,14 @@
 ghost use Rattle.std.specs.Prelude.{◌≡◌, ◌+◌, ◌<◌, ◌≤◌, ◌⊎◌, ◌==◌, ◌++◌, length, codes, filter, Some, IfOk, string_bytes};
 ghost use Rattle.std.specs.List.{All, Any, flat_map};
 ghost use Rattle.std.specs.Fmt.{decimal, signed_decimal};
-ghost use Rattle.kernel.specs.declared.operation.Address.{Address};
-ghost use Rattle.kernel.specs.declared.operation.Operation.{Operation};
-ghost use Rattle.kernel.specs.declared.operation.Source.{Source};
+ghost use Rattle.kernel.specs.declared.kernels.operation.Address.{Address};
+ghost use Rattle.kernel.specs.declared.kernels.operation.Operation.{Operation};
+ghost use Rattle.kernel.specs.declared.kernels.operation.Source.{Source};
 ghost use Rattle.kernel.specs.Check.{ParameterIsThere, IsShaped, IsPlaced, IsWellFormed};
 ghost use Rattle.kernel.specs.Text.{with_sign, register_text, address_text, source_text, spaced, spaced_option, sources_text, alternative_text, operation_text, joined, kernel_row_text, rows_text, preload_text, out_text, kernel_text_of, room_of};
 
-use crate::operation::{Address, Operation, Source};
-use crate::parts::{Kernel, Out, Parts, Preload};
+use crate::kernels::operation::{Address, Operation, Source};
+use crate::kernels::parts::{Kernel, Out, Parts, Preload};
 use itoa::Buffer;
 use machine::{Opcode, OutOfMemory};
 use std::alloc::Global;
@@ -316,7 +316,7 @@ fn write_value(text: &mut String, before: &str, value: i64) -> Result<(), OutOfM
 }
 
 /// Writes a number. Nearly all have one digit or two, which need no buffer.
-#[tactic(auto, using(crate::proofs::Digits::two_digits))]
+#[tactic(auto, using(crate::proofs::texts::Digits::two_digits))]
 fn write_decimal(text: &mut String, number: u64) -> Result<(), OutOfMemory>
     ensures { IfOk result (λ _. string_bytes text.new ≡ string_bytes text.old ++ decimal number) }
 {

@@ -4,11 +4,11 @@ use Rattle.serde_json.specs.Data.{Data, number}
 use Rattle.serde_json.specs.Find.{of_integer}
 use Rattle.serde_json.specs.View.{items_of}
 use Rattle.serde_json.specs.Written.{has_float, items_have_float}
-use Rattle.kernel.specs.declared.operation.Operation.{Operation}
-use Rattle.kernel.specs.declared.operation.Address.{Address}
-use Rattle.kernel.specs.declared.operation.Source.{Source}
-use Rattle.kernel.specs.declared.operation.Source.TheVariants.{Register, Parameter, Constant}
-use Rattle.kernel.specs.declared.parts.Parts.{Parts}
+use Rattle.kernel.specs.declared.kernels.operation.Operation.{Operation}
+use Rattle.kernel.specs.declared.kernels.operation.Address.{Address}
+use Rattle.kernel.specs.declared.kernels.operation.Source.{Source}
+use Rattle.kernel.specs.declared.kernels.operation.Source.TheVariants.{Register, Parameter, Constant}
+use Rattle.kernel.specs.declared.kernels.parts.Parts.{Parts}
 use Rattle.candidates.specs.declared.choices.Choice.{Choice}
 use Rattle.candidates.specs.declared.choices.Choice.TheVariants.{Met, Failed}
 use Rattle.candidates.specs.declared.listings.Row.{Row}

@@ -7,13 +7,13 @@ use Rattle.serde_json.specs.View.{items_of}
 use Rattle.serde_json.specs.Written.{compact_text}
 use Rattle.machine.specs.Opcodes.{word_of}
 use Rattle.iterations.specs.declared.language.lists.Param.{Param}
-use Rattle.kernel.specs.declared.operation.Operation.{Operation}
-use Rattle.kernel.specs.declared.operation.Address.{Address}
-use Rattle.kernel.specs.declared.operation.Source.{Source}
-use Rattle.kernel.specs.declared.operation.Source.TheVariants.{Register, Parameter, Constant}
-use Rattle.kernel.specs.declared.parts.Parts.{Parts}
-use Rattle.kernel.specs.declared.parts.Preload.{Preload}
-use Rattle.kernel.specs.declared.parts.Out.{Out}
+use Rattle.kernel.specs.declared.kernels.operation.Operation.{Operation}
+use Rattle.kernel.specs.declared.kernels.operation.Address.{Address}
+use Rattle.kernel.specs.declared.kernels.operation.Source.{Source}
+use Rattle.kernel.specs.declared.kernels.operation.Source.TheVariants.{Register, Parameter, Constant}
+use Rattle.kernel.specs.declared.kernels.parts.Parts.{Parts}
+use Rattle.kernel.specs.declared.kernels.parts.Preload.{Preload}
+use Rattle.kernel.specs.declared.kernels.parts.Out.{Out}
 use Rattle.candidates.specs.declared.choices.Choice.{Choice}
 use Rattle.candidates.specs.declared.choices.Choice.TheVariants.{Met, Failed}
 use Rattle.candidates.specs.declared.listings.Row.{Row}

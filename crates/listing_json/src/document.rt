@@ -4,8 +4,8 @@ ghost use Rattle.std.specs.Prelude.{◌≡◌, ◌≤◌, ◌+◌, IfOk, string_
 ghost use Rattle.std.specs.List.{All};
 ghost use Rattle.serde_json.specs.View.{view};
 ghost use Rattle.candidates.specs.Listings.{IsRow};
-ghost use Rattle.candidates.specs.Texts.{mii_in, number_failed, number_met};
-ghost use Rattle.listing_json.specs.Documents.{choice_value, document_of, document_text, list_value, row_value};
+ghost use Rattle.candidates.specs.Texts.{number_failed, number_met};
+ghost use Rattle.listing_json.specs.Documents.{document_of, document_text, list_value, row_value};
 
 use crate::kernels::told_kernel;
 use candidates::{Choice, Listing, Row};

@@ -2,7 +2,7 @@
 
 ghost use Rattle.std.specs.Prelude.{◌≡◌, IfOk};
 ghost use Rattle.serde_json.specs.View.{view};
-ghost use Rattle.kernel.specs.declared.operation.Address.{Address};
+ghost use Rattle.kernel.specs.declared.kernels.operation.Address.{Address};
 ghost use Rattle.listing_json.specs.Documents.{address_value, count_value, kernel_value, option_value};
 
 use crate::told::{Told, told_all, told_digits};

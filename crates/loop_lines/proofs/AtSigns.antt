@@ -28,7 +28,3 @@ name_bytes (c ∷ cs) h =
 pub name_starts : (word : List ℕ) → is_name word ≡ true → starts_name word ≡ true
 unfolding is_name
 name_starts word h = (and_parts (starts_name word) _ h).0
-
--- a name has none
-pub name_has_no_at : (word : List ℕ) → is_name word ≡ true → list_any (λ c. c == 64) word ≡ false
-name_has_no_at word h = no_at word (name_bytes word (name_starts word h))

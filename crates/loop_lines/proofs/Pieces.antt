@@ -1,9 +1,7 @@
 -- The words of a rest of a line.
 use Rattle.std.proofs.Common.{◌≡◌, ◌==◌, ℕ, suc, ℤ, ◌≤◌, ◌||◌, not, is_some, is_none, Bool, true, false, cond, List, [], ◌∷◌, ◌++◌, length, Option, Some, None, option_map, refl, sym, ◌∙◌, ap, arith, append_assoc, length-take}
-use Rattle.std.specs.Option.{unwrap_or}
 use Rattle.std.specs.List.{before_first, list_any, position_or_len}
 use Rattle.std.proofs.lemmas.List.Folds.{list_any-append}
-use Rattle.std.proofs.lemmas.List.{append-nil}
 use Rattle.loop_lines.specs.Forms.{int_of, ints_of, with_int}
 use Rattle.loop_lines.specs.Words.{pieces_of, onto_first, is_blank, ends_word, words_of}
 
@@ -42,27 +40,6 @@ pub ints-more : (all : Option (List (Option ℤ))) (done : List (Option ℤ)) (w
     → all ≡ behind done (ints_of pieces) → pieces ≡ word ∷ others → Some v ≡ int_of word → all ≡ behind (done ++ v ∷ []) (ints_of others)
 ints-more all done word pieces others v e p i =
     e ∙ ap (λ ps. behind done (ints_of ps)) p ∙ ap (λ r. behind done (with_int r (ints_of others))) (sym i) ∙ behind-with done v (ints_of others)
-
-pub ints-done : (all : Option (List (Option ℤ))) (done : List (Option ℤ)) (pieces : List (List ℕ)) → all ≡ behind done (ints_of pieces) → pieces ≡ [] → unwrap_or all [] ≡ done
-ints-done all done pieces e p = ap (λ r. unwrap_or r []) (e ∙ ap (λ ps. behind done (ints_of ps)) p) ∙ append-nil done
-
--- all integers are read
-pub ints-all : (all : Option (List (Option ℤ))) (done : List (Option ℤ)) (pieces : List (List ℕ)) → all ≡ behind done (ints_of pieces) → pieces ≡ [] → all ≡ Some done
-ints-all all done pieces e p = e ∙ ap (λ ps. behind done (ints_of ps)) p ∙ ap Some (append-nil done)
-
--- a word is no integer
-pub ints-not : (all : Option (List (Option ℤ))) (done : List (Option ℤ)) (word : List ℕ) (pieces others : List (List ℕ))
-    → all ≡ behind done (ints_of pieces) → pieces ≡ word ∷ others → None ≡ int_of word → all ≡ None
-ints-not all done word pieces others e p i =
-    e ∙ ap (λ ps. behind done (ints_of ps)) p ∙ ap (λ r. behind done (with_int r (ints_of others))) (sym i)
-
-behind-none : (done : List (Option ℤ)) (rest : Option (List (Option ℤ))) → unwrap_or (behind done (with_int None rest)) [] ≡ []
-behind-none done rest = refl
-
-pub ints-none : (all : Option (List (Option ℤ))) (done : List (Option ℤ)) (word : List ℕ) (pieces others : List (List ℕ))
-    → all ≡ behind done (ints_of pieces) → pieces ≡ word ∷ others → None ≡ int_of word → unwrap_or all [] ≡ []
-ints-none all done word pieces others e p i =
-    ap (λ r. unwrap_or r []) (e ∙ ap (λ ps. behind done (ints_of ps)) p ∙ ap (λ r. behind done (with_int r (ints_of others))) (sym i))
 
 pub ints-start : (all : Option (List (Option ℤ))) → all ≡ behind [] all
 ints-start None = refl

@@ -1,6 +1,6 @@
 //! The loop of a block that passed all checks.
 
-ghost use Rattle.std.specs.Prelude.{◌≡◌, ◌+◌, ◌*◌, ◌≤◌, ◌<◌, ◌++◌, ◌∷◌, [], true, None, ℕ, List, IfOk, OnOk, length, option_map, option_to_list};
+ghost use Rattle.std.specs.Prelude.{◌≡◌, ◌+◌, ◌*◌, ◌≤◌, ◌<◌, ◌++◌, [], true, None, ℕ, List, IfOk, OnOk, length, option_map, option_to_list};
 ghost use Rattle.std.specs.Borrow.{Bor};
 ghost use Rattle.iterations.specs.Loops.{IsLoop, IsName};
 ghost use Rattle.loop_reader.specs.Meaning.{array_in, loop_of, param_in, statement_in, has_statement, is_statement};

@@ -1,6 +1,6 @@
 //! Why a loop text is refused.
 
-ghost use Rattle.std.specs.Prelude.{◌≡◌, ℕ};
+ghost use Rattle.std.specs.Prelude.{◌≡◌};
 ghost use Rattle.loop_reader.specs.inner.Checks.{line_at};
 ghost use Rattle.loop_reader.specs.declared.fault.LoopFaultKind.TheVariants.{Memory};
 

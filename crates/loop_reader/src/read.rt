@@ -1,10 +1,10 @@
 //! Reading a loop text.
 
-ghost use Rattle.std.specs.Prelude.{◌≡◌, ◌==◌, ◌+◌, ◌*◌, ◌≤◌, ◌<◌, ◌^◌, true, List, ℕ, length, IfOk};
+ghost use Rattle.std.specs.Prelude.{◌≡◌, ◌==◌, ◌+◌, ◌≤◌, ◌<◌, ◌^◌, true, length, IfOk};
 ghost use Rattle.std.specs.List.{All};
 ghost use Rattle.iterations.specs.Names.{is_name};
 ghost use Rattle.iterations.specs.Loops.{IsLoop};
-ghost use Rattle.loop_reader.specs.Meaning.{forms_of, loops_in, seen, when, LoopsAnswer};
+ghost use Rattle.loop_reader.specs.Meaning.{loops_in, seen, when, LoopsAnswer};
 ghost use Rattle.loop_reader.specs.declared.fault.LoopFaultKind.TheVariants.{Limit};
 ghost use Rattle.loop_reader.specs.inner.Checks.{first_in};
 ghost use Rattle.loop_reader.specs.inner.Found.{fault_in};

@@ -10,15 +10,15 @@ use Rattle.std.proofs.lemmas.List.Folds.{list_any_at}
 use Rattle.std.proofs.lemmas.List.Quantifiers.{all_pairs_push}
 use Rattle.std.proofs.lemmas.Slice.Eq.{bytes_eq-Decides}
 use Rattle.toml.specs.Data.{Data, string, integer, float, boolean, datetime, array, table, Members, no_members, member, get_member}
-use Rattle.machine.specs.declared.alternative.Row.{Row}
-use Rattle.machine.specs.declared.opcode.Opcode.{Opcode}
-use Rattle.machine.specs.declared.opcode.Opcode.TheVariants.{Load, Store, Add, Sub, Mul, And, Or, Xor, Min, Max, Lt, Sel, Mov}
+use Rattle.machine.specs.declared.issues.alternative.Row.{Row}
+use Rattle.machine.specs.declared.issues.opcode.Opcode.{Opcode}
+use Rattle.machine.specs.declared.issues.opcode.Opcode.TheVariants.{Load, Store, Add, Sub, Mul, And, Or, Xor, Min, Max, Lt, Sel, Mov}
 use Rattle.machine.specs.Alternative.{IsAlternative, AreAlternatives}
 use Rattle.machine.specs.Machines.{OperationData, IsOperation, UsesUnits, IsUnitName, IsMachine, table_of}
 use Rattle.machine.specs.Opcodes.{same_word, word_of}
-use Rattle.machine.specs.MachineText.{within, text_of, unit_faults, faults_in_turn, faults_of_units, names_of, data_of, faults_of_number, number_in, words_in, row_of, row_in, same_row, faults_of_words, row_faults, alternative_faults, rows_of, faults_of_alternatives, alternatives_of, table_faults, operation_of, entries_of, entry_faults, faults_of_tables, keys_in, tables_of, tree_faults, tree_machine}
-use Rattle.machine.proofs.Faults.{none-parts, unless-passed}
-use Rattle.machine.proofs.Words.{any-not_found}
+use Rattle.machine.specs.MachineText.{within, text_of, unit_faults, faults_in_turn, faults_of_units, names_of, data_of, faults_of_number, number_in, words_in, row_of, row_in, same_row, faults_of_words, row_faults, alternative_faults, rows_of, faults_of_alternatives, alternatives_of, table_faults, operation_of, entries_of, entry_faults, faults_of_tables, keys_in, tables_of}
+use Rattle.machine.proofs.checks.Faults.{none-parts, unless-passed}
+use Rattle.machine.proofs.texts.Words.{any-not_found}
 
 -- limits
 
@@ -291,12 +291,3 @@ machine-law units registers ops path limit u r t =
     by slot Lt = slot (word_of Lt)
     by slot Sel = slot (word_of Sel)
     by slot Mov = slot (word_of Mov)
-
--- the law for whole trees
-pub tree-law : (top : Members) → tree_faults top ≡ [] → IsMachine (tree_machine top)
-unfolding tree_faults tree_machine
-tree-law top h =
-    let (front, ops) = none-parts _ _ h in
-    let (start, registers) = none-parts _ _ front in
-    let (keys, units) = none-parts _ _ start in
-    machine-law _ _ _ _ _ units registers ops

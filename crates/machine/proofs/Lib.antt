@@ -1,12 +1,5 @@
-pub mod Faults
-pub mod Texts
-pub mod Words
-pub mod Turns
-pub mod RowFaults
-pub mod Keys
-pub mod AlternativeFaults
 pub mod Laws
-pub mod TableFaults
 pub mod Slots
 pub mod Whole
-pub mod Printed
+pub mod checks
+pub mod texts

@@ -8,7 +8,7 @@ use Rattle.toml.specs.Parse.{parse_document}
 use Rattle.machine.specs.declared.fault.MachineFault.{MachineFault}
 use Rattle.machine.specs.declared.fault.MachineFault.TheVariants.{NotUtf8, NotToml, MissingKey, WrongType, UnknownKey, UnknownUnit, UnknownOpcode, RepeatedUnit, RepeatedRow, Limit, Memory}
 use Rattle.machine.specs.MachineAnswer.{MachineAnswer}
-use Rattle.machine.specs.Reads.{ReadsPart, first_fault}
+use Rattle.machine.specs.inner.Reads.{ReadsPart, first_fault}
 use Rattle.machine.specs.MachineText.{Faults, answer, tree_faults, tree_machine, machine_of}
 
 at-first : {A : Type 0} (F : Faults) (v : A) (e : MachineFault) → first_fault F ≡ Some e → Err e ≡ answer F v

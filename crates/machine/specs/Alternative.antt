@@ -1,7 +1,7 @@
 -- Reservation tables: the rows of an alternative, and the slots of the modulo reservation table that they take.
 use Rattle.std.specs.Prelude.{◌≢◌, ℕ, ◌+◌, ◌%◌, ◌<◌, ◌≤◌, ◌==◌, ◌&&◌, ◌||◌, Bool, false, List, [], ◌∷◌, length}
 use Rattle.std.specs.List.{All, AllPairs, list_any}
-use Rattle.machine.specs.declared.alternative.Row.{Row}
+use Rattle.machine.specs.declared.issues.alternative.Row.{Row}
 
 -- 1 to 16 different rows, of units below 64 and at offsets of 0 to 63 cycles
 pub record IsAlternative (rows : List Row) : Type 0 where
@@ -21,10 +21,6 @@ pub record AreAlternatives (alternatives : List (List Row)) : Type 0 where
 -- for an operation issued at a time
 abbrev pub residue_of : ℕ → Row → ℕ → ℕ
 residue_of ii row time = (time + row.offset) % ii
-
--- the slot, a unit and a residue, that a row takes at an interval, for an operation issued at a time
-abbrev pub slot_of : ℕ → Row → ℕ → ℕ × ℕ
-slot_of ii row time = (row.unit, residue_of ii row time)
 
 -- at an interval, the first row for an operation issued at one time, and the second for one issued at another, take one slot
 abbrev pub rows_meet : ℕ → Row → ℕ → Row → ℕ → Bool

@@ -4,5 +4,4 @@ pub mod Faults
 pub mod Machines
 pub mod MachineText
 pub mod Opcodes
-pub mod Reads
 pub mod inner

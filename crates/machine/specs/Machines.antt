@@ -3,8 +3,8 @@ use Rattle.std.specs.Prelude.{◌≡◌, ◌≢◌, ℕ, ◌<◌, ◌≤◌, ◌
 use Rattle.std.specs.Char.{is_ascii_lowercase, is_ascii_digit}
 use Rattle.std.specs.List.{All, AllPairs, list_all}
 use Rattle.std.specs.Option.{option_flatten}
-use Rattle.machine.specs.declared.alternative.Row.{Row}
-use Rattle.machine.specs.declared.opcode.Opcode.{Opcode}
+use Rattle.machine.specs.declared.issues.alternative.Row.{Row}
+use Rattle.machine.specs.declared.issues.opcode.Opcode.{Opcode}
 use Rattle.machine.specs.Alternative.{AreAlternatives}
 use Rattle.machine.specs.Opcodes.{opcode_number}
 

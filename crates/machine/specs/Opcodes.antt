@@ -2,8 +2,8 @@
 use Rattle.std.specs.Prelude.{ℕ, Bool, List, [], ◌∷◌, Option, find, codes}
 use Rattle.std.specs.Cmp.Lexicographic.{pointwise}
 use Rattle.std.specs.Prelude.{nat_eq}
-use Rattle.machine.specs.declared.opcode.Opcode.{Opcode}
-use Rattle.machine.specs.declared.opcode.Opcode.TheVariants.{Load, Store, Add, Sub, Mul, And, Or, Xor, Min, Max, Lt, Sel, Mov}
+use Rattle.machine.specs.declared.issues.opcode.Opcode.{Opcode}
+use Rattle.machine.specs.declared.issues.opcode.Opcode.TheVariants.{Load, Store, Add, Sub, Mul, And, Or, Xor, Min, Max, Lt, Sel, Mov}
 
 -- the word that stands for an opcode in a machine text and in a loop text
 abbrev pub word_of : Opcode → List ℕ

@@ -2,22 +2,20 @@
 //! of the loop language, its latency and the reservation tables by which it may be issued.
 #![tactic(auto)]
 
-mod alternative;
 mod fault;
+mod issues;
 pub mod limits;
 mod name;
-mod opcode;
-mod opcode_table;
 mod processor;
 mod read;
 #[cfg(test)]
 mod tests;
 
-pub use alternative::{Alternative, Alternatives, Row};
 pub use fault::{Key, MachineFault};
+pub use issues::alternative::{Alternative, Alternatives, Row};
+pub use issues::opcode::Opcode;
+pub use issues::opcode_table::OpcodeTable;
 pub use name::Name;
-pub use opcode::Opcode;
-pub use opcode_table::OpcodeTable;
 pub use processor::Machine;
 pub use read::read_machine;
 

@@ -1,11 +1,11 @@
 //! A machine.
 
-ghost use Rattle.std.specs.Prelude.{◌≡◌, ◌<◌, ◌≤◌, Option, option_copied};
+ghost use Rattle.std.specs.Prelude.{◌≡◌, ◌<◌, Option, option_copied};
 ghost use Rattle.machine.specs.Machines.{MachineData, IsMachine, table_of};
 
+use crate::issues::opcode::Opcode;
+use crate::issues::opcode_table::OpcodeTable;
 use crate::name::Name;
-use crate::opcode::Opcode;
-use crate::opcode_table::OpcodeTable;
 use std::marker::Model;
 
 /// A VLIW machine: 1 to 64 functional units, 1 to 256 rotating registers and, for each opcode that

@@ -5,7 +5,7 @@ ghost use Rattle.std.specs.List.{list_any};
 ghost use Rattle.machine.specs.Opcodes.{same_word};
 ghost use Rattle.toml.specs.View.{view, table_view};
 ghost use Rattle.machine.specs.MachineAnswer.{MachineAnswer};
-ghost use Rattle.machine.specs.Reads.{ReadsPart};
+ghost use Rattle.machine.specs.inner.Reads.{ReadsPart};
 ghost use Rattle.machine.specs.MachineText.{within, unknown_keys, faults_of_number, number_in, tree_faults, tree_machine, machine_of};
 
 use crate::fault::{Key, MachineFault};

@@ -12,7 +12,7 @@ use Rattle.command_line.specs.declared.line.Command.TheVariants.{Bounds, Edges, 
 use Rattle.modsched.specs.Outcomes.{Outcome, Written, RefusedMachine, RefusedLoops, NoTable as NoTableFor}
 use Rattle.modsched.specs.Devices.{most_read}
 use Rattle.modsched.specs.Engine.{Brings, Ends}
-use Rattle.modsched.specs.Refusals.{IsRefusal, Refuses}
+use Rattle.modsched.specs.inner.Refusals.{IsRefusal, Refuses}
 use Rattle.modsched.specs.Statuses.{HasAnswered}
 use Rattle.modsched.specs.declared.status.Status.{Status}
 use Rattle.modsched.specs.declared.status.Status.TheVariants.{Done, Unmet, MachineUnread, LoopsUnread, Machine, Loops, NoTable, Unwritten, OutOfMemory}

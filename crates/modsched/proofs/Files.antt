@@ -2,17 +2,17 @@
 use Rattle.std.proofs.Common.{◌≡◌, ℕ, List, Option, arith, refl, sym, subst}
 use Rattle.std.specs.Prelude.{Bool, Some, None, Result, Ok, Err, IsErrAnd}
 use Rattle.machine.specs.Machines.{MachineData}
-use Rattle.machine.specs.declared.opcode.Opcode.{Opcode}
+use Rattle.machine.specs.declared.issues.opcode.Opcode.{Opcode}
 use Rattle.loops.specs.Loops.{LoopData}
 use Rattle.graph.specs.Units.{first_lacking}
 use Rattle.workers.specs.Files.{AnswersFile, AnswersIn, AnswersOn}
 use Rattle.workers.specs.declared.faults.FileFault.{FileFault}
 use Rattle.workers.specs.declared.faults.FileFault.TheVariants as file
-use Rattle.workers.proofs.Answering.{on_ok}
+use Rattle.workers.proofs.files_read.Answering.{on_ok}
 use Rattle.modsched.specs.Outcomes.{OutcomeIn, OutcomeOf, OutcomeOn, Written, NoTable as NoTableFor}
-use Rattle.modsched.specs.Refusals.{HasOneMemory, IsRefusal, PrintoutAnswer}
+use Rattle.modsched.specs.inner.Refusals.{HasOneMemory, IsRefusal, PrintoutAnswer}
 use Rattle.modsched.specs.Statuses.{refusal_of_file}
-use Rattle.modsched.specs.declared.printout.Printout.{Printout}
+use Rattle.modsched.specs.declared.output.printout.Printout.{Printout}
 use Rattle.modsched.specs.declared.status.Status.{Status}
 use Rattle.modsched.proofs.Refusing.{LoopLists, Machines, Texts, answered, loops_memory, machine_memory, refused_loops, refused_machine}
 

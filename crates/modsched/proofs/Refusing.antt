@@ -5,7 +5,7 @@ use Rattle.machine.specs.MachineAnswer.{MachineAnswer}
 use Rattle.machine.specs.Machines.{MachineData}
 use Rattle.machine.specs.declared.fault.MachineFault.{MachineFault}
 use Rattle.machine.specs.declared.fault.MachineFault.TheVariants as machine_fault
-use Rattle.machine.specs.declared.opcode.Opcode.{Opcode}
+use Rattle.machine.specs.declared.issues.opcode.Opcode.{Opcode}
 use Rattle.loops.specs.Loops.{LoopData}
 use Rattle.loops.specs.Meaning as loops_meaning
 use Rattle.loops.specs.LoopFault.{LoopFault}
@@ -17,9 +17,9 @@ use Rattle.graph_text.specs.declared.fault.TextFault.{TextFault}
 use Rattle.graph_text.specs.declared.fault.TextFault.TheVariants as text_fault
 use Rattle.modsched.specs.Outcomes.{Outcome, OutcomeOf, OutcomeOn, Written, RefusedMachine, RefusedLoops, NoTable as NoTableFor}
 use Rattle.modsched.specs.Plain.{plain_outcome}
-use Rattle.modsched.specs.Refusals.{HasOneMemory, IsRefusal, PrintoutAnswer}
+use Rattle.modsched.specs.inner.Refusals.{HasOneMemory, IsRefusal, PrintoutAnswer}
 use Rattle.modsched.specs.Statuses.{status_number, refusal_of_machine, refusal_of_loops, refusal_of_text, loops_status}
-use Rattle.modsched.specs.declared.printout.Printout.{Printout}
+use Rattle.modsched.specs.declared.output.printout.Printout.{Printout}
 use Rattle.modsched.specs.declared.status.Status.{Status}
 use Rattle.modsched.specs.declared.status.Status.TheVariants.{Loops, NoTable}
 

@@ -6,7 +6,7 @@ use Rattle.machine.specs.Machines.{MachineData}
 use Rattle.loops.specs.Loops.{LoopData}
 use Rattle.ims.specs.Problems.{ProblemData, IsProblemOf}
 use Rattle.ims.specs.Schedules.{ScheduleData}
-use Rattle.kernel.specs.declared.parts.Parts.{Parts}
+use Rattle.kernel.specs.declared.kernels.parts.Parts.{Parts}
 use Rattle.overlap.specs.Allotments.{AllotmentData}
 use Rattle.overlap.specs.Emission.{emitted}
 use Rattle.candidates.specs.declared.choices.Choice.{Choice}

@@ -6,7 +6,7 @@ pub mod Explain
 pub mod Graphs
 pub mod Outcomes
 pub mod Plain
-pub mod Refusals
 pub mod Run
 pub mod Schedule
 pub mod Statuses
+pub mod inner

@@ -1,17 +1,8 @@
 //! The program: its command line, and the work of its subcommands over inputs and an output.
 #![tactic(auto)]
 
-mod bounds;
-mod cell_lines;
-mod explaining;
-mod graphs;
-mod json;
-mod kernel_runs;
-mod lines;
-mod plain;
-mod printout;
-mod run_lines;
-mod schedule;
+mod commands;
+mod output;
 mod status;
 mod subcommand;
 

@@ -5,7 +5,7 @@ ghost use Rattle.modsched.specs.Devices.{most_read};
 ghost use Rattle.modsched.specs.Engine.{CountsFault, Does, Ends, EndsWritten, machine_for, reads_machine};
 ghost use Rattle.modsched.specs.Statuses.{HasAnswered, HasWritten, IsComplete, status_number};
 
-use crate::printout::{Printout, printout_of};
+use crate::output::printout::{Printout, printout_of};
 use crate::status::Status;
 use command_line::Command;
 use devices::{Input, Output, ReadTextError, read_text, write_text};

@@ -1,12 +1,3 @@
-pub mod Residues
-pub mod Lists
-pub mod Choosing
-pub mod Rostering
-pub mod Taking
-pub mod Marking
-pub mod Owning
-pub mod Masking
-pub mod Searching
-pub mod Scheduling
-pub mod Timing
-pub mod Needing
+pub mod placements
+pub mod slots
+pub mod searching

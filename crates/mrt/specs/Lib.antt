@@ -1,9 +1,3 @@
 pub use Rattle.machine.specs.Alternative
 pub mod Placements
-pub mod Slots
-pub mod Choices
-pub mod Rosters
-pub mod OwnerTables
-pub mod Times
-pub mod MaskTables
-pub mod Turns
+pub mod inner

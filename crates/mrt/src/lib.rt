@@ -2,17 +2,13 @@
 //! interval.
 #![tactic(auto)]
 
-mod choices;
-mod kinds;
 mod mask;
 mod owner;
-mod roster;
-mod rounds;
-mod slot;
+mod rosters;
 mod table;
 #[cfg(test)]
 mod tests;
-mod times;
+mod words;
 
 pub use mask::MaskTable;
 pub use owner::OwnerTable;

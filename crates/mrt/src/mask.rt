@@ -4,15 +4,15 @@ ghost use Rattle.std.specs.Prelude.{◌≡◌, ◌↔◌, ◌+◌, ◌*◌, ◌%
 ghost use Rattle.std.specs.Int.{bit_at};
 ghost use Rattle.std.specs.List.{All};
 ghost use Rattle.mrt.specs.Placements.{alternatives_of, IsFree, IsFirstFree, IsFirstSlot};
-ghost use Rattle.mrt.specs.Slots.{IsSlot, rows_in, takes, meets_held};
-ghost use Rattle.mrt.specs.MaskTables.{is_held};
-ghost use Rattle.mrt.specs.Times.{is_on, is_set};
+ghost use Rattle.mrt.specs.inner.Slots.{IsSlot, rows_in, takes, meets_held};
+ghost use Rattle.mrt.specs.inner.MaskTables.{is_held};
+ghost use Rattle.mrt.specs.inner.Times.{is_on, is_set};
 
-use crate::roster::{Issue, Roster};
-use crate::rounds::{first_off, mark_rounds};
-use crate::slot::Slot;
+use crate::rosters::roster::{Issue, Roster};
+use crate::rosters::slot::Slot;
 use crate::table::ModuloTable;
-use crate::times::{LEAST, first_unheld, mark_times, words_at};
+use crate::words::rounds::{first_off, mark_rounds};
+use crate::words::times::{LEAST, first_unheld, mark_times, words_at};
 use machine::limits::MAX_UNITS;
 use machine::{Alternatives, OutOfMemory};
 use std::alloc::Global;
@@ -34,8 +34,8 @@ pub struct MaskTable {
 }
 
 impl Model for MaskTable {
-    ghost use Rattle.mrt.specs.Rosters.{Table};
-    ghost use Rattle.mrt.specs.MaskTables.{IsMaskTable, AreTimes};
+    ghost use Rattle.mrt.specs.inner.Rosters.{Table};
+    ghost use Rattle.mrt.specs.inner.MaskTables.{IsMaskTable, AreTimes};
 
     ghost Value = { Table };
 

@@ -4,11 +4,11 @@ ghost use Rattle.std.specs.Prelude.{◌≡◌, ◌↔◌, ◌+◌, ◌*◌, ◌%
 ghost use Rattle.std.specs.List.{All};
 ghost use Rattle.machine.specs.Alternative.{residue_of};
 ghost use Rattle.mrt.specs.Placements.{alternatives_of, IsFree};
-ghost use Rattle.mrt.specs.Slots.{IsSlot, rows_in, takes, meets_held};
-ghost use Rattle.mrt.specs.OwnerTables.{owner_at, is_owned};
+ghost use Rattle.mrt.specs.inner.Slots.{IsSlot, rows_in, takes, meets_held};
+ghost use Rattle.mrt.specs.inner.OwnerTables.{owner_at, is_owned};
 
-use crate::roster::{Issue, Roster};
-use crate::slot::Slot;
+use crate::rosters::roster::{Issue, Roster};
+use crate::rosters::slot::Slot;
 use crate::table::ModuloTable;
 use machine::{Alternatives, OutOfMemory};
 use std::alloc::Global;
@@ -29,8 +29,8 @@ pub struct OwnerTable {
 }
 
 impl Model for OwnerTable {
-    ghost use Rattle.mrt.specs.Rosters.{Table};
-    ghost use Rattle.mrt.specs.OwnerTables.{IsOwnerTable};
+    ghost use Rattle.mrt.specs.inner.Rosters.{Table};
+    ghost use Rattle.mrt.specs.inner.OwnerTables.{IsOwnerTable};
 
     ghost Value = { Table };
 

@@ -3,7 +3,7 @@
 ghost use Rattle.std.specs.Prelude.{◌≡◌, ◌+◌, ◌^◌, ◌<◌, ◌≤◌, ◌∷◌, [], ℕ, length, slice_index_or, None, IfOk, vec_len};
 ghost use Rattle.machine.specs.Alternative.{IsAlternative};
 ghost use Rattle.mrt.specs.Placements.{placement_of};
-ghost use Rattle.mrt.specs.Turns.{Tells};
+ghost use Rattle.mrt.specs.inner.Turns.{Tells};
 
 use crate::{MaskTable, ModuloTable, OwnerTable};
 use machine::{Alternative, Alternatives, OutOfMemory, Row};

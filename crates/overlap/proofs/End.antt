@@ -14,7 +14,7 @@ use Rattle.iterations.specs.Run.{MemoryData, RunState, start, after_iterations, 
 use Rattle.graph.specs.Dependences.{ComesFirst}
 use Rattle.graph.specs.Promises.{issue_of}
 use Rattle.graph.specs.Units.{greatest_of}
-use Rattle.kernel.specs.declared.parts.Parts.{Parts}
+use Rattle.kernel.specs.declared.kernels.parts.Parts.{Parts}
 use Rattle.kernel.specs.Overlapped.{InRegister, InCell, Write, physical, value_or, preloaded, last_of_all, all_writes, overlapped, turns_of, cells_after, arrays_left, out_after}
 use Rattle.overlap.specs.Allotments.{AllotmentData, allotted_number}
 use Rattle.overlap.specs.Lifetimes.{IsLiveIn, is_out, landing_of, last_landing, last_cycle, lifetime_of, lifetimes_of, rank_of}
@@ -22,21 +22,21 @@ use Rattle.ims.specs.Schedules.{ScheduleData, IsSchedule, stages_of}
 use Rattle.overlap.specs.Emission.{out_of, emitted}
 use Rattle.overlap.specs.Sequence.{state_before, given_by, write_of_instance, sequence_before}
 use Rattle.overlap.specs.Overlap.{IsRun, IsLastStore, OverlapIsSequence}
-use Rattle.overlap.proofs.Apart.{before-or_same}
+use Rattle.overlap.proofs.in_registers.Apart.{before-or_same}
 use Rattle.iterations.proofs.InstanceCells.{HaveBlocks, cell, blocks-at}
-use Rattle.overlap.proofs.Issued.{issued-from_sequence, sequence-from_issued}
-use Rattle.overlap.proofs.Landing.{contains-cases, last-of_all_is, none-of_all}
-use Rattle.overlap.proofs.LastStores.{holds-last}
-use Rattle.overlap.proofs.Lives.{times-more, greatest-of, contains-map, begins-by_landing, lasts-to_landing, lasts-to_end, life-at_rank, rank-one, flag-on}
-use Rattle.overlap.proofs.Loads.{lands-first}
-use Rattle.overlap.proofs.Made.{writes-are_of_values}
+use Rattle.overlap.proofs.in_flight.Issued.{issued-from_sequence, sequence-from_issued}
+use Rattle.overlap.proofs.in_flight.Landing.{contains-cases, last-of_all_is, none-of_all}
+use Rattle.overlap.proofs.in_cells.LastStores.{holds-last}
+use Rattle.overlap.proofs.in_registers.Lives.{times-more, greatest-of, contains-map, begins-by_landing, lasts-to_landing, lasts-to_end, life-at_rank, rank-one, flag-on}
+use Rattle.overlap.proofs.in_cells.Loads.{lands-first}
+use Rattle.overlap.proofs.in_flight.Made.{writes-are_of_values}
 use Rattle.iterations.proofs.Instances.{arrays-first, earlier-at, initial-at, slice_get-within}
-use Rattle.overlap.proofs.Preloaded.{preloaded-is}
-use Rattle.overlap.proofs.Registers.{lives-at_landing}
-use Rattle.overlap.proofs.Turned.{physical-wrapped, physical-later}
-use Rattle.overlap.proofs.Values.{map-same, map-map, blocks-of}
-use Rattle.overlap.proofs.Writes.{keeps-dependences, into-register, makes-value}
-use Rattle.graph.proofs.Promised.{values-in_time}
+use Rattle.overlap.proofs.in_registers.Preloaded.{preloaded-is}
+use Rattle.overlap.proofs.in_registers.Registers.{lives-at_landing}
+use Rattle.overlap.proofs.in_registers.Turned.{physical-wrapped, physical-later}
+use Rattle.overlap.proofs.in_flight.Values.{map-same, map-map, blocks-of}
+use Rattle.overlap.proofs.in_flight.Writes.{keeps-dependences, into-register, makes-value}
+use Rattle.graph.proofs.finding.Promised.{values-in_time}
 
 -- each instance is issued before the last turn ends
 

@@ -1,10 +1,10 @@
 -- The definitions on a loop that was worked by hand.
 use Rattle.std.proofs.Common.{◌≡◌, ℕ, List, [], ◌∷◌, Some, None, pos, negsuc, refl}
 use Rattle.std.specs.Prelude.{codes}
-use Rattle.machine.specs.declared.opcode.Opcode.TheVariants.{Load, Store, Add}
+use Rattle.machine.specs.declared.issues.opcode.Opcode.TheVariants.{Load, Store, Add}
 use Rattle.iterations.specs.declared.language.statement.Operand.TheVariants.{Value}
 use Rattle.iterations.specs.Loops.{LoopData}
-use Rattle.kernel.specs.declared.operation.Source.TheVariants.{Register}
+use Rattle.kernel.specs.declared.kernels.operation.Source.TheVariants.{Register}
 use Rattle.overlap.specs.Lifetimes.{lifetimes_of}
 use Rattle.overlap.specs.Allotments.{AllotmentData}
 use Rattle.overlap.specs.Emission.{emitted}

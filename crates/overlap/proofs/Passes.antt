@@ -11,20 +11,20 @@ use Rattle.iterations.specs.declared.language.statement.Operand.TheVariants.{Val
 use Rattle.iterations.specs.Loops.{MayRead}
 use Rattle.iterations.specs.Run.{cell_index}
 use Rattle.graph.specs.Promises.{issue_of}
-use Rattle.kernel.specs.declared.operation.Operation.{Operation}
+use Rattle.kernel.specs.declared.kernels.operation.Operation.{Operation}
 use Rattle.kernel.specs.Overlapped.{physical, preloaded, is_issued}
 use Rattle.overlap.specs.Allotments.{AllotmentData, allotted_number}
 use Rattle.ims.specs.Schedules.{ScheduleData, stage_of, row_of}
 use Rattle.overlap.specs.Emission.{name_of, source_of, operation_of, operations_from, emitted}
 use Rattle.overlap.specs.Overlap.{IsLastStore, InstancesAreIssuedOnce, NamesAreOfInstances, RegistersHoldValues, LoadsFollowStores}
-use Rattle.overlap.proofs.Issued.{cycle-from_row, row-of_issue, turn-of_issue}
-use Rattle.overlap.proofs.LastStores.{holds-last}
-use Rattle.overlap.proofs.Lives.{carried-far}
-use Rattle.overlap.proofs.Loads.{load-finds, load-opens}
+use Rattle.overlap.proofs.in_flight.Issued.{cycle-from_row, row-of_issue, turn-of_issue}
+use Rattle.overlap.proofs.in_cells.LastStores.{holds-last}
+use Rattle.overlap.proofs.in_registers.Lives.{carried-far}
+use Rattle.overlap.proofs.in_cells.Loads.{load-finds, load-opens}
 use Rattle.iterations.proofs.Instances.{slice_get-within}
-use Rattle.overlap.proofs.Preloaded.{preloaded-is}
-use Rattle.overlap.proofs.Registers.{register-lands, register-opens}
-use Rattle.overlap.proofs.Values.{name-in_turn, load-same, blocks-of, cell-index_below}
+use Rattle.overlap.proofs.in_registers.Preloaded.{preloaded-is}
+use Rattle.overlap.proofs.in_registers.Registers.{register-lands, register-opens}
+use Rattle.overlap.proofs.in_flight.Values.{name-in_turn, load-same, blocks-of, cell-index_below}
 
 -- (i)
 

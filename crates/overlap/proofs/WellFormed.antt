@@ -7,8 +7,8 @@ use Rattle.std.proofs.lemmas.Int.{ints}
 use Rattle.std.proofs.lemmas.List.{length-map}
 use Rattle.std.proofs.lemmas.List.Elements.{All-contains, All-get_or, All-nil, All-cons, All-map, Contains-get_or}
 use Rattle.std.proofs.Math.Nat.{mod-lt}
-use Rattle.machine.specs.declared.opcode.Opcode.{Opcode}
-use Rattle.machine.specs.declared.opcode.Opcode.TheVariants.{Load, Store}
+use Rattle.machine.specs.declared.issues.opcode.Opcode.{Opcode}
+use Rattle.machine.specs.declared.issues.opcode.Opcode.TheVariants.{Load, Store}
 use Rattle.iterations.specs.declared.language.statement.Statement.{Statement}
 use Rattle.iterations.specs.declared.language.statement.Place.{Place}
 use Rattle.iterations.specs.declared.language.statement.Operand.{Operand}
@@ -17,10 +17,10 @@ use Rattle.iterations.specs.declared.language.lists.Array.{Array}
 use Rattle.iterations.specs.Loops.{HasShape, MayRead, IsStatement, GivesValue, HasInitial}
 use Rattle.iterations.specs.Run.{initial_of}
 use Rattle.graph.specs.Units.{greatest_of}
-use Rattle.kernel.specs.declared.operation.Operation.{Operation}
-use Rattle.kernel.specs.declared.operation.Address.{Address}
-use Rattle.kernel.specs.declared.parts.Preload.{Preload}
-use Rattle.kernel.specs.declared.parts.Out.{Out}
+use Rattle.kernel.specs.declared.kernels.operation.Operation.{Operation}
+use Rattle.kernel.specs.declared.kernels.operation.Address.{Address}
+use Rattle.kernel.specs.declared.kernels.parts.Preload.{Preload}
+use Rattle.kernel.specs.declared.kernels.parts.Out.{Out}
 use Rattle.kernel.specs.Kernels.{HasOperationShape}
 use Rattle.kernel.specs.Check.{SourceIsThere, RegistersAreThere, ParameterIsThere, IsShaped, AddressIsThere, IsPlaced}
 use Rattle.overlap.specs.Allotments.{AllotmentData, allotted_number}
@@ -28,10 +28,10 @@ use Rattle.overlap.specs.Lifetimes.{carried, values_from, values_of}
 use Rattle.ims.specs.Schedules.{ScheduleData, IsSchedule, stage_of, stages_of}
 use Rattle.overlap.specs.Emission.{name_of, source_of, address_of, operation_of, operations_from, preloads_from, preloads_of, out_of, emitted}
 use Rattle.overlap.specs.Overlap.{Belong, KernelsAreWellFormed}
-use Rattle.overlap.proofs.Different.{pairs-cons, pairs-nil, pairs-head, pairs-tail, pairs-flat, different-few}
-use Rattle.overlap.proofs.Lives.{greatest-of, greatest-reached, contains-map, contains-map_back}
+use Rattle.overlap.proofs.in_registers.Different.{pairs-cons, pairs-nil, pairs-head, pairs-tail, pairs-flat, different-few}
+use Rattle.overlap.proofs.in_registers.Lives.{greatest-of, greatest-reached, contains-map, contains-map_back}
 use Rattle.iterations.proofs.Instances.{slice_get-within}
-use Rattle.overlap.proofs.Preloaded.{preload-back, preloads-one, value-back, number-back}
+use Rattle.overlap.proofs.in_registers.Preloaded.{preload-back, preloads-one, value-back, number-back}
 
 -- each operation is of a statement
 

@@ -7,13 +7,13 @@ use Rattle.iterations.specs.declared.language.statement.Place.{Place}
 use Rattle.iterations.specs.declared.language.statement.Statement.{Statement}
 use Rattle.iterations.specs.Loops.{LoopData}
 use Rattle.iterations.specs.Run.{initial_of}
-use Rattle.kernel.specs.declared.operation.Address.{Address}
-use Rattle.kernel.specs.declared.operation.Operation.{Operation}
-use Rattle.kernel.specs.declared.operation.Source.{Source}
-use Rattle.kernel.specs.declared.operation.Source.TheVariants.{Register, Parameter, Constant}
-use Rattle.kernel.specs.declared.parts.Parts.{Parts}
-use Rattle.kernel.specs.declared.parts.Preload.{Preload}
-use Rattle.kernel.specs.declared.parts.Out.{Out}
+use Rattle.kernel.specs.declared.kernels.operation.Address.{Address}
+use Rattle.kernel.specs.declared.kernels.operation.Operation.{Operation}
+use Rattle.kernel.specs.declared.kernels.operation.Source.{Source}
+use Rattle.kernel.specs.declared.kernels.operation.Source.TheVariants.{Register, Parameter, Constant}
+use Rattle.kernel.specs.declared.kernels.parts.Parts.{Parts}
+use Rattle.kernel.specs.declared.kernels.parts.Preload.{Preload}
+use Rattle.kernel.specs.declared.kernels.parts.Out.{Out}
 use Rattle.overlap.specs.Allotments.{AllotmentData, allotted_number}
 use Rattle.overlap.specs.Lifetimes.{carried, values_of}
 use Rattle.ims.specs.Schedules.{ScheduleData, stage_of, row_of, stages_of}

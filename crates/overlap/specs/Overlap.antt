@@ -1,6 +1,6 @@
 -- A kernel that overlaps the iterations of a loop does what the loop does one iteration after another: the passes, and the law.
 use Rattle.std.specs.Prelude.{◌≡◌, ◌↔◌, ◌⊎◌, ℕ, pos, ◌+◌, ◌-◌, ◌*◌, ◌<◌, ◌≤◌, ◌+ℤ◌, ◌-ℤ◌, true, List, map, Some, None, slice_get}
-use Rattle.machine.specs.declared.opcode.Opcode.TheVariants.{Load}
+use Rattle.machine.specs.declared.issues.opcode.Opcode.TheVariants.{Load}
 use Rattle.iterations.specs.declared.language.statement.Operand.TheVariants.{Value}
 use Rattle.iterations.specs.declared.language.statement.Place.{Place}
 use Rattle.iterations.specs.declared.language.statement.Statement.{Statement}
@@ -8,9 +8,9 @@ use Rattle.iterations.specs.Loops.{LoopData}
 use Rattle.iterations.specs.Run.{HasShapeOf, MemoryData, IsMemory, cell_index, cell_of, initial_of, plain}
 use Rattle.graph.specs.Dependences.{Uses, ComesFirst}
 use Rattle.graph.specs.Promises.{issue_of}
-use Rattle.kernel.specs.declared.operation.Operation.{Operation}
-use Rattle.kernel.specs.declared.operation.Source.TheVariants.{Register}
-use Rattle.kernel.specs.declared.parts.Parts.{Parts}
+use Rattle.kernel.specs.declared.kernels.operation.Operation.{Operation}
+use Rattle.kernel.specs.declared.kernels.operation.Source.TheVariants.{Register}
+use Rattle.kernel.specs.declared.kernels.parts.Parts.{Parts}
 use Rattle.kernel.specs.Check.{IsWellFormed}
 use Rattle.kernel.specs.Overlapped.{InRegister, InCell, Write, physical, last_landed, preloaded, is_issued, turn_of, writes_before, overlapped, value_or}
 use Rattle.overlap.specs.Allotments.{AllotmentData, IsAllotment, Suits, allotted_number}

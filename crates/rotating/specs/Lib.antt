@@ -6,9 +6,6 @@ pub use Rattle.overlap.specs.Emission
 pub use Rattle.overlap.specs.Overlap
 pub mod CheckAnswers
 pub mod Crowds
-pub mod Gaps
-pub mod Naming
 pub mod Numberless
 pub mod Residues
-pub mod Turns
-pub mod Uses
+pub mod inner

@@ -8,11 +8,11 @@ use Rattle.std.proofs.lemmas.List.FromFn.{get_or-map-range_with_len, get_or-rang
 use Rattle.std.proofs.lemmas.List.Elements.{All-filter, All-map}
 use Rattle.machine.specs.Machines.{MachineData}
 use Rattle.ims.specs.Schedules.{ScheduleData}
-use Rattle.schedule_lines.specs.declared.columns.Column.{Column}
-use Rattle.schedule_lines.specs.declared.grid.Grid.{Grid}
+use Rattle.schedule_lines.specs.declared.grids.columns.Column.{Column}
+use Rattle.schedule_lines.specs.declared.grids.grid.Grid.{Grid}
 use Rattle.schedule_lines.specs.declared.slots.Slots.{Slots}
 use Rattle.schedule_lines.specs.Columns.{cell_behind, full_mark, head_line, live_width, padded, row_line, row_width, unit_name, unit_width, used_units}
-use Rattle.schedule_lines.specs.Slots.{greatest_live, is_used, live_count, live_counts, slot_text}
+use Rattle.schedule_lines.specs.Slots.{is_used, live_count, slot_text}
 use Rattle.schedule_lines.specs.inner.Grids.{HasCells, IsGrid, cells_in, column_of, columns_in, head_in, names_in, row_in}
 use Rattle.schedule_lines.specs.inner.Tables.{AreSlots, text_at}
 use Rattle.schedule_lines.proofs.Texts.{text-is}

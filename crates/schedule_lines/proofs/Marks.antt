@@ -1,5 +1,5 @@
 -- The slots that operations take, one operation at a time.
-use Rattle.std.proofs.Common.{◌≡◌, ℕ, suc, zero, ◌+◌, ◌-◌, ◌*◌, ◌<◌, Bool, cond, List, ◌∷◌, length, get_or, filter, sym, ap, ◌∙◌, subst, inl, inr, arith}
+use Rattle.std.proofs.Common.{◌≡◌, ℕ, suc, zero, ◌+◌, ◌-◌, ◌<◌, Bool, cond, List, ◌∷◌, length, filter, sym, ap, ◌∙◌, subst, inl, inr, arith}
 use Rattle.std.specs.Prelude.{slice_get}
 use Rattle.std.specs.List.{range_with_len}
 use Rattle.std.proofs.lemmas.Bool.{cases_Bool, cond-true, cond-false}
@@ -30,14 +30,6 @@ takers-more schedule from takers old within were marked = record {
       let e : suc (n - (from + 1)) ≡ n - from = omega arith in
       subst (λ m. taker_in takers unit row ≡ place_of (slice_get (filter p (range_with_len from m)) 0)) e
       (first-taker p from (n - (from + 1)) (taker_in takers unit row) (taker_in old unit row) (were.each unit row few lt) (marked unit row few lt));
-}
-
-pub takers-none : (schedule : ScheduleData) (takers : List ℕ) → ((k : ℕ) → get_or takers k 0 ≡ 0) → AreTakersFrom schedule (length schedule.problem.operations) takers
-takers-none schedule takers free = record {
-  each = λ unit row few lt.
-      let n : ℕ = length schedule.problem.operations in
-      let e : 0 ≡ n - n = omega arith in
-      subst (λ m. taker_in takers unit row ≡ place_of (slice_get (filter (takes_slot schedule unit row) (range_with_len n m)) 0)) e (free (row * 64 + unit));
 }
 
 pub place-few : (p : ℕ → Bool) (from m : ℕ) → place_of (slice_get (filter p (range_with_len from m)) 0) < from + m + 1

@@ -1,10 +1,7 @@
 //! Schedules as text: when each value lives and in which register, and the modulo reservation table as a grid.
 #![tactic(auto)]
 
-mod cells;
-mod columns;
-mod counts;
-mod grid;
+mod grids;
 mod laws;
 mod schedule;
 mod slots;

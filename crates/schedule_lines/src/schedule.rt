@@ -4,7 +4,7 @@ ghost use Rattle.std.specs.Prelude.{◌≡◌, ◌++◌, OnOk};
 ghost use Rattle.overlap.specs.Allotments.{Suits};
 ghost use Rattle.schedule_lines.specs.ScheduleTexts.{idle_line, schedule_text};
 
-use crate::grid::{grid_of, push_grid};
+use crate::grids::grid::{grid_of, push_grid};
 use crate::values::push_values;
 use graph_text::push_told;
 use ims::Schedule;

@@ -1,10 +1,10 @@
 -- The best alternative of those tried so far.
 use Rattle.std.proofs.Common.{◌≡◌, ℕ, ◌+◌, ◌<◌, ◌≤◌, List, [], ◌++◌, length, get_or, ap, inl, inr, arith}
 use Rattle.std.proofs.lemmas.Bool.{cases_lt}
-use Rattle.machine.specs.declared.alternative.Row.{Row}
+use Rattle.machine.specs.declared.issues.alternative.Row.{Row}
 use Rattle.graph.specs.Units.{greatest_use}
 use Rattle.graph.specs.Uses.{Tallies}
-use Rattle.unit_uses.specs.Tallies.{TakesChoice}
+use Rattle.unit_uses.specs.inner.Tallies.{TakesChoice}
 
 -- the choice is the best of the first n alternatives, and the counters are those with its rows
 pub record IsBestOf (taken : List Row) (alternatives : List (List Row)) (n choice : ℕ) (counts : List ℕ) (greatest : ℕ) : Type 0 where

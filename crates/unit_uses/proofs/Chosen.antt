@@ -3,15 +3,15 @@ use Rattle.std.proofs.Common.{◌≡◌, ◌≢◌, ℕ, zero, suc, ◌+◌, ◌
 use Rattle.std.proofs.lemmas.List.{append-nil, append_assoc}
 use Rattle.std.proofs.lemmas.List.Elements.{filter_more}
 use Rattle.std.proofs.lemmas.Bool.{eq-eqb, ne_eqb}
-use Rattle.machine.specs.declared.alternative.Row.{Row}
+use Rattle.machine.specs.declared.issues.alternative.Row.{Row}
 use Rattle.machine.specs.Machines.{MachineData}
 use Rattle.iterations.specs.Loops.{LoopData}
 use Rattle.graph.specs.Units.{IsBest, AreBest, by_freedom, chosen_rows, operations_of}
 use Rattle.graph.specs.Uses.{Tallies}
-use Rattle.graph.proofs.Chosen.{length-operations}
-use Rattle.graph.proofs.Passes.{passes, passes-more, passes_all}
+use Rattle.graph.proofs.unit_bound.Chosen.{length-operations}
+use Rattle.graph.proofs.unit_bound.Passes.{passes, passes-more, passes_all}
 use Rattle.unit_uses.specs.Choices.{AreUnitChoices, by_freedom_too, choices_among, rows_at}
-use Rattle.unit_uses.specs.Tallies.{HasChosen, TakesChoice}
+use Rattle.unit_uses.specs.inner.Tallies.{HasChosen, TakesChoice}
 use Rattle.unit_uses.proofs.Among.{among-taken, among-passed, passed, passed-kept, passed-more, passed_all}
 
 best-push : (taken : List Row) (operations : List (List (List Row))) (choices : List ℕ) (alternatives : List (List Row)) (choice : ℕ)

@@ -5,11 +5,11 @@ use Rattle.std.proofs.lemmas.List.{length-append}
 use Rattle.std.proofs.lemmas.List.Elements.{All-head, All-tail}
 use Rattle.std.proofs.lemmas.List.Sums.{sum_by-cons}
 use Rattle.std.proofs.lemmas.Bool.{eq-eqb, ne_eqb, cases_eq, cases_lt, cases_order, le-leb, lt-leb}
-use Rattle.machine.specs.declared.alternative.Row.{Row}
+use Rattle.machine.specs.declared.issues.alternative.Row.{Row}
 use Rattle.machine.specs.Alternative.{AreAlternatives}
 use Rattle.graph.specs.Units.{by_freedom, chosen_rows, greatest_of, greatest_use, use_of, IsUnitBound}
-use Rattle.graph.proofs.Passes.{passes, passes_all}
-use Rattle.graph.proofs.Tally.{use_of-append}
+use Rattle.graph.proofs.unit_bound.Passes.{passes, passes_all}
+use Rattle.graph.proofs.unit_bound.Tally.{use_of-append}
 use Rattle.unit_uses.specs.Choices.{AreUnitChoices, by_freedom_too, choices_among}
 use Rattle.unit_uses.proofs.Among.{among-cons, passed, passed_all}
 use Rattle.unit_uses.proofs.Chosen.{rows-append}

@@ -1,12 +1,12 @@
 -- The rows that an operation takes.
 use Rattle.std.proofs.Common.{◌≡◌, ℕ, ◌<◌, List, [], length, get_or, sym, ap, ◌∙◌}
 use Rattle.std.proofs.lemmas.List.{get_or_default}
-use Rattle.machine.specs.declared.alternative.Row.{Row}
+use Rattle.machine.specs.declared.issues.alternative.Row.{Row}
 use Rattle.machine.specs.Machines.{MachineData, table_of}
 use Rattle.iterations.specs.declared.language.statement.Statement.{Statement}
 use Rattle.iterations.specs.Loops.{LoopData}
 use Rattle.graph.specs.Units.{alternatives_in, operations_of}
-use Rattle.graph.proofs.Chosen.{operation_at}
+use Rattle.graph.proofs.unit_bound.Chosen.{operation_at}
 use Rattle.unit_uses.specs.Choices.{rows_at}
 
 -- the alternatives of the operation of a statement that is read from a list

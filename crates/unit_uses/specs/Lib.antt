@@ -1,3 +1,3 @@
 pub mod Choices
-pub mod Tallies
 pub mod UnitLines
+pub mod inner

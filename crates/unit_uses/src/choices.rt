@@ -2,12 +2,12 @@
 
 ghost use Rattle.std.specs.Prelude.{◌≡◌, ◌≢◌, ℕ, ◌*◌, ◌-◌, ◌<◌, ◌≤◌, ◌==◌, ◌++◌, List, Vec, length, filter, IfOk};
 ghost use Rattle.std.specs.Global.{Global};
-ghost use Rattle.machine.specs.declared.alternative.Row.{Row};
+ghost use Rattle.machine.specs.declared.issues.alternative.Row.{Row};
 ghost use Rattle.graph.specs.TablesAnswer.{TablesAnswer};
 ghost use Rattle.graph.specs.Units.{first_without_table, operations_of};
 ghost use Rattle.graph.specs.Uses.{AtMost};
 ghost use Rattle.unit_uses.specs.Choices.{AreUnitChoices, choices_among};
-ghost use Rattle.unit_uses.specs.Tallies.{HasChosen};
+ghost use Rattle.unit_uses.specs.inner.Tallies.{HasChosen};
 
 use crate::tally::Tally;
 use graph::{GraphFault, missing_table};

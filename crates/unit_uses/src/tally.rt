@@ -2,10 +2,10 @@
 
 ghost use Rattle.std.specs.Prelude.{ℕ, ◌+◌, ◌<◌, ◌≤◌, ◌++◌, List, [], length};
 ghost use Rattle.std.specs.List.{All};
-ghost use Rattle.machine.specs.declared.alternative.Row.{Row};
+ghost use Rattle.machine.specs.declared.issues.alternative.Row.{Row};
 ghost use Rattle.machine.specs.Alternative.{AreAlternatives};
 ghost use Rattle.graph.specs.Uses.{AtMost, Tallies};
-ghost use Rattle.unit_uses.specs.Tallies.{TakesChoice};
+ghost use Rattle.unit_uses.specs.inner.Tallies.{TakesChoice};
 
 use machine::limits::MAX_UNITS;
 use machine::{Alternative, Row};

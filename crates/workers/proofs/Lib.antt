@@ -1,12 +1,3 @@
-pub mod Members
-pub mod Turning
-pub mod Working
-pub mod Open
-pub mod Sharing
-pub mod Nothing
-pub mod Left
-pub mod Filling
-pub mod Climbing
-pub mod Choosing
-pub mod Preparing
-pub mod Answering
+pub mod files_read
+pub mod gathered
+pub mod shared

@@ -5,11 +5,11 @@ use Rattle.candidates.specs.Outcomes.{GivesKernel, FailsBy}
 use Rattle.candidates.specs.Choices.{IsChoice}
 use Rattle.workers.specs.Gathered.{tried}
 use Rattle.candidates.specs.declared.choices.Choice.{Choice}
-use Rattle.workers.specs.declared.cells.Settled.{Settled}
-use Rattle.workers.specs.declared.cells.Settled.TheVariants.{Won, Failed}
-use Rattle.workers.specs.declared.cells.LoopCells.{LoopCells}
-use Rattle.workers.specs.declared.entry.Found.{Found}
-use Rattle.workers.specs.declared.entry.Found.TheVariants as found
+use Rattle.workers.specs.declared.reports.cells.Settled.{Settled}
+use Rattle.workers.specs.declared.reports.cells.Settled.TheVariants.{Won, Failed}
+use Rattle.workers.specs.declared.reports.cells.LoopCells.{LoopCells}
+use Rattle.workers.specs.declared.reports.entry.Found.{Found}
+use Rattle.workers.specs.declared.reports.entry.Found.TheVariants as found
 
 abbrev pub is_full : Option Settled → Bool
 is_full None = false

@@ -4,9 +4,9 @@ use Rattle.std.specs.List.{list_any, slice_index_or}
 use Rattle.ims.specs.Problems.{ProblemData, mii_of}
 use Rattle.candidates.specs.Choices.{last_of}
 use Rattle.candidates.specs.Outcomes.{GivesKernel, FailsBy}
-use Rattle.workers.specs.declared.entry.Entry.{Entry}
-use Rattle.workers.specs.declared.entry.Found.{Found}
-use Rattle.workers.specs.declared.entry.Found.TheVariants.{Won, Failed, Beaten, Unsettled}
+use Rattle.workers.specs.declared.reports.entry.Entry.{Entry}
+use Rattle.workers.specs.declared.reports.entry.Found.{Found}
+use Rattle.workers.specs.declared.reports.entry.Found.TheVariants.{Won, Failed, Beaten, Unsettled}
 
 -- the loops that a report is of, its entries, how many pieces were lost for want of memory, and whether its pass went dry;
 -- the room is for how many more entries there is memory

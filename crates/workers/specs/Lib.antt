@@ -8,9 +8,8 @@ pub use Rattle.loops.specs.Meaning
 pub use Rattle.machine.specs.MachineText
 pub mod Entries
 pub mod Worked
-pub mod Turns
 pub mod Gathered
 pub mod Settled
-pub mod Places
 pub mod Cells
 pub mod Files
+pub mod inner

@@ -9,8 +9,8 @@ use Rattle.board.specs.Views.{is_dry}
 use Rattle.ims.specs.Problems.{ProblemData, IsProblem}
 use Rattle.candidates.specs.declared.choices.Choice.{Choice}
 use Rattle.candidates.specs.declared.choices.Choice.TheVariants.{Met, Failed}
-use Rattle.workers.specs.declared.entry.Entry.{Entry}
-use Rattle.workers.specs.declared.entry.Found.TheVariants.{Unsettled}
+use Rattle.workers.specs.declared.reports.entry.Entry.{Entry}
+use Rattle.workers.specs.declared.reports.entry.Found.TheVariants.{Unsettled}
 use Rattle.candidates.specs.Pieces.{PiecesData, IsCutting, piece_count}
 use Rattle.candidates.specs.Choices.{IsChoice}
 use Rattle.workers.specs.Entries.{ReportData, IsEntry}

@@ -6,8 +6,8 @@ use Rattle.board.specs.Rule.{occurrences}
 use Rattle.board.specs.Views.{is_dry}
 use Rattle.ims.specs.Problems.{ProblemData, mii_of}
 use Rattle.candidates.specs.Pieces.{PiecesData, piece_count, loop_of_piece, start_of_piece, end_of_piece}
-use Rattle.workers.specs.declared.entry.Entry.{Entry}
-use Rattle.workers.specs.declared.entry.Found.TheVariants.{Beaten}
+use Rattle.workers.specs.declared.reports.entry.Entry.{Entry}
+use Rattle.workers.specs.declared.reports.entry.Found.TheVariants.{Beaten}
 use Rattle.workers.specs.Entries.{ReportData, In, entry_place, won_of}
 
 -- so many numbers, from one on

@@ -9,8 +9,8 @@ ghost use Rattle.candidates.specs.Promises.{IsRight};
 ghost use Rattle.workers.specs.Files.{AnswersFile, AnswersIn, AnswersOn, HaveCeiling, ListsFile, ListsProblems, Prepares, PreparesAndLists};
 
 use crate::faults::FileFault;
-use crate::gate::Gate;
-use crate::pipelines::choose_by_workers;
+use crate::working::gate::Gate;
+use crate::working::pipelines::choose_by_workers;
 use candidates::{Listing, Pieces, Settings, prepare};
 use graph::GraphFault;
 use ims::Prepared;

@@ -1,5 +1,5 @@
 //! A board is closed over all of its passes.
-ghost use Rattle.std.specs.Prelude.{◌≡◌, ◌+◌, ◌<◌, ◌≤◌, ◌↔◌, ℕ, true, All, Any, List, IsOk, IsTrue, IfOk, IfErr, IfSome, IsSome, length, map, vec_len, []};
+ghost use Rattle.std.specs.Prelude.{◌≡◌, ◌+◌, ◌<◌, ◌≤◌, ◌↔◌, ℕ, All, Any, IsOk, IsTrue, IfOk, IfErr, IfSome, IsSome, map, vec_len};
 ghost use Rattle.board.specs.Last.{IsWhole};
 ghost use Rattle.board.specs.Views.{is_dry};
 ghost use Rattle.board.specs.Rule.{Rule, times_drawn, next_of, least_of};

@@ -6,7 +6,8 @@ ghost use Rattle.clap.specs.declared.builder.command.Command.TheViews.{out-Comma
 ghost use Rattle.command_line.specs.Lines.{program_line, bounds_line, plain_line, edges_line, dot_line, schedule_line, json_line, explain_line, run_line, with_paths, with_search, path_rule, trip_rule, option_rule, ratio_rule, ceiling_rule, workers_rule, cut_rule};
 
 use crate::help;
-use clap::{Arg, Command, value_parser};
+use clap::builder::ValueParser;
+use clap::{Arg, Command};
 use std::alloc::{AllocError, Global};
 
 const VERSION: &str = "0.1.0";
@@ -65,8 +66,13 @@ fn schedule<'a>(alloc: Global) -> Result<Command<'a>, AllocError>
     ensures app { IfOk result (λ c. app_of c ≡ schedule_line) }
     ensures local { IfOk result (λ c. (out-Command c).has_globals ≡ false) }
 {
-    let (about, long_about) = (help::SCHEDULE_ABOUT, help::SCHEDULE_LONG_ABOUT);
-    with_search(alloc, over_files(alloc, "schedule", about, long_about)?)
+    let command = over_files(
+        alloc,
+        "schedule",
+        help::SCHEDULE_ABOUT,
+        help::SCHEDULE_LONG_ABOUT,
+    )?;
+    with_search(alloc, command)
 }
 
 // The subcommand `run`.
@@ -183,7 +189,7 @@ fn trip<'a>(alloc: Global) -> Arg<'a>
         .long("trip")
         .value_name("N")
         .required(true)
-        .value_parser(value_parser!(u64).range(..=100_000))
+        .value_parser(ValueParser::unsigned(0, 100_000))
         .help(help::TRIP)
 }
 
@@ -192,7 +198,7 @@ fn ratio<'a>(alloc: Global) -> Arg<'a>
     ensures rule { rule_of result ≡ ratio_rule }
     ensures local { result.global ≡ false }
 {
-    let range = value_parser!(u64).range(1..=64);
+    let range = ValueParser::unsigned(1, 64);
     option(alloc, "ratio", "R", "6", help::RATIO).value_parser(range)
 }
 
@@ -201,7 +207,7 @@ fn ceiling<'a>(alloc: Global) -> Arg<'a>
     ensures rule { rule_of result ≡ ceiling_rule }
     ensures local { result.global ≡ false }
 {
-    let range = value_parser!(u64).range(..=255);
+    let range = ValueParser::unsigned(0, 255);
     option(alloc, "ceiling", "C", "32", help::CEILING).value_parser(range)
 }
 
@@ -210,7 +216,7 @@ fn workers<'a>(alloc: Global) -> Arg<'a>
     ensures rule { rule_of result ≡ workers_rule }
     ensures local { result.global ≡ false }
 {
-    let range = value_parser!(u64).range(1..=64);
+    let range = ValueParser::unsigned(1, 64);
     option(alloc, "workers", "W", "4", help::WORKERS).value_parser(range)
 }
 
@@ -219,7 +225,7 @@ fn cut<'a>(alloc: Global) -> Arg<'a>
     ensures rule { rule_of result ≡ cut_rule }
     ensures local { result.global ≡ false }
 {
-    let range = value_parser!(u64).range(1..=256);
+    let range = ValueParser::unsigned(1, 256);
     option(alloc, "cut", "N", "4", help::CUT).value_parser(range)
 }
 

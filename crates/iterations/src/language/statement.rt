@@ -16,7 +16,7 @@ pub enum Operand {
 }
 
 impl Default for Operand {
-    ghost use Rattle.std.specs.Prelude.{ℤ, pos, ◌≡◌};
+    ghost use Rattle.std.specs.Prelude.{pos, ◌≡◌};
     ghost use Rattle.iterations.specs.declared.language.statement.Operand.TheVariants.{Constant};
 
     ghost is_default = { λ o. o ≡ Constant (pos 0) };

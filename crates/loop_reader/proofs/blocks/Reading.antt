@@ -162,10 +162,6 @@ reads-unfit number lines entries line form rest r other h =
 pub forms-next : (text this after : List ℕ) (form : Option Form) → lines_of text ≡ this ∷ lines_of after → form ≡ line_form (words_of this) → forms_of text ≡ form ∷ forms_of after
 forms-next text this after form e f = ap (map (λ line. line_form (words_of line))) e ∙ ap (λ x. x ∷ forms_of after) (sym f)
 
--- the standing lines alone
-pub whole-standing : (before : List Form) (form : Form) (lines : List (Option Form)) → is_end form ≡ false → stands before form ≡ true → whole before (Some form ∷ lines) ≡ whole (before ++ form ∷ []) lines
-whole-standing before form lines other h = whole-line before form lines other ∙ ap (λ b. whole b lines) (with-standing before form h)
-
 pub whole-unfit : (before : List Form) (form : Form) (lines : List (Option Form)) → is_end form ≡ false → stands before form ≡ false → whole before (Some form ∷ lines) ≡ whole before lines
 whole-unfit before form lines other h = whole-line before form lines other ∙ ap (λ b. whole b lines) (unfit-with before form h)
 

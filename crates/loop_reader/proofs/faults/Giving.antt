@@ -144,10 +144,6 @@ given-nothing block before inits outs form g no-init no-value no-out = record {
 
 -- what the absence of faults says
 
-none-when : (b : Bool) (k : LoopFaultKind) (rest : Kinds) → when b k ++ rest ≡ [] → (b ≡ false) × (rest ≡ [])
-none-when true k rest h = cc
-none-when false k rest h = (refl, h)
-
 pub none-front : (xs ys : Kinds) → xs ++ ys ≡ [] → (xs ≡ []) × (ys ≡ [])
 none-front [] ys h = (refl, h)
 none-front (x ∷ xs) ys h = cc

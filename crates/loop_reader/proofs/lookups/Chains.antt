@@ -1,15 +1,15 @@
 -- A table of names in chains.
-use Rattle.std.proofs.Common.{◌≡◌, ◌≢◌, ℕ, zero, suc, ◌+◌, ◌-◌, ◌<◌, ◌≤◌, ◌⊎◌, inl, inr, Bool, true, false, if◌then◌else◌, List, [], ◌∷◌, ◌++◌, length, Option, Some, None, refl, sym, ◌∙◌, ap, arith, get_or, set, replicate}
+use Rattle.std.proofs.Common.{◌≡◌, ◌≢◌, ℕ, zero, suc, ◌+◌, ◌-◌, ◌<◌, ◌≤◌, ◌⊎◌, inl, inr, Bool, true, false, if◌then◌else◌, List, [], ◌∷◌, ◌++◌, length, Option, Some, None, refl, sym, ◌∙◌, ap, arith, get_or, set}
 use Rattle.std.specs.Hash.FoldHasher as folding
 use Rattle.std.specs.Option.{option_or}
 use Rattle.std.proofs.Math.Nat.{mod-lt}
-use Rattle.std.proofs.lemmas.List.{get_or_append_left, get_or_push, get_or-set_same, get_or-set_other, get_or-replicate, length_push, length-set, length-replicate}
+use Rattle.std.proofs.lemmas.List.{get_or_append_left, get_or_push, get_or-set_same, get_or-set_other, length_push, length-set}
 use Rattle.std.proofs.lemmas.Bool.Decides.{eqb_tells}
 use Rattle.std.proofs.lemmas.Bool.{both_ways, cases_order}
 use Rattle.machine.specs.Opcodes.{same_word}
 use Rattle.loop_reader.specs.declared.names.index.Declared.{Declared}
 use Rattle.loop_reader.specs.declared.names.chains.Link.{Link}
-use Rattle.loop_reader.specs.inner.Chains.{chained_as, chain_of, nothing, name_at, IsLatest, IsLinked, AreChains}
+use Rattle.loop_reader.specs.inner.Chains.{chained_as, chain_of, nothing, name_at, IsLatest, AreChains}
 use Rattle.loop_reader.proofs.lookups.Declared.{option_or-none, option_or-assoc, same_word-here, same_word-yes}
 
 -- a choice by whether a name is this one
@@ -63,17 +63,6 @@ chained-added links one q none =
     ] in
     chained-push links one q ∙ by_case (same_word q one.name.now) refl
 
--- a name that was there is not
-pub chained-kept : (links : List Link) (name : List ℕ) (what first : Declared) (q : List ℕ) → chained_as links name ≡ Some first
-    → chained_as links q ≡ option_or (chained_as links q) (if same_word q name then Some what else None)
-chained-kept links name what first q some =
-    let by_case : (b : Bool) → same_word q name ≡ b → chained_as links q ≡ option_or (chained_as links q) (if b then Some what else None) = λ b.
-    elim b as (λ b. same_word q name ≡ b → chained_as links q ≡ option_or (chained_as links q) (if b then Some what else None)) [
-      | true ↦ λ h. let e : chained_as links q ≡ Some first = ap (chained_as links) (same_word-yes q name h) ∙ some in e ∙ sym (ap (λ o. option_or o (Some what)) e)
-      | false ↦ λ h. sym (option_or-none (chained_as links q))
-    ] in
-    by_case (same_word q name) refl
-
 -- the steps along a chain
 
 pub chain-low : (name : List ℕ) → chain_of name < 512
@@ -93,28 +82,6 @@ pub record IsPassed (links : List Link) (q : List ℕ) (at : ℕ) : Type 0 where
   pub within : at ≤ length links
   pub here : 0 < at → chain_of (name_at links (at - 1)) ≡ chain_of q
   pub others : (j : ℕ) → at ≤ j → j < length links → name_at links j ≡ q → ⊥
-
-pub passed-none : (links : List Link) (q : List ℕ) (at : ℕ) → IsLatest links (length links) (chain_of q) at → IsPassed links q at
-passed-none links q at h = record { within = h.within; here = h.here; others = λ j a b e. h.others j a b (ap chain_of e) }
-
-pub passed-one : (links : List Link) (q : List ℕ) (at : ℕ) → IsLinked links → 0 < at → IsPassed links q at → (name_at links (at - 1) ≡ q → ⊥)
-    → IsPassed links q (get_or links (at - 1) nothing).before
-passed-one links q at linked some v other =
-    let l = linked (at - 1) (omega (arith, v.within)) in
-    let within = l.within in
-    record {
-      within = omega (arith, within, v.within);
-      here = λ h. l.here h ∙ v.here some;
-      others = λ j a b e.
-          let by_case : (at ≤ j) ⊎ ((j ≡ at - 1) ⊎ (j < at - 1)) → ⊥ = λ c. elim c [
-            | inl h ↦ v.others j h b e
-            | inr d ↦ elim d [
-              | inl h ↦ other (ap (name_at links) (sym h) ∙ e)
-              | inr h ↦ l.others j a h (ap chain_of e ∙ sym (v.here some))
-            ]
-          ] in
-          by_case (three j at);
-    }
 
 -- the table with one more name
 name-left : (links : List Link) (one : Link) (j : ℕ) → j < length links → name_at (links ++ one ∷ []) j ≡ name_at links j
@@ -158,14 +125,6 @@ latest-other links one b d at is other v =
 latest-as : (links : List Link) (bound b d at to : ℕ) → IsLatest links bound b at → d ≡ b → to ≡ at → IsLatest links bound d to
 latest-as links bound b d at to v e f = rw e (rw f v)
 
-pub empty-chains : (n : ℕ) → n ≡ 512 → AreChains [] (replicate n 0)
-empty-chains n h = record {
-  size = length-replicate n 0 ∙ h;
-  latest_is = λ b low. let e = get_or-replicate {A = ℕ} n b 0 0 (omega arith) in record { within = omega (arith, e); here = λ some. absurd (omega (arith, e)); others = λ j a b. absurd (omega arith) };
-  linked = λ i low. absurd (omega arith);
-  distinct = λ i j low high. absurd (omega arith);
-}
-
 pub chained-more : (links : List Link) (latest : List ℕ) (one : Link) (b : ℕ) → b ≡ chain_of one.name.now → b < 512 → one.before ≡ get_or latest b 0
     → chained_as links one.name.now ≡ None → AreChains links latest → AreChains (links ++ one ∷ []) (set latest b (length (links ++ one ∷ [])))
 chained-more links latest one b is low link none v = record {
@@ -200,40 +159,3 @@ chained-more links latest one b is low link none v = record {
 pub record IsEmptied (links : List Link) (i : ℕ) (latest : List ℕ) : Type 0 where
   pub size : length latest ≡ 512
   pub left : (b : ℕ) → b < 512 → (get_or latest b 0 ≡ 0) ⊎ ((j : ℕ) × (i ≤ j) × (j < length links) × (chain_of (name_at links j) ≡ b))
-
-pub emptied-none : (links : List Link) (latest : List ℕ) → AreChains links latest → IsEmptied links 0 latest
-emptied-none links latest v = record {
-  size = v.size;
-  left = λ b low.
-      let l = v.latest_is b low in
-      let within = l.within in
-      elim (eqb_tells (get_or latest b 0) 0) [
-        | inl e ↦ inl e.1
-        | inr e ↦ let n = e.1 in let some : 0 < get_or latest b 0 = omega arith in inr (get_or latest b 0 - 1, omega arith, omega (arith, within, some), l.here some)
-      ];
-}
-
-pub emptied-more : (links : List Link) (i : ℕ) (latest : List ℕ) (b : ℕ) → b ≡ chain_of (name_at links i) → b < 512 → IsEmptied links i latest → IsEmptied links (i + 1) (set latest b 0)
-emptied-more links i latest b is low v = record {
-  size = length-set latest b 0 ∙ v.size;
-  left = λ d high. elim (eqb_tells d b) [
-    | inl e ↦ inl (rw e.1 (get_or-set_same latest b 0 0 (omega (arith, v.size))))
-    | inr e ↦ elim (v.left d high) [
-      | inl n ↦ inl (get_or-set_other latest b d 0 0 e.1 ∙ n)
-      | inr p ↦
-          let other : p.0 ≢ i = λ f. e.1 (sym p.3 ∙ ap (λ k. chain_of (name_at links k)) f ∙ sym is) in
-          let above = p.1 in
-          inr (p.0, omega (arith, above, other), p.2, p.3)
-    ]
-  ];
-}
-
-pub emptied-all : (links : List Link) (i : ℕ) (latest : List ℕ) → length links ≤ i → IsEmptied links i latest → AreChains [] latest
-emptied-all links i latest all v = record {
-  size = v.size;
-  latest_is = λ b low.
-      let e : get_or latest b 0 ≡ 0 = elim (v.left b low) [ inl n ↦ n | inr p ↦ let above = p.1 in let below = p.2 in absurd (omega (arith, above, below, all)) ] in
-      record { within = omega (arith, e); here = λ some. absurd (omega (arith, e)); others = λ j a b. absurd (omega arith) };
-  linked = λ i low. absurd (omega arith);
-  distinct = λ i j low high. absurd (omega arith);
-}

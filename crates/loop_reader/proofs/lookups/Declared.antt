@@ -1,5 +1,5 @@
 -- The first declaration of a name in a block.
-use Rattle.std.proofs.Common.{◌≡◌, ℕ, ◌+◌, ◌<◌, ◌≤◌, Bool, true, false, cond, List, [], ◌∷◌, ◌++◌, Option, Some, None, is_some, refl, sym, ◌∙◌, ap, arith, append_assoc}
+use Rattle.std.proofs.Common.{◌≡◌, ℕ, ◌+◌, ◌<◌, ◌≤◌, Bool, true, false, cond, List, [], ◌∷◌, ◌++◌, Option, Some, None, refl, sym, ◌∙◌, ap, arith, append_assoc}
 use Rattle.std.proofs.Common.{Decides, if◌then◌else◌}
 use Rattle.std.specs.Borrow.{Bor}
 use Rattle.std.specs.BTreeMap.{BTreeMap, get_by}
@@ -18,13 +18,12 @@ use Rattle.loop_reader.specs.declared.names.index.Declared as code
 use Rattle.std.specs.Map.{update}
 use Rattle.std.specs.Str.{bytes_eq}
 use Rattle.std.proofs.lemmas.Slice.Eq.{bytes_eq-Decides}
-use Rattle.std.proofs.lemmas.Bool.{both_ways}
 use Rattle.std.proofs.lemmas.Bool.Decides.{same_from_decides}
 use Rattle.std.proofs.lemmas.List.Sums.{sum_by-append}
 use Rattle.std.proofs.lemmas.List.{append-nil}
 use Rattle.machine.specs.Opcodes.{same_word}
 use Rattle.loop_lines.specs.Forms.{Form}
-use Rattle.loop_reader.specs.Meaning.{Declared, AnArray, AParam, AValue, declared_by, first_declared, declared, how_many, is_array, is_param, is_statement, any_name}
+use Rattle.loop_reader.specs.Meaning.{Declared, declared_by, first_declared, declared, how_many, is_array, is_param, is_statement}
 
 pub option_or-none : {T : Type 0} (a : Option T) → option_or a None ≡ a
 option_or-none None = refl
@@ -33,10 +32,6 @@ option_or-none (Some x) = refl
 pub option_or-assoc : {T : Type 0} (a b c : Option T) → option_or a (option_or b c) ≡ option_or (option_or a b) c
 option_or-assoc None b c = refl
 option_or-assoc (Some x) b c = refl
-
-pub none-there : {T : Type 0} (o p : Option T) → is_some o ≡ false → o ≡ p → p ≡ None
-none-there None p t e = sym e
-none-there (Some x) p t e = absurd (both_ways true t refl)
 
 -- a declaration behind these lines
 abbrev pub declared_after : List ℕ → List Form → Form → Option Declared

@@ -1,5 +1,5 @@
 -- Names: their bytes are ASCII; a set of them, with one more.
-use Rattle.std.proofs.Common.{◌≡◌, ℕ, zero, suc, ◌<◌, ◌≤◌, ◌&&◌, ◌||◌, not, Bool, true, false, cond, nat_le, List, [], ◌∷◌, ◌++◌, length, get_or, Result, Ok, Err, refl, sym, ◌∙◌, ap, arith, lit<, MatchResult}
+use Rattle.std.proofs.Common.{◌≡◌, ℕ, zero, suc, ◌<◌, ◌&&◌, ◌||◌, not, Bool, true, false, cond, nat_le, List, [], ◌∷◌, ◌++◌, length, get_or, Result, Ok, Err, refl, sym, ◌∙◌, ap, arith, lit<, MatchResult}
 use Rattle.std.specs.Result.{IsOk}
 use Rattle.std.specs.List.{list_any, list_all}
 use Rattle.std.specs.Str.{IsUtf8}
@@ -59,9 +59,6 @@ ok-where (Err e) U P Q u h = absurd (h.0 u)
 
 le-false : (m n : ℕ) → n < m → nat_le m n ≡ false
 le-false m n h = grind (arith, nat_tests)
-
-le-true : (m n : ℕ) → m ≤ n → nat_le m n ≡ true
-le-true m n h = grind (arith, nat_tests)
 
 pub opening-none : (names : List (List ℕ)) (name : List ℕ) (loops : ℕ) → length names ≡ loops → is_long name ≡ false → loops < 1024 → list_any (same_word name) names ≡ false → opening_faults names name ≡ []
 opening-none names name loops e long few new =

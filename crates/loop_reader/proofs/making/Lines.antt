@@ -14,7 +14,7 @@ use Rattle.iterations.specs.declared.language.lists.Param.{Param}
 use Rattle.loop_reader.specs.inner.Blocks.{one_if}
 use Rattle.loop_lines.specs.Forms.{Form, LoopLine, ArrayLine, ParamLine, InitLine, StatementLine, OutLine, EndLine, Malformed, StatementForm, Subscript, Use}
 use Rattle.iterations.specs.Loops.{IsName, IsLong, HasShape}
-use Rattle.loop_reader.specs.Meaning.{Declared, AnArray, AParam, AValue, declared, first_declared, how_many, is_array, is_param, is_statement, is_out, is_value, is_array_name, any_name, faults_of, when, Kinds, is_long, is_wide, is_wide_place, is_unknown, is_unknown_place, is_early, is_uncovered, array_in, param_in, statement_in, out_in, statement_of, number_at}
+use Rattle.loop_reader.specs.Meaning.{Declared, AnArray, AParam, AValue, declared, first_declared, how_many, is_array, is_param, is_statement, is_value, is_array_name, any_name, faults_of, when, Kinds, is_long, is_wide, is_wide_place, is_unknown, is_unknown_place, is_early, is_uncovered, array_in, param_in, statement_in, statement_of, number_at}
 use Rattle.loop_reader.proofs.lookups.Declared.{declared-append, declared_after, same_word-here, same_word-yes, how_many-push, how_many-cons}
 use Rattle.loop_reader.proofs.making.Numbered.{EachFrom}
 use Rattle.loop_reader.proofs.making.Spelled.{IsSpelled, IsSpelledUse, IsStatementForm, IsOffset, IsKept, OnSome}
@@ -70,10 +70,6 @@ param-agrees _ = refl
 pub source-agrees : (form : Form) → is_some (statement_in form) ≡ is_statement form
 source-agrees (StatementLine s) = refl
 source-agrees _ = refl
-
-pub out-agrees : (block : List Form) (form : Form) → is_some (out_in block form) ≡ is_out form
-out-agrees block (OutLine n) = refl
-out-agrees block _ = refl
 
 -- faults
 

@@ -5,8 +5,8 @@ use Rattle.std.specs.Str.Parse.{digits_value}
 use Rattle.std.proofs.lemmas.Bool.{false≢true, and_parts, ltb-false, eqb-true}
 use Rattle.std.proofs.lemmas.Int.{ints}
 use Rattle.std.proofs.lemmas.Option.{none-some, same_Some}
-use Rattle.machine.specs.declared.opcode.Opcode.{Opcode}
-use Rattle.machine.specs.declared.opcode.Opcode.TheVariants.{Load, Store}
+use Rattle.machine.specs.declared.issues.opcode.Opcode.{Opcode}
+use Rattle.machine.specs.declared.issues.opcode.Opcode.TheVariants.{Load, Store}
 use Rattle.machine.specs.Opcodes.{same_word, opcode_named}
 use Rattle.iterations.specs.declared.language.statement.Statement.{Statement}
 use Rattle.loop_reader.specs.inner.Checks.{IsBlock, IsNear}

@@ -1,6 +1,6 @@
 //! What the lines of a block give to its values.
 
-ghost use Rattle.std.specs.Prelude.{◌≡◌, ◌*◌, ◌+◌, ◌-◌, ◌<◌, ◌≤◌, ◌^◌, ℕ, OnOk, IsTrue, None, Some, Bool, false, is_some, length, replicate, slice_index_or, slice_set};
+ghost use Rattle.std.specs.Prelude.{◌≡◌, ◌*◌, ◌+◌, ◌-◌, ◌<◌, ◌≤◌, ◌^◌, ℕ, OnOk, IsTrue, None, Some, false, is_some, length, replicate, slice_set};
 ghost use Rattle.loop_reader.specs.inner.Checks.{covers, slot};
 
 use machine::limits::MAX_DISTANCE;

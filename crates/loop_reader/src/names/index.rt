@@ -1,6 +1,6 @@
 //! What the names of a block stand for.
 
-ghost use Rattle.std.specs.Prelude.{◌≡◌, ◌+◌, ◌^◌, ◌<◌, ℕ, List, IfOk, OnOk, None, Some, if◌then◌else◌, option_map};
+ghost use Rattle.std.specs.Prelude.{◌≡◌, ◌+◌, ◌^◌, ◌<◌, ℕ, List, IfOk, OnOk, None, Some, option_map};
 ghost use Rattle.loop_reader.specs.inner.Known.{known_as};
 ghost use Rattle.loop_reader.specs.Meaning.{declared, declared_by, is_array, is_param, is_statement};
 ghost use Rattle.loop_lines.specs.Parsed.{form_seen};

@@ -1,9 +1,9 @@
 -- Where lists of alternatives are kept.
 use Rattle.std.specs.Prelude.{List}
 use Rattle.std.specs.Arc.{arc_slice_items}
-use Rattle.machine.specs.declared.alternative.Row.{Row}
-use Rattle.machine.specs.declared.alternative.Shelf.{Shelf}
-use Rattle.machine.specs.declared.alternative.Shelf.TheVariants.{Own, Shared}
+use Rattle.machine.specs.declared.issues.alternative.Row.{Row}
+use Rattle.machine.specs.declared.issues.alternative.Shelf.{Shelf}
+use Rattle.machine.specs.declared.issues.alternative.Shelf.TheVariants.{Own, Shared}
 
 -- the alternatives on a shelf
 abbrev pub on_shelf : Shelf → List (List Row)

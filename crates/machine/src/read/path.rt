@@ -1,6 +1,6 @@
 //! Where a key stands in the tree of a machine text.
 
-ghost use Rattle.std.specs.Prelude.{◌≡◌, [], ◌++◌, IfOk, string_bytes};
+ghost use Rattle.std.specs.Prelude.{◌≡◌, ◌++◌, IfOk};
 ghost use Rattle.machine.specs.MachineText.{path_of, path_in};
 
 use crate::fault::Key;

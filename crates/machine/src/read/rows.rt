@@ -5,11 +5,11 @@ ghost use Rattle.std.specs.Str.{all_ascii_digits};
 ghost use Rattle.std.specs.Str.Parse.{digits_value};
 ghost use Rattle.machine.specs.Opcodes.{same_word};
 ghost use Rattle.toml.specs.View.{view};
-ghost use Rattle.machine.specs.Reads.{ReadsPart};
+ghost use Rattle.machine.specs.inner.Reads.{ReadsPart};
 ghost use Rattle.machine.specs.MachineText.{words_in, row_faults, row_in, alternative_faults, rows_of, faults_of_alternatives, alternatives_of};
 
-use crate::alternative::{Alternative, Alternatives, Row};
 use crate::fault::{Key, MachineFault};
+use crate::issues::alternative::{Alternative, Alternatives, Row};
 use crate::limits::{MAX_ALTERNATIVES, MAX_OFFSET, MAX_ROWS};
 use crate::name::Name;
 use crate::read::is_within;

@@ -4,7 +4,7 @@ ghost use Rattle.std.specs.Prelude.{◌≡◌, option_map};
 ghost use Rattle.std.specs.List.{list_any, list_all};
 ghost use Rattle.machine.specs.Opcodes.{same_word};
 ghost use Rattle.toml.specs.View.{view};
-ghost use Rattle.machine.specs.Reads.{ReadsPart};
+ghost use Rattle.machine.specs.inner.Reads.{ReadsPart};
 ghost use Rattle.machine.specs.Machines.{is_unit_word, is_unit_byte};
 ghost use Rattle.machine.specs.MachineText.{is_unit_name, unit_faults, text_of, faults_of_units, names_of};
 

@@ -3,8 +3,8 @@ use Rattle.std.specs.Prelude.{◌≡◌, ℕ, ◌+◌, ◌*◌, ◌<◌, ◌≤�
 use Rattle.std.specs.List.{All, flat_map}
 use Rattle.machine.specs.Machines.{MachineData}
 use Rattle.ims.specs.Schedules.{ScheduleData}
-use Rattle.schedule_lines.specs.declared.columns.Column.{Column}
-use Rattle.schedule_lines.specs.declared.grid.Grid.{Grid}
+use Rattle.schedule_lines.specs.declared.grids.columns.Column.{Column}
+use Rattle.schedule_lines.specs.declared.grids.grid.Grid.{Grid}
 use Rattle.schedule_lines.specs.declared.slots.Slots.{Slots}
 use Rattle.schedule_lines.specs.Columns.{cell_behind, full_mark, live_width, padded, row_width, unit_name, unit_width, used_units}
 use Rattle.schedule_lines.specs.Slots.{greatest_live, live_counts}

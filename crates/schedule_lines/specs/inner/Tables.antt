@@ -1,10 +1,10 @@
 -- The table of the slots' texts.
-use Rattle.std.specs.Prelude.{◌≡◌, ℕ, ◌+◌, ◌*◌, ◌-◌, ◌<◌, zero, suc, codes, List, [], ◌∷◌, length, filter, map, Option, Some, None, Vec, slice_get, slice_index}
+use Rattle.std.specs.Prelude.{◌≡◌, ℕ, ◌+◌, ◌*◌, ◌-◌, ◌<◌, suc, codes, List, [], ◌∷◌, length, filter, map, Option, Some, None, Vec, slice_get, slice_index}
 use Rattle.std.specs.Global.{Global}
 use Rattle.std.specs.List.{All, range_with_len, slice_index_or}
 use Rattle.ims.specs.Schedules.{ScheduleData}
 use Rattle.schedule_lines.specs.declared.slots.Slots.{Slots}
-use Rattle.schedule_lines.specs.Slots.{label_of, operations_in, slot_taker, takes_slot}
+use Rattle.schedule_lines.specs.Slots.{label_of, operations_in, takes_slot}
 
 -- the place of a slot in a table that has 64 units in each row
 abbrev pub taker_in : List ℕ → ℕ → ℕ → ℕ

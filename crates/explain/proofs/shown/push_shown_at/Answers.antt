@@ -1,7 +1,7 @@
 use Rattle.std.proofs.Common.{◌≡◌, ℕ, List, Option, ◌∙◌, subst}
 use Rattle.std.specs.Prelude.{MatchOption}
 use Rattle.std.proofs.lemmas.Result.{on_ok_weaker}
-use Rattle.ims.specs.declared.attempts.Try.TheVariants as try
+use Rattle.ims.specs.declared.outcome.attempts.Try.TheVariants as try
 use Rattle.ims.specs.Attempts.{AnswersAttempt}
 use Rattle.ims.specs.Schedules.{ScheduleData}
 use Rattle.overlap.specs.Allotments.{AllotmentData, LeastFor, NoneFor}

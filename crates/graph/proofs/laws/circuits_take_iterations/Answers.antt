@@ -1,4 +1,4 @@
-use Rattle.graph.proofs.Promised.{circuits-take_iterations}
+use Rattle.graph.proofs.finding.Promised.{circuits-take_iterations}
 use Rattle.graph.proofs.laws.circuits_take_iterations.Goals as goal
 
 pub returns : goal.returns

@@ -1,4 +1,4 @@
-use Rattle.graph.proofs.Settling.{fits-at_longer}
+use Rattle.graph.proofs.walks.Settling.{fits-at_longer}
 use Rattle.graph.proofs.laws.longer_intervals_fit.Goals as goal
 
 pub returns : goal.returns

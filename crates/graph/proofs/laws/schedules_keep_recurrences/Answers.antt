@@ -1,4 +1,4 @@
-use Rattle.graph.proofs.Recurrences.{schedules-keep_recurrences}
+use Rattle.graph.proofs.walks.Recurrences.{schedules-keep_recurrences}
 use Rattle.graph.proofs.laws.schedules_keep_recurrences.Goals as goal
 
 pub returns : goal.returns

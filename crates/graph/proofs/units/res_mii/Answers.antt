@@ -1,12 +1,12 @@
 use Rattle.std.proofs.Common.{◌≡◌, ◌+◌, ◌*◌, ◌-◌, ◌<◌, ◌≤◌, List, length, None, Ok, sym, subst, arith}
-use Rattle.machine.specs.declared.alternative.Row.{Row}
+use Rattle.machine.specs.declared.issues.alternative.Row.{Row}
 use Rattle.graph.specs.TablesAnswer.{TablesAnswer}
 use Rattle.graph.specs.Units.{IsUnitBound, operations_of, first_without_table}
 use Rattle.graph.specs.Uses.{AtMost, CountsRows}
-use Rattle.graph.proofs.Chosen.{length-operations}
-use Rattle.graph.proofs.UnitBound.{IsUnitBound-from, bound-le-interval, bound-range, operations_well_formed}
-use Rattle.graph.proofs.Passes.{passes, passes-more}
-use Rattle.graph.proofs.Tally.{CountsRows-none, AtMost-none}
+use Rattle.graph.proofs.unit_bound.Chosen.{length-operations}
+use Rattle.graph.proofs.unit_bound.UnitBound.{IsUnitBound-from, bound-le-interval, bound-range, operations_well_formed}
+use Rattle.graph.proofs.unit_bound.Passes.{passes, passes-more}
+use Rattle.graph.proofs.unit_bound.Tally.{CountsRows-none, AtMost-none}
 use Rattle.graph.proofs.units.res_mii.Goals as goal
 
 pub loop-freedom-init : goal.loop-freedom-init

@@ -3,7 +3,7 @@ use Rattle.machine.specs.Machines.{IsMachine}
 use Rattle.iterations.specs.Loops.{IsLoop}
 use Rattle.graph.specs.Units.{operations_of}
 use Rattle.graph.specs.Uses.{AtMost, CountsRows}
-use Rattle.graph.proofs.Passes.{passes}
+use Rattle.graph.proofs.unit_bound.Passes.{passes}
 use Rattle.graph.proofs.units.res_mii.Given as goal
 
 abbrev pub invariant-loop-freedom : goal.invariant-loop-freedom

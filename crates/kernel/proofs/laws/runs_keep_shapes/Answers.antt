@@ -1,4 +1,4 @@
-use Rattle.kernel.proofs.Promised.{runs-keep_shapes}
+use Rattle.kernel.proofs.cycles.Promised.{runs-keep_shapes}
 use Rattle.kernel.proofs.laws.runs_keep_shapes.Goals as goal
 
 pub returns : goal.returns

@@ -1,4 +1,4 @@
-use Rattle.kernel.proofs.Promised.{well_formed-keeps_rules}
+use Rattle.kernel.proofs.cycles.Promised.{well_formed-keeps_rules}
 use Rattle.kernel.proofs.laws.well_formed_keeps_rules.Goals as goal
 
 pub returns : goal.returns

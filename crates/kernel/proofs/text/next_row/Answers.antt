@@ -1,8 +1,8 @@
 use Rattle.std.proofs.Common.{◌≡◌, ◌⊎◌, inl, inr, refl, sym, ◌∙◌, subst, arith}
 use Rattle.std.specs.List.{All, Any}
 use Rattle.std.proofs.lemmas.List.{take_all}
-use Rattle.kernel.specs.declared.operation.Operation.{Operation}
-use Rattle.kernel.proofs.Rows.{IsBeyond, beyond_more}
+use Rattle.kernel.specs.declared.kernels.operation.Operation.{Operation}
+use Rattle.kernel.proofs.texts.Rows.{IsBeyond, beyond_more}
 use Rattle.kernel.proofs.text.next_row.Goals as goal
 use Rattle.kernel.proofs.text.next_row.Goals.{then-from-row+then-row-next, else-from-row, else-from-row-via-then-from-row+else-row-next, else-from-row-via-else-from-row}
 

@@ -1,6 +1,6 @@
 use Rattle.std.proofs.Common.{◌≡◌, ◌<◌, ◌≤◌, ◌⊎◌, take}
 use Rattle.std.specs.List.{All, Any}
-use Rattle.kernel.specs.declared.operation.Operation.{Operation}
+use Rattle.kernel.specs.declared.kernels.operation.Operation.{Operation}
 use Rattle.kernel.proofs.text.next_row.Given as goal
 
 abbrev pub invariant-loop-op : goal.invariant-loop-op

@@ -2,8 +2,8 @@ use Rattle.std.proofs.Common.{ℕ, List, ◌++◌, Bor, codes, length, string_by
 use Rattle.std.specs.List.{All}
 use Rattle.kernel.specs.Check.{IsPlaced}
 use Rattle.kernel.specs.Text.{operation_text}
-use Rattle.kernel.proofs.Deciding.{of_item}
-use Rattle.kernel.proofs.Joining.{joined_more, joined_past}
+use Rattle.kernel.proofs.shapes.Deciding.{of_item}
+use Rattle.kernel.proofs.texts.Joining.{joined_more, joined_past}
 use Rattle.kernel.proofs.text.write_operations.Goals as goal
 use Rattle.kernel.proofs.text.write_operations.Goals.{then-from-row+in_ok-push_str+in_ok-write_operation, else-from-row}
 

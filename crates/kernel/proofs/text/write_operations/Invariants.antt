@@ -1,7 +1,7 @@
 use denote.Shadow.{shadow}
 use denote.Text.{Utf8}
 use Rattle.std.proofs.Common.{◌≡◌, ◌==◌, ◌++◌, codes, drop, string_bytes, filter}
-use Rattle.kernel.specs.declared.operation.Operation.{Operation}
+use Rattle.kernel.specs.declared.kernels.operation.Operation.{Operation}
 use Rattle.kernel.specs.Text.{joined}
 use Rattle.kernel.proofs.text.write_operations.Given as goal
 

@@ -1,6 +1,6 @@
 use Rattle.std.proofs.Common.{◌≡◌, ◌++◌, take, string_bytes}
 use Rattle.std.specs.List.{flat_map}
-use Rattle.kernel.specs.declared.operation.Source.{Source}
+use Rattle.kernel.specs.declared.kernels.operation.Source.{Source}
 use Rattle.kernel.specs.Text.{spaced, source_text}
 use Rattle.kernel.proofs.text.write_plain.Given as goal
 

@@ -1,6 +1,6 @@
 use Rattle.std.proofs.Common.{◌+◌, ◌≤◌, string_bytes, refl, ap, ◌∙◌, subst, sym, arith}
 use Rattle.std.specs.List.{All}
-use Rattle.kernel.proofs.Rows.{IsBeyond, beyond_next, kernel_row_text-empty, rows_more}
+use Rattle.kernel.proofs.texts.Rows.{IsBeyond, beyond_next, kernel_row_text-empty, rows_more}
 use Rattle.kernel.proofs.text.write_rows.Goals as goal
 use Rattle.kernel.proofs.text.write_rows.Goals.{then-row-next+in_ok-write_empty_row, else-row-next+in_ok-write_row}
 

@@ -1,6 +1,6 @@
 use Rattle.std.proofs.Common.{◌≡◌, ◌-◌, ◌<◌, ◌≤◌, ◌⊎◌, ◌++◌, string_bytes}
 use Rattle.std.specs.List.{All}
-use Rattle.kernel.specs.declared.operation.Operation.{Operation}
+use Rattle.kernel.specs.declared.kernels.operation.Operation.{Operation}
 use Rattle.kernel.specs.Text.{rows_text}
 use Rattle.kernel.proofs.text.write_rows.Given as goal
 

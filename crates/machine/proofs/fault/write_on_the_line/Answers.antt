@@ -1,7 +1,7 @@
 use Rattle.std.proofs.Common.{◌≡◌, [], ◌++◌, encode_utf8_all, append_assoc, append-nil, ap, sym, ◌∙◌, refl, rules}
 use Rattle.std.specs.Char.Iter.{escape_rest}
 use Rattle.std.proofs.Output.{has_written_append, has_written_of_eq}
-use Rattle.machine.proofs.Printed.{encoded_last, printed_escaped, printed_plainly}
+use Rattle.machine.proofs.texts.Printed.{encoded_last, printed_escaped, printed_plainly}
 use Rattle.machine.proofs.fault.write_on_the_line.Goals as goal
 
 pub returns-then-not-is_ascii_control : goal.returns-then-not-is_ascii_control

@@ -1,6 +1,6 @@
 use Rattle.std.proofs.Common.{refl}
 use Rattle.toml.specs.View.{table_view}
-use Rattle.machine.proofs.Keys.{keys-all, keys-fault, keys-more}
+use Rattle.machine.proofs.checks.Keys.{keys-all, keys-fault, keys-more}
 use Rattle.machine.proofs.read.check_keys.Goals as goal
 
 pub returns-then-not-is_known : goal.returns-then-not-is_known

@@ -1,7 +1,7 @@
 use Rattle.std.proofs.Common.{sym, rules, SFits, w64}
 use Rattle.std.proofs.lemmas.Int.{to_z-of_z}
 use Rattle.std.proofs.lemmas.List.{append-nil}
-use Rattle.machine.proofs.Faults.{number-missing, number-wrong_type, number-limit, number-fine}
+use Rattle.machine.proofs.checks.Faults.{number-missing, number-wrong_type, number-limit, number-fine}
 use Rattle.machine.proofs.read.read_number.Goals as goal
 
 pub returns-in_default : goal.returns-in_default

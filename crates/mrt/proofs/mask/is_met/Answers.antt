@@ -1,8 +1,8 @@
 use Rattle.std.proofs.Common.{◌<◌, length, get_or, sym, arith}
-use Rattle.mrt.specs.declared.slot.Slot.{Slot}
-use Rattle.mrt.specs.MaskTables.{is_held}
-use Rattle.mrt.proofs.Owning.{meets_here, meets_later}
-use Rattle.mrt.proofs.Masking.{test_clear, test_set}
+use Rattle.mrt.specs.declared.rosters.slot.Slot.{Slot}
+use Rattle.mrt.specs.inner.MaskTables.{is_held}
+use Rattle.mrt.proofs.slots.Owning.{meets_here, meets_later}
+use Rattle.mrt.proofs.slots.Masking.{test_clear, test_set}
 use Rattle.mrt.proofs.mask.is_met.Goals as goal
 
 pub returns-then-busy-residue-ne0 : goal.returns-then-busy-residue-ne0

@@ -1,6 +1,6 @@
 use Rattle.std.proofs.Common.{◌≡◌, ℕ, ◌%◌, false, take}
-use Rattle.mrt.specs.Slots.{rows_in, meets_held}
-use Rattle.mrt.specs.MaskTables.{is_held}
+use Rattle.mrt.specs.inner.Slots.{rows_in, meets_held}
+use Rattle.mrt.specs.inner.MaskTables.{is_held}
 use Rattle.mrt.proofs.mask.is_met.Given as goal
 
 -- no slot so far is held

@@ -1,10 +1,10 @@
 use Rattle.std.proofs.Common.{◌<◌, ◌&&◌, eqb, length, get_or, ap, ◌∙◌, cond, arith}
 use Rattle.std.proofs.lemmas.List.{take_all}
-use Rattle.mrt.specs.declared.slot.Slot.{Slot}
-use Rattle.mrt.specs.Slots.{takes, rows_in}
-use Rattle.mrt.specs.MaskTables.{is_held}
-use Rattle.mrt.proofs.Owning.{write_more}
-use Rattle.mrt.proofs.Masking.{is_held-set}
+use Rattle.mrt.specs.declared.rosters.slot.Slot.{Slot}
+use Rattle.mrt.specs.inner.Slots.{takes, rows_in}
+use Rattle.mrt.specs.inner.MaskTables.{is_held}
+use Rattle.mrt.proofs.slots.Owning.{write_more}
+use Rattle.mrt.proofs.slots.Masking.{is_held-set}
 use Rattle.mrt.proofs.mask.mark.Goals as goal
 
 pub loop-slot-preserved : goal.loop-slot-preserved

@@ -1,6 +1,6 @@
 use Rattle.std.proofs.Common.{◌≡◌, ℕ, ◌%◌, ◌<◌, cond, take}
-use Rattle.mrt.specs.Slots.{rows_in, takes}
-use Rattle.mrt.specs.MaskTables.{is_held}
+use Rattle.mrt.specs.inner.Slots.{rows_in, takes}
+use Rattle.mrt.specs.inner.MaskTables.{is_held}
 use Rattle.mrt.proofs.mask.mark.Given as goal
 
 -- the bits of the slots so far are written, and no other

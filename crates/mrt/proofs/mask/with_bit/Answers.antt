@@ -1,4 +1,4 @@
-use Rattle.mrt.proofs.Masking.{with_set, with_cleared}
+use Rattle.mrt.proofs.slots.Masking.{with_set, with_cleared}
 use Rattle.mrt.proofs.mask.with_bit.Goals as goal
 
 pub returns-then-held : goal.returns-then-held

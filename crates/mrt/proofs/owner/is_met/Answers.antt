@@ -1,5 +1,5 @@
 use Rattle.std.proofs.Common.{sym, arith}
-use Rattle.mrt.proofs.Owning.{meets_owner}
+use Rattle.mrt.proofs.slots.Owning.{meets_owner}
 use Rattle.mrt.proofs.owner.is_met.Goals as goal
 
 pub returns-then-owners-place : goal.returns-then-owners-place

@@ -1,6 +1,6 @@
 use Rattle.std.proofs.Common.{◌≡◌, ℕ, ◌%◌, false, take}
-use Rattle.mrt.specs.Slots.{rows_in, meets_held}
-use Rattle.mrt.specs.OwnerTables.{is_owned}
+use Rattle.mrt.specs.inner.Slots.{rows_in, meets_held}
+use Rattle.mrt.specs.inner.OwnerTables.{is_owned}
 use Rattle.mrt.proofs.owner.is_met.Given as goal
 
 -- no slot so far has an owner

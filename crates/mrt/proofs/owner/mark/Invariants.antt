@@ -1,6 +1,6 @@
 use Rattle.std.proofs.Common.{◌≡◌, ℕ, ◌%◌, ◌<◌, cond, take}
-use Rattle.mrt.specs.Slots.{rows_in, takes}
-use Rattle.mrt.specs.OwnerTables.{owner_at}
+use Rattle.mrt.specs.inner.Slots.{rows_in, takes}
+use Rattle.mrt.specs.inner.OwnerTables.{owner_at}
 use Rattle.mrt.proofs.owner.mark.Given as goal
 
 -- the slots so far are given to the owner, and no other

@@ -1,5 +1,5 @@
 use Rattle.std.proofs.Common.{◌≡◌, length}
-use Rattle.mrt.specs.Turns.{Tells}
+use Rattle.mrt.specs.inner.Turns.{Tells}
 use Rattle.mrt.proofs.tests.answers.Given as goal
 
 abbrev pub invariant-loop-step : goal.invariant-loop-step

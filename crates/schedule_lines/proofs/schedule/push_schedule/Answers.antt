@@ -1,4 +1,4 @@
-use Rattle.std.proofs.Common.{◌≡◌, ◌-◌, ℕ, List, ◌++◌, length, sym, ap, ◌∙◌, append_assoc, arith}
+use Rattle.std.proofs.Common.{◌≡◌, ◌-◌, ℕ, List, ◌++◌, length, ap, ◌∙◌, append_assoc, arith}
 use Rattle.iterations.specs.Loops.{LoopData}
 use Rattle.machine.specs.Machines.{MachineData}
 use Rattle.ims.specs.Schedules.{ScheduleData}

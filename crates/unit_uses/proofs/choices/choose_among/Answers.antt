@@ -1,6 +1,6 @@
 use Rattle.std.proofs.Common.{◌≡◌, ◌≢◌, ◌+◌, ◌*◌, ◌<◌, [], length, get_or, sym, ap, ◌∙◌, arith}
 use Rattle.graph.specs.Units.{alternatives_in, operations_of}
-use Rattle.graph.proofs.Chosen.{operation_at}
+use Rattle.graph.proofs.unit_bound.Chosen.{operation_at}
 use Rattle.unit_uses.proofs.Among.{among-other}
 use Rattle.unit_uses.proofs.Chosen.{chosen-taken, chosen-passed}
 use Rattle.unit_uses.proofs.choices.choose_among.Goals as goal

@@ -1,9 +1,9 @@
 use Rattle.std.proofs.Common.{◌≡◌, ◌≢◌, ℕ, ◌+◌, ◌*◌, ◌-◌, ◌==◌, List, ◌++◌, length, take, filter}
-use Rattle.machine.specs.declared.alternative.Row.{Row}
+use Rattle.machine.specs.declared.issues.alternative.Row.{Row}
 use Rattle.graph.specs.Units.{operations_of}
 use Rattle.graph.specs.Uses.{AtMost}
 use Rattle.unit_uses.specs.Choices.{choices_among}
-use Rattle.unit_uses.specs.Tallies.{HasChosen}
+use Rattle.unit_uses.specs.inner.Tallies.{HasChosen}
 use Rattle.unit_uses.proofs.choices.choose_among.Given as goal
 
 abbrev pub invariant-loop-number : goal.invariant-loop-number

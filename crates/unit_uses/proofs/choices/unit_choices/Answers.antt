@@ -2,13 +2,13 @@ use Rattle.std.proofs.Common.{◌≡◌, ◌+◌, ◌*◌, ◌-◌, ◌<◌, ◌
 use Rattle.std.specs.Prelude.{Vec}
 use Rattle.std.specs.Global.{Global}
 use Rattle.std.proofs.lemmas.List.{take_at}
-use Rattle.machine.specs.declared.alternative.Row.{Row}
+use Rattle.machine.specs.declared.issues.alternative.Row.{Row}
 use Rattle.graph.specs.TablesAnswer.{TablesAnswer}
 use Rattle.graph.specs.Units.{first_without_table, operations_of}
 use Rattle.graph.specs.Uses.{AtMost}
-use Rattle.graph.proofs.Passes.{passes}
+use Rattle.graph.proofs.unit_bound.Passes.{passes}
 use Rattle.unit_uses.specs.Choices.{AreUnitChoices}
-use Rattle.unit_uses.specs.Tallies.{HasChosen}
+use Rattle.unit_uses.specs.inner.Tallies.{HasChosen}
 use Rattle.unit_uses.proofs.Among.{passed}
 use Rattle.unit_uses.proofs.Chosen.{chosen-pass, choices-all}
 use Rattle.unit_uses.proofs.choices.unit_choices.Goals as goal

@@ -1,8 +1,8 @@
 use Rattle.std.proofs.Common.{◌≡◌, ◌*◌, ◌-◌, ◌<◌, length}
 use Rattle.graph.specs.Units.{operations_of}
 use Rattle.graph.specs.Uses.{AtMost}
-use Rattle.graph.proofs.Passes.{passes}
-use Rattle.unit_uses.specs.Tallies.{HasChosen}
+use Rattle.graph.proofs.unit_bound.Passes.{passes}
+use Rattle.unit_uses.specs.inner.Tallies.{HasChosen}
 use Rattle.unit_uses.proofs.Among.{passed}
 use Rattle.unit_uses.proofs.choices.unit_choices.Given as goal
 

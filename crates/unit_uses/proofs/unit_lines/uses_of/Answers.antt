@@ -1,7 +1,7 @@
 use Rattle.std.proofs.Common.{◌≡◌, ◌<◌, ◌++◌, length, take, sym, ap, ◌∙◌, subst, arith}
 use Rattle.graph.specs.Units.{chosen_rows, operations_of}
 use Rattle.graph.specs.Uses.{Tallies}
-use Rattle.graph.proofs.Chosen.{length-operations}
+use Rattle.graph.proofs.unit_bound.Chosen.{length-operations}
 use Rattle.unit_uses.proofs.Chosen.{rows-more}
 use Rattle.unit_uses.proofs.unit_lines.uses_of.Goals as goal
 

@@ -1,5 +1,5 @@
 use Rattle.candidates.proofs.OneOutcomes.{one_outcome}
-use Rattle.workers.proofs.Left.{left}
+use Rattle.workers.proofs.gathered.Left.{left}
 use Rattle.workers.proofs.laws.nothing_is_left.Goals as goal
 
 pub returns : goal.returns

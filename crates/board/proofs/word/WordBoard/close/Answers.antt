@@ -2,7 +2,7 @@ use Rattle.std.proofs.Common.{◌≡◌, ◌≤◌, sym, ap, ◌∙◌, subst, a
 use Rattle.std.specs.Prelude.{All}
 use Rattle.board.specs.declared.view.Terms.{Terms}
 use Rattle.board.specs.Rule.{Rule}
-use Rattle.board.specs.Steps.{Keeps}
+use Rattle.board.specs.inner.Steps.{Keeps}
 use Rattle.board.specs.Boards.{view_of, sizes_of, pass_tag_of, tag_of}
 use Rattle.board.proofs.Closing.{closes, count_of_passes, passes_within, dry_once}
 use Rattle.board.proofs.word.WordBoard.close.Goals as goal

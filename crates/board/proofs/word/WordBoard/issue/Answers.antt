@@ -1,7 +1,7 @@
 use Rattle.std.proofs.Common.{ℕ, ◌-◌, ◌<◌, sym, ap, subst, arith}
 use Rattle.atomic_table.specs.Table.{Splits}
 use Rattle.board.specs.Views.{blank}
-use Rattle.board.specs.Steps.{Keeps, rest_of}
+use Rattle.board.specs.inner.Steps.{Keeps, rest_of}
 use Rattle.board.proofs.Opening.{splits}
 use Rattle.board.proofs.word.WordBoard.issue.Goals as goal
 

@@ -2,7 +2,7 @@ use Rattle.std.proofs.Common.{[], sym, ◌∙◌, subst}
 use Rattle.atomic_table.specs.Table.{opening}
 use Rattle.board.specs.Views.{blank}
 use Rattle.board.specs.Names.{terms_of}
-use Rattle.board.specs.Steps.{Keeps}
+use Rattle.board.specs.inner.Steps.{Keeps}
 use Rattle.board.proofs.Opening.{opens}
 use Rattle.board.proofs.word.WordBoard.new.Goals as goal
 

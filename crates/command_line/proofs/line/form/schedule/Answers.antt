@@ -7,4 +7,4 @@ use Rattle.command_line.proofs.line.form.schedule.Goals as goal
 pub returns-clause-app : goal.returns-clause-app
 unfolding schedule_line
 returns-clause-app c =
-    IfOk-weaker c.with_search.result _ _ (λ r h. h ∙ ap (λ (a : App). with_search a) c.in_ok-over_files.ensures.app) c.with_search.ensures.app
+    IfOk-weaker c.with_search.result _ _ (λ r h. h ∙ ap (λ (a : App). with_search a) c.in_ok-command.ensures.app) c.with_search.ensures.app

@@ -1,9 +1,9 @@
 use Rattle.std.proofs.Common.{◌≡◌, ◌<◌, List, [], ◌++◌, length, get_or, ap, ◌∙◌}
 use Rattle.std.proofs.lemmas.List.{get_or_default}
-use Rattle.machine.specs.declared.alternative.Row.{Row}
+use Rattle.machine.specs.declared.issues.alternative.Row.{Row}
 use Rattle.graph.specs.Units.{greatest_use}
 use Rattle.graph.specs.Uses.{Tallies}
-use Rattle.graph.proofs.Best.{best-one, best-better, best-kept, best-all}
+use Rattle.graph.proofs.unit_bound.Best.{best-one, best-better, best-kept, best-all}
 use Rattle.graph.proofs.units.Uses.best_of.Goals as goal
 use Rattle.graph.proofs.units.Uses.best_of.Goals.{then-greatest-least, else-greatest-least}
 

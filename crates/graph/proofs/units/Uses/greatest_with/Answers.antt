@@ -1,8 +1,8 @@
 use Rattle.std.proofs.Common.{◌≡◌, ◌<◌, [], ◌∷◌, ◌++◌, get_or, sym, ap, ◌∙◌, arith}
-use Rattle.machine.specs.declared.alternative.Row.{Row}
+use Rattle.machine.specs.declared.issues.alternative.Row.{Row}
 use Rattle.graph.specs.Units.{greatest_use}
-use Rattle.graph.proofs.Best.{single}
-use Rattle.graph.proofs.Tally.{Tallies-push}
+use Rattle.graph.proofs.unit_bound.Best.{single}
+use Rattle.graph.proofs.unit_bound.Tally.{Tallies-push}
 use Rattle.graph.proofs.units.Uses.greatest_with.Goals as goal
 
 pub returns-in-len1 : goal.returns-in-len1

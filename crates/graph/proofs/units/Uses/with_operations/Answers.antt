@@ -2,7 +2,7 @@ use Rattle.std.proofs.Common.{◌≡◌, ◌≢◌, ◌+◌, ◌*◌, ◌-◌, �
 use Rattle.machine.specs.Machines.{IsMachine}
 use Rattle.graph.specs.Units.{alternatives_in, operations_of}
 use Rattle.graph.specs.Uses.{CountsRows}
-use Rattle.graph.proofs.Chosen.{CountsRows-taken, CountsRows-passed, operation_at, take_operations}
+use Rattle.graph.proofs.unit_bound.Chosen.{CountsRows-taken, CountsRows-passed, operation_at, take_operations}
 use Rattle.graph.proofs.units.Uses.with_operations.Goals as goal
 use Rattle.graph.proofs.units.Uses.with_operations.Goals.{in-Some+then-alternatives-freedom, in-Some+else-alternatives-freedom, in_default}
 

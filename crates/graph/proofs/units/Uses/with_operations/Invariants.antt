@@ -1,5 +1,5 @@
 use Rattle.std.proofs.Common.{◌+◌, ◌*◌, ◌-◌, ◌==◌, ◌<◌, List, ◌++◌, length, take, filter}
-use Rattle.machine.specs.declared.alternative.Row.{Row}
+use Rattle.machine.specs.declared.issues.alternative.Row.{Row}
 use Rattle.machine.specs.Machines.{IsMachine}
 use Rattle.graph.specs.Units.{operations_of}
 use Rattle.graph.specs.Uses.{AtMost, CountsRows}

@@ -1,6 +1,6 @@
 use Rattle.std.proofs.Common.{sym, rules}
 use Rattle.std.proofs.Output.{has_written_append, has_written_of_eq}
-use Rattle.machine.proofs.Printed.{printed_last}
+use Rattle.machine.proofs.texts.Printed.{printed_last}
 use Rattle.machine.proofs.fault.KeyDisplay.fmt.Goals as goal
 
 pub loop-c-preserved : goal.loop-c-preserved

@@ -4,7 +4,7 @@ use Rattle.std.specs.List.{list_all}
 use Rattle.std.proofs.lemmas.Bool.Decides.{nat_tests}
 use Rattle.std.proofs.lemmas.Iterator.Adapters.{YieldsList-from_bytes}
 use Rattle.std.proofs.lemmas.Iterator.Search.{all_from_yields_List}
-use Rattle.machine.proofs.Texts.{all_digits}
+use Rattle.machine.proofs.texts.Texts.{all_digits}
 use Rattle.machine.proofs.read.rows.is_number.Goals as goal
 
 pub returns-then-not-is_empty : goal.returns-then-not-is_empty

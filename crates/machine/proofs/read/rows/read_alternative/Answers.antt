@@ -2,10 +2,10 @@ use Rattle.std.proofs.Common.{◌≡◌, ◌<◌, ◌≤◌, [], length, sym, �
 use Rattle.std.proofs.lemmas.List.{append-nil}
 use Rattle.toml.specs.View.{view}
 use Rattle.machine.specs.MachineText.{alternative_faults, rows_of, row_faults, row_in}
-use Rattle.machine.proofs.AlternativeFaults.{alternative-wrong_type, alternative-limit, alternative-of, alternative-rows}
-use Rattle.machine.proofs.Faults.{ReadsPart-err}
+use Rattle.machine.proofs.checks.AlternativeFaults.{alternative-wrong_type, alternative-limit, alternative-of, alternative-rows}
+use Rattle.machine.proofs.checks.Faults.{ReadsPart-err}
 use Rattle.machine.proofs.Laws.{alternative-law}
-use Rattle.machine.proofs.Turns.{count-data_of, made-more, made-all, turn-none, turn-more, turn-fault, turn-all}
+use Rattle.machine.proofs.checks.Turns.{count-data_of, made-more, made-all, turn-none, turn-more, turn-fault, turn-all}
 use Rattle.machine.proofs.read.rows.read_alternative.Goals as goal
 use Rattle.machine.proofs.read.rows.read_alternative.Goals.{After-loop-value}
 

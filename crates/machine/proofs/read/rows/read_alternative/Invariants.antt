@@ -1,7 +1,7 @@
 use Rattle.std.proofs.Common.{◌≡◌, take, map}
 use Rattle.toml.specs.View.{view}
 use Rattle.machine.specs.MachineText.{row_faults, row_in}
-use Rattle.machine.proofs.Turns.{InTurn}
+use Rattle.machine.proofs.checks.Turns.{InTurn}
 use Rattle.machine.proofs.read.rows.read_alternative.Given as goal
 
 abbrev pub invariant-loop-value : goal.invariant-loop-value

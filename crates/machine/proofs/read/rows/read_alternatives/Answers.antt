@@ -2,10 +2,10 @@ use Rattle.std.proofs.Common.{◌≡◌, ◌<◌, ◌≤◌, [], length, option_
 use Rattle.std.proofs.lemmas.List.{append-nil}
 use Rattle.toml.specs.View.{view}
 use Rattle.machine.specs.MachineText.{alternative_faults, rows_of, faults_of_alternatives, alternatives_of}
-use Rattle.machine.proofs.AlternativeFaults.{alternatives-missing, alternatives-wrong_type, alternatives-limit, alternatives-of, alternatives-rows}
-use Rattle.machine.proofs.Faults.{ReadsPart-err}
+use Rattle.machine.proofs.checks.AlternativeFaults.{alternatives-missing, alternatives-wrong_type, alternatives-limit, alternatives-of, alternatives-rows}
+use Rattle.machine.proofs.checks.Faults.{ReadsPart-err}
 use Rattle.machine.proofs.Laws.{alternatives-law}
-use Rattle.machine.proofs.Turns.{count-data_of, made-more, made-all, each-none, each-more, each-fault, each-all}
+use Rattle.machine.proofs.checks.Turns.{count-data_of, made-more, made-all, each-none, each-more, each-fault, each-all}
 use Rattle.machine.proofs.read.rows.read_alternatives.Goals as goal
 use Rattle.machine.proofs.read.rows.read_alternatives.Goals.{After-loop-value}
 

@@ -1,7 +1,7 @@
 use Rattle.std.proofs.Common.{◌≡◌, take, map}
 use Rattle.toml.specs.View.{view}
 use Rattle.machine.specs.MachineText.{alternative_faults, rows_of}
-use Rattle.machine.proofs.Turns.{InEach}
+use Rattle.machine.proofs.checks.Turns.{InEach}
 use Rattle.machine.proofs.read.rows.read_alternatives.Given as goal
 
 abbrev pub invariant-loop-value : goal.invariant-loop-value

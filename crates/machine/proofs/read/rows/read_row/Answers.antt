@@ -1,6 +1,6 @@
 use Rattle.std.proofs.Common.{◌≤◌, sym, arith}
 use Rattle.std.proofs.lemmas.List.{append-nil}
-use Rattle.machine.proofs.RowFaults.{row-wrong_type, row-limit, row-unknown, row-is, row-repeated, row-fine}
+use Rattle.machine.proofs.checks.RowFaults.{row-wrong_type, row-limit, row-unknown, row-is, row-repeated, row-fine}
 use Rattle.machine.proofs.read.rows.read_row.Goals as goal
 
 pub returns-in_default : goal.returns-in_default

@@ -1,5 +1,5 @@
 use Rattle.std.proofs.Common.{sym}
-use Rattle.machine.proofs.Words.{words-unsplit, words-fine, words-misnamed, words-unnumbered}
+use Rattle.machine.proofs.texts.Words.{words-unsplit, words-fine, words-misnamed, words-unnumbered}
 use Rattle.machine.proofs.read.rows.row_words.Goals as goal
 use Rattle.machine.proofs.read.rows.row_words.Goals.{else-is_unit_name-via-then-is_unit_name+else-is_number, else-is_unit_name-via-else-is_unit_name}
 

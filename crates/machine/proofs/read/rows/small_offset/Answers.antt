@@ -1,4 +1,4 @@
-use Rattle.machine.proofs.Texts.{parses_small}
+use Rattle.machine.proofs.texts.Texts.{parses_small}
 use Rattle.machine.proofs.read.rows.small_offset.Goals as goal
 
 pub returns-in_default : goal.returns-in_default

@@ -1,9 +1,9 @@
 use Rattle.std.proofs.Common.{[], codes, ◌∙◌, arith}
 use Rattle.std.proofs.lemmas.List.{append-nil}
 use Rattle.toml.proofs.Views.{table_get}
-use Rattle.machine.proofs.Faults.{ReadsPart-err, first-append, first-then, none-append}
+use Rattle.machine.proofs.checks.Faults.{ReadsPart-err, first-append, first-then, none-append}
 use Rattle.machine.proofs.Laws.{number-law}
-use Rattle.machine.proofs.TableFaults.{table-wrong_type, table-of, table-is}
+use Rattle.machine.proofs.checks.TableFaults.{table-wrong_type, table-of, table-is}
 use Rattle.machine.proofs.read.tables.read_operation.Goals as goal
 
 pub returns-in_default : goal.returns-in_default

@@ -2,8 +2,8 @@ use Rattle.std.proofs.Common.{◌≡◌, Some, set, sym, ◌∙◌, refl, rules,
 use Rattle.std.specs.List.{flat_map}
 use Rattle.toml.specs.View.{view, members_view}
 use Rattle.machine.specs.MachineText.{entries_of, entry_faults}
-use Rattle.machine.proofs.Faults.{ReadsPart-err}
-use Rattle.machine.proofs.TableFaults.{tables-missing, tables-wrong_type, tables-of, tables-keys}
+use Rattle.machine.proofs.checks.Faults.{ReadsPart-err}
+use Rattle.machine.proofs.checks.TableFaults.{tables-missing, tables-wrong_type, tables-of, tables-keys}
 use Rattle.machine.proofs.Slots.{SlotsRight, slots-none, slots-more, slots-all, entry-unknown, entry-fault, entry-more, entries-all}
 use Rattle.machine.proofs.read.tables.read_tables.Goals as goal
 use Rattle.machine.proofs.read.tables.read_tables.Goals.{After-into_iter-key-iterator, After-number}

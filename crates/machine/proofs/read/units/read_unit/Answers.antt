@@ -1,5 +1,5 @@
 use Rattle.std.proofs.Common.{◌∙◌, sym}
-use Rattle.machine.proofs.Faults.{unit-wrong_type, unit-limit, unit-repeated, unit-fine, unit-text}
+use Rattle.machine.proofs.checks.Faults.{unit-wrong_type, unit-limit, unit-repeated, unit-fine, unit-text}
 use Rattle.machine.proofs.read.units.read_unit.Goals as goal
 
 pub returns-in_default : goal.returns-in_default

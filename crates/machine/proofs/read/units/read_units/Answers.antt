@@ -1,7 +1,7 @@
 use Rattle.std.proofs.Common.{◌<◌, ◌≤◌, length, sym, ◌∙◌, arith}
 use Rattle.machine.specs.MachineText.{unit_faults, text_of}
-use Rattle.machine.proofs.Faults.{ReadsPart-err, units-missing, units-wrong_type, units-limit, units-of, units-names}
-use Rattle.machine.proofs.Turns.{count-data_of, made-more, made-all, turn-none, turn-more, turn-fault, turn-all}
+use Rattle.machine.proofs.checks.Faults.{ReadsPart-err, units-missing, units-wrong_type, units-limit, units-of, units-names}
+use Rattle.machine.proofs.checks.Turns.{count-data_of, made-more, made-all, turn-none, turn-more, turn-fault, turn-all}
 use Rattle.machine.proofs.read.units.read_units.Goals as goal
 
 pub returns-in_default : goal.returns-in_default

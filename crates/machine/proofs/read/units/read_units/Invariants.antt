@@ -1,7 +1,7 @@
 use Rattle.std.proofs.Common.{◌≡◌, take, map}
 use Rattle.toml.specs.View.{view}
 use Rattle.machine.specs.MachineText.{unit_faults, text_of}
-use Rattle.machine.proofs.Turns.{InTurn}
+use Rattle.machine.proofs.checks.Turns.{InTurn}
 use Rattle.machine.proofs.read.units.read_units.Given as goal
 
 abbrev pub invariant-loop-unit : goal.invariant-loop-unit

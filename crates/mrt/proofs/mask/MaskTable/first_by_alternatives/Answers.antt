@@ -1,6 +1,6 @@
 use Rattle.std.proofs.Common.{◌≡◌, ◌%◌, ◌<◌, ℕ, length, sym, arith}
 use Rattle.mrt.specs.Placements.{alternatives_of}
-use Rattle.mrt.proofs.Searching.{IsBest-taken, IsBest-kept, is_free_after, first_slot_at_once, first_slot_some, first_slot_none}
+use Rattle.mrt.proofs.searching.Searching.{IsBest-taken, IsBest-kept, is_free_after, first_slot_at_once, first_slot_some, first_slot_none}
 use Rattle.mrt.proofs.mask.MaskTable.first_by_alternatives.Goals as goal
 use Rattle.mrt.proofs.mask.MaskTable.first_by_alternatives.Goals.{then-cycle-first+else-cycle-eq0, else-cycle-first}
 

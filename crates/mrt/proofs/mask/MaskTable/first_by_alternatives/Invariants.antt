@@ -1,5 +1,5 @@
 -- The best of the alternatives so far.
-use Rattle.mrt.proofs.Searching.{IsBest, is_free_after}
+use Rattle.mrt.proofs.searching.Searching.{IsBest, is_free_after}
 use Rattle.mrt.proofs.mask.MaskTable.first_by_alternatives.Given as goal
 
 abbrev pub invariant-loop-alternative : goal.invariant-loop-alternative

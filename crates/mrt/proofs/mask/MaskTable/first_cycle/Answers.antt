@@ -1,9 +1,9 @@
 -- Where the slots meet one that is held, the operation cannot be issued, and where they meet none, it can.
 use Rattle.std.proofs.Common.{◌≡◌, ◌<◌, ◌%◌, ◌+◌, length, arith}
 use Rattle.mrt.specs.Placements.{alternatives_of}
-use Rattle.mrt.specs.MaskTables.{is_held}
-use Rattle.mrt.proofs.Choosing.{slot_units}
-use Rattle.mrt.proofs.Searching.{free_from_met, taken_from_met}
+use Rattle.mrt.specs.inner.MaskTables.{is_held}
+use Rattle.mrt.proofs.placements.Choosing.{slot_units}
+use Rattle.mrt.proofs.searching.Searching.{free_from_met, taken_from_met}
 use Rattle.mrt.proofs.mask.MaskTable.first_cycle.Goals as goal
 
 pub returns-then-ii-lt-LEAST-clause-none_sooner : goal.returns-then-ii-lt-LEAST-clause-none_sooner

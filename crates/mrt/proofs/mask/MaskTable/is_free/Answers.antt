@@ -1,8 +1,8 @@
 use Rattle.std.proofs.Common.{◌≡◌, ◌%◌, ◌<◌, length}
 use Rattle.mrt.specs.Placements.{alternatives_of}
-use Rattle.mrt.specs.MaskTables.{is_held}
-use Rattle.mrt.proofs.Choosing.{slot_units}
-use Rattle.mrt.proofs.Taking.{free_from_unmet}
+use Rattle.mrt.specs.inner.MaskTables.{is_held}
+use Rattle.mrt.proofs.placements.Choosing.{slot_units}
+use Rattle.mrt.proofs.searching.Taking.{free_from_unmet}
 use Rattle.mrt.proofs.mask.MaskTable.is_free.Goals as goal
 
 pub returns : goal.returns

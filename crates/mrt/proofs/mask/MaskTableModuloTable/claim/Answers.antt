@@ -1,9 +1,9 @@
 use Rattle.std.proofs.Common.{◌≡◌, ℕ, ◌%◌, ◌<◌, cond, true, None, length, drop, sym, ap, ◌∙◌}
 use Rattle.std.proofs.lemmas.List.{take_at}
 use Rattle.mrt.specs.Placements.{Placement, placement_of, rows_of, IsFree}
-use Rattle.mrt.specs.Slots.{takes}
-use Rattle.mrt.specs.MaskTables.{is_held}
-use Rattle.mrt.proofs.Masking.{IsMaskTable-placed, AreTimes-marked}
+use Rattle.mrt.specs.inner.Slots.{takes}
+use Rattle.mrt.specs.inner.MaskTables.{is_held}
+use Rattle.mrt.proofs.slots.Masking.{IsMaskTable-placed, AreTimes-marked}
 use Rattle.mrt.proofs.mask.MaskTableModuloTable.claim.Goals as goal
 
 pub invariant_of-self : goal.invariant_of-self

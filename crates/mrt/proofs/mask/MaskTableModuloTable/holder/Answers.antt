@@ -3,12 +3,12 @@ use Rattle.std.specs.List.{slice_get}
 use Rattle.std.proofs.lemmas.Option.{slice_get_within}
 use Rattle.std.proofs.lemmas.List.{get_or_read}
 use Rattle.machine.specs.Alternative.{residue_of}
-use Rattle.mrt.specs.declared.slot.Slot.{Slot}
+use Rattle.mrt.specs.declared.rosters.slot.Slot.{Slot}
 use Rattle.mrt.specs.Placements.{rows_of}
-use Rattle.mrt.specs.MaskTables.{is_held}
-use Rattle.mrt.proofs.Choosing.{row_within}
-use Rattle.mrt.proofs.Taking.{row_at}
-use Rattle.mrt.proofs.Masking.{test_clear, unmarked, nobody_holds, holder_of_taker}
+use Rattle.mrt.specs.inner.MaskTables.{is_held}
+use Rattle.mrt.proofs.placements.Choosing.{row_within}
+use Rattle.mrt.proofs.searching.Taking.{row_at}
+use Rattle.mrt.proofs.slots.Masking.{test_clear, unmarked, nobody_holds, holder_of_taker}
 use Rattle.mrt.proofs.mask.MaskTableModuloTable.holder.Goals as goal
 
 zero : Slot

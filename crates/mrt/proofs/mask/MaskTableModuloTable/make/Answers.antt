@@ -1,5 +1,5 @@
 use Rattle.std.proofs.Common.{◌≤◌, refl, arith}
-use Rattle.mrt.proofs.Masking.{IsMaskTable-new, AreTimes-new}
+use Rattle.mrt.proofs.slots.Masking.{IsMaskTable-new, AreTimes-new}
 use Rattle.mrt.proofs.mask.MaskTableModuloTable.make.Goals as goal
 
 pub invariant_of-result : goal.invariant_of-result

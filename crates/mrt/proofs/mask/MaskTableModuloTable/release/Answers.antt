@@ -1,10 +1,10 @@
 use Rattle.std.proofs.Common.{◌≡◌, ℕ, ◌<◌, cond, false, length, drop, sym, ap, ◌∙◌}
 use Rattle.std.proofs.lemmas.List.{take_at}
 use Rattle.mrt.specs.Placements.{rows_of}
-use Rattle.mrt.specs.Rosters.{placement}
-use Rattle.mrt.specs.Slots.{takes}
-use Rattle.mrt.specs.MaskTables.{is_held}
-use Rattle.mrt.proofs.Masking.{IsMaskTable-removed, AreTimes-marked}
+use Rattle.mrt.specs.inner.Rosters.{placement}
+use Rattle.mrt.specs.inner.Slots.{takes}
+use Rattle.mrt.specs.inner.MaskTables.{is_held}
+use Rattle.mrt.proofs.slots.Masking.{IsMaskTable-removed, AreTimes-marked}
 use Rattle.mrt.proofs.mask.MaskTableModuloTable.release.Goals as goal
 
 pub invariant_of-self : goal.invariant_of-self

@@ -1,9 +1,9 @@
 use Rattle.std.proofs.Common.{◌≡◌, ◌%◌, ◌<◌, length}
 use Rattle.mrt.specs.Placements.{alternatives_of}
-use Rattle.mrt.specs.OwnerTables.{is_owned}
-use Rattle.mrt.proofs.Choosing.{covered_slots}
-use Rattle.mrt.proofs.Owning.{Occupies-from_owners}
-use Rattle.mrt.proofs.Taking.{free_from_unmet}
+use Rattle.mrt.specs.inner.OwnerTables.{is_owned}
+use Rattle.mrt.proofs.placements.Choosing.{covered_slots}
+use Rattle.mrt.proofs.slots.Owning.{Occupies-from_owners}
+use Rattle.mrt.proofs.searching.Taking.{free_from_unmet}
 use Rattle.mrt.proofs.owner.OwnerTable.is_free.Goals as goal
 
 pub is_met-requires-clause-covered : goal.is_met-requires-clause-covered

@@ -1,8 +1,8 @@
 use Rattle.std.proofs.Common.{◌≡◌, ◌%◌, ◌<◌, None, length, drop, sym, ap, ◌∙◌}
 use Rattle.std.proofs.lemmas.List.{take_at}
 use Rattle.mrt.specs.Placements.{Placement, placement_of, IsFree}
-use Rattle.mrt.proofs.Choosing.{covered_slots}
-use Rattle.mrt.proofs.Owning.{IsOwnerTable-placed}
+use Rattle.mrt.proofs.placements.Choosing.{covered_slots}
+use Rattle.mrt.proofs.slots.Owning.{IsOwnerTable-placed}
 use Rattle.mrt.proofs.owner.OwnerTableModuloTable.claim.Goals as goal
 
 pub mark-requires-clause-covered : goal.mark-requires-clause-covered

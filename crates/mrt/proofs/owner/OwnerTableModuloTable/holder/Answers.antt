@@ -1,14 +1,14 @@
 use Rattle.std.proofs.Common.{◌≡◌, ◌<◌, ◌+◌, ◌*◌, ◌%◌, length, sym, ap, ◌∙◌, arith, Some}
 use Rattle.std.specs.List.{slice_get}
 use Rattle.std.proofs.lemmas.Option.{slice_get_within}
-use Rattle.machine.specs.declared.alternative.Row.{Row}
+use Rattle.machine.specs.declared.issues.alternative.Row.{Row}
 use Rattle.machine.specs.Alternative.{residue_of}
 use Rattle.mrt.specs.Placements.{rows_of}
-use Rattle.mrt.specs.declared.slot.Slot.{Slot}
-use Rattle.mrt.specs.OwnerTables.{owner_at}
-use Rattle.mrt.proofs.Choosing.{covered_slots, row_within}
-use Rattle.mrt.proofs.Taking.{row_at}
-use Rattle.mrt.proofs.Owning.{no_holder, one_holder, owner_read}
+use Rattle.mrt.specs.declared.rosters.slot.Slot.{Slot}
+use Rattle.mrt.specs.inner.OwnerTables.{owner_at}
+use Rattle.mrt.proofs.placements.Choosing.{covered_slots, row_within}
+use Rattle.mrt.proofs.searching.Taking.{row_at}
+use Rattle.mrt.proofs.slots.Owning.{no_holder, one_holder, owner_read}
 use Rattle.mrt.proofs.owner.OwnerTableModuloTable.holder.Goals as goal
 use Rattle.mrt.proofs.owner.OwnerTableModuloTable.holder.Goals.{After-index-owner}
 

@@ -1,6 +1,6 @@
 use Rattle.std.proofs.Common.{◌≡◌, ◌*◌, ◌≤◌, length, replicate, arith, refl}
 use Rattle.mrt.specs.declared.owner.TheConstants.{FREE}
-use Rattle.mrt.proofs.Owning.{IsOwnerTable-new}
+use Rattle.mrt.proofs.slots.Owning.{IsOwnerTable-new}
 use Rattle.mrt.proofs.owner.OwnerTableModuloTable.make.Goals as goal
 
 pub invariant_of-result : goal.invariant_of-result

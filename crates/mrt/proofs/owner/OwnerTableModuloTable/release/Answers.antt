@@ -1,8 +1,8 @@
 use Rattle.std.proofs.Common.{◌≡◌, length, drop, sym, ap, ◌∙◌}
 use Rattle.std.proofs.lemmas.List.{take_at}
-use Rattle.mrt.specs.Rosters.{placement}
-use Rattle.mrt.proofs.Choosing.{covered_slots}
-use Rattle.mrt.proofs.Owning.{IsOwnerTable-removed}
+use Rattle.mrt.specs.inner.Rosters.{placement}
+use Rattle.mrt.proofs.placements.Choosing.{covered_slots}
+use Rattle.mrt.proofs.slots.Owning.{IsOwnerTable-removed}
 use Rattle.mrt.proofs.owner.OwnerTableModuloTable.release.Goals as goal
 
 pub mark-requires-clause-covered : goal.mark-requires-clause-covered

@@ -1,4 +1,4 @@
-use Rattle.graph.proofs.Tally.{Tallies-none, AtMost-none}
+use Rattle.graph.proofs.unit_bound.Tally.{Tallies-none, AtMost-none}
 use Rattle.unit_uses.proofs.tally.Tally.none.Goals as goal
 
 pub returns-clause-tallied : goal.returns-clause-tallied

@@ -1,0 +1,89 @@
+//! What is behind the failure of an interval, as text.
+
+ghost use Rattle.std.specs.Prelude.{◌≡◌, ◌<◌, ◌++◌, length, Some, OnOk};
+ghost use Rattle.std.specs.List.{All, flat_map};
+ghost use Rattle.ims.specs.Culprits.{AnswersCulprit};
+ghost use Rattle.ims.specs.Problems.{budget_of};
+ghost use Rattle.explain.specs.Reasons.{IsReason, culprit_text, life_text, named, reason_text};
+
+use crate::intervals::reasons::Reason;
+use graph_text::{push_name, push_told};
+use ims::{Culprit, Prepared};
+use iterations::Loop;
+use machine::limits::MAX_STATEMENTS;
+use rotating::Lifetime;
+use std::alloc::AllocError;
+
+/// Appends the name of an operation behind a blank.
+fn push_named(text: &mut Vec<u8>, innermost: &Loop, op: usize) -> Result<(), AllocError>
+    requires { op < length innermost.now.statements }
+    ensures ok { OnOk result (text.new.items ≡ text.old.items ++ named innermost.now op) }
+{
+    prove!(innermost.statements().len() <= MAX_STATEMENTS);
+    text.extend_from_slice(b" ")?;
+    push_name(text, innermost, op as u8)
+}
+
+/// Appends the names of operations, each behind a blank.
+fn push_all_named(text: &mut Vec<u8>, innermost: &Loop, ops: &[usize]) -> Result<(), AllocError>
+    requires { All (λ op. op < length innermost.now.statements) ops.now }
+    ensures ok { OnOk result (text.new.items ≡ text.old.items ++ flat_map (named innermost.now) ops.now) }
+{
+    for op in ops {
+        push_named(text, innermost, *op)?;
+    }
+    Ok(())
+}
+
+/// Appends the name of an operation and when it is issued.
+fn push_late(text: &mut Vec<u8>, innermost: &Loop, op: usize, time: u64) -> Result<(), AllocError>
+    requires { op < length innermost.now.statements }
+    ensures ok { OnOk result (text.new.items ≡ text.old.items ++ culprit_text innermost.now (Culprit.Late op time)) }
+{
+    push_named(text, innermost, op)?;
+    push_told(text, b" at ", time)
+}
+
+/// Appends the name of a value and when it lives.
+fn push_life(text: &mut Vec<u8>, innermost: &Loop, life: Lifetime) -> Result<(), AllocError>
+    requires { life.operation < length innermost.now.statements }
+    ensures ok { OnOk result (text.new.items ≡ text.old.items ++ life_text innermost.now life) }
+{
+    push_named(text, innermost, usize::from(life.operation))?;
+    push_told(text, b" lives ", life.first)?;
+    push_told(text, b" to ", life.last)
+}
+
+/// Appends what keeps an attempt from a schedule.
+fn push_culprit(
+    text: &mut Vec<u8>,
+    prepared: &Prepared,
+    _interval: u64,
+    culprit: &Culprit,
+) -> Result<(), AllocError>
+    requires is { AnswersCulprit prepared.now _interval (budget_of prepared.now) (Some culprit.now) }
+    ensures ok { OnOk result (text.new.items ≡ text.old.items ++ culprit_text prepared.now.loop culprit.now) }
+{
+    let innermost = prepared.innermost();
+    match culprit {
+        Culprit::Blocked(op) => push_named(text, innermost, *op),
+        Culprit::Unplaced(ops) => push_all_named(text, innermost, ops.as_slice()),
+        Culprit::Late(op, time) => push_late(text, innermost, *op, *time),
+    }
+}
+
+/// Appends what is behind the failure of an interval.
+pub(crate) fn push_reason(
+    text: &mut Vec<u8>,
+    prepared: &Prepared,
+    interval: u64,
+    reason: &Reason,
+) -> Result<(), AllocError>
+    requires is { IsReason prepared.now interval reason.now }
+    ensures ok { OnOk result (text.new.items ≡ text.old.items ++ reason_text prepared.now.loop reason.now) }
+{
+    match reason {
+        Reason::Attempt(culprit) => push_culprit(text, prepared, interval, culprit),
+        Reason::Register(life) => push_life(text, prepared.innermost(), *life),
+    }
+}

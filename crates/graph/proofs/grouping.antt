@@ -1,0 +1,3 @@
+-- Edges by operation.
+pub mod Grouping
+pub mod Slices

@@ -1,0 +1,157 @@
+-- What the unit bound is between, and below.
+use Rattle.std.proofs.Common.{◌≡◌, ℕ, suc, ◌+◌, ◌*◌, ◌<◌, ◌≤◌, Bool, cond, List, [], ◌∷◌, ◌++◌, length, get_or, map, refl, sym, ap, ◌∙◌, subst, arith, eqb, Option, Some, None}
+use Rattle.std.proofs.lemmas.List.{length-append, length-map, get_or-map}
+use Rattle.std.proofs.lemmas.List.Elements.{All-head, All-tail, All-cons, All-nil}
+use Rattle.std.proofs.lemmas.List.Sums.{sum_by-cons, count_by-le-length}
+use Rattle.std.proofs.lemmas.Bool.{eq-eqb}
+use Rattle.std.specs.List.{slice_index, flat_map, find, All}
+use Rattle.std.specs.Option.{is_none}
+use Rattle.machine.specs.declared.issues.alternative.Row.{Row}
+use Rattle.machine.specs.declared.issues.opcode.Opcode.{Opcode}
+use Rattle.machine.specs.Alternative.{AreAlternatives, rows_meet}
+use Rattle.machine.specs.Machines.{MachineData, OperationData, IsMachine, table_of}
+use Rattle.iterations.specs.Loops.{LoopData}
+use Rattle.graph.specs.Units.{use_of, greatest_of, greatest_use, AreBest, chosen_rows, by_freedom, IsUnitBound, operations_of, opcodes_of, alternatives_in, first_without_table}
+use Rattle.graph.specs.Schedules.{IsPlan, KeepsUnits, issued_rows}
+use Rattle.graph.specs.Uses.{CountsRows}
+use Rattle.graph.proofs.unit_bound.Passes.{by_freedom_single, length-by_freedom, passes, passes_all, passes_keep}
+use Rattle.graph.proofs.unit_bound.Pigeons.{Apart, use-le-interval}
+
+greatest_of-le : (f : Row → ℕ) (bound : ℕ) → ((r : Row) → f r ≤ bound) → (rows : List Row) → greatest_of (map f rows) ≤ bound
+greatest_of-le f bound h [] = omega arith
+greatest_of-le f bound h (r ∷ rows) =
+    let rest : greatest_of (map f rows) ≤ bound = greatest_of-le f bound h rows in
+    let here : f r ≤ bound = h r in
+    omega arith
+
+greatest_use-le : (rows : List Row) (bound : ℕ) → ((unit : ℕ) → use_of rows unit ≤ bound) → greatest_use rows ≤ bound
+greatest_use-le rows bound h = greatest_of-le (λ r. use_of rows r.unit) bound (λ r. h r.unit) rows
+
+greatest_use-le-length : (rows : List Row) → greatest_use rows ≤ length rows
+greatest_use-le-length rows = greatest_use-le rows (length rows) (λ unit. count_by-le-length (λ (r : Row). eqb r.unit unit) rows)
+
+greatest_use-from_one : (rows : List Row) → 0 < length rows → 1 ≤ greatest_use rows
+greatest_use-from_one [] some = absurd (omega arith)
+greatest_use-from_one (r ∷ rows) some =
+    let one_if : Bool → ℕ = λ b. cond b 1 0 in
+    let a : use_of (r ∷ rows) r.unit ≡ one_if (eqb r.unit r.unit) + use_of rows r.unit = sum_by-cons (λ (s : Row). cond (eqb s.unit r.unit) 1 0) r rows in
+    let b : one_if (eqb r.unit r.unit) ≡ 1 = ap one_if (eq-eqb r.unit r.unit refl) in
+    omega arith
+
+-- the choices of operations with one alternative are all that one
+chosen-single : (taken : List Row) (operations : List (List (List Row))) (choices : List ℕ) → AreBest taken operations choices
+    → All (λ alternatives. length alternatives ≡ 1) operations
+    → chosen_rows operations choices ≡ flat_map (λ rows. rows) (map (λ (alternatives : List (List Row)). get_or alternatives 0 []) operations)
+chosen-single taken [] choices best one = refl
+chosen-single taken (first ∷ operations) [] best one = absurd best
+chosen-single taken (first ∷ operations) (k ∷ choices) best one =
+    let e : length first ≡ 1 = All-head (λ alternatives. length alternatives ≡ 1) first operations one in
+    let there : k < length first = best.0.there in
+    let zero : k ≡ 0 = omega arith in
+    let rest : chosen_rows operations choices ≡ flat_map (λ rows. rows) (map (λ (alternatives : List (List Row)). get_or alternatives 0 []) operations)
+    = chosen-single (taken ++ get_or first k []) operations choices best.1 (All-tail (λ alternatives. length alternatives ≡ 1) first operations one) in
+    ap (λ i. get_or first i [] ++ chosen_rows operations choices) zero ∙ ap (λ l. get_or first 0 [] ++ l) rest
+
+Apart-from_KeepsUnits : (ii : ℕ) (operations : List (List (List Row))) (times choices : List ℕ) → All (λ alternatives. length alternatives ≡ 1) operations
+    → IsPlan operations times choices → KeepsUnits ii operations times choices → Apart ii (map (λ (alternatives : List (List Row)). get_or alternatives 0 []) operations) times
+Apart-from_KeepsUnits ii operations times choices one plan keeps =
+    let first : List (List Row) → List Row = λ alternatives. get_or alternatives 0 [] in
+    let long : length (map first operations) ≡ length operations = length-map operations first in
+    let same : (p : ℕ) → p < length operations → get_or (map first operations) p [] ≡ issued_rows operations choices p
+    = λ p h.
+    let e : length (get_or operations p []) ≡ 1 = one p [] h in
+    let there : slice_index choices p < length (get_or operations p []) = plan.there p h in
+    let zero : slice_index choices p ≡ 0 = omega arith in
+    get_or-map first operations p [] [] h ∙ ap (λ i. get_or (get_or operations p []) i []) (sym zero) in
+    λ p q i j d l m n o meet.
+    let hp : p < length operations = omega arith in
+    let hq : q < length operations = omega arith in
+    let sp : get_or (map first operations) p [] ≡ issued_rows operations choices p = same p hp in
+    let sq : get_or (map first operations) q [] ≡ issued_rows operations choices q = same q hq in
+    keeps p q i j d hp hq (subst (λ rows. i < length rows) sp n) (subst (λ rows. j < length rows) sq o)
+    (ap (λ rows. rows_meet ii (get_or rows i d) (slice_index times p) (get_or (issued_rows operations choices q) j d) (slice_index times q)) (sym sp)
+    ∙ ap (λ rows. rows_meet ii (get_or (get_or (map first operations) p []) i d) (slice_index times p) (get_or rows j d) (slice_index times q)) (sym sq)
+    ∙ meet)
+
+-- no times keep the units at a smaller interval
+pub bound-le-interval : (operations : List (List (List Row))) (bound : ℕ) → IsUnitBound operations bound → All (λ alternatives. length alternatives ≡ 1) operations
+    → (ii : ℕ) (times choices : List ℕ) → 0 < ii → IsPlan operations times choices → KeepsUnits ii operations times choices → bound ≤ ii
+bound-le-interval operations bound b one ii times choices some plan keeps =
+    let firsts : List (List Row) = map (λ (alternatives : List (List Row)). get_or alternatives 0 []) operations in
+    let order : by_freedom operations ≡ operations = by_freedom_single operations one in
+    let best : AreBest [] operations b.choices = subst (λ l. AreBest [] l b.choices) order b.best in
+    let rows : chosen_rows (by_freedom operations) b.choices ≡ flat_map (λ rows. rows) firsts
+    = ap (λ l. chosen_rows l b.choices) order ∙ chosen-single [] operations b.choices best one in
+    let apart : Apart ii firsts times = Apart-from_KeepsUnits ii operations times choices one plan keeps in
+    let most : greatest_use (flat_map (λ rows. rows) firsts) ≤ ii
+    = greatest_use-le (flat_map (λ rows. rows) firsts) ii (λ unit. use-le-interval ii unit firsts times some apart) in
+    let is : bound ≡ greatest_use (flat_map (λ rows. rows) firsts) = b.is_use ∙ ap greatest_use rows in
+    omega arith
+
+-- what is known of the operations of a loop that has all its tables
+go_table : (machine : MachineData) → IsMachine machine → (opcode : Opcode) (t : Option OperationData) (rest : Option Opcode) → table_of machine opcode ≡ t
+    → cond (is_none t) (Some opcode) rest ≡ None → AreAlternatives (alternatives_in t) × (rest ≡ None)
+go_table machine m opcode None rest is h = cc
+go_table machine m opcode (Some table) rest is h = ((m.tables opcode table is).0.alternatives, h)
+
+tables_all : (machine : MachineData) → IsMachine machine → (opcodes : List Opcode) → find (λ opcode. is_none (table_of machine opcode)) opcodes ≡ None
+    → All AreAlternatives (map (λ opcode. alternatives_in (table_of machine opcode)) opcodes)
+tables_all machine m [] h = All-nil AreAlternatives
+tables_all machine m (opcode ∷ opcodes) h =
+    let here = go_table machine m opcode (table_of machine opcode) (find (λ o. is_none (table_of machine o)) opcodes) refl h in
+    All-cons AreAlternatives (alternatives_in (table_of machine opcode)) (map (λ o. alternatives_in (table_of machine o)) opcodes) here.0
+    (tables_all machine m opcodes here.1)
+
+pub operations_well_formed : (machine : MachineData) (loop : LoopData) → IsMachine machine → first_without_table machine loop ≡ None → All AreAlternatives (operations_of machine loop)
+operations_well_formed machine loop m h = tables_all machine m (opcodes_of loop) h
+
+chosen-length : (taken : List Row) (operations : List (List (List Row))) (choices : List ℕ) → AreBest taken operations choices → All AreAlternatives operations
+    → length (chosen_rows operations choices) ≤ 16 * length operations
+chosen-length taken [] choices best h = omega arith
+chosen-length taken (first ∷ operations) [] best h = absurd best
+chosen-length taken (first ∷ operations) (k ∷ choices) best h =
+    let there : k < length first = best.0.there in
+    let here : length (get_or first k []) ≤ 16 = ((All-head AreAlternatives first operations h).each k [] there).few in
+    let rest : length (chosen_rows operations choices) ≤ 16 * length operations
+    = chosen-length (taken ++ get_or first k []) operations choices best.1 (All-tail AreAlternatives first operations h) in
+    let a : length (get_or first k [] ++ chosen_rows operations choices) ≡ length (get_or first k []) + length (chosen_rows operations choices)
+    = length-append (get_or first k []) (chosen_rows operations choices) in
+    let b : 16 * suc (length operations) ≡ 16 * length operations + 16 = omega arith in
+    omega arith
+
+chosen-some : (taken : List Row) (operations : List (List (List Row))) (choices : List ℕ) → AreBest taken operations choices → All AreAlternatives operations
+    → 0 < length operations → 0 < length (chosen_rows operations choices)
+chosen-some taken [] choices best h some = absurd (omega arith)
+chosen-some taken (first ∷ operations) [] best h some = absurd best
+chosen-some taken (first ∷ operations) (k ∷ choices) best h some =
+    let there : k < length first = best.0.there in
+    let here : 0 < length (get_or first k []) = ((All-head AreAlternatives first operations h).each k [] there).some in
+    let a : length (get_or first k [] ++ chosen_rows operations choices) ≡ length (get_or first k []) + length (chosen_rows operations choices)
+    = length-append (get_or first k []) (chosen_rows operations choices) in
+    omega arith
+
+by_freedom_well_formed : (operations : List (List (List Row))) → All AreAlternatives operations → All AreAlternatives (by_freedom operations)
+by_freedom_well_formed operations h = subst (All AreAlternatives) (passes_all operations) (passes_keep AreAlternatives operations 8 h)
+
+-- the bound is 1 or more, and at most 16 for each operation
+pub bound-range : (operations : List (List (List Row))) (bound : ℕ) → IsUnitBound operations bound → All AreAlternatives operations → 0 < length operations
+    → (1 ≤ bound) × (bound ≤ 16 * length operations)
+bound-range operations bound b h some =
+    let formed : All AreAlternatives (by_freedom operations) = by_freedom_well_formed operations h in
+    let long : length (by_freedom operations) ≡ length operations
+    = length-by_freedom operations (λ k d l. (h k d l).some) (λ k d l. (h k d l).few) in
+    let rows : List Row = chosen_rows (by_freedom operations) b.choices in
+    let is : bound ≡ greatest_use rows = b.is_use in
+    let there : 0 < length (by_freedom operations) = omega arith in
+    let low : 1 ≤ greatest_use rows = greatest_use-from_one rows (chosen-some [] (by_freedom operations) b.choices b.best formed there) in
+    let high : greatest_use rows ≤ length rows = greatest_use-le-length rows in
+    let few : length rows ≤ 16 * length (by_freedom operations) = chosen-length [] (by_freedom operations) b.choices b.best formed in
+    let same : 16 * length (by_freedom operations) ≡ 16 * length operations = ap (λ n. 16 * n) long in
+    (omega arith, omega arith)
+
+pub IsUnitBound-from : (operations : List (List (List Row))) (n : ℕ) (counts : List ℕ) (greatest bound : ℕ) → n ≡ 8
+    → CountsRows (passes operations n) counts greatest → bound ≡ greatest → IsUnitBound operations bound
+IsUnitBound-from operations n counts greatest bound eight p is =
+    let order : passes operations n ≡ by_freedom operations = ap (passes operations) eight ∙ passes_all operations in
+    let q : CountsRows (by_freedom operations) counts greatest = subst (λ l. CountsRows l counts greatest) order p in
+    record { choices = q.choices; best = q.best; is_use = is ∙ q.tallies.most }

@@ -1,0 +1,5 @@
+//! Dependences, and how those of a loop are found.
+
+pub(crate) mod collect;
+pub(crate) mod dependences;
+pub(crate) mod edge;

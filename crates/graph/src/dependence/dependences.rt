@@ -1,0 +1,64 @@
+//! All dependences of a loop.
+
+ghost use Rattle.std.specs.Prelude.{◌≡◌, ℕ, ◌<◌, ◌≤◌, IfOk, Vec};
+ghost use Rattle.std.specs.Global.{Global};
+ghost use Rattle.std.specs.List.{All, AllPairs, Contains};
+ghost use Rattle.graph.specs.TablesAnswer.{TablesAnswer};
+ghost use Rattle.graph.specs.Units.{first_without_table};
+ghost use Rattle.graph.specs.Dependences.{EdgeData, Precedes, latencies_of};
+ghost use Rattle.graph.specs.Graphs.{IsGraphOf};
+ghost use Rattle.graph.specs.Subscripts.{AreLatencies};
+
+use crate::dependence::collect::collect;
+use crate::dependence::edge::Edge;
+use crate::fault::GraphFault;
+use crate::layout::graph::Edges;
+use crate::layout::groups::by_end;
+use crate::layout::starts::End;
+use iterations::Loop;
+use machine::Machine;
+use std::alloc::{AllocError, Global};
+
+/// The latency of each operation of a loop.
+fn latencies(alloc: Global, machine: &Machine, innermost: &Loop) -> Result<Vec<u8>, GraphFault>
+    ensures exact { TablesAnswer (first_without_table machine.now innermost.now) (λ (v : Vec ℕ Global). v.items ≡ latencies_of machine.now innermost.now) result }
+    ensures short { IfOk result (λ v. AreLatencies v.items) }
+{
+    let mut cycles = Vec::new(alloc);
+    for statement in innermost.statements() {
+        match machine.table(statement.opcode) {
+            Some(table) => cycles.push(table.latency())?,
+            None => return Err(GraphFault::NoTable(statement.opcode)),
+        }
+    }
+    Ok(cycles)
+}
+
+/// The same edges, ascending and each once. The edges to each operation stand together, so those from each
+/// are nearly in order, which a sort is quick to find.
+fn in_order(alloc: Global, list: &[Edge], operations: usize) -> Result<Vec<Edge>, AllocError>
+    requires few { operations ≤ 128 }
+    requires ends { All (λ (e : EdgeData). e.from < operations) list.now }
+    ensures ascending { IfOk result (λ v. AllPairs Precedes v.items) }
+    ensures kept { IfOk result (λ v. (e : EdgeData) → Contains list.now e → Contains v.items e) }
+    ensures no_more { IfOk result (λ v. (e : EdgeData) → Contains v.items e → Contains list.now e) }
+{
+    let mut ordered = by_end(alloc, list, End::Source, operations)?;
+    ordered.sort()?;
+    ordered.dedup();
+    Ok(ordered)
+}
+
+/// The dependences between the operations of a loop with the latencies of a machine.
+///
+/// # Errors
+/// [`GraphFault::NoTable`] for the first statement whose opcode the machine has no table for, and
+/// [`GraphFault::Memory`] where memory ran out.
+pub fn edges(alloc: Global, machine: &Machine, innermost: &Loop) -> Result<Edges, GraphFault>
+    ensures exact { TablesAnswer (first_without_table machine.now innermost.now) (IsGraphOf machine.now innermost.now) result }
+{
+    let cycles = latencies(alloc, machine, innermost)?;
+    let list = collect(alloc, innermost.statements(), cycles.as_slice())?;
+    let ordered = in_order(alloc, list.as_slice(), cycles.len())?;
+    Ok(Edges::new(alloc, ordered, cycles)?)
+}

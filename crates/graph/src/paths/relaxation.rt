@@ -1,0 +1,215 @@
+//! Relaxation at an interval: numbers of operations that are raised in place, along edges, until they
+//! are the heights or a circuit is seen that does not fit.
+
+ghost use Rattle.std.specs.Prelude.{◌≡◌, ℕ, pos, ◌*◌, ◌+ℤ◌, ◌-ℤ◌, ◌≤ℤ◌, ◌<ℤ◌, ◌+◌, ◌-◌, ◌<◌, ◌≤◌, length, slice_index, IfSome, Some, None};
+ghost use Rattle.std.specs.List.{All};
+ghost use Rattle.graph.specs.declared.dependence.edge.Edge.{Edge};
+ghost use Rattle.graph.specs.Graphs.{IsGraph};
+ghost use Rattle.graph.specs.Reaches.{AreReaches, AreVias, IsRaised, IsRise, KeepsNumbers, IsAbove, Relaxes};
+
+use crate::dependence::edge::Edge;
+use crate::layout::graph::Edges;
+use machine::limits::MAX_STATEMENTS;
+
+/// What an operation's number comes to by the edges from it.
+#[derive(Clone, Copy)]
+pub(crate) struct Climb {
+    pub(crate) number: u64,
+    /// The place of the edge that gives the number, where it rises.
+    pub(crate) via: usize,
+}
+
+/// What relaxation at an interval comes to.
+#[derive(Drop)]
+pub(crate) enum Relaxed {
+    /// Every circuit fits, and the numbers are the operations' heights.
+    Heights,
+    /// Some circuit does not fit, nor at any interval below this one, which is longer.
+    Above(u64),
+}
+
+/// What an edge makes of its target's number.
+///
+/// Numbers stay below 2^21: each edge adds 64 cycles at most, and 128 sweeps raise each of 128
+/// operations.
+fn through(edge: Edge, number: u64, interval: u64) -> i64
+    requires short { interval ≤ 16384 }
+    requires small { number ≤ 2097152 }
+    ensures exact { result ≡ ((pos number +ℤ edge.delay) -ℤ pos (interval * edge.distance)) }
+    ensures near { result ≤ℤ pos (number + 127) }
+{
+    number as i64 + i64::from(edge.delay) - (interval * u64::from(edge.distance)) as i64
+}
+
+/// The greatest of an operation's own number and of what the edges from it make of their targets'
+/// numbers.
+pub(crate) fn raised(
+    own: u64,
+    outgoing: &[Edge],
+    numbers: &[u64; MAX_STATEMENTS],
+    interval: u64,
+) -> Climb
+    requires short { interval ≤ 16384 }
+    requires own_small { own ≤ 2097152 }
+    requires small { All (λ (e : Edge). (e.to < 128) × (slice_index numbers.now e.to ≤ 2097152)) outgoing.now }
+    ensures raised { IsRaised outgoing.now interval numbers.now own result.number }
+    ensures via { own < result.number → result.via < length outgoing.now }
+{
+    let mut number = own;
+    let mut via = 0;
+    for (place, edge) in outgoing.iter().enumerate() {
+        let reached = through(*edge, numbers[edge.to as usize], interval);
+        if reached > number as i64 {
+            number = reached as u64;
+            via = place;
+        }
+    }
+    Climb { number, via }
+}
+
+/// Sets the numbers to what they are at first: the latencies.
+pub(crate) fn set_first(edges: &Edges, interval: u64, numbers: &mut [u64; MAX_STATEMENTS])
+    ensures { AreReaches edges.now interval 0 0 numbers.new }
+{
+    for operation in 0..edges.operations() {
+        numbers[operation] = u64::from(edges.latency(operation));
+    }
+}
+
+/// Raises the number of each operation, from the last one to the first, after so many sweeps before, and
+/// keeps the edge by which it rose. The last operation whose number rises, if any.
+fn sweep(
+    edges: &Edges,
+    interval: u64,
+    made: usize,
+    numbers: &mut [u64; MAX_STATEMENTS],
+    via: &mut [Option<Edge>; MAX_STATEMENTS],
+) -> Option<usize>
+    requires short { interval ≤ 16384 }
+    requires few { made < length edges.now.latencies }
+    requires reaches { AreReaches edges.now interval (128 * made) made numbers.old }
+    requires via { AreVias edges.now via.old }
+    ensures reaches { AreReaches edges.now interval (128 * (made + 1)) (made + 1) numbers.new }
+    ensures via { AreVias edges.now via.new }
+    ensures rises { (p : ℕ) → result ≡ Some p → IsRise edges.now interval made p }
+    ensures stays { result ≡ None → KeepsNumbers edges.now interval numbers.new }
+{
+    let mut rising = None;
+    for operation in (0..edges.operations()).rev() {
+        let own = numbers[operation];
+        let outgoing = edges.out_of(operation);
+        let raised = raised(own, outgoing, numbers, interval);
+        if own < raised.number {
+            numbers[operation] = raised.number;
+            via[operation] = Some(outgoing[raised.via]);
+            rising = Some(operation);
+        }
+    }
+    rising
+}
+
+/// The operation that so many steps along kept edges lead to, as many as there are operations, if they do.
+fn far_along(edges: &Edges, via: &[Option<Edge>; MAX_STATEMENTS], start: usize) -> Option<usize>
+    requires there { start < length edges.now.latencies }
+    requires via { AreVias edges.now via.now }
+    ensures { IfSome result (λ p. p < length edges.now.latencies) }
+{
+    let mut at = start;
+    for _step in 0..edges.operations() {
+        let Some(edge) = via[at] else {
+            return None;
+        };
+        at = edge.to as usize;
+    }
+    Some(at)
+}
+
+/// The least interval that a circuit of so many cycles and iterations fits, where it is longer than this one.
+///
+/// A circuit is of at most 128 edges, each over at most 255 iterations: the bound on its distance only
+/// keeps the product within 64 bits.
+pub(crate) fn longer_interval(delay: i64, distance: u64, interval: u64) -> Option<u64>
+    requires short { interval ≤ 16384 }
+    requires near { distance ≤ 32768 }
+    ensures { IfSome result (λ next. (interval < next) × (pos ((next - 1) * distance) <ℤ delay)) }
+{
+    if distance == 0 || delay <= (interval * distance) as i64 {
+        return None;
+    }
+    Some((delay as u64 - 1) / distance + 1)
+}
+
+/// The least interval that the circuit of kept edges through an operation fits, where there is one that
+/// does not fit this interval.
+fn around(
+    edges: &Edges,
+    interval: u64,
+    via: &[Option<Edge>; MAX_STATEMENTS],
+    start: usize,
+) -> Option<u64>
+    requires short { interval ≤ 16384 }
+    requires there { start < length edges.now.latencies }
+    requires via { AreVias edges.now via.now }
+    ensures { IfSome result (IsAbove edges.now.edges interval) }
+{
+    let mut at = start;
+    let mut delay = 0;
+    let mut distance = 0;
+    for _step in 0..edges.operations() {
+        let Some(edge) = via[at] else {
+            return None;
+        };
+        delay += i64::from(edge.delay);
+        distance += u64::from(edge.distance);
+        at = edge.to as usize;
+        if at == start {
+            return longer_interval(delay, distance, interval);
+        }
+    }
+    None
+}
+
+/// The least interval that the circuit fits which kept edges lead to from an operation, where it does not
+/// fit this interval.
+fn circuit(
+    edges: &Edges,
+    interval: u64,
+    via: &[Option<Edge>; MAX_STATEMENTS],
+    start: usize,
+) -> Option<u64>
+    requires short { interval ≤ 16384 }
+    requires there { start < length edges.now.latencies }
+    requires via { AreVias edges.now via.now }
+    ensures { IfSome result (IsAbove edges.now.edges interval) }
+{
+    match far_along(edges, via, start) {
+        Some(operation) => around(edges, interval, via, operation),
+        None => None,
+    }
+}
+
+/// Sets the numbers to the heights at an interval, or tells an interval that is nearer to the
+/// recurrence-constrained lower bound.
+///
+/// Each sweep raises the numbers of all operations along their edges. They are the heights once a sweep
+/// changes nothing, and they never settle where a circuit does not fit. The edges by which numbers last
+/// rose lead to such a circuit, mostly after a sweep or two, and none of the intervals below its cycles
+/// for each of its iterations is the bound. Without it the sweeps end when there were as many as there
+/// are operations, and only this interval is known to be too short.
+pub(crate) fn relax(edges: &Edges, interval: u64, numbers: &mut [u64; MAX_STATEMENTS]) -> Relaxed
+    requires short { interval ≤ 16384 }
+    ensures exact { Relaxes edges.now interval numbers.new result }
+    ensures well_formed { IsGraph edges.now }
+{
+    set_first(edges, interval, numbers);
+    let mut via = [None; MAX_STATEMENTS];
+    for made in 0..edges.operations() {
+        let Some(operation) = sweep(edges, interval, made, numbers, &mut via) else {
+            return Relaxed::Heights;
+        };
+        if let Some(next) = circuit(edges, interval, &via, operation) {
+            return Relaxed::Above(next);
+        }
+    }
+    Relaxed::Above(interval + 1)
+}

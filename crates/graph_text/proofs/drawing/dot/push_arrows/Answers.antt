@@ -1,0 +1,27 @@
+use Rattle.std.proofs.Common.{◌++◌, pos, get_or}
+use Rattle.graph.specs.Dependences.{EdgeData}
+use Rattle.graph_text.specs.Dot.{IsStroke, arrow_line}
+use Rattle.graph_text.specs.declared.drawing.dot.Stroke.{Stroke}
+use Rattle.graph_text.proofs.Drawn.{edge-timed}
+use Rattle.graph_text.proofs.Texts.{behind, texts-more}
+use Rattle.graph_text.proofs.drawing.dot.push_arrows.Goals as goal
+
+pub kind_of-requires : goal.kind_of-requires
+kind_of-requires c = (
+  c.args.graph.now.latencies,
+  edge-timed c.requires.0 c.args.innermost.now c.args.graph.now c.all-edge-items.result.now c.all-edge-items.ensures.value c.requires.1 c.all-edge-items.ensures.well_formed c.loop-edge.edge-index _ c.loop-edge-test.true,
+)
+
+pub loop-edge-preserved : goal.loop-edge-preserved
+loop-edge-preserved c =
+    let edges = c.all-edge-items.result.now in
+    let i = c.loop-edge.edge-index in
+    let d : EdgeData = record { from = 0; to = 0; distance = 0; delay = pos 0 } in
+    let timed = edge-timed c.requires.0 c.args.innermost.now c.args.graph.now edges c.all-edge-items.ensures.value c.requires.1 c.all-edge-items.ensures.well_formed i d c.loop-edge-test.true in
+    let stroke : Stroke = record { kind = c.kind_of.result; bold = c.is_in.result } in
+    let drawn : IsStroke c.args.innermost.now c.args.graph.now.latencies c.args.circuit.now (get_or edges i d) stroke
+    = record { kind = c.kind_of.ensures c.args.graph.now.latencies timed; bold = c.is_in.ensures } in (
+      c.loop-edge.invariant.0 ++ arrow_line (get_or edges i d) stroke,
+      texts-more _ arrow_line edges i d c.loop-edge.invariant.0 stroke c.loop-edge-test.true c.loop-edge.invariant.1 drawn,
+      behind _ _ _ _ _ c.loop-edge.invariant.2 c.in_ok-push_arrow.ensures.ok,
+    )

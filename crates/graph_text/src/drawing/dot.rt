@@ -1,0 +1,142 @@
+//! The dependences of a loop as a graph in the language of Graphviz.
+
+ghost use Rattle.std.specs.Prelude.{◌≡◌, ◌<◌, ◌++◌, ◌↔◌, ℕ, List, length, IsTrue, OnOk};
+ghost use Rattle.std.specs.List.{Contains, flat_map};
+ghost use Rattle.machine.specs.Machines.{MachineData};
+ghost use Rattle.graph.specs.Graphs.{IsGraphOf};
+ghost use Rattle.graph_text.specs.Dot.{IsDotText, IsStroke, arrow_line, at_text, graph_head, node_line, style_text};
+ghost use Rattle.graph_text.specs.Texts.{AreTexts, numbers_of};
+
+use crate::kind::{Kind, kind_of};
+use crate::lines::{push_both, push_signed, push_told};
+use crate::listing::bounds::push_bounds_told;
+use crate::measuring::{LowerBounds, Measured};
+use crate::names::{opcode_word, push_name};
+use graph::{Edge, Edges};
+use iterations::Loop;
+use std::alloc::AllocError;
+
+/// How an edge is drawn.
+#[derive(Clone, Copy)]
+pub(crate) struct Stroke {
+    pub(crate) kind: Kind,
+    /// Whether it is one of the circuit.
+    pub(crate) bold: bool,
+}
+
+/// Appends what stands before the operations.
+fn push_head(text: &mut Vec<u8>, innermost: &Loop, bounds: LowerBounds) -> Result<(), AllocError>
+    ensures ok { OnOk result (text.new.items ≡ text.old.items ++ graph_head innermost.now bounds) }
+{
+    let name = innermost.name().as_str().as_bytes();
+    push_both(text, b"digraph \"", name)?;
+    push_both(text, b"\" {\n  label=\"", name)?;
+    push_bounds_told(text, bounds)?;
+    text.extend_from_slice(b"\"\n  node [shape=box]\n")
+}
+
+/// Appends the line of an operation.
+fn push_node(text: &mut Vec<u8>, innermost: &Loop, number: u8) -> Result<(), AllocError>
+    requires { number < length innermost.now.statements }
+    ensures ok { OnOk result (text.new.items ≡ text.old.items ++ node_line innermost.now number) }
+{
+    push_told(text, b"  ", u64::from(number))?;
+    text.extend_from_slice(b" [label=\"")?;
+    push_name(text, innermost, number)?;
+    push_both(text, b" ", opcode_word(innermost, number).as_bytes())?;
+    text.extend_from_slice(b"\"]\n")
+}
+
+/// Appends the lines of the operations.
+fn push_nodes(text: &mut Vec<u8>, innermost: &Loop) -> Result<(), AllocError>
+    ensures ok { OnOk result (text.new.items ≡ text.old.items ++ flat_map (node_line innermost.now) (numbers_of innermost.now)) }
+{
+    for number in 0..innermost.statements().len() {
+        push_node(text, innermost, number as u8)?;
+    }
+    Ok(())
+}
+
+/// Appends a distance, unless it is 0.
+fn push_distance(text: &mut Vec<u8>, distance: u8) -> Result<(), AllocError>
+    ensures ok { OnOk result (text.new.items ≡ text.old.items ++ at_text distance) }
+{
+    match distance {
+        0 => Ok(()),
+        _ => push_told(text, b" @", u64::from(distance)),
+    }
+}
+
+/// Appends what makes an edge bold, and ends its line.
+fn push_style(text: &mut Vec<u8>, bold: bool) -> Result<(), AllocError>
+    ensures ok { OnOk result (text.new.items ≡ text.old.items ++ style_text bold) }
+{
+    if bold {
+        text.extend_from_slice(b",style=bold")?;
+    }
+    Ok(())
+}
+
+/// Appends the line of an edge.
+fn push_arrow(text: &mut Vec<u8>, edge: &Edge, stroke: Stroke) -> Result<(), AllocError>
+    ensures ok { OnOk result (text.new.items ≡ text.old.items ++ arrow_line edge.now stroke) }
+{
+    push_told(text, b"  ", u64::from(edge.from))?;
+    push_told(text, b" -> ", u64::from(edge.to))?;
+    push_both(text, b" [label=\"", stroke.kind.word().as_bytes())?;
+    push_signed(text, b" ", edge.delay)?;
+    push_distance(text, edge.distance)?;
+    text.extend_from_slice(b"\"")?;
+    push_style(text, stroke.bold)?;
+    text.extend_from_slice(b"]\n")
+}
+
+/// Whether an edge is one of a circuit.
+fn is_in(circuit: &[Edge], edge: &Edge) -> bool
+    ensures { IsTrue result ↔ Contains circuit.now edge.now }
+{
+    circuit.contains(edge)
+}
+
+/// Appends the lines of the edges.
+fn push_arrows(
+    text: &mut Vec<u8>,
+    innermost: &Loop,
+    graph: &Edges,
+    circuit: &[Edge],
+) -> Result<(), AllocError>
+    requires { (machine : MachineData) × IsGraphOf machine innermost.now graph.now }
+    ensures ok { OnOk result ((arrows : List ℕ) × AreTexts (IsStroke innermost.now graph.now.latencies circuit.now) arrow_line graph.now.edges arrows × (text.new.items ≡ text.old.items ++ arrows)) }
+{
+    for edge in graph.all() {
+        let stroke = Stroke {
+            kind: kind_of(innermost, edge),
+            bold: is_in(circuit, edge),
+        };
+        push_arrow(text, edge, stroke)?;
+    }
+    Ok(())
+}
+
+/// Appends a loop's dependences as a graph in the language of Graphviz. Its label is the loop's name with the
+/// lower bounds of the interval, in cycles. Each operation is a node with its number, labelled with its
+/// name and opcode: it is named by its value, and a store by its place. Each dependence is an edge, labelled
+/// with its [kind](Kind), its delay in cycles and, unless that is 0, behind an `@` its distance in iterations.
+/// The edges of the circuit are bold; a circuit without edges makes none bold.
+///
+/// # Errors
+/// [`AllocError`] where memory ran out. The text is left with a part of the graph.
+pub fn push_dot(
+    text: &mut Vec<u8>,
+    innermost: &Loop,
+    measured: &Measured,
+    circuit: &[Edge],
+) -> Result<(), AllocError>
+    requires { (machine : MachineData) × IsGraphOf machine innermost.now measured.now.graph }
+    ensures ok { OnOk result ((part : List ℕ) × IsDotText innermost.now measured.now.bounds measured.now.graph circuit.now part × (text.new.items ≡ text.old.items ++ part)) }
+{
+    push_head(text, innermost, measured.bounds)?;
+    push_nodes(text, innermost)?;
+    push_arrows(text, innermost, &measured.graph, circuit)?;
+    text.extend_from_slice(b"}\n")
+}

@@ -1,0 +1,4 @@
+//! The bounds and the dependences of loops, line by line.
+
+pub(crate) mod bounds;
+pub(crate) mod edges;

@@ -1,0 +1,42 @@
+use Rattle.std.proofs.Common.{◌≡◌, ℕ, ◌<◌, List, length, drop, sym, ◌∙◌, subst, arith}
+use Rattle.std.specs.List.{slice_index}
+use Rattle.graph.specs.Reaches.{AreHeights}
+use Rattle.mrt.specs.Placements.{OperationAlternatives, alternatives_of}
+use Rattle.ims.specs.Scheduling.{IsFirstSound, Stops}
+use Rattle.ims.proofs.answers.Answering.{unblocked}
+use Rattle.ims.proofs.answers.Blaming.{first-blocked}
+use Rattle.ims.proofs.problems.Ranking.{all_written}
+use Rattle.ims.proofs.outcome.ending.end_of.Goals as goal
+
+pub returns-in-Some : goal.returns-in-Some
+returns-in-Some g c =
+    let offered : g.T.ModuloTable.operations c.in_ok-table.table ≡ c.args.prepared.now.operations = c.in_ok-table.ensures.operations ∙ c.alternatives.ensures.value in
+    record {
+      exact = first-blocked c.args.prepared.now c.args.ii (g.T.ModuloTable.interval c.in_ok-table.table) c.in-Some.op (g.T.ModuloTable.operations c.in_ok-table.table)
+          c.in_ok-table.ensures.interval offered c.in-Some.ensures;
+    }
+
+pub run-requires-clause-sound : goal.run-requires-clause-sound
+run-requires-clause-sound g c =
+    let sound : List ℕ = c.find_sound.new.sound in
+    let ii : ℕ = g.T.ModuloTable.interval c.in_ok-table.table in
+    let read : c.deref.result.now ≡ sound
+    = c.deref.ensures.value ∙ all_written c.in_ok-sound.sound.len sound (drop (length sound) c.in_ok-sound.sound.items) (omega arith) in
+    let same : g.T.ModuloTable.operations c.in_ok-table.table ≡ c.args.prepared.now.operations = c.in_ok-table.ensures.operations ∙ c.alternatives.ensures.value in
+    subst (λ (s : List ℕ). (op : ℕ) → op < length c.args.prepared.now.operations → IsFirstSound ii (alternatives_of c.args.prepared.now.operations op) (slice_index s op)) (sym read)
+    (subst (λ (os : OperationAlternatives). (op : ℕ) → op < length os → IsFirstSound ii (alternatives_of os op) (slice_index sound op)) same c.in_default.ensures)
+
+pub returns : goal.returns
+returns g c =
+    let ii : ℕ = g.T.ModuloTable.interval c.in_ok-table.table in
+    let same : ii ≡ c.args.ii = c.in_ok-table.ensures.interval in
+    let o = c.in_ok-progress.ensures.order in
+    let stops : Stops c.args.prepared.now c.args.ii c.args.budget c.run.new.progress.state
+    = subst (λ n. Stops c.args.prepared.now n c.args.budget c.run.new.progress.state) same
+    (c.run.ensures.stops o.0 (subst (λ n. AreHeights c.args.prepared.now.graph n o.0) (sym same) o.1) o.2 o.3) in
+    let sound : List ℕ = c.find_sound.new.sound in
+    let offered : g.T.ModuloTable.operations c.in_ok-table.table ≡ c.args.prepared.now.operations = c.in_ok-table.ensures.operations ∙ c.alternatives.ensures.value in
+    let each : (op : ℕ) → op < length c.args.prepared.now.operations → IsFirstSound c.args.ii (alternatives_of c.args.prepared.now.operations op) (slice_index sound op)
+    = subst (λ n. (op : ℕ) → op < length c.args.prepared.now.operations → IsFirstSound n (alternatives_of c.args.prepared.now.operations op) (slice_index sound op)) same
+    (subst (λ (os : OperationAlternatives). (op : ℕ) → op < length os → IsFirstSound ii (alternatives_of os op) (slice_index sound op)) offered c.in_default.ensures) in
+    record { exact = c.end_at.ensures c.args.prepared.now c.args.ii c.args.budget c.run.ensures.whole stops (unblocked c.args.prepared.now c.args.ii sound each) }

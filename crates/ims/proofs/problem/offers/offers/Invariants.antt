@@ -1,0 +1,12 @@
+use Rattle.std.proofs.Common.{◌≡◌, take, drop}
+use Rattle.std.specs.List.{All, find}
+use Rattle.std.specs.Option.{is_none}
+use Rattle.machine.specs.Alternative.{AreAlternatives}
+use Rattle.machine.specs.Machines.{table_of}
+use Rattle.graph.specs.Units.{first_without_table, opcodes_of, operations_of}
+use Rattle.ims.proofs.problem.offers.offers.Given as goal
+
+abbrev pub invariant-loop-statement : goal.invariant-loop-statement
+invariant-loop-statement l =
+    (find (λ opcode. is_none (table_of l.machine opcode)) (drop l.statement-index (opcodes_of l.innermost)) ≡ first_without_table l.machine l.innermost)
+    × (l.list.items ≡ take l.statement-index (operations_of l.machine l.innermost)) × All AreAlternatives l.list.items

@@ -1,0 +1,85 @@
+//! One attempt at an interval.
+
+ghost use Rattle.std.specs.Prelude.{◌≤◌, ℕ, IfOk};
+ghost use Rattle.graph.specs.Schedules.{IsLawfulSchedule};
+ghost use Rattle.ims.specs.Problems.{IsProblem, mii_of};
+ghost use Rattle.ims.specs.Attempts.{IsBlocked, EndsPlaced, AnswersAttempt};
+
+use crate::outcome::ending::{End, end_of, first_late};
+use crate::problem::prepared::Prepared;
+use crate::schedules::schedule::Schedule;
+use machine::OutOfMemory;
+use mrt::ModuloTable;
+use std::alloc::Global;
+
+/// Why an attempt at an interval found no schedule: the first of these causes that holds.
+#[derive(Clone, Copy, Debug, PartialEq, Eq)]
+pub enum Failure {
+    /// All alternatives of some operation collide with themselves at the interval; nothing was placed.
+    Table,
+    /// As many operations were placed as the budget allows, and one is not placed in the end.
+    Budget,
+    /// All operations were placed, one of them in stage 64 or later.
+    Stages,
+}
+
+/// What an attempt answers.
+#[derive(Drop)]
+pub enum Try<'a> {
+    /// The schedule that was found.
+    Placed(Schedule<'a>),
+    /// No schedule, and why.
+    Failed(Failure),
+}
+
+/// What keeps an attempt from a schedule.
+#[derive(Debug, Drop)]
+pub enum Culprit {
+    /// The first operation all of whose alternatives collide with themselves at the interval.
+    Blocked(usize),
+    /// The operations that are not placed when the budget is used up, in text order.
+    Unplaced(Vec<usize>),
+    /// The first operation in stage 64 or later, and when it is issued, in cycles from the beginning of its
+    /// iteration.
+    Late(usize, u64),
+}
+
+/// One attempt to schedule a loop at an initiation interval of `ii` cycles, from the least one on and at
+/// most 16,384, with at most `budget` placements, 0 to 8,192: iterative modulo scheduling of B. R. Rau,
+/// HPL-94-115. The answer does not depend on which table it is made with. Once all memory is there,
+/// operations are placed without taking more.
+///
+/// # Errors
+/// [`AllocError`](std::alloc::AllocError) where memory ran out.
+pub fn attempt<'a, T: ModuloTable>(
+    alloc: Global,
+    prepared: &'a Prepared,
+    ii: u64,
+    budget: u64,
+) -> Result<Try<'a>, OutOfMemory>
+    requires from_mii { mii_of prepared.now ≤ ii }
+    requires limit { ii ≤ 16384 }
+    requires budget { budget ≤ 8192 }
+    ensures exact { IfOk result (AnswersAttempt prepared.now ii budget) }
+{
+    prove!(prepared.operations() >= 1);
+    match end_of::<T>(alloc, prepared, ii, budget)? {
+        End::Blocked(_) => Ok(Try::Failed(Failure::Table)),
+        End::Short(_) => Ok(Try::Failed(Failure::Budget)),
+        End::Full(times, choices) => Ok(answer(prepared, ii, times, choices)),
+    }
+}
+
+/// What is answered where all operations are placed, at these times and by these alternatives.
+fn answer<'a>(prepared: &'a Prepared, ii: u64, times: Vec<u64>, choices: Vec<usize>) -> Try<'a>
+    requires whole { IsProblem prepared.now }
+    requires some { 1 ≤ ii }
+    requires limit { ii ≤ 16384 }
+    requires lawful { IsLawfulSchedule ii prepared.now.operations prepared.now.graph.edges times.items choices.items }
+    ensures { (budget : ℕ) → EndsPlaced prepared.now ii budget times.items choices.items → (IsBlocked prepared.now ii → ⊥) → AnswersAttempt prepared.now ii budget result }
+{
+    match first_late(&times, ii) {
+        Some(_) => Try::Failed(Failure::Stages),
+        None => Try::Placed(Schedule::new(prepared, ii, times, choices)),
+    }
+}

@@ -1,0 +1,158 @@
+//! Loops that are prepared for scheduling.
+
+ghost use Rattle.std.specs.Prelude.{◌≡◌, ◌≤◌, max, length};
+ghost use Rattle.graph.specs.TablesAnswer.{TablesAnswer};
+ghost use Rattle.graph.specs.Units.{first_without_table};
+ghost use Rattle.ims.specs.Problems.{IsProblem, IsProblemOf, mii_of};
+
+use crate::problem::offers::offers;
+use graph::{Edges, GraphFault};
+use iterations::Loop;
+use machine::limits::MAX_STATEMENTS;
+use machine::{Alternatives, Machine};
+use std::alloc::Global;
+use std::marker::Model;
+
+/// A loop with its dependences on a machine, the alternatives that the machine offers for each
+/// operation, the two lower bounds of the initiation interval, and what is to be tried. Contracts see all
+/// of this, and know that edges and bounds are the loop's.
+#[derive(Drop)]
+pub struct Prepared {
+    innermost: Loop,
+    edges: Edges,
+    alternatives: Vec<Alternatives>,
+    registers: u16,
+    resources: u64,
+    recurrences: u64,
+    ratio: u64,
+    ceiling: u64,
+}
+
+impl Model for Prepared {
+    ghost use Rattle.ims.specs.Problems.{ProblemData, IsProblem};
+
+    ghost Value = { ProblemData };
+
+    ghost view = { λ p. record { loop = p.innermost; graph = p.edges; operations = p.alternatives.items; registers = p.registers; resources = p.resources; recurrences = p.recurrences; ratio = p.ratio; ceiling = p.ceiling } };
+
+    ghost invariant = { λ p. IsProblem (record { loop = p.innermost; graph = p.edges; operations = p.alternatives.items; registers = p.registers; resources = p.resources; recurrences = p.recurrences; ratio = p.ratio; ceiling = p.ceiling }) };
+}
+
+impl Prepared {
+    /// A loop prepared for scheduling on a machine: with a budget of `ratio` placements for each
+    /// operation, 1 to 64, and `ceiling` intervals above the least one to be tried, 0 to 255.
+    ///
+    /// # Errors
+    /// [`GraphFault::NoTable`] for the first statement whose opcode the machine has no table for, and
+    /// [`GraphFault::Memory`] where memory ran out.
+    pub fn new(
+        alloc: Global,
+        machine: &Machine,
+        innermost: Loop,
+        ratio: u64,
+        ceiling: u64,
+    ) -> Result<Prepared, GraphFault>
+        requires ratio { (1 ≤ ratio) × (ratio ≤ 64) }
+        requires ceiling { ceiling ≤ 255 }
+        ensures exact { TablesAnswer (first_without_table machine.now innermost) (IsProblemOf machine.now innermost ratio ceiling) result }
+    {
+        let edges = graph::edges(alloc, machine, &innermost)?;
+        let alternatives = offers(alloc, machine, &innermost)?;
+        let resources = graph::res_mii(machine, &innermost)?;
+        let recurrences = graph::rec_mii(alloc, &edges)?;
+        let registers = machine.registers();
+        prove!(edges.operations() <= MAX_STATEMENTS);
+        Ok(Prepared {
+            innermost,
+            edges,
+            alternatives,
+            registers,
+            resources,
+            recurrences,
+            ratio,
+            ceiling,
+        })
+    }
+
+    /// The loop.
+    pub fn innermost(&self) -> &Loop
+        ensures value { result.now ≡ self.now.loop }
+        ensures well_formed { IsProblem self.now }
+    {
+        &self.innermost
+    }
+
+    /// The dependences between the operations, and the operations' latencies.
+    pub fn edges(&self) -> &Edges
+        ensures value { result.now ≡ self.now.graph }
+        ensures well_formed { IsProblem self.now }
+    {
+        &self.edges
+    }
+
+    /// The alternatives of each operation, in text order.
+    pub fn alternatives(&self) -> &[Alternatives]
+        ensures value { result.now ≡ self.now.operations }
+        ensures well_formed { IsProblem self.now }
+    {
+        self.alternatives.as_slice()
+    }
+
+    /// The number of operations, 1 to 128.
+    pub fn operations(&self) -> usize
+        ensures value { result ≡ length self.now.operations }
+        ensures well_formed { IsProblem self.now }
+    {
+        self.alternatives.len()
+    }
+
+    /// The least interval that is tried, in cycles, 1 to 8,192: the greater of the two lower bounds.
+    pub fn mii(&self) -> u64
+        ensures value { result ≡ mii_of self.now }
+        ensures some { 1 ≤ result }
+        ensures range { result ≤ 8192 }
+        ensures well_formed { IsProblem self.now }
+    {
+        self.resources.max(self.recurrences)
+    }
+
+    /// The number of rotating registers of the machine, 1 to 256.
+    pub fn registers(&self) -> u16
+        ensures value { result ≡ self.now.registers }
+        ensures well_formed { IsProblem self.now }
+    {
+        self.registers
+    }
+
+    /// The resource-constrained lower bound of the interval, in cycles, at most 2,048.
+    pub fn resources(&self) -> u64
+        ensures value { result ≡ self.now.resources }
+        ensures well_formed { IsProblem self.now }
+    {
+        self.resources
+    }
+
+    /// The recurrence-constrained lower bound of the interval, in cycles, 1 to 8,192.
+    pub fn recurrences(&self) -> u64
+        ensures value { result ≡ self.now.recurrences }
+        ensures well_formed { IsProblem self.now }
+    {
+        self.recurrences
+    }
+
+    /// How many placements an attempt may make for each operation, 1 to 64.
+    pub fn ratio(&self) -> u64
+        ensures value { result ≡ self.now.ratio }
+        ensures well_formed { IsProblem self.now }
+    {
+        self.ratio
+    }
+
+    /// How many intervals above the least one are tried, 0 to 255.
+    pub fn ceiling(&self) -> u64
+        ensures value { result ≡ self.now.ceiling }
+        ensures well_formed { IsProblem self.now }
+    {
+        self.ceiling
+    }
+}

@@ -1,0 +1,56 @@
+//! The steps of an attempt.
+
+ghost use Rattle.std.specs.Prelude.{◌≡◌, ℕ, ◌<◌, ◌≤◌, List, length, replicate, None, slice_index, IfOk};
+ghost use Rattle.graph.specs.Reaches.{AreHeights};
+ghost use Rattle.mrt.specs.Placements.{alternatives_of};
+ghost use Rattle.ims.specs.Problems.{mii_of};
+ghost use Rattle.ims.specs.Scheduling.{IsFirstSound, Stops, empty};
+ghost use Rattle.ims.specs.inner.Waiting.{IsByHeight};
+
+use crate::problem::order::by_height;
+use crate::problem::prepared::Prepared;
+use crate::stepping::progress::Progress;
+use crate::stepping::step::step;
+use machine::OutOfMemory;
+use mrt::ModuloTable;
+use std::alloc::Global;
+
+/// Nothing is placed, and operations are taken by their heights at an interval.
+pub(crate) fn start(alloc: Global, prepared: &Prepared, ii: u64) -> Result<Progress, OutOfMemory>
+    requires from_mii { mii_of prepared.now ≤ ii }
+    requires limit { ii ≤ 16384 }
+    ensures empty { IfOk result (λ p. p.state ≡ empty (length prepared.now.operations)) }
+    ensures order { IfOk result (λ p. (heights : List ℕ) × AreHeights prepared.now.graph ii heights × (length heights ≡ length prepared.now.operations) × IsByHeight heights p.order) }
+{
+    let heights = graph::heights(alloc, prepared.edges(), ii)?;
+    Progress::new(alloc, by_height(alloc, &heights)?)
+}
+
+/// Places one operation after another, until all are placed or the budget is used up. `sound` has each
+/// operation's first alternative that does not collide with itself.
+pub(crate) fn run<T: ModuloTable>(
+    prepared: &Prepared,
+    table: &mut T,
+    progress: &mut Progress,
+    sound: &[usize],
+    budget: u64,
+)
+    requires operations { T.operations table.old ≡ prepared.now.operations }
+    requires few { T.interval table.old ≤ 16384 }
+    requires empty { T.placed table.old ≡ replicate (length prepared.now.operations) None }
+    requires start { progress.old.state ≡ empty (length prepared.now.operations) }
+    requires each { length sound.now ≡ length prepared.now.operations }
+    requires sound { (op : ℕ) → op < length prepared.now.operations
+        → IsFirstSound (T.interval table.old) (alternatives_of prepared.now.operations op) (slice_index sound.now op) }
+    requires budget { budget ≤ 8192 }
+    ensures whole { length progress.new.state.placed ≡ length prepared.now.operations }
+    ensures stops { (heights : List ℕ) → AreHeights prepared.now.graph (T.interval table.old) heights → length heights ≡ length prepared.now.operations
+        → IsByHeight heights progress.old.order → Stops prepared.now (T.interval table.old) budget progress.new.state }
+{
+    for _step in 0..budget {
+        match progress.next() {
+            Some(op) => step(prepared, table, progress, op, sound[op]),
+            None => return,
+        }
+    }
+}

@@ -1,0 +1,13 @@
+-- The machine, from cycle to cycle and turn to turn.
+pub mod Cycles
+pub mod Ending
+pub mod Filling
+pub mod Held
+pub mod Issuing
+pub mod Landings
+pub mod Launching
+pub mod Naming
+pub mod Promised
+pub mod RowWrites
+pub mod Turning
+pub mod Twofold

@@ -1,0 +1,4 @@
+-- What the clauses of private functions cite.
+pub mod Holding
+pub mod Prepared
+pub mod Steps

@@ -1,0 +1,93 @@
+//! Kernels.
+
+ghost use Rattle.std.specs.Prelude.{◌≡◌};
+ghost use Rattle.kernel.specs.Check.{IsWellFormed};
+
+use crate::kernels::lists::{ArrayNames, Operations, Outs, Params, Preloads};
+use machine::Name;
+use std::marker::Model;
+
+/// The initial value of a register.
+#[derive(Clone, Copy, Debug, PartialEq, Eq)]
+pub struct Preload {
+    /// The physical register, which is also the register's name in turn 0.
+    pub register: u16,
+    /// What the register holds before the first turn.
+    pub value: i64,
+}
+
+/// A value that is live at the end.
+#[derive(Debug, Drop)]
+pub struct Out {
+    /// The value's name.
+    pub name: Name,
+    /// The register's name in turn `N + stages - 2` of a run of `N` iterations, which is the last one.
+    pub register: u16,
+}
+
+/// The parts of a kernel, well formed or not.
+#[derive(Debug, Drop)]
+pub struct Parts {
+    /// The initiation interval: how many rows a turn has, in cycles.
+    pub ii: u64,
+    /// How many stages there are.
+    pub stages: u64,
+    /// How many rotating registers there are.
+    pub registers: u64,
+    /// The parameters, which have one value in every turn.
+    pub params: Params,
+    /// The names of the arrays, by their numbers.
+    pub arrays: ArrayNames,
+    /// The operations, by their numbers: of one row, those of smaller numbers are issued first.
+    pub operations: Operations,
+    /// The registers that do not open at 0.
+    pub preloads: Preloads,
+    /// The values that are live at the end, in the order of a memory's.
+    pub outs: Outs,
+}
+
+/// A well-formed kernel. It need not come from a loop, and may let two values share a register.
+/// Contracts see its parts.
+#[derive(Debug, Drop)]
+pub struct Kernel {
+    parts: Parts,
+}
+
+impl Model for Kernel {
+    ghost use Rattle.kernel.specs.declared.kernels.parts.Parts.{Parts};
+
+    ghost Value = { Parts };
+
+    ghost use Rattle.kernel.specs.Check.{IsWellFormed};
+
+    ghost view = { λ k. k.parts };
+
+    ghost invariant = { λ k. IsWellFormed k.parts };
+}
+
+impl Kernel {
+    /// The kernel of these parts.
+    pub(crate) fn new(parts: Parts) -> Kernel
+        requires { IsWellFormed parts }
+        ensures { result ≡ parts }
+    {
+        Kernel { parts }
+    }
+
+    /// The kernel's parts.
+    pub fn parts(&self) -> &Parts
+        ensures value { result.now ≡ self.now }
+        ensures well_formed { IsWellFormed self.now }
+    {
+        &self.parts
+    }
+
+    /// The kernel's parts, to be used further.
+    pub fn into_parts(self) -> Parts
+        ensures value { result ≡ self }
+        ensures well_formed { IsWellFormed self }
+    {
+        let Kernel { parts } = self;
+        parts
+    }
+}

@@ -1,0 +1,11 @@
+//! The machine that runs a kernel.
+
+pub(crate) mod clock;
+pub(crate) mod file;
+pub(crate) mod flight;
+pub(crate) mod issue;
+pub(crate) mod land;
+pub(crate) mod prepare;
+pub(crate) mod run;
+pub(crate) mod simulation;
+pub(crate) mod step;

@@ -1,0 +1,4 @@
+-- Texts in a machine text.
+pub mod Printed
+pub mod Texts
+pub mod Words

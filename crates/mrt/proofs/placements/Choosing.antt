@@ -1,0 +1,106 @@
+-- Alternatives that collide with themselves, and spans of slots that are added to.
+use Rattle.std.proofs.Common.{◌≡◌, ℕ, ◌+◌, ◌-◌, ◌%◌, ◌<◌, ◌≤◌, true, false, ◌&&◌, ◌||◌, eqb, List, [], ◌∷◌, ◌++◌, length, get_or, map, take, drop, refl, sym, ap, ◌∙◌, arith, eq-eqb, zero-add, length-take}
+use Rattle.std.specs.List.{All, list_any, slice_range}
+use Rattle.std.proofs.lemmas.List.{drop_more, take_rest, map_push, get_or-map, length-map}
+use Rattle.std.proofs.lemmas.List.Elements.{All-push, All-head, All-tail, All-weaker, All-map, All-take, All-drop}
+use Rattle.std.proofs.lemmas.List.Folds.{list_any_at}
+use Rattle.machine.specs.declared.issues.alternative.Row.{Row}
+use Rattle.machine.specs.Alternative.{residue_of, rows_meet, collides}
+use Rattle.mrt.specs.declared.rosters.slot.Slot.{Slot}
+use Rattle.mrt.specs.declared.rosters.choices.Span.{Span}
+use Rattle.mrt.specs.inner.Slots.{IsSlot, rows_in, needs_unit, HasUnits}
+use Rattle.mrt.specs.inner.Choices.{rows_at, IsSpan, AreChoices}
+use Rattle.mrt.proofs.placements.Lists.{list_any-map, slice_range_kept}
+
+-- the offset modulo the interval is the residue at time 0
+turn_is : (ii : ℕ) (slot : Slot) → IsSlot ii slot → slot.turn ≡ residue_of ii slot.row 0
+turn_is ii slot s = s.turn ∙ ap (λ n. n % ii) (sym (zero-add slot.row.offset))
+
+pub rows_meet-by_turns : (ii : ℕ) (a b : Slot) → IsSlot ii a → IsSlot ii b → rows_meet ii a.row 0 b.row 0 ≡ (eqb a.row.unit b.row.unit && eqb a.turn b.turn)
+rows_meet-by_turns ii a b s t =
+    ap (λ n. eqb a.row.unit b.row.unit && eqb n (residue_of ii b.row 0)) (sym (turn_is ii a s))
+    ∙ ap (λ n. eqb a.row.unit b.row.unit && eqb a.turn n) (sym (turn_is ii b t))
+
+pub meets_one : (ii : ℕ) (slot : Slot) (others : List Slot) (k : ℕ) (d : Slot) → IsSlot ii slot → All (IsSlot ii) others → k < length others
+    → slot.row.unit ≡ (get_or others k d).row.unit → slot.turn ≡ (get_or others k d).turn
+    → true ≡ list_any (λ s. rows_meet ii slot.row 0 s 0) (rows_in others)
+meets_one ii slot others k d s all lt unit turn =
+    let here = rows_meet-by_turns ii slot (get_or others k d) s (all k d lt) in
+    let same : (eqb slot.row.unit (get_or others k d).row.unit && eqb slot.turn (get_or others k d).turn) ≡ true =
+    rw (eq-eqb slot.row.unit (get_or others k d).row.unit unit) (eq-eqb slot.turn (get_or others k d).turn turn) in
+    sym (list_any-map (λ s. rows_meet ii slot.row 0 s 0) (λ (x : Slot). x.row) others ∙ list_any_at (λ (x : Slot). rows_meet ii slot.row 0 x.row 0) others k d lt (here ∙ same))
+
+pub meets_none : (ii : ℕ) (slot : Slot) (others : List Slot)
+    → list_any (λ (s : Slot). rows_meet ii slot.row 0 s.row 0) others ≡ false
+    → false ≡ list_any (λ s. rows_meet ii slot.row 0 s 0) (rows_in others)
+meets_none ii slot others none = sym (list_any-map (λ s. rows_meet ii slot.row 0 s 0) (λ (x : Slot). x.row) others ∙ none)
+
+-- the slot at a place, and those after it
+pub collides-drop : (ii : ℕ) (slots : List Slot) (k : ℕ) (d : Slot) → k < length slots
+    → collides ii (rows_in (drop k slots)) ≡ (list_any (λ s. rows_meet ii (get_or slots k d).row 0 s 0) (rows_in (drop (k + 1) slots)) || collides ii (rows_in (drop (k + 1) slots)))
+collides-drop ii slots k d lt = ap (λ zs. collides ii (rows_in zs)) (drop_more slots k d lt)
+
+-- an old span, after slots are added
+pub IsSpan-kept : (ii : ℕ) (old new : List Slot) (span : Span) → take (length old) new ≡ old → length old ≤ length new → IsSpan ii old span → IsSpan ii new span
+IsSpan-kept ii old new span e le s = record {
+  order = s.order;
+  within = omega (arith, s.within);
+  collides = s.collides ∙ ap (λ zs. collides ii (rows_in zs)) (sym (slice_range_kept old new span.start span.end e s.order s.within));
+  units = λ unit. s.units unit ∙ ap (λ zs. needs_unit unit (rows_in zs)) (sym (slice_range_kept old new span.start span.end e s.order s.within));
+}
+
+pub rows_at-kept : (ii : ℕ) (old new : List Slot) (spans : List Span) → take (length old) new ≡ old → All (IsSpan ii old) spans → map (rows_at new) spans ≡ map (rows_at old) spans
+rows_at-kept ii old new [] e all = refl
+rows_at-kept ii old new (s ∷ spans) e all =
+    let here = All-head (IsSpan ii old) s spans all in
+    let same = ap rows_in (slice_range_kept old new s.start s.end e here.order here.within) in
+    ap (λ x. x ∷ map (rows_at new) spans) same ∙ ap (λ xs. rows_at old s ∷ xs) (rows_at-kept ii old new spans e (All-tail (IsSpan ii old) s spans all))
+
+longer : (old new : List Slot) → take (length old) new ≡ old → length old ≤ length new
+longer old new e = omega (arith, length-take (length old) new, ap length e)
+
+pub AreChoices-grown : (ii : ℕ) (old new : List Slot) (spans : List Span) → AreChoices ii old spans → All (IsSlot ii) new → take (length old) new ≡ old → AreChoices ii new spans
+AreChoices-grown ii old new spans a slots e = record {
+  some = a.some;
+  few = a.few;
+  each_slot = slots;
+  each_span = All-weaker (IsSpan ii old) (IsSpan ii new) (λ span s. IsSpan-kept ii old new span e (longer old new e) s) spans a.each_span;
+}
+
+-- the slots that were added are a span of their own
+pub AreChoices-pushed : (ii : ℕ) (old new : List Slot) (spans : List Span) (span : Span) → AreChoices ii old spans → All (IsSlot ii) new → take (length old) new ≡ old
+    → span.start ≡ length old → span.end ≡ length new → span.collides ≡ collides ii (rows_at new span) → HasUnits span.units (rows_at new span) → AreChoices ii new (spans ++ span ∷ [])
+AreChoices-pushed ii old new spans span a slots e from to c u =
+    let grown = AreChoices-grown ii old new spans a slots e in
+    let le = longer old new e in
+    let own : IsSpan ii new span = record { order = omega arith; within = omega arith; collides = c; units = u } in
+    record { some = a.some; few = a.few; each_slot = slots; each_span = All-push (IsSpan ii new) spans span grown.each_span own }
+
+pub rows_at-pushed : (ii : ℕ) (old new : List Slot) (spans : List Span) (span : Span) (rows : List Row) → All (IsSpan ii old) spans → take (length old) new ≡ old
+    → span.start ≡ length old → span.end ≡ length new → rows_in (drop (length old) new) ≡ rows
+    → map (rows_at new) (spans ++ span ∷ []) ≡ map (rows_at old) spans ++ rows ∷ []
+rows_at-pushed ii old new spans span rows all e from to r =
+    let own : rows_at new span ≡ rows = ap (λ n. rows_in (slice_range new n span.end)) from ∙ ap (λ n. rows_in (slice_range new (length old) n)) to ∙ ap rows_in (take_rest new (length old)) ∙ r in
+    map_push (rows_at new) spans span ∙ ap (λ xs. xs ++ rows_at new span ∷ []) (rows_at-kept ii old new spans e all) ∙ ap (λ x. map (rows_at old) spans ++ x ∷ []) own
+
+-- units below a number, of the slots and of the alternatives that they make up
+pub rows_at-covered : (units : ℕ) (slots : List Slot) (spans : List Span) → All (λ s. s.row.unit < units) slots → All (All (λ r. r.unit < units)) (map (rows_at slots) spans)
+rows_at-covered units slots spans all =
+    let P : Row → Type 0 = λ r. r.unit < units in
+    let Q : Slot → Type 0 = λ s. s.row.unit < units in
+    let each = λ (span : Span). All-map P (λ (s : Slot). s.row) (slice_range slots span.start span.end) (All-take Q (span.end - span.start) (drop span.start slots) (All-drop Q span.start slots all)) in
+    All-map (All P) (rows_at slots) spans (λ k d lt. each (get_or spans k d))
+
+pub covered_slots : (units : ℕ) (slots : List Slot) (rows : List Row) → rows_in slots ≡ rows → All (λ r. r.unit < units) rows → All (λ s. s.row.unit < units) slots
+covered_slots units slots rows e all k d lt =
+    let there : k < length rows = omega (arith, length-map slots (λ (s : Slot). s.row), ap length e) in
+    let same : (get_or slots k d).row ≡ get_or rows k d.row = sym (get_or-map (λ (s : Slot). s.row) slots k d d.row lt) ∙ ap (λ rs. get_or rs k d.row) e in
+    omega (arith, ap (λ (r : Row). r.unit) same, all k d.row there)
+
+pub row_within : (slots : List Slot) (rows : List Row) (k : ℕ) → rows_in slots ≡ rows → k < length rows → k < length slots
+row_within slots rows k e lt = omega (arith, length-map slots (λ (s : Slot). s.row), ap length e)
+
+pub slot_units : (ii : ℕ) (slots : List Slot) (rows : List Row) → rows_in slots ≡ rows → All (IsSlot ii) slots → All (λ r. r.unit < 64) rows
+slot_units ii slots rows e all =
+    let P : Row → Type 0 = λ r. r.unit < 64 in
+    rw (← e) (All-map P (λ (s : Slot). s.row) slots (λ k d lt. (all k d lt).unit))

@@ -1,6 +1,0 @@
-use Rattle.std.proofs.Common.{◌<◌}
-use Rattle.mrt.proofs.Rostering.{rows_of-all}
-use Rattle.mrt.proofs.roster.Roster.units.Goals as goal
-
-pub returns-clause-covered : goal.returns-clause-covered
-returns-clause-covered c = rw (← c.self.view_is) (rows_of-all (λ r. r.unit < c.units.result) _ _ c.units.ensures.covered)

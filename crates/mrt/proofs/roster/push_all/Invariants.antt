@@ -1,6 +1,0 @@
-use Rattle.std.proofs.Common.{◌≡◌, ◌++◌, take}
-use Rattle.mrt.proofs.roster.push_all.Given as goal
-
-abbrev pub invariant-loop-alternative : goal.invariant-loop-alternative
-invariant-loop-alternative l =
-    (l.choices.interval ≡ l.initial.choices.interval) × (l.choices.alternatives ≡ l.initial.choices.alternatives ++ take l.alternative-index l.alternatives)

@@ -1,0 +1,30 @@
+use Rattle.std.proofs.Common.{◌≡◌, length, ◌∙◌}
+use Rattle.std.specs.List.{All}
+use Rattle.std.proofs.lemmas.List.Elements.{All-take, All-drop}
+use Rattle.mrt.specs.inner.Slots.{IsSlot}
+use Rattle.mrt.proofs.placements.Choosing.{AreChoices-grown, AreChoices-pushed, rows_at-pushed}
+use Rattle.mrt.proofs.rosters.choices.Choices.push.Goals as goal
+
+pub invariant_of-self : goal.invariant_of-self
+invariant_of-self c = AreChoices-grown _ _ _ _ c.self.invariant c.push_slots.ensures.slots c.push_slots.ensures.kept
+
+pub invariant_of-self-in_err-push : goal.invariant_of-self-in_err-push
+invariant_of-self-in_err-push c =
+    rw c.in_err-push.ensures.items (AreChoices-grown _ _ _ _ c.self.invariant c.push_slots.ensures.slots c.push_slots.ensures.kept)
+
+pub invariant_of-self-2 : goal.invariant_of-self-2
+invariant_of-self-2 c =
+    let slots = c.push_slots.ensures.slots in
+    let from : c.len-start.result ≡ length c.self.inside.slots.items = c.len-start.ensures ∙ c.self.inside.slots.ok.0 in
+    let to : c.len-end.result ≡ length c.push_slots.new.slots.items = c.len-end.ensures ∙ c.push_slots.new.slots.ok.0 in
+    let read : All (IsSlot c.self.inside.ii) c.deref.result.now = rw c.deref.ensures.value slots in
+    let own = c.collides-collides.ensures c.self.inside.ii (All-take (IsSlot c.self.inside.ii) _ _ (All-drop (IsSlot c.self.inside.ii) c.len-start.result c.deref.result.now read)) in
+    let bits = c.units_of-units.ensures c.self.inside.ii (All-take (IsSlot c.self.inside.ii) _ _ (All-drop (IsSlot c.self.inside.ii) c.len-start.result c.deref.result.now read)) in
+    rw c.in_ok-push.ensures.items (AreChoices-pushed _ _ _ _ _ c.self.invariant slots c.push_slots.ensures.kept from to (rw c.deref.ensures.value at own) (rw c.deref.ensures.value at bits))
+
+pub returns-clause-pushed : goal.returns-clause-pushed
+returns-clause-pushed c =
+    let from : c.len-start.result ≡ length c.self.inside.slots.items = c.len-start.ensures ∙ c.self.inside.slots.ok.0 in
+    let to : c.len-end.result ≡ length c.push_slots.new.slots.items = c.len-end.ensures ∙ c.push_slots.new.slots.ok.0 in
+    rw (c.in_ok-push.ensures.items, ← c.self.view_is)
+    (rows_at-pushed _ _ _ _ _ _ c.self.invariant.each_span c.push_slots.ensures.kept from to c.in_ok-push_slots.ensures.added)

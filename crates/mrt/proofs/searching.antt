@@ -1,0 +1,4 @@
+-- What a table answers.
+pub mod Scheduling
+pub mod Searching
+pub mod Taking

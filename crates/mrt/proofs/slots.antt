@@ -1,0 +1,6 @@
+-- The slots that are held, as owners and as bits.
+pub mod Marking
+pub mod Masking
+pub mod Needing
+pub mod Owning
+pub mod Timing

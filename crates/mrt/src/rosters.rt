@@ -1,0 +1,6 @@
+//! Operations, their alternatives and their placements.
+
+pub(crate) mod choices;
+pub(crate) mod kinds;
+pub(crate) mod roster;
+pub(crate) mod slot;

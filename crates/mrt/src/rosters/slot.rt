@@ -1,0 +1,47 @@
+//! One row of a reservation table, prepared for one initiation interval.
+
+ghost use Rattle.std.specs.Prelude.{◌≡◌, ◌%◌, ◌<◌, ◌≤◌, ℕ};
+ghost use Rattle.machine.specs.Alternative.{residue_of};
+ghost use Rattle.mrt.specs.inner.Slots.{IsSlot};
+
+use machine::Row;
+
+/// A row, and what a query needs of it at one interval.
+#[derive(Clone, Copy)]
+pub(crate) struct Slot {
+    /// The row as the alternative has it.
+    pub(crate) row: Row,
+    /// The row's offset modulo the interval.
+    pub(crate) turn: u32,
+    /// The bit of the row's unit.
+    pub(crate) mask: u64,
+}
+
+impl Slot {
+    /// What an interval makes of a row.
+    pub(crate) fn new(row: Row, ii: usize) -> Slot
+        requires some { 0 < ii }
+        requires few { ii ≤ 16384 }
+        requires unit { row.unit < 64 }
+        ensures row { result.row ≡ row }
+        ensures slot { IsSlot ii result }
+    {
+        Slot {
+            row,
+            turn: u32::from(row.offset) % ii as u32,
+            mask: 1 << row.unit,
+        }
+    }
+
+    /// The residue that the row takes, for an operation issued at a time whose own residue is `base`.
+    pub(crate) fn residue(&self, base: usize, ii: usize) -> usize
+        requires slot { IsSlot ii self.now }
+        requires base { base < ii }
+        requires few { ii ≤ 16384 }
+        ensures below { result < ii }
+        ensures value { (time : ℕ) → time % ii ≡ base → result ≡ residue_of ii self.now.row time }
+    {
+        let sum = base + self.turn as usize;
+        if sum < ii { sum } else { sum - ii }
+    }
+}

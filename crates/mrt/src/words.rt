@@ -1,0 +1,4 @@
+//! Which units are held, as bits of words.
+
+pub(crate) mod rounds;
+pub(crate) mod times;

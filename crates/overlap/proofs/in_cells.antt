@@ -1,0 +1,4 @@
+-- What cells hold.
+pub mod Cells
+pub mod LastStores
+pub mod Loads

@@ -1,0 +1,173 @@
+-- The writes of the sequence are those of the instances that are issued.
+use Rattle.std.proofs.Common.{◌≡◌, ◌⊎◌, ℕ, suc, zero, ◌+◌, ◌-◌, ◌*◌, ◌/◌, ◌%◌, ◌<◌, ◌≤◌, ◌&&◌, Bool, eqb, ltb, leb, List, [], ◌∷◌, Option, Some, None, refl, sym, ap, ◌∙◌, subst, inl, inr, arith}
+use Rattle.std.specs.Prelude.{slice_get, slice_index}
+use Rattle.std.specs.List.{Contains, cons_option}
+use Rattle.std.proofs.lemmas.Bool.{cases_Bool, cases_lt, and_parts, and_from, eqb-true, eq-eqb, leb-true, ltb-true, le-leb, lt-ltb, cond-true, cond-false}
+use Rattle.std.proofs.lemmas.List.Elements.{Contains-append_left, Contains-append_right, Contains-append_cases}
+use Rattle.std.proofs.Math.Nat.{mul-add, div-add-mod', add-mul-mod_self_right, add-mul-div_right}
+use Rattle.iterations.specs.declared.language.statement.Statement.{Statement}
+use Rattle.iterations.specs.Run.{MemoryData}
+use Rattle.graph.specs.Promises.{issue_of}
+use Rattle.kernel.specs.Overlapped.{Write}
+use Rattle.overlap.specs.Allotments.{AllotmentData}
+use Rattle.ims.specs.Schedules.{ScheduleData, stage_of, row_of}
+use Rattle.overlap.specs.Sequence.{write_of_instance, write_now, sequence_in, sequence_before}
+use Rattle.overlap.proofs.in_flight.Landing.{contains-cases, contains-head, contains-tail}
+
+-- an instance that is issued before a cycle, with its write
+pub record IsIssued (schedule : ScheduleData) (allotment : AllotmentData) (memory : MemoryData) (cycle : ℕ) (w : Write) : Type 0 where
+  pub op : ℕ
+  pub iteration : ℕ
+  pub statement : Statement
+  pub is_statement : slice_get schedule.problem.loop.statements op ≡ Some statement
+  pub within : iteration < memory.trip
+  pub early : issue_of schedule.ii schedule.times op iteration < cycle
+  pub is_write : write_of_instance schedule allotment memory.arrays op iteration statement ≡ Some w
+
+-- a cycle of an operation's row, in a turn of its stage or later
+pub cycle-from_row : (ii time cycle : ℕ) → cycle % ii ≡ time % ii → time / ii ≤ cycle / ii → cycle ≡ time + ii * (cycle / ii - time / ii)
+cycle-from_row ii time cycle row stage =
+    let a : (cycle / ii) * ii + cycle % ii ≡ cycle = div-add-mod' cycle ii in
+    let b : (time / ii) * ii + time % ii ≡ time = div-add-mod' time ii in
+    let turns : time / ii + (cycle / ii - time / ii) ≡ cycle / ii = omega arith in
+    let times : ii * (cycle / ii) ≡ ii * (time / ii) + ii * (cycle / ii - time / ii) = ap (λ n. ii * n) (sym turns) ∙ mul-add ii (time / ii) (cycle / ii - time / ii) in
+    let c : (cycle / ii) * ii ≡ ii * (cycle / ii) = omega arith in
+    let d : (time / ii) * ii ≡ ii * (time / ii) = omega arith in
+    omega arith
+
+-- what is issued in a cycle
+
+abbrev IsIn : ScheduleData → AllotmentData → MemoryData → ℕ → ℕ → List Statement → Write → Type 0
+IsIn schedule allotment memory cycle op statements w =
+    (k : ℕ) × (s : Statement) × (slice_get statements k ≡ Some s) × (write_now schedule allotment memory cycle (op + k) s ≡ Some w)
+
+pub option-cases : {X : Type 0} (o : Option X) (xs : List X) (y : X) → Contains (cons_option o xs) y → (o ≡ Some y) ⊎ Contains xs y
+option-cases None xs y c = inr c
+option-cases (Some x) xs y c = elim (contains-cases x xs y c) [
+  | inl e ↦ inl (ap Some e)
+  | inr d ↦ inr d
+]
+
+option-there : {X : Type 0} (o : Option X) (xs : List X) (y : X) → o ≡ Some y → Contains (cons_option o xs) y
+option-there o xs y e = subst (λ p. Contains (cons_option p xs) y) (sym e) (contains-head y xs)
+
+pub option-behind : {X : Type 0} (o : Option X) (xs : List X) (y : X) → Contains xs y → Contains (cons_option o xs) y
+option-behind None xs y c = c
+option-behind (Some x) xs y c = contains-tail x xs y c
+
+in-from_sequence : (schedule : ScheduleData) (allotment : AllotmentData) (memory : MemoryData) (cycle op : ℕ) (statements : List Statement) (w : Write)
+    → Contains (sequence_in schedule allotment memory cycle op statements) w → IsIn schedule allotment memory cycle op statements w
+in-from_sequence schedule allotment memory cycle op [] w c = absurd (let l = c.1 in omega arith)
+in-from_sequence schedule allotment memory cycle op (s ∷ statements) w c =
+    elim (option-cases (write_now schedule allotment memory cycle op s) (sequence_in schedule allotment memory cycle (op + 1) statements) w c) [
+      | inl e ↦ (0, s, refl, (let z : op + 0 ≡ op = omega arith in ap (λ n. write_now schedule allotment memory cycle n s) z ∙ e))
+      | inr d ↦ let r = in-from_sequence schedule allotment memory cycle (op + 1) statements w d in
+          let z : op + suc r.0 ≡ (op + 1) + r.0 = omega arith in
+          (suc r.0, r.1, r.2, ap (λ n. write_now schedule allotment memory cycle n r.1) z ∙ r.3)
+    ]
+
+sequence-from_in : (schedule : ScheduleData) (allotment : AllotmentData) (memory : MemoryData) (cycle op : ℕ) (statements : List Statement) (k : ℕ) (s : Statement) (w : Write)
+    → slice_get statements k ≡ Some s → write_now schedule allotment memory cycle (op + k) s ≡ Some w
+    → Contains (sequence_in schedule allotment memory cycle op statements) w
+sequence-from_in schedule allotment memory cycle op [] k s w there e = cc
+sequence-from_in schedule allotment memory cycle op (x ∷ statements) zero s w there e =
+    let same : x ≡ s = cc in
+    let z : op ≡ op + 0 = omega arith in
+    option-there (write_now schedule allotment memory cycle op x) (sequence_in schedule allotment memory cycle (op + 1) statements) w
+    (ap (λ n. write_now schedule allotment memory cycle n x) z ∙ ap (λ y. write_now schedule allotment memory cycle (op + 0) y) same ∙ e)
+sequence-from_in schedule allotment memory cycle op (x ∷ statements) (suc k) s w there e =
+    let z : (op + 1) + k ≡ op + suc k = omega arith in
+    option-behind (write_now schedule allotment memory cycle op x) (sequence_in schedule allotment memory cycle (op + 1) statements) w
+    (sequence-from_in schedule allotment memory cycle (op + 1) statements k s w there (ap (λ n. write_now schedule allotment memory cycle n s) z ∙ e))
+
+-- an operation of the row and the stages writes in the cycle
+pub record IsNow (schedule : ScheduleData) (allotment : AllotmentData) (memory : MemoryData) (cycle op : ℕ) (s : Statement) (w : Write) : Type 0 where
+  pub iteration : ℕ
+  pub within : iteration < memory.trip
+  pub is_cycle : cycle ≡ issue_of schedule.ii schedule.times op iteration
+  pub is_write : write_of_instance schedule allotment memory.arrays op iteration s ≡ Some w
+
+now-from_write : (schedule : ScheduleData) (allotment : AllotmentData) (memory : MemoryData) (cycle op : ℕ) (s : Statement) (w : Write)
+    → write_now schedule allotment memory cycle op s ≡ Some w → IsNow schedule allotment memory cycle op s w
+now-from_write schedule allotment memory cycle op s w e =
+    let ii = schedule.ii in
+    let row : Bool = eqb (cycle % ii) (row_of schedule op) in
+    let begun : Bool = leb (stage_of schedule op) (cycle / ii) in
+    let lasts : Bool = ltb (cycle / ii) (stage_of schedule op + memory.trip) in
+    let write : Option Write = write_of_instance schedule allotment memory.arrays op (cycle / ii - stage_of schedule op) s in
+    elim (cases_Bool (row && begun && lasts)) [
+      | inl on ↦
+          let one = and_parts (row && begun) lasts on in
+          let two = and_parts row begun one.0 in
+          let r : cycle % ii ≡ row_of schedule op = eqb-true (cycle % ii) (row_of schedule op) two.0 in
+          let b : stage_of schedule op ≤ cycle / ii = leb-true (stage_of schedule op) (cycle / ii) two.1 in
+          let l : cycle / ii < stage_of schedule op + memory.trip = ltb-true (cycle / ii) (stage_of schedule op + memory.trip) one.1 in
+          record {
+            iteration = cycle / ii - stage_of schedule op;
+            within = omega arith;
+            is_cycle = cycle-from_row ii (slice_index schedule.times op) cycle r b;
+            is_write = sym (cond-true (row && begun && lasts) write None on) ∙ e;
+          }
+      | inr off ↦ let none : None ≡ Some w = sym (cond-false (row && begun && lasts) write None off) ∙ e in cc
+    ]
+
+-- the row and the turn of an instance's issue
+pub row-of_issue : (ii time iteration : ℕ) → (time + ii * iteration) % ii ≡ time % ii
+row-of_issue ii time iteration = ap (λ n. n % ii) (let e : time + ii * iteration ≡ time + iteration * ii = omega arith in e) ∙ add-mul-mod_self_right time iteration ii
+
+pub turn-of_issue : (ii time iteration : ℕ) → 0 < ii → (time + ii * iteration) / ii ≡ time / ii + iteration
+turn-of_issue ii time iteration some = ap (λ n. n / ii) (let e : time + ii * iteration ≡ time + iteration * ii = omega arith in e) ∙ add-mul-div_right time iteration some
+
+write-now_at : (schedule : ScheduleData) (allotment : AllotmentData) (memory : MemoryData) (cycle op iteration : ℕ) (s : Statement) → 0 < schedule.ii
+    → iteration < memory.trip → issue_of schedule.ii schedule.times op iteration ≡ cycle
+    → write_now schedule allotment memory cycle op s ≡ write_of_instance schedule allotment memory.arrays op iteration s
+write-now_at schedule allotment memory cycle op iteration s some within at =
+    let ii = schedule.ii in
+    let time = slice_index schedule.times op in
+    let r : cycle % ii ≡ row_of schedule op = ap (λ n. n % ii) (sym at) ∙ row-of_issue ii time iteration in
+    let t : cycle / ii ≡ stage_of schedule op + iteration = ap (λ n. n / ii) (sym at) ∙ turn-of_issue ii time iteration some in
+    let back : cycle / ii - stage_of schedule op ≡ iteration = omega arith in
+    let row : Bool = eqb (cycle % ii) (row_of schedule op) in
+    let begun : Bool = leb (stage_of schedule op) (cycle / ii) in
+    let lasts : Bool = ltb (cycle / ii) (stage_of schedule op + memory.trip) in
+    let write : Option Write = write_of_instance schedule allotment memory.arrays op (cycle / ii - stage_of schedule op) s in
+    cond-true (row && begun && lasts) write None
+    (and_from (row && begun) lasts (and_from row begun (eq-eqb (cycle % ii) (row_of schedule op) r) (le-leb (stage_of schedule op) (cycle / ii) (omega arith))) (lt-ltb (cycle / ii) (stage_of schedule op + memory.trip) (omega arith)))
+    ∙ ap (λ n. write_of_instance schedule allotment memory.arrays op n s) back
+
+-- each write of the sequence is an instance's
+pub issued-from_sequence : (schedule : ScheduleData) (allotment : AllotmentData) (memory : MemoryData) (cycle : ℕ) (w : Write)
+    → Contains (sequence_before schedule allotment memory cycle) w → IsIssued schedule allotment memory cycle w
+issued-from_sequence schedule allotment memory zero w c = absurd (let l = c.1 in omega arith)
+issued-from_sequence schedule allotment memory (suc cycle) w c =
+    elim (Contains-append_cases (sequence_before schedule allotment memory cycle) (sequence_in schedule allotment memory cycle 0 schedule.problem.loop.statements) w c) [
+      | inl before ↦
+          let r = issued-from_sequence schedule allotment memory cycle w before in
+          let e : issue_of schedule.ii schedule.times r.op r.iteration < cycle = r.early in
+          record { op = r.op; iteration = r.iteration; statement = r.statement; is_statement = r.is_statement; within = r.within; early = omega arith; is_write = r.is_write }
+      | inr here ↦
+          let r = in-from_sequence schedule allotment memory cycle 0 schedule.problem.loop.statements w here in
+          let z : 0 + r.0 ≡ r.0 = omega arith in
+          let n = now-from_write schedule allotment memory cycle r.0 r.1 w (ap (λ k. write_now schedule allotment memory cycle k r.1) (sym z) ∙ r.3) in
+          let e : cycle ≡ issue_of schedule.ii schedule.times r.0 n.iteration = n.is_cycle in
+          record { op = r.0; iteration = n.iteration; statement = r.1; is_statement = r.2; within = n.within; early = omega arith; is_write = n.is_write }
+    ]
+
+-- and each instance's write is in the sequence
+pub sequence-from_issued : (schedule : ScheduleData) (allotment : AllotmentData) (memory : MemoryData) (cycle : ℕ) (w : Write) → 0 < schedule.ii
+    → (op iteration : ℕ) (s : Statement) → slice_get schedule.problem.loop.statements op ≡ Some s → iteration < memory.trip
+    → issue_of schedule.ii schedule.times op iteration < cycle → write_of_instance schedule allotment memory.arrays op iteration s ≡ Some w
+    → Contains (sequence_before schedule allotment memory cycle) w
+sequence-from_issued schedule allotment memory zero w some op iteration s there within early e = absurd (omega arith)
+sequence-from_issued schedule allotment memory (suc cycle) w some op iteration s there within early e =
+    elim (cases_lt (issue_of schedule.ii schedule.times op iteration) cycle) [
+      | inl before ↦
+          Contains-append_left (sequence_before schedule allotment memory cycle) (sequence_in schedule allotment memory cycle 0 schedule.problem.loop.statements) w
+          (sequence-from_issued schedule allotment memory cycle w some op iteration s there within before e)
+      | inr behind ↦
+          let at : issue_of schedule.ii schedule.times op iteration ≡ cycle = omega arith in
+          let z : 0 + op ≡ op = omega arith in
+          Contains-append_right (sequence_before schedule allotment memory cycle) (sequence_in schedule allotment memory cycle 0 schedule.problem.loop.statements) w
+          (sequence-from_in schedule allotment memory cycle 0 schedule.problem.loop.statements op s w there
+          (ap (λ k. write_now schedule allotment memory cycle k s) z ∙ write-now_at schedule allotment memory cycle op iteration s some within at ∙ e))
+    ]

@@ -1,0 +1,35 @@
+-- What the operations of a schedule are stated to be.
+use Rattle.std.proofs.Common.{◌≡◌, ℕ, ◌<◌, ◌≤◌, List, [], length, Some, ap, arith}
+use Rattle.std.specs.Prelude.{slice_get}
+use Rattle.std.specs.List.{All, slice_index_or}
+use Rattle.std.proofs.lemmas.List.Elements.{All-get_or}
+use Rattle.machine.specs.declared.issues.alternative.Row.{Row}
+use Rattle.machine.specs.declared.issues.opcode.Opcode.{Opcode}
+use Rattle.machine.specs.declared.issues.opcode.Opcode.TheVariants.{Load, Store, Sel, Mov}
+use Rattle.machine.specs.Alternative.{AreAlternatives}
+use Rattle.iterations.specs.declared.language.statement.Statement.{Statement}
+use Rattle.iterations.specs.Arithmetic.{operands_of}
+use Rattle.iterations.specs.Loops.{LoopData, HasShape, IsLoop, MayRead}
+
+operands-few : (opcode : Opcode) → operands_of opcode ≤ 3
+operands-few Load = omega arith
+operands-few Store = omega arith
+operands-few Sel = omega arith
+operands-few Mov = omega arith
+operands-few opcode = omega arith
+
+-- a statement has at most three operands
+few-operands : (opcode : Opcode) (s : Statement) → HasShape opcode s → length s.operands ≤ 3
+few-operands Load s h = let e = ap length h.2 in omega arith
+few-operands Store s h = let e = h.3 in omega arith
+few-operands opcode s h = let e = h.2 in let f = operands-few opcode in omega arith
+
+pub operands-limited : (loop : LoopData) → IsLoop loop → (q : ℕ) (s : Statement) → slice_get loop.statements q ≡ Some s → length s.operands ≤ 3
+operands-limited loop is q s there = few-operands s.opcode s (is.each q s there).shape
+
+pub operands-may : (loop : LoopData) → IsLoop loop → (q : ℕ) (s : Statement) → slice_get loop.statements q ≡ Some s → (reader : ℕ) × All (MayRead loop reader) s.operands
+operands-may loop is q s there = (q, (is.each q s there).operands)
+
+-- an operation has at most eight alternatives
+pub alternatives-few : (operations : List (List (List Row))) → All AreAlternatives operations → (op : ℕ) → op < length operations → length (slice_index_or operations op []) ≤ 8
+alternatives-few operations all op lt = (All-get_or AreAlternatives operations op [] lt all).few

@@ -1,5 +1,0 @@
-use Rattle.rotating.proofs.Ranks.{zero-at}
-use Rattle.rotating.proofs.preloads.preloads.Goals as goal
-
-pub fill_carried-requires-clause-zeros : goal.fill_carried-requires-clause-zeros
-fill_carried-requires-clause-zeros c = zero-at 256

@@ -1,5 +1,0 @@
-use Rattle.workers.proofs.Climbing.{Climbed}
-use Rattle.workers.proofs.climbs.climb.Given as goal
-
-abbrev pub invariant-loop-above : goal.invariant-loop-above
-invariant-loop-above l = Climbed l.prepared l.fn.row l.row l.above l.retried l.last

@@ -1,0 +1,4 @@
+-- Workers on one board.
+pub mod Sharing
+pub mod Turning
+pub mod Working

@@ -1,0 +1,142 @@
+//! One piece, and one interval of it.
+ghost use Rattle.std.specs.Prelude.{◌≡◌, ◌<◌, ◌≤◌, ◌+◌, ◌-◌, IsTrue, length};
+ghost use Rattle.std.specs.List.{HoldsAt};
+ghost use Rattle.ims.specs.Problems.{mii_of};
+ghost use Rattle.candidates.specs.Choices.{last_of};
+ghost use Rattle.workers.specs.Entries.{IsTrueAt};
+ghost use Rattle.workers.specs.Worked.{mii_at};
+ghost use Rattle.workers.specs.inner.Turns.{EntersOne, Takes, TakesOrPasses, Turned};
+
+use crate::reports::entry::{Entry, Found};
+use crate::reports::report::Report;
+use board::Board;
+use candidates::{Outcome, Piece, try_interval};
+use ims::Prepared;
+use std::alloc::Global;
+
+/// Enters each interval of the piece, in order, or loses the piece for want of memory.
+pub(crate) fn turn<B: Board>(
+    alloc: Global,
+    board: &B,
+    pass: &mut B::Pass,
+    report: &mut Report<'_>,
+    piece: Piece,
+)
+    requires of { B.is_of board.now pass.old }
+    requires there { piece.loop_number < length report.old.loops }
+    requires number { piece.loop_number < B.loops board.now }
+    requires few { piece.loop_number < 1024 }
+    requires some { piece.start ≤ piece.end }
+    requires end { HoldsAt (λ p. piece.end ≤ p.ceiling + 1) report.old.loops piece.loop_number }
+    requires short { piece.end ≤ 256 }
+    requires lost { report.old.lost < 18446744073709551615 }
+    ensures of { B.is_of board.now pass.new }
+    ensures loops { report.new.loops ≡ report.old.loops }
+    ensures same_dryness { B.dry pass.new ≡ B.dry pass.old }
+    ensures same_dry { report.new.dry ≡ report.old.dry }
+    ensures turned { Turned B.tells (B.view pass.old) (B.view pass.new) piece.loop_number piece.start (piece.end - piece.start) report.old report.new }
+{
+    if !report.reserve((piece.end - piece.start) as usize) {
+        report.lose();
+        return;
+    }
+    let mut won = false;
+    for above in piece.start..piece.end {
+        won = enter_one::<B>(alloc, board, pass, report, piece.loop_number, above, won);
+    }
+}
+
+/// Enters one interval, which is beaten without a look where a lower one of its piece was won. Tells whether
+/// one is won now.
+fn enter_one<B: Board>(
+    alloc: Global,
+    board: &B,
+    pass: &mut B::Pass,
+    report: &mut Report<'_>,
+    number: usize,
+    above: u64,
+    won: bool,
+) -> bool
+    requires of { B.is_of board.now pass.old }
+    requires there { number < length report.old.loops }
+    requires number { number < B.loops board.now }
+    requires few { number < 1024 }
+    requires above { HoldsAt (λ p. above ≤ p.ceiling) report.old.loops number }
+    requires room { 0 < report.old.room }
+    ensures of { B.is_of board.now pass.new }
+    ensures same_dryness { B.dry pass.new ≡ B.dry pass.old }
+    ensures entered { EntersOne B.tells (B.view pass.old) (B.view pass.new) number (mii_at report.old.loops number + above) won result report.old report.new }
+{
+    let prepared = &report.loops()[number];
+    let interval = prepared.mii() + above;
+    let found = found_at::<B>(alloc, board, pass, prepared, number, interval, won);
+    let wins = won || found.is_won();
+    report.enter(Entry {
+        loop_number: number as u16,
+        interval: interval as u16,
+        found,
+    });
+    wins
+}
+
+/// What becomes of one interval.
+fn found_at<B: Board>(
+    alloc: Global,
+    board: &B,
+    pass: &mut B::Pass,
+    prepared: &Prepared,
+    number: usize,
+    interval: u64,
+    won: bool,
+) -> Found
+    requires of { B.is_of board.now pass.old }
+    requires number { number < B.loops board.now }
+    requires from_mii { mii_of prepared.now ≤ interval }
+    requires to_last { interval ≤ last_of prepared.now }
+    requires few { interval ≤ 16384 }
+    ensures of { B.is_of board.now pass.new }
+    ensures truth { IsTrueAt prepared.now interval result }
+    ensures same_dryness { B.dry pass.new ≡ B.dry pass.old }
+    ensures told { IsTrue B.tells → TakesOrPasses won number interval (B.view pass.old) result (B.view pass.new) }
+{
+    if won {
+        return Found::Beaten;
+    }
+    one::<B>(alloc, board, pass, prepared, number, interval)
+}
+
+/// Looks, and tries the interval where no lower one is known to give a kernel.
+fn one<B: Board>(
+    alloc: Global,
+    board: &B,
+    pass: &mut B::Pass,
+    prepared: &Prepared,
+    number: usize,
+    interval: u64,
+) -> Found
+    requires of { B.is_of board.now pass.old }
+    requires number { number < B.loops board.now }
+    requires from_mii { mii_of prepared.now ≤ interval }
+    requires to_last { interval ≤ last_of prepared.now }
+    requires few { interval ≤ 16384 }
+    ensures of { B.is_of board.now pass.new }
+    ensures truth { IsTrueAt prepared.now interval result }
+    ensures same_dryness { B.dry pass.new ≡ B.dry pass.old }
+    ensures told { IsTrue B.tells → Takes number interval (B.view pass.old) result (B.view pass.new) }
+{
+    if let Some(least) = board.look(pass, number) {
+        if least < interval {
+            return Found::Beaten;
+        }
+    }
+    let kernel = match try_interval(alloc, prepared, interval) {
+        Ok(Outcome::Met(kernel)) => kernel,
+        Ok(Outcome::Failed(cause)) => return Found::Failed(cause),
+        Err(_) => return Found::Unsettled,
+    };
+    let Ok(kernel) = Box::new(alloc, kernel) else {
+        return Found::Unsettled;
+    };
+    board.post(pass, number, interval);
+    Found::Won(kernel)
+}
