@@ -1,6 +1,5 @@
 //! The worked loops at their intervals, over both tables, and lists that are schedules or are not.
 
-
 mod given;
 
 use given::{

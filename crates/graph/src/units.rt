@@ -1,24 +1,24 @@
 //! The resource-constrained lower bound of the initiation interval.
 
-ghost use Rattle.std.specs.Prelude.{◌≡◌, ◌≢◌, ℕ, ◌+◌, ◌*◌, ◌-◌, ◌<◌, ◌≤◌, ◌==◌, List, ◌++◌, length, filter, IfOk, IfErr};
+ghost use Rattle.std.specs.Prelude.{◌≡◌, ◌≢◌, ℕ, ◌+◌, ◌*◌, ◌-◌, ◌<◌, ◌≤◌, ◌==◌, List, ◌++◌, length, map, filter, IfOk, IfErr};
 ghost use Rattle.std.specs.List.{All};
 ghost use Rattle.machine.specs.declared.issues.alternative.Row.{Row};
 ghost use Rattle.machine.specs.Alternative.{AreAlternatives};
 ghost use Rattle.machine.specs.Machines.{IsMachine};
 ghost use Rattle.iterations.specs.Loops.{IsLoop};
 ghost use Rattle.graph.specs.TablesAnswer.{TablesAnswer};
-ghost use Rattle.graph.specs.Units.{first_without_table, operations_of, greatest_use, IsBest, IsUnitBound};
+ghost use Rattle.graph.specs.Units.{first_without_table, operations_of, greatest_of, greatest_use, IsBest, IsUnitBound};
 ghost use Rattle.graph.specs.Uses.{AtMost, Tallies, TakesBest, CountsRows, IsBelowLawful};
 
 use crate::fault::GraphFault;
 use iterations::Loop;
-use machine::limits::{MAX_ALTERNATIVES, MAX_UNITS};
+use machine::limits::MAX_UNITS;
 use machine::{Alternative, Machine, Opcode, Row};
 
 /// How many rows use each unit, and the use of the most used unit.
 ///
-/// Each of 8 passes takes at most 16 rows for each of 128 operations, so no counter is above 16,384. The
-/// bounds that the functions below ask for only keep its sums within 16 bits.
+/// Each of at most 8 passes takes at most 16 rows for each of 128 operations, so no counter is above
+/// 16,384. The bounds that the functions below ask for only keep its sums within 16 bits.
 #[derive(Clone, Copy)]
 struct Uses {
     counts: [u16; MAX_UNITS],
@@ -97,8 +97,6 @@ impl Uses {
         ensures taken { (done : List (List (List Row))) → CountsRows done self.counts self.greatest
             → CountsRows (done ++ filter (λ alternatives. length alternatives == freedom) (operations_of machine.now innermost.now)) result.counts result.greatest }
         ensures grown { AtMost (2048 * freedom) result.counts }
-        ensures machine { IsMachine machine.now }
-        ensures innermost { IsLoop innermost.now }
     {
         let mut uses = self;
         for statement in innermost.statements() {
@@ -122,6 +120,23 @@ pub fn missing_table(machine: &Machine, innermost: &Loop) -> Option<Opcode>
         .iter()
         .map(|statement| statement.opcode)
         .find(|opcode| machine.table(*opcode).is_none())
+}
+
+/// The greatest number of alternatives that an operation of the loop has, 0 where none has any. An
+/// operation without a table has none.
+fn most_alternatives(machine: &Machine, innermost: &Loop) -> usize
+    ensures greatest { result ≡ greatest_of (map (λ alternatives. length alternatives) (operations_of machine.now innermost.now)) }
+    ensures few { result ≤ 8 }
+    ensures machine { IsMachine machine.now }
+    ensures innermost { IsLoop innermost.now }
+{
+    let mut most = 0;
+    for statement in innermost.statements() {
+        if let Some(table) = machine.table(statement.opcode) {
+            most = most.max(table.alternatives().as_slice().len());
+        }
+    }
+    most
 }
 
 /// The resource-constrained lower bound of a loop's initiation interval on a machine, in cycles, 1 to
@@ -149,7 +164,8 @@ pub fn res_mii(machine: &Machine, innermost: &Loop) -> Result<u64, GraphFault>
         counts: [0; MAX_UNITS],
         greatest: 0,
     };
-    for freedom in 1..=MAX_ALTERNATIVES {
+    let most = most_alternatives(machine, innermost);
+    for freedom in 1..=most {
         uses = uses.with_operations(machine, innermost, freedom);
     }
     Ok(u64::from(uses.greatest))

@@ -327,6 +327,15 @@ fn write_decimal(text: &mut String, number: u64) -> Result<(), OutOfMemory>
         write_digit(text, number / 10)?;
         return write_digit(text, number % 10);
     }
+    write_long(text, number)
+}
+
+/// Writes a number of any length. Kept out of [`write_decimal`], which is short without it.
+#[cold]
+#[inline(never)]
+fn write_long(text: &mut String, number: u64) -> Result<(), OutOfMemory>
+    ensures { IfOk result (λ _. string_bytes text.new ≡ string_bytes text.old ++ decimal number) }
+{
     let mut buffer = Buffer::new();
     text.push_str(buffer.format(number))?;
     Ok(())

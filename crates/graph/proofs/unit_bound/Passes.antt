@@ -122,6 +122,25 @@ passes_single operations (suc n) one =
 pub by_freedom_single : (operations : List (List (List Row))) → All (λ alternatives. length alternatives ≡ 1) operations → by_freedom operations ≡ operations
 by_freedom_single operations one = sym (passes_all operations) ∙ passes_single operations 7 one
 
+-- passes for more alternatives than any operation has take nothing
+passes_rest : (operations : List (List (List Row))) (most k : ℕ) → All (λ alternatives. length alternatives ≤ most) operations
+    → passes operations (k + most) ≡ passes operations most
+passes_rest operations most zero few = let same : 0 + most ≡ most = omega arith in ap (passes operations) same
+passes_rest operations most (suc k) few =
+    let next : suc k + most ≡ suc (k + most) = omega arith in
+    ap (passes operations) next ∙ ap (λ l. l ++ filter (λ alternatives. length alternatives == suc (k + most)) operations) (passes_rest operations most k few)
+    ∙ ap (λ l. passes operations most ++ l) (filter_none (λ alternatives. length alternatives == suc (k + most)) operations
+    (λ i d h. let e : length (get_or operations i d) ≤ most = few i d h in
+    let ne : length (get_or operations i d) ≢ suc (k + most) = omega arith in
+    ne_eqb (length (get_or operations i d)) (suc (k + most)) ne))
+    ∙ append-nil (passes operations most)
+
+pub passes_past : (operations : List (List (List Row))) (most n : ℕ) → All (λ alternatives. length alternatives ≤ most) operations → most ≤ n
+    → passes operations n ≡ passes operations most
+passes_past operations most n few past =
+    let all : n ≡ (n - most) + most = omega arith in
+    ap (passes operations) all ∙ passes_rest operations most (n - most) few
+
 -- what holds of each operation holds of each that a pass takes
 pub passes_keep : (P : List (List Row) → Type 0) (operations : List (List (List Row))) (n : ℕ) → All P operations → All P (passes operations n)
 passes_keep P operations zero h = All-nil P

@@ -7,7 +7,7 @@ use Rattle.machine.specs.declared.issues.alternative.Row.{Row}
 use Rattle.graph.specs.Units.{use_of, greatest_of, greatest_use}
 use Rattle.graph.specs.Uses.{AtMost, Tallies, CountsRows}
 
-greatest_of-push : (ns : List ℕ) (n : ℕ) → greatest_of (ns ++ n ∷ []) ≡ max (greatest_of ns) n
+pub greatest_of-push : (ns : List ℕ) (n : ℕ) → greatest_of (ns ++ n ∷ []) ≡ max (greatest_of ns) n
 greatest_of-push [] n = omega arith
 greatest_of-push (m ∷ ns) n = let h : greatest_of (ns ++ n ∷ []) ≡ max (greatest_of ns) n = greatest_of-push ns n in omega arith
 

@@ -14,7 +14,7 @@ use Rattle.iterations.specs.Loops.{LoopData}
 use Rattle.graph.specs.Units.{use_of, greatest_of, greatest_use, AreBest, chosen_rows, by_freedom, IsUnitBound, operations_of, opcodes_of, alternatives_in, first_without_table}
 use Rattle.graph.specs.Schedules.{IsPlan, KeepsUnits, issued_rows}
 use Rattle.graph.specs.Uses.{CountsRows}
-use Rattle.graph.proofs.unit_bound.Passes.{by_freedom_single, length-by_freedom, passes, passes_all, passes_keep}
+use Rattle.graph.proofs.unit_bound.Passes.{by_freedom_single, length-by_freedom, passes, passes_all, passes_keep, passes_past}
 use Rattle.graph.proofs.unit_bound.Pigeons.{Apart, use-le-interval}
 
 greatest_of-le : (f : Row → ℕ) (bound : ℕ) → ((r : Row) → f r ≤ bound) → (rows : List Row) → greatest_of (map f rows) ≤ bound
@@ -149,9 +149,14 @@ bound-range operations bound b h some =
     let same : 16 * length (by_freedom operations) ≡ 16 * length operations = ap (λ n. 16 * n) long in
     (omega arith, omega arith)
 
-pub IsUnitBound-from : (operations : List (List (List Row))) (n : ℕ) (counts : List ℕ) (greatest bound : ℕ) → n ≡ 8
-    → CountsRows (passes operations n) counts greatest → bound ≡ greatest → IsUnitBound operations bound
-IsUnitBound-from operations n counts greatest bound eight p is =
-    let order : passes operations n ≡ by_freedom operations = ap (passes operations) eight ∙ passes_all operations in
-    let q : CountsRows (by_freedom operations) counts greatest = subst (λ l. CountsRows l counts greatest) order p in
-    record { choices = q.choices; best = q.best; is_use = is ∙ q.tallies.most }
+-- the passes up to the greatest number of alternatives, or to a greater number, take all operations
+pub CountsRows-all : (operations : List (List (List Row))) (most n : ℕ) (counts : List ℕ) (greatest : ℕ) → All (λ alternatives. length alternatives ≤ most) operations
+    → most ≤ 8 → most ≤ n → CountsRows (passes operations n) counts greatest → CountsRows (by_freedom operations) counts greatest
+CountsRows-all operations most n counts greatest few low past p =
+    let order : passes operations n ≡ by_freedom operations
+    = passes_past operations most n few past ∙ sym (passes_past operations most 8 few low) ∙ passes_all operations in
+    subst (λ l. CountsRows l counts greatest) order p
+
+pub IsUnitBound-from : (operations : List (List (List Row))) (counts : List ℕ) (greatest bound : ℕ)
+    → CountsRows (by_freedom operations) counts greatest → bound ≡ greatest → IsUnitBound operations bound
+IsUnitBound-from operations counts greatest bound p is = record { choices = p.choices; best = p.best; is_use = is ∙ p.tallies.most }

@@ -7,6 +7,7 @@ use Rattle.std.proofs.lemmas.Option.{none-some, same_Some, slice_get-get_or, sli
 use Rattle.std.proofs.lemmas.List.{map_push, map-set, take_more, get_or-map, get_or-take, get_or_default, length_push, take_rest, drop_at, get_or-replicate, get_or_past, length-replicate}
 use Rattle.std.proofs.lemmas.List.Elements.{All-push, All-head, All-tail, All-weaker, All-map, All-nil, All-take, All-drop}
 use Rattle.machine.specs.declared.issues.alternative.Row.{Row}
+use Rattle.mrt.specs.declared.rosters.kinds.Kind.{Kind}
 use Rattle.mrt.specs.declared.rosters.roster.Group.{Group}
 use Rattle.mrt.specs.declared.rosters.roster.Issue.{Issue}
 use Rattle.mrt.specs.Placements.{OperationAlternatives, Placements, alternatives_of, rows_of}
@@ -90,9 +91,11 @@ pub IsGroup-shared : (count : ℕ) (groups : List Group) (e : ℕ) (group : Grou
     → All (IsGroup count) (groups ++ group ∷ [])
 IsGroup-shared count groups e group all there is = All-push (IsGroup count) groups group all (subst (IsGroup count) (sym is) (all e group there))
 
--- numbers below the length of a list, which gets longer
-pub below-longer : {X : Type 0} (numbers : List ℕ) (xs : List X) (x : X) → All (λ k. k < length xs) numbers → All (λ k. k < length (xs ++ x ∷ [])) numbers
-below-longer numbers xs x all = All-weaker (λ k. k < length xs) (λ k. k < length (xs ++ x ∷ [])) (λ k lt. omega (arith, length_push xs x)) numbers all
+-- kinds of operations below the length of a list, which gets longer
+pub below-longer : {X : Type 0} (kinds : List Kind) (xs : List X) (x : X) → All (λ (k : Kind). k.operation < length xs) kinds
+    → All (λ (k : Kind). k.operation < length (xs ++ x ∷ [])) kinds
+below-longer kinds xs x all =
+    All-weaker (λ (k : Kind). k.operation < length xs) (λ (k : Kind). k.operation < length (xs ++ x ∷ [])) (λ k lt. omega (arith, length_push xs x)) kinds all
 
 -- a write of one placement
 pub table_of-set : (ii : ℕ) (alternatives : List (List Row)) (groups : List Group) (issues : List (Option Issue)) (op : ℕ) (v : Option Issue)

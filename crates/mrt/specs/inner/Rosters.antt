@@ -1,7 +1,8 @@
 -- What a table stands for, and how operations, their alternatives and their placements are kept.
-use Rattle.std.specs.Prelude.{◌≡◌, ℕ, ◌%◌, ◌<◌, ◌≤◌, List, length, map, Option, Some, option_map, slice_get}
-use Rattle.std.specs.List.{All, slice_range}
+use Rattle.std.specs.Prelude.{◌≡◌, ℕ, ◌%◌, ◌<◌, ◌≤◌, List, [], length, map, Option, Some, option_map, slice_get}
+use Rattle.std.specs.List.{All, slice_index_or, slice_range}
 use Rattle.machine.specs.declared.issues.alternative.Row.{Row}
+use Rattle.mrt.specs.declared.rosters.kinds.Kind.{Kind}
 use Rattle.mrt.specs.declared.rosters.roster.Group.{Group}
 use Rattle.mrt.specs.declared.rosters.roster.Issue.{Issue}
 use Rattle.mrt.specs.Placements.{OperationAlternatives, Placements, Placement, alternatives_of}
@@ -28,6 +29,18 @@ table_of ii alternatives groups issues = record { interval = ii; operations = ma
 pub record IsGroup (count : ℕ) (group : Group) : Type 0 where
   pub order : group.first ≤ group.end
   pub within : group.end ≤ count
+
+-- the first row of the first alternative
+abbrev pub first_row : List (List Row) → Row
+first_row alternatives = slice_index_or (slice_index_or alternatives 0 []) 0 (record { unit = 0; offset = 0 })
+
+-- the kind is that of one of the operations
+pub record IsKind (operations : OperationAlternatives) (kind : Kind) : Type 0 where
+  pub there : kind.operation < length operations
+  pub first : kind.first ≡ first_row (slice_index_or operations kind.operation [])
+
+abbrev pub no_kind : Kind
+no_kind = record { operation = 0; first = record { unit = 0; offset = 0 } }
 
 -- the time's residue is kept beside it, and the operation has the alternative
 pub record IsIssue (ii : ℕ) (operations : OperationAlternatives) (op : ℕ) (issue : Issue) : Type 0 where

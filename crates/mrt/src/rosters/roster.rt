@@ -7,7 +7,7 @@ ghost use Rattle.mrt.specs.Placements.{placement_of, alternatives_of, rows_of};
 ghost use Rattle.mrt.specs.inner.Slots.{IsSlot, rows_in, HasUnits, takes, Takes};
 
 use crate::rosters::choices::Choices;
-use crate::rosters::kinds::of_kind;
+use crate::rosters::kinds::{Kind, of_kind};
 use crate::rosters::slot::Slot;
 use machine::{Alternative, Alternatives, OutOfMemory};
 use smallvec::SmallVec;
@@ -67,13 +67,13 @@ impl Roster {
         let mut choices = Choices::new(alloc, ii)?;
         let mut groups = Vec::with_capacity(alloc, operations.len())?;
         let issues = vec![in alloc; None; operations.len()]?;
-        let mut kinds: SmallVec<usize, 16> = SmallVec::new(alloc);
+        let mut kinds: SmallVec<Kind, 16> = SmallVec::new(alloc);
         for operation in operations {
             let alternatives = operation.as_slice();
             let group = match of_kind(operations, kinds.as_slice(), alternatives) {
-                Some(earlier) => groups[earlier],
+                Some(kind) => groups[kind.operation],
                 None => {
-                    kinds.push(groups.len())?;
+                    kinds.push(Kind::new(groups.len(), alternatives))?;
                     added(&mut choices, alternatives)?
                 }
             };

@@ -1,5 +1,4 @@
 use Rattle.std.proofs.Common.{◌≡◌, ◌≢◌, ◌+◌, ◌*◌, ◌-◌, ◌<◌, ◌≤◌, [], ◌++◌, ◌==◌, filter, take, length, get_or, sym, ap, ◌∙◌, subst, arith}
-use Rattle.machine.specs.Machines.{IsMachine}
 use Rattle.graph.specs.Units.{alternatives_in, operations_of}
 use Rattle.graph.specs.Uses.{CountsRows}
 use Rattle.graph.proofs.unit_bound.Chosen.{CountsRows-taken, CountsRows-passed, operation_at, take_operations}
@@ -21,7 +20,6 @@ loop-statement-preserved c =
     let is : c.statement-item.result ≡ get_or c.args.innermost.now.statements c.loop-statement.statement-index c.statement-item.result
     = c.statement-item.is ∙ ap (λ l. get_or l c.loop-statement.statement-index c.statement-item.result) value in
     let at = operation_at c.args.machine.now c.args.innermost.now c.loop-statement.statement-index c.statement-item.result within is in
-    let formed : IsMachine c.args.machine.now = c.table.ensures.well_formed in
     let more : 16 * (c.loop-statement.statement-index + 1) ≡ 16 * c.loop-statement.statement-index + 16 = omega arith in
     elim c.match-table.branch [
       | in-Some+then-alternatives-freedom w ↦
@@ -32,7 +30,6 @@ loop-statement-preserved c =
                 c.loop-statement.uses.counts w.with_best-uses.result.counts c.loop-statement.uses.greatest w.with_best-uses.result.greatest
                 at.0 same w.if-alternatives-freedom.true w.with_best-uses.ensures.best (c.loop-statement.invariant.0 done p),
             λ unit. let g = w.with_best-uses.ensures.grown _ c.loop-statement.invariant.1 unit in omega arith,
-            λ _. formed,
           ))
       | in-Some+else-alternatives-freedom w ↦
           (let same : w.as_slice-alternatives.result.now ≡ get_or (operations_of c.args.machine.now c.args.innermost.now) c.loop-statement.statement-index []
@@ -43,7 +40,6 @@ loop-statement-preserved c =
             λ done p. CountsRows-passed done (operations_of c.args.machine.now c.args.innermost.now) c.loop-statement.statement-index c.args.freedom
                 c.loop-statement.uses.counts c.loop-statement.uses.greatest at.0 other (c.loop-statement.invariant.0 done p),
             λ unit. let g = c.loop-statement.invariant.1 unit in omega arith,
-            λ _. formed,
           ))
       | in_default w ↦
           (let none : get_or (operations_of c.args.machine.now c.args.innermost.now) c.loop-statement.statement-index [] ≡ []
@@ -55,7 +51,6 @@ loop-statement-preserved c =
             λ done p. CountsRows-passed done (operations_of c.args.machine.now c.args.innermost.now) c.loop-statement.statement-index c.args.freedom
                 c.loop-statement.uses.counts c.loop-statement.uses.greatest at.0 other (c.loop-statement.invariant.0 done p),
             λ unit. let g = c.loop-statement.invariant.1 unit in omega arith,
-            λ _. formed,
           ))
     ]
 
@@ -77,10 +72,3 @@ returns-clause-grown c = λ unit.
     let end : c.loop-statement.statement-index ≤ length c.statements-statement-items.result.now = c.loop-statement.auto.statement-index-end in
     let some : 0 < c.args.freedom = c.requires.some in
     omega arith
-
-pub returns-clause-machine : goal.returns-clause-machine
-returns-clause-machine c =
-    let items : c.statements-statement-items.result.now ≡ c.args.innermost.now.statements = c.statements-statement-items.ensures.value in
-    let some : 1 ≤ length c.args.innermost.now.statements = c.statements-statement-items.ensures.well_formed.statements_some in
-    let same : length c.statements-statement-items.result.now ≡ length c.args.innermost.now.statements = ap length items in
-    c.loop-statement.invariant.2 (omega arith)

@@ -1,6 +1,5 @@
-use Rattle.std.proofs.Common.{◌+◌, ◌*◌, ◌-◌, ◌==◌, ◌<◌, List, ◌++◌, length, take, filter}
+use Rattle.std.proofs.Common.{◌+◌, ◌*◌, ◌-◌, ◌==◌, List, ◌++◌, length, take, filter}
 use Rattle.machine.specs.declared.issues.alternative.Row.{Row}
-use Rattle.machine.specs.Machines.{IsMachine}
 use Rattle.graph.specs.Units.{operations_of}
 use Rattle.graph.specs.Uses.{AtMost, CountsRows}
 use Rattle.graph.proofs.units.Uses.with_operations.Given as goal
@@ -10,4 +9,3 @@ invariant-loop-statement l =
     ((done : List (List (List Row))) → CountsRows done l.fn.self.counts l.fn.self.greatest
     → CountsRows (done ++ filter (λ alternatives. length alternatives == l.freedom) (take l.statement-index (operations_of l.machine l.innermost))) l.uses.counts l.uses.greatest)
     × AtMost (2048 * (l.freedom - 1) + 16 * l.statement-index) l.uses.counts
-    × (0 < l.statement-index → IsMachine l.machine)

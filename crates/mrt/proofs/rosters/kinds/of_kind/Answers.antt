@@ -1,18 +1,32 @@
-use Rattle.std.proofs.Common.{◌≡◌, ℕ, ◌<◌, List, [], length, get_or, sym, ◌∙◌, arith, below_more}
-use Rattle.std.proofs.lemmas.Bool.{true≢false}
+use Rattle.std.proofs.Common.{◌≡◌, ℕ, ◌<◌, ◌&&◌, List, [], Bool, length, get_or, true, eqb, refl, sym, ap, ◌∙◌, arith, below_more, subst}
+use Rattle.std.proofs.lemmas.Bool.{true≢false, and_from, eq-eqb}
 use Rattle.std.proofs.lemmas.List.{get_or_default}
 use Rattle.machine.specs.declared.issues.alternative.Row.{Row}
+use Rattle.mrt.specs.declared.rosters.kinds.Kind.{Kind}
+use Rattle.mrt.specs.inner.Rosters.{IsKind, first_row, no_kind}
 use Rattle.mrt.proofs.rosters.kinds.of_kind.Goals as goal
+use Rattle.mrt.proofs.rosters.kinds.of_kind.Goals.{else-eq-via-then-eq+else-are_same, else-eq-via-else-eq}
 
-pub loop-number-preserved : goal.loop-number-preserved
-loop-number-preserved c =
+-- a row is itself
+row-is : (some other : Row) → some ≡ other → (eqb some.unit other.unit && eqb some.offset other.offset) ≡ true
+row-is some other e =
+    subst (λ (r : Row). (eqb some.unit r.unit && eqb some.offset r.offset) ≡ true) e (and_from _ _ (eq-eqb some.unit some.unit refl) (eq-eqb some.offset some.offset refl))
+
+pub loop-kind-preserved : goal.loop-kind-preserved
+loop-kind-preserved c =
     let operations : List (List (List Row)) = c.args.operations.now in
-    let numbers : List ℕ = c.args.numbers.now in
-    let j = c.loop-number.number-index in
-    let within : j < length numbers = omega arith in
-    let k = get_or numbers j 0 in
-    let there : k < length operations = c.requires j 0 within in
-    let found : List (List Row) = c.index-operations-number.result in
-    let read : get_or operations k [] ≡ found = get_or_default operations k [] found there ∙ sym c.index-operations-number.is in
-    below_more (λ i. get_or operations (get_or numbers i 0) [] ≡ c.args.alternatives.now → ⊥) j c.loop-number.invariant
-    (λ e. true≢false (sym (c.are_same.ensures.1 (c.as_slice.ensures.value ∙ sym read ∙ e)) ∙ c.if-are_same.false))
+    let kinds : List Kind = c.args.kinds.now in
+    let j = c.loop-kind.kind-index in
+    let within : j < length kinds = c.loop-kind-test.true in
+    let kind : Kind = get_or kinds j no_kind in
+    let is : IsKind operations kind = c.requires.kinds j no_kind within in
+    below_more (λ i. get_or operations (get_or kinds i no_kind).operation [] ≡ c.args.alternatives.now → ⊥) j c.loop-kind.invariant
+    (elim c.else-eq.branch [
+      | else-eq-via-then-eq+else-are_same w ↦ λ e.
+          let found : List (List Row) = w.index-operations-kind.result in
+          let read : get_or operations kind.operation [] ≡ found = get_or_default operations kind.operation [] found is.there ∙ sym w.index-operations-kind.is in
+          true≢false (sym (w.are_same.ensures.1 (w.as_slice.ensures.value ∙ sym read ∙ e)) ∙ w.if-are_same.false)
+      | else-eq-via-else-eq w ↦ λ e.
+          let same : kind.first ≡ c.first_row-first.result = is.first ∙ ap first_row e ∙ sym c.first_row-first.ensures in
+          true≢false (sym (c.eq.ensures ∙ row-is kind.first c.first_row-first.result same) ∙ w.if-eq.false)
+    ])

@@ -1,8 +1,10 @@
 use Rattle.std.proofs.Common.{◌≡◌, ◌+◌, ◌<◌, ◌++◌, ◌∷◌, [], List, length, get_or, None, replicate, take, sym, ap, ◌∙◌, arith, rules}
 use Rattle.std.proofs.lemmas.List.{take_all, take_more, length_push, get_or_default}
 use Rattle.std.proofs.lemmas.List.Elements.{All-push, All-contains}
+use Rattle.mrt.specs.declared.rosters.kinds.Kind.{Kind}
 use Rattle.mrt.specs.declared.rosters.roster.Group.{Group}
 use Rattle.mrt.specs.Placements.{OperationAlternatives}
+use Rattle.mrt.specs.inner.Rosters.{IsKind, first_row}
 use Rattle.mrt.proofs.placements.Rostering.{IsGroup-pushed, group_of-pushed, group_of-shared, IsGroup-shared, below-longer, IsRoster-new, table_of-new}
 use Rattle.mrt.proofs.rosters.roster.Roster.new.Goals as goal
 use Rattle.mrt.proofs.rosters.roster.Roster.new.Goals.{in-Some, in-None+in_ok-push-in-None+in_ok-group-in-None}
@@ -18,8 +20,9 @@ loop-operation-preserved c =
     let item = c.as_slice-alternatives.ensures.value ∙ c.operation-item.is in
     elim c.match-of_kind.branch [
       | in-Some w ↦
-          let e = w.in-Some.earlier in
-          let before : e < length groups = All-contains (λ n. n < length groups) c.as_slice.result.now e (rw c.as_slice.ensures i.kinds) w.in-Some.ensures.0 in
+          let kind : Kind = w.in-Some.kind in
+          let e = kind.operation in
+          let before : e < length groups = All-contains (λ (one : Kind). one.operation < length groups) c.as_slice.result.now kind (rw c.as_slice.ensures i.kinds) w.in-Some.ensures.0 in
           let same : get_or operations e [] ≡ get_or operations k [] = w.in-Some.ensures.1 ∙ item ∙ get_or_default operations k c.operation-item.result [] lt in
           record {
             interval = rw w.choices-is i.interval;
@@ -27,9 +30,11 @@ loop-operation-preserved c =
             each_group = rw (c.in_ok-push.ensures.items, w.choices-is, w.group-is) (IsGroup-shared _ groups e w.index.result.now i.each_group before w.index.ensures);
             count = rw c.in_ok-push.ensures.items (length_push _ _ ∙ ap (λ n. n + 1) i.count);
             kinds = rw (c.in_ok-push.ensures.items, w.kinds-is) (below-longer _ groups _ i.kinds);
+            each_kind = rw w.kinds-is i.each_kind;
           }
       | in-None+in_ok-push-in-None+in_ok-group-in-None w ↦
           let g = w.in_ok-group-in-None in
+          let own : w.new-in-None.result.operation ≡ k = omega (arith, w.new-in-None.ensures.operation, w.len.ensures, i.count) in
           record {
             interval = rw w.choices-is (w.added.ensures.interval ∙ i.interval);
             groups = rw (c.in_ok-push.ensures.items, w.choices-is, w.group-is) (group_of-pushed _ _ _ groups g.group g.ensures.pushed i.each_group g.ensures.first g.ensures.end
@@ -37,7 +42,12 @@ loop-operation-preserved c =
             each_group = rw (c.in_ok-push.ensures.items, w.choices-is, w.group-is) (IsGroup-pushed _ _ _ groups g.group g.ensures.pushed i.each_group g.ensures.first g.ensures.end);
             count = rw c.in_ok-push.ensures.items (length_push _ _ ∙ ap (λ n. n + 1) i.count);
             kinds = rw (c.in_ok-push.ensures.items, w.kinds-is, w.in_ok-push-in-None.ensures.ok)
-                (All-push (λ n. n < length (groups ++ c.match-of_kind.group ∷ [])) _ _ (below-longer _ groups _ i.kinds) (omega (arith, length_push groups c.match-of_kind.group)));
+                (All-push (λ (one : Kind). one.operation < length (groups ++ c.match-of_kind.group ∷ [])) _ _ (below-longer _ groups _ i.kinds) (omega (arith, own, i.count, length_push groups c.match-of_kind.group)));
+            each_kind = rw (w.kinds-is, w.in_ok-push-in-None.ensures.ok) (All-push (IsKind operations) _ _ i.each_kind (record {
+              there = omega (arith, own);
+              first = w.new-in-None.ensures.first
+                  ∙ ap first_row (item ∙ get_or_default operations k c.operation-item.result [] lt ∙ sym (ap (λ n. get_or operations n []) own));
+            }));
           }
     ]
 

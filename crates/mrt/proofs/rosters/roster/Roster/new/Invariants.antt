@@ -1,6 +1,7 @@
 use Rattle.std.proofs.Common.{◌≡◌, ◌<◌, length, map, take}
 use Rattle.std.specs.List.{All}
-use Rattle.mrt.specs.inner.Rosters.{group_of, IsGroup}
+use Rattle.mrt.specs.declared.rosters.kinds.Kind.{Kind}
+use Rattle.mrt.specs.inner.Rosters.{group_of, IsGroup, IsKind}
 use Rattle.mrt.proofs.rosters.roster.Roster.new.Given as goal
 
 abbrev pub invariant-loop-operation : goal.invariant-loop-operation
@@ -9,5 +10,6 @@ invariant-loop-operation l = record {
   groups : map (group_of l.choices.alternatives) l.groups.items ≡ take l.operation-index l.operations;
   each_group : All (IsGroup (length l.choices.alternatives)) l.groups.items;
   count : length l.groups.items ≡ l.operation-index;
-  kinds : All (λ k. k < length l.groups.items) l.kinds.items;
+  kinds : All (λ (kind : Kind). kind.operation < length l.groups.items) l.kinds.items;
+  each_kind : All (IsKind l.operations) l.kinds.items;
 }
