@@ -1,3 +1,4 @@
 -- What the clauses of private functions cite.
 pub mod SameArrays
 pub mod Layout
+pub mod Sweeps

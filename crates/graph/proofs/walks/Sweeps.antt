@@ -1,5 +1,5 @@
 -- What sweeps of relaxation in place come to.
-use Rattle.std.proofs.Common.{◌≡◌, ◌⊎◌, ℕ, ◌+◌, ◌-◌, ◌*◌, ◌<◌, ◌≤◌, ◌==◌, ℤ, pos, ◌+ℤ◌, List, [], ◌∷◌, ◌++◌, length, get_or, set, filter, refl, sym, ap, subst, inl, inr, arith, get_or-set_other, get_or-set_same, Option, Some, None}
+use Rattle.std.proofs.Common.{◌≡◌, ◌⊎◌, ℕ, ◌+◌, ◌-◌, ◌*◌, ◌<◌, ◌≤◌, ◌==◌, ℤ, pos, ◌+ℤ◌, List, [], ◌∷◌, ◌++◌, length, get_or, set, filter, refl, sym, ap, subst, ◌∙◌, inl, inr, arith, get_or-set_other, get_or-set_same, Option, Some, None}
 use Rattle.std.specs.Prelude.{◌≤ℤ◌, ◌<ℤ◌, IfSome}
 use Rattle.std.specs.List.{slice_index, All, Contains}
 use Rattle.std.proofs.lemmas.Int.{ints}
@@ -7,11 +7,12 @@ use Rattle.std.proofs.lemmas.Bool.{cases_eq, eq-eqb}
 use Rattle.std.proofs.lemmas.List.Elements.{All-contains}
 use Rattle.std.proofs.Math.Nat.{mul-le-mul}
 use Rattle.std.proofs.Math.ListN.{length-set, replicate}
-use Rattle.std.proofs.lemmas.List.{length-replicate, get_or-replicate}
+use Rattle.std.proofs.lemmas.List.{length-replicate, get_or-replicate, get_or_default}
 use Rattle.graph.specs.Dependences.{EdgeData}
 use Rattle.graph.specs.Graphs.{GraphData, IsGraph}
 use Rattle.graph.specs.Walks.{IsWalk, delay_of, distance_of, length_of, FitsCircuits, Exceeds}
 use Rattle.graph.specs.Reaches.{IsReach, AreReaches, KeepsNumber, KeepsNumbers, IsRaised, IsRise, AreHeights, AreVias}
+use Rattle.graph.specs.inner.Sweeps.{KeepsOnward}
 use Rattle.graph.proofs.walks.Circuits.{exceeds_or_short, IsWalk-append, delay_of-append, distance_of-append}
 use Rattle.graph.proofs.walks.Raises.{all-from_filter, reach-raised}
 use Rattle.graph.proofs.walks.Settling.{reach-limited, exceeds-below_limit}
@@ -227,6 +228,58 @@ keep-more graph ii op i best numbers at same keep r = λ p below past. elim (cas
   | inl here ↦ subst (λ k. All (KeepsNumber ii numbers (slice_index numbers k)) (filter (λ (e : EdgeData). e.from == k) graph.edges)) (sym here)
       (subst (λ n. All (KeepsNumber ii numbers n) (filter (λ (e : EdgeData). e.from == i) graph.edges)) same r.no_shorter)
   | inr other ↦ keep p below (omega arith)
+]
+
+-- the edges from the operations from `op` on to later ones raise no number
+abbrev pub KeepOnward : GraphData → ℕ → ℕ → List ℕ → Type 0
+KeepOnward graph ii op numbers = (p : ℕ) → p < length graph.latencies → op ≤ p
+    → All (λ (e : EdgeData). p < e.to → KeepsNumber ii numbers (slice_index numbers p) e) (filter (λ (e : EdgeData). e.from == p) graph.edges)
+
+pub onward-more : (graph : GraphData) (ii op i best : ℕ) (numbers : List ℕ) → i + 1 ≡ op → best ≡ slice_index numbers i → KeepOnward graph ii op numbers
+    → IsRaised (filter (λ (e : EdgeData). e.from == i) graph.edges) ii numbers (slice_index numbers i) best → KeepOnward graph ii i numbers
+onward-more graph ii op i best numbers at same keep r = λ p below past. elim (cases_eq p i) [
+  | inl here ↦ subst (λ q. All (λ (e : EdgeData). q < e.to → KeepsNumber ii numbers (slice_index numbers q) e) (filter (λ (e : EdgeData). e.from == q) graph.edges)) (sym here)
+      (λ k d h on. subst (λ n. KeepsNumber ii numbers n (get_or (filter (λ (e : EdgeData). e.from == i) graph.edges) k d)) same (r.no_shorter k d h))
+  | inr other ↦ keep p below (omega arith)
+]
+
+-- a number that rises is none to which these edges lead
+pub onward-risen : (graph : GraphData) (ii op i best : ℕ) (numbers : List ℕ) → i + 1 ≡ op → i < length numbers → KeepOnward graph ii op numbers
+    → IsRaised (filter (λ (e : EdgeData). e.from == i) graph.edges) ii numbers (slice_index numbers i) best → KeepOnward graph ii i (set numbers i best)
+onward-risen graph ii op i best numbers at there keep r = λ p below past. elim (cases_eq p i) [
+  | inl here ↦ subst (λ q. All (λ (e : EdgeData). q < e.to → KeepsNumber ii (set numbers i best) (slice_index (set numbers i best) q) e) (filter (λ (e : EdgeData). e.from == q) graph.edges)) (sym here)
+      (λ k d h on. (
+      let e : EdgeData = get_or (filter (λ (e : EdgeData). e.from == i) graph.edges) k d in
+      let one : (pos (slice_index numbers e.to) +ℤ e.delay) ≤ℤ pos (best + ii * e.distance) = r.no_shorter k d h in
+      let own : slice_index (set numbers i best) i ≡ best = get_or-set_same numbers i best 0 there in
+      let to : slice_index (set numbers i best) e.to ≡ slice_index numbers e.to = get_or-set_other numbers i e.to best 0 (λ same. absurd (omega arith)) in
+      omega (arith, ints)))
+  | inr other ↦ λ k d h on. (
+      let e : EdgeData = get_or (filter (λ (e : EdgeData). e.from == p) graph.edges) k d in
+      let one : (pos (slice_index numbers e.to) +ℤ e.delay) ≤ℤ pos (slice_index numbers p + ii * e.distance) = keep p below (omega arith) k d h on in
+      let own : slice_index (set numbers i best) p ≡ slice_index numbers p = get_or-set_other numbers i p best 0 other in
+      let to : slice_index (set numbers i best) e.to ≡ slice_index numbers e.to = get_or-set_other numbers i e.to best 0 (λ same. absurd (omega arith)) in
+      omega (arith, ints))
+]
+
+-- what holds of the edges from each operation to later ones holds of all such edges
+pub onward-all : (graph : GraphData) (ii : ℕ) (numbers : List ℕ) → IsGraph graph → KeepOnward graph ii 0 numbers → KeepsOnward graph ii numbers
+onward-all graph ii numbers g keep = λ k d h on.
+    let e : EdgeData = get_or graph.edges k d in
+    all-from_filter (λ (x : EdgeData). x.from == e.from) (λ (x : EdgeData). e.from < x.to → KeepsNumber ii numbers (slice_index numbers e.from) x) graph.edges
+    (keep e.from (g.ends k d h).0 (omega arith)) k d h (eq-eqb e.from e.from refl) on
+
+-- of so many edges those that lead to their own operation or to one before it raise no number
+abbrev pub KeepBack : List EdgeData → ℕ → List ℕ → ℕ → Type 0
+KeepBack edges ii numbers count = (k : ℕ) (d : EdgeData) → k < count → (get_or edges k d).to ≤ (get_or edges k d).from
+    → KeepsNumber ii numbers (slice_index numbers (get_or edges k d).from) (get_or edges k d)
+
+pub back-more : (edges : List EdgeData) (ii : ℕ) (numbers : List ℕ) (n : ℕ) (z : EdgeData) → n < length edges → KeepBack edges ii numbers n
+    → ((get_or edges n z).to ≤ (get_or edges n z).from → KeepsNumber ii numbers (slice_index numbers (get_or edges n z).from) (get_or edges n z)) → KeepBack edges ii numbers (n + 1)
+back-more edges ii numbers n z within old one = λ k d below back. elim (cases_eq k n) [
+  | inl here ↦ (let same : get_or edges n z ≡ get_or edges k d = get_or_default edges n z d within ∙ ap (λ i. get_or edges i d) (sym here) in
+      subst (λ (e : EdgeData). e.to ≤ e.from → KeepsNumber ii numbers (slice_index numbers e.from) e) same one back)
+  | inr other ↦ old k d (omega arith) back
 ]
 
 -- an edge that is kept for an operation

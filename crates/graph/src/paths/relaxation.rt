@@ -5,7 +5,9 @@ ghost use Rattle.std.specs.Prelude.{◌≡◌, ℕ, pos, ◌*◌, ◌+ℤ◌, �
 ghost use Rattle.std.specs.List.{All};
 ghost use Rattle.graph.specs.declared.dependence.edge.Edge.{Edge};
 ghost use Rattle.graph.specs.Graphs.{IsGraph};
+ghost use Rattle.std.specs.Bool.{OnTrue};
 ghost use Rattle.graph.specs.Reaches.{AreReaches, AreVias, IsRaised, IsRise, KeepsNumbers, IsAbove, Relaxes};
+ghost use Rattle.graph.specs.inner.Sweeps.{KeepsBack, KeepsOnward};
 
 use crate::dependence::edge::Edge;
 use crate::layout::graph::Edges;
@@ -77,7 +79,59 @@ pub(crate) fn set_first(edges: &Edges, interval: u64, numbers: &mut [u64; MAX_ST
 }
 
 /// Raises the number of each operation, from the last one to the first, after so many sweeps before, and
-/// keeps the edge by which it rose. The last operation whose number rises, if any.
+/// keeps the edge by which it rose. The last operation whose number rises, if any. An edge to a later operation
+/// raises no number any more, since that operation's number was raised before.
+fn raise_all(
+    edges: &Edges,
+    interval: u64,
+    made: usize,
+    numbers: &mut [u64; MAX_STATEMENTS],
+    via: &mut [Option<Edge>; MAX_STATEMENTS],
+) -> Option<usize>
+    requires short { interval ≤ 16384 }
+    requires few { made < length edges.now.latencies }
+    requires reaches { AreReaches edges.now interval (128 * made) made numbers.old }
+    requires via { AreVias edges.now via.old }
+    ensures reaches { AreReaches edges.now interval (128 * (made + 1)) (made + 1) numbers.new }
+    ensures via { AreVias edges.now via.new }
+    ensures rises { (p : ℕ) → result ≡ Some p → IsRise edges.now interval made p }
+    ensures stays { result ≡ None → KeepsNumbers edges.now interval numbers.new }
+    ensures onward { KeepsOnward edges.now interval numbers.new }
+    ensures well_formed { IsGraph edges.now }
+{
+    let mut rising = None;
+    for operation in (0..edges.operations()).rev() {
+        let own = numbers[operation];
+        let outgoing = edges.out_of(operation);
+        let raised = raised(own, outgoing, numbers, interval);
+        if own < raised.number {
+            numbers[operation] = raised.number;
+            via[operation] = Some(outgoing[raised.via]);
+            rising = Some(operation);
+        }
+    }
+    rising
+}
+
+/// Whether no edge raises a number that leads to its own operation or to one before it.
+fn keeps_back(edges: &Edges, interval: u64, numbers: &[u64; MAX_STATEMENTS]) -> bool
+    requires short { interval ≤ 16384 }
+    requires small { (p : ℕ) → p < length edges.now.latencies → slice_index numbers.now p ≤ 2097152 }
+    ensures { OnTrue result (KeepsBack edges.now interval numbers.now) }
+{
+    for edge in edges.all() {
+        if edge.to <= edge.from
+            && through(*edge, numbers[edge.to as usize], interval)
+                > numbers[edge.from as usize] as i64
+        {
+            return false;
+        }
+    }
+    true
+}
+
+/// Makes one more sweep, after so many before. An operation whose number rises, unless no edge raises a number
+/// after it: so that no other sweep has to tell so, the edges are looked at that the sweep may have left.
 fn sweep(
     edges: &Edges,
     interval: u64,
@@ -94,18 +148,11 @@ fn sweep(
     ensures rises { (p : ℕ) → result ≡ Some p → IsRise edges.now interval made p }
     ensures stays { result ≡ None → KeepsNumbers edges.now interval numbers.new }
 {
-    let mut rising = None;
-    for operation in (0..edges.operations()).rev() {
-        let own = numbers[operation];
-        let outgoing = edges.out_of(operation);
-        let raised = raised(own, outgoing, numbers, interval);
-        if own < raised.number {
-            numbers[operation] = raised.number;
-            via[operation] = Some(outgoing[raised.via]);
-            rising = Some(operation);
-        }
+    let rising = raise_all(edges, interval, made, numbers, via)?;
+    if keeps_back(edges, interval, numbers) {
+        return None;
     }
-    rising
+    Some(rising)
 }
 
 /// The operation that so many steps along kept edges lead to, as many as there are operations, if they do.

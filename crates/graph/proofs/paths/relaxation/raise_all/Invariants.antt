@@ -1,7 +1,7 @@
 use Rattle.std.proofs.Common.{◌≡◌, ℕ, ◌≤◌, Some, None, length}
 use Rattle.graph.specs.Reaches.{AreVias, IsRise}
-use Rattle.graph.proofs.walks.Sweeps.{IsSwept, KeepFrom}
-use Rattle.graph.proofs.paths.relaxation.sweep.Given as goal
+use Rattle.graph.proofs.walks.Sweeps.{IsSwept, KeepFrom, KeepOnward}
+use Rattle.graph.proofs.paths.relaxation.raise_all.Given as goal
 
 abbrev pub invariant-loop-operation : goal.invariant-loop-operation
 invariant-loop-operation l = record {
@@ -12,4 +12,5 @@ invariant-loop-operation l = record {
   via : AreVias l.edges l.via;
   rises : (p : ℕ) → l.rising ≡ Some p → IsRise l.edges l.interval l.made p;
   stays : l.rising ≡ None → KeepFrom l.edges l.interval l.operation l.numbers;
+  onward : KeepOnward l.edges l.interval l.operation l.numbers;
 }
