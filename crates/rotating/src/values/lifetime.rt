@@ -5,7 +5,7 @@ ghost use Rattle.graph.specs.Units.{greatest_of};
 ghost use Rattle.ims.specs.Schedules.{IsSchedule, stages_of};
 ghost use Rattle.overlap.specs.Lifetimes.{carried, first_cycle, is_out, landing_of, last_landing, lifetime_of, lifetimes_of, read_at, uses_of};
 
-use crate::values::uses::{fill_carried, fill_lasts};
+use crate::values::uses::fill_uses;
 use ims::Schedule;
 use machine::OutOfMemory;
 use overlap::Lifetime;
@@ -80,13 +80,11 @@ pub(crate) fn fill_lifetimes(schedule: &Schedule, lives: &mut [Lifetime]) -> usi
     ensures long { length lives.new ≡ 128 }
     ensures exact { take result lives.new ≡ lifetimes_of schedule.now }
 {
-    let innermost = schedule.prepared().innermost();
     let mut carried = [0; 256];
-    fill_carried(innermost, &mut carried);
     let mut lasts = [0; 256];
     let end = end_of(schedule);
-    fill_lasts(schedule, end, &mut lasts);
-    let statements = innermost.statements();
+    fill_uses(schedule, end, &mut carried, &mut lasts);
+    let statements = schedule.prepared().innermost().statements();
     let mut count = 0;
     for op in 0..statements.len() {
         if statements[op].name.is_some() {
@@ -104,12 +102,10 @@ fn push_lifetimes(schedule: &Schedule, list: &mut Vec<Lifetime>)
     requires room { length schedule.now.problem.loop.statements ≤ vec_capacity list.old }
     ensures { list.new.items ≡ lifetimes_of schedule.now }
 {
-    let innermost = schedule.prepared().innermost();
     let mut carried = [0; 256];
-    fill_carried(innermost, &mut carried);
     let mut lasts = [0; 256];
-    fill_lasts(schedule, end_of(schedule), &mut lasts);
-    let statements = innermost.statements();
+    fill_uses(schedule, end_of(schedule), &mut carried, &mut lasts);
+    let statements = schedule.prepared().innermost().statements();
     for value in 0..statements.len() {
         if statements[value].name.is_some() {
             list.push_reserved(lifetime_of(schedule, value as u8, carried[value], lasts[value]));

@@ -6,7 +6,7 @@ use Rattle.std.specs.Prelude.{is_some, if◌then◌else◌}
 use Rattle.graph.specs.Units.{greatest_of}
 use Rattle.rotating.proofs.emitted.Ranks.{zero-at, values-yes, values-no}
 use Rattle.overlap.specs.declared.lifetime.Lifetime.{Lifetime}
-use Rattle.overlap.specs.Lifetimes.{carried, is_out, read_at, uses_of, values_from, lifetime_of, lifetimes_of}
+use Rattle.overlap.specs.Lifetimes.{is_out, read_at, uses_of, values_from, lifetime_of, lifetimes_of}
 use Rattle.rotating.proofs.lives.Greatest.{drop-none}
 use Rattle.rotating.proofs.values.lifetime.push_lifetimes.Goals.{then-is_some, else-is_some}
 use Rattle.rotating.proofs.values.lifetime.push_lifetimes.Goals as goal
@@ -15,7 +15,7 @@ pub returns : goal.returns
 unfolding lifetimes_of
 returns c =
     let loop = c.args.schedule.now.problem.loop in
-    let same = c.statements-statements.ensures.value ∙ ap (λ (l : LoopData). l.statements) (c.innermost-innermost.ensures.value ∙ ap (λ (p : ProblemData). p.loop) c.prepared.ensures.value) in
+    let same = c.statements-statements.ensures.value ∙ ap (λ (l : LoopData). l.statements) (c.innermost.ensures.value ∙ ap (λ (p : ProblemData). p.loop) c.prepared.ensures.value) in
     let t = c.loop-value-test.false in
     let l = ap length same in
     let none : drop c.loop-value.value loop.statements ≡ [] = drop-none loop.statements c.loop-value.value (omega arith) in
@@ -23,19 +23,18 @@ returns c =
     ∙ ap (λ xs. c.loop-value.list.items ++ map (lifetime_of c.args.schedule.now) (values_from c.loop-value.value xs)) (sym none)
     ∙ c.loop-value.invariant.2
 
-pub fill_carried-requires-clause-zeros : goal.fill_carried-requires-clause-zeros
-fill_carried-requires-clause-zeros c = zero-at 256
+pub fill_uses-requires-clause-zeros_carried : goal.fill_uses-requires-clause-zeros_carried
+fill_uses-requires-clause-zeros_carried c = zero-at 256
 
-pub fill_lasts-requires-clause-zeros : goal.fill_lasts-requires-clause-zeros
-fill_lasts-requires-clause-zeros c = zero-at 256
+pub fill_uses-requires-clause-zeros_lasts : goal.fill_uses-requires-clause-zeros_lasts
+fill_uses-requires-clause-zeros_lasts c = zero-at 256
 
 pub lifetime_of-requires-clause-farthest : goal.lifetime_of-requires-clause-farthest
 lifetime_of-requires-clause-farthest c =
     let loop = c.args.schedule.now.problem.loop in
-    let s : c.innermost-innermost.result.now ≡ loop = c.innermost-innermost.ensures.value ∙ ap (λ (p : ProblemData). p.loop) c.prepared.ensures.value in
+    let same = c.statements-statements.ensures.value ∙ ap (λ (l : LoopData). l.statements) (c.innermost.ensures.value ∙ ap (λ (p : ProblemData). p.loop) c.prepared.ensures.value) in
     let t : c.loop-value.value < length c.statements-statements.result.now = c.loop-value-test.true in
-    let l : c.loop-value.value < length c.innermost-innermost.result.now.statements = subst (λ xs. c.loop-value.value < length xs) c.statements-statements.ensures.value t in
-    c.fill_carried.ensures.carried.each c.loop-value.value l ∙ ap (λ m. carried m c.loop-value.value) s
+    c.fill_uses.ensures.carried.each c.loop-value.value (subst (λ xs. c.loop-value.value < length xs) same t)
 
 pub lifetime_of-requires-clause-last : goal.lifetime_of-requires-clause-last
 lifetime_of-requires-clause-last c =
@@ -44,7 +43,7 @@ lifetime_of-requires-clause-last c =
     let t : c.loop-value.value < length c.statements-statements.result.now = c.loop-value-test.true in
     let same = ap length c.statements-statements.ensures.value in
     let few = c.statements-statements.ensures.well_formed.statements_few in
-    c.fill_lasts.ensures.each v (omega arith)
+    c.fill_uses.ensures.lasts v (omega arith)
     ∙ ap (λ n. max (greatest_of (map (read_at s) (uses_of s.problem.loop v))) (if is_out s.problem.loop v then n else 0)) c.end_of.ensures
 
 pub loop-value-preserved : goal.loop-value-preserved
@@ -54,7 +53,7 @@ loop-value-preserved c =
     let q = c.loop-value.value in
     let s : Statement = c.index-statements-value.result in
     let same : c.statements-statements.result.now ≡ loop.statements
-    = c.statements-statements.ensures.value ∙ ap (λ (l : LoopData). l.statements) (c.innermost-innermost.ensures.value ∙ ap (λ (p : ProblemData). p.loop) c.prepared.ensures.value) in
+    = c.statements-statements.ensures.value ∙ ap (λ (l : LoopData). l.statements) (c.innermost.ensures.value ∙ ap (λ (p : ProblemData). p.loop) c.prepared.ensures.value) in
     let t : q < length c.statements-statements.result.now = c.loop-value-test.true in
     let l : q < length loop.statements = subst (λ xs. q < length xs) same t in
     let at : s ≡ get_or loop.statements q s = subst (λ xs. s ≡ get_or xs q s) same c.index-statements-value.is in
