@@ -3,3 +3,4 @@ pub mod Chains
 pub mod Declared
 pub mod Finding
 pub mod Naming
+pub mod Once

@@ -17,13 +17,12 @@ use crate::fault::{LoopFault, LoopFaultKind};
 use crate::lines::collect::{Stop, collect_block};
 use crate::lines::entry::LineEntry;
 use crate::names::found::Targets;
-use crate::names::index::{Index, index_names};
+use crate::names::index::{Declared, Index, index_names};
 use crate::names::known::Names;
 use iterations::Loop;
 use loop_lines::{Form, form_of, next_line};
 use machine::limits::{MAX_LOOPS, MAX_TEXT};
 use std::alloc::{AllocError, Global};
-use std::collections::BTreeSet;
 
 /// What is kept from block to block.
 #[derive(Drop)]
@@ -68,8 +67,8 @@ fn read_block<'a>(
     ensures { AnswersBlock name.now number text.now result }
 {
     let (sound, stop) = collect_block(&mut room.lines, text, number)?;
-    let counts = index_names(&mut room.names, room.lines.as_slice())?;
-    let index = Index::new(&room.names, room.lines.as_slice());
+    let (counts, once) = index_names(&mut room.names, room.lines.as_slice())?;
+    let index = Index::new(&room.names, room.lines.as_slice(), once);
     room.given.reset(counts.statements)?;
     let first = first_fault(&index, sound, &mut room.given, &mut room.found)?;
     if let Some(fault) = first {
@@ -115,17 +114,14 @@ fn check_end(statements: usize) -> Result<(), LoopFaultKind>
 }
 
 /// The first fault of a line that opens a block behind so many others; else its name is added to theirs.
-fn open<'a>(
-    names: &mut BTreeSet<&'a [u8]>,
-    loops: usize,
-    name: &'a [u8],
-) -> Result<(), LoopFaultKind>
+fn open<'a>(names: &mut Names<'a>, loops: usize, name: &'a [u8]) -> Result<(), LoopFaultKind>
     ensures { AnswersOpening names.old names.new loops name.now result }
 {
     if is_long(name) || loops >= MAX_LOOPS {
         return Err(LoopFaultKind::Limit);
     }
-    if !names.insert(name)? {
+    // What the name stands for is asked nowhere.
+    if !names.add(name, Declared::Value(loops))? {
         return Err(LoopFaultKind::RepeatedName);
     }
     Ok(())
@@ -147,7 +143,7 @@ pub fn read_loops(alloc: Global, text: &[u8]) -> Result<Vec<Loop>, LoopFault>
     }
     let mut room = Buffers::new(alloc)?;
     let mut loops = Vec::new(alloc);
-    let mut names = BTreeSet::new(alloc);
+    let mut names = Names::new(alloc)?;
     let mut rest = text;
     let mut line = 1;
     while !rest.is_empty() {

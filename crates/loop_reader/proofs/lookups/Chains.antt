@@ -1,11 +1,11 @@
 -- A table of names in chains.
-use Rattle.std.proofs.Common.{◌≡◌, ◌≢◌, ℕ, zero, suc, ◌+◌, ◌-◌, ◌<◌, ◌≤◌, ◌⊎◌, inl, inr, Bool, true, false, if◌then◌else◌, List, [], ◌∷◌, ◌++◌, length, Option, Some, None, refl, sym, ◌∙◌, ap, arith, get_or, set}
+use Rattle.std.proofs.Common.{◌≡◌, ◌≢◌, ℕ, zero, suc, ◌-◌, ◌<◌, ◌≤◌, ◌⊎◌, inl, inr, Bool, true, false, if◌then◌else◌, List, [], ◌∷◌, ◌++◌, length, Option, Some, None, refl, sym, ◌∙◌, ap, arith, get_or, set}
 use Rattle.std.specs.Hash.FoldHasher as folding
 use Rattle.std.specs.Option.{option_or}
 use Rattle.std.proofs.Math.Nat.{mod-lt}
 use Rattle.std.proofs.lemmas.List.{get_or_append_left, get_or_push, get_or-set_same, get_or-set_other, length_push, length-set}
 use Rattle.std.proofs.lemmas.Bool.Decides.{eqb_tells}
-use Rattle.std.proofs.lemmas.Bool.{both_ways, cases_order}
+use Rattle.std.proofs.lemmas.Bool.{both_ways}
 use Rattle.machine.specs.Opcodes.{same_word}
 use Rattle.loop_reader.specs.declared.names.index.Declared.{Declared}
 use Rattle.loop_reader.specs.declared.names.chains.Link.{Link}
@@ -68,15 +68,6 @@ chained-added links one q none =
 pub chain-low : (name : List ℕ) → chain_of name < 512
 unfolding chain_of
 chain-low name = mod-lt (folding.finish (folding.write folding.initial name)) (omega arith)
-
-three : (j at : ℕ) → (at ≤ j) ⊎ ((j ≡ at - 1) ⊎ (j < at - 1))
-three j at = elim (cases_order j at) [
-  | inl e ↦ inl (omega (arith, e))
-  | inr o ↦ elim o [
-    | inl h ↦ elim (eqb_tells j (at - 1)) [ inl e ↦ inr (inl e.1) | inr e ↦ let n = e.1 in inr (inr (omega (arith, h, n))) ]
-    | inr h ↦ inl (omega (arith, h))
-  ]
-]
 
 pub record IsPassed (links : List Link) (q : List ℕ) (at : ℕ) : Type 0 where
   pub within : at ≤ length links

@@ -11,10 +11,9 @@ use Rattle.std.proofs.lemmas.List.{take_more, map-append}
 use Rattle.std.proofs.lemmas.List.Sums.{sum_by_push}
 use Rattle.loop_reader.specs.declared.lines.entry.LineEntry.{LineEntry}
 use Rattle.loop_lines.specs.Parsed.{form_seen}
-use Rattle.loop_reader.specs.inner.Blocks.{forms_in, one_if, declared_seen}
-use Rattle.std.proofs.Common.{option_map, zero-add}
+use Rattle.loop_reader.specs.inner.Blocks.{forms_in, one_if}
+use Rattle.std.proofs.Common.{zero-add}
 use Rattle.loop_reader.specs.Meaning as meaning
-use Rattle.loop_reader.specs.declared.names.index.Declared as code
 use Rattle.std.specs.Map.{update}
 use Rattle.std.specs.Str.{bytes_eq}
 use Rattle.std.proofs.lemmas.Slice.Eq.{bytes_eq-Decides}
@@ -36,6 +35,14 @@ option_or-assoc (Some x) b c = refl
 -- a declaration behind these lines
 abbrev pub declared_after : List ℕ → List Form → Form → Option Declared
 declared_after q before form = declared_by q (how_many is_array before) (how_many is_param before) (how_many is_statement before) form
+
+-- the same by counts of these lines
+pub declared-counted : (q : List ℕ) (before : List Form) (form : Form) (a p s : ℕ) → a ≡ how_many is_array before → p ≡ how_many is_param before → s ≡ how_many is_statement before
+    → declared_by q a p s form ≡ declared_after q before form
+declared-counted q before form a p s ea ep es =
+    ap (λ n. declared_by q n p s form) ea
+    ∙ ap (λ n. declared_by q (how_many is_array before) n s form) ep
+    ∙ ap (λ n. declared_by q (how_many is_array before) (how_many is_param before) n form) es
 
 pub first_declared-append : (q : List ℕ) (before xs ys : List Form) → first_declared q before (xs ++ ys) ≡ option_or (first_declared q before xs) (first_declared q (before ++ xs) ys)
 first_declared-append q before [] ys = ap (λ b. first_declared q b ys) (sym (append-nil before))
@@ -127,17 +134,9 @@ declared-more lines i d old new a p s h was ea ep es is q =
     let before = forms_in (take i lines) in
     let form = form_seen (get_or lines i d).form in
     is q ∙ ap (λ o. option_or o (declared_by q a p s form)) (was q)
-    ∙ ap (λ n. option_or (declared before q) (declared_by q n p s form)) ea
-    ∙ ap (λ n. option_or (declared before q) (declared_by q (how_many is_array before) n s form)) ep
-    ∙ ap (λ n. option_or (declared before q) (declared_by q (how_many is_array before) (how_many is_param before) n form)) es
+    ∙ ap (option_or (declared before q)) (declared-counted q before form a p s ea ep es)
     ∙ sym (declared-push q before form)
     ∙ sym (ap (λ fs. declared fs q) (forms-more lines i d h))
-
--- the same for the table's own values
-pub seen_or : (o : Option code.Declared) (b : Bool) (what : code.Declared) → option_map declared_seen (option_or o (if b then Some what else None)) ≡ option_or (option_map declared_seen o) (if b then Some (declared_seen what) else None)
-seen_or None true what = refl
-seen_or None false what = refl
-seen_or (Some x) b what = refl
 
 pub how_many-cons : (p : Form → Bool) (form : Form) (forms : List Form) → how_many p (form ∷ forms) ≡ one_if (p form) + how_many p forms
 how_many-cons p form forms = sum_by-append (λ f. if p f then 1 else 0) (form ∷ []) forms ∙ ap (λ n. n + how_many p forms) (zero-add (one_if (p form)))

@@ -1,7 +1,8 @@
 -- Names: their bytes are ASCII; a set of them, with one more.
-use Rattle.std.proofs.Common.{◌≡◌, ℕ, zero, suc, ◌<◌, ◌&&◌, ◌||◌, not, Bool, true, false, cond, nat_le, List, [], ◌∷◌, ◌++◌, length, get_or, Result, Ok, Err, refl, sym, ◌∙◌, ap, arith, lit<, MatchResult}
+use Rattle.std.proofs.Common.{◌≡◌, ℕ, zero, suc, ◌<◌, ◌&&◌, ◌||◌, not, Bool, true, false, if◌then◌else◌, nat_le, List, [], ◌∷◌, ◌++◌, length, get_or, Option, Some, None, is_some, Result, Ok, Err, refl, sym, ◌∙◌, ap, arith, lit<, MatchResult}
 use Rattle.std.specs.Result.{IsOk}
 use Rattle.std.specs.List.{list_any, list_all}
+use Rattle.std.specs.Option.{option_or}
 use Rattle.std.specs.Str.{IsUtf8}
 use Rattle.std.proofs.lemmas.Str.{IsUtf8-from_ascii}
 use Rattle.std.proofs.lemmas.Bool.Decides.{nat_tests}
@@ -11,7 +12,6 @@ use Rattle.iterations.specs.Names.{is_name, starts_name, is_letter, is_name_byte
 use Rattle.iterations.specs.Loops.{IsName}
 use Rattle.loop_reader.specs.Meaning.{opening_faults, is_long, when}
 use Rattle.loop_reader.specs.declared.fault.LoopFaultKind.TheVariants.{Limit, RepeatedName}
-use Rattle.loop_reader.proofs.lookups.Declared.{same_word-sym}
 
 letter-ascii : (c : ℕ) → is_letter c ≡ true → c < 128
 letter-ascii c h = grind (arith, nat_tests)
@@ -66,14 +66,13 @@ opening-none names name loops e long few new =
     ∙ ap (λ b. when b Limit ++ when (list_any (same_word name) names) RepeatedName) (le-false 1024 (length names) (omega arith))
     ∙ ap (λ b. when b RepeatedName) new
 
-cond-or : (a b : Bool) → cond a true b ≡ (b || (a || false))
-cond-or true true = refl
-cond-or true false = refl
-cond-or false true = refl
-cond-or false false = refl
+some-or : {X : Type 0} (o : Option X) (b : Bool) (x : X) → is_some (option_or o (if b then Some x else None)) ≡ (is_some o || (b || false))
+some-or None true x = refl
+some-or None false x = refl
+some-or (Some first) b x = refl
 
 -- the names with one more
-pub names-more : (names : List (List ℕ)) (name q : List ℕ) (now : Bool) → now ≡ cond (same_word name q) true (list_any (same_word q) names) → now ≡ list_any (same_word q) (names ++ name ∷ [])
-names-more names name q now h =
-    h ∙ ap (λ b. cond b true (list_any (same_word q) names)) (same_word-sym name q) ∙ cond-or (same_word q name) (list_any (same_word q) names)
-    ∙ sym (list_any-append (same_word q) names (name ∷ []))
+pub names-more : {X : Type 0} (names : List (List ℕ)) (name q : List ℕ) (old : Option X) (what : X) → is_some old ≡ list_any (same_word q) names
+    → is_some (option_or old (if same_word q name then Some what else None)) ≡ list_any (same_word q) (names ++ name ∷ [])
+names-more names name q old what h =
+    some-or old (same_word q name) what ∙ ap (λ b. b || (same_word q name || false)) h ∙ sym (list_any-append (same_word q) names (name ∷ []))

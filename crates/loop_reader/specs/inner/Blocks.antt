@@ -4,7 +4,7 @@ use Rattle.std.specs.Borrow.{Bor}
 use Rattle.machine.specs.Opcodes.{same_word}
 use Rattle.loop_lines.specs.Forms.{Form, EndLine}
 use Rattle.loop_reader.specs.Meaning as meaning
-use Rattle.loop_reader.specs.Meaning.{how_many, is_array, is_param, is_statement, at_line, faults_of, whole, inside_faults, outside_faults, blocks_from, blocks_of, forms_of}
+use Rattle.loop_reader.specs.Meaning.{declared, declared_by, how_many, is_array, is_param, is_statement, at_line, faults_of, whole, inside_faults, outside_faults, blocks_from, blocks_of, forms_of}
 use Rattle.loop_lines.specs.Parsed.{form_seen}
 use Rattle.loop_reader.specs.declared.lines.collect.Stop.{Stop}
 use Rattle.loop_reader.specs.declared.lines.collect.Stop.TheVariants as stops
@@ -65,6 +65,18 @@ pub record IsCounts (block : List Form) (counts : Counts) : Type 0 where
   pub arrays : counts.arrays ≡ how_many is_array block
   pub params : counts.params ≡ how_many is_param block
   pub statements : counts.statements ≡ how_many is_statement block
+
+-- the line stands in a block behind so many others
+abbrev pub IsLineIn : List Form → Counts → Form → Type 0
+IsLineIn block counts form = (before : List Form) × (after : List Form) × (block ≡ before ++ form ∷ after) × IsCounts before counts
+
+-- a line of a block declares the name as this
+abbrev pub IsDeclaredIn : List Form → List ℕ → meaning.Declared → Type 0
+IsDeclaredIn block name what = (counts : Counts) × (form : Form) × IsLineIn block counts form × (declared_by name counts.arrays counts.params counts.statements form ≡ Some what)
+
+-- no name is declared twice: each declaration is the first of its name
+abbrev pub DeclaresOnce : List Form → Type 0
+DeclaresOnce block = (name : List ℕ) (what : meaning.Declared) → IsDeclaredIn block name what → declared block name ≡ Some what
 
 -- the same for a whole block, of which the lines up to this many stand before the line where they stop
 abbrev pub StopsBlock : ℕ → List (Option Form) → List LineEntry → ℕ → Stop → Type 0

@@ -1,17 +1,15 @@
 -- What the reader answers for a text, for a block of it and for a line that opens a block.
-use Rattle.std.specs.Prelude.{◌≡◌, ℕ, ◌+◌, ◌<◌, ◌≤◌, List, [], ◌∷◌, ◌++◌, length, Some, Result, Ok, Err}
-use Rattle.std.specs.Borrow.{Bor}
-use Rattle.std.specs.BTreeSet.{BTreeSet, contains_by}
-use Rattle.std.specs.Cmp.Lexicographic.{slice_cmp}
+use Rattle.std.specs.Prelude.{◌≡◌, ℕ, ◌+◌, ◌<◌, ◌≤◌, List, [], ◌∷◌, ◌++◌, length, Some, is_some, Result, Ok, Err}
 use Rattle.std.specs.List.{list_any}
-use Rattle.std.specs.Ordering.{nat_cmp}
 use Rattle.machine.specs.Opcodes.{same_word}
 use Rattle.iterations.specs.Loops.{IsLoop}
 use Rattle.loop_reader.specs.Meaning.{whole, forms_of, inside_faults, outside_faults, blocks_from, blocks_of, opening_faults, loop_of}
 use Rattle.loop_reader.specs.inner.Checks.{first_in}
+use Rattle.loop_reader.specs.inner.Known.{known_as}
 use Rattle.loop_reader.specs.declared.fault.LoopFault.{LoopFault}
 use Rattle.loop_reader.specs.declared.fault.LoopFaultKind.{LoopFaultKind}
 use Rattle.loop_reader.specs.declared.fault.LoopFaultKind.TheVariants.{Memory}
+use Rattle.loop_reader.specs.declared.names.known.Names.{Names}
 use Rattle.loop_reader.specs.declared.read.BlockRead.{BlockRead}
 
 -- a fault of line 0 for want of memory, or another of which this holds
@@ -37,11 +35,11 @@ abbrev pub AnswersBlock : List ℕ → ℕ → List ℕ → Result BlockRead Loo
 AnswersBlock name number text (Ok block) = IsBlockRead name number text block
 AnswersBlock name number text (Err fault) = UnlessMemory fault.kind fault ((names : List (List ℕ)) → first_in (inside_faults number names [] (forms_of text)) ≡ Some fault)
 
--- a set has these names
-abbrev pub HasNames : BTreeSet (Bor (List ℕ)) → List (List ℕ) → Type 0
-HasNames set names = (q : List ℕ) → contains_by (λ k. slice_cmp nat_cmp q k.now) set ≡ list_any (same_word q) names
+-- a table has these names
+abbrev pub HasNames : Names → List (List ℕ) → Type 0
+HasNames table names = (q : List ℕ) → is_some (known_as table q) ≡ list_any (same_word q) names
 
 -- the answer for a line that opens a block behind those of so many other names
-abbrev pub AnswersOpening : BTreeSet (Bor (List ℕ)) → BTreeSet (Bor (List ℕ)) → ℕ → List ℕ → Result (Unit {0}) LoopFaultKind → Type 0
+abbrev pub AnswersOpening : Names → Names → ℕ → List ℕ → Result (Unit {0}) LoopFaultKind → Type 0
 AnswersOpening old new loops name (Ok done) = (names : List (List ℕ)) → HasNames old names → length names ≡ loops → (opening_faults names name ≡ []) × HasNames new (names ++ name ∷ [])
 AnswersOpening old new loops name (Err kind) = (names : List (List ℕ)) → HasNames old names → length names ≡ loops → UnlessMemoryKind kind (first_in (opening_faults names name) ≡ Some kind)

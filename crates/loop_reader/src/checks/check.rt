@@ -9,34 +9,23 @@ ghost use Rattle.loop_reader.specs.Meaning as meaning;
 ghost use Rattle.loop_reader.specs.Meaning.{any_name, declared, how_many, number_at, is_statement, AValue};
 ghost use Rattle.loop_lines.specs.Cells.{cells_seen};
 ghost use Rattle.loop_lines.specs.Parsed.{form_seen, statement_seen, subscript_seen, uses_seen};
-ghost use Rattle.loop_reader.specs.inner.Blocks.{declared_seen, entry_faults, forms_in};
+ghost use Rattle.loop_reader.specs.inner.Blocks.{declared_seen, entry_faults, forms_in, IsLineIn};
 ghost use Rattle.loop_reader.specs.inner.Building.{IsFew};
 ghost use Rattle.loop_reader.specs.inner.Found.{array_in, fault_in, target_in, AreFound, IsFoundFor, IsFoundIn};
-ghost use Rattle.loop_reader.specs.inner.Checks.{any_use, covers_name, first_in, inits_with, is_that, kinds_at, lacks_init, outs_with, with_init, IsBlock, IsGiven, IsNear, IsNearForm, IsNearRead, IsNearUse, IsRoomFor};
+ghost use Rattle.loop_reader.specs.inner.Checks.{any_use, covers_name, first_in, inits_with, is_that, kinds_at, lacks_init, outs_with, IsBlock, IsGiven, IsNear, IsNearForm, IsNearRead, IsNearUse, IsRoomFor};
 
 use crate::checks::given::Given;
 use crate::fault::{LoopFault, LoopFaultKind};
 use crate::names::found::{Target, Targets, declared_number, target_of};
 use crate::names::index::{Counts, Declared, Index};
 use loop_lines::{CellWords, Form, StatementWords, Subscript, Use, are_wide};
-use machine::limits::{MAX_ARRAYS, MAX_DISTANCE, MAX_NAME, MAX_PARAMETERS, MAX_STATEMENTS};
+use machine::limits::{MAX_ARRAYS, MAX_NAME, MAX_PARAMETERS, MAX_STATEMENTS};
 use std::alloc::AllocError;
 
 pub(crate) fn is_long(name: &[u8]) -> bool
     ensures { result ≡ meaning.is_long name.now }
 {
     name.len() > MAX_NAME
-}
-
-fn is_that(what: Declared, found: Option<Declared>) -> bool
-    ensures { result ≡ is_that (declared_seen what) (option_map declared_seen found) }
-{
-    match (what, found) {
-        (Declared::Array(m), Some(Declared::Array(n))) => m == n,
-        (Declared::Param(m), Some(Declared::Param(n))) => m == n,
-        (Declared::Value(m), Some(Declared::Value(n))) => m == n,
-        _ => false,
-    }
 }
 
 fn is_value(found: Option<Declared>) -> bool
@@ -176,13 +165,14 @@ fn is_long_name(name: Option<&[u8]>) -> bool
     }
 }
 
-/// The name stands for another thing than the value of the statement behind so many lines.
-fn is_repeated_value(index: &Index<'_, '_>, before: Counts, name: Option<&[u8]>) -> bool
-    ensures { result ≡ any_name (λ name. not (is_that (AValue before.statements) (declared (forms_in index.now) name))) (option_map (λ (n : Bor (List ℕ)). n.now) name.entry) }
+/// The name of the statement behind so many lines stands for another thing.
+fn is_repeated_value(index: &Index<'_, '_>, before: Counts, source: &StatementWords<'_>) -> bool
+    requires { IsLineIn (forms_in index.now) before (StatementLine (statement_seen source.now)) }
+    ensures { result ≡ any_name (λ name. not (is_that (AValue before.statements) (declared (forms_in index.now) name))) (statement_seen source.now).name }
 {
-    match name {
+    match source.name {
         None => false,
-        Some(name) => !is_that(Declared::Value(before.statements), index.declared(name)),
+        Some(name) => index.is_repeated(Declared::Value(before.statements), name),
     }
 }
 
@@ -202,13 +192,14 @@ fn array_fault<'a>(
     name: &'a [u8],
     cells: CellWords<'_>,
 ) -> Option<LoopFaultKind>
+    requires { IsLineIn (forms_in index.now) counts (ArrayLine name.now (cells_seen cells)) }
     ensures { (inits : List (Option ℤ)) (outs : List Bool) → result
         ≡ first_in (kinds_at (forms_in index.now) counts inits outs (ArrayLine name.now (cells_seen cells.entry))) }
 {
     if is_long(name) || are_wide(cells) || counts.arrays >= MAX_ARRAYS {
         return Some(LoopFaultKind::Limit);
     }
-    if !is_that(Declared::Array(counts.arrays), index.declared(name)) {
+    if index.is_repeated(Declared::Array(counts.arrays), name) {
         return Some(LoopFaultKind::RepeatedName);
     }
     None
@@ -220,40 +211,47 @@ fn param_fault<'a>(
     name: &'a [u8],
     value: Option<i64>,
 ) -> Option<LoopFaultKind>
+    requires { IsLineIn (forms_in index.now) counts (ParamLine name.now value) }
     ensures { (inits : List (Option ℤ)) (outs : List Bool) → result
         ≡ first_in (kinds_at (forms_in index.now) counts inits outs (ParamLine name.now value)) }
 {
     if is_long(name) || value.is_none() || counts.params >= MAX_PARAMETERS {
         return Some(LoopFaultKind::Limit);
     }
-    if !is_that(Declared::Param(counts.params), index.declared(name)) {
+    if index.is_repeated(Declared::Param(counts.params), name) {
         return Some(LoopFaultKind::RepeatedName);
     }
     None
 }
 
-fn init_fault<'a>(
+/// The first fault of an initial value; else it is taken down.
+fn take_init<'a>(
     index: &Index<'_, 'a>,
-    given: &Given,
+    given: &mut Given,
     name: &'a [u8],
     number: Option<u8>,
     value: Option<i64>,
-) -> Option<LoopFaultKind>
-    requires room { length given.now.inits ≡ 16 * how_many is_statement (forms_in index.now) }
+) -> Result<Targets, LoopFaultKind>
+    requires room { length given.old.inits ≡ 16 * how_many is_statement (forms_in index.now) }
     requires near { IsNear number }
-    ensures { (counts : Counts) (outs : List Bool) → result
-        ≡ first_in (kinds_at (forms_in index.now) counts given.now.inits outs (InitLine name.now number value)) }
+    ensures fault { (counts : Counts) (outs : List Bool) → fault_in result
+        ≡ first_in (kinds_at (forms_in index.now) counts given.old.inits outs (InitLine name.now number value)) }
+    ensures inits { IfOk result (λ _. given.new.inits ≡ inits_with (forms_in index.now) given.old.inits (InitLine name.now number value)) }
+    ensures outs { given.new.outs.items ≡ given.old.outs.items }
 {
-    let number = match number {
-        Some(number) if number > 0 && value.is_some() && !is_long(name) => number as usize,
-        _ => return Some(LoopFaultKind::Limit),
+    let (place, value) = match (number, value) {
+        (Some(number), Some(value)) if number > 0 && !is_long(name) => (number as usize - 1, value),
+        _ => return Err(LoopFaultKind::Limit),
     };
     match index.declared(name) {
-        Some(Declared::Value(of)) if given.inits.has(of, number - 1) => {
-            Some(LoopFaultKind::RepeatedName)
+        Some(Declared::Value(of)) if given.inits.has(of, place) => {
+            Err(LoopFaultKind::RepeatedName)
         }
-        Some(Declared::Value(_)) => None,
-        _ => Some(LoopFaultKind::UnknownName),
+        Some(Declared::Value(of)) => {
+            given.inits.put(of, place, value);
+            Ok(Targets::NOTHING)
+        }
+        _ => Err(LoopFaultKind::UnknownName),
     }
 }
 
@@ -266,6 +264,7 @@ fn check_statement<'a>(
     source: &StatementWords<'a>,
 ) -> Result<Targets, LoopFaultKind>
     requires room { length given.now.inits ≡ 16 * how_many is_statement (forms_in index.now) }
+    requires here { IsLineIn (forms_in index.now) counts (StatementLine (statement_seen source.now)) }
     requires near { AllByRecursion IsNearUse (uses_seen source.now.uses) }
     ensures fault { (outs : List Bool) → fault_in result
         ≡ first_in (kinds_at (forms_in index.now) counts given.now.inits outs (StatementLine (statement_seen source.now))) }
@@ -282,7 +281,7 @@ fn check_statement<'a>(
     {
         return Err(LoopFaultKind::Limit);
     }
-    if is_repeated_value(index, counts, source.name) {
+    if is_repeated_value(index, counts, source) {
         return Err(LoopFaultKind::RepeatedName);
     }
     let first = look_up(index, given, number, &uses.first);
@@ -306,15 +305,18 @@ fn check_statement<'a>(
     })
 }
 
-fn check_out<'a>(
+/// The first fault of an `out`; else its value is marked.
+fn take_out<'a>(
     index: &Index<'_, 'a>,
-    given: &Given,
+    given: &mut Given,
     name: &'a [u8],
 ) -> Result<Targets, LoopFaultKind>
-    requires room { length given.now.inits ≡ 16 * how_many is_statement (forms_in index.now) }
-    requires flags { length given.now.outs.items ≡ how_many is_statement (forms_in index.now) }
+    requires room { length given.old.inits ≡ 16 * how_many is_statement (forms_in index.now) }
+    requires flags { length given.old.outs.items ≡ how_many is_statement (forms_in index.now) }
     ensures fault { (counts : Counts) → fault_in result
-        ≡ first_in (kinds_at (forms_in index.now) counts given.now.inits given.now.outs.items (OutLine name.now)) }
+        ≡ first_in (kinds_at (forms_in index.now) counts given.old.inits given.old.outs.items (OutLine name.now)) }
+    ensures inits { given.new.inits ≡ given.old.inits }
+    ensures outs { IfOk result (λ _. given.new.outs.items ≡ outs_with (forms_in index.now) given.old.outs.items (OutLine name.now)) }
     ensures found { IfOk result (λ found. IsFew (forms_in index.now) → found.number ≡ number_at (declared (forms_in index.now) name.now)) }
 {
     if is_long(name) {
@@ -323,10 +325,13 @@ fn check_out<'a>(
     let found = index.declared(name);
     match found {
         Some(Declared::Value(value)) if given.outs[value] => Err(LoopFaultKind::RepeatedName),
-        Some(Declared::Value(value)) if given.covers(value, 1) => Ok(Targets {
-            number: declared_number(found),
-            ..Targets::NOTHING
-        }),
+        Some(Declared::Value(value)) if given.covers(value, 1) => {
+            given.outs[value] = true;
+            Ok(Targets {
+                number: declared_number(found),
+                ..Targets::NOTHING
+            })
+        }
         Some(Declared::Value(_)) => Err(LoopFaultKind::MissingInit),
         _ => Err(LoopFaultKind::UnknownName),
     }
@@ -343,64 +348,32 @@ fn nothing_unless(fault: Option<LoopFaultKind>) -> Result<Targets, LoopFaultKind
 }
 
 /// The first fault of a line behind so many others, which gave this to the block's values; else what the
-/// names stand for that it uses.
+/// names stand for that it uses. What the line gives is taken down.
 #[inline(always)]
-pub(crate) fn check_line<'a>(
+fn take_line<'a>(
     index: &Index<'_, 'a>,
     counts: Counts,
-    given: &Given,
+    given: &mut Given,
     form: &Form<'a>,
 ) -> Result<Targets, LoopFaultKind>
-    requires room { length given.now.inits ≡ 16 * how_many is_statement (forms_in index.now) }
-    requires flags { length given.now.outs.items ≡ how_many is_statement (forms_in index.now) }
+    requires room { length given.old.inits ≡ 16 * how_many is_statement (forms_in index.now) }
+    requires flags { length given.old.outs.items ≡ how_many is_statement (forms_in index.now) }
+    requires here { IsLineIn (forms_in index.now) counts (form_seen form.now) }
     requires near { IsNearForm (form_seen form.now) }
-    ensures fault { fault_in result ≡ first_in (kinds_at (forms_in index.now) counts given.now.inits given.now.outs.items (form_seen form.now)) }
+    ensures fault { fault_in result ≡ first_in (kinds_at (forms_in index.now) counts given.old.inits given.old.outs.items (form_seen form.now)) }
+    ensures inits { IfOk result (λ _. given.new.inits ≡ inits_with (forms_in index.now) given.old.inits (form_seen form.now)) }
+    ensures outs { IfOk result (λ _. given.new.outs.items ≡ outs_with (forms_in index.now) given.old.outs.items (form_seen form.now)) }
     ensures found { IfOk result (λ found. IsFew (forms_in index.now) → IsFoundFor (forms_in index.now) form.now found) }
 {
     match form {
         Form::Loop(_) | Form::Malformed => Ok(Targets::NOTHING),
         Form::Array(name, cells) => nothing_unless(array_fault(index, counts, *name, *cells)),
         Form::Param(name, value) => nothing_unless(param_fault(index, counts, *name, *value)),
-        Form::Init(name, number, value) => {
-            nothing_unless(init_fault(index, given, *name, *number, *value))
-        }
+        Form::Init(name, number, value) => take_init(index, given, *name, *number, *value),
         Form::Statement(source) => check_statement(index, counts, given, source),
-        Form::Out(name) => check_out(index, given, *name),
+        Form::Out(name) => take_out(index, given, *name),
         Form::End if counts.statements == 0 => Err(LoopFaultKind::Limit),
         Form::End => Ok(Targets::NOTHING),
-    }
-}
-
-/// Takes down what one more line gives to the block's values.
-fn give<'a>(given: &mut Given, index: &Index<'_, 'a>, form: &Form<'a>)
-    requires room { length given.old.inits ≡ 16 * how_many is_statement (forms_in index.now) }
-    requires flags { length given.old.outs.items ≡ how_many is_statement (forms_in index.now) }
-    ensures inits { given.new.inits ≡ inits_with (forms_in index.now) given.old.inits (form_seen form.now) }
-    ensures outs { given.new.outs.items ≡ outs_with (forms_in index.now) given.old.outs.items (form_seen form.now) }
-{
-    match form {
-        Form::Init(name, Some(number), Some(value)) => {
-            give_init(given, index.declared(*name), *number, *value);
-        }
-        Form::Out(name) => {
-            if let Some(Declared::Value(value)) = index.declared(*name) {
-                given.outs[value] = true;
-            }
-        }
-        _ => {}
-    }
-}
-
-fn give_init(given: &mut Given, found: Option<Declared>, number: u8, value: i64)
-    requires room { IsRoomFor (length given.old.inits) (option_map declared_seen found) }
-    ensures inits { given.new.inits ≡ with_init given.old.inits (option_map declared_seen found) (Some number) (Some value) }
-    ensures outs { given.new.outs.items ≡ given.old.outs.items }
-{
-    if let Some(Declared::Value(of)) = found
-        && number > 0
-        && number <= MAX_DISTANCE
-    {
-        given.inits.put(of, number as usize - 1, value);
     }
 }
 
@@ -423,7 +396,7 @@ pub(crate) fn first_fault<'a>(
     found.clear();
     let mut counts = Counts::NONE;
     for entry in &index.lines()[..sound] {
-        match check_line(index, counts, given, &entry.form) {
+        match take_line(index, counts, given, &entry.form) {
             Ok(line) => found.push(line)?,
             Err(kind) => {
                 return Ok(Some(LoopFault {
@@ -432,7 +405,6 @@ pub(crate) fn first_fault<'a>(
                 }));
             }
         }
-        give(given, index, &entry.form);
         counts = counts.with(&entry.form);
     }
     Ok(None)

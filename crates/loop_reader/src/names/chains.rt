@@ -21,7 +21,7 @@ pub(crate) struct Link<'a> {
     depth: usize,
 }
 
-/// How many chains there are. The names of a loop are 224 at most.
+/// How many chains there are. The names of a loop are 224 at most, and the loops of a text 1,024.
 const CHAINS: usize = 512;
 
 /// How many names a chain may have, so that no text makes a look-up long.

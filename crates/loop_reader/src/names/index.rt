@@ -1,10 +1,13 @@
 //! What the names of a block stand for.
 
-ghost use Rattle.std.specs.Prelude.{◌≡◌, ◌+◌, ◌^◌, ◌<◌, ℕ, List, IfOk, OnOk, None, Some, option_map};
-ghost use Rattle.loop_reader.specs.inner.Known.{known_as};
+ghost use Rattle.std.specs.Prelude.{◌≡◌, ◌+◌, ◌^◌, ◌<◌, ℕ, List, IfOk, OnOk, None, Some, true, option_map};
+ghost use Rattle.std.specs.Option.{option_or};
+ghost use Rattle.loop_reader.specs.inner.Known.{known_as, IsIndexed};
+ghost use Rattle.loop_reader.specs.Meaning as meaning;
 ghost use Rattle.loop_reader.specs.Meaning.{declared, declared_by, is_array, is_param, is_statement};
 ghost use Rattle.loop_lines.specs.Parsed.{form_seen};
 ghost use Rattle.loop_reader.specs.inner.Blocks.{declared_seen, declared_if, forms_in, one_if, IsCounts};
+ghost use Rattle.loop_reader.specs.inner.Checks.{is_that};
 
 use crate::lines::entry::LineEntry;
 use crate::names::known::Names;
@@ -76,24 +79,53 @@ fn declaration<'a>(form: &Form<'a>, before: Counts) -> Option<(&'a [u8], Declare
     }
 }
 
+/// Adds the name that a line declares behind so many others, unless it is there already. The result is
+/// whether it was new, or there is none.
+fn add_declared<'a>(
+    names: &mut Names<'a>,
+    form: &Form<'a>,
+    before: Counts,
+) -> Result<bool, AllocError>
+    ensures names { OnOk result ((q : List ℕ) → option_map declared_seen (known_as names.new q)
+        ≡ option_or (option_map declared_seen (known_as names.old q)) (declared_by q before.arrays before.params before.statements (form_seen form.now))) }
+    ensures fresh { IfOk result (λ fresh. fresh ≡ true → (q : List ℕ) (what : meaning.Declared)
+        → declared_by q before.arrays before.params before.statements (form_seen form.now) ≡ Some what → known_as names.old q ≡ None) }
+{
+    match declaration(form, before) {
+        None => Ok(true),
+        Some((name, what)) => names.add(name, what),
+    }
+}
+
 /// Fills a table with the names that the lines of a block declare, each with its first declaration.
-/// The result is how many lines of each form there are. The table's room is used again.
+/// The result is how many lines of each form there are, and whether no name is declared twice. The
+/// table's room is used again.
 pub(crate) fn index_names<'a>(
     names: &mut Names<'a>,
     lines: &[LineEntry<'a>],
-) -> Result<Counts, AllocError>
-    ensures names { OnOk result ((q : List ℕ) → option_map declared_seen (known_as names.new q) ≡ declared (forms_in lines.now) q) }
-    ensures counts { IfOk result (λ counts. IsCounts (forms_in lines.now) counts) }
+) -> Result<(Counts, bool), AllocError>
+    ensures counts { IfOk result (λ r. IsCounts (forms_in lines.now) r.0) }
+    ensures indexed { IfOk result (λ r. IsIndexed lines.now names.new r.1) }
 {
     names.clear();
     let mut counts = Counts::NONE;
+    let mut once = true;
     for entry in lines {
-        if let Some((name, what)) = declaration(&entry.form, counts) {
-            names.add(name, what)?;
-        }
+        once &= add_declared(names, &entry.form, counts)?;
         counts = counts.with(&entry.form);
     }
-    Ok(counts)
+    Ok((counts, once))
+}
+
+fn is_that(what: Declared, found: Option<Declared>) -> bool
+    ensures { result ≡ is_that (declared_seen what) (option_map declared_seen found) }
+{
+    match (what, found) {
+        (Declared::Array(m), Some(Declared::Array(n))) => m == n,
+        (Declared::Param(m), Some(Declared::Param(n))) => m == n,
+        (Declared::Value(m), Some(Declared::Value(n))) => m == n,
+        _ => false,
+    }
 }
 
 /// The lines of a block with an index of their names. Contracts see the lines.
@@ -101,35 +133,37 @@ pub(crate) fn index_names<'a>(
 pub(crate) struct Index<'t, 'a> {
     lines: &'t [LineEntry<'a>],
     names: &'t Names<'a>,
+    /// Set only where no name is declared twice. No declared name then has to be looked up to see whether
+    /// it is a repetition.
+    once: bool,
 }
 
 impl<'t, 'a> Model for Index<'t, 'a> {
-    ghost use Rattle.std.specs.Prelude.{◌≡◌, ℕ, List, option_map};
-    ghost use Rattle.loop_reader.specs.inner.Known.{known_as};
+    ghost use Rattle.std.specs.Prelude.{ℕ, List};
     ghost use Rattle.loop_reader.specs.declared.lines.entry.LineEntry.{LineEntry};
-    ghost use Rattle.loop_reader.specs.Meaning.{declared};
-    ghost use Rattle.loop_reader.specs.inner.Blocks.{forms_in, declared_seen};
+    ghost use Rattle.loop_reader.specs.inner.Known.{IsIndexed};
 
     ghost Value = { List LineEntry };
 
     ghost view = { λ a. a.lines.now };
 
-    ghost invariant = { λ a. (q : List ℕ) → option_map declared_seen (known_as a.names.now q) ≡ declared (forms_in a.lines.now) q };
+    ghost invariant = { λ a. IsIndexed a.lines.now a.names.now a.once };
 }
 
 impl<'t, 'a> Index<'t, 'a> {
-    ghost use Rattle.std.specs.Prelude.{◌≡◌, ℕ, List, option_map};
-    ghost use Rattle.loop_reader.specs.inner.Known.{known_as};
+    ghost use Rattle.std.specs.Prelude.{◌≡◌, not, option_map};
+    ghost use Rattle.loop_reader.specs.inner.Known.{IsIndexed};
     ghost use Rattle.loop_reader.specs.Meaning.{declared};
-    ghost use Rattle.loop_reader.specs.inner.Blocks.{forms_in, declared_seen};
-    ghost use Rattle.loop_reader.specs.inner.Checks.{IsCounted};
+    ghost use Rattle.loop_reader.specs.inner.Blocks.{forms_in, declared_seen, IsDeclaredIn};
+    ghost use Rattle.loop_reader.specs.inner.Checks.{is_that, IsCounted};
 
-    /// An index of these lines by the table of their names.
-    pub(crate) fn new(names: &'t Names<'a>, lines: &'t [LineEntry<'a>]) -> Index<'t, 'a>
-        requires names { (q : List ℕ) → option_map declared_seen (known_as names.now q) ≡ declared (forms_in lines.now) q }
+    /// An index of these lines by the table of their names, of which none is declared twice where `once`
+    /// is set.
+    pub(crate) fn new(names: &'t Names<'a>, lines: &'t [LineEntry<'a>], once: bool) -> Index<'t, 'a>
+        requires { IsIndexed lines.now names.now once }
         ensures { result ≡ lines.now }
     {
-        Index { lines, names }
+        Index { lines, names, once }
     }
 
     /// The lines.
@@ -146,5 +180,15 @@ impl<'t, 'a> Index<'t, 'a> {
         ensures counted { IsCounted (forms_in self.now) (option_map declared_seen result) }
     {
         self.names.get(name)
+    }
+
+    /// A name that one of the lines declares as this stands for another thing: an earlier line declares
+    /// it too.
+    #[inline(always)]
+    pub(crate) fn is_repeated(&self, what: Declared, name: &[u8]) -> bool
+        requires { IsDeclaredIn (forms_in self.now) name.now (declared_seen what) }
+        ensures { result ≡ not (is_that (declared_seen what) (declared (forms_in self.now) name.now)) }
+    {
+        !self.once && !is_that(what, self.declared(name))
     }
 }

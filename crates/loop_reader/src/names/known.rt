@@ -1,6 +1,6 @@
 //! A table of names.
 
-ghost use Rattle.std.specs.Prelude.{◌≡◌, ℕ, List, if◌then◌else◌, IfOk, OnOk, None, Some};
+ghost use Rattle.std.specs.Prelude.{◌≡◌, ℕ, List, if◌then◌else◌, IfOk, OnOk, None, Some, is_none};
 ghost use Rattle.std.specs.BTreeMap.{get_by};
 ghost use Rattle.std.specs.Cmp.Lexicographic.{slice_cmp};
 ghost use Rattle.std.specs.Option.{option_or};
@@ -22,19 +22,23 @@ pub(crate) struct Names<'a> {
     others: BTreeMap<&'a [u8], Declared>,
 }
 
-/// Adds a name, unless it is there already.
+/// Adds a name, unless it is there already. The result is whether it was added.
 fn add_other<'a>(
     others: &mut BTreeMap<&'a [u8], Declared>,
     name: &'a [u8],
     what: Declared,
-) -> Result<(), AllocError>
-    ensures { OnOk result ((q : List ℕ) → get_by (λ k. slice_cmp nat_cmp q k.now) others.new
+) -> Result<bool, AllocError>
+    ensures names { OnOk result ((q : List ℕ) → get_by (λ k. slice_cmp nat_cmp q k.now) others.new
         ≡ option_or (get_by (λ k. slice_cmp nat_cmp q k.now) others.old) (if same_word q name.now then Some what else None)) }
+    ensures added { IfOk result (λ added. added ≡ is_none (get_by (λ k. slice_cmp nat_cmp name.now k.now) others.old)) }
 {
-    if let Some(first) = others.insert(name, what)? {
-        others.insert(name, first)?;
+    match others.insert(name, what)? {
+        None => Ok(true),
+        Some(first) => {
+            others.insert(name, first)?;
+            Ok(false)
+        }
     }
-    Ok(())
 }
 
 impl<'a> Names<'a> {
@@ -67,20 +71,23 @@ impl<'a> Names<'a> {
         }
     }
 
-    /// Adds a name, unless it is there already.
-    pub(crate) fn add(&mut self, name: &'a [u8], what: Declared) -> Result<(), AllocError>
-        ensures { OnOk result ((q : List ℕ) → known_as self.new q ≡ option_or (known_as self.old q) (if same_word q name.now then Some what else None)) }
+    /// Adds a name, unless it is there already. The result is whether it was added.
+    #[inline(always)]
+    pub(crate) fn add(&mut self, name: &'a [u8], what: Declared) -> Result<bool, AllocError>
+        ensures names { OnOk result ((q : List ℕ) → known_as self.new q ≡ option_or (known_as self.old q) (if same_word q name.now then Some what else None)) }
+        ensures added { IfOk result (λ added. added ≡ is_none (known_as self.old name.now)) }
     {
         let chain = chain_of(name);
         if self.chains.get(chain, name).is_some() {
-            return Ok(());
+            return Ok(false);
         }
         if !self.chains.has_room(chain) {
             return add_other(&mut self.others, name, what);
         }
-        if self.others.get(name).is_none() {
-            self.chains.add(chain, name, what)?;
+        if self.others.get(name).is_some() {
+            return Ok(false);
         }
-        Ok(())
+        self.chains.add(chain, name, what)?;
+        Ok(true)
     }
 }

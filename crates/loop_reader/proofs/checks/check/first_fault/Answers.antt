@@ -8,7 +8,7 @@ use Rattle.loop_reader.proofs.lookups.Declared.{how_many-more, one_if-le}
 use Rattle.loop_reader.specs.inner.Found.{AreFound}
 use Rattle.loop_reader.proofs.lookups.Finding.{found-none, found-more, found-all}
 use Rattle.loop_reader.proofs.faults.Giving.{given-none}
-use Rattle.loop_reader.proofs.faults.Turns.{line-fault, line-near, turn-faulty, turn-good, turn-given, same-given}
+use Rattle.loop_reader.proofs.faults.Turns.{behind, block-at, line-fault, line-near, turn-faulty, turn-good, turn-given, same-given}
 use Rattle.loop_reader.proofs.checks.check.first_fault.Goals as goal
 
 -- what stands past the last line
@@ -29,9 +29,21 @@ loop-entry-init c = record {
   few_statements = omega arith;
 }
 
-pub check_line-requires-clause-near : goal.check_line-requires-clause-near
+pub take_line-requires-clause-here : goal.take_line-requires-clause-here
 unfolding none
-check_line-requires-clause-near c =
+take_line-requires-clause-here c =
+    let v = c.loop-entry.invariant in
+    let i = c.loop-entry.entry-index in
+    let lines = take c.args.sound c.lines.result.now in (
+      forms_in (take i lines),
+      behind c.args.index.now c.args.sound lines i,
+      block-at c.args.index.now lines c.args.sound i none v.items c.loop-entry-test.true,
+      record { arrays = v.arrays; params = v.params; statements = v.statements },
+    )
+
+pub take_line-requires-clause-near : goal.take_line-requires-clause-near
+unfolding none
+take_line-requires-clause-near c =
     line-near c.args.index.now (take c.args.sound c.lines.result.now) c.args.sound c.loop-entry.entry-index none c.loop-entry.invariant.items c.loop-entry-test.true c.requires.block
 
 pub returns-in-Err-clause-value : goal.returns-in-Err-clause-value
@@ -59,7 +71,7 @@ loop-entry-preserved c =
     record {
       items = v.items;
       faults = v.faults ∙ turn-good block lines i none _ c.loop-entry-test.true same clean;
-      given = same-given block (forms_in (take (i + 1) lines)) _ _ _ _ c.give.ensures.inits c.give.ensures.outs
+      given = same-given block (forms_in (take (i + 1) lines)) _ _ _ _ c.in-Ok.ensures.inits c.in-Ok.ensures.outs
           (turn-given block lines i none _ c.loop-entry.given.inits c.loop-entry.given.outs.items c.loop-entry-test.true same clean near v.given);
       found = λ few. subst (AreFound block (take (i + 1) lines)) (sym c.in_ok-push-in-Ok.ensures.items)
           (found-more block lines i none c.loop-entry.found.items c.in-Ok.line c.loop-entry-test.true (v.found few) (c.in-Ok.ensures.found few));

@@ -3,7 +3,7 @@ use Rattle.loop_lines.specs.Parsed.{form_seen}
 use Rattle.loop_reader.specs.inner.Blocks.{forms_in}
 use Rattle.loop_reader.specs.inner.Checks.{first_in, kinds_at}
 use Rattle.loop_lines.specs.declared.form.Form.{Form}
-use Rattle.loop_reader.proofs.checks.check.check_line.Goals as goal
+use Rattle.loop_reader.proofs.checks.check.take_line.Goals as goal
 
 pub returns-in-Array-clause-fault : goal.returns-in-Array-clause-fault
 returns-in-Array-clause-fault c =
@@ -17,7 +17,7 @@ returns-in-Param-clause-fault c =
 
 pub returns-in-Init-clause-fault : goal.returns-in-Init-clause-fault
 returns-in-Init-clause-fault c =
-    c.nothing_unless-in-Init.ensures ∙ c.init_fault.ensures c.args.counts c.args.given.now.outs.items
+    c.take_init.ensures.fault c.args.counts c.args.given.now.outs.items
     ∙ ap (λ (f : Form). first_in (kinds_at (forms_in c.args.index.now) c.args.counts c.args.given.now.inits c.args.given.now.outs.items (form_seen f))) (sym c.in-Init.is)
 
 pub returns-in-Statement-clause-fault : goal.returns-in-Statement-clause-fault
@@ -27,5 +27,5 @@ returns-in-Statement-clause-fault c =
 
 pub returns-in-Out-clause-fault : goal.returns-in-Out-clause-fault
 returns-in-Out-clause-fault c =
-    c.check_out.ensures.fault c.args.counts
+    c.take_out.ensures.fault c.args.counts
     ∙ ap (λ (f : Form). first_in (kinds_at (forms_in c.args.index.now) c.args.counts c.args.given.now.inits c.args.given.now.outs.items (form_seen f))) (sym c.in-Out.is)
