@@ -4,7 +4,8 @@ ghost use Rattle.std.specs.Prelude.{◌≡◌, IfOk};
 ghost use Rattle.candidates.specs.Choices.{IsChoice};
 ghost use Rattle.candidates.specs.Listings.{is_failed, is_met};
 
-use crate::outcomes::{Cause, Outcome, try_interval};
+use crate::outcomes::{Cause, Outcome};
+use crate::trials::Trials;
 use ims::Prepared;
 use kernel::Kernel;
 use machine::OutOfMemory;
@@ -42,10 +43,11 @@ impl Choice {
 pub fn first_success(alloc: Global, prepared: &Prepared) -> Result<Choice, OutOfMemory>
     ensures exact { IfOk result (IsChoice prepared.now) }
 {
+    let mut trials = Trials::of(prepared);
     let mut last = Cause::Table;
     for above in 0..prepared.ceiling() + 1 {
         let ii = prepared.mii() + above;
-        match try_interval(alloc, prepared, ii) {
+        match trials.try_interval(alloc, ii) {
             Err(fault) => return Err(fault),
             Ok(Outcome::Met(kernel)) => return Ok(Choice::Met(ii, kernel)),
             Ok(Outcome::Failed(cause)) => last = cause,

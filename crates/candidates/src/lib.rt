@@ -8,6 +8,7 @@ mod outcomes;
 mod pieces;
 mod preparing;
 mod texts;
+mod trials;
 
 pub use choices::{Choice, first_success};
 pub use laws::{
@@ -20,3 +21,4 @@ pub use pieces::{Piece, Pieces};
 pub use preparing::prepare;
 pub use settings::{OutOfRange, Settings};
 pub use texts::{listing_text, write_last, write_row};
+pub use trials::Trials;

@@ -1,13 +1,14 @@
 //! What an interval gives.
 
-ghost use Rattle.std.specs.Prelude.{◌≡◌, ◌≤◌, IfOk, MatchOption};
+ghost use Rattle.std.specs.Prelude.{◌≡◌, ◌≤◌, length, replicate, None, IfOk, MatchOption};
 ghost use Rattle.ims.specs.Problems.{IsProblem, budget_of, mii_of};
 ghost use Rattle.overlap.specs.Allotments.{NoneFor};
 ghost use Rattle.candidates.specs.Choices.{last_of};
 ghost use Rattle.candidates.specs.Outcomes.{Gives, HasKernel, cause_of};
 ghost use Rattle.candidates.specs.Texts.{cause_word};
 
-use ims::{Failure, Prepared, Schedule, Try, attempt};
+use crate::trials::Trials;
+use ims::{Failure, Prepared, Schedule, Try, attempt_on};
 use kernel::Kernel;
 use machine::OutOfMemory;
 use mrt::MaskTable;
@@ -61,7 +62,23 @@ pub fn try_interval(alloc: Global, prepared: &Prepared, ii: u64) -> Result<Outco
     requires to_last { ii ≤ last_of prepared.now }
     ensures exact { IfOk result (Gives prepared.now ii) }
 {
-    match attempt::<MaskTable>(alloc, prepared, ii, budget(prepared))? {
+    Trials::of(prepared).try_interval(alloc, ii)
+}
+
+/// What a loop gives at the interval of a table of its operations, with nothing placed.
+pub(crate) fn outcome_on(
+    alloc: Global,
+    prepared: &Prepared,
+    table: &mut MaskTable,
+) -> Result<Outcome, OutOfMemory>
+    requires operations { table.old.operations ≡ prepared.now.operations }
+    requires empty { table.old.placed ≡ replicate (length prepared.now.operations) None }
+    requires from_mii { mii_of prepared.now ≤ table.old.interval }
+    requires to_last { table.old.interval ≤ last_of prepared.now }
+    ensures exact { IfOk result (Gives prepared.now table.old.interval) }
+    ensures operations { table.new.operations ≡ table.old.operations }
+{
+    match attempt_on(alloc, prepared, table, budget(prepared))? {
         Try::Placed(schedule) => match kernel_of(alloc, &schedule)? {
             Some(kernel) => Ok(Outcome::Met(kernel)),
             None => Ok(Outcome::Failed(Cause::Registers)),

@@ -11,7 +11,7 @@ pub use laws::{
     attempts_are_lawful, culprits_are_failures, one_answer, one_problem, problems_have_graphs,
     schedules_keep_dependences, stages_are_few,
 };
-pub use outcome::attempts::{Culprit, Failure, Try, attempt};
+pub use outcome::attempts::{Culprit, Failure, Try, attempt, attempt_on};
 pub use outcome::culprits::culprit;
 pub use problem::prepared::Prepared;
 pub use schedules::schedule::Schedule;

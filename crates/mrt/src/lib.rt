@@ -3,6 +3,7 @@
 #![tactic(auto)]
 
 mod mask;
+mod memory;
 mod owner;
 mod rosters;
 mod table;

@@ -1,32 +1,30 @@
-//! A modulo reservation table as a word of units for each residue, and a word or a timeline for each unit.
+//! A modulo reservation table as a word or a timeline for each unit.
 
-ghost use Rattle.std.specs.Prelude.{◌≡◌, ◌↔◌, ◌+◌, ◌*◌, ◌%◌, ◌^◌, ◌<◌, ◌≤◌, ◌==◌, ℕ, length, Some, None, IsTrue, if◌then◌else◌};
-ghost use Rattle.std.specs.Int.{bit_at};
+ghost use Rattle.std.specs.Prelude.{◌≡◌, ◌↔◌, ◌+◌, ◌%◌, ◌^◌, ◌<◌, ◌≤◌, ℕ, length, Some, None, IsTrue, if◌then◌else◌};
 ghost use Rattle.std.specs.List.{All};
 ghost use Rattle.mrt.specs.Placements.{alternatives_of, IsFree, IsFirstFree, IsFirstSlot};
 ghost use Rattle.mrt.specs.inner.Slots.{IsSlot, rows_in, takes, meets_held};
-ghost use Rattle.mrt.specs.inner.MaskTables.{is_held};
-ghost use Rattle.mrt.specs.inner.Times.{is_on, is_set};
+ghost use Rattle.mrt.specs.inner.MaskTables.{AreTimes};
+ghost use Rattle.mrt.specs.inner.Times.{is_set};
 
+use crate::memory::refill;
 use crate::rosters::roster::{Issue, Roster};
 use crate::rosters::slot::Slot;
 use crate::table::ModuloTable;
 use crate::words::rounds::{first_off, mark_rounds};
-use crate::words::times::{LEAST, first_unheld, mark_times, words_at};
+use crate::words::times::{LEAST, first_unheld, is_set, mark_times, words_at};
 use machine::limits::MAX_UNITS;
 use machine::{Alternatives, OutOfMemory};
 use std::alloc::Global;
 use std::marker::Model;
 
-/// A modulo reservation table that keeps, for each residue, one word whose bit `u` tells that unit `u`
-/// is held, beside the list of placements. For searches it also keeps for each unit a word that has a bit
-/// for each residue, or from an interval of 64 on a timeline, which has a bit for each time. Contracts
-/// see the interval, the alternatives of each operation and the set of placements.
+/// A modulo reservation table that keeps, for each unit, a word whose bit `r` tells that the unit is held at
+/// residue `r`, beside the list of placements. From an interval of 64 on the unit has a timeline instead, which
+/// has a bit for each time. Contracts see the interval, the alternatives of each operation and the set of
+/// placements.
 #[derive(Drop)]
 pub struct MaskTable {
     roster: Roster,
-    /// The words by residue.
-    busy: Vec<u64>,
     /// How many words each unit has.
     words: usize,
     /// The words or timelines of all units, one after another.
@@ -41,7 +39,7 @@ impl Model for MaskTable {
 
     ghost view = { λ t. t.roster };
 
-    ghost invariant = { λ t. IsMaskTable t.roster t.busy.items × AreTimes t.roster.interval t.words t.times.items t.busy.items };
+    ghost invariant = { λ t. IsMaskTable t.roster t.words t.times.items × AreTimes t.roster.interval t.words t.times.items };
 }
 
 impl MaskTable {
@@ -56,7 +54,7 @@ impl MaskTable {
         let Some(slots) = self.roster.usable(op, alternative) else {
             return false;
         };
-        !is_met(&self.busy, slots, self.roster.ii(), base)
+        !is_met(&self.times, self.words, slots, self.roster.ii(), base)
     }
 
     /// The first alternative by which an operation can be issued at the times with a residue.
@@ -140,12 +138,26 @@ impl ModuloTable for MaskTable {
         ii: u64,
     ) -> Result<MaskTable, OutOfMemory> {
         let roster = Roster::new(alloc, alternatives, ii as usize)?;
-        let busy = vec![in alloc; 0; ii as usize]?;
         let words = words_at(ii as usize);
         let times = vec![in alloc; 0; MAX_UNITS * words]?;
         Ok(MaskTable {
             roster,
-            busy,
+            words,
+            times,
+        })
+    }
+
+    fn at(self, ii: u64) -> Result<MaskTable, OutOfMemory> {
+        let MaskTable {
+            mut roster,
+            mut times,
+            ..
+        } = self;
+        roster.reset(ii as usize);
+        let words = words_at(ii as usize);
+        refill(&mut times, MAX_UNITS * words, 0)?;
+        Ok(MaskTable {
+            roster,
             words,
             times,
         })
@@ -166,7 +178,7 @@ impl ModuloTable for MaskTable {
     fn holder(&self, op: usize, alternative: usize, row: usize, time: u64) -> Option<usize> {
         let slot = self.roster.slots(op, alternative)[row];
         let residue = slot.residue(self.roster.residue(time), self.roster.ii());
-        if self.busy[residue] & slot.mask == 0 {
+        if !is_set(&self.times, self.words, slot.row.unit, residue) {
             return None;
         }
         self.roster.taker(&slot, residue)
@@ -176,8 +188,7 @@ impl ModuloTable for MaskTable {
         let ii = self.roster.ii();
         let base = self.roster.residue(time);
         let slots = self.roster.slots(op, alternative);
-        mark(&mut self.busy, slots, ii, base, true);
-        mark_units(&mut self.times, self.words, slots, ii, base, true);
+        mark(&mut self.times, self.words, slots, ii, base, true);
         self.roster.place(
             op,
             Issue {
@@ -192,69 +203,41 @@ impl ModuloTable for MaskTable {
         if let Some(issue) = self.roster.issue(op) {
             let ii = self.roster.ii();
             let slots = self.roster.slots(op, issue.alternative);
-            mark(&mut self.busy, slots, ii, issue.base, false);
-            mark_units(&mut self.times, self.words, slots, ii, issue.base, false);
+            mark(&mut self.times, self.words, slots, ii, issue.base, false);
             self.roster.remove(op);
         }
     }
 }
 
 /// Whether some slot is held.
-fn is_met(busy: &[u64], slots: &[Slot], ii: usize, base: usize) -> bool
-    requires long { ii ≤ length busy.now }
+fn is_met(times: &[u64], words: usize, slots: &[Slot], ii: usize, base: usize) -> bool
+    requires times { AreTimes ii words times.now }
     requires slots { All (IsSlot ii) slots.now }
     requires base { base < ii }
     requires few { ii ≤ 16384 }
-    ensures { (time : ℕ) → time % ii ≡ base → result ≡ meets_held ii (is_held busy.now) (rows_in slots.now) time }
+    ensures { (time : ℕ) → time % ii ≡ base → result ≡ meets_held ii (is_set words times.now) (rows_in slots.now) time }
 {
     for slot in slots {
-        if busy[slot.residue(base, ii)] & slot.mask != 0 {
+        if is_set(times, words, slot.row.unit, slot.residue(base, ii)) {
             return true;
         }
     }
     false
 }
 
-/// Sets or clears the bits of slots.
-fn mark(busy: &mut [u64], slots: &[Slot], ii: usize, base: usize, held: bool)
-    requires long { ii ≤ length busy.old }
-    requires slots { All (IsSlot ii) slots.now }
-    requires base { base < ii }
-    requires few { ii ≤ 16384 }
-    ensures { (time unit residue : ℕ) → time % ii ≡ base → unit < 64 → residue < ii
-        → is_held busy.new unit residue ≡ (if takes ii (rows_in slots.now) time unit residue then held else is_held busy.old unit residue) }
-{
-    for slot in slots {
-        let residue = slot.residue(base, ii);
-        busy[residue] = with_bit(busy[residue], slot.mask, held);
-    }
-}
-
 /// Sets or clears the bits of slots in the words or timelines of their units.
-fn mark_units(times: &mut [u64], words: usize, slots: &[Slot], ii: usize, base: usize, held: bool)
-    requires all { length times.old ≡ 64 * words }
-    requires few_words { words ≤ 257 }
-    requires one { ii < 64 → words ≡ 1 }
-    requires reach { 64 ≤ ii → ii + 64 ≤ 64 * words }
+fn mark(times: &mut [u64], words: usize, slots: &[Slot], ii: usize, base: usize, held: bool)
+    requires times { AreTimes ii words times.old }
     requires slots { All (IsSlot ii) slots.now }
     requires base { base < ii }
     requires few { ii ≤ 16384 }
-    ensures once { (time unit place : ℕ) → ii < 64 → time % ii ≡ base → unit < 64 → place < 64
-        → is_on times.new unit place ≡ (if takes ii (rows_in slots.now) time unit place then held else is_on times.old unit place) }
-    ensures marked { (time unit place : ℕ) → 64 ≤ ii → time % ii ≡ base → unit < 64 → place < ii + 64
-        → is_set words times.new unit place ≡ (if takes ii (rows_in slots.now) time unit (place % ii) then held else is_set words times.old unit place) }
+    ensures times { AreTimes ii words times.new }
+    ensures marked { (time unit residue : ℕ) → time % ii ≡ base → unit < 64 → residue < ii
+        → is_set words times.new unit residue ≡ (if takes ii (rows_in slots.now) time unit residue then held else is_set words times.old unit residue) }
 {
     if ii < LEAST {
         mark_rounds(times, slots, ii, base, held);
     } else {
         mark_times(times, words, slots, ii, base, held);
     }
-}
-
-/// A word with the bit of a mask set or cleared.
-pub(crate) fn with_bit(word: u64, mask: u64, held: bool) -> u64
-    ensures { (own unit : ℕ) → mask ≡ 2 ^ own → own < 64 → unit < 64
-        → (bit_at result unit == 1) ≡ (if unit == own then held else (bit_at word unit == 1)) }
-{
-    if held { word | mask } else { word & !mask }
 }

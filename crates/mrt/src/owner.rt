@@ -7,6 +7,7 @@ ghost use Rattle.mrt.specs.Placements.{alternatives_of, IsFree};
 ghost use Rattle.mrt.specs.inner.Slots.{IsSlot, rows_in, takes, meets_held};
 ghost use Rattle.mrt.specs.inner.OwnerTables.{owner_at, is_owned};
 
+use crate::memory::refill;
 use crate::rosters::roster::{Issue, Roster};
 use crate::rosters::slot::Slot;
 use crate::table::ModuloTable;
@@ -70,6 +71,21 @@ impl ModuloTable for OwnerTable {
         let roster = Roster::new(alloc, alternatives, ii as usize)?;
         let units = roster.units();
         let owners = vec![in alloc; FREE; ii as usize * units]?;
+        Ok(OwnerTable {
+            roster,
+            units,
+            owners,
+        })
+    }
+
+    fn at(self, ii: u64) -> Result<OwnerTable, OutOfMemory> {
+        let OwnerTable {
+            mut roster,
+            units,
+            mut owners,
+        } = self;
+        roster.reset(ii as usize);
+        refill(&mut owners, ii as usize * units, FREE)?;
         Ok(OwnerTable {
             roster,
             units,

@@ -9,8 +9,8 @@ use std::alloc::Global;
 
 /// A modulo reservation table for some operations at one initiation interval. Contracts see the set
 /// of its placements, each an operation with the time of its issue and the alternative by which it is
-/// issued, and nothing of how the set is kept. Times are in cycles. After [`ModuloTable::make`] no
-/// call takes memory.
+/// issued, and nothing of how the set is kept. Times are in cycles. Only [`ModuloTable::make`] and
+/// [`ModuloTable::at`] take memory.
 pub trait ModuloTable: Drop {
     /// The set of placements: for each operation its placement, where it has one.
     ghost placed: { Self → Placements };
@@ -28,6 +28,15 @@ pub trait ModuloTable: Drop {
         requires few { ii ≤ 16384 }
         ensures empty { IfOk result (λ table. placed table ≡ replicate (length alternatives.now) None) }
         ensures operations { IfOk result (λ table. operations table ≡ alternatives.now) }
+        ensures interval { IfOk result (λ table. interval table ≡ ii) };
+
+    /// A table of the same operations at another initiation interval, with nothing placed. It uses the memory
+    /// of this one again, and less is computed than by [`ModuloTable::make`].
+    fn at(self, ii: u64) -> Result<Self, OutOfMemory>
+        requires some { 0 < ii }
+        requires few { ii ≤ 16384 }
+        ensures empty { IfOk result (λ table. placed table ≡ replicate (length (operations self)) None) }
+        ensures operations { IfOk result (λ table. operations table ≡ operations self) }
         ensures interval { IfOk result (λ table. interval table ≡ ii) };
 
     /// The initiation interval, in cycles.

@@ -1,6 +1,6 @@
 //! The worked table on both bodies, and the two bodies side by side.
 
-ghost use Rattle.std.specs.Prelude.{◌≡◌, ◌+◌, ◌^◌, ◌<◌, ◌≤◌, ◌∷◌, [], ℕ, length, slice_index_or, None, IfOk, vec_len};
+ghost use Rattle.std.specs.Prelude.{◌≡◌, ◌+◌, ◌^◌, ◌<◌, ◌≤◌, ◌∷◌, [], ℕ, length, slice_index_or, replicate, None, IfOk, vec_len};
 ghost use Rattle.machine.specs.Alternative.{IsAlternative};
 ghost use Rattle.mrt.specs.Placements.{placement_of};
 ghost use Rattle.mrt.specs.inner.Turns.{Tells};
@@ -176,37 +176,74 @@ fn turn<T: ModuloTable>(
     slot
 }
 
-/// What a table answers as operations come and go.
-fn answers<T: ModuloTable>(alloc: Global, ii: u64) -> Result<Vec<Option<(u64, usize)>>, OutOfMemory>
+/// What an empty table answers as operations come and go.
+fn answers<T: ModuloTable>(
+    alloc: Global,
+    table: &mut T,
+) -> Result<Vec<Option<(u64, usize)>>, OutOfMemory>
+    requires count { length (T.operations table.old) ≡ 65 }
+    requires few { T.interval table.old ≤ 128 }
+    requires empty { T.placed table.old ≡ replicate (length (T.operations table.old)) None }
+    ensures count { length (T.operations table.new) ≡ 65 }
+{
+    let mut held = vec![in alloc; false; 65]?;
+    let mut answers = Vec::new(alloc);
+    for step in 0..300 {
+        let op = step * step % 65;
+        answers.push(turn(table, &mut held, op, step as u64 / 3))?;
+    }
+    Ok(answers)
+}
+
+/// The answers of a table that is made for an interval.
+fn made<T: ModuloTable>(alloc: Global, ii: u64) -> Result<Vec<Option<(u64, usize)>>, OutOfMemory>
     requires some { 0 < ii }
     requires few { ii ≤ 128 }
 {
     let operations = wide(alloc)?;
     let mut table = T::make(alloc, &operations, ii)?;
-    let mut held = vec![in alloc; false; 65]?;
-    let mut answers = Vec::new(alloc);
-    for step in 0..300 {
-        let op = step * step % 65;
-        answers.push(turn(&mut table, &mut held, op, step as u64 / 3))?;
-    }
-    Ok(answers)
+    answers(alloc, &mut table)
 }
 
-/// Both tables answer the same at an interval.
-fn agree(rt: &impl Abort, alloc: Global, ii: u64) -> Result<(), OutOfMemory>
+/// The answers of a table that has served at another interval before.
+fn made_from<T: ModuloTable>(
+    alloc: Global,
+    before: u64,
+    ii: u64,
+) -> Result<Vec<Option<(u64, usize)>>, OutOfMemory>
+    requires some_before { 0 < before }
+    requires few_before { before ≤ 128 }
     requires some { 0 < ii }
     requires few { ii ≤ 128 }
 {
-    let owners = answers::<OwnerTable>(alloc, ii)?;
-    let masks = answers::<MaskTable>(alloc, ii)?;
+    let operations = wide(alloc)?;
+    let mut table = T::make(alloc, &operations, before)?;
+    answers(alloc, &mut table)?;
+    let mut table = table.at(ii)?;
+    answers(alloc, &mut table)
+}
+
+/// Both tables answer the same at an interval, also once they have served at another.
+fn agree(rt: &impl Abort, alloc: Global, before: u64, ii: u64) -> Result<(), OutOfMemory>
+    requires some_before { 0 < before }
+    requires few_before { before ≤ 128 }
+    requires some { 0 < ii }
+    requires few { ii ≤ 128 }
+{
+    let owners = made::<OwnerTable>(alloc, ii)?;
+    let masks = made::<MaskTable>(alloc, ii)?;
     assert_eq!(rt; owners.as_slice(), masks.as_slice());
+    let owners_again = made_from::<OwnerTable>(alloc, before, ii)?;
+    assert_eq!(rt; owners_again.as_slice(), owners.as_slice());
+    let masks_again = made_from::<MaskTable>(alloc, before, ii)?;
+    assert_eq!(rt; masks_again.as_slice(), masks.as_slice());
     Ok(())
 }
 
 #[test]
 fn both_agree(rt: HostRuntime) -> Result<(), Fail> {
-    for ii in [3, 11, 63, 67] {
-        agree(&rt, rt.alloc(), ii)?;
+    for (before, ii) in [(67, 3), (3, 11), (67, 63), (11, 67)] {
+        agree(&rt, rt.alloc(), before, ii)?;
     }
     Ok(())
 }

@@ -17,10 +17,9 @@ abbrev pub IsStuck : ℕ → OperationAlternatives → ℕ → Type 0
 IsStuck ii operations op = (op < length operations) × All (λ rows. collides ii rows ≡ true) (alternatives_of operations op)
     × ((sooner : ℕ) → sooner < op → ¬ All (λ rows. collides ii rows ≡ true) (alternatives_of operations sooner))
 
-pub first-blocked : (problem : ProblemData) (ii n op : ℕ) (operations : OperationAlternatives) → n ≡ ii → operations ≡ problem.operations → IsStuck n operations op
-    → IsFirstBlocked problem ii op
-first-blocked problem ii n op operations same offered stuck =
-    let h : IsStuck ii problem.operations op = subst (λ m. IsStuck m problem.operations op) same (subst (λ os. IsStuck n os op) offered stuck) in
+pub first-blocked : (problem : ProblemData) (ii op : ℕ) (operations : OperationAlternatives) → operations ≡ problem.operations → IsStuck ii operations op → IsFirstBlocked problem ii op
+first-blocked problem ii op operations offered stuck =
+    let h : IsStuck ii problem.operations op = subst (λ os. IsStuck ii os op) offered stuck in
     record { there = h.0; colliding = h.1; first = h.2 }
 
 -- ---- what is filtered out of the first numbers

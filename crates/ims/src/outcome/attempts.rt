@@ -1,11 +1,11 @@
 //! One attempt at an interval.
 
-ghost use Rattle.std.specs.Prelude.{◌≤◌, ℕ, IfOk};
+ghost use Rattle.std.specs.Prelude.{◌≡◌, ◌≤◌, ℕ, length, replicate, None, IfOk};
 ghost use Rattle.graph.specs.Schedules.{IsLawfulSchedule};
 ghost use Rattle.ims.specs.Problems.{IsProblem, mii_of};
 ghost use Rattle.ims.specs.Attempts.{IsBlocked, EndsPlaced, AnswersAttempt};
 
-use crate::outcome::ending::{End, end_of, first_late};
+use crate::outcome::ending::{End, end_on, first_late};
 use crate::problem::prepared::Prepared;
 use crate::schedules::schedule::Schedule;
 use machine::OutOfMemory;
@@ -62,8 +62,32 @@ pub fn attempt<'a, T: ModuloTable>(
     requires budget { budget ≤ 8192 }
     ensures exact { IfOk result (AnswersAttempt prepared.now ii budget) }
 {
+    let mut table = T::make(alloc, prepared.alternatives(), ii)?;
+    attempt_on(alloc, prepared, &mut table, budget)
+}
+
+/// [`attempt`] over a table of the loop's operations with nothing placed, at the table's interval. Where intervals
+/// are tried one after another, [`ModuloTable::at`] makes the next table from the last one.
+///
+/// # Errors
+/// [`AllocError`](std::alloc::AllocError) where memory ran out.
+pub fn attempt_on<'a, T: ModuloTable>(
+    alloc: Global,
+    prepared: &'a Prepared,
+    table: &mut T,
+    budget: u64,
+) -> Result<Try<'a>, OutOfMemory>
+    requires operations { T.operations table.old ≡ prepared.now.operations }
+    requires empty { T.placed table.old ≡ replicate (length prepared.now.operations) None }
+    requires from_mii { mii_of prepared.now ≤ T.interval table.old }
+    requires limit { T.interval table.old ≤ 16384 }
+    requires budget { budget ≤ 8192 }
+    ensures exact { IfOk result (AnswersAttempt prepared.now (T.interval table.old) budget) }
+    ensures operations { T.operations table.new ≡ T.operations table.old }
+{
     prove!(prepared.operations() >= 1);
-    match end_of::<T>(alloc, prepared, ii, budget)? {
+    let ii = table.ii();
+    match end_on(alloc, prepared, table, budget)? {
         End::Blocked(_) => Ok(Try::Failed(Failure::Table)),
         End::Short(_) => Ok(Try::Failed(Failure::Budget)),
         End::Full(times, choices) => Ok(answer(prepared, ii, times, choices)),

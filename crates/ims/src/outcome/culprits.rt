@@ -7,7 +7,7 @@ ghost use Rattle.ims.specs.Culprits.{AnswersCulprit};
 ghost use Rattle.ims.specs.Problems.{mii_of};
 
 use crate::outcome::attempts::Culprit;
-use crate::outcome::ending::{End, end_of, first_late};
+use crate::outcome::ending::{End, end_on, first_late};
 use crate::problem::prepared::Prepared;
 use crate::stepping::progress::Progress;
 use machine::OutOfMemory;
@@ -31,7 +31,8 @@ pub fn culprit<T: ModuloTable>(
     ensures exact { IfOk result (AnswersCulprit prepared.now ii budget) }
 {
     let operations = prepared.operations();
-    match end_of::<T>(alloc, prepared, ii, budget)? {
+    let mut table = T::make(alloc, prepared.alternatives(), ii)?;
+    match end_on(alloc, prepared, &mut table, budget)? {
         End::Blocked(op) => Ok(Some(Culprit::Blocked(op))),
         End::Short(progress) => {
             Ok(Some(Culprit::Unplaced(unplaced(alloc, &progress, operations)?)))

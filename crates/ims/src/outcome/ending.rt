@@ -1,6 +1,6 @@
 //! The end of an attempt.
 
-ghost use Rattle.std.specs.Prelude.{◌≡◌, ◌+◌, ◌/◌, ℕ, ◌<◌, ◌≤◌, length, map, None, Some, IfOk, MatchOption, slice_index};
+ghost use Rattle.std.specs.Prelude.{◌≡◌, ◌+◌, ◌/◌, ℕ, ◌<◌, ◌≤◌, length, map, replicate, None, Some, IfOk, MatchOption, slice_index};
 ghost use Rattle.std.specs.Bool.{OnTrue, OnFalse};
 ghost use Rattle.std.specs.List.{All};
 ghost use Rattle.graph.specs.Units.{greatest_of};
@@ -30,27 +30,30 @@ pub(crate) enum End {
     Full(Vec<u64>, Vec<usize>),
 }
 
-/// Makes an attempt up to its end. Once all memory is there, operations are placed without taking more.
-pub(crate) fn end_of<T: ModuloTable>(
+/// Makes an attempt up to its end, over a table of the loop's operations with nothing placed. Once all memory is
+/// there, operations are placed without taking more.
+pub(crate) fn end_on<T: ModuloTable>(
     alloc: Global,
     prepared: &Prepared,
-    ii: u64,
+    table: &mut T,
     budget: u64,
 ) -> Result<End, OutOfMemory>
-    requires from_mii { mii_of prepared.now ≤ ii }
-    requires limit { ii ≤ 16384 }
+    requires operations { T.operations table.old ≡ prepared.now.operations }
+    requires empty { T.placed table.old ≡ replicate (length prepared.now.operations) None }
+    requires from_mii { mii_of prepared.now ≤ T.interval table.old }
+    requires limit { T.interval table.old ≤ 16384 }
     requires budget { budget ≤ 8192 }
-    ensures exact { IfOk result (EndsAs prepared.now ii budget) }
+    ensures exact { IfOk result (EndsAs prepared.now (T.interval table.old) budget) }
+    ensures operations { T.operations table.new ≡ T.operations table.old }
 {
-    let mut table = T::make(alloc, prepared.alternatives(), ii)?;
     let mut sound = vec![in alloc; 0; prepared.operations()]?;
-    if let Some(op) = find_sound(&table, &mut sound) {
+    if let Some(op) = find_sound(table, &mut sound) {
         return Ok(End::Blocked(op));
     }
-    let mut progress = start(alloc, prepared, ii)?;
+    let mut progress = start(alloc, prepared, table.ii())?;
     let times = vec![in alloc; 0; prepared.operations()]?;
     let choices = vec![in alloc; 0; prepared.operations()]?;
-    run(prepared, &mut table, &mut progress, &sound, budget);
+    run(prepared, table, &mut progress, &sound, budget);
     Ok(end_at(progress, times, choices))
 }
 

@@ -46,6 +46,7 @@ pub(crate) fn run<T: ModuloTable>(
     ensures whole { length progress.new.state.placed ≡ length prepared.now.operations }
     ensures stops { (heights : List ℕ) → AreHeights prepared.now.graph (T.interval table.old) heights → length heights ≡ length prepared.now.operations
         → IsByHeight heights progress.old.order → Stops prepared.now (T.interval table.old) budget progress.new.state }
+    ensures operations { T.operations table.new ≡ T.operations table.old }
 {
     for _step in 0..budget {
         match progress.next() {

@@ -1,15 +1,15 @@
 -- Alternatives that collide with themselves, and spans of slots that are added to.
 use Rattle.std.proofs.Common.{◌≡◌, ℕ, ◌+◌, ◌-◌, ◌%◌, ◌<◌, ◌≤◌, true, false, ◌&&◌, ◌||◌, eqb, List, [], ◌∷◌, ◌++◌, length, get_or, map, take, drop, refl, sym, ap, ◌∙◌, arith, eq-eqb, zero-add, length-take}
 use Rattle.std.specs.List.{All, list_any, slice_range}
-use Rattle.std.proofs.lemmas.List.{drop_more, take_rest, map_push, get_or-map, length-map}
+use Rattle.std.proofs.lemmas.List.{drop_more, take_rest, map_push, get_or-map, length-map, take-map, drop-map}
 use Rattle.std.proofs.lemmas.List.Elements.{All-push, All-head, All-tail, All-weaker, All-map, All-take, All-drop}
 use Rattle.std.proofs.lemmas.List.Folds.{list_any_at}
 use Rattle.machine.specs.declared.issues.alternative.Row.{Row}
 use Rattle.machine.specs.Alternative.{residue_of, rows_meet, collides}
 use Rattle.mrt.specs.declared.rosters.slot.Slot.{Slot}
 use Rattle.mrt.specs.declared.rosters.choices.Span.{Span}
-use Rattle.mrt.specs.inner.Slots.{IsSlot, rows_in, needs_unit, HasUnits}
-use Rattle.mrt.specs.inner.Choices.{rows_at, IsSpan, AreChoices}
+use Rattle.mrt.specs.inner.Slots.{IsSlot, slot_at, rows_in, needs_unit, HasUnits}
+use Rattle.mrt.specs.inner.Choices.{rows_at, IsSpan, span_at, AreChoices}
 use Rattle.mrt.proofs.placements.Lists.{list_any-map, slice_range_kept}
 
 -- the offset modulo the interval is the residue at time 0
@@ -82,6 +82,45 @@ pub rows_at-pushed : (ii : ℕ) (old new : List Slot) (spans : List Span) (span 
 rows_at-pushed ii old new spans span rows all e from to r =
     let own : rows_at new span ≡ rows = ap (λ n. rows_in (slice_range new n span.end)) from ∙ ap (λ n. rows_in (slice_range new (length old) n)) to ∙ ap rows_in (take_rest new (length old)) ∙ r in
     map_push (rows_at new) spans span ∙ ap (λ xs. xs ++ rows_at new span ∷ []) (rows_at-kept ii old new spans e all) ∙ ap (λ x. map (rows_at old) spans ++ x ∷ []) own
+
+-- ---- the same alternatives at another interval
+slice_range-map : {X Y : Type 0} (f : X → Y) (xs : List X) (i j : ℕ) → slice_range (map f xs) i j ≡ map f (slice_range xs i j)
+slice_range-map f xs i j = ap (take (j - i)) (drop-map f i xs) ∙ take-map f (j - i) (drop i xs)
+
+rows_in-slot_at : (ii : ℕ) (slots : List Slot) → rows_in (map (slot_at ii) slots) ≡ rows_in slots
+rows_in-slot_at ii [] = refl
+rows_in-slot_at ii (s ∷ slots) = ap (λ rows. s.row ∷ rows) (rows_in-slot_at ii slots)
+
+rows_at-slot_at : (ii : ℕ) (slots : List Slot) (span : Span) → rows_at (map (slot_at ii) slots) span ≡ rows_at slots span
+rows_at-slot_at ii slots span = ap rows_in (slice_range-map (slot_at ii) slots span.start span.end) ∙ rows_in-slot_at ii (slice_range slots span.start span.end)
+
+pub All-slot_at : (was ii : ℕ) (slots : List Slot) → All (IsSlot was) slots → All (IsSlot ii) (map (slot_at ii) slots)
+All-slot_at was ii slots all =
+    All-map (IsSlot ii) (slot_at ii) slots (λ k d lt. let s = all k d lt in record { unit = s.unit; turn = refl; mask = s.mask })
+
+pub AreChoices-at : (was ii : ℕ) (slots : List Slot) (spans : List Span) → AreChoices was slots spans → 0 < ii → ii ≤ 16384
+    → AreChoices ii (map (slot_at ii) slots) (map (span_at ii (map (slot_at ii) slots)) spans)
+AreChoices-at was ii slots spans a some few =
+    let new = map (slot_at ii) slots in
+    record {
+      some = some;
+      few = few;
+      each_slot = All-slot_at was ii slots a.each_slot;
+      each_span = All-map (IsSpan ii new) (span_at ii new) spans (λ k d lt.
+          let s = a.each_span k d lt in
+          record {
+            order = s.order;
+            within = omega (arith, s.within, length-map slots (slot_at ii));
+            collides = refl;
+            units = λ unit. s.units unit ∙ ap (needs_unit unit) (sym (rows_at-slot_at ii slots (get_or spans k d)));
+          });
+    }
+
+pub rows_at-span_at : (ii : ℕ) (slots : List Slot) (spans : List Span) → map (rows_at (map (slot_at ii) slots)) (map (span_at ii (map (slot_at ii) slots)) spans) ≡ map (rows_at slots) spans
+rows_at-span_at ii slots [] = refl
+rows_at-span_at ii slots (s ∷ spans) =
+    let new = map (slot_at ii) slots in
+    ap (λ rows. rows ∷ map (rows_at new) (map (span_at ii new) spans)) (rows_at-slot_at ii slots s) ∙ ap (λ xs. rows_at slots s ∷ xs) (rows_at-span_at ii slots spans)
 
 -- units below a number, of the slots and of the alternatives that they make up
 pub rows_at-covered : (units : ℕ) (slots : List Slot) (spans : List Span) → All (λ s. s.row.unit < units) slots → All (All (λ r. r.unit < units)) (map (rows_at slots) spans)

@@ -1,17 +1,18 @@
 -- Words of units.
-use Rattle.std.proofs.Common.{◌≡◌, ◌≢◌, ℕ, ◌+◌, ◌-◌, ◌*◌, ◌/◌, ◌%◌, ◌^◌, ◌<◌, ◌≤◌, inl, inr, Bool, true, false, ◌&&◌, ◌||◌, cond, eqb, bit_and, bit_or, List, [], ◌∷◌, length, get_or, set, replicate, Option, Some, None, MatchOption, refl, sym, ap, ◌∙◌, arith, eq-eqb, length-set, w64}
+use Rattle.std.proofs.Common.{◌≡◌, ◌≢◌, ℕ, ◌+◌, ◌-◌, ◌*◌, ◌/◌, ◌%◌, ◌^◌, ◌<◌, ◌≤◌, inl, inr, Bool, true, false, not, ◌&&◌, ◌||◌, cond, eqb, bit_and, bit_or, List, [], ◌∷◌, length, get_or, set, replicate, Option, Some, None, MatchOption, refl, sym, ap, ◌∙◌, arith, eq-eqb, length-set, w64}
 use Rattle.std.specs.Int.{bit_at, bit_not}
-use Rattle.std.proofs.lemmas.Bool.{cases_eq, ne_eqb, true≢false}
+use Rattle.std.proofs.lemmas.Bool.{cases_eq, cases_lt, ne_eqb, true≢false}
 use Rattle.std.proofs.lemmas.Nat.Bits.{bit_at-lt, bit_at_or, bit_at_and, bit_at_not, bit_at-pow_same, bit_at-pow_other, and_pow, bit_at-zero}
-use Rattle.std.proofs.lemmas.List.{get_or-set_same, get_or-set_other, get_or-replicate, length-replicate}
+use Rattle.std.proofs.lemmas.List.{get_or-replicate, length-replicate}
 use Rattle.std.proofs.Math.Pow.{pow_pos}
+use Rattle.std.proofs.Math.Nat.{mod-eq_of_lt}
 use Rattle.machine.specs.declared.issues.alternative.Row.{Row}
 use Rattle.machine.specs.Alternative.{residue_of}
 use Rattle.mrt.specs.Placements.{OperationAlternatives, Placements, Placement, placement_of, rows_of, IsFree, Holds, IsHolder}
 use Rattle.mrt.specs.inner.Rosters.{Table}
 use Rattle.mrt.specs.inner.Slots.{takes, Takes, Occupies, AreApart}
 use Rattle.mrt.specs.inner.Times.{is_set, is_on}
-use Rattle.mrt.specs.inner.MaskTables.{is_held, IsMaskTable, AreTimes}
+use Rattle.mrt.specs.inner.MaskTables.{IsMaskTable, AreTimes}
 use Rattle.mrt.proofs.searching.Taking.{none_placed, takes_from_Holds, Holds-from_takes}
 use Rattle.mrt.proofs.slots.Owning.{place_below}
 use Rattle.mrt.proofs.slots.Marking.{Occupies-placed, Occupies-removed, AreApart-placed, AreApart-removed}
@@ -51,7 +52,7 @@ test_clear word mask own m h =
     let product : bit_at word own * 2 ^ own ≡ 0 = sym (and_pow word own) ∙ ap (λ k. bit_and word k) (sym m) ∙ h in
     ne_eqb (bit_at word own) 1 (λ e. omega (arith, ap (λ n. n * 2 ^ own) e, product, pow_pos own))
 
-pub test_set : (word mask own : ℕ) → mask ≡ 2 ^ own → bit_and word mask ≢ 0 → eqb (bit_at word own) 1 ≡ true
+test_set : (word mask own : ℕ) → mask ≡ 2 ^ own → bit_and word mask ≢ 0 → eqb (bit_at word own) 1 ≡ true
 test_set word mask own m ne =
     elim (cases_eq (bit_at word own) 1) [
       | inl one ↦ eq-eqb (bit_at word own) 1 one
@@ -60,67 +61,66 @@ test_set word mask own m ne =
           absurd (ne (ap (λ k. bit_and word k) m ∙ and_pow word own ∙ ap (λ n. n * 2 ^ own) none ∙ omega arith))
     ]
 
--- ---- one word of a list
-and_with_true : (a b : Bool) → b ≡ true → (a && b) ≡ a
-and_with_true true b h = h
-and_with_true false b h = refl
+pub test_is : (word mask own : ℕ) → mask ≡ 2 ^ own → not (eqb (bit_and word mask) 0) ≡ eqb (bit_at word own) 1
+test_is word mask own m =
+    elim (cases_eq (bit_and word mask) 0) [
+      | inl none ↦ ap not (eq-eqb (bit_and word mask) 0 none) ∙ sym (test_clear word mask own m none)
+      | inr some ↦ ap not (ne_eqb (bit_and word mask) 0 some) ∙ sym (test_set word mask own m some)
+    ]
 
 and_with_false : (a b : Bool) → b ≡ false → (a && b) ≡ false
 and_with_false true b h = h
 and_with_false false b h = refl
 
--- a list in which the word at a residue is another
-pub is_held-set : (busy : List ℕ) (residue word own : ℕ) (held : Bool) → residue < length busy
-    → ((unit : ℕ) → unit < 64 → eqb (bit_at word unit) 1 ≡ cond (eqb unit own) held (eqb (bit_at (get_or busy residue 0) unit) 1))
-    → (unit place : ℕ) → unit < 64 → is_held (set busy residue word) unit place ≡ cond (eqb unit own && eqb place residue) held (is_held busy unit place)
-is_held-set busy residue word own held lt w unit place u =
-    elim (cases_eq place residue) [
-      | inl same ↦
-          let at : get_or (set busy residue word) place 0 ≡ word = ap (λ k. get_or (set busy residue word) k 0) same ∙ get_or-set_same busy residue word 0 lt in
-          ap (λ n. eqb (bit_at n unit) 1) at ∙ w unit u ∙ ap (λ k. cond (eqb unit own) held (is_held busy unit k)) (sym same)
-          ∙ ap (λ b. cond b held (is_held busy unit place)) (sym (and_with_true (eqb unit own) (eqb place residue) (eq-eqb place residue same)))
-      | inr other ↦
-          ap (λ n. eqb (bit_at n unit) 1) (get_or-set_other busy residue place word 0 other)
-          ∙ ap (λ b. cond b held (is_held busy unit place)) (sym (and_with_false (eqb unit own) (eqb place residue) (ne_eqb place residue other)))
-    ]
+-- ---- the words of a table
+no_bit : (n place bit : ℕ) → place < n → eqb (bit_at (get_or (replicate n 0) place 0) bit) 1 ≡ false
+no_bit n place bit lt = ap (λ w. eqb (bit_at w bit) 1) (get_or-replicate n place 0 0 lt) ∙ ap (λ b. eqb b 1) (bit_at-zero bit)
+
+none_set : (words unit place : ℕ) → unit < 64 → place < 64 * words → is_set words (replicate (64 * words) 0) unit place ≡ false
+none_set words unit place u p = no_bit (64 * words) (unit * words + place / 64) (place % 64) (place_below 64 words (place / 64) unit (omega arith) u)
+
+-- where each unit has one word, a place is a bit of it
+is_set-one : (words : ℕ) (times : List ℕ) (unit place : ℕ) → words ≡ 1 → place < 64 → is_set words times unit place ≡ is_on times unit place
+is_set-one words times unit place one p =
+    let index : unit * words + place / 64 ≡ unit = ap (λ w. unit * w + place / 64) one ∙ omega arith in
+    let bit : place % 64 ≡ place = omega arith in
+    ap (λ k. eqb (bit_at (get_or times k 0) (place % 64)) 1) index ∙ ap (λ b. eqb (bit_at (get_or times unit 0) b) 1) bit
 
 -- ---- the table as it changes
-pub IsMaskTable-new : (ii n words : ℕ) (operations : OperationAlternatives) → n ≡ length operations → ii ≤ words → IsMaskTable (record { interval = ii; operations = operations; placed = replicate n None }) (replicate words 0)
-IsMaskTable-new ii n words operations whole least = record {
+pub IsMaskTable-new : (ii n words : ℕ) (operations : OperationAlternatives) → n ≡ length operations → (ii < 64 → words ≡ 1) → (64 ≤ ii → ii + 64 ≤ 64 * words)
+    → IsMaskTable (record { interval = ii; operations = operations; placed = replicate n None }) words (replicate (64 * words) 0)
+IsMaskTable-new ii n words operations whole one reach = record {
   whole = length-replicate n None ∙ whole;
   apart = λ unit residue x y s t. absurd (none_placed n x s.at s.is_placed);
-  least = omega (arith, length-replicate {A = ℕ} words 0);
   occupied = record {
     marked = λ unit residue op u r t. absurd (none_placed n op t.at t.is_placed);
     owed = λ unit residue u r h.
-        let word : get_or (replicate words 0) residue 0 ≡ 0 = get_or-replicate words residue 0 0 (omega arith) in
-        absurd (true≢false (sym h ∙ ap (λ w. eqb (bit_at w unit) 1) word ∙ ap (λ b. eqb b 1) (bit_at-zero unit)));
+        let within : residue < 64 * words = elim (cases_lt ii 64) [ inl short ↦ omega (arith, one short) | inr long ↦ omega (arith, reach long) ] in
+        absurd (true≢false (sym h ∙ none_set words unit residue u within));
   };
 }
 
-module _ (table : Table) (busy busy' : List ℕ) (op : ℕ) (at : Placement) (kept : IsMaskTable table busy) (long : length busy' ≡ length busy) where
+module _ (table : Table) (words : ℕ) (times times' : List ℕ) (op : ℕ) (at : Placement) (kept : IsMaskTable table words times) where
   pub IsMaskTable-placed : op < length table.operations → placement_of table.placed op ≡ None → IsFree table.interval table.operations table.placed op at.time at.alternative
       → ((unit residue : ℕ) → unit < 64 → residue < table.interval
-      → is_held busy' unit residue ≡ cond (takes table.interval (rows_of table.operations op at.alternative) at.time unit residue) true (is_held busy unit residue))
-      → IsMaskTable (record table { placed = set table.placed op (Some at) }) busy'
+      → is_set words times' unit residue ≡ cond (takes table.interval (rows_of table.operations op at.alternative) at.time unit residue) true (is_set words times unit residue))
+      → IsMaskTable (record table { placed = set table.placed op (Some at) }) words times'
   IsMaskTable-placed there unplaced free write =
       let within : op < length table.placed = omega (arith, there, kept.whole) in
       record {
         whole = length-set table.placed op (Some at) ∙ kept.whole;
         apart = AreApart-placed table.interval 64 table.operations table.placed op at within unplaced free.fits.meets_none kept.apart;
-        least = omega (arith, long, kept.least);
-        occupied = Occupies-placed table.interval 64 table.operations table.placed op at within unplaced free.fits.meets_none (is_held busy) (is_held busy') write kept.occupied;
+        occupied = Occupies-placed table.interval 64 table.operations table.placed op at within unplaced free.fits.meets_none (is_set words times) (is_set words times') write kept.occupied;
       }
 
   pub IsMaskTable-removed : placement_of table.placed op ≡ Some at
       → ((unit residue : ℕ) → unit < 64 → residue < table.interval
-      → is_held busy' unit residue ≡ cond (takes table.interval (rows_of table.operations op at.alternative) at.time unit residue) false (is_held busy unit residue))
-      → IsMaskTable (record table { placed = set table.placed op None }) busy'
+      → is_set words times' unit residue ≡ cond (takes table.interval (rows_of table.operations op at.alternative) at.time unit residue) false (is_set words times unit residue))
+      → IsMaskTable (record table { placed = set table.placed op None }) words times'
   IsMaskTable-removed is_placed write = record {
     whole = length-set table.placed op None ∙ kept.whole;
     apart = AreApart-removed table.interval 64 table.operations table.placed op at is_placed kept.apart;
-    least = omega (arith, long, kept.least);
-    occupied = Occupies-removed table.interval 64 table.operations table.placed op at is_placed kept.apart (is_held busy) (is_held busy') write kept.occupied;
+    occupied = Occupies-removed table.interval 64 table.operations table.placed op at is_placed kept.apart (is_set words times) (is_set words times') write kept.occupied;
   }
 
 -- ---- who holds a slot
@@ -128,9 +128,9 @@ module _ (ii : ℕ) (operations : OperationAlternatives) (placed : Placements) (
   pub nobody_holds : ((op : ℕ) → Takes ii operations placed row.unit (residue_of ii row time) op → ⊥) → (holder : ℕ) → Holds ii operations placed row time holder → ⊥
   nobody_holds none holder h = none holder (takes_from_Holds ii operations placed row time holder h)
 
-  pub unmarked : (busy : List ℕ) → 0 < ii → row.unit < 64 → Occupies ii 64 operations placed (is_held busy) → is_held busy row.unit (residue_of ii row time) ≡ false
+  pub unmarked : (held : ℕ → ℕ → Bool) → 0 < ii → row.unit < 64 → Occupies ii 64 operations placed held → held row.unit (residue_of ii row time) ≡ false
       → (op : ℕ) → Takes ii operations placed row.unit (residue_of ii row time) op → ⊥
-  unmarked busy some u o clear op t = true≢false (sym (o.marked row.unit (residue_of ii row time) op u (omega arith) t) ∙ clear)
+  unmarked held some u o clear op t = true≢false (sym (o.marked row.unit (residue_of ii row time) op u (omega arith) t) ∙ clear)
 
   pub taker_holds : AreApart ii operations placed → (holder : ℕ) → Takes ii operations placed row.unit (residue_of ii row time) holder
       → Holds ii operations placed row time holder × ((other : ℕ) → Holds ii operations placed row time other → other ≡ holder)
@@ -154,11 +154,8 @@ takes_past ii (row ∷ rows) time unit place some past =
     ap (λ b. b || takes ii rows time unit place) (and_with_false (eqb unit row.unit) (eqb place (residue_of ii row time)) (ne_eqb place (residue_of ii row time) ne))
     ∙ takes_past ii rows time unit place some past
 
-no_bit : (n place bit : ℕ) → place < n → eqb (bit_at (get_or (replicate n 0) place 0) bit) 1 ≡ false
-no_bit n place bit lt = ap (λ w. eqb (bit_at w bit) 1) (get_or-replicate n place 0 0 lt) ∙ ap (λ b. eqb b 1) (bit_at-zero bit)
-
-pub AreTimes-new : (ii words masks : ℕ) → 0 < ii → ii ≤ masks → words ≤ 257 → (ii < 64 → words ≡ 1) → (64 ≤ ii → ii + 64 ≤ 64 * words) → AreTimes ii words (replicate (64 * words) 0) (replicate masks 0)
-AreTimes-new ii words masks some least few one reach = record {
+pub AreTimes-new : (ii words : ℕ) → 0 < ii → words ≤ 257 → (ii < 64 → words ≡ 1) → (64 ≤ ii → ii + 64 ≤ 64 * words) → AreTimes ii words (replicate (64 * words) 0)
+AreTimes-new ii words some few one reach = record {
   all = length-replicate (64 * words) 0;
   few = few;
   one = one;
@@ -166,33 +163,49 @@ AreTimes-new ii words masks some least few one reach = record {
   once = λ short.
       let all : 64 ≤ 64 * words = omega (arith, one short) in
       record {
-        tell = λ unit residue u r. no_bit (64 * words) unit residue (omega arith) ∙ sym (no_bit masks residue unit (omega arith));
+        tell = λ unit residue u r. no_bit (64 * words) unit residue (omega arith) ∙ sym (none_set words unit residue u (omega arith));
         clear = λ unit place u past p. no_bit (64 * words) unit place (omega arith);
       };
   tell = λ long unit place u p.
-      let within : unit * words + place / 64 < 64 * words = place_below 64 words (place / 64) unit (omega (arith, reach long)) u in
-      let residue : place % ii < masks = omega (arith, some, least) in
-      no_bit (64 * words) (unit * words + place / 64) (place % 64) within ∙ sym (no_bit masks (place % ii) unit residue);
+      none_set words unit place u (omega (arith, reach long)) ∙ sym (none_set words unit (place % ii) u (omega (arith, reach long)));
 }
 
-pub AreTimes-marked : (ii words : ℕ) (times times' busy busy' : List ℕ) (rows : List Row) (time : ℕ) (held : Bool) → 0 < ii → AreTimes ii words times busy → length times' ≡ length times
-    → ((unit place : ℕ) → ii < 64 → unit < 64 → place < 64 → is_on times' unit place ≡ cond (takes ii rows time unit place) held (is_on times unit place))
-    → ((unit place : ℕ) → 64 ≤ ii → unit < 64 → place < ii + 64 → is_set words times' unit place ≡ cond (takes ii rows time unit (place % ii)) held (is_set words times unit place))
-    → ((unit residue : ℕ) → unit < 64 → residue < ii → is_held busy' unit residue ≡ cond (takes ii rows time unit residue) held (is_held busy unit residue))
-    → AreTimes ii words times' busy'
-AreTimes-marked ii words times times' busy busy' rows time held some a long once_there set_there held_there =
-    let T : ℕ → ℕ → Bool = takes ii rows time in
-    record {
+-- slots are marked, whose bits are those of a time
+module _ (ii words : ℕ) (times times' : List ℕ) (rows : List Row) (time : ℕ) (held : Bool) (some : 0 < ii) (a : AreTimes ii words times) (long : length times' ≡ length times) where
+  module _ (short : ii < 64)
+      (written : (unit place : ℕ) → unit < 64 → place < 64 → is_on times' unit place ≡ cond (takes ii rows time unit place) held (is_on times unit place)) where
+    pub AreTimes-rounds : AreTimes ii words times'
+    AreTimes-rounds = record {
       all = long ∙ a.all;
       few = a.few;
       one = a.one;
       reach = a.reach;
-      once = λ short. record {
-        tell = λ unit residue u r.
-            once_there unit residue short u (omega arith) ∙ ap (λ b. cond (T unit residue) held b) ((a.once short).tell unit residue u r) ∙ sym (held_there unit residue u r);
+      once = λ _. record {
+        tell = λ unit residue u r. sym (is_set-one words times' unit residue (a.one short) (omega arith));
         clear = λ unit place u past p.
-            once_there unit place short u p ∙ ap (λ b. cond b held (is_on times unit place)) (takes_past ii rows time unit place some past) ∙ (a.once short).clear unit place u past p;
+            written unit place u p ∙ ap (λ b. cond b held (is_on times unit place)) (takes_past ii rows time unit place some past) ∙ (a.once short).clear unit place u past p;
       };
-      tell = λ far unit place u p.
-          set_there unit place far u p ∙ ap (λ b. cond (T unit (place % ii)) held b) (a.tell far unit place u p) ∙ sym (held_there unit (place % ii) u (omega arith));
+      tell = λ far. absurd (omega arith);
+    }
+
+    pub is_set-rounds : (unit residue : ℕ) → unit < 64 → residue < ii → is_set words times' unit residue ≡ cond (takes ii rows time unit residue) held (is_set words times unit residue)
+    is_set-rounds unit residue u r =
+        is_set-one words times' unit residue (a.one short) (omega arith) ∙ written unit residue u (omega arith)
+        ∙ ap (λ b. cond (takes ii rows time unit residue) held b) (sym (is_set-one words times unit residue (a.one short) (omega arith)))
+
+  module _ (far : 64 ≤ ii)
+      (written : (unit place : ℕ) → unit < 64 → place < ii + 64 → is_set words times' unit place ≡ cond (takes ii rows time unit (place % ii)) held (is_set words times unit place)) where
+    pub is_set-times : (unit residue : ℕ) → unit < 64 → residue < ii → is_set words times' unit residue ≡ cond (takes ii rows time unit residue) held (is_set words times unit residue)
+    is_set-times unit residue u r =
+        written unit residue u (omega arith) ∙ ap (λ k. cond (takes ii rows time unit k) held (is_set words times unit residue)) (mod-eq_of_lt r)
+
+    pub AreTimes-times : AreTimes ii words times'
+    AreTimes-times = record {
+      all = long ∙ a.all;
+      few = a.few;
+      one = a.one;
+      reach = a.reach;
+      once = λ short. absurd (omega arith);
+      tell = λ _ unit place u p.
+          written unit place u p ∙ ap (λ b. cond (takes ii rows time unit (place % ii)) held b) (a.tell far unit place u p) ∙ sym (is_set-times unit (place % ii) u (omega arith));
     }

@@ -43,11 +43,6 @@ module _ (ii : ℕ) (held : ℕ → ℕ → Bool) (slots : List Slot) (time : �
       list_any-map p row (take (k + 1) slots) ∙ list_any_more (λ (s : Slot). p s.row) slots k d lt
       ∙ ap (λ b. b || p (get_or slots k d).row) (sym (list_any-map p row (take k slots)))
 
-  pub meets_later : (k : ℕ) (d : Slot) → k < length slots → meets_held ii held (rows_in (take k slots)) time ≡ false
-      → held (get_or slots k d).row.unit (residue_of ii (get_or slots k d).row time) ≡ false
-      → meets_held ii held (rows_in (take (k + 1) slots)) time ≡ false
-  meets_later k d lt before h = meets_more k d lt ∙ ap (λ b. b || held (get_or slots k d).row.unit (residue_of ii (get_or slots k d).row time)) before ∙ h
-
 -- ---- places in rows
 pub place_below : (ii units unit residue : ℕ) → unit < units → residue < ii → residue * units + unit < ii * units
 place_below ii units unit residue u r = omega (arith, mul-add-lt residue units unit ii r u, mul_comm units ii)

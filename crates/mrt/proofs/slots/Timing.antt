@@ -11,7 +11,6 @@ use Rattle.mrt.specs.declared.rosters.slot.Slot.{Slot}
 use Rattle.mrt.specs.inner.Slots.{rows_in, meets_held}
 use Rattle.mrt.specs.inner.Times.{is_set, Tell, is_on, TellOnce}
 use Rattle.mrt.proofs.slots.Owning.{same_place, meets_more}
-use Rattle.mrt.proofs.slots.Masking.{is_held-set}
 use Rattle.mrt.proofs.placements.Residues.{residue_later, residue_around}
 
 -- ---- the bits of two words side by side
@@ -277,14 +276,16 @@ round_more ii rounds held slots time k i d at was word lt tell unit below small 
     met_more ii held slots time k i d was word lt here so_far
 
 -- ---- the words of units as slots are written
-swapped : (a b : Bool) → (a && b) ≡ (b && a)
-swapped true true = refl
-swapped true false = refl
-swapped false true = refl
-swapped false false = refl
-
 pub is_on-set : (rounds : List ℕ) (own at word unit place : ℕ) (held : Bool) → own < length rounds → place < 64
     → ((bit : ℕ) → bit < 64 → eqb (bit_at word bit) 1 ≡ cond (eqb bit at) held (eqb (bit_at (get_or rounds own 0) bit) 1))
     → is_on (set rounds own word) unit place ≡ cond (eqb unit own && eqb place at) held (is_on rounds unit place)
 is_on-set rounds own at word unit place held lt p w =
-    is_held-set rounds own word at held lt w place unit p ∙ ap (λ b. cond b held (is_on rounds unit place)) (swapped (eqb place at) (eqb unit own))
+    elim (cases_eq unit own) [
+      | inl same ↦
+          let read : get_or (set rounds own word) unit 0 ≡ word = ap (λ k. get_or (set rounds own word) k 0) same ∙ get_or-set_same rounds own word 0 lt in
+          ap (λ n. eqb (bit_at n place) 1) read ∙ w place p ∙ ap (λ k. cond (eqb place at) held (is_on rounds k place)) (sym same)
+          ∙ ap (λ b. cond (b && eqb place at) held (is_on rounds unit place)) (sym (eq-eqb unit own same))
+      | inr other ↦
+          ap (λ n. eqb (bit_at n place) 1) (get_or-set_other rounds own unit word 0 other)
+          ∙ ap (λ b. cond (b && eqb place at) held (is_on rounds unit place)) (sym (ne_eqb unit own other))
+    ]

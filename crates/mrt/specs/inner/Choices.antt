@@ -23,6 +23,10 @@ pub record IsSpan (ii : ℕ) (slots : List Slot) (span : Span) : Type 0 where
   pub collides : span.collides ≡ collides ii (rows_at slots span)
   pub units : HasUnits span.units (rows_at slots span)
 
+-- the same span of slots that are prepared for another interval
+abbrev pub span_at : ℕ → List Slot → Span → Span
+span_at ii slots span = record span { collides = collides ii (rows_at slots span) }
+
 -- what is kept of alternatives at an interval
 pub record AreChoices (ii : ℕ) (slots : List Slot) (spans : List Span) : Type 0 where
   pub some : 0 < ii

@@ -13,6 +13,10 @@ pub record IsSlot (ii : ℕ) (slot : Slot) : Type 0 where
   pub turn : slot.turn ≡ slot.row.offset % ii
   pub mask : slot.mask ≡ 2 ^ slot.row.unit
 
+-- the slot of the same row at another interval
+abbrev pub slot_at : ℕ → Slot → Slot
+slot_at ii slot = record slot { turn = slot.row.offset % ii }
+
 -- the rows of slots
 abbrev pub rows_in : List Slot → List Row
 rows_in slots = map (λ slot. slot.row) slots

@@ -1,9 +1,10 @@
 //! Alternatives in one piece of memory, prepared for one initiation interval.
 
-ghost use Rattle.std.specs.Prelude.{◌≡◌, ◌++◌, ◌∷◌, [], ◌<◌, ◌≤◌, ℕ, length, take, drop, IfOk, OnOk, slice_index_or};
+ghost use Rattle.std.specs.Prelude.{◌≡◌, ◌++◌, ◌∷◌, [], ◌<◌, ◌≤◌, ℕ, length, map, take, drop, IfOk, OnOk, slice_index_or};
 ghost use Rattle.std.specs.List.{All, list_any};
 ghost use Rattle.machine.specs.Alternative.{IsAlternative, collides, rows_meet};
-ghost use Rattle.mrt.specs.inner.Slots.{IsSlot, rows_in, HasUnits};
+ghost use Rattle.mrt.specs.inner.Choices.{span_at};
+ghost use Rattle.mrt.specs.inner.Slots.{IsSlot, slot_at, rows_in, HasUnits};
 
 use crate::rosters::slot::Slot;
 use machine::{OutOfMemory, Row};
@@ -51,6 +52,18 @@ impl Choices {
             slots: Vec::with_capacity(alloc, 64)?,
             spans: Vec::with_capacity(alloc, 32)?,
         })
+    }
+
+    /// The same alternatives at another interval.
+    pub(crate) fn reset(&mut self, ii: usize)
+        requires some { 0 < ii }
+        requires few { ii ≤ 16384 }
+        ensures interval { self.new.interval ≡ ii }
+        ensures alternatives { self.new.alternatives ≡ self.old.alternatives }
+    {
+        self.ii = ii;
+        reset_slots(&mut self.slots, ii);
+        reset_spans(&mut self.spans, &self.slots);
     }
 
     /// The interval, in cycles.
@@ -143,6 +156,28 @@ fn push_slots(slots: &mut Vec<Slot>, rows: &[Row], ii: usize) -> Result<(), OutO
         slots.push(Slot::new(*row, ii))?;
     }
     Ok(())
+}
+
+/// Prepares slots for another interval.
+fn reset_slots(slots: &mut [Slot], ii: usize)
+    requires some { 0 < ii }
+    requires few { ii ≤ 16384 }
+    ensures { slots.new ≡ map (slot_at ii) slots.old }
+{
+    for slot in slots.iter_mut() {
+        slot.reset(ii);
+    }
+}
+
+/// Tells of each span whether two of its slots meet, once they are prepared for another interval.
+fn reset_spans(spans: &mut [Span], slots: &[Slot])
+    requires order { All (λ span. span.start ≤ span.end) spans.old }
+    requires within { All (λ span. span.end ≤ length slots.now) spans.old }
+    ensures { (ii : ℕ) → All (IsSlot ii) slots.now → spans.new ≡ map (span_at ii slots.now) spans.old }
+{
+    for span in spans.iter_mut() {
+        span.collides = collides(&slots[span.start..span.end]);
+    }
 }
 
 /// Whether two of the slots are one.

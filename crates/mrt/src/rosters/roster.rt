@@ -86,6 +86,16 @@ impl Roster {
         })
     }
 
+    /// The same operations at another interval, with nothing placed.
+    pub(crate) fn reset(&mut self, ii: usize)
+        requires some { 0 < ii }
+        requires few { ii ≤ 16384 }
+        ensures { self.new ≡ record { interval = ii; operations = self.old.operations; placed = replicate (length self.old.operations) None } }
+    {
+        self.choices.reset(ii);
+        self.issues.fill(None);
+    }
+
     /// The interval, in cycles.
     pub(crate) fn ii(&self) -> usize
         ensures value { result ≡ self.now.interval }

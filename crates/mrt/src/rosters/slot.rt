@@ -2,7 +2,7 @@
 
 ghost use Rattle.std.specs.Prelude.{◌≡◌, ◌%◌, ◌<◌, ◌≤◌, ℕ};
 ghost use Rattle.machine.specs.Alternative.{residue_of};
-ghost use Rattle.mrt.specs.inner.Slots.{IsSlot};
+ghost use Rattle.mrt.specs.inner.Slots.{IsSlot, slot_at};
 
 use machine::Row;
 
@@ -28,9 +28,18 @@ impl Slot {
     {
         Slot {
             row,
-            turn: u32::from(row.offset) % ii as u32,
+            turn: turn(row.offset, ii),
             mask: 1 << row.unit,
         }
+    }
+
+    /// Prepares the row for another interval.
+    pub(crate) fn reset(&mut self, ii: usize)
+        requires some { 0 < ii }
+        requires few { ii ≤ 16384 }
+        ensures { self.new ≡ slot_at ii self.old }
+    {
+        self.turn = turn(self.row.offset, ii);
     }
 
     /// The residue that the row takes, for an operation issued at a time whose own residue is `base`.
@@ -44,4 +53,15 @@ impl Slot {
         let sum = base + self.turn as usize;
         if sum < ii { sum } else { sum - ii }
     }
+}
+
+/// An offset modulo the interval, without a division where it is below.
+fn turn(offset: u8, ii: usize) -> u32
+    requires some { 0 < ii }
+    requires few { ii ≤ 16384 }
+    ensures { result ≡ offset % ii }
+{
+    let offset = u32::from(offset);
+    let ii = ii as u32;
+    if offset < ii { offset } else { offset % ii }
 }

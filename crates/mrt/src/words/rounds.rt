@@ -7,9 +7,8 @@ ghost use Rattle.std.specs.List.{All};
 ghost use Rattle.mrt.specs.inner.Slots.{IsSlot, rows_in, takes, meets_held};
 ghost use Rattle.mrt.specs.inner.Times.{is_on, TellOnce};
 
-use crate::mask::with_bit;
 use crate::rosters::slot::Slot;
-use crate::words::times::bits_from;
+use crate::words::times::{bits_from, with_bit};
 
 /// After how many cycles, counted from one whose residue is `base`, no slot is held; `limit` where one
 /// is held in each cycle before that.

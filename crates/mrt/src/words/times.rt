@@ -1,13 +1,12 @@
 //! For each unit a timeline, which has a bit for each time, so that 64 consecutive times are tested at
 //! once. They are kept from an interval of 64 on.
 
-ghost use Rattle.std.specs.Prelude.{◌≡◌, ◌+◌, ◌*◌, ◌/◌, ◌%◌, ◌<◌, ◌≤◌, ◌==◌, ◌&&◌, ℕ, Bool, not, true, false, length, slice_index, if◌then◌else◌};
+ghost use Rattle.std.specs.Prelude.{◌≡◌, ◌+◌, ◌*◌, ◌/◌, ◌%◌, ◌<◌, ◌≤◌, ◌==◌, ◌&&◌, ◌^◌, ℕ, Bool, not, true, false, length, slice_index, if◌then◌else◌};
 ghost use Rattle.std.specs.Int.{bit_at};
 ghost use Rattle.std.specs.List.{All};
 ghost use Rattle.mrt.specs.inner.Slots.{IsSlot, rows_in, takes, meets_held};
 ghost use Rattle.mrt.specs.inner.Times.{is_set, Tell};
 
-use crate::mask::with_bit;
 use crate::rosters::slot::Slot;
 
 /// From which interval on timelines are kept. At a shorter one a word has a bit for each residue.
@@ -98,6 +97,14 @@ pub(crate) fn bits_from(place: u64) -> u64
     if place < 64 { u64::MAX << place } else { 0 }
 }
 
+/// A word with the bit of a mask set or cleared.
+pub(crate) fn with_bit(word: u64, mask: u64, held: bool) -> u64
+    ensures { (own unit : ℕ) → mask ≡ 2 ^ own → own < 64 → unit < 64
+        → (bit_at result unit == 1) ≡ (if unit == own then held else (bit_at word unit == 1)) }
+{
+    if held { word | mask } else { word & !mask }
+}
+
 /// The bits of 64 consecutive places of a unit's timeline.
 fn sixty_four(times: &[u64], words: usize, unit: u8, place: usize) -> u64
     requires all { length times.now ≡ 64 * words }
@@ -109,6 +116,17 @@ fn sixty_four(times: &[u64], words: usize, unit: u8, place: usize) -> u64
     let first = usize::from(unit) * words + place / 64;
     let both = (u128::from(times[first + 1]) << 64) | u128::from(times[first]);
     ((both >> (place % 64)) & u128::from(u64::MAX)) as u64
+}
+
+/// Whether the bit of a unit is set at one place.
+pub(crate) fn is_set(times: &[u64], words: usize, unit: u8, place: usize) -> bool
+    requires all { length times.now ≡ 64 * words }
+    requires few_words { words ≤ 257 }
+    requires unit { unit < 64 }
+    requires place { place < 64 * words }
+    ensures { result ≡ is_set words times.now unit place }
+{
+    times[usize::from(unit) * words + place / 64] & (1 << (place % 64)) != 0
 }
 
 /// Sets or clears the bits of slots, for an operation issued at a time whose residue is `base`.

@@ -8,7 +8,7 @@ ghost use Rattle.workers.specs.Gathered.{tried};
 ghost use Rattle.workers.specs.Cells.{AreCellsOf, IsTrueCell, known_at, empty_from, is_full};
 
 use crate::reports::cells::{LoopCells, Settled};
-use candidates::{Cause, Choice, Outcome, try_interval};
+use candidates::{Cause, Choice, Outcome, Trials};
 use ims::Prepared;
 use machine::OutOfMemory;
 use std::alloc::Global;
@@ -17,12 +17,15 @@ use std::alloc::Global;
 fn settle(
     alloc: Global,
     prepared: &Prepared,
+    trials: &mut Trials<'_>,
     row: &mut LoopCells,
     above: u64,
 ) -> Result<(Outcome, u64), OutOfMemory>
+    requires its_loop { trials.old ≡ prepared.now }
     requires inside { above < length row.old.cells.items }
     requires ceiling { above ≤ prepared.now.ceiling }
     requires truth { IsTrueCell prepared.now (mii_of prepared.now + above) (known_at row.old.cells.items above) }
+    ensures same_loop { trials.new ≡ trials.old }
     ensures row { row.new.cells.items ≡ slice_set row.old.cells.items above None }
     ensures gives { IfOk result (λ r. Gives prepared.now (mii_of prepared.now + above) r.0) }
     ensures tries { IfOk result (λ r. r.1 ≡ (if is_full (known_at row.old.cells.items above) then 0 else 1)) }
@@ -31,7 +34,7 @@ fn settle(
     match row.take(above as usize) {
         Some(Settled::Won(kernel)) => Ok((Outcome::Met(Box::into_inner(kernel)), 0)),
         Some(Settled::Failed(cause)) => Ok((Outcome::Failed(cause), 0)),
-        None => Ok((try_interval(alloc, prepared, ii)?, 1)),
+        None => Ok((trials.try_interval(alloc, ii)?, 1)),
     }
 }
 
@@ -46,10 +49,11 @@ pub(crate) fn climb(
     ensures retried { IfOk result (λ r. r.1 ≡ empty_from row.old.cells.items 0 (tried prepared.now r.0)) }
     ensures few { IfOk result (λ r. r.1 ≤ 256) }
 {
+    let mut trials = Trials::of(prepared);
     let mut retried = 0;
     let mut last = Cause::Table;
     for above in 0..prepared.ceiling() + 1 {
-        let (outcome, tries) = match settle(alloc, prepared, row, above) {
+        let (outcome, tries) = match settle(alloc, prepared, &mut trials, row, above) {
             Ok(settled) => settled,
             Err(fault) => return Err(fault),
         };

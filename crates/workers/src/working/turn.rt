@@ -4,14 +4,12 @@ ghost use Rattle.std.specs.List.{HoldsAt};
 ghost use Rattle.ims.specs.Problems.{mii_of};
 ghost use Rattle.candidates.specs.Choices.{last_of};
 ghost use Rattle.workers.specs.Entries.{IsTrueAt};
-ghost use Rattle.workers.specs.Worked.{mii_at};
 ghost use Rattle.workers.specs.inner.Turns.{EntersOne, Takes, TakesOrPasses, Turned};
 
 use crate::reports::entry::{Entry, Found};
 use crate::reports::report::Report;
 use board::Board;
-use candidates::{Outcome, Piece, try_interval};
-use ims::Prepared;
+use candidates::{Outcome, Piece, Trials};
 use std::alloc::Global;
 
 /// Enters each interval of the piece, in order, or loses the piece for want of memory.
@@ -40,9 +38,21 @@ pub(crate) fn turn<B: Board>(
         report.lose();
         return;
     }
+    let prepared = &report.loops()[piece.loop_number];
+    let least = prepared.mii();
+    let mut trials = Trials::of(prepared);
     let mut won = false;
     for above in piece.start..piece.end {
-        won = enter_one::<B>(alloc, board, pass, report, piece.loop_number, above, won);
+        won = enter_one::<B>(
+            alloc,
+            board,
+            pass,
+            report,
+            &mut trials,
+            piece.loop_number,
+            least + above,
+            won,
+        );
     }
 }
 
@@ -53,23 +63,26 @@ fn enter_one<B: Board>(
     board: &B,
     pass: &mut B::Pass,
     report: &mut Report<'_>,
+    trials: &mut Trials<'_>,
     number: usize,
-    above: u64,
+    interval: u64,
     won: bool,
 ) -> bool
     requires of { B.is_of board.now pass.old }
     requires there { number < length report.old.loops }
+    requires its_loop { HoldsAt (λ p. p ≡ trials.old) report.old.loops number }
     requires number { number < B.loops board.now }
-    requires few { number < 1024 }
-    requires above { HoldsAt (λ p. above ≤ p.ceiling) report.old.loops number }
+    requires small { number < 1024 }
+    requires from_mii { mii_of trials.old ≤ interval }
+    requires to_last { interval ≤ last_of trials.old }
+    requires few { interval ≤ 16384 }
     requires room { 0 < report.old.room }
     ensures of { B.is_of board.now pass.new }
+    ensures same_loop { trials.new ≡ trials.old }
     ensures same_dryness { B.dry pass.new ≡ B.dry pass.old }
-    ensures entered { EntersOne B.tells (B.view pass.old) (B.view pass.new) number (mii_at report.old.loops number + above) won result report.old report.new }
+    ensures entered { EntersOne B.tells (B.view pass.old) (B.view pass.new) number interval won result report.old report.new }
 {
-    let prepared = &report.loops()[number];
-    let interval = prepared.mii() + above;
-    let found = found_at::<B>(alloc, board, pass, prepared, number, interval, won);
+    let found = found_at::<B>(alloc, board, pass, trials, number, interval, won);
     let wins = won || found.is_won();
     report.enter(Entry {
         loop_number: number as u16,
@@ -84,25 +97,26 @@ fn found_at<B: Board>(
     alloc: Global,
     board: &B,
     pass: &mut B::Pass,
-    prepared: &Prepared,
+    trials: &mut Trials<'_>,
     number: usize,
     interval: u64,
     won: bool,
 ) -> Found
     requires of { B.is_of board.now pass.old }
     requires number { number < B.loops board.now }
-    requires from_mii { mii_of prepared.now ≤ interval }
-    requires to_last { interval ≤ last_of prepared.now }
+    requires from_mii { mii_of trials.old ≤ interval }
+    requires to_last { interval ≤ last_of trials.old }
     requires few { interval ≤ 16384 }
     ensures of { B.is_of board.now pass.new }
-    ensures truth { IsTrueAt prepared.now interval result }
+    ensures same_loop { trials.new ≡ trials.old }
+    ensures truth { IsTrueAt trials.old interval result }
     ensures same_dryness { B.dry pass.new ≡ B.dry pass.old }
     ensures told { IsTrue B.tells → TakesOrPasses won number interval (B.view pass.old) result (B.view pass.new) }
 {
     if won {
         return Found::Beaten;
     }
-    one::<B>(alloc, board, pass, prepared, number, interval)
+    one::<B>(alloc, board, pass, trials, number, interval)
 }
 
 /// Looks, and tries the interval where no lower one is known to give a kernel.
@@ -110,17 +124,18 @@ fn one<B: Board>(
     alloc: Global,
     board: &B,
     pass: &mut B::Pass,
-    prepared: &Prepared,
+    trials: &mut Trials<'_>,
     number: usize,
     interval: u64,
 ) -> Found
     requires of { B.is_of board.now pass.old }
     requires number { number < B.loops board.now }
-    requires from_mii { mii_of prepared.now ≤ interval }
-    requires to_last { interval ≤ last_of prepared.now }
+    requires from_mii { mii_of trials.old ≤ interval }
+    requires to_last { interval ≤ last_of trials.old }
     requires few { interval ≤ 16384 }
     ensures of { B.is_of board.now pass.new }
-    ensures truth { IsTrueAt prepared.now interval result }
+    ensures same_loop { trials.new ≡ trials.old }
+    ensures truth { IsTrueAt trials.old interval result }
     ensures same_dryness { B.dry pass.new ≡ B.dry pass.old }
     ensures told { IsTrue B.tells → Takes number interval (B.view pass.old) result (B.view pass.new) }
 {
@@ -129,7 +144,7 @@ fn one<B: Board>(
             return Found::Beaten;
         }
     }
-    let kernel = match try_interval(alloc, prepared, interval) {
+    let kernel = match trials.try_interval(alloc, interval) {
         Ok(Outcome::Met(kernel)) => kernel,
         Ok(Outcome::Failed(cause)) => return Found::Failed(cause),
         Err(_) => return Found::Unsettled,

@@ -1,28 +1,27 @@
-use Rattle.std.proofs.Common.{◌<◌, ◌&&◌, eqb, length, get_or, ap, ◌∙◌, cond, arith}
-use Rattle.std.proofs.lemmas.List.{take_all}
-use Rattle.mrt.specs.declared.rosters.slot.Slot.{Slot}
-use Rattle.mrt.specs.inner.Slots.{takes, rows_in}
-use Rattle.mrt.specs.inner.MaskTables.{is_held}
-use Rattle.mrt.proofs.slots.Owning.{write_more}
-use Rattle.mrt.proofs.slots.Masking.{is_held-set}
+use Rattle.std.proofs.Common.{◌≡◌, ◌%◌, arith}
+use Rattle.std.proofs.Math.Nat.{mod-eq_of_lt}
+use Rattle.mrt.specs.inner.Slots.{rows_in}
+use Rattle.mrt.proofs.slots.Masking.{AreTimes-rounds, is_set-rounds, AreTimes-times, is_set-times}
 use Rattle.mrt.proofs.mask.mark.Goals as goal
 
-pub loop-slot-preserved : goal.loop-slot-preserved
-loop-slot-preserved c time unit residue base u r =
-    let slots = c.args.slots.now in
-    let k = c.loop-slot.slot-index in
-    let zero : Slot = record { row = record { unit = 0; offset = 0 }; turn = 0; mask = 0 } in
-    let lt : k < length slots = omega arith in
-    let slot = c.requires.slots k zero lt in
-    let busy = c.loop-slot.busy in
-    let at = c.residue-residue.result in
-    let written = is_held-set busy at c.with_bit.result (get_or slots k zero).row.unit c.args.held (omega (arith, c.residue-residue.ensures.below, c.requires.long, c.loop-slot.auto.busy))
-    (λ n ln. c.with_bit.ensures (get_or slots k zero).row.unit n slot.mask slot.unit ln) unit residue u in
-    write_more c.args.ii slots time unit residue k zero c.args.held (is_held c.args.busy.now unit residue) (is_held busy unit residue) _ lt
-    (c.loop-slot.invariant time unit residue base u r) (written ∙ ap (λ r. cond (eqb unit (get_or slots k zero).row.unit && eqb residue r) c.args.held (is_held busy unit residue)) (c.residue-residue.ensures.value time base))
+pub returns-then-ii-lt-LEAST-clause-times : goal.returns-then-ii-lt-LEAST-clause-times
+returns-then-ii-lt-LEAST-clause-times c =
+    let own : c.args.base % c.args.ii ≡ c.args.base = mod-eq_of_lt c.requires.base in
+    AreTimes-rounds c.args.ii c.args.words c.args.times.now c.mark_rounds.new.rounds (rows_in c.args.slots.now) c.args.base c.args.held (omega arith) c.requires.times c.mark_rounds.auto.rounds
+    c.if-ii-lt-LEAST.true (λ unit place u p. c.mark_rounds.ensures.marked c.args.base unit place own u p)
 
-pub returns : goal.returns
-returns c time unit residue base u r =
-    let all = take_all c.loop-slot.slot-index c.args.slots.now (omega arith) in
-    c.loop-slot.invariant time unit residue base u r
-    ∙ ap (λ slots. cond (takes c.args.ii (rows_in slots) time unit residue) c.args.held (is_held c.args.busy.now unit residue)) all
+pub returns-then-ii-lt-LEAST-clause-marked : goal.returns-then-ii-lt-LEAST-clause-marked
+returns-then-ii-lt-LEAST-clause-marked c time unit residue base u r =
+    is_set-rounds c.args.ii c.args.words c.args.times.now c.mark_rounds.new.rounds (rows_in c.args.slots.now) time c.args.held (omega arith) c.requires.times c.mark_rounds.auto.rounds
+    c.if-ii-lt-LEAST.true (λ unit place u p. c.mark_rounds.ensures.marked time unit place base u p) unit residue u r
+
+pub returns-else-ii-lt-LEAST-clause-times : goal.returns-else-ii-lt-LEAST-clause-times
+returns-else-ii-lt-LEAST-clause-times c =
+    let own : c.args.base % c.args.ii ≡ c.args.base = mod-eq_of_lt c.requires.base in
+    AreTimes-times c.args.ii c.args.words c.args.times.now c.mark_times.new.times (rows_in c.args.slots.now) c.args.base c.args.held (omega arith) c.requires.times c.mark_times.auto.times
+    c.if-ii-lt-LEAST.false (λ unit place u p. c.mark_times.ensures.marked c.args.base unit place own u p)
+
+pub returns-else-ii-lt-LEAST-clause-marked : goal.returns-else-ii-lt-LEAST-clause-marked
+returns-else-ii-lt-LEAST-clause-marked c time unit residue base u r =
+    is_set-times c.args.ii c.args.words c.args.times.now c.mark_times.new.times (rows_in c.args.slots.now) time c.args.held (omega arith) c.requires.times c.mark_times.auto.times
+    c.if-ii-lt-LEAST.false (λ unit place u p. c.mark_times.ensures.marked time unit place base u p) unit residue u r

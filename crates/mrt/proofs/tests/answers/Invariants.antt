@@ -5,6 +5,6 @@ use Rattle.mrt.proofs.tests.answers.Given as goal
 abbrev pub invariant-loop-step : goal.invariant-loop-step
 invariant-loop-step g l = record {
   count : length (g.T.ModuloTable.operations l.table) ≡ 65;
-  interval : g.T.ModuloTable.interval l.table ≡ l.ii;
+  interval : g.T.ModuloTable.interval l.table ≡ g.T.ModuloTable.interval l.initial.table;
   tells : Tells l.held.items (length (g.T.ModuloTable.operations l.table)) (g.T.ModuloTable.placed l.table);
 }

@@ -8,7 +8,8 @@ use Rattle.ims.proofs.outcome.culprits.culprit.Goals as goal
 
 pub returns-in-Short : goal.returns-in-Short
 returns-in-Short g c =
-    let e = subst (EndsAs c.args.prepared.now c.args.ii c.args.budget) c.in-Short.is c.in_ok-op.ensures.exact in
+    let ends = subst (λ n. EndsAs c.args.prepared.now n c.args.budget c.in_ok-op.field-0) c.in_ok-table.ensures.interval c.in_ok-op.ensures.exact in
+    let e = subst (EndsAs c.args.prepared.now c.args.ii c.args.budget) c.in-Short.is ends in
     record {
       exact = (
         e.0,
@@ -24,7 +25,8 @@ pub returns : goal.returns
 returns g c =
     let p = c.args.prepared.now in
     let is = c.operations-operations.ensures.well_formed in
-    let e = subst (EndsAs p c.args.ii c.args.budget) c.in-Full.is c.in_ok-op.ensures.exact in
+    let ends = subst (λ n. EndsAs p n c.args.budget c.in_ok-op.field-0) c.in_ok-table.ensures.interval c.in_ok-op.ensures.exact in
+    let e = subst (EndsAs p c.args.ii c.args.budget) c.in-Full.is ends in
     let times : List ℕ = c.in-Full.times.items in
     let choices : List ℕ = c.in-Full.field-1.items in
     let scheduled : IsSchedule (record { problem = p; ii = c.args.ii; times = times; choices = choices })

@@ -1,16 +1,18 @@
 use Rattle.std.proofs.Common.{◌≡◌, ◌%◌, ◌<◌, length}
 use Rattle.mrt.specs.Placements.{alternatives_of}
-use Rattle.mrt.specs.inner.MaskTables.{is_held}
+use Rattle.mrt.specs.inner.Times.{is_set}
 use Rattle.mrt.proofs.placements.Choosing.{slot_units}
 use Rattle.mrt.proofs.searching.Taking.{free_from_unmet}
 use Rattle.mrt.proofs.mask.MaskTable.is_free.Goals as goal
 
+pub is_met-requires-clause-times : goal.is_met-requires-clause-times
+is_met-requires-clause-times c = rw (c.ii.ensures.value, c.deref.ensures.value) c.self.invariant.1
+
 pub returns : goal.returns
 returns c time base =
     let t = c.self.inside.roster in
-    let i = c.self.invariant.0 in
     let b : time % t.interval ≡ c.args.base = rw c.self.view_is base in
     let there : c.args.alternative < length (alternatives_of t.operations c.args.op) = rw c.self.view_is c.requires.alternative in
     let met = rw (c.ii.ensures.value, c.deref.ensures.value, c.in-Some.ensures.rows) at (c.is_met.ensures time (rw c.ii.ensures.value b)) in
-    rw (← c.self.view_is) (free_from_unmet t.interval t.operations t.placed 64 (is_held c.self.inside.busy.items) c.ii.ensures.some i.occupied
+    rw (← c.self.view_is) (free_from_unmet t.interval t.operations t.placed 64 (is_set c.self.inside.words c.self.inside.times.items) c.ii.ensures.some c.self.invariant.0.occupied
     c.args.op c.args.alternative time c.is_met.result there (slot_units t.interval c.in-Some.slots.now _ c.in-Some.ensures.rows c.in-Some.ensures.slots) c.in-Some.ensures.sound met)

@@ -1,36 +1,33 @@
-use Rattle.std.proofs.Common.{◌≡◌, ◌<◌, ◌%◌, false, get_or, sym, arith, Some}
+use Rattle.std.proofs.Common.{◌≡◌, ◌<◌, ◌%◌, false, sym, ◌∙◌, Some}
 use Rattle.std.specs.List.{slice_get}
 use Rattle.std.proofs.lemmas.Option.{slice_get_within}
-use Rattle.std.proofs.lemmas.List.{get_or_read}
 use Rattle.machine.specs.Alternative.{residue_of}
 use Rattle.mrt.specs.declared.rosters.slot.Slot.{Slot}
 use Rattle.mrt.specs.Placements.{rows_of}
-use Rattle.mrt.specs.inner.MaskTables.{is_held}
+use Rattle.mrt.specs.inner.Times.{is_set}
 use Rattle.mrt.proofs.placements.Choosing.{row_within}
 use Rattle.mrt.proofs.searching.Taking.{row_at}
-use Rattle.mrt.proofs.slots.Masking.{test_clear, unmarked, nobody_holds, holder_of_taker}
+use Rattle.mrt.proofs.slots.Masking.{unmarked, nobody_holds, holder_of_taker}
 use Rattle.mrt.proofs.mask.MaskTableModuloTable.holder.Goals as goal
 
 zero : Slot
 zero = record { row = record { unit = 0; offset = 0 }; turn = 0; mask = 0 }
 
-pub returns-then-index-slot-eq0 : goal.returns-then-index-slot-eq0
+pub returns-then-not-is_set : goal.returns-then-not-is_set
 unfolding zero
-returns-then-index-slot-eq0 c r here =
+returns-then-not-is_set c r here =
     let t = c.self.inside.roster in
-    let busy = c.self.inside.busy.items in
+    let held = is_set c.self.inside.words c.self.inside.times.items in
     let at_row : slice_get (rows_of t.operations c.args.op c.args.alternative) c.args.row ≡ Some r = rw c.self.view_is here in
     let within = row_within _ _ c.args.row c.slots.ensures.rows (slice_get_within _ c.args.row r at_row) in
     let same = row_at c.slots.result.now _ c.args.row r zero c.slots.ensures.rows at_row in
     let slot = c.slots.ensures.slots c.args.row zero within in
     let base : c.args.time % c.ii.result ≡ c.residue.result = rw c.ii.ensures.value (sym c.residue.ensures.value) in
     let at : c.residue-residue.result ≡ residue_of t.interval r c.args.time = rw (c.ii.ensures.value, same) at (c.residue-residue.ensures.value c.args.time base) in
-    let word = get_or_read busy c.residue-residue.result c.index.result.now (omega (arith, c.residue-residue.ensures.below, c.ii.ensures.value, c.self.invariant.0.least)) c.index.ensures 0 in
-    let clear = test_clear c.index.result.now (get_or c.slots.result.now c.args.row zero).mask (get_or c.slots.result.now c.args.row zero).row.unit slot.mask c.if-index-slot-eq0.true in
-    let free : is_held busy r.unit (residue_of t.interval r c.args.time) ≡ false = rw (word, at, same) at clear in
+    let free : held r.unit (residue_of t.interval r c.args.time) ≡ false = rw (c.deref.ensures.value, at, same) at (sym c.is_set.ensures ∙ c.if-not-is_set.true) in
     let unit : r.unit < 64 = rw same at slot.unit in
     rw (← c.self.view_is) (nobody_holds t.interval t.operations t.placed r c.args.time
-    (unmarked t.interval t.operations t.placed r c.args.time busy c.ii.ensures.some unit c.self.invariant.0.occupied free))
+    (unmarked t.interval t.operations t.placed r c.args.time held c.ii.ensures.some unit c.self.invariant.0.occupied free))
 
 pub returns : goal.returns
 unfolding zero

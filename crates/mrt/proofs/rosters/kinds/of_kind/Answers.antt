@@ -1,4 +1,4 @@
-use Rattle.std.proofs.Common.{◌≡◌, ℕ, ◌<◌, ◌&&◌, List, [], Bool, length, get_or, true, eqb, refl, sym, ap, ◌∙◌, arith, below_more, subst}
+use Rattle.std.proofs.Common.{◌≡◌, ◌<◌, ◌&&◌, List, [], length, get_or, true, eqb, refl, sym, ap, ◌∙◌, below_more, subst}
 use Rattle.std.proofs.lemmas.Bool.{true≢false, and_from, eq-eqb}
 use Rattle.std.proofs.lemmas.List.{get_or_default}
 use Rattle.machine.specs.declared.issues.alternative.Row.{Row}

@@ -1,6 +1,5 @@
 use Rattle.std.proofs.Common.{◌≡◌, ℕ, ◌<◌, []}
 use Rattle.std.specs.List.{slice_index_or}
-use Rattle.mrt.specs.declared.rosters.kinds.Kind.{Kind}
 use Rattle.mrt.specs.inner.Rosters.{no_kind}
 use Rattle.mrt.proofs.rosters.kinds.of_kind.Given as goal
 

@@ -1,7 +1,7 @@
 use Rattle.std.proofs.Common.{ℕ, ◌<◌, get_or}
 use Rattle.mrt.specs.Placements.{alternatives_of}
 use Rattle.ims.specs.Scheduling.{IsFirstSound}
-use Rattle.ims.proofs.problem.sound.find_sound.Given as goal
+use Rattle.ims.proofs.problem.sound.ask_each.Given as goal
 
 abbrev pub invariant-loop-op : goal.invariant-loop-op
 invariant-loop-op g l =
