@@ -81,21 +81,32 @@ explain_line = with_search (with_paths (codes "explain"))
 unfoldable pub run_line : App
 run_line = with_search (with_rule (with_paths (codes "run")) trip_rule)
 
--- the program's subcommands, of which one has to be given
-unfoldable pub program_line : App
-program_line =
+-- the program's line without its subcommands, of which one has to be given
+abbrev pub bare_line : App
+bare_line =
     let empty = new_app (codes "modsched") in
-    let bare = record empty {
+    record empty {
       top = record empty.top {
         no_binary_name = true;
         has_version = true;
         subcommand_required = true;
         arg_required_else_help = true;
       };
-    } in
-    let kernels = with_subcommand (with_subcommand (with_subcommand (with_subcommand bare schedule_line.top) run_line.top) json_line.top) explain_line.top in
-    let graphs = with_subcommand (with_subcommand (with_subcommand kernels bounds_line.top) edges_line.top) dot_line.top in
-    with_subcommand graphs plain_line.top
+    }
+
+-- a line with the subcommands that look for kernels
+abbrev pub with_kernels : App → App
+with_kernels app =
+    with_subcommand (with_subcommand (with_subcommand (with_subcommand app schedule_line.top) run_line.top) json_line.top) explain_line.top
+
+-- a line with those that look for none
+abbrev pub with_reports : App → App
+with_reports app =
+    with_subcommand (with_subcommand (with_subcommand (with_subcommand app bounds_line.top) edges_line.top) dot_line.top) plain_line.top
+
+-- the program's line, with all of its subcommands
+unfoldable pub program_line : App
+program_line = with_reports (with_kernels bare_line)
 
 -- the path of the machine's file, where a command reads one
 abbrev pub machine_path : Command → Option Text

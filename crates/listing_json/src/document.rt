@@ -35,10 +35,9 @@ fn document(alloc: Global, listing: &Listing) -> Result<Value, OutOfMemory>
     ensures { IfOk result (λ v. view v ≡ document_of listing.now) }
 {
     let rows = listing.rows();
-    let loops = told_rows(alloc, listing.ceiling(), rows)?;
     json!(in alloc; {
         "version": 1u64,
-        "loops": loops,
+        "loops": told_rows(alloc, listing.ceiling(), rows)?,
         "met": number_met(rows),
         "failed": number_failed(rows)
     })
@@ -66,14 +65,13 @@ fn told_row(alloc: Global, ceiling: u64, row: &Row) -> Result<Value, OutOfMemory
     let least = row.resources.max(row.recurrences);
     match &row.choice {
         Choice::Met(_, kernel) => {
-            let kernel = told_kernel(alloc, kernel.parts())?;
             json!(in alloc; {
                 "name": row.name.as_str(),
                 "operations": row.operations,
                 "resources": row.resources,
                 "recurrences": row.recurrences,
                 "mii": least,
-                "kernel": kernel
+                "kernel": told_kernel(alloc, kernel.parts())?
             })
         }
         Choice::Failed(cause) => json!(in alloc; {

@@ -20,10 +20,7 @@ impl Told for Source {
         match *self {
             Source::Register(name) => json!(in alloc; {"register": name}),
             Source::Parameter(index) => json!(in alloc; {"parameter": index}),
-            Source::Constant(value) => {
-                let digits = told_digits(alloc, value)?;
-                json!(in alloc; {"constant": digits})
-            }
+            Source::Constant(value) => json!(in alloc; {"constant": told_digits(alloc, value)?}),
         }
     }
 }
@@ -54,18 +51,15 @@ impl Told for Operation {
     ghost value = { operation_value };
 
     fn told(&self, alloc: Global) -> Result<Value, AllocError> {
-        let address = told_address(alloc, self.address)?;
-        let sources = told_all(alloc, self.sources.as_slice())?;
-        let destination = told_register(self.destination);
         json!(in alloc; {
             "row": self.row,
             "stage": self.stage,
             "opcode": self.opcode.word(),
             "latency": self.latency,
             "alternative": self.alternative,
-            "destination": destination,
-            "sources": sources,
-            "address": address
+            "destination": told_register(self.destination),
+            "sources": told_all(alloc, self.sources.as_slice())?,
+            "address": told_address(alloc, self.address)?
         })
     }
 }
@@ -76,8 +70,7 @@ impl Told for Param {
     ghost value = { param_value };
 
     fn told(&self, alloc: Global) -> Result<Value, AllocError> {
-        let value = told_digits(alloc, self.value)?;
-        json!(in alloc; {"name": self.name.as_str(), "value": value})
+        json!(in alloc; {"name": self.name.as_str(), "value": told_digits(alloc, self.value)?})
     }
 }
 
@@ -87,8 +80,7 @@ impl Told for Preload {
     ghost value = { preload_value };
 
     fn told(&self, alloc: Global) -> Result<Value, AllocError> {
-        let value = told_digits(alloc, self.value)?;
-        json!(in alloc; {"register": self.register, "value": value})
+        json!(in alloc; {"register": self.register, "value": told_digits(alloc, self.value)?})
     }
 }
 
@@ -106,19 +98,14 @@ impl Told for Out {
 pub(crate) fn told_kernel(alloc: Global, parts: &Parts) -> Result<Value, AllocError>
     ensures { IfOk result (λ v. view v ≡ kernel_value parts.now) }
 {
-    let params = told_all(alloc, parts.params.as_slice())?;
-    let arrays = told_all(alloc, parts.arrays.as_slice())?;
-    let operations = told_all(alloc, parts.operations.as_slice())?;
-    let preloads = told_all(alloc, parts.preloads.as_slice())?;
-    let outs = told_all(alloc, parts.outs.as_slice())?;
     json!(in alloc; {
         "ii": parts.ii,
         "stages": parts.stages,
         "registers": parts.registers,
-        "params": params,
-        "arrays": arrays,
-        "operations": operations,
-        "preloads": preloads,
-        "outs": outs
+        "params": told_all(alloc, parts.params.as_slice())?,
+        "arrays": told_all(alloc, parts.arrays.as_slice())?,
+        "operations": told_all(alloc, parts.operations.as_slice())?,
+        "preloads": told_all(alloc, parts.preloads.as_slice())?,
+        "outs": told_all(alloc, parts.outs.as_slice())?
     })
 }

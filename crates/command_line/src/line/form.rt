@@ -3,7 +3,7 @@
 ghost use Rattle.std.specs.Prelude.{◌≡◌, codes, false, IfOk};
 ghost use Rattle.clap.specs.Words.{app_of, new_app, rule_of};
 ghost use Rattle.clap.specs.declared.builder.command.Command.TheViews.{out-Command};
-ghost use Rattle.command_line.specs.Lines.{program_line, bounds_line, plain_line, edges_line, dot_line, schedule_line, json_line, explain_line, run_line, with_paths, with_search, path_rule, trip_rule, option_rule, ratio_rule, ceiling_rule, workers_rule, cut_rule};
+ghost use Rattle.command_line.specs.Lines.{program_line, bare_line, with_kernels, with_reports, bounds_line, plain_line, edges_line, dot_line, schedule_line, json_line, explain_line, run_line, with_paths, with_search, path_rule, trip_rule, option_rule, ratio_rule, ceiling_rule, workers_rule, cut_rule};
 
 use crate::help;
 use clap::builder::ValueParser;
@@ -16,7 +16,14 @@ const VERSION: &str = "0.1.0";
 pub(super) fn program<'a>(alloc: Global) -> Result<Command<'a>, AllocError>
     ensures { IfOk result (λ c. app_of c ≡ program_line) }
 {
-    Command::new(alloc, "modsched")
+    with_reports(alloc, with_kernels(alloc, bare_program(alloc)?)?)
+}
+
+// The line of the program without a subcommand.
+fn bare_program<'a>(alloc: Global) -> Result<Command<'a>, AllocError>
+    ensures { IfOk result (λ c. app_of c ≡ bare_line) }
+{
+    let command = Command::new(alloc, "modsched")
         .bin_name("modsched")?
         .no_binary_name(true)
         .version(VERSION)
@@ -24,11 +31,26 @@ pub(super) fn program<'a>(alloc: Global) -> Result<Command<'a>, AllocError>
         .long_about(help::LONG_ABOUT)
         .after_long_help(help::LIMITS)
         .subcommand_required(true)
-        .arg_required_else_help(true)
+        .arg_required_else_help(true);
+    Ok(command)
+}
+
+// A line with the subcommands that look for kernels.
+fn with_kernels<'a>(alloc: Global, command: Command<'a>) -> Result<Command<'a>, AllocError>
+    ensures { IfOk result (λ c. app_of c ≡ with_kernels (app_of command.entry)) }
+{
+    command
         .subcommand(schedule(alloc)?)?
         .subcommand(run(alloc)?)?
         .subcommand(json(alloc)?)?
-        .subcommand(explain(alloc)?)?
+        .subcommand(explain(alloc)?)
+}
+
+// A line with those that look for none.
+fn with_reports<'a>(alloc: Global, command: Command<'a>) -> Result<Command<'a>, AllocError>
+    ensures { IfOk result (λ c. app_of c ≡ with_reports (app_of command.entry)) }
+{
+    command
         .subcommand(bounds(alloc)?)?
         .subcommand(edges(alloc)?)?
         .subcommand(dot(alloc)?)?
