@@ -1,8 +1,8 @@
 -- The line's arguments as `clap` sees them, and what its matches mean.
-use Rattle.std.proofs.Common.{◌≡◌, ◌⊎◌, ap, ℕ, List, Option, Some, None, Err, true, false, Bool, ◌||◌, ◌≤◌, ◌∙◌, codes, refl, sym, ap₂, subst, inl, inr, IfSome, IfNone}
+use Rattle.std.proofs.Common.{◌≡◌, ◌⊎◌, ap, ℕ, List, Option, Some, None, Err, Ok, Result, IfOk, true, false, Bool, ◌||◌, ◌≤◌, ◌∙◌, codes, refl, sym, ap₂, subst, inl, inr, IfSome, IfNone}
 use Rattle.clap.specs.declared.builder.command.Command as clap
 use Rattle.clap.specs.declared.builder.arg.Arg.{Arg}
-use Rattle.clap.specs.Words.{AddsArg, AddsSubcommand, App, HasKind, Kinds, Row, Rule, Text, app_of, rule_of, with_rule, with_subcommand, first_of, is_simple, is_simple_and_free, kind_of}
+use Rattle.clap.specs.Words.{AddsArg, App, HasKind, Kinds, Row, Rule, Text, app_of, rule_of, with_rule, with_subcommand, first_of, is_simple, is_simple_and_free, kind_of}
 use Rattle.clap.specs.declared.error.Error.{Error}
 use Rattle.command_line.specs.declared.line.Usage.{Usage}
 use Rattle.command_line.specs.declared.line.Usage.TheVariants.{Help, Refused, Memory}
@@ -12,6 +12,7 @@ use Rattle.command_line.specs.Lines.{IsRead, IsRequest, IsToldBy, Means, MeansNa
 use Rattle.settings.specs.Settings.{AreSettings, SettingsData}
 use Rattle.clap.specs.declared.builder.command.Command.TheViews.{out-Command}
 use Rattle.std.specs.Prelude.{nat_eq}
+use Rattle.command_line.specs.inner.Made.{IsAdded}
 use Rattle.std.specs.Cmp.Lexicographic.{pointwise}
 use Rattle.std.proofs.lemmas.Bool.{and_parts}
 use Rattle.std.proofs.lemmas.Cmp.{nat_list_eq_equiv}
@@ -32,9 +33,11 @@ pub adds : (old new : clap.Command) (arg : Arg) (app : App) (rule : Rule) → Ad
 adds old new arg app rule h local same is = h.shape local ∙ ap₂ with_rule same is
 
 -- a subcommand that has no global argument adds its line
-pub adds_subcommand : (old sub new : clap.Command) (app line : App) → AddsSubcommand old sub new → (out-Command sub).has_globals ≡ false
-    → app_of old ≡ app → app_of sub ≡ line → app_of new ≡ with_subcommand app line.top
-adds_subcommand old sub new app line h local same is = h.shape local ∙ ap₂ with_subcommand same (ap (λ (a : App). a.top) is)
+pub adds_subcommand : {E : Type 0} (old : clap.Command) (made : Result clap.Command E) (new : clap.Command) (app line : App) → IsAdded old made new
+    → IfOk made (λ c. (out-Command c).has_globals ≡ false) → app_of old ≡ app → IfOk made (λ c. app_of c ≡ line)
+    → app_of new ≡ with_subcommand app line.top
+adds_subcommand old (Ok sub) new app line h local same is = h.shape local ∙ ap₂ with_subcommand same (ap (λ (a : App). a.top) is)
+adds_subcommand old (Err e) new app line h local same is = absurd h
 
 -- and makes nothing global
 pub keeps : (old new : clap.Command) (arg : Arg) (globals : Bool) → AddsArg old arg new → arg.global ≡ false

@@ -4,6 +4,7 @@ ghost use Rattle.std.specs.Prelude.{◌≡◌, codes, false, IfOk};
 ghost use Rattle.clap.specs.Words.{app_of, new_app, rule_of};
 ghost use Rattle.clap.specs.declared.builder.command.Command.TheViews.{out-Command};
 ghost use Rattle.command_line.specs.Lines.{program_line, bare_line, with_kernels, with_reports, bounds_line, plain_line, edges_line, dot_line, schedule_line, json_line, explain_line, run_line, with_paths, with_search, path_rule, trip_rule, option_rule, ratio_rule, ceiling_rule, workers_rule, cut_rule};
+ghost use Rattle.command_line.specs.inner.Made.{IsAdded};
 
 use crate::help;
 use clap::builder::ValueParser;
@@ -39,22 +40,30 @@ fn bare_program<'a>(alloc: Global) -> Result<Command<'a>, AllocError>
 fn with_kernels<'a>(alloc: Global, command: Command<'a>) -> Result<Command<'a>, AllocError>
     ensures { IfOk result (λ c. app_of c ≡ with_kernels (app_of command.entry)) }
 {
-    command
-        .subcommand(schedule(alloc)?)?
-        .subcommand(run(alloc)?)?
-        .subcommand(json(alloc)?)?
-        .subcommand(explain(alloc)?)
+    let command = add(command, schedule(alloc))?;
+    let command = add(command, run(alloc))?;
+    let command = add(command, json(alloc))?;
+    add(command, explain(alloc))
 }
 
 // A line with those that look for none.
 fn with_reports<'a>(alloc: Global, command: Command<'a>) -> Result<Command<'a>, AllocError>
     ensures { IfOk result (λ c. app_of c ≡ with_reports (app_of command.entry)) }
 {
-    command
-        .subcommand(bounds(alloc)?)?
-        .subcommand(edges(alloc)?)?
-        .subcommand(dot(alloc)?)?
-        .subcommand(plain(alloc)?)
+    let command = add(command, bounds(alloc))?;
+    let command = add(command, edges(alloc))?;
+    let command = add(command, dot(alloc))?;
+    add(command, plain(alloc))
+}
+
+// A command with a subcommand more, where that was made.
+fn add<'a>(
+    command: Command<'a>,
+    made: Result<Command<'a>, AllocError>,
+) -> Result<Command<'a>, AllocError>
+    ensures { IfOk result (λ c. IsAdded command.entry made.entry c) }
+{
+    command.subcommand(made?)
 }
 
 // A subcommand that has no argument yet.
