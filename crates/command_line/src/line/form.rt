@@ -56,7 +56,8 @@ fn with_reports<'a>(alloc: Global, command: Command<'a>) -> Result<Command<'a>, 
     add(command, plain(alloc))
 }
 
-// A command with a subcommand more, where that was made.
+// The command with one more subcommand. Whether that was made is looked at here alone, since the checker goes through the drops
+// behind each `?`.
 fn add<'a>(
     command: Command<'a>,
     made: Result<Command<'a>, AllocError>,
