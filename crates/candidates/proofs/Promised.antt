@@ -1,8 +1,8 @@
 -- What listings promise.
 use Rattle.std.proofs.Common.{◌≡◌, ℕ, ◌≤◌, List, [], ◌∷◌, refl, sym, ap, ◌∙◌, subst}
 use Rattle.std.specs.List.{AllZip}
-use Rattle.machine.specs.Machines.{MachineData}
-use Rattle.machine.specs.declared.issues.alternative.Row.{Row}
+use Rattle.machine_data.specs.Machines.{MachineData}
+use Rattle.machine_data.specs.declared.alternative.Row.{Row}
 use Rattle.iterations.specs.Loops.{LoopData}
 use Rattle.graph.specs.Schedules.{IsLawfulSchedule}
 use Rattle.ims.specs.Problems.{ProblemData, IsProblemOf}

@@ -8,7 +8,7 @@ use crate::outcomes::{Cause, Outcome};
 use crate::trials::Trials;
 use ims::Prepared;
 use kernel::Kernel;
-use machine::OutOfMemory;
+use machine_data::OutOfMemory;
 use std::alloc::Global;
 
 /// What is chosen for a loop.

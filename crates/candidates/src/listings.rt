@@ -6,7 +6,7 @@ ghost use Rattle.candidates.specs.Listings.{IsListing, IsRow, listing_of, listin
 
 use crate::choices::Choice;
 use ims::Prepared;
-use machine::{Name, OutOfMemory};
+use machine_data::{Name, OutOfMemory};
 use std::alloc::Global;
 use std::marker::Model;
 

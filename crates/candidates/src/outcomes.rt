@@ -10,7 +10,7 @@ ghost use Rattle.candidates.specs.Texts.{cause_word};
 use crate::trials::Trials;
 use ims::{Failure, Prepared, Schedule, Try, attempt_on};
 use kernel::Kernel;
-use machine::OutOfMemory;
+use machine_data::OutOfMemory;
 use mrt::MaskTable;
 use rotating::{allot, emit};
 use std::alloc::Global;

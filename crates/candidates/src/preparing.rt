@@ -7,7 +7,7 @@ ghost use Rattle.ims.specs.Problems.{IsProblemOf};
 use graph::GraphFault;
 use ims::Prepared;
 use iterations::Loop;
-use machine::Machine;
+use machine_data::Machine;
 use settings::Settings;
 use std::alloc::Global;
 

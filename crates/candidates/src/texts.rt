@@ -11,7 +11,7 @@ use crate::listings::{Listing, Row};
 use crate::outcomes::Cause;
 use itoa::Buffer;
 use kernel::{Kernel, text_room, write_kernel};
-use machine::OutOfMemory;
+use machine_data::OutOfMemory;
 use std::alloc::Global;
 
 /// How many bytes are reserved for the line of a loop.

@@ -7,7 +7,7 @@ ghost use Rattle.candidates.specs.Outcomes.{Gives};
 
 use crate::outcomes::{Outcome, outcome_on};
 use ims::Prepared;
-use machine::OutOfMemory;
+use machine_data::OutOfMemory;
 use mrt::{MaskTable, ModuloTable};
 use std::alloc::Global;
 use std::marker::Model;

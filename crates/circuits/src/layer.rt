@@ -7,7 +7,7 @@ ghost use Rattle.graph.specs.Graphs.{IsGraph};
 ghost use Rattle.circuits.specs.inner.Layers.{IsFarthest, IsLayer};
 
 use graph::{Edge, Edges};
-use machine::limits::MAX_STATEMENTS;
+use machine_data::limits::MAX_STATEMENTS;
 
 /// The longest walk from an operation.
 #[derive(Clone, Copy)]

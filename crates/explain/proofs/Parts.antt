@@ -3,8 +3,8 @@ use Rattle.std.proofs.Common.{◌≡◌, ℕ, ◌+◌, Bool, cond, List, [], ◌
 use Rattle.std.specs.Prelude.{Ok, Err, count_by}
 use Rattle.std.proofs.lemmas.List.{append-nil}
 use Rattle.std.proofs.lemmas.List.Sums.{sum_by-append}
-use Rattle.machine.specs.Machines.{MachineData}
-use Rattle.machine.specs.declared.issues.opcode.Opcode.{Opcode}
+use Rattle.machine_data.specs.Machines.{MachineData}
+use Rattle.machine_data.specs.declared.opcode.Opcode.{Opcode}
 use Rattle.iterations.specs.Loops.{LoopData}
 use Rattle.graph.specs.TablesAnswer.{TablesAnswer}
 use Rattle.graph.specs.declared.fault.GraphFault.TheVariants as graph_fault

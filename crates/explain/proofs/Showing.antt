@@ -1,6 +1,6 @@
 -- The schedule and the registers of a loop's kernel.
 use Rattle.std.proofs.Common.{◌≡◌, ℕ, refl, ap, sym, ◌∙◌, subst}
-use Rattle.machine.specs.Machines.{MachineData}
+use Rattle.machine_data.specs.Machines.{MachineData}
 use Rattle.ims.specs.Problems.{ProblemData, IsProblem}
 use Rattle.ims.specs.Schedules.{ScheduleData}
 use Rattle.kernel.specs.declared.kernels.parts.Parts.{Parts}

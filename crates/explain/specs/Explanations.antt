@@ -1,6 +1,6 @@
 -- Why loops have the intervals that they have, as text.
 use Rattle.std.specs.Prelude.{◌≡◌, ℕ, ◌==◌, codes, List, ◌++◌, length, count_by}
-use Rattle.machine.specs.Machines.{MachineData}
+use Rattle.machine_data.specs.Machines.{MachineData}
 use Rattle.iterations.specs.Loops.{LoopData}
 use Rattle.graph_text.specs.declared.measuring.LowerBounds.{LowerBounds}
 use Rattle.graph_text.specs.Bounds.{bounds_line}

@@ -1,6 +1,6 @@
 -- The schedule and the registers of a loop's kernel, as text.
 use Rattle.std.specs.Prelude.{◌≡◌, ℕ, List, []}
-use Rattle.machine.specs.Machines.{MachineData}
+use Rattle.machine_data.specs.Machines.{MachineData}
 use Rattle.ims.specs.Problems.{ProblemData}
 use Rattle.ims.specs.Schedules.{ScheduleData}
 use Rattle.overlap.specs.Allotments.{AllotmentData, LeastFor}

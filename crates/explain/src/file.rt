@@ -18,7 +18,7 @@ use graph::GraphFault;
 use graph_text::{TextFault, push_told};
 use ims::Prepared;
 use iterations::Loop;
-use machine::{Machine, OutOfMemory};
+use machine_data::{Machine, OutOfMemory};
 use settings::Settings;
 use std::alloc::{AllocError, Global};
 use unit_uses::{push_unit_lines, unit_choices};

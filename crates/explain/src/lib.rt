@@ -7,8 +7,6 @@ mod intervals;
 mod laws;
 mod shown;
 mod single;
-#[cfg(test)]
-mod tests;
 
 pub use file::{Explained, explain_lines};
 pub use intervals::hold::Hold;

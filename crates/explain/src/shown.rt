@@ -10,7 +10,7 @@ ghost use Rattle.explain.specs.Shown.{IsShown, IsShownAt};
 use crate::intervals::reasons::budget;
 use candidates::Choice;
 use ims::{Prepared, Try, attempt};
-use machine::{Machine, OutOfMemory};
+use machine_data::{Machine, OutOfMemory};
 use mrt::MaskTable;
 use rotating::allot;
 use schedule_lines::push_schedule;

@@ -8,7 +8,7 @@ use crate::intervals::tries::push_tries;
 use candidates::Choice;
 use graph_text::{LowerBounds, push_bounds_line};
 use ims::Prepared;
-use machine::OutOfMemory;
+use machine_data::OutOfMemory;
 use std::alloc::Global;
 
 /// Appends why a loop has its interval: the line of its lower bounds, the lines of the units that are given, a

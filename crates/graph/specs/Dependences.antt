@@ -1,9 +1,9 @@
 -- Dependences between the operations of a loop, said over the instances of its iterations.
 use Rattle.std.specs.Prelude.{◌≡◌, ◌⊎◌, ℕ, ℤ, pos, ◌+◌, ◌+ℤ◌, ◌-ℤ◌, ◌<◌, ◌<ℤ◌, List, map, Option, Some, None, slice_get, slice_index}
 use Rattle.std.specs.List.{Contains}
-use Rattle.machine.specs.declared.issues.opcode.Opcode.{Opcode}
-use Rattle.machine.specs.declared.issues.opcode.Opcode.TheVariants.{Load, Store}
-use Rattle.machine.specs.Machines.{MachineData, OperationData, table_of}
+use Rattle.machine_data.specs.declared.opcode.Opcode.{Opcode}
+use Rattle.machine_data.specs.declared.opcode.Opcode.TheVariants.{Load, Store}
+use Rattle.machine_data.specs.Machines.{MachineData, OperationData, table_of}
 use Rattle.iterations.specs.declared.language.statement.Statement.{Statement}
 use Rattle.iterations.specs.declared.language.statement.Place.{Place}
 use Rattle.iterations.specs.declared.language.statement.Operand.TheVariants.{Value}

@@ -1,6 +1,6 @@
 -- How the faults of a loop on a machine are told.
 use Rattle.std.specs.Prelude.{ℕ, codes, List, ◌++◌}
-use Rattle.machine.specs.Opcodes.{word_of}
+use Rattle.machine_data.specs.Opcodes.{word_of}
 use Rattle.graph.specs.declared.fault.GraphFault.{GraphFault}
 use Rattle.graph.specs.declared.fault.GraphFault.TheVariants.{NoTable, Memory}
 

@@ -1,7 +1,7 @@
 -- The dependences of a loop as data.
 use Rattle.std.specs.Prelude.{◌≡◌, ℕ, pos, ◌<◌, ◌≤◌, ◌≤ℤ◌, List, length}
 use Rattle.std.specs.List.{All, AllPairs, Contains}
-use Rattle.machine.specs.Machines.{MachineData}
+use Rattle.machine_data.specs.Machines.{MachineData}
 use Rattle.iterations.specs.Loops.{LoopData}
 use Rattle.graph.specs.Dependences.{EdgeData, Precedes, Dependence, latencies_of}
 

@@ -1,7 +1,7 @@
 -- What a schedule that keeps each dependence of a loop promises for the instances of its iterations.
 use Rattle.std.specs.Prelude.{◌≡◌, ℕ, ℤ, pos, ◌+◌, ◌*◌, ◌<◌, ◌≤◌, ◌≤ℤ◌, ◌⊎◌, List, [], length, slice_index}
 use Rattle.std.specs.List.{All}
-use Rattle.machine.specs.declared.issues.opcode.Opcode.TheVariants.{Load, Store}
+use Rattle.machine_data.specs.declared.opcode.Opcode.TheVariants.{Load, Store}
 use Rattle.iterations.specs.Loops.{LoopData, IsLoop}
 use Rattle.graph.specs.Dependences.{EdgeData, Dependence, Uses, Touches, HasOpcode, ComesFirst}
 use Rattle.graph.specs.Schedules.{KeepsEdge}

@@ -1,8 +1,8 @@
 -- Lawful modulo schedules.
 use Rattle.std.specs.Prelude.{◌≡◌, ℕ, pos, ◌+ℤ◌, ◌≤ℤ◌, ◌+◌, ◌*◌, ◌<◌, true, List, [], length, slice_index}
 use Rattle.std.specs.List.{slice_index_or, All}
-use Rattle.machine.specs.declared.issues.alternative.Row.{Row}
-use Rattle.machine.specs.Alternative.{rows_meet}
+use Rattle.machine_data.specs.declared.alternative.Row.{Row}
+use Rattle.machine_data.specs.Alternative.{rows_meet}
 use Rattle.graph.specs.Dependences.{EdgeData}
 
 -- the rows by which an operation is issued, where choices has each operation's alternative

@@ -1,8 +1,8 @@
 -- Dependences told by statements alone: by the subscripts of their cells and by their operands.
 use Rattle.std.specs.Prelude.{◌≡◌, ◌⊎◌, ℕ, ℤ, pos, ◌+ℤ◌, ◌-ℤ◌, ◌<◌, ◌≤◌, List, ◌++◌, Some, slice_index, slice_get}
 use Rattle.std.specs.List.{All, Contains}
-use Rattle.machine.specs.declared.issues.opcode.Opcode.{Opcode}
-use Rattle.machine.specs.declared.issues.opcode.Opcode.TheVariants.{Load, Store}
+use Rattle.machine_data.specs.declared.opcode.Opcode.{Opcode}
+use Rattle.machine_data.specs.declared.opcode.Opcode.TheVariants.{Load, Store}
 use Rattle.iterations.specs.declared.language.statement.Statement.{Statement}
 use Rattle.iterations.specs.declared.language.statement.Place.{Place}
 use Rattle.iterations.specs.declared.language.statement.Operand.{Operand}

@@ -1,6 +1,6 @@
 -- What a call answered that needs a table for each opcode of a loop.
 use Rattle.std.specs.Prelude.{◌≡◌, Option, Some, None, Result, Ok, Err}
-use Rattle.machine.specs.declared.issues.opcode.Opcode.{Opcode}
+use Rattle.machine_data.specs.declared.opcode.Opcode.{Opcode}
 use Rattle.graph.specs.declared.fault.GraphFault.{GraphFault}
 use Rattle.graph.specs.declared.fault.GraphFault.TheVariants.{NoTable, Memory}
 

@@ -1,9 +1,9 @@
 -- The resource-constrained lower bound of the initiation interval (ResMII of B. R. Rau, HPL-94-115).
 use Rattle.std.specs.Prelude.{◌≡◌, ℕ, ◌<◌, ◌≤◌, ◌==◌, max, is_none, List, [], ◌∷◌, ◌++◌, length, map, filter, count_by, find, Option, Some, None}
 use Rattle.std.specs.List.{slice_index_or, flat_map}
-use Rattle.machine.specs.declared.issues.alternative.Row.{Row}
-use Rattle.machine.specs.declared.issues.opcode.Opcode.{Opcode}
-use Rattle.machine.specs.Machines.{MachineData, OperationData, table_of}
+use Rattle.machine_data.specs.declared.alternative.Row.{Row}
+use Rattle.machine_data.specs.declared.opcode.Opcode.{Opcode}
+use Rattle.machine_data.specs.Machines.{MachineData, OperationData, table_of}
 use Rattle.iterations.specs.declared.language.statement.Statement.{Statement}
 use Rattle.iterations.specs.Loops.{LoopData}
 

@@ -1,7 +1,7 @@
 -- Counters of the uses of units, and what they tell of the choices made so far.
 use Rattle.std.specs.Prelude.{◌≡◌, ℕ, ◌<◌, ◌≤◌, List, [], ◌++◌, length, slice_index}
 use Rattle.std.specs.List.{slice_index_or, All}
-use Rattle.machine.specs.declared.issues.alternative.Row.{Row}
+use Rattle.machine_data.specs.declared.alternative.Row.{Row}
 use Rattle.graph.specs.Units.{use_of, greatest_use, IsBest, AreBest, chosen_rows}
 use Rattle.graph.specs.Schedules.{IsPlan, KeepsUnits}
 

@@ -3,7 +3,7 @@
 ghost use Rattle.std.specs.Prelude.{◌≡◌};
 ghost use Rattle.graph.specs.declared.fault.GraphFault.TheVariants.{Memory};
 
-use machine::Opcode;
+use machine_data::Opcode;
 use std::alloc::{AllocError, AllocFailed};
 use std::fmt;
 use thiserror::Error;

@@ -2,9 +2,9 @@
 
 ghost use Rattle.std.specs.Prelude.{◌≡◌, ◌≢◌, ℕ, ◌+◌, ◌*◌, ◌-◌, ◌<◌, ◌≤◌, ◌==◌, List, ◌++◌, length, map, filter, IfOk, IfErr};
 ghost use Rattle.std.specs.List.{All};
-ghost use Rattle.machine.specs.declared.issues.alternative.Row.{Row};
-ghost use Rattle.machine.specs.Alternative.{AreAlternatives};
-ghost use Rattle.machine.specs.Machines.{IsMachine};
+ghost use Rattle.machine_data.specs.declared.alternative.Row.{Row};
+ghost use Rattle.machine_data.specs.Alternative.{AreAlternatives};
+ghost use Rattle.machine_data.specs.Machines.{IsMachine};
 ghost use Rattle.iterations.specs.Loops.{IsLoop};
 ghost use Rattle.graph.specs.TablesAnswer.{TablesAnswer};
 ghost use Rattle.graph.specs.Units.{first_without_table, operations_of, greatest_of, greatest_use, IsBest, IsUnitBound};
@@ -12,8 +12,8 @@ ghost use Rattle.graph.specs.Uses.{AtMost, Tallies, TakesBest, CountsRows, IsBel
 
 use crate::fault::GraphFault;
 use iterations::Loop;
-use machine::limits::MAX_UNITS;
-use machine::{Alternative, Machine, Opcode, Row};
+use machine_data::limits::MAX_UNITS;
+use machine_data::{Alternative, Machine, Opcode, Row};
 
 /// How many rows use each unit, and the use of the most used unit.
 ///

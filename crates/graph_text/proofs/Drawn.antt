@@ -1,7 +1,7 @@
 -- The edges of a loop's graph are dependences of the loop.
 use Rattle.std.proofs.Common.{◌≡◌, ℕ, ◌<◌, List, length, get_or, sym, ap, ◌∙◌, subst}
 use Rattle.std.specs.List.{All}
-use Rattle.machine.specs.Machines.{MachineData}
+use Rattle.machine_data.specs.Machines.{MachineData}
 use Rattle.iterations.specs.Loops.{LoopData}
 use Rattle.graph.specs.Dependences.{EdgeData, Dependence, latencies_of}
 use Rattle.graph.specs.Graphs.{GraphData, IsGraph, IsGraphOf}

@@ -1,7 +1,7 @@
 -- The text of the dependences of loops.
 use Rattle.std.specs.Prelude.{◌≡◌, ℕ, decimal, codes, List, ◌++◌, slice_index}
 use Rattle.std.specs.Fmt.{signed_decimal}
-use Rattle.machine.specs.Machines.{MachineData}
+use Rattle.machine_data.specs.Machines.{MachineData}
 use Rattle.iterations.specs.Loops.{LoopData}
 use Rattle.graph.specs.Dependences.{EdgeData}
 use Rattle.graph.specs.Graphs.{GraphData}

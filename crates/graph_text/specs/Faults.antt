@@ -1,8 +1,8 @@
 -- What a call answered that needs a table for each opcode of loops.
 use Rattle.std.specs.Prelude.{◌≡◌, ℕ, List, codes, ◌++◌, Option, Some, None, Result, Ok, Err}
-use Rattle.machine.specs.declared.issues.opcode.Opcode.{Opcode}
-use Rattle.machine.specs.Machines.{MachineData}
-use Rattle.machine.specs.Opcodes.{word_of}
+use Rattle.machine_data.specs.declared.opcode.Opcode.{Opcode}
+use Rattle.machine_data.specs.Machines.{MachineData}
+use Rattle.machine_data.specs.Opcodes.{word_of}
 use Rattle.iterations.specs.Loops.{LoopData}
 use Rattle.graph.specs.Units.{first_without_table, lacking_or}
 use Rattle.graph.specs.declared.fault.GraphFault.{GraphFault}

@@ -6,7 +6,7 @@ ghost use Rattle.graph_text.specs.Faults.{fault_of};
 
 use graph::GraphFault;
 use iterations::Loop;
-use machine::{Name, Opcode};
+use machine_data::{Name, Opcode};
 use std::alloc::AllocError;
 use std::fmt;
 use thiserror::Error;

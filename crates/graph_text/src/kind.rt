@@ -5,7 +5,7 @@ ghost use Rattle.graph_text.specs.Kinds.{IsOfKind, IsTimed, kind_word};
 
 use graph::Edge;
 use iterations::Loop;
-use machine::Opcode;
+use machine_data::Opcode;
 
 /// Why an operation depends on another one.
 #[derive(Clone, Copy, Debug, PartialEq, Eq)]

@@ -8,7 +8,7 @@ ghost use Rattle.graph_text.specs.declared.measuring.Measured.{Measured};
 use crate::fault::{TextFault, fault_of};
 use graph::{Edges, edges, rec_mii, res_mii};
 use iterations::Loop;
-use machine::Machine;
+use machine_data::Machine;
 use std::alloc::Global;
 
 /// The lower bounds of a loop's initiation interval, in cycles.

@@ -2,7 +2,7 @@
 
 ghost use Rattle.std.specs.Prelude.{◌≡◌, ◌<◌, ◌++◌, length, OnOk};
 ghost use Rattle.iterations.specs.Loops.{IsPlace};
-ghost use Rattle.loops.specs.Text.{array_name, offset_text, place_word};
+ghost use Rattle.iterations.specs.NamedParts.{array_name, offset_text, place_word};
 ghost use Rattle.graph_text.specs.Names.{op_name, opcode_word};
 
 use crate::lines::{push_both, push_signed};

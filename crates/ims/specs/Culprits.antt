@@ -1,7 +1,7 @@
 -- What keeps an attempt from a schedule.
 use Rattle.std.specs.Prelude.{◌≡◌, ℕ, ◌/◌, ◌<◌, ◌≤◌, is_none, true, List, [], filter, length, Option, Some, None, slice_index}
 use Rattle.std.specs.List.{All, range_with_len, slice_index_or}
-use Rattle.machine.specs.Alternative.{collides}
+use Rattle.machine_data.specs.Alternative.{collides}
 use Rattle.mrt.specs.Placements.{placement_of}
 use Rattle.ims.specs.declared.outcome.attempts.Failure.{Failure}
 use Rattle.ims.specs.declared.outcome.attempts.Failure.TheVariants.{Table, Budget, Stages}

@@ -1,9 +1,9 @@
 -- What is scheduled: a loop, with the dependences between its operations and what a machine offers for each of them.
 use Rattle.std.specs.Prelude.{◌≡◌, ℕ, ◌*◌, ◌≤◌, max, List, length}
 use Rattle.std.specs.List.{All, Contains}
-use Rattle.machine.specs.declared.issues.alternative.Row.{Row}
-use Rattle.machine.specs.Alternative.{AreAlternatives}
-use Rattle.machine.specs.Machines.{MachineData}
+use Rattle.machine_data.specs.declared.alternative.Row.{Row}
+use Rattle.machine_data.specs.Alternative.{AreAlternatives}
+use Rattle.machine_data.specs.Machines.{MachineData}
 use Rattle.iterations.specs.Loops.{LoopData, IsLoop}
 use Rattle.graph.specs.Dependences.{EdgeData, Dependence, latencies_of}
 use Rattle.graph.specs.Graphs.{GraphData, IsGraph}

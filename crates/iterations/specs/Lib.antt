@@ -1,7 +1,8 @@
-pub use Rattle.machine.specs.Opcodes
+pub use Rattle.machine_data.specs.Opcodes
 pub mod Arithmetic
 pub mod Instances
 pub mod Loops
+pub mod NamedParts
 pub mod Names
 pub mod Promises
 pub mod Run

@@ -1,7 +1,7 @@
 -- Which words are names of a loop's parts.
 use Rattle.std.specs.Prelude.{ℕ, ◌==◌, ◌||◌, ◌&&◌, nat_lt, not, Bool, false, codes, List, [], ◌∷◌, is_some}
 use Rattle.std.specs.List.{list_any, list_all}
-use Rattle.machine.specs.Opcodes.{opcode_named, same_word}
+use Rattle.machine_data.specs.Opcodes.{opcode_named, same_word}
 
 abbrev pub is_letter : ℕ → Bool
 is_letter c = (nat_lt 64 c && nat_lt c 91) || (nat_lt 96 c && nat_lt c 123) || (c == 95)

@@ -3,7 +3,7 @@
 ghost use Rattle.std.specs.Prelude.{◌≡◌, if◌then◌else◌};
 ghost use Rattle.iterations.specs.Arithmetic.{apply_to, apply_two, is_zero};
 
-use machine::Opcode;
+use machine_data::Opcode;
 
 /// The value that an opcode gives of its operands: sums, differences and products modulo 2^64, signed
 /// comparisons, and 1 or 0 for `lt`. `sel` gives its second operand where its first isn't 0, and else

@@ -3,7 +3,7 @@
 ghost use Rattle.std.specs.Prelude.{◌≡◌, ◌+◌, ◌-◌, ◌<◌, ◌≤◌, ◌≤ℤ◌, ◌<ℤ◌, ℤ, pos, neg_ℤ, [], length, slice_index_or, slice_set, IfOk};
 ghost use Rattle.iterations.specs.Run.{MemoryData, IsMemory, cell_of, with_cell};
 
-use machine::limits::MAX_SUBSCRIPT;
+use machine_data::limits::MAX_SUBSCRIPT;
 use std::alloc::{AllocError, Global};
 use std::marker::Model;
 

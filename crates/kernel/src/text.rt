@@ -12,7 +12,7 @@ ghost use Rattle.kernel.specs.Text.{with_sign, register_text, address_text, sour
 use crate::kernels::operation::{Address, Operation, Source};
 use crate::kernels::parts::{Kernel, Out, Parts, Preload};
 use itoa::Buffer;
-use machine::{Opcode, OutOfMemory};
+use machine_data::{Opcode, OutOfMemory};
 use std::alloc::Global;
 
 /// The text of a kernel: a line for each preload, each row of a turn and each value that is live at

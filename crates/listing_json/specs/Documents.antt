@@ -5,7 +5,7 @@ use Rattle.serde_json.specs.Data.{Data, null, number, string, array, object, uns
 use Rattle.serde_json.specs.Find.{of_integer}
 use Rattle.serde_json.specs.View.{items_of}
 use Rattle.serde_json.specs.Written.{compact_text}
-use Rattle.machine.specs.Opcodes.{word_of}
+use Rattle.machine_data.specs.Opcodes.{word_of}
 use Rattle.iterations.specs.declared.language.lists.Param.{Param}
 use Rattle.kernel.specs.declared.kernels.operation.Operation.{Operation}
 use Rattle.kernel.specs.declared.kernels.operation.Address.{Address}

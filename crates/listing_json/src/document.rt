@@ -9,7 +9,7 @@ ghost use Rattle.listing_json.specs.Documents.{document_of, document_text, list_
 
 use crate::kernels::told_kernel;
 use candidates::{Choice, Listing, Row};
-use machine::OutOfMemory;
+use machine_data::OutOfMemory;
 use serde_json::{Value, json};
 use std::alloc::Global;
 

@@ -6,7 +6,7 @@ ghost use Rattle.serde_json.specs.View.{view};
 ghost use Rattle.listing_json.specs.Documents.{digits_value, list_value};
 
 use itoa::Buffer;
-use machine::Name;
+use machine_data::Name;
 use serde_json::{ToValue, Value};
 use std::alloc::{AllocError, Global};
 

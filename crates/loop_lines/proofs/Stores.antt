@@ -1,6 +1,6 @@
 -- A `store` by the parts of its line.
 use Rattle.std.proofs.Common.{◌≡◌, ℕ, Bool, true, false, cond, List, [], ◌∷◌, ◌++◌, map, Option, Some, None, option_to_list, refl, sym, codes}
-use Rattle.machine.specs.Opcodes.{same_word}
+use Rattle.machine_data.specs.Opcodes.{same_word}
 use Rattle.loop_lines.specs.Forms as spec
 use Rattle.loop_lines.specs.Forms.{Malformed, place_of, store_line, store_of, use_of, uses_of, with_use}
 use Rattle.loop_lines.specs.Parsed.{guard_of, use_seen}

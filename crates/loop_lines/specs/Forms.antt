@@ -5,9 +5,9 @@ use Rattle.std.specs.Prelude.{ℕ, ℤ, pos, neg_ℤ, ◌-◌, ◌==◌, ◌&&�
 use Rattle.std.specs.List.{list_any, before_first, after_first}
 use Rattle.std.specs.Str.{all_ascii_digits}
 use Rattle.std.specs.Str.Parse.{digits_value}
-use Rattle.machine.specs.declared.issues.opcode.Opcode.{Opcode}
-use Rattle.machine.specs.declared.issues.opcode.Opcode.TheVariants.{Load, Store}
-use Rattle.machine.specs.Opcodes.{opcode_named, same_word}
+use Rattle.machine_data.specs.declared.opcode.Opcode.{Opcode}
+use Rattle.machine_data.specs.declared.opcode.Opcode.TheVariants.{Load, Store}
+use Rattle.machine_data.specs.Opcodes.{opcode_named, same_word}
 use Rattle.iterations.specs.Arithmetic.{operands_of}
 use Rattle.iterations.specs.Names.{is_name}
 

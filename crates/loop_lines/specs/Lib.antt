@@ -1,6 +1,6 @@
 pub use Rattle.iterations.specs.Arithmetic
 pub use Rattle.iterations.specs.Names
-pub use Rattle.machine.specs.Opcodes
+pub use Rattle.machine_data.specs.Opcodes
 pub mod Cells
 pub mod Forms
 pub mod Parsed

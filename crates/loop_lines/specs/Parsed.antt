@@ -1,7 +1,7 @@
 -- The forms that the reader keeps, beside what they stand for.
 use Rattle.std.specs.Prelude.{ℕ, List, [], ◌∷◌, ◌++◌, map, Option, Some, None, option_map, option_to_list, if◌then◌else◌, codes}
 use Rattle.std.specs.Borrow.{Bor}
-use Rattle.machine.specs.Opcodes.{same_word}
+use Rattle.machine_data.specs.Opcodes.{same_word}
 use Rattle.loop_lines.specs.Cells.{cells_seen}
 use Rattle.loop_lines.specs.Forms as spec
 use Rattle.loop_lines.specs.declared.form.Form.{Form}

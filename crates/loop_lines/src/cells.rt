@@ -9,7 +9,7 @@ ghost use Rattle.loop_lines.specs.Words.{words_of};
 use crate::feeds::count_digits;
 use crate::number::{int_of, short_int};
 use crate::words::{after_byte, begins_stop, next_word, without_space};
-use machine::limits::MAX_CELLS;
+use machine_data::limits::MAX_CELLS;
 use std::alloc::{AllocError, Global};
 
 /// The words of an array line behind `=`. They are marked where they are wide, so that the others are

@@ -11,7 +11,7 @@ use crate::name::is_name;
 use crate::number::int_of;
 use crate::operand::{at_of, guard_of, place_of, use_of};
 use crate::words::{is_text, next_word, one_word, three_words, two_words};
-use machine::Opcode;
+use machine_data::Opcode;
 
 /// A use of a statement. Numbers outside their limits are `None`.
 #[derive(Clone, Copy)]

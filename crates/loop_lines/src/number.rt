@@ -6,7 +6,7 @@ ghost use Rattle.std.specs.Str.Parse.{digits_value};
 ghost use Rattle.loop_lines.specs.Forms.{is_number, int_of, small_of, offset_of, subscript_of};
 
 use crate::words::after_byte;
-use machine::limits::{MAX_DISTANCE, MAX_SUBSCRIPT};
+use machine_data::limits::{MAX_DISTANCE, MAX_SUBSCRIPT};
 
 /// One more digit fits behind each number below this.
 const SMALL: u64 = u64::MAX / 10;

@@ -2,7 +2,7 @@
 
 ghost use Rattle.std.specs.Prelude.{◌≡◌, ◌≢◌, ◌==◌, ◌-◌, ◌<◌, ◌&&◌, nat_lt, ℕ, List, [], ◌∷◌, length, take, slice_index, false, true, MatchOption};
 ghost use Rattle.std.specs.List.{before_first, after_first, position_or_len};
-ghost use Rattle.machine.specs.Opcodes.{same_word};
+ghost use Rattle.machine_data.specs.Opcodes.{same_word};
 ghost use Rattle.loop_lines.specs.Words.{is_blank, lines_of, starts_blank, stops_word, words_of};
 ghost use Rattle.loop_lines.specs.inner.Stops.{begins_stop};
 

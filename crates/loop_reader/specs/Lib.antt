@@ -1,7 +1,7 @@
 pub use Rattle.iterations.specs.Loops
 pub use Rattle.loop_lines.specs.Forms
 pub use Rattle.loop_lines.specs.Words
-pub use Rattle.machine.specs.Opcodes
+pub use Rattle.machine_data.specs.Opcodes
 pub mod Faults
 pub mod Meaning
 pub mod inner

@@ -15,8 +15,8 @@ use crate::names::found::{Target, Targets};
 use crate::names::index::{Counts, Index};
 use iterations::{Array, Cells, Initial, Loop, Operand, Operands, Param, Place, Statement};
 use loop_lines::{Form, StatementWords, Subscript, Use, cells_of};
-use machine::Name;
-use machine::limits::MAX_DISTANCE;
+use machine_data::Name;
+use machine_data::limits::MAX_DISTANCE;
 use smallvec::SmallVec;
 use std::alloc::{AllocError, Global};
 

@@ -21,7 +21,7 @@ use crate::names::index::{Declared, Index, index_names};
 use crate::names::known::Names;
 use iterations::Loop;
 use loop_lines::{Form, form_of, next_line};
-use machine::limits::{MAX_LOOPS, MAX_TEXT};
+use machine_data::limits::{MAX_LOOPS, MAX_TEXT};
 use std::alloc::{AllocError, Global};
 
 /// What is kept from block to block.

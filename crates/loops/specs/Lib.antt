@@ -18,5 +18,5 @@ pub use Rattle.loop_reader.specs.Faults
 pub use Rattle.loop_reader.specs.Meaning
 pub use Rattle.loop_reader.specs.declared.fault.LoopFault
 pub use Rattle.loop_reader.specs.declared.fault.LoopFaultKind
-pub use Rattle.machine.specs.Opcodes
+pub use Rattle.machine_data.specs.Opcodes
 pub mod Text

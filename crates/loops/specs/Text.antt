@@ -1,10 +1,9 @@
 -- The canonical text of a loop: a line for each part, words parted by one blank, and a line feed at the end of each line.
-use Rattle.std.specs.Prelude.{ℕ, zero, suc, ℤ, pos, negsuc, List, [], ◌∷◌, ◌++◌, map, codes, Option, Some, None, unwrap_or, slice_get}
+use Rattle.std.specs.Prelude.{ℕ, zero, suc, List, [], ◌∷◌, ◌++◌, map, codes, Option, Some, None}
 use Rattle.std.specs.List.{flat_map}
-use Rattle.std.specs.Option.{option_and_then, option_map}
 use Rattle.std.specs.Fmt.{decimal, signed_decimal}
-use Rattle.machine.specs.declared.issues.opcode.Opcode.{Opcode}
-use Rattle.machine.specs.Opcodes.{word_of}
+use Rattle.machine_data.specs.declared.opcode.Opcode.{Opcode}
+use Rattle.machine_data.specs.Opcodes.{word_of}
 use Rattle.iterations.specs.declared.language.lists.Array.{Array}
 use Rattle.iterations.specs.declared.language.lists.Param.{Param}
 use Rattle.iterations.specs.declared.language.lists.Initial.{Initial}
@@ -13,17 +12,7 @@ use Rattle.iterations.specs.declared.language.statement.Operand.TheVariants.{Con
 use Rattle.iterations.specs.declared.language.statement.Place.{Place}
 use Rattle.iterations.specs.declared.language.statement.Statement.{Statement}
 use Rattle.iterations.specs.Loops.{LoopData}
-
--- names by their numbers
-
-abbrev pub array_name : LoopData → ℕ → List ℕ
-array_name loop number = unwrap_or (option_map (λ (a : Array). a.name) (slice_get loop.arrays number)) []
-
-abbrev pub param_name : LoopData → ℕ → List ℕ
-param_name loop number = unwrap_or (option_map (λ (p : Param). p.name) (slice_get loop.params number)) []
-
-abbrev pub value_name : LoopData → ℕ → List ℕ
-value_name loop number = unwrap_or (option_and_then (λ (s : Statement). s.name) (slice_get loop.statements number)) []
+pub use Rattle.iterations.specs.NamedParts.{array_name, param_name, value_name, offset_text, place_word}
 
 -- words
 
@@ -36,15 +25,6 @@ abbrev pub operand_word : LoopData → Operand → List ℕ
 operand_word loop (Constant value) = signed_decimal value
 operand_word loop (Parameter number) = param_name loop number
 operand_word loop (Value statement distance) = at_distance (value_name loop statement) distance
-
--- what stands behind the `i` of a subscript
-abbrev pub offset_text : ℤ → List ℕ
-offset_text (pos zero) = []
-offset_text (pos (suc n)) = 43 ∷ decimal (suc n)
-offset_text (negsuc n) = 45 ∷ decimal (suc n)
-
-abbrev pub place_word : LoopData → Place → List ℕ
-place_word loop place = array_name loop place.array ++ codes "[i" ++ offset_text place.offset ++ codes "]"
 
 -- lines, by their words
 

@@ -10,8 +10,8 @@ ghost use Rattle.loops.specs.Text.{array_name, param_name, value_name, at_distan
 
 use iterations::{Array, Initial, Loop, Operand, Param, Place, Statement};
 use itoa::Buffer;
-use machine::OutOfMemory;
-use machine::limits::MAX_NAME;
+use machine_data::OutOfMemory;
+use machine_data::limits::MAX_NAME;
 use std::alloc::Global;
 
 /// The one canonical text of a loop: a line for its name, each array, parameter, initial value,

@@ -10,12 +10,12 @@ use Rattle.std.proofs.lemmas.List.Folds.{list_any_at}
 use Rattle.std.proofs.lemmas.List.Quantifiers.{all_pairs_push}
 use Rattle.std.proofs.lemmas.Slice.Eq.{bytes_eq-Decides}
 use Rattle.toml.specs.Data.{Data, string, integer, float, boolean, datetime, array, table, Members, no_members, member, get_member}
-use Rattle.machine.specs.declared.issues.alternative.Row.{Row}
-use Rattle.machine.specs.declared.issues.opcode.Opcode.{Opcode}
-use Rattle.machine.specs.declared.issues.opcode.Opcode.TheVariants.{Load, Store, Add, Sub, Mul, And, Or, Xor, Min, Max, Lt, Sel, Mov}
-use Rattle.machine.specs.Alternative.{IsAlternative, AreAlternatives}
-use Rattle.machine.specs.Machines.{OperationData, IsOperation, UsesUnits, IsUnitName, IsMachine, table_of}
-use Rattle.machine.specs.Opcodes.{same_word, word_of}
+use Rattle.machine_data.specs.declared.alternative.Row.{Row}
+use Rattle.machine_data.specs.declared.opcode.Opcode.{Opcode}
+use Rattle.machine_data.specs.declared.opcode.Opcode.TheVariants.{Load, Store, Add, Sub, Mul, And, Or, Xor, Min, Max, Lt, Sel, Mov}
+use Rattle.machine_data.specs.Alternative.{IsAlternative, AreAlternatives}
+use Rattle.machine_data.specs.Machines.{OperationData, IsOperation, UsesUnits, IsUnitName, IsMachine, table_of}
+use Rattle.machine_data.specs.Opcodes.{same_word, word_of}
 use Rattle.machine.specs.MachineText.{within, text_of, unit_faults, faults_in_turn, faults_of_units, names_of, data_of, faults_of_number, number_in, words_in, row_of, row_in, same_row, faults_of_words, row_faults, alternative_faults, rows_of, faults_of_alternatives, alternatives_of, table_faults, operation_of, entries_of, entry_faults, faults_of_tables, keys_in, tables_of}
 use Rattle.machine.proofs.checks.Faults.{none-parts, unless-passed}
 use Rattle.machine.proofs.texts.Words.{any-not_found}

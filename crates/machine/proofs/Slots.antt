@@ -17,10 +17,10 @@ use Rattle.toml.specs.declared.value.Value.{Value}
 use Rattle.toml.proofs.Views.{Entry}
 use Rattle.machine.specs.declared.fault.MachineFault.{MachineFault}
 use Rattle.machine.specs.declared.fault.MachineFault.TheVariants.{UnknownOpcode}
-use Rattle.machine.specs.declared.issues.opcode.Opcode.{Opcode}
-use Rattle.machine.specs.declared.issues.opcode.Opcode.TheVariants.{Load, Store, Add, Sub, Mul, And, Or, Xor, Min, Max, Lt, Sel, Mov}
-use Rattle.machine.specs.Machines.{OperationData}
-use Rattle.machine.specs.Opcodes.{word_of, opcode_number, all_opcodes, same_word, opcode_named}
+use Rattle.machine_data.specs.declared.opcode.Opcode.{Opcode}
+use Rattle.machine_data.specs.declared.opcode.Opcode.TheVariants.{Load, Store, Add, Sub, Mul, And, Or, Xor, Min, Max, Lt, Sel, Mov}
+use Rattle.machine_data.specs.Machines.{OperationData}
+use Rattle.machine_data.specs.Opcodes.{word_of, opcode_number, all_opcodes, same_word, opcode_named}
 use Rattle.machine.specs.inner.Reads.{first_fault}
 use Rattle.machine.specs.MachineText.{operation_of, entries_of, entry_faults, table_faults, keys_in, tables_of}
 use Rattle.machine.proofs.checks.Faults.{first-append}

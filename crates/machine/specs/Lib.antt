@@ -1,7 +1,9 @@
-pub mod Alternative
+pub use Rattle.machine_data.specs.Alternative
+pub use Rattle.machine_data.specs.Machines
+pub use Rattle.machine_data.specs.Opcodes
+pub use Rattle.machine_data.specs.declared.alternative.Row
+pub use Rattle.machine_data.specs.declared.opcode.Opcode
 pub mod MachineAnswer
 pub mod Faults
-pub mod Machines
 pub mod MachineText
-pub mod Opcodes
 pub mod inner

@@ -2,15 +2,15 @@
 
 ghost use Rattle.std.specs.Prelude.{◌≡◌, map, option_map};
 ghost use Rattle.std.specs.List.{list_any};
-ghost use Rattle.machine.specs.Opcodes.{same_word};
+ghost use Rattle.machine_data.specs.Opcodes.{same_word};
 ghost use Rattle.toml.specs.View.{view, table_view};
 ghost use Rattle.machine.specs.MachineAnswer.{MachineAnswer};
 ghost use Rattle.machine.specs.inner.Reads.{ReadsPart};
 ghost use Rattle.machine.specs.MachineText.{within, unknown_keys, faults_of_number, number_in, tree_faults, tree_machine, machine_of};
 
 use crate::fault::{Key, MachineFault};
-use crate::limits::{MAX_REGISTERS, MAX_TEXT};
-use crate::processor::Machine;
+use machine_data::Machine;
+use machine_data::limits::{MAX_REGISTERS, MAX_TEXT};
 use path::Path;
 use std::alloc::Global;
 use tables::read_tables;

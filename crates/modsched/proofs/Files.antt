@@ -2,7 +2,7 @@
 use Rattle.std.proofs.Common.{◌≡◌, ℕ, List, Option, arith, refl, sym, subst}
 use Rattle.std.specs.Prelude.{Bool, Some, None, Result, Ok, Err, IsErrAnd}
 use Rattle.machine.specs.Machines.{MachineData}
-use Rattle.machine.specs.declared.issues.opcode.Opcode.{Opcode}
+use Rattle.machine.specs.Opcode.{Opcode}
 use Rattle.loops.specs.Loops.{LoopData}
 use Rattle.graph.specs.Units.{first_lacking}
 use Rattle.workers.specs.Files.{AnswersFile, AnswersIn, AnswersOn}

@@ -5,7 +5,7 @@ use Rattle.machine.specs.MachineAnswer.{MachineAnswer}
 use Rattle.machine.specs.Machines.{MachineData}
 use Rattle.machine.specs.declared.fault.MachineFault.{MachineFault}
 use Rattle.machine.specs.declared.fault.MachineFault.TheVariants as machine_fault
-use Rattle.machine.specs.declared.issues.opcode.Opcode.{Opcode}
+use Rattle.machine.specs.Opcode.{Opcode}
 use Rattle.loops.specs.Loops.{LoopData}
 use Rattle.loops.specs.Meaning as loops_meaning
 use Rattle.loops.specs.LoopFault.{LoopFault}

@@ -1,7 +1,7 @@
 -- What subcommands do with their texts, and the line that the outputs of `bounds` and `plain` end with.
 use Rattle.std.specs.Prelude.{◌≡◌, ℕ, Bool, decimal, codes, List, ◌++◌, Option, Some, None, Result, Ok, Err}
 use Rattle.machine.specs.declared.fault.MachineFault.{MachineFault}
-use Rattle.machine.specs.declared.issues.opcode.Opcode.{Opcode}
+use Rattle.machine.specs.Opcode.{Opcode}
 use Rattle.machine.specs.Machines.{MachineData}
 use Rattle.loops.specs.LoopFault.{LoopFault}
 use Rattle.loops.specs.Loops.{LoopData}

@@ -1,3 +1,3 @@
-pub use Rattle.machine.specs.Alternative
+pub use Rattle.machine_data.specs.Alternative
 pub mod Placements
 pub mod inner

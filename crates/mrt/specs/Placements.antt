@@ -5,8 +5,8 @@
 use Rattle.std.specs.Prelude.{◌≡◌, ℕ, ◌+◌, ◌<◌, ◌≤◌, true, false, List, [], length, Option, Some, MatchOption, slice_get}
 use Rattle.std.specs.Option.{option_flatten}
 use Rattle.std.specs.List.{slice_index_or}
-use Rattle.machine.specs.declared.issues.alternative.Row.{Row}
-use Rattle.machine.specs.Alternative.{collides, rows_meet, alternatives_meet}
+use Rattle.machine_data.specs.declared.alternative.Row.{Row}
+use Rattle.machine_data.specs.Alternative.{collides, rows_meet, alternatives_meet}
 
 -- when an operation is issued, in cycles, and by which of its alternatives, by its number
 pub record Placement : Type 0 where

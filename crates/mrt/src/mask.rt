@@ -13,8 +13,8 @@ use crate::rosters::slot::Slot;
 use crate::table::ModuloTable;
 use crate::words::rounds::{first_off, mark_rounds};
 use crate::words::times::{LEAST, first_unheld, is_set, mark_times, words_at};
-use machine::limits::MAX_UNITS;
-use machine::{Alternatives, OutOfMemory};
+use machine_data::limits::MAX_UNITS;
+use machine_data::{Alternatives, OutOfMemory};
 use std::alloc::Global;
 use std::marker::Model;
 

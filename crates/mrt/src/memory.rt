@@ -2,7 +2,7 @@
 
 ghost use Rattle.std.specs.Prelude.{◌≡◌, replicate, IfOk};
 
-use machine::OutOfMemory;
+use machine_data::OutOfMemory;
 
 /// Makes a list one of so many copies of a value, whatever it held. It takes memory only where the list has
 /// too little.

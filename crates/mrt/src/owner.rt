@@ -2,7 +2,7 @@
 
 ghost use Rattle.std.specs.Prelude.{◌≡◌, ◌↔◌, ◌+◌, ◌*◌, ◌%◌, ◌<◌, ◌≤◌, ℕ, length, Some, None, IsTrue, if◌then◌else◌};
 ghost use Rattle.std.specs.List.{All};
-ghost use Rattle.machine.specs.Alternative.{residue_of};
+ghost use Rattle.machine_data.specs.Alternative.{residue_of};
 ghost use Rattle.mrt.specs.Placements.{alternatives_of, IsFree};
 ghost use Rattle.mrt.specs.inner.Slots.{IsSlot, rows_in, takes, meets_held};
 ghost use Rattle.mrt.specs.inner.OwnerTables.{owner_at, is_owned};
@@ -11,7 +11,7 @@ use crate::memory::refill;
 use crate::rosters::roster::{Issue, Roster};
 use crate::rosters::slot::Slot;
 use crate::table::ModuloTable;
-use machine::{Alternatives, OutOfMemory};
+use machine_data::{Alternatives, OutOfMemory};
 use std::alloc::Global;
 use std::marker::Model;
 

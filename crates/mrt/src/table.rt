@@ -1,10 +1,10 @@
 //! What a modulo reservation table does, however it is kept.
 
 ghost use Rattle.std.specs.Prelude.{◌≡◌, ◌+◌, ◌^◌, ◌<◌, ◌≤◌, ℕ, length, replicate, Some, None, IsSome, IfOk, slice_set, slice_get};
-ghost use Rattle.machine.specs.declared.issues.alternative.Row.{Row};
+ghost use Rattle.machine_data.specs.declared.alternative.Row.{Row};
 ghost use Rattle.mrt.specs.Placements.{OperationAlternatives, Placements, placement_of, alternatives_of, rows_of, IsFree, IsFirstFree, IsFirstSlot, IsHolder};
 
-use machine::{Alternatives, OutOfMemory};
+use machine_data::{Alternatives, OutOfMemory};
 use std::alloc::Global;
 
 /// A modulo reservation table for some operations at one initiation interval. Contracts see the set

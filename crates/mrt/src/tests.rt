@@ -1,12 +1,12 @@
 //! The worked table on both bodies, and the two bodies side by side.
 
 ghost use Rattle.std.specs.Prelude.{◌≡◌, ◌+◌, ◌^◌, ◌<◌, ◌≤◌, ◌∷◌, [], ℕ, length, slice_index_or, replicate, None, IfOk, vec_len};
-ghost use Rattle.machine.specs.Alternative.{IsAlternative};
+ghost use Rattle.machine_data.specs.Alternative.{IsAlternative};
 ghost use Rattle.mrt.specs.Placements.{placement_of};
 ghost use Rattle.mrt.specs.inner.Turns.{Tells};
 
 use crate::{MaskTable, ModuloTable, OwnerTable};
-use machine::{Alternative, Alternatives, OutOfMemory, Row};
+use machine_data::{Alternative, Alternatives, OutOfMemory, Row};
 use smallvec::SmallVec;
 use std::alloc::Global;
 use std::process::Abort;

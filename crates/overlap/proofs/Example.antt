@@ -1,7 +1,7 @@
 -- The definitions on a loop that was worked by hand.
 use Rattle.std.proofs.Common.{◌≡◌, ℕ, List, [], ◌∷◌, Some, None, pos, negsuc, refl}
 use Rattle.std.specs.Prelude.{codes}
-use Rattle.machine.specs.declared.issues.opcode.Opcode.TheVariants.{Load, Store, Add}
+use Rattle.machine_data.specs.declared.opcode.Opcode.TheVariants.{Load, Store, Add}
 use Rattle.iterations.specs.declared.language.statement.Operand.TheVariants.{Value}
 use Rattle.iterations.specs.Loops.{LoopData}
 use Rattle.kernel.specs.declared.kernels.operation.Source.TheVariants.{Register}

@@ -1,6 +1,6 @@
 -- A kernel that overlaps the iterations of a loop does what the loop does one iteration after another: the passes, and the law.
 use Rattle.std.specs.Prelude.{◌≡◌, ◌↔◌, ◌⊎◌, ℕ, pos, ◌+◌, ◌-◌, ◌*◌, ◌<◌, ◌≤◌, ◌+ℤ◌, ◌-ℤ◌, true, List, map, Some, None, slice_get}
-use Rattle.machine.specs.declared.issues.opcode.Opcode.TheVariants.{Load}
+use Rattle.machine_data.specs.declared.opcode.Opcode.TheVariants.{Load}
 use Rattle.iterations.specs.declared.language.statement.Operand.TheVariants.{Value}
 use Rattle.iterations.specs.declared.language.statement.Place.{Place}
 use Rattle.iterations.specs.declared.language.statement.Statement.{Statement}

@@ -1,5 +1,5 @@
 pub use Rattle.iterations.specs.Loops
-pub use Rattle.machine.specs.Machines
+pub use Rattle.machine_data.specs.Machines
 pub use Rattle.overlap.specs.Lifetimes
 pub use Rattle.overlap.specs.Allotments
 pub use Rattle.overlap.specs.Emission

@@ -6,7 +6,7 @@ use Rattle.std.proofs.lemmas.Bool.{cases_Bool, cond-true, cond-false}
 use Rattle.std.proofs.lemmas.List.{length-map}
 use Rattle.std.proofs.lemmas.List.FromFn.{get_or-map-range_with_len, get_or-range_with_len, length-range_with_len, length-map-range_with_len}
 use Rattle.std.proofs.lemmas.List.Elements.{All-filter, All-map}
-use Rattle.machine.specs.Machines.{MachineData}
+use Rattle.machine_data.specs.Machines.{MachineData}
 use Rattle.ims.specs.Schedules.{ScheduleData}
 use Rattle.schedule_lines.specs.declared.grids.columns.Column.{Column}
 use Rattle.schedule_lines.specs.declared.grids.grid.Grid.{Grid}

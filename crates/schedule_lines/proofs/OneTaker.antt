@@ -4,8 +4,8 @@ use Rattle.std.specs.Prelude.{◌&&◌}
 use Rattle.std.proofs.lemmas.Bool.{eqb-true, eq-eqb}
 use Rattle.std.proofs.lemmas.List.{get_or_default}
 use Rattle.std.proofs.lemmas.List.Folds.{Any-from_list_any}
-use Rattle.machine.specs.declared.issues.alternative.Row.{Row}
-use Rattle.machine.specs.Alternative.{residue_of, rows_meet}
+use Rattle.machine_data.specs.declared.alternative.Row.{Row}
+use Rattle.machine_data.specs.Alternative.{residue_of, rows_meet}
 use Rattle.mrt.specs.inner.Slots.{takes}
 use Rattle.schedule_lines.specs.Slots.{SlotsHaveOneTaker, rows_at}
 

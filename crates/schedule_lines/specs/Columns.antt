@@ -1,7 +1,7 @@
 -- The grid of a schedule: its columns, their widths, and its lines.
 use Rattle.std.specs.Prelude.{ℕ, ◌-◌, ◌==◌, ◌&&◌, nat_lt, if◌then◌else◌, codes, decimal, List, [], ◌∷◌, ◌++◌, length, filter, map, replicate}
 use Rattle.std.specs.List.{flat_map, range_with_len, slice_index_or}
-use Rattle.machine.specs.Machines.{MachineData}
+use Rattle.machine_data.specs.Machines.{MachineData}
 use Rattle.graph.specs.Units.{greatest_of}
 use Rattle.ims.specs.Schedules.{ScheduleData}
 use Rattle.schedule_lines.specs.Slots.{greatest_live, is_used, live_count, live_counts, rows_in, slot_text}

@@ -1,7 +1,7 @@
 -- The text of a schedule.
 use Rattle.std.specs.Prelude.{ℕ, zero, suc, ◌-◌, codes, List, [], ◌++◌, length, slice_index}
 use Rattle.std.specs.List.{flat_map, range_with_len, slice_index_or}
-use Rattle.machine.specs.Machines.{MachineData}
+use Rattle.machine_data.specs.Machines.{MachineData}
 use Rattle.iterations.specs.Loops.{LoopData}
 use Rattle.graph_text.specs.Names.{op_name}
 use Rattle.graph_text.specs.Texts.{told}

@@ -1,7 +1,7 @@
 -- What stands in the slots of the modulo reservation table of a schedule, and how many registers are live in each row.
 use Rattle.std.specs.Prelude.{◌≡◌, ℕ, ◌<◌, Bool, true, List, codes, ◌++◌, length, filter, map, Option, Some, None, is_some, slice_get, slice_index}
 use Rattle.std.specs.List.{list_any, range_with_len}
-use Rattle.machine.specs.declared.issues.alternative.Row.{Row}
+use Rattle.machine_data.specs.declared.alternative.Row.{Row}
 use Rattle.graph.specs.Units.{greatest_of}
 use Rattle.graph_text.specs.Names.{op_name}
 use Rattle.graph_text.specs.Texts.{told}

@@ -6,8 +6,6 @@ mod laws;
 mod schedule;
 mod slots;
 mod takers;
-#[cfg(test)]
-mod tests;
 mod values;
 
 pub use laws::slots_have_one_taker;

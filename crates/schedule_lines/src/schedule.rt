@@ -8,7 +8,7 @@ use crate::grids::grid::{grid_of, push_grid};
 use crate::values::push_values;
 use graph_text::push_told;
 use ims::Schedule;
-use machine::{Machine, OutOfMemory};
+use machine_data::{Machine, OutOfMemory};
 use rotating::{Allotment, lifetimes};
 use std::alloc::{AllocError, Global};
 

@@ -8,8 +8,8 @@ ghost use Rattle.schedule_lines.specs.inner.Tables.{AreSlots, labels_of, taker_i
 use crate::takers::takers_of;
 use graph_text::{push_name, push_told};
 use ims::Schedule;
-use machine::OutOfMemory;
-use machine::limits::MAX_UNITS;
+use machine_data::OutOfMemory;
+use machine_data::limits::MAX_UNITS;
 use std::alloc::Global;
 
 /// The text in each slot. Texts are made once for each operation, not for each slot.

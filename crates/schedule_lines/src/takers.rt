@@ -7,8 +7,8 @@ ghost use Rattle.schedule_lines.specs.Slots.{rows_at};
 ghost use Rattle.schedule_lines.specs.inner.Tables.{AreTakersFrom, taker_in};
 
 use ims::Schedule;
-use machine::limits::MAX_UNITS;
-use machine::{OutOfMemory, Row};
+use machine_data::limits::MAX_UNITS;
+use machine_data::{OutOfMemory, Row};
 use std::alloc::Global;
 
 /// The reservation table by which an operation is issued.

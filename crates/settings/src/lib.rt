@@ -4,7 +4,7 @@
 ghost use Rattle.std.specs.Prelude.{◌≡◌, ◌↔◌, IsOk, IfOk, IfErr};
 ghost use Rattle.settings.specs.Settings.{AreSettings, IsOutside};
 
-use machine::limits::{MAX_CEILING, MAX_CUT, MAX_RATIO, MAX_WORKERS};
+use machine_data::limits::{MAX_CEILING, MAX_CUT, MAX_RATIO, MAX_WORKERS};
 use std::fmt;
 use std::marker::Model;
 use thiserror::Error;

@@ -1,7 +1,7 @@
 -- The best alternative of those tried so far.
 use Rattle.std.proofs.Common.{◌≡◌, ℕ, ◌+◌, ◌<◌, ◌≤◌, List, [], ◌++◌, length, get_or, ap, inl, inr, arith}
 use Rattle.std.proofs.lemmas.Bool.{cases_lt}
-use Rattle.machine.specs.declared.issues.alternative.Row.{Row}
+use Rattle.machine_data.specs.declared.alternative.Row.{Row}
 use Rattle.graph.specs.Units.{greatest_use}
 use Rattle.graph.specs.Uses.{Tallies}
 use Rattle.unit_uses.specs.inner.Tallies.{TakesChoice}

@@ -5,8 +5,8 @@ use Rattle.std.proofs.lemmas.List.{length-append}
 use Rattle.std.proofs.lemmas.List.Elements.{All-head, All-tail}
 use Rattle.std.proofs.lemmas.List.Sums.{sum_by-cons}
 use Rattle.std.proofs.lemmas.Bool.{eq-eqb, ne_eqb, cases_eq, cases_lt, cases_order, le-leb, lt-leb}
-use Rattle.machine.specs.declared.issues.alternative.Row.{Row}
-use Rattle.machine.specs.Alternative.{AreAlternatives}
+use Rattle.machine_data.specs.declared.alternative.Row.{Row}
+use Rattle.machine_data.specs.Alternative.{AreAlternatives}
 use Rattle.graph.specs.Units.{by_freedom, chosen_rows, greatest_of, greatest_use, use_of, IsUnitBound}
 use Rattle.graph.proofs.unit_bound.Passes.{passes, passes_all}
 use Rattle.graph.proofs.unit_bound.Tally.{use_of-append}

@@ -1,8 +1,8 @@
 -- The rows that an operation takes.
 use Rattle.std.proofs.Common.{◌≡◌, ℕ, ◌<◌, List, [], length, get_or, sym, ap, ◌∙◌}
 use Rattle.std.proofs.lemmas.List.{get_or_default}
-use Rattle.machine.specs.declared.issues.alternative.Row.{Row}
-use Rattle.machine.specs.Machines.{MachineData, table_of}
+use Rattle.machine_data.specs.declared.alternative.Row.{Row}
+use Rattle.machine_data.specs.Machines.{MachineData, table_of}
 use Rattle.iterations.specs.declared.language.statement.Statement.{Statement}
 use Rattle.iterations.specs.Loops.{LoopData}
 use Rattle.graph.specs.Units.{alternatives_in, operations_of}

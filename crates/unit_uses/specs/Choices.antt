@@ -1,8 +1,8 @@
 -- The alternatives that the resource-constrained lower bound takes, in text order, and the rows that they use.
 use Rattle.std.specs.Prelude.{◌≡◌, ℕ, ◌==◌, List, [], ◌∷◌, length, map, filter, None}
 use Rattle.std.specs.List.{flat_map, slice_index, slice_index_or, zip}
-use Rattle.machine.specs.declared.issues.alternative.Row.{Row}
-use Rattle.machine.specs.Machines.{MachineData, IsMachine}
+use Rattle.machine_data.specs.declared.alternative.Row.{Row}
+use Rattle.machine_data.specs.Machines.{MachineData, IsMachine}
 use Rattle.iterations.specs.Loops.{LoopData}
 use Rattle.graph.specs.Units.{AreBest, IsUnitBound, by_freedom, chosen_rows, first_without_table, greatest_use, operations_of}
 

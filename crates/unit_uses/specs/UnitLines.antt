@@ -1,7 +1,7 @@
 -- The lines of the units of a machine that a loop uses.
 use Rattle.std.specs.Prelude.{ℕ, zero, suc, ◌==◌, Bool, if◌then◌else◌, codes, List, [], ◌++◌, length}
 use Rattle.std.specs.List.{flat_map, range_with_len, slice_index_or}
-use Rattle.machine.specs.Machines.{MachineData}
+use Rattle.machine_data.specs.Machines.{MachineData}
 use Rattle.iterations.specs.Loops.{LoopData}
 use Rattle.graph.specs.Units.{chosen_rows, greatest_use, operations_of, use_of}
 use Rattle.graph_text.specs.Names.{op_name}

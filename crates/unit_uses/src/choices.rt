@@ -2,7 +2,7 @@
 
 ghost use Rattle.std.specs.Prelude.{◌≡◌, ◌≢◌, ℕ, ◌*◌, ◌-◌, ◌<◌, ◌≤◌, ◌==◌, ◌++◌, List, Vec, length, filter, IfOk};
 ghost use Rattle.std.specs.Global.{Global};
-ghost use Rattle.machine.specs.declared.issues.alternative.Row.{Row};
+ghost use Rattle.machine_data.specs.declared.alternative.Row.{Row};
 ghost use Rattle.graph.specs.TablesAnswer.{TablesAnswer};
 ghost use Rattle.graph.specs.Units.{first_without_table, operations_of};
 ghost use Rattle.graph.specs.Uses.{AtMost};
@@ -12,8 +12,8 @@ ghost use Rattle.unit_uses.specs.inner.Tallies.{HasChosen};
 use crate::tally::Tally;
 use graph::{GraphFault, missing_table};
 use iterations::Loop;
-use machine::Machine;
-use machine::limits::MAX_ALTERNATIVES;
+use machine_data::Machine;
+use machine_data::limits::MAX_ALTERNATIVES;
 use std::alloc::Global;
 
 /// Makes the choices of all operations that have so many alternatives, in text order, behind the rows that

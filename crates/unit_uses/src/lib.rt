@@ -4,8 +4,6 @@
 mod choices;
 mod laws;
 mod tally;
-#[cfg(test)]
-mod tests;
 mod unit_lines;
 
 pub use choices::unit_choices;

@@ -2,13 +2,13 @@
 
 ghost use Rattle.std.specs.Prelude.{ℕ, ◌+◌, ◌<◌, ◌≤◌, ◌++◌, List, [], length};
 ghost use Rattle.std.specs.List.{All};
-ghost use Rattle.machine.specs.declared.issues.alternative.Row.{Row};
-ghost use Rattle.machine.specs.Alternative.{AreAlternatives};
+ghost use Rattle.machine_data.specs.declared.alternative.Row.{Row};
+ghost use Rattle.machine_data.specs.Alternative.{AreAlternatives};
 ghost use Rattle.graph.specs.Uses.{AtMost, Tallies};
 ghost use Rattle.unit_uses.specs.inner.Tallies.{TakesChoice};
 
-use machine::limits::MAX_UNITS;
-use machine::{Alternative, Row};
+use machine_data::limits::MAX_UNITS;
+use machine_data::{Alternative, Row};
 
 /// How many rows use each unit, and the use of the most used unit.
 ///

@@ -10,7 +10,7 @@ ghost use Rattle.unit_uses.specs.UnitLines.{line_with, unit_lines_of, user_text,
 use crate::tally::Tally;
 use graph_text::{push_both, push_name, push_told};
 use iterations::Loop;
-use machine::{Machine, Row};
+use machine_data::{Machine, Row};
 use std::alloc::AllocError;
 
 /// The rows of the alternative of this place that the operation of this number takes, none where there is no

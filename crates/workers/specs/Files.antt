@@ -4,7 +4,7 @@ use Rattle.std.specs.declared.alloc.Global.{Global}
 use Rattle.std.specs.List.{All, AllZip}
 use Rattle.machine.specs.declared.fault.MachineFault.{MachineFault}
 use Rattle.machine.specs.declared.fault.MachineFault.TheVariants as machine_fault
-use Rattle.machine.specs.declared.issues.opcode.Opcode.{Opcode}
+use Rattle.machine.specs.Opcode.{Opcode}
 use Rattle.machine.specs.Faults.{machine_fault_text}
 use Rattle.machine.specs.Machines.{MachineData}
 use Rattle.machine.specs.Opcodes.{word_of}

@@ -10,7 +10,7 @@ use crate::intervals::reasons::Reason;
 use graph_text::{push_name, push_told};
 use ims::{Culprit, Prepared};
 use iterations::Loop;
-use machine::limits::MAX_STATEMENTS;
+use machine_data::limits::MAX_STATEMENTS;
 use rotating::Lifetime;
 use std::alloc::AllocError;
 

@@ -9,7 +9,7 @@ ghost use Rattle.explain.specs.Reasons.{IsReason, LacksFor, cause_of};
 
 use candidates::Cause;
 use ims::{Culprit, Prepared, Try, attempt, culprit};
-use machine::OutOfMemory;
+use machine_data::OutOfMemory;
 use mrt::MaskTable;
 use rotating::{Lifetime, first_without_number};
 use std::alloc::Global;

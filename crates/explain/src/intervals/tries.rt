@@ -10,7 +10,7 @@ use crate::intervals::reasons::{Reason, reason_of};
 use candidates::{Cause, Choice, Outcome, try_interval};
 use graph_text::{push_both, push_told};
 use ims::Prepared;
-use machine::OutOfMemory;
+use machine_data::OutOfMemory;
 use std::alloc::Global;
 
 /// Appends the line of an interval, in cycles, that gives no kernel, with the cause and what is behind it.

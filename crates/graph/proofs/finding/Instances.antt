@@ -3,8 +3,8 @@ use Rattle.std.proofs.Common.{◌≡◌, ℕ, ◌+◌, ◌<◌, pos, ◌+ℤ◌,
 use Rattle.std.proofs.lemmas.Int.{ints}
 use Rattle.std.proofs.lemmas.Bool.{cases_eq}
 use Rattle.std.specs.List.{slice_index}
-use Rattle.machine.specs.declared.issues.opcode.Opcode.{Opcode}
-use Rattle.machine.specs.declared.issues.opcode.Opcode.TheVariants.{Load, Store}
+use Rattle.machine_data.specs.declared.opcode.Opcode.{Opcode}
+use Rattle.machine_data.specs.declared.opcode.Opcode.TheVariants.{Load, Store}
 use Rattle.iterations.specs.Loops.{LoopData}
 use Rattle.iterations.specs.declared.language.statement.Statement.{Statement}
 use Rattle.iterations.specs.declared.language.statement.Place.{Place}

@@ -3,8 +3,8 @@ use Rattle.std.proofs.Common.{◌≡◌, ℕ, ◌+◌, ◌<◌, Bool, cond, List
 use Rattle.std.proofs.lemmas.List.{drop_more, take_more, get_or-map, length-map}
 use Rattle.std.specs.List.{find}
 use Rattle.std.specs.Option.{is_none}
-use Rattle.machine.specs.declared.issues.opcode.Opcode.{Opcode}
-use Rattle.machine.specs.Machines.{MachineData, OperationData, table_of}
+use Rattle.machine_data.specs.declared.opcode.Opcode.{Opcode}
+use Rattle.machine_data.specs.Machines.{MachineData, OperationData, table_of}
 use Rattle.iterations.specs.declared.language.statement.Statement.{Statement}
 use Rattle.iterations.specs.Loops.{LoopData}
 use Rattle.graph.specs.TablesAnswer.{TablesAnswer}

@@ -7,8 +7,8 @@ use Rattle.std.proofs.lemmas.Map.Keys.{IsDistinct-cons}
 use Rattle.std.proofs.lemmas.Map.Steps.{length-le_from_distinct_below}
 use Rattle.std.proofs.Math.Nat.{mod-lt}
 use Rattle.std.specs.List.{slice_index, list_any, flat_map, IsDistinct, AllByRecursion}
-use Rattle.machine.specs.declared.issues.alternative.Row.{Row}
-use Rattle.machine.specs.Alternative.{residue_of, rows_meet}
+use Rattle.machine_data.specs.declared.alternative.Row.{Row}
+use Rattle.machine_data.specs.Alternative.{residue_of, rows_meet}
 use Rattle.graph.specs.Units.{use_of}
 
 -- the residues of the rows of a unit, of an operation issued at a time, and behind them others

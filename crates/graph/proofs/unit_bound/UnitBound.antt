@@ -6,10 +6,10 @@ use Rattle.std.proofs.lemmas.List.Sums.{sum_by-cons, count_by-le-length}
 use Rattle.std.proofs.lemmas.Bool.{eq-eqb}
 use Rattle.std.specs.List.{slice_index, flat_map, find, All}
 use Rattle.std.specs.Option.{is_none}
-use Rattle.machine.specs.declared.issues.alternative.Row.{Row}
-use Rattle.machine.specs.declared.issues.opcode.Opcode.{Opcode}
-use Rattle.machine.specs.Alternative.{AreAlternatives, rows_meet}
-use Rattle.machine.specs.Machines.{MachineData, OperationData, IsMachine, table_of}
+use Rattle.machine_data.specs.declared.alternative.Row.{Row}
+use Rattle.machine_data.specs.declared.opcode.Opcode.{Opcode}
+use Rattle.machine_data.specs.Alternative.{AreAlternatives, rows_meet}
+use Rattle.machine_data.specs.Machines.{MachineData, OperationData, IsMachine, table_of}
 use Rattle.iterations.specs.Loops.{LoopData}
 use Rattle.graph.specs.Units.{use_of, greatest_of, greatest_use, AreBest, chosen_rows, by_freedom, IsUnitBound, operations_of, opcodes_of, alternatives_in, first_without_table}
 use Rattle.graph.specs.Schedules.{IsPlan, KeepsUnits, issued_rows}

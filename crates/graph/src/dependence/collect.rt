@@ -9,8 +9,8 @@ ghost use Rattle.graph.specs.inner.SameArrays.{AreLinked};
 
 use crate::dependence::edge::Edge;
 use iterations::{Operand, Statement};
-use machine::Opcode;
-use machine::limits::MAX_STATEMENTS;
+use machine_data::Opcode;
+use machine_data::limits::MAX_STATEMENTS;
 use std::alloc::{AllocError, Global};
 
 /// The delay of a dependence through memory, of the operation with the second opcode on the one with

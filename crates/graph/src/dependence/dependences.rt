@@ -16,7 +16,7 @@ use crate::layout::graph::Edges;
 use crate::layout::groups::by_end;
 use crate::layout::starts::End;
 use iterations::Loop;
-use machine::Machine;
+use machine_data::Machine;
 use std::alloc::{AllocError, Global};
 
 /// The latency of each operation of a loop.

@@ -6,7 +6,7 @@ ghost use Rattle.graph.specs.Walks.{FitsCircuits, IsHeight};
 
 use crate::layout::graph::Edges;
 use crate::paths::relaxation::{Relaxed, relax};
-use machine::limits::MAX_STATEMENTS;
+use machine_data::limits::MAX_STATEMENTS;
 use std::alloc::{AllocError, Global};
 
 /// The height of each operation at an interval, in cycles, 1 to 64 for each operation: HeightR of

@@ -7,7 +7,7 @@ ghost use Rattle.graph.specs.Rounds.{TellsFeasible};
 
 use crate::layout::graph::Edges;
 use crate::paths::relaxation::{Relaxed, longer_interval, relax};
-use machine::limits::MAX_STATEMENTS;
+use machine_data::limits::MAX_STATEMENTS;
 use std::alloc::{AllocError, Global};
 
 /// Whether an interval, in cycles, is at or above the recurrence-constrained lower bound: whether no

@@ -11,7 +11,7 @@ ghost use Rattle.graph.specs.inner.Sweeps.{KeepsBack, KeepsOnward};
 
 use crate::dependence::edge::Edge;
 use crate::layout::graph::Edges;
-use machine::limits::MAX_STATEMENTS;
+use machine_data::limits::MAX_STATEMENTS;
 
 /// What an operation's number comes to by the edges from it.
 #[derive(Clone, Copy)]

@@ -8,7 +8,7 @@ ghost use Rattle.graph.specs.Reaches.{IsRaised};
 
 use crate::layout::graph::Edges;
 use crate::paths::relaxation::{Relaxed, raised, relax, set_first};
-use machine::limits::MAX_STATEMENTS;
+use machine_data::limits::MAX_STATEMENTS;
 use std::alloc::{AllocError, Global};
 
 /// Raises the number of each operation into the next row. The last operation whose number rises, if any.

@@ -2,7 +2,7 @@
 
 ghost use Rattle.std.specs.Prelude.{◌≡◌, ◌<◌, ◌++◌, ◌↔◌, ℕ, List, length, IsTrue, OnOk};
 ghost use Rattle.std.specs.List.{Contains, flat_map};
-ghost use Rattle.machine.specs.Machines.{MachineData};
+ghost use Rattle.machine_data.specs.Machines.{MachineData};
 ghost use Rattle.graph.specs.Graphs.{IsGraphOf};
 ghost use Rattle.graph_text.specs.Dot.{IsDotText, IsStroke, arrow_line, at_text, graph_head, node_line, style_text};
 ghost use Rattle.graph_text.specs.Texts.{AreTexts, numbers_of};

@@ -13,7 +13,7 @@ use crate::measuring::measure;
 use circuits::circuit_above;
 use graph::{Edge, Edges};
 use iterations::Loop;
-use machine::Machine;
+use machine_data::Machine;
 use std::alloc::{AllocError, Global};
 
 /// A guess of how many bytes the graph of a loop takes, for the first reservation.

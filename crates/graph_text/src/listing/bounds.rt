@@ -11,7 +11,7 @@ use crate::lines::{push_both, push_told};
 use crate::measuring::{LowerBounds, measure};
 use graph::mii;
 use iterations::Loop;
-use machine::Machine;
+use machine_data::Machine;
 use std::alloc::{AllocError, Global};
 
 /// A guess of how many bytes a line takes, for the first reservation.

@@ -2,7 +2,7 @@
 
 ghost use Rattle.std.specs.Prelude.{◌≡◌, ◌≤◌, ◌<◌, ◌++◌, ℕ, List, Vec, length, OnOk};
 ghost use Rattle.std.specs.Global.{Global};
-ghost use Rattle.machine.specs.Machines.{MachineData};
+ghost use Rattle.machine_data.specs.Machines.{MachineData};
 ghost use Rattle.graph.specs.Graphs.{IsGraphOf};
 ghost use Rattle.graph.specs.Units.{first_lacking};
 ghost use Rattle.graph.specs.Walks.{FitsCircuits, IsHeight};
@@ -19,7 +19,7 @@ use crate::measuring::measure;
 use crate::names::{opcode_word, push_name};
 use graph::{Edge, Edges, heights, longer_intervals_fit, mii};
 use iterations::Loop;
-use machine::Machine;
+use machine_data::Machine;
 use std::alloc::{AllocError, Global};
 
 /// A guess of how many bytes the lines of a loop take, for the first reservation.

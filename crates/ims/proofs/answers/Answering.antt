@@ -3,8 +3,8 @@ use Rattle.std.proofs.Common.{◌≡◌, ℕ, true, ◌+◌, ◌<◌, max, List,
 use Rattle.std.specs.List.{All, slice_index}
 use Rattle.std.proofs.lemmas.Bool.{both_ways}
 use Rattle.std.proofs.lemmas.List.{map-append, take_more}
-use Rattle.machine.specs.Alternative.{collides}
-use Rattle.machine.specs.declared.issues.alternative.Row.{Row}
+use Rattle.machine_data.specs.Alternative.{collides}
+use Rattle.machine_data.specs.declared.alternative.Row.{Row}
 use Rattle.graph.specs.Units.{greatest_of}
 use Rattle.mrt.specs.Placements.{alternatives_of}
 use Rattle.ims.specs.Problems.{ProblemData}

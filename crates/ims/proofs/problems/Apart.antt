@@ -4,8 +4,8 @@ use Rattle.std.specs.List.{All, AllPairs, list_any}
 use Rattle.std.proofs.lemmas.Bool.{and_left, and_right, cases_eq, ne_eqb}
 use Rattle.std.proofs.lemmas.List.Folds.{list_any_none}
 use Rattle.std.proofs.Math.Nat.{mod-eq_of_lt}
-use Rattle.machine.specs.declared.issues.alternative.Row.{Row}
-use Rattle.machine.specs.Alternative.{AreAlternatives, collides, rows_meet}
+use Rattle.machine_data.specs.declared.alternative.Row.{Row}
+use Rattle.machine_data.specs.Alternative.{AreAlternatives, collides, rows_meet}
 use Rattle.ims.specs.Scheduling.{IsFirstSound}
 
 meet-not : (ii : ℕ) (row other : Row) → 64 ≤ ii → row.offset < 64 → other.offset < 64 → row ≢ other → rows_meet ii row 0 other 0 ≡ false

@@ -4,7 +4,7 @@ use Rattle.std.specs.List.{AllPairs, Contains}
 use Rattle.std.proofs.lemmas.Bool.{cases_lt}
 use Rattle.std.proofs.lemmas.Int.{ints}
 use Rattle.std.proofs.lemmas.List.Elements.{All-contains}
-use Rattle.machine.specs.declared.issues.alternative.Row.{Row}
+use Rattle.machine_data.specs.declared.alternative.Row.{Row}
 use Rattle.graph.specs.Dependences.{EdgeData, Precedes, Dependence}
 use Rattle.graph.specs.Graphs.{GraphData}
 use Rattle.graph.specs.Units.{greatest_use, IsBest, AreBest, chosen_rows, by_freedom, IsUnitBound}

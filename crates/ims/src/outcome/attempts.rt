@@ -8,7 +8,7 @@ ghost use Rattle.ims.specs.Attempts.{IsBlocked, EndsPlaced, AnswersAttempt};
 use crate::outcome::ending::{End, end_on, first_late};
 use crate::problem::prepared::Prepared;
 use crate::schedules::schedule::Schedule;
-use machine::OutOfMemory;
+use machine_data::OutOfMemory;
 use mrt::ModuloTable;
 use std::alloc::Global;
 

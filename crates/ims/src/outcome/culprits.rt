@@ -10,7 +10,7 @@ use crate::outcome::attempts::Culprit;
 use crate::outcome::ending::{End, end_on, first_late};
 use crate::problem::prepared::Prepared;
 use crate::stepping::progress::Progress;
-use machine::OutOfMemory;
+use machine_data::OutOfMemory;
 use mrt::ModuloTable;
 use std::alloc::Global;
 

@@ -14,8 +14,8 @@ use crate::problem::prepared::Prepared;
 use crate::problem::sound::find_sound;
 use crate::stepping::progress::Progress;
 use crate::stepping::steps::{run, start};
-use machine::OutOfMemory;
-use machine::limits::MAX_STAGES;
+use machine_data::OutOfMemory;
+use machine_data::limits::MAX_STAGES;
 use mrt::ModuloTable;
 use std::alloc::Global;
 

@@ -5,8 +5,8 @@ ghost use Rattle.std.specs.List.{All};
 ghost use Rattle.ims.specs.inner.Waiting.{IsByHeight};
 ghost use Rattle.ims.specs.inner.Numbering.{AreKeys};
 
-use machine::OutOfMemory;
-use machine::limits::MAX_STATEMENTS;
+use machine_data::OutOfMemory;
+use machine_data::limits::MAX_STATEMENTS;
 use std::alloc::Global;
 
 /// The greatest height of an operation: 64 cycles for each of 128.

@@ -8,8 +8,8 @@ ghost use Rattle.ims.specs.Problems.{IsProblem, IsProblemOf, mii_of};
 use crate::problem::offers::offers;
 use graph::{Edges, GraphFault};
 use iterations::Loop;
-use machine::limits::MAX_STATEMENTS;
-use machine::{Alternatives, Machine};
+use machine_data::limits::MAX_STATEMENTS;
+use machine_data::{Alternatives, Machine};
 use std::alloc::Global;
 use std::marker::Model;
 

@@ -2,11 +2,11 @@
 
 ghost use Rattle.std.specs.Prelude.{◌≡◌, ℕ, ◌<◌, true, length, replicate, None, MatchOption, slice_index};
 ghost use Rattle.std.specs.List.{All};
-ghost use Rattle.machine.specs.Alternative.{AreAlternatives, collides};
+ghost use Rattle.machine_data.specs.Alternative.{AreAlternatives, collides};
 ghost use Rattle.mrt.specs.Placements.{alternatives_of};
 ghost use Rattle.ims.specs.Scheduling.{IsFirstSound};
 
-use machine::limits::MAX_OFFSET;
+use machine_data::limits::MAX_OFFSET;
 use mrt::ModuloTable;
 
 /// Writes for each operation of a table with nothing placed its first alternative that does not

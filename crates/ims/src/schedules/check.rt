@@ -3,8 +3,8 @@
 ghost use Rattle.std.specs.Prelude.{◌≡◌, ℕ, ◌*◌, ◌<◌, ◌≤◌, ◌^◌, true, length, map, replicate, None, IfOk};
 ghost use Rattle.std.specs.Bool.{OnTrue, OnFalse};
 ghost use Rattle.std.specs.List.{All, list_any};
-ghost use Rattle.machine.specs.declared.issues.alternative.Row.{Row};
-ghost use Rattle.machine.specs.Alternative.{collides, rows_meet};
+ghost use Rattle.machine_data.specs.declared.alternative.Row.{Row};
+ghost use Rattle.machine_data.specs.Alternative.{collides, rows_meet};
 ghost use Rattle.graph.specs.Dependences.{EdgeData};
 ghost use Rattle.graph.specs.Schedules.{KeepsEdge, KeepsUnits};
 ghost use Rattle.mrt.specs.Placements.{alternatives_of, rows_of, IsFree};
@@ -14,8 +14,8 @@ ghost use Rattle.ims.specs.Schedules.{IsSchedule, as_listed};
 use crate::problem::prepared::Prepared;
 use crate::stepping::place::demand;
 use graph::Edge;
-use machine::limits::MAX_STAGES;
-use machine::{Alternatives, OutOfMemory, Row};
+use machine_data::limits::MAX_STAGES;
+use machine_data::{Alternatives, OutOfMemory, Row};
 use mrt::{MaskTable, ModuloTable};
 use std::alloc::Global;
 

@@ -7,7 +7,7 @@ ghost use Rattle.ims.specs.Schedules.{ScheduleData, IsSchedule, stages_of, as_li
 use crate::outcome::ending::count_stages;
 use crate::problem::prepared::Prepared;
 use crate::schedules::check::is_schedule;
-use machine::OutOfMemory;
+use machine_data::OutOfMemory;
 use std::alloc::Global;
 use std::marker::Model;
 

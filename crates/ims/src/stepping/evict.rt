@@ -2,7 +2,7 @@
 
 ghost use Rattle.std.specs.Prelude.{◌≡◌, ℕ, ◌<◌, ◌≤◌, ◌^◌, false, length};
 ghost use Rattle.std.specs.Bool.{OnTrue, OnFalse};
-ghost use Rattle.machine.specs.Alternative.{collides};
+ghost use Rattle.machine_data.specs.Alternative.{collides};
 ghost use Rattle.mrt.specs.Placements.{alternatives_of, rows_of, IsFree, IsMetBy};
 ghost use Rattle.std.specs.List.{All, Contains};
 ghost use Rattle.graph.specs.declared.dependence.edge.Edge.{Edge};

@@ -8,7 +8,7 @@ ghost use Rattle.ims.specs.inner.Progress.{IsFirstUnplaced};
 ghost use Rattle.ims.specs.Scheduling.{empty};
 
 use crate::stepping::queue::Queue;
-use machine::OutOfMemory;
+use machine_data::OutOfMemory;
 use std::alloc::Global;
 use std::marker::Model;
 

@@ -4,8 +4,8 @@ ghost use Rattle.std.specs.Prelude.{◌≡◌, ◌<◌, ◌≤◌, true, false, 
 ghost use Rattle.std.specs.List.{All};
 ghost use Rattle.ims.specs.inner.Waiting.{IsArrangement, AreRanks, IsFirstWaiting};
 
-use machine::OutOfMemory;
-use machine::limits::MAX_STATEMENTS;
+use machine_data::OutOfMemory;
+use machine_data::limits::MAX_STATEMENTS;
 use std::alloc::Global;
 use std::marker::Model;
 

@@ -11,7 +11,7 @@ use crate::problem::order::by_height;
 use crate::problem::prepared::Prepared;
 use crate::stepping::progress::Progress;
 use crate::stepping::step::step;
-use machine::OutOfMemory;
+use machine_data::OutOfMemory;
 use mrt::ModuloTable;
 use std::alloc::Global;
 

@@ -6,7 +6,7 @@ ghost use Rattle.iterations.specs.Run.{initial_of};
 
 use crate::language::lists::{Array, Initial, Param};
 use crate::language::statement::Statement;
-use machine::Name;
+use machine_data::Name;
 use std::marker::Model;
 
 /// An innermost loop: what each iteration does, in order. Contracts see it as data.

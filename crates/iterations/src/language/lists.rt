@@ -3,7 +3,7 @@
 use crate::language::statement::Operand;
 use crate::list::ListOf;
 use crate::short_list::ShortListOf;
-use machine::Name;
+use machine_data::Name;
 
 /// What a statement reads, in text order. Contracts see the list.
 pub type Operands = ShortListOf<Operand>;

@@ -1,7 +1,7 @@
 //! The statements of a loop.
 
 use crate::language::lists::Operands;
-use machine::{Name, Opcode};
+use machine_data::{Name, Opcode};
 
 /// What a statement reads.
 #[derive(Clone, Copy, Debug, PartialEq, Eq)]

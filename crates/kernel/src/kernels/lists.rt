@@ -3,7 +3,7 @@
 use crate::kernels::operation::{Operation, Source};
 use crate::kernels::parts::{Out, Preload};
 use iterations::{ListOf, Param, ShortListOf};
-use machine::Name;
+use machine_data::Name;
 
 /// What an operation reads, in order.
 pub type Sources = ShortListOf<Source>;

@@ -1,7 +1,7 @@
 //! The operations of a kernel.
 
 use crate::kernels::lists::Sources;
-use machine::Opcode;
+use machine_data::Opcode;
 
 /// What an operation reads.
 #[derive(Clone, Copy, Debug, PartialEq, Eq)]

@@ -4,7 +4,7 @@ ghost use Rattle.std.specs.Prelude.{◌≡◌};
 ghost use Rattle.kernel.specs.Check.{IsWellFormed};
 
 use crate::kernels::lists::{ArrayNames, Operations, Outs, Params, Preloads};
-use machine::Name;
+use machine_data::Name;
 use std::marker::Model;
 
 /// The initial value of a register.

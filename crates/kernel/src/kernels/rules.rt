@@ -12,7 +12,7 @@ ghost use Rattle.kernel.specs.Rules.{Keeps, order_of, IsFirstFailing};
 use crate::kernels::check::Rule;
 use crate::kernels::operation::{Address, Operation, Source};
 use crate::kernels::parts::{Out, Parts, Preload};
-use machine::Opcode;
+use machine_data::Opcode;
 
 /// The rules, in the order in which they are tested.
 const RULES: [Rule; 9] = [

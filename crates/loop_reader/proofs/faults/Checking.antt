@@ -5,7 +5,7 @@ use Rattle.std.specs.List.{list_any, AllByRecursion}
 use Rattle.std.proofs.lemmas.Bool.{false_from_ne_true, eq-eqb, eqb-true, false≢true}
 use Rattle.std.proofs.lemmas.List.{append-nil}
 use Rattle.std.proofs.lemmas.List.Folds.{list_any-append}
-use Rattle.machine.specs.Opcodes.{same_word}
+use Rattle.machine_data.specs.Opcodes.{same_word}
 use Rattle.loop_reader.specs.declared.fault.LoopFaultKind.TheVariants.{Limit, RepeatedName, UnknownName, UseBeforeDefinition, MissingInit}
 use Rattle.loop_reader.specs.declared.names.index.Counts.{Counts}
 use Rattle.loop_lines.specs.Forms.{Form, LoopLine, ArrayLine, ParamLine, InitLine, StatementLine, OutLine, EndLine, Malformed, StatementForm, Use, Number, Plain, At}

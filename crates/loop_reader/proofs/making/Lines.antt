@@ -6,7 +6,7 @@ use Rattle.std.proofs.lemmas.Bool.{false≢true, true≢false, or_parts, ltb-fal
 use Rattle.std.proofs.lemmas.Int.{ints}
 use Rattle.std.proofs.lemmas.List.{length-map}
 use Rattle.std.proofs.lemmas.Option.{none-some, same_Some}
-use Rattle.machine.specs.Opcodes.{same_word}
+use Rattle.machine_data.specs.Opcodes.{same_word}
 use Rattle.loop_reader.specs.declared.fault.LoopFaultKind.{LoopFaultKind}
 use Rattle.loop_reader.specs.declared.fault.LoopFaultKind.TheVariants.{Limit, RepeatedName, UnknownName, UseBeforeDefinition, MissingInit}
 use Rattle.iterations.specs.declared.language.lists.Array.{Array}

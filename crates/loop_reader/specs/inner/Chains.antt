@@ -2,7 +2,7 @@
 use Rattle.std.specs.Prelude.{◌≡◌, ℕ, ◌-◌, ◌%◌, ◌<◌, ◌≤◌, if◌then◌else◌, List, [], ◌∷◌, length, Option, Some, None, slice_index_or}
 use Rattle.std.specs.Option.{option_or}
 use Rattle.std.specs.Hash.FoldHasher as folding
-use Rattle.machine.specs.Opcodes.{same_word}
+use Rattle.machine_data.specs.Opcodes.{same_word}
 use Rattle.loop_reader.specs.declared.names.index.Declared.{Declared}
 use Rattle.loop_reader.specs.declared.names.index.Declared.TheVariants as variants
 use Rattle.loop_reader.specs.declared.names.chains.Link.{Link}

@@ -19,7 +19,7 @@ use crate::fault::{LoopFault, LoopFaultKind};
 use crate::names::found::{Target, Targets, declared_number, target_of};
 use crate::names::index::{Counts, Declared, Index};
 use loop_lines::{CellWords, Form, StatementWords, Subscript, Use, are_wide};
-use machine::limits::{MAX_ARRAYS, MAX_NAME, MAX_PARAMETERS, MAX_STATEMENTS};
+use machine_data::limits::{MAX_ARRAYS, MAX_NAME, MAX_PARAMETERS, MAX_STATEMENTS};
 use std::alloc::AllocError;
 
 pub(crate) fn is_long(name: &[u8]) -> bool

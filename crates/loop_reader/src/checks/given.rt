@@ -3,7 +3,7 @@
 ghost use Rattle.std.specs.Prelude.{◌≡◌, ◌*◌, ◌+◌, ◌-◌, ◌<◌, ◌≤◌, ◌^◌, ℕ, OnOk, IsTrue, None, Some, false, is_some, length, replicate, slice_set};
 ghost use Rattle.loop_reader.specs.inner.Checks.{covers, slot};
 
-use machine::limits::MAX_DISTANCE;
+use machine_data::limits::MAX_DISTANCE;
 use std::alloc::{AllocError, Global};
 use std::marker::Model;
 

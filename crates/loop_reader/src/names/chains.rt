@@ -2,7 +2,7 @@
 
 ghost use Rattle.std.specs.Prelude.{◌≡◌, ◌<◌, ℕ, List, [], length, if◌then◌else◌, IfOk, OnOk, None, Some};
 ghost use Rattle.std.specs.Option.{option_or};
-ghost use Rattle.machine.specs.Opcodes.{same_word};
+ghost use Rattle.machine_data.specs.Opcodes.{same_word};
 ghost use Rattle.loop_reader.specs.inner.Chains.{chain_of, chained_as, IsLatest, IsLinked};
 
 use crate::names::index::Declared;

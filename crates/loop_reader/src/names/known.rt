@@ -5,7 +5,7 @@ ghost use Rattle.std.specs.BTreeMap.{get_by};
 ghost use Rattle.std.specs.Cmp.Lexicographic.{slice_cmp};
 ghost use Rattle.std.specs.Option.{option_or};
 ghost use Rattle.std.specs.Ordering.{nat_cmp};
-ghost use Rattle.machine.specs.Opcodes.{same_word};
+ghost use Rattle.machine_data.specs.Opcodes.{same_word};
 ghost use Rattle.loop_reader.specs.inner.Known.{known_as};
 ghost use Rattle.loop_reader.specs.inner.Chains.{chain_of};
 

@@ -4,7 +4,7 @@ use Rattle.std.specs.List.{AllPairs, AllByRecursion, slice_get}
 use Rattle.std.specs.Option.{option_or, option_map}
 use Rattle.std.proofs.lemmas.Bool.{and_from, eq-eqb, cond-true, cases_order}
 use Rattle.std.proofs.lemmas.Option.{none-some, same_Some, cond_some, slice_get-map, slice_get_within, get_or_from_slice_get}
-use Rattle.machine.specs.Opcodes.{same_word}
+use Rattle.machine_data.specs.Opcodes.{same_word}
 use Rattle.iterations.specs.declared.language.lists.Initial.{Initial}
 use Rattle.iterations.specs.declared.language.statement.Statement.{Statement}
 use Rattle.loop_lines.specs.Forms.{Form, StatementForm}

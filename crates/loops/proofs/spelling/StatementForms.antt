@@ -4,9 +4,9 @@ use Rattle.std.specs.List.{AllByRecursion, list_any, find, before_first, after_f
 use Rattle.std.specs.Option.{option_map}
 use Rattle.std.specs.Fmt.{decimal, signed_decimal}
 use Rattle.std.proofs.lemmas.Bool.{and_parts, and_from, or_parts, not-true, cond-true, cond-false, eq-eqb}
-use Rattle.machine.specs.declared.issues.opcode.Opcode.{Opcode}
-use Rattle.machine.specs.declared.issues.opcode.Opcode.TheVariants.{Load, Store, Add, Sub, Mul, And, Or, Xor, Min, Max, Lt, Sel, Mov}
-use Rattle.machine.specs.Opcodes.{word_of, opcode_named, same_word}
+use Rattle.machine_data.specs.declared.opcode.Opcode.{Opcode}
+use Rattle.machine_data.specs.declared.opcode.Opcode.TheVariants.{Load, Store, Add, Sub, Mul, And, Or, Xor, Min, Max, Lt, Sel, Mov}
+use Rattle.machine_data.specs.Opcodes.{word_of, opcode_named, same_word}
 use Rattle.loop_lines.specs.Forms.{Form, Use, Subscript, InitLine, StatementLine, Malformed, small_of, is_number, int_of, init_of, init_line, with_use, uses_of, use_of, place_of, formed, loop_line, array_line, param_line, store_line, store_of, out_line, end_line, compute_line, value_of, value_line, form_of}
 use Rattle.iterations.specs.Names.{is_name, is_reserved, starts_name, keywords}
 use Rattle.iterations.specs.Arithmetic.{operands_of}

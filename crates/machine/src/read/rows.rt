@@ -3,18 +3,17 @@
 ghost use Rattle.std.specs.Prelude.{◌≡◌, ◌<◌, ◌≤◌, ◌&&◌, nat_lt, true, position, length, option_map, IfSome, SomeIff};
 ghost use Rattle.std.specs.Str.{all_ascii_digits};
 ghost use Rattle.std.specs.Str.Parse.{digits_value};
-ghost use Rattle.machine.specs.Opcodes.{same_word};
+ghost use Rattle.machine_data.specs.Opcodes.{same_word};
 ghost use Rattle.toml.specs.View.{view};
 ghost use Rattle.machine.specs.inner.Reads.{ReadsPart};
 ghost use Rattle.machine.specs.MachineText.{words_in, row_faults, row_in, alternative_faults, rows_of, faults_of_alternatives, alternatives_of};
 
 use crate::fault::{Key, MachineFault};
-use crate::issues::alternative::{Alternative, Alternatives, Row};
-use crate::limits::{MAX_ALTERNATIVES, MAX_OFFSET, MAX_ROWS};
-use crate::name::Name;
 use crate::read::is_within;
 use crate::read::path::Path;
 use crate::read::units::is_unit_name;
+use machine_data::limits::{MAX_ALTERNATIVES, MAX_OFFSET, MAX_ROWS};
+use machine_data::{Alternative, Alternatives, Name, Row};
 use smallvec::SmallVec;
 use std::alloc::Global;
 use toml::Value;

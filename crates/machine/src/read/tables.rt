@@ -3,17 +3,15 @@
 ghost use Rattle.std.specs.Prelude.{◌≡◌, ◌≤◌, length, option_map, replicate, IfOk};
 ghost use Rattle.toml.specs.View.{view};
 ghost use Rattle.machine.specs.inner.Reads.{ReadsPart};
-ghost use Rattle.machine.specs.Opcodes.{word_of};
+ghost use Rattle.machine_data.specs.Opcodes.{word_of};
 ghost use Rattle.machine.specs.MachineText.{table_faults, operation_of, faults_of_tables, tables_of};
 
 use crate::fault::{Key, MachineFault};
-use crate::issues::opcode::{OPCODES, Opcode};
-use crate::issues::opcode_table::OpcodeTable;
-use crate::limits::MAX_LATENCY;
-use crate::name::Name;
 use crate::read::path::Path;
 use crate::read::rows::read_alternatives;
 use crate::read::{check_keys, read_number};
+use machine_data::limits::MAX_LATENCY;
+use machine_data::{Name, OPCODES, Opcode, OpcodeTable};
 use std::alloc::{AllocError, Global};
 use toml::Value;
 

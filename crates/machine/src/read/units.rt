@@ -2,16 +2,16 @@
 
 ghost use Rattle.std.specs.Prelude.{◌≡◌, option_map};
 ghost use Rattle.std.specs.List.{list_any, list_all};
-ghost use Rattle.machine.specs.Opcodes.{same_word};
+ghost use Rattle.machine_data.specs.Opcodes.{same_word};
 ghost use Rattle.toml.specs.View.{view};
 ghost use Rattle.machine.specs.inner.Reads.{ReadsPart};
-ghost use Rattle.machine.specs.Machines.{is_unit_word, is_unit_byte};
+ghost use Rattle.machine_data.specs.Machines.{is_unit_word, is_unit_byte};
 ghost use Rattle.machine.specs.MachineText.{is_unit_name, unit_faults, text_of, faults_of_units, names_of};
 
 use crate::fault::{Key, MachineFault};
-use crate::limits::{MAX_NAME, MAX_UNITS};
-use crate::name::Name;
 use crate::read::is_within;
+use machine_data::Name;
+use machine_data::limits::{MAX_NAME, MAX_UNITS};
 use std::alloc::Global;
 use toml::Value;
 

@@ -4,8 +4,8 @@ use Rattle.std.specs.List.{All, list_any, slice_range}
 use Rattle.std.proofs.lemmas.List.{drop_more, take_rest, map_push, get_or-map, length-map, take-map, drop-map}
 use Rattle.std.proofs.lemmas.List.Elements.{All-push, All-head, All-tail, All-weaker, All-map, All-take, All-drop}
 use Rattle.std.proofs.lemmas.List.Folds.{list_any_at}
-use Rattle.machine.specs.declared.issues.alternative.Row.{Row}
-use Rattle.machine.specs.Alternative.{residue_of, rows_meet, collides}
+use Rattle.machine_data.specs.declared.alternative.Row.{Row}
+use Rattle.machine_data.specs.Alternative.{residue_of, rows_meet, collides}
 use Rattle.mrt.specs.declared.rosters.slot.Slot.{Slot}
 use Rattle.mrt.specs.declared.rosters.choices.Span.{Span}
 use Rattle.mrt.specs.inner.Slots.{IsSlot, slot_at, rows_in, needs_unit, HasUnits}

@@ -4,7 +4,7 @@ use Rattle.std.specs.Int.{bit_at, trailing_zeros}
 use Rattle.std.proofs.lemmas.Bool.{cases_eq, cases_lt, eqb-true, true≢false}
 use Rattle.std.proofs.lemmas.Nat.Bits.{bit_at-trailing_zeros, bit_at-zero}
 use lib.Count.{count_trailing_zeros}
-use Rattle.machine.specs.Alternative.{collides}
+use Rattle.machine_data.specs.Alternative.{collides}
 use Rattle.std.specs.List.{All}
 use Rattle.mrt.specs.inner.Slots.{meets_held, Occupies}
 use Rattle.mrt.proofs.searching.Taking.{free_from_unmet}

@@ -6,8 +6,8 @@ use Rattle.std.proofs.lemmas.Nat.Bits.{bit_at-lt, bit_at_or, bit_at_and, bit_at_
 use Rattle.std.proofs.lemmas.List.{get_or-replicate, length-replicate}
 use Rattle.std.proofs.Math.Pow.{pow_pos}
 use Rattle.std.proofs.Math.Nat.{mod-eq_of_lt}
-use Rattle.machine.specs.declared.issues.alternative.Row.{Row}
-use Rattle.machine.specs.Alternative.{residue_of}
+use Rattle.machine_data.specs.declared.alternative.Row.{Row}
+use Rattle.machine_data.specs.Alternative.{residue_of}
 use Rattle.mrt.specs.Placements.{OperationAlternatives, Placements, Placement, placement_of, rows_of, IsFree, Holds, IsHolder}
 use Rattle.mrt.specs.inner.Rosters.{Table}
 use Rattle.mrt.specs.inner.Slots.{takes, Takes, Occupies, AreApart}

@@ -6,7 +6,7 @@ use Rattle.std.proofs.lemmas.Nat.{pow_pos}
 use Rattle.std.proofs.lemmas.Nat.Bits.{bit_at-lt, bit_at_or, bit_at_and, bit_at_not, bit_at_ones, bit_at-zero, bit_at_above, bit_at_cat_low, bit_at_cat_high}
 use Rattle.std.proofs.lemmas.List.{get_or-set_same, get_or-set_other}
 use Rattle.std.proofs.Math.Nat.{mod-add-div', mod-add-mod, add-mod_left, mod-eq_of_lt}
-use Rattle.machine.specs.Alternative.{residue_of}
+use Rattle.machine_data.specs.Alternative.{residue_of}
 use Rattle.mrt.specs.declared.rosters.slot.Slot.{Slot}
 use Rattle.mrt.specs.inner.Slots.{rows_in, meets_held}
 use Rattle.mrt.specs.inner.Times.{is_set, Tell, is_on, TellOnce}

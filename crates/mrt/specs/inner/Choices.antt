@@ -1,8 +1,8 @@
 -- Alternatives that stand one after another in one list of slots.
 use Rattle.std.specs.Prelude.{◌≡◌, ℕ, ◌<◌, ◌≤◌, List, length}
 use Rattle.std.specs.List.{All, slice_range}
-use Rattle.machine.specs.declared.issues.alternative.Row.{Row}
-use Rattle.machine.specs.Alternative.{collides}
+use Rattle.machine_data.specs.declared.alternative.Row.{Row}
+use Rattle.machine_data.specs.Alternative.{collides}
 use Rattle.mrt.specs.declared.rosters.slot.Slot.{Slot}
 use Rattle.mrt.specs.declared.rosters.choices.Span.{Span}
 use Rattle.mrt.specs.inner.Slots.{IsSlot, rows_in, HasUnits}

@@ -1,7 +1,7 @@
 -- What a table stands for, and how operations, their alternatives and their placements are kept.
 use Rattle.std.specs.Prelude.{◌≡◌, ℕ, ◌%◌, ◌<◌, ◌≤◌, List, [], length, map, Option, Some, option_map, slice_get}
 use Rattle.std.specs.List.{All, slice_index_or, slice_range}
-use Rattle.machine.specs.declared.issues.alternative.Row.{Row}
+use Rattle.machine_data.specs.declared.alternative.Row.{Row}
 use Rattle.mrt.specs.declared.rosters.kinds.Kind.{Kind}
 use Rattle.mrt.specs.declared.rosters.roster.Group.{Group}
 use Rattle.mrt.specs.declared.rosters.roster.Issue.{Issue}

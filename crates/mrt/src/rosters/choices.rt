@@ -2,12 +2,12 @@
 
 ghost use Rattle.std.specs.Prelude.{◌≡◌, ◌++◌, ◌∷◌, [], ◌<◌, ◌≤◌, ℕ, length, map, take, drop, IfOk, OnOk, slice_index_or};
 ghost use Rattle.std.specs.List.{All, list_any};
-ghost use Rattle.machine.specs.Alternative.{IsAlternative, collides, rows_meet};
+ghost use Rattle.machine_data.specs.Alternative.{IsAlternative, collides, rows_meet};
 ghost use Rattle.mrt.specs.inner.Choices.{span_at};
 ghost use Rattle.mrt.specs.inner.Slots.{IsSlot, slot_at, rows_in, HasUnits};
 
 use crate::rosters::slot::Slot;
-use machine::{OutOfMemory, Row};
+use machine_data::{OutOfMemory, Row};
 use std::alloc::Global;
 use std::marker::Model;
 

@@ -2,11 +2,11 @@
 
 ghost use Rattle.std.specs.Prelude.{◌≡◌, ◌↔◌, [], IsTrue, MatchOption, slice_index_or};
 ghost use Rattle.std.specs.List.{All, Contains};
-ghost use Rattle.machine.specs.Alternative.{AreAlternatives};
+ghost use Rattle.machine_data.specs.Alternative.{AreAlternatives};
 ghost use Rattle.mrt.specs.declared.rosters.kinds.Kind.{Kind};
 ghost use Rattle.mrt.specs.inner.Rosters.{IsKind, first_row};
 
-use machine::{Alternative, Alternatives, Row};
+use machine_data::{Alternative, Alternatives, Row};
 
 /// Operations that have the same alternatives, by the first of them. Most others are told apart by the first row
 /// alone.

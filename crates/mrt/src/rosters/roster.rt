@@ -2,14 +2,14 @@
 
 ghost use Rattle.std.specs.Prelude.{◌≡◌, ◌++◌, ◌%◌, ◌^◌, ◌<◌, ◌≤◌, ℕ, length, replicate, Some, None, IfOk, IfSome, MatchOption, true, false, option_map, slice_set};
 ghost use Rattle.std.specs.List.{All};
-ghost use Rattle.machine.specs.Alternative.{IsAlternative, collides};
+ghost use Rattle.machine_data.specs.Alternative.{IsAlternative, collides};
 ghost use Rattle.mrt.specs.Placements.{placement_of, alternatives_of, rows_of};
 ghost use Rattle.mrt.specs.inner.Slots.{IsSlot, rows_in, HasUnits, takes, Takes};
 
 use crate::rosters::choices::Choices;
 use crate::rosters::kinds::{Kind, of_kind};
 use crate::rosters::slot::Slot;
-use machine::{Alternative, Alternatives, OutOfMemory};
+use machine_data::{Alternative, Alternatives, OutOfMemory};
 use smallvec::SmallVec;
 use std::alloc::Global;
 use std::marker::Model;

@@ -1,10 +1,10 @@
 //! One row of a reservation table, prepared for one initiation interval.
 
 ghost use Rattle.std.specs.Prelude.{◌≡◌, ◌%◌, ◌<◌, ◌≤◌, ℕ};
-ghost use Rattle.machine.specs.Alternative.{residue_of};
+ghost use Rattle.machine_data.specs.Alternative.{residue_of};
 ghost use Rattle.mrt.specs.inner.Slots.{IsSlot, slot_at};
 
-use machine::Row;
+use machine_data::Row;
 
 /// A row, and what a query needs of it at one interval.
 #[derive(Clone, Copy)]

@@ -4,8 +4,8 @@ use Rattle.std.specs.Prelude.{slice_get, slice_index, is_some, IsSome}
 use Rattle.std.specs.List.{cons_option}
 use Rattle.std.proofs.lemmas.Bool.{and_parts, eqb-true, leb-true, ltb-true, true≢false}
 use Rattle.std.proofs.lemmas.Int.{ints}
-use Rattle.machine.specs.declared.issues.opcode.Opcode.{Opcode}
-use Rattle.machine.specs.declared.issues.opcode.Opcode.TheVariants.{Load, Store}
+use Rattle.machine_data.specs.declared.opcode.Opcode.{Opcode}
+use Rattle.machine_data.specs.declared.opcode.Opcode.TheVariants.{Load, Store}
 use Rattle.iterations.specs.Arithmetic.{apply_to}
 use Rattle.iterations.specs.declared.language.statement.Statement.{Statement}
 use Rattle.iterations.specs.declared.language.statement.Place.{Place}

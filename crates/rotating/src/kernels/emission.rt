@@ -15,8 +15,8 @@ use crate::numbers::allotment::Allotment;
 use ims::Schedule;
 use iterations::Loop;
 use kernel::{Kernel, Parts};
-use machine::OutOfMemory;
-use machine::limits::MAX_STATEMENTS;
+use machine_data::OutOfMemory;
+use machine_data::limits::MAX_STATEMENTS;
 use std::alloc::Global;
 
 /// The kernel of well-formed parts.

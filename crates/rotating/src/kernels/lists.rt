@@ -11,7 +11,7 @@ use crate::numbers::allotment::Allotment;
 use ims::Schedule;
 use iterations::{Loop, Param};
 use kernel::{ArrayNames, Out, Outs, Params};
-use machine::{Name, OutOfMemory};
+use machine_data::{Name, OutOfMemory};
 use std::alloc::Global;
 
 /// Adds copies of all parameters.

@@ -10,7 +10,7 @@ use crate::numbers::allotment::Allotment;
 use ims::Schedule;
 use iterations::Statement;
 use kernel::{Address, Operation, Operations};
-use machine::OutOfMemory;
+use machine_data::OutOfMemory;
 use std::alloc::Global;
 
 /// The row of an operation.

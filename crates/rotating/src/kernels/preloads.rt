@@ -13,7 +13,7 @@ use crate::values::uses::fill_carried;
 use ims::Schedule;
 use iterations::Loop;
 use kernel::{Preload, Preloads};
-use machine::OutOfMemory;
+use machine_data::OutOfMemory;
 use std::alloc::Global;
 
 /// The initial value of this number of a value, in the register of that instance.

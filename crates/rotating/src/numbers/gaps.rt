@@ -4,8 +4,8 @@ ghost use Rattle.std.specs.Prelude.{◌≡◌, ◌<◌, ◌≤◌, ◌+◌, ◌*
 ghost use Rattle.rotating.specs.inner.Gaps.{AreInOrder, Fits, FitsAt, Overlap, number_of, place_at};
 
 use crate::values::turns::Arc;
-use machine::OutOfMemory;
-use machine::limits::MAX_INTERVAL;
+use machine_data::OutOfMemory;
+use machine_data::limits::MAX_INTERVAL;
 
 /// Points around the registers that no value takes.
 #[derive(Clone, Copy)]

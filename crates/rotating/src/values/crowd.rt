@@ -8,7 +8,7 @@ ghost use Rattle.rotating.specs.Crowds.{instances_in, crowd_in};
 ghost use Rattle.rotating.specs.Residues.{IsLifeSpan};
 
 use ims::Schedule;
-use machine::limits::MAX_STATEMENTS;
+use machine_data::limits::MAX_STATEMENTS;
 use overlap::Lifetime;
 
 /// The longest interval whose rows are compared, in cycles.

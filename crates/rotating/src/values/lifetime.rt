@@ -7,7 +7,7 @@ ghost use Rattle.overlap.specs.Lifetimes.{carried, first_cycle, is_out, landing_
 
 use crate::values::uses::fill_uses;
 use ims::Schedule;
-use machine::OutOfMemory;
+use machine_data::OutOfMemory;
 use overlap::Lifetime;
 use std::alloc::Global;
 

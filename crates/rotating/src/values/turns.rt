@@ -4,7 +4,7 @@ ghost use Rattle.std.specs.Prelude.{◌≡◌, ◌≤◌, ◌<◌};
 ghost use Rattle.rotating.specs.Residues.{IsLifeSpan};
 ghost use Rattle.rotating.specs.inner.Turns.{arc_of, point_of};
 
-use machine::limits::MAX_INTERVAL;
+use machine_data::limits::MAX_INTERVAL;
 use overlap::Lifetime;
 
 /// How many points there are for each register: 2^33 turns, so that no point is below 0.

@@ -1,7 +1,7 @@
 -- What is known of a grid before its text is written.
 use Rattle.std.specs.Prelude.{◌≡◌, ℕ, ◌+◌, ◌*◌, ◌<◌, ◌≤◌, codes, decimal, List, ◌++◌, length, map, slice_index}
 use Rattle.std.specs.List.{All, flat_map}
-use Rattle.machine.specs.Machines.{MachineData}
+use Rattle.machine_data.specs.Machines.{MachineData}
 use Rattle.ims.specs.Schedules.{ScheduleData}
 use Rattle.schedule_lines.specs.declared.grids.columns.Column.{Column}
 use Rattle.schedule_lines.specs.declared.grids.grid.Grid.{Grid}

@@ -8,7 +8,7 @@ ghost use Rattle.schedule_lines.specs.inner.Tables.{AreSlots};
 
 use crate::slots::Slots;
 use ims::Schedule;
-use machine::{Machine, OutOfMemory};
+use machine_data::{Machine, OutOfMemory};
 use std::alloc::Global;
 
 /// The column of a unit.

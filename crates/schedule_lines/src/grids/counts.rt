@@ -9,7 +9,7 @@ ghost use Rattle.schedule_lines.specs.Slots.{live_counts};
 
 use crate::grids::cells::digits_of;
 use ims::Schedule;
-use machine::OutOfMemory;
+use machine_data::OutOfMemory;
 use rotating::{Lifetime, live_in};
 use std::alloc::Global;
 

@@ -12,7 +12,7 @@ use crate::grids::columns::{Column, columns_of};
 use crate::grids::counts::{counts_of, greatest_of, live_width, row_width};
 use crate::slots::Slots;
 use ims::Schedule;
-use machine::{Machine, OutOfMemory};
+use machine_data::{Machine, OutOfMemory};
 use rotating::Lifetime;
 use std::alloc::{AllocError, Global};
 

@@ -1,7 +1,7 @@
 -- What counters of the uses of units tell of the choices made so far.
 use Rattle.std.specs.Prelude.{ℕ, ◌++◌, List, []}
 use Rattle.std.specs.List.{slice_index_or}
-use Rattle.machine.specs.declared.issues.alternative.Row.{Row}
+use Rattle.machine_data.specs.declared.alternative.Row.{Row}
 use Rattle.graph.specs.Units.{AreBest, IsBest, chosen_rows}
 use Rattle.graph.specs.Uses.{Tallies}
 

@@ -5,7 +5,7 @@ use Rattle.std.specs.List.{All, AllZip}
 use Rattle.std.proofs.lemmas.List.Elements.{All-nil, All-cons}
 use Rattle.machine.specs.declared.fault.MachineFault.{MachineFault}
 use Rattle.machine.specs.declared.fault.MachineFault.TheVariants as machine_fault
-use Rattle.machine.specs.declared.issues.opcode.Opcode.{Opcode}
+use Rattle.machine.specs.Opcode.{Opcode}
 use Rattle.machine.specs.MachineAnswer.{MachineAnswer}
 use Rattle.machine.specs.Machines.{MachineData}
 use Rattle.loops.specs.LoopFault.{LoopFault}

@@ -1,5 +1,5 @@
 use Rattle.std.proofs.Common.{◌≡◌, ◌+◌, ◌<◌, ◌≤◌, max, [], length, get_or, take, sym, ap, ◌∙◌, arith}
-use Rattle.machine.specs.Machines.{IsMachine}
+use Rattle.machine_data.specs.Machines.{IsMachine}
 use Rattle.graph.specs.Units.{alternatives_in, operations_of}
 use Rattle.graph.proofs.unit_bound.Chosen.{operation_at, take_operations}
 use Rattle.graph.proofs.unit_bound.Most.{greater, most_of, most-more}

@@ -1,5 +1,5 @@
 use Rattle.std.proofs.Common.{◌≡◌, ◌<◌, ◌≤◌, take}
-use Rattle.machine.specs.Machines.{IsMachine}
+use Rattle.machine_data.specs.Machines.{IsMachine}
 use Rattle.graph.specs.Units.{operations_of}
 use Rattle.graph.proofs.unit_bound.Most.{most_of}
 use Rattle.graph.proofs.units.most_alternatives.Given as goal

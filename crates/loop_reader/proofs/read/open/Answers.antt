@@ -1,6 +1,6 @@
 use Rattle.std.proofs.Common.{◌≡◌, ◌∙◌, true, false, sym, ap, is_some, is_none, refl, Option, Some, None}
 use Rattle.std.specs.List.{list_any}
-use Rattle.machine.specs.Opcodes.{same_word}
+use Rattle.machine_data.specs.Opcodes.{same_word}
 use Rattle.loop_reader.specs.inner.Known.{known_as}
 use Rattle.loop_reader.proofs.lookups.Naming.{opening-none, names-more}
 use Rattle.loop_reader.proofs.read.open.Goals as goal

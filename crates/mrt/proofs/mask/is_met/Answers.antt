@@ -1,5 +1,5 @@
 use Rattle.std.proofs.Common.{◌≡◌, ◌<◌, true, length, get_or, sym, ◌∙◌, arith}
-use Rattle.machine.specs.Alternative.{residue_of}
+use Rattle.machine_data.specs.Alternative.{residue_of}
 use Rattle.mrt.specs.declared.rosters.slot.Slot.{Slot}
 use Rattle.mrt.specs.inner.Times.{is_set}
 use Rattle.mrt.proofs.slots.Owning.{meets_here}

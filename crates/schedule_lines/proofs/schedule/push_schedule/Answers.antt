@@ -1,6 +1,6 @@
 use Rattle.std.proofs.Common.{◌≡◌, ◌-◌, ℕ, List, ◌++◌, length, ap, ◌∙◌, append_assoc, arith}
 use Rattle.iterations.specs.Loops.{LoopData}
-use Rattle.machine.specs.Machines.{MachineData}
+use Rattle.machine_data.specs.Machines.{MachineData}
 use Rattle.ims.specs.Schedules.{ScheduleData}
 use Rattle.overlap.specs.declared.lifetime.Lifetime.{Lifetime}
 use Rattle.overlap.specs.Allotments.{AllotmentData}

@@ -3,7 +3,7 @@ use Rattle.std.specs.List.{slice_get}
 use Rattle.iterations.specs.declared.language.statement.Statement.{Statement}
 use Rattle.graph.specs.Subscripts.{GainsEdges, HasUses}
 use Rattle.std.proofs.lemmas.Option.{slice_get-get_or}
-use Rattle.machine.specs.declared.issues.opcode.Opcode.TheVariants.{Load}
+use Rattle.machine_data.specs.declared.opcode.Opcode.TheVariants.{Load}
 use Rattle.graph.proofs.finding.Found.{all-more, GainsEdges-found, found-within}
 use Rattle.graph.proofs.dependence.collect.collect.Goals as goal
 

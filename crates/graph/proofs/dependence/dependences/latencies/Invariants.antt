@@ -1,7 +1,7 @@
 use Rattle.std.proofs.Common.{◌≡◌, take, drop}
 use Rattle.std.specs.List.{find}
 use Rattle.std.specs.Option.{is_none}
-use Rattle.machine.specs.Machines.{table_of}
+use Rattle.machine_data.specs.Machines.{table_of}
 use Rattle.graph.specs.Units.{first_without_table, opcodes_of}
 use Rattle.graph.specs.Dependences.{latencies_of}
 use Rattle.graph.specs.Subscripts.{AreLatencies}

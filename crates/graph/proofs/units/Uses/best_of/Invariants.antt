@@ -1,5 +1,5 @@
 use Rattle.std.proofs.Common.{◌<◌, List, length}
-use Rattle.machine.specs.declared.issues.alternative.Row.{Row}
+use Rattle.machine_data.specs.declared.alternative.Row.{Row}
 use Rattle.graph.specs.Uses.{Tallies}
 use Rattle.graph.proofs.unit_bound.Best.{IsBestUpTo}
 use Rattle.graph.proofs.units.Uses.best_of.Given as goal

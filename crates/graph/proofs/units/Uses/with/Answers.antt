@@ -1,6 +1,6 @@
 use Rattle.std.proofs.Common.{◌+◌, ◌<◌, ◌≤◌, length, get_or, set, refl, arith, ◌≡◌}
 use Rattle.std.proofs.lemmas.List.{get_or_default}
-use Rattle.machine.specs.declared.issues.alternative.Row.{Row}
+use Rattle.machine_data.specs.declared.alternative.Row.{Row}
 use Rattle.graph.specs.Uses.{AtMost}
 use Rattle.graph.proofs.unit_bound.Tally.{Tallies-more, AtMost-set}
 use Rattle.graph.proofs.units.Uses.with.Goals as goal

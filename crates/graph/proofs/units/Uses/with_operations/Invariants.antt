@@ -1,5 +1,5 @@
 use Rattle.std.proofs.Common.{◌+◌, ◌*◌, ◌-◌, ◌==◌, List, ◌++◌, length, take, filter}
-use Rattle.machine.specs.declared.issues.alternative.Row.{Row}
+use Rattle.machine_data.specs.declared.alternative.Row.{Row}
 use Rattle.graph.specs.Units.{operations_of}
 use Rattle.graph.specs.Uses.{AtMost, CountsRows}
 use Rattle.graph.proofs.units.Uses.with_operations.Given as goal

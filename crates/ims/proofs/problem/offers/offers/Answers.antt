@@ -1,7 +1,7 @@
 use Rattle.std.proofs.Common.{◌≡◌, ◌<◌, List, Vec, Global, length, get_or, Err, refl, sym, ap, ◌∙◌, subst, arith}
 use Rattle.std.proofs.lemmas.List.Elements.{All-push}
-use Rattle.machine.specs.declared.issues.alternative.Row.{Row}
-use Rattle.machine.specs.Alternative.{AreAlternatives}
+use Rattle.machine_data.specs.declared.alternative.Row.{Row}
+use Rattle.machine_data.specs.Alternative.{AreAlternatives}
 use Rattle.graph.specs.declared.fault.GraphFault.TheVariants.{NoTable}
 use Rattle.graph.specs.TablesAnswer.{TablesAnswer}
 use Rattle.graph.specs.Units.{operations_of}

@@ -1,8 +1,8 @@
 use Rattle.std.proofs.Common.{◌≡◌, take, drop}
 use Rattle.std.specs.List.{All, find}
 use Rattle.std.specs.Option.{is_none}
-use Rattle.machine.specs.Alternative.{AreAlternatives}
-use Rattle.machine.specs.Machines.{table_of}
+use Rattle.machine_data.specs.Alternative.{AreAlternatives}
+use Rattle.machine_data.specs.Machines.{table_of}
 use Rattle.graph.specs.Units.{first_without_table, opcodes_of, operations_of}
 use Rattle.ims.proofs.problem.offers.offers.Given as goal
 

@@ -1,5 +1,5 @@
 use Rattle.std.proofs.Common.{◌≡◌, drop}
-use Rattle.machine.specs.Alternative.{collides}
+use Rattle.machine_data.specs.Alternative.{collides}
 use Rattle.ims.proofs.schedules.check.collides.Given as goal
 
 -- no row before this one meets one after it

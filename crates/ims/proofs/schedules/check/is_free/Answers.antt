@@ -1,7 +1,7 @@
 use Rattle.std.proofs.Common.{◌≡◌, ℕ, ◌<◌, false, List, [], length, get_or, sym, ap, ◌∙◌, subst}
 use Rattle.std.proofs.lemmas.List.{get_or_default}
-use Rattle.machine.specs.declared.issues.alternative.Row.{Row}
-use Rattle.machine.specs.Alternative.{collides}
+use Rattle.machine_data.specs.declared.alternative.Row.{Row}
+use Rattle.machine_data.specs.Alternative.{collides}
 use Rattle.mrt.specs.Placements.{OperationAlternatives, alternatives_of, rows_of, IsFree}
 use Rattle.ims.specs.inner.Listed.{IsHeld}
 use Rattle.ims.proofs.lawfulness.Checking.{IsFree-unheld, free_unless}

@@ -1,7 +1,7 @@
 use Rattle.std.proofs.Common.{sym, ap, ◌∙◌, arith}
 use Rattle.std.specs.List.{list_any}
 use Rattle.std.proofs.lemmas.List.{take_all}
-use Rattle.machine.specs.Alternative.{rows_meet}
+use Rattle.machine_data.specs.Alternative.{rows_meet}
 use Rattle.ims.proofs.schedules.check.meets_any.Goals as goal
 
 pub returns : goal.returns

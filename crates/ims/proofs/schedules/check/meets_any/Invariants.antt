@@ -1,6 +1,6 @@
 use Rattle.std.proofs.Common.{◌≡◌, false, take}
 use Rattle.std.specs.List.{list_any}
-use Rattle.machine.specs.Alternative.{rows_meet}
+use Rattle.machine_data.specs.Alternative.{rows_meet}
 use Rattle.ims.proofs.schedules.check.meets_any.Given as goal
 
 abbrev pub invariant-loop-other : goal.invariant-loop-other

@@ -1,7 +1,7 @@
 use Rattle.std.proofs.Common.{rules, ◌≡◌, ℕ, ◌+◌, ◌<◌, List, length, get_or, set, Option, Some, None, sym, ap, ◌∙◌, subst, arith}
 use Rattle.std.specs.List.{slice_get}
 use Rattle.std.specs.Option.{IsSome}
-use Rattle.machine.specs.declared.issues.alternative.Row.{Row}
+use Rattle.machine_data.specs.declared.alternative.Row.{Row}
 use Rattle.mrt.specs.Placements.{OperationAlternatives, Placements, Placement, rows_of}
 use Rattle.mrt.proofs.searching.Taking.{placed_within}
 use Rattle.ims.specs.inner.Evictions.{AreCleared}

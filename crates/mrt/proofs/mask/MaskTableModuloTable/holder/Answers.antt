@@ -1,7 +1,7 @@
 use Rattle.std.proofs.Common.{◌≡◌, ◌<◌, ◌%◌, false, sym, ◌∙◌, Some}
 use Rattle.std.specs.List.{slice_get}
 use Rattle.std.proofs.lemmas.Option.{slice_get_within}
-use Rattle.machine.specs.Alternative.{residue_of}
+use Rattle.machine_data.specs.Alternative.{residue_of}
 use Rattle.mrt.specs.declared.rosters.slot.Slot.{Slot}
 use Rattle.mrt.specs.Placements.{rows_of}
 use Rattle.mrt.specs.inner.Times.{is_set}

@@ -1,8 +1,8 @@
 use Rattle.std.proofs.Common.{◌≡◌, ◌<◌, ◌+◌, ◌*◌, ◌%◌, length, sym, ap, ◌∙◌, arith, Some}
 use Rattle.std.specs.List.{slice_get}
 use Rattle.std.proofs.lemmas.Option.{slice_get_within}
-use Rattle.machine.specs.declared.issues.alternative.Row.{Row}
-use Rattle.machine.specs.Alternative.{residue_of}
+use Rattle.machine_data.specs.declared.alternative.Row.{Row}
+use Rattle.machine_data.specs.Alternative.{residue_of}
 use Rattle.mrt.specs.Placements.{rows_of}
 use Rattle.mrt.specs.declared.rosters.slot.Slot.{Slot}
 use Rattle.mrt.specs.inner.OwnerTables.{owner_at}

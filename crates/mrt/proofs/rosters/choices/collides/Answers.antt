@@ -1,7 +1,7 @@
 use Rattle.std.proofs.Common.{◌≡◌, ◌+◌, ◌-◌, ◌<◌, false, length, get_or, drop, refl, sym, subst, arith}
 use Rattle.std.proofs.lemmas.List.{take_rest}
 use Rattle.std.proofs.lemmas.List.Elements.{All-drop, All-take}
-use Rattle.machine.specs.Alternative.{collides}
+use Rattle.machine_data.specs.Alternative.{collides}
 use Rattle.mrt.specs.declared.rosters.slot.Slot.{Slot}
 use Rattle.mrt.specs.inner.Slots.{IsSlot, rows_in, HasUnits}
 use Rattle.mrt.proofs.slots.Needing.{collides_at, collides_not, HasUnits-before, needs_not, meets_none_of}

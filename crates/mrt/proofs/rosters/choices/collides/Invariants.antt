@@ -1,6 +1,6 @@
 use Rattle.std.proofs.Common.{◌≡◌, ℕ, ◌≤◌, false, length, drop}
 use Rattle.std.specs.List.{All}
-use Rattle.machine.specs.Alternative.{collides}
+use Rattle.machine_data.specs.Alternative.{collides}
 use Rattle.mrt.specs.inner.Slots.{IsSlot, rows_in, HasUnits}
 use Rattle.mrt.proofs.rosters.choices.collides.Given as goal
 

@@ -1,6 +1,6 @@
 use Rattle.std.proofs.Common.{◌≡◌, ℕ, false, take}
 use Rattle.std.specs.List.{All, list_any}
-use Rattle.machine.specs.Alternative.{rows_meet}
+use Rattle.machine_data.specs.Alternative.{rows_meet}
 use Rattle.mrt.specs.inner.Slots.{IsSlot}
 use Rattle.mrt.proofs.rosters.choices.is_among.Given as goal
 

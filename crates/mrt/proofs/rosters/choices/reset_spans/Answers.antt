@@ -2,7 +2,7 @@ use Rattle.std.proofs.Common.{◌≡◌, ◌≤◌, ◌<◌, false, length, get_
 use Rattle.std.proofs.lemmas.List.{get_or_default}
 use Rattle.std.proofs.lemmas.List.Edits.{map_over_more}
 use Rattle.std.proofs.lemmas.List.Elements.{All-set, All-take, All-drop}
-use Rattle.machine.specs.Alternative.{collides}
+use Rattle.machine_data.specs.Alternative.{collides}
 use Rattle.mrt.specs.declared.rosters.choices.Span.{Span}
 use Rattle.mrt.specs.inner.Slots.{IsSlot}
 use Rattle.mrt.specs.inner.Choices.{rows_at, span_at}

@@ -1,7 +1,7 @@
 use Rattle.std.proofs.Common.{◌≡◌, ◌<◌, ◌&&◌, List, [], length, get_or, true, eqb, refl, sym, ap, ◌∙◌, below_more, subst}
 use Rattle.std.proofs.lemmas.Bool.{true≢false, and_from, eq-eqb}
 use Rattle.std.proofs.lemmas.List.{get_or_default}
-use Rattle.machine.specs.declared.issues.alternative.Row.{Row}
+use Rattle.machine_data.specs.declared.alternative.Row.{Row}
 use Rattle.mrt.specs.declared.rosters.kinds.Kind.{Kind}
 use Rattle.mrt.specs.inner.Rosters.{IsKind, first_row, no_kind}
 use Rattle.mrt.proofs.rosters.kinds.of_kind.Goals as goal

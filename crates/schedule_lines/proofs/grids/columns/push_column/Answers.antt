@@ -1,7 +1,7 @@
 use Rattle.std.proofs.Common.{◌≡◌, ℕ, [], ◌∷◌, ◌++◌, List, true, map, get_or, sym, ap, ◌∙◌, arith}
 use Rattle.std.proofs.lemmas.Bool.{cond-true}
 use Rattle.std.proofs.lemmas.List.{get_or_default}
-use Rattle.machine.specs.Machines.{MachineData}
+use Rattle.machine_data.specs.Machines.{MachineData}
 use Rattle.ims.specs.Schedules.{ScheduleData}
 use Rattle.schedule_lines.specs.declared.grids.columns.Column.{Column}
 use Rattle.schedule_lines.specs.Columns.{unit_name, unit_width, width_of}

@@ -1,6 +1,6 @@
 use Rattle.std.proofs.Common.{◌≡◌, ◌<◌, ◌≤◌, List, [], ◌++◌, length, get_or, ◌∙◌, subst, arith}
 use Rattle.std.proofs.lemmas.List.{get_or_default}
-use Rattle.machine.specs.declared.issues.alternative.Row.{Row}
+use Rattle.machine_data.specs.declared.alternative.Row.{Row}
 use Rattle.graph.specs.Uses.{Tallies}
 use Rattle.unit_uses.proofs.Best.{best_of-one, best_of-better, best_of-kept, best_of-all}
 use Rattle.unit_uses.proofs.tally.Tally.choose.Goals as goal

@@ -1,5 +1,5 @@
 use Rattle.std.proofs.Common.{ℕ, ◌+◌, List}
-use Rattle.machine.specs.declared.issues.alternative.Row.{Row}
+use Rattle.machine_data.specs.declared.alternative.Row.{Row}
 use Rattle.graph.specs.Uses.{AtMost, Tallies}
 use Rattle.unit_uses.proofs.Best.{IsBestOf}
 use Rattle.unit_uses.proofs.tally.Tally.choose.Given as goal

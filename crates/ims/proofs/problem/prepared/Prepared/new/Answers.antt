@@ -1,5 +1,5 @@
 use Rattle.std.proofs.Common.{◌≡◌, List, Vec, Global, Ok, sym, subst}
-use Rattle.machine.specs.declared.issues.alternative.Row.{Row}
+use Rattle.machine_data.specs.declared.alternative.Row.{Row}
 use Rattle.graph.specs.TablesAnswer.{TablesAnswer}
 use Rattle.graph.specs.Graphs.{IsGraphOf}
 use Rattle.graph.specs.Units.{first_without_table, operations_of, IsUnitBound}

@@ -1,7 +1,7 @@
 use Rattle.std.proofs.Common.{rules, arith, ◌≡◌, ◌<◌, ◌++◌, ◌∷◌, [], length, get_or, ◌∙◌, ap, if◌then◌else◌, Some, None}
 use Rattle.std.proofs.lemmas.List.{get_or_read}
 use Rattle.std.specs.Option.{option_or}
-use Rattle.machine.specs.Opcodes.{same_word}
+use Rattle.machine_data.specs.Opcodes.{same_word}
 use Rattle.loop_reader.specs.inner.Chains.{chained_as}
 use Rattle.loop_reader.specs.declared.names.chains.Link.{Link}
 use Rattle.loop_reader.proofs.lookups.Chains.{chain-low, chained-more, chained-added}

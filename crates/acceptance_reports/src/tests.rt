@@ -1,0 +1,5 @@
+//! What is told of loops on machines.
+
+mod explanations;
+mod schedules;
+mod uses;

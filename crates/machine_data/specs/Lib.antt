@@ -1,0 +1,4 @@
+pub mod Alternative
+pub mod Machines
+pub mod Opcodes
+pub mod inner
