@@ -6,65 +6,7 @@ use machine::read_machine;
 use settings::Settings;
 use std::alloc::Global;
 use std::test::Fail;
-
-/// A unit for memory and one for sums.
-const MEM_ALU: &str = r#"registers = 8
-units = ["mem", "alu"]
-
-[ops.load]
-latency = 3
-alts = [["mem@0"]]
-
-[ops.store]
-latency = 1
-alts = [["mem@0"]]
-
-[ops.add]
-latency = 1
-alts = [["alu@0"]]
-"#;
-
-/// The same with two registers.
-const MEM_ALU_2: &str = r#"registers = 2
-units = ["mem", "alu"]
-
-[ops.load]
-latency = 3
-alts = [["mem@0"]]
-
-[ops.store]
-latency = 1
-alts = [["mem@0"]]
-
-[ops.add]
-latency = 1
-alts = [["alu@0"]]
-"#;
-
-/// One unit, which a multiplication needs in its first and third cycle.
-const MUL: &str = r#"registers = 8
-units = ["u"]
-
-[ops.mul]
-latency = 1
-alts = [["u@0", "u@2"]]
-"#;
-
-const ACC: &str = "loop acc
-array a = 1 2 3
-array b =
-init s@1 = 0
-t = load a[i]
-s = add s@1 t
-store b[i] s
-end
-";
-
-const LONE: &str = "loop lone
-param p = 3
-m = mul p p
-end
-";
+use worked_texts::{ACC, FORCE, LONE, M1, M3, TWO_REGISTERS};
 
 /// One unit, which a multiplication needs for three cycles.
 const LONG_MUL: &str = r#"registers = 8
@@ -78,14 +20,6 @@ alts = [["u@0"]]
 latency = 1
 alts = [["u@0", "u@1", "u@2"]]
 "#;
-
-const FORCE: &str = "loop force
-param p = 2
-x = add p p
-y = add x p
-m = mul p p
-end
-";
 
 /// A multiplication that takes 64 cycles, and a unit of its own for sums.
 const LATE_MUL: &str = r#"registers = 8
@@ -122,7 +56,7 @@ fn explained(
 
 #[test]
 fn tells_what_holds_the_lower_bound(rt: HostRuntime) -> Result<(), Fail> {
-    let told = explained(rt.alloc(), MEM_ALU, ACC, 4, 32)?;
+    let told = explained(rt.alloc(), M1, ACC, 4, 32)?;
     assert!(rt; told.all_met);
     assert_eq!(rt;
         told.text.as_slice(),
@@ -146,7 +80,7 @@ fn tells_what_holds_the_lower_bound(rt: HostRuntime) -> Result<(), Fail> {
 
 #[test]
 fn tells_what_holds_a_longer_interval(rt: HostRuntime) -> Result<(), Fail> {
-    let told = explained(rt.alloc(), MUL, LONE, 4, 32)?;
+    let told = explained(rt.alloc(), M3, LONE, 4, 32)?;
     assert!(rt; told.all_met);
     assert_eq!(rt;
         told.text.as_slice(),
@@ -169,7 +103,7 @@ fn tells_what_holds_a_longer_interval(rt: HostRuntime) -> Result<(), Fail> {
 
 #[test]
 fn tells_why_there_is_no_kernel(rt: HostRuntime) -> Result<(), Fail> {
-    let told = explained(rt.alloc(), MUL, LONE, 4, 0)?;
+    let told = explained(rt.alloc(), M3, LONE, 4, 0)?;
     assert!(rt; !told.all_met);
     assert_eq!(rt;
         told.text.as_slice(),
@@ -243,7 +177,7 @@ fn names_what_is_late(rt: HostRuntime) -> Result<(), Fail> {
 // third cycle, where the load's value lives too.
 #[test]
 fn names_the_value_without_a_register(rt: HostRuntime) -> Result<(), Fail> {
-    let told = explained(rt.alloc(), MEM_ALU_2, ACC, 4, 32)?;
+    let told = explained(rt.alloc(), TWO_REGISTERS, ACC, 4, 32)?;
     assert_eq!(rt;
         told.text.as_slice(),
         b"loop acc ops 3 res 2 rec 1 mii 2\n\

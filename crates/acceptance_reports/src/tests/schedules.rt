@@ -10,15 +10,7 @@ use schedule_lines::push_schedule;
 use std::alloc::Global;
 use std::process::Abort;
 use std::test::Fail;
-
-/// A unit for memory and one for arithmetic.
-const PLAIN: &str = r#"
-registers = 8
-units = ["mem", "alu"]
-ops.load = { latency = 3, alts = [["mem@0"]] }
-ops.store = { latency = 1, alts = [["mem@0"]] }
-ops.add = { latency = 1, alts = [["alu@0"]] }
-"#;
+use worked_texts::{ACC, M1};
 
 /// Two units that add, of which the first multiplies too, in two cycles, and one that no operation uses.
 const SPARE: &str = r#"
@@ -27,9 +19,6 @@ units = ["a0", "idle", "a1"]
 ops.add = { latency = 1, alts = [["a0@0"], ["a1@0"]] }
 ops.mul = { latency = 2, alts = [["a0@0", "a0@1"]] }
 "#;
-
-const ACC: &str =
-    "loop acc\narray a = 1 2 3\narray b =\ninit s@1 = 0\nt = load a[i]\ns = add s@1 t\nstore b[i] s\nend\n";
 
 const SQUARE: &str = "loop square\nparam p = 4\nx = add p 1\nm = mul x x\nend\n";
 
@@ -62,7 +51,7 @@ fn text_of(
 /// next iteration and the store read it: two of it live in each row.
 #[test]
 fn a_sum_lives_over_an_iteration(rt: HostRuntime) -> Result<(), Fail> {
-    let told = text_of(rt.alloc(), PLAIN, ACC, 2, &[(0, 0), (3, 0), (5, 0)])?;
+    let told = text_of(rt.alloc(), M1, ACC, 2, &[(0, 0), (3, 0), (5, 0)])?;
     let lines = "\
 before
 value t lives 3 to 3 register 0
@@ -95,7 +84,7 @@ idle units 1
 
 #[test]
 fn without_a_value_no_row_is_full(rt: HostRuntime) -> Result<(), Fail> {
-    let told = text_of(rt.alloc(), PLAIN, PUT, 1, &[(0, 0)])?;
+    let told = text_of(rt.alloc(), M1, PUT, 1, &[(0, 0)])?;
     let lines = "\
 before
 row    mem live
