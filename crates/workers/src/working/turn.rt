@@ -2,6 +2,7 @@
 ghost use Rattle.std.specs.Prelude.{◌≡◌, ◌<◌, ◌≤◌, ◌+◌, ◌-◌, IsTrue, length};
 ghost use Rattle.std.specs.List.{HoldsAt};
 ghost use Rattle.ims.specs.Problems.{mii_of};
+ghost use Rattle.board.specs.Views.{with_posted};
 ghost use Rattle.candidates.specs.Choices.{last_of};
 ghost use Rattle.workers.specs.Entries.{IsTrueAt};
 ghost use Rattle.workers.specs.inner.Turns.{EntersOne, Takes, TakesOrPasses, Turned};
@@ -10,6 +11,7 @@ use crate::reports::entry::{Entry, Found};
 use crate::reports::report::Report;
 use board::Board;
 use candidates::{Outcome, Piece, Trials};
+use kernel::Kernel;
 use std::alloc::Global;
 
 /// Enters each interval of the piece, in order, or loses the piece for want of memory.
@@ -149,9 +151,28 @@ fn one<B: Board>(
         Ok(Outcome::Failed(cause)) => return Found::Failed(cause),
         Err(_) => return Found::Unsettled,
     };
-    let Ok(kernel) = Box::new(alloc, kernel) else {
-        return Found::Unsettled;
-    };
+    match Box::new(alloc, kernel) {
+        Ok(kernel) => win::<B>(board, pass, number, interval, kernel),
+        Err(_) => Found::Unsettled,
+    }
+}
+
+/// Tells the board that an interval gives a kernel.
+fn win<B: Board>(
+    board: &B,
+    pass: &mut B::Pass,
+    number: usize,
+    interval: u64,
+    kernel: Box<Kernel>,
+) -> Found
+    requires of { B.is_of board.now pass.old }
+    requires number { number < B.loops board.now }
+    requires few { interval ≤ 16384 }
+    ensures of { B.is_of board.now pass.new }
+    ensures won { result ≡ Found.Won kernel }
+    ensures same_dryness { B.dry pass.new ≡ B.dry pass.old }
+    ensures told { IsTrue B.tells → B.view pass.new ≡ with_posted (B.view pass.old) number interval }
+{
     board.post(pass, number, interval);
     Found::Won(kernel)
 }
