@@ -13,9 +13,9 @@ use Rattle.modsched.specs.Outcomes.{Outcome, Written, RefusedMachine, RefusedLoo
 use Rattle.modsched.specs.Devices.{most_read}
 use Rattle.modsched.specs.Engine.{Brings, Ends}
 use Rattle.modsched.specs.inner.Refusals.{IsRefusal, Refuses}
-use Rattle.modsched.specs.Statuses.{HasAnswered}
-use Rattle.modsched.specs.declared.status.Status.{Status}
-use Rattle.modsched.specs.declared.status.Status.TheVariants.{Done, Unmet, MachineUnread, LoopsUnread, Machine, Loops, NoTable, Unwritten, OutOfMemory}
+use Rattle.endings.specs.Statuses.{HasAnswered}
+use Rattle.endings.specs.declared.status.Status.{Status}
+use Rattle.endings.specs.declared.status.Status.TheVariants.{Done, Unmet, MachineUnread, LoopsUnread, Machine, Loops, NoTable, Unwritten, OutOfMemory}
 
 -- the run ended as an outcome like that says
 abbrev pub Ended : (Outcome → Type 0) → Option (List ℕ) → Option (List ℕ) → Status → Type 0

@@ -6,14 +6,14 @@ use Rattle.machine.specs.Opcode.{Opcode}
 use Rattle.loops.specs.Loops.{LoopData}
 use Rattle.graph.specs.Units.{first_lacking}
 use Rattle.workers.specs.Files.{AnswersFile, AnswersIn, AnswersOn}
-use Rattle.workers.specs.declared.faults.FileFault.{FileFault}
-use Rattle.workers.specs.declared.faults.FileFault.TheVariants as file
+use Rattle.file_faults.specs.declared.fault.FileFault.{FileFault}
+use Rattle.file_faults.specs.declared.fault.FileFault.TheVariants as file
 use Rattle.workers.proofs.files_read.Answering.{on_ok}
 use Rattle.modsched.specs.Outcomes.{OutcomeIn, OutcomeOf, OutcomeOn, Written, NoTable as NoTableFor}
 use Rattle.modsched.specs.inner.Refusals.{HasOneMemory, IsRefusal, PrintoutAnswer}
-use Rattle.modsched.specs.Statuses.{refusal_of_file}
+use Rattle.endings.specs.Statuses.{refusal_of_file}
 use Rattle.modsched.specs.declared.output.printout.Printout.{Printout}
-use Rattle.modsched.specs.declared.status.Status.{Status}
+use Rattle.endings.specs.declared.status.Status.{Status}
 use Rattle.modsched.proofs.Refusing.{LoopLists, Machines, Texts, answered, loops_memory, machine_memory, refused_loops, refused_machine}
 
 module _ {A : Type 0} where

@@ -18,10 +18,10 @@ use Rattle.graph_text.specs.declared.fault.TextFault.TheVariants as text_fault
 use Rattle.modsched.specs.Outcomes.{Outcome, OutcomeOf, OutcomeOn, Written, RefusedMachine, RefusedLoops, NoTable as NoTableFor}
 use Rattle.modsched.specs.Plain.{plain_outcome}
 use Rattle.modsched.specs.inner.Refusals.{HasOneMemory, IsRefusal, PrintoutAnswer}
-use Rattle.modsched.specs.Statuses.{status_number, refusal_of_machine, refusal_of_loops, refusal_of_text, loops_status}
+use Rattle.endings.specs.Statuses.{status_number, refusal_of_machine, refusal_of_loops, refusal_of_text, loops_status}
 use Rattle.modsched.specs.declared.output.printout.Printout.{Printout}
-use Rattle.modsched.specs.declared.status.Status.{Status}
-use Rattle.modsched.specs.declared.status.Status.TheVariants.{Loops, NoTable}
+use Rattle.endings.specs.declared.status.Status.{Status}
+use Rattle.endings.specs.declared.status.Status.TheVariants.{Loops, NoTable}
 
 abbrev pub Machines : Type 0
 Machines = Result MachineData MachineFault

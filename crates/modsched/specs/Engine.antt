@@ -5,15 +5,15 @@ use Rattle.command_line.specs.declared.line.Command.TheVariants.{Bounds, Edges, 
 use Rattle.machine.specs.MachineText.{machine_of}
 use Rattle.loops.specs.Meaning.{loops_in}
 use Rattle.modsched.specs.Bounds as bounds
-use Rattle.modsched.specs.Devices.{TakesBeginning}
 use Rattle.modsched.specs.Explain.{IsExplainText}
 use Rattle.modsched.specs.Graphs.{IsDotText, IsEdgesText}
 use Rattle.modsched.specs.Outcomes.{Outcome, OutcomeOf, Written, RefusedMachine, RefusedLoops, NoTable}
 use Rattle.modsched.specs.Plain.{plain_outcome}
 use Rattle.modsched.specs.Run.{IsRunText}
 use Rattle.modsched.specs.Schedule.{IsListingText, IsListingDocument}
-use Rattle.modsched.specs.declared.status.Status.{Status}
-use Rattle.modsched.specs.declared.status.Status.TheVariants as status
+use Rattle.endings.specs.Writing.{EndsWritten}
+use Rattle.endings.specs.declared.status.Status.{Status}
+use Rattle.endings.specs.declared.status.Status.TheVariants as status
 
 -- a command reads a machine's text; each reads a loops' text
 abbrev pub reads_machine : Command → Bool
@@ -59,21 +59,9 @@ Does command machine loops IsBrought =
     (machine_bytes loops_bytes : List ℕ) → machine_for command machine ≡ Some machine_bytes → loops ≡ Some loops_bytes
     → (outcome : Outcome) × Brings command machine_bytes loops_bytes outcome × IsBrought outcome
 
--- a text was written whole, with the status of whether every loop is met; or the output failed and took a beginning of it
-abbrev pub EndsWritten : List ℕ → Bool → Option (List ℕ) → Option (List ℕ) → Status → Type 0
-EndsWritten text all_met before after status.Done = (all_met ≡ true) × (after ≡ option_map (λ taken. taken ++ text) before)
-EndsWritten text all_met before after status.Unmet = (all_met ≡ false) × (after ≡ option_map (λ taken. taken ++ text) before)
-EndsWritten text all_met before after status.Unwritten = TakesBeginning before after text
-EndsWritten text all_met before after _ = ⊥
-
 -- the run ended as its outcome says: with a text that is written, or with a refusal and nothing written
 abbrev pub Ends : Outcome → Option (List ℕ) → Option (List ℕ) → Status → Type 0
 Ends (Written text all_met) before after ended = EndsWritten text all_met before after ended
 Ends (RefusedMachine fault) before after ended = (ended ≡ status.Machine fault) × (after ≡ before)
 Ends (RefusedLoops fault) before after ended = (ended ≡ status.Loops fault) × (after ≡ before)
 Ends (NoTable name opcode) before after ended = (ended ≡ status.NoTable name opcode) × (after ≡ before)
-
--- a device's count of faults rose by one where the status tells of its fault, and stayed where it does not
-pub record CountsFault (is_told : Type 0) (before after : ℕ) : Type 0 where
-  pub rose : is_told → after ≡ before + 1
-  pub stayed : ¬ is_told → after ≡ before

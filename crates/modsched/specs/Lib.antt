@@ -1,5 +1,8 @@
 pub use Rattle.command_line.specs.Lines
 pub use Rattle.devices.specs.Devices
+pub use Rattle.endings.specs.Exits
+pub use Rattle.endings.specs.Statuses
+pub use Rattle.endings.specs.Writing
 pub mod Bounds
 pub mod Engine
 pub mod Explain
@@ -8,5 +11,4 @@ pub mod Outcomes
 pub mod Plain
 pub mod Run
 pub mod Schedule
-pub mod Statuses
 pub mod inner

@@ -3,7 +3,6 @@
 
 mod commands;
 mod output;
-mod status;
 mod subcommand;
 
 pub use command_line::{Command, TRIP_LIMIT, Trip, Usage, parse_line};
@@ -11,8 +10,8 @@ pub use devices::{
     Bytes, Fault, FaultyInput, FaultyOutput, FileInput, Input, Output, ReadTextError,
     StandardOutput, TEXT_LIMIT, TakenBytes, read_text, write_text,
 };
+pub use endings::{Line, Status, Told, exit_number, finish, show};
 pub use settings::{OutOfRange, Settings};
-pub use status::{Line, Status};
 pub use subcommand::engine;
 
 // The crates of inputs and of the command line know no machine, and so have these two limits by themselves.

@@ -2,13 +2,14 @@
 
 ghost use Rattle.std.specs.Prelude.{◌≡◌, ◌+◌, ◌-◌, ◌^◌, ◌<◌, ◌↔◌, Some, take, drop, true, false, IfOk, IfSome, OnOk, IsErrOf};
 ghost use Rattle.modsched.specs.Devices.{most_read};
-ghost use Rattle.modsched.specs.Engine.{CountsFault, Does, Ends, EndsWritten, machine_for, reads_machine};
-ghost use Rattle.modsched.specs.Statuses.{HasAnswered, HasWritten, IsComplete, status_number};
+ghost use Rattle.modsched.specs.Engine.{Does, Ends, machine_for, reads_machine};
+ghost use Rattle.endings.specs.Writing.{CountsFault};
+ghost use Rattle.endings.specs.Statuses.{HasAnswered, HasWritten, IsComplete, status_number};
 
-use crate::output::printout::{Printout, printout_of};
-use crate::status::Status;
+use crate::output::printout::printout_of;
 use command_line::Command;
-use devices::{Input, Output, ReadTextError, read_text, write_text};
+use devices::{Input, Output, ReadTextError, read_text};
+use endings::{Status, finish};
 use std::alloc::Global;
 use std::thread::Threads;
 
@@ -69,7 +70,7 @@ pub fn engine<R: Threads + Sync, M: Input, L: Input, O: Output>(
         Err(ReadTextError::Memory) => return Status::OutOfMemory,
     };
     match printout_of(rt, alloc, command, machine.as_slice(), loops.as_slice()) {
-        Ok(printout) => finish(output, &printout),
+        Ok(printout) => finish(output, printout.text.as_slice(), printout.all_met),
         Err(status) => status,
     }
 }
@@ -97,20 +98,5 @@ fn machine_text<M: Input>(
         | Command::Json { .. }
         | Command::Explain { .. }
         | Command::Run { .. } => read_text(alloc, input),
-    }
-}
-
-/// Writes the whole output and flushes it.
-fn finish<O: Output>(output: &mut O, printout: &Printout) -> Status
-    requires { O.failed output.old < 2 ^ 64 - 1 }
-    ensures ends { EndsWritten printout.now.text.items printout.now.all_met (O.taken output.old) (O.taken output.new) result }
-    ensures handed { IsComplete result → O.handed output.new ≡ O.taken output.new }
-    ensures unwritten { (result ≡ Status.Unwritten) ↔ (O.failed output.old < O.failed output.new) }
-    ensures faults { CountsFault (result ≡ Status.Unwritten) (O.failed output.old) (O.failed output.new) }
-{
-    match write_text(output, printout.text.as_slice()) {
-        Ok(()) if printout.all_met => Status::Done,
-        Ok(()) => Status::Unmet,
-        Err(_) => Status::Unwritten,
     }
 }

@@ -1,18 +1,13 @@
 //! The program `modsched`: software pipelining of innermost loops for a described VLIW machine.
 #![tactic(auto)]
 
-ghost use Rattle.std.specs.Prelude.{◌≡◌, ◌-◌, ◌^◌, ◌<◌, true, map, IfErr};
+ghost use Rattle.std.specs.Prelude.{◌≡◌, map, IfErr};
 ghost use Rattle.clap.specs.Words.{fault_of, subcommand_of};
-ghost use Rattle.modsched.specs.Engine.{EndsWritten};
 ghost use Rattle.modsched.specs.Lines.{loops_path, program_line};
-ghost use Rattle.modsched.specs.Statuses.{IsComplete};
 ghost use Rattle.program.specs.Endings.{IsHeeded, IsNoRequest, machine_file};
 
-mod ending;
-
-use ending::{Told, exit_number};
 use modsched::{
-    Command, FileInput, Output, StandardOutput, Status, Usage, engine, parse_line, write_text,
+    Command, FileInput, StandardOutput, Status, Told, Usage, engine, exit_number, parse_line, show,
 };
 use std::env;
 use std::io::ErrorKind;
@@ -91,16 +86,4 @@ fn files<'a, R: Files>(rt: &'a R, command: &'a Command) -> (FileInput<'a, R>, Fi
         FileInput::new(rt, machine),
         FileInput::new(rt, command.loops_path()),
     )
-}
-
-/// Shows the help or the version that was asked for.
-fn show<O: Output>(output: &mut O, text: &str) -> Status
-    requires { O.failed output.old < 2 ^ 64 - 1 }
-    ensures ends { EndsWritten text.now true (O.taken output.old) (O.taken output.new) result }
-    ensures handed { IsComplete result → O.handed output.new ≡ O.taken output.new }
-{
-    match write_text(output, text.as_bytes()) {
-        Ok(()) => Status::Done,
-        Err(_) => Status::Unwritten,
-    }
 }

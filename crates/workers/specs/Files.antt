@@ -1,17 +1,11 @@
 -- What the texts of a machine and of loops give.
-use Rattle.std.specs.Prelude.{◌≡◌, ℕ, codes, List, ◌++◌, Option, Some, None, Result, Ok, Err, Vec}
+use Rattle.std.specs.Prelude.{◌≡◌, ℕ, List, Option, Some, None, Result, Ok, Err, Vec}
 use Rattle.std.specs.declared.alloc.Global.{Global}
 use Rattle.std.specs.List.{All, AllZip}
 use Rattle.machine.specs.declared.fault.MachineFault.{MachineFault}
-use Rattle.machine.specs.declared.fault.MachineFault.TheVariants as machine_fault
 use Rattle.machine.specs.Opcode.{Opcode}
-use Rattle.machine.specs.Faults.{machine_fault_text}
 use Rattle.machine.specs.Machines.{MachineData}
-use Rattle.machine.specs.Opcodes.{word_of}
 use Rattle.loops.specs.LoopFault.{LoopFault}
-use Rattle.loops.specs.LoopFaultKind.{LoopFaultKind}
-use Rattle.loops.specs.LoopFaultKind.TheVariants as kind
-use Rattle.loops.specs.Faults.{loop_fault_text}
 use Rattle.loops.specs.Loops.{LoopData}
 use Rattle.graph.specs.Units.{first_lacking}
 use Rattle.ims.specs.Problems.{ProblemData, IsProblemOf}
@@ -19,27 +13,8 @@ use Rattle.candidates.specs.Choices.{IsChoice}
 use Rattle.candidates.specs.Listings.{ListingData, listing_of}
 use Rattle.candidates.specs.declared.choices.Choice.{Choice}
 use Rattle.candidates.specs.Promises.{Lists}
-use Rattle.workers.specs.declared.faults.FileFault.{FileFault}
-use Rattle.workers.specs.declared.faults.FileFault.TheVariants.{Machine, Loops, NoTable, Memory}
-
--- what a fault of the reader of machines is for a file, and one of the reader of loops
-abbrev pub of_machine : MachineFault → FileFault
-of_machine machine_fault.Memory = Memory
-of_machine fault = Machine fault
-
-abbrev pub of_kind : LoopFaultKind → LoopFault → FileFault
-of_kind kind.Memory fault = Memory
-of_kind kind fault = Loops fault
-
-abbrev pub of_loops : LoopFault → FileFault
-of_loops fault = of_kind fault.kind fault
-
--- what is told of a fault
-abbrev pub told_of : FileFault → List ℕ
-told_of (Machine fault) = codes "machine: " ++ machine_fault_text fault
-told_of (Loops fault) = codes "loops: " ++ loop_fault_text fault
-told_of (NoTable name opcode) = codes "loops: loop " ++ (name ++ (codes ": no table for " ++ word_of opcode))
-told_of Memory = codes "out of memory"
+use Rattle.file_faults.specs.declared.fault.FileFault.{FileFault}
+use Rattle.file_faults.specs.declared.fault.FileFault.TheVariants.{Machine, Loops, NoTable, Memory}
 
 -- unless memory ran out: the loop and the opcode that are lacking are answered, and else what is right
 abbrev pub AnswersOn : {A : Type 0} → (A → Type 0) → Option (List ℕ × Opcode) → Result A FileFault → Type 0

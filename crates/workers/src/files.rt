@@ -8,10 +8,10 @@ ghost use Rattle.ims.specs.Problems.{IsProblemOf};
 ghost use Rattle.candidates.specs.Promises.{IsRight};
 ghost use Rattle.workers.specs.Files.{AnswersFile, AnswersIn, AnswersOn, HaveCeiling, ListsFile, ListsProblems, Prepares, PreparesAndLists};
 
-use crate::faults::FileFault;
 use crate::working::gate::Gate;
 use crate::working::pipelines::choose_by_workers;
 use candidates::{Listing, Pieces, Settings, prepare};
+use file_faults::FileFault;
 use graph::GraphFault;
 use ims::Prepared;
 use loops::{Loop, read_loops};

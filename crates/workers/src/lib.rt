@@ -1,13 +1,12 @@
 //! Workers over a shared board: what each does, what their reports say together, and the listing of a file.
 #![tactic(auto)]
 
-mod faults;
 mod files;
 mod laws;
 mod reports;
 mod working;
 
-pub use faults::FileFault;
+pub use file_faults::FileFault;
 pub use files::{pipeline, pipeline_file};
 pub use laws::nothing_is_left;
 pub use reports::entry::{Entry, Found};

@@ -1,10 +1,10 @@
 -- What subcommands answer, where they may refuse.
 use Rattle.std.specs.Prelude.{◌≡◌, Result, Ok, Err}
 use Rattle.modsched.specs.Outcomes.{Outcome, Written, RefusedMachine, RefusedLoops, NoTable as NoTableFor}
-use Rattle.modsched.specs.Statuses.{status_number}
+use Rattle.endings.specs.Statuses.{status_number}
 use Rattle.modsched.specs.declared.output.printout.Printout.{Printout}
-use Rattle.modsched.specs.declared.status.Status.{Status}
-use Rattle.modsched.specs.declared.status.Status.TheVariants.{Machine, Loops, NoTable, OutOfMemory}
+use Rattle.endings.specs.declared.status.Status.{Status}
+use Rattle.endings.specs.declared.status.Status.TheVariants.{Machine, Loops, NoTable, OutOfMemory}
 
 -- the status is the outcome's
 abbrev pub Refuses : Outcome → Status → Type 0

@@ -8,7 +8,7 @@ ghost use Rattle.modsched.specs.inner.Refusals.{PrintoutAnswer, HasOneMemory};
 
 use crate::output::lines::push_last;
 use crate::output::printout::Printout;
-use crate::status::Status;
+use endings::Status;
 use graph_text::bounds_lines;
 use loops::read_loops;
 use machine::read_machine;

@@ -8,7 +8,7 @@ ghost use Rattle.modsched.specs.Outcomes.{OutcomeOf};
 ghost use Rattle.modsched.specs.inner.Refusals.{PrintoutAnswer, HasOneMemory};
 
 use crate::output::printout::Printout;
-use crate::status::Status;
+use endings::Status;
 use explain::explain_lines;
 use loops::read_loops;
 use machine::read_machine;

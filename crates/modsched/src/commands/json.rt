@@ -9,7 +9,7 @@ ghost use Rattle.modsched.specs.Schedule.{IsListingDocument};
 
 use crate::commands::schedule::are_met;
 use crate::output::printout::Printout;
-use crate::status::Status;
+use endings::Status;
 use listing_json::document_text;
 use settings::Settings;
 use std::alloc::Global;

@@ -16,9 +16,9 @@ ghost use Rattle.modsched.specs.Run.{IsRunText, IsRunnable, RunsAs, choice_lines
 use crate::commands::schedule::are_met;
 use crate::output::printout::Printout;
 use crate::output::run_lines::{push_run, within_limits};
-use crate::status::Status;
 use candidates::{Choice, Listing, Row, write_last, write_row};
 use command_line::Trip;
+use endings::Status;
 use ims::Prepared;
 use kernel::{Kernel, simulate};
 use loops::{Loop, opening};

@@ -9,8 +9,8 @@ ghost use Rattle.modsched.specs.inner.Refusals.{PrintoutAnswer, HasOneMemory};
 use crate::output::lines::push_last;
 use crate::output::printout::Printout;
 use crate::output::run_lines::{push_run, within_limits};
-use crate::status::Status;
 use command_line::Trip;
+use endings::Status;
 use loops::{Loop, opening, read_loops, run_from};
 use std::alloc::{AllocError, Global};
 

@@ -8,8 +8,8 @@ ghost use Rattle.modsched.specs.inner.Refusals.{PrintoutAnswer, HasOneMemory};
 ghost use Rattle.modsched.specs.Schedule.{IsListingText, are_met};
 
 use crate::output::printout::Printout;
-use crate::status::Status;
 use candidates::{Row, listing_text};
+use endings::Status;
 use settings::Settings;
 use std::alloc::Global;
 use std::thread::Threads;

@@ -11,8 +11,8 @@ use crate::commands::json::json_text;
 use crate::commands::kernel_runs::run_text;
 use crate::commands::plain::plain_text;
 use crate::commands::schedule::schedule_text;
-use crate::status::Status;
 use command_line::Command;
+use endings::Status;
 use std::alloc::Global;
 use std::thread::Threads;
 

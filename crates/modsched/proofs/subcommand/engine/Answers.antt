@@ -10,7 +10,7 @@ returns-in-Ok-printout_of-clause-exact g c answered machine loops m l =
     let mm : c.as_slice.result.now ≡ take most_read machine = c.as_slice.ensures.value ∙ (rw m at c.in-Ok.ensures.text) in
     let ll : c.as_slice-2.result.now ≡ take most_read loops = c.as_slice-2.ensures.value ∙ (rw l at c.in-Ok-read_text.ensures.text) in
     let printout = c.in-Ok-printout_of.printout in
-    (Written printout.text.items printout.all_met, brings-read c.args.command.now _ _ _ _ _ mm ll c.in-Ok-printout_of.ensures.exact, c.finish.ensures.ends)
+    (Written printout.text.items printout.all_met, brings-read c.args.command.now _ _ _ _ _ mm ll c.in-Ok-printout_of.ensures.exact, rw (c.as_slice-in-Ok-printout_of.ensures.value) at c.finish.ensures.ends)
 
 pub returns-clause-exact : goal.returns-clause-exact
 returns-clause-exact g c answered machine loops m l =

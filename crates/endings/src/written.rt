@@ -1,0 +1,33 @@
+//! The writing of an output.
+
+ghost use Rattle.std.specs.Prelude.{◌≡◌, ◌-◌, ◌^◌, ◌<◌, ◌↔◌, true};
+ghost use Rattle.endings.specs.Statuses.{IsComplete};
+ghost use Rattle.endings.specs.Writing.{CountsFault, EndsWritten};
+
+use crate::status::Status;
+use devices::{Output, write_text};
+
+/// Writes a whole text and flushes it. The status is that of a run whose loops are all met, or of one with a loop that is not; where
+/// the output fails, what it took is a beginning of the text.
+pub fn finish<O: Output>(output: &mut O, text: &[u8], all_met: bool) -> Status
+    requires { O.failed output.old < 2 ^ 64 - 1 }
+    ensures ends { EndsWritten text.now all_met (O.taken output.old) (O.taken output.new) result }
+    ensures handed { IsComplete result → O.handed output.new ≡ O.taken output.new }
+    ensures unwritten { (result ≡ Status.Unwritten) ↔ (O.failed output.old < O.failed output.new) }
+    ensures faults { CountsFault (result ≡ Status.Unwritten) (O.failed output.old) (O.failed output.new) }
+{
+    match write_text(output, text) {
+        Ok(()) if all_met => Status::Done,
+        Ok(()) => Status::Unmet,
+        Err(_) => Status::Unwritten,
+    }
+}
+
+/// Shows the help or the version that was asked for.
+pub fn show<O: Output>(output: &mut O, text: &str) -> Status
+    requires { O.failed output.old < 2 ^ 64 - 1 }
+    ensures ends { EndsWritten text.now true (O.taken output.old) (O.taken output.new) result }
+    ensures handed { IsComplete result → O.handed output.new ≡ O.taken output.new }
+{
+    finish(output, text.as_bytes(), true)
+}

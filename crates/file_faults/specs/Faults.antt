@@ -1,0 +1,31 @@
+-- What the faults of two texts are for a file, and what is told of them.
+use Rattle.std.specs.Prelude.{ℕ, codes, List, ◌++◌}
+use Rattle.machine.specs.declared.fault.MachineFault.{MachineFault}
+use Rattle.machine.specs.declared.fault.MachineFault.TheVariants as machine_fault
+use Rattle.machine.specs.Faults.{machine_fault_text}
+use Rattle.machine.specs.Opcodes.{word_of}
+use Rattle.loops.specs.LoopFault.{LoopFault}
+use Rattle.loops.specs.LoopFaultKind.{LoopFaultKind}
+use Rattle.loops.specs.LoopFaultKind.TheVariants as kind
+use Rattle.loops.specs.Faults.{loop_fault_text}
+use Rattle.file_faults.specs.declared.fault.FileFault.{FileFault}
+use Rattle.file_faults.specs.declared.fault.FileFault.TheVariants.{Machine, Loops, NoTable, Memory}
+
+-- what a fault of the reader of machines is for a file, and one of the reader of loops
+abbrev pub of_machine : MachineFault → FileFault
+of_machine machine_fault.Memory = Memory
+of_machine fault = Machine fault
+
+abbrev pub of_kind : LoopFaultKind → LoopFault → FileFault
+of_kind kind.Memory fault = Memory
+of_kind kind fault = Loops fault
+
+abbrev pub of_loops : LoopFault → FileFault
+of_loops fault = of_kind fault.kind fault
+
+-- what is told of a fault
+abbrev pub told_of : FileFault → List ℕ
+told_of (Machine fault) = codes "machine: " ++ machine_fault_text fault
+told_of (Loops fault) = codes "loops: " ++ loop_fault_text fault
+told_of (NoTable name opcode) = codes "loops: loop " ++ (name ++ (codes ": no table for " ++ word_of opcode))
+told_of Memory = codes "out of memory"
