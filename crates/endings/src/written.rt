@@ -7,8 +7,8 @@ ghost use Rattle.endings.specs.Writing.{CountsFault, EndsWritten};
 use crate::status::Status;
 use devices::{Output, write_text};
 
-/// Writes a whole text and flushes it. The status is that of a run whose loops are all met, or of one with a loop that is not; where
-/// the output fails, what it took is a beginning of the text.
+/// Writes a whole text and flushes it. Where that succeeds, the status is `Done` if every loop is met, and else `Unmet`. Where the
+/// output fails, it is `Unwritten`, and what the output took is a beginning of the text.
 pub fn finish<O: Output>(output: &mut O, text: &[u8], all_met: bool) -> Status
     requires { O.failed output.old < 2 ^ 64 - 1 }
     ensures ends { EndsWritten text.now all_met (O.taken output.old) (O.taken output.new) result }
@@ -23,7 +23,7 @@ pub fn finish<O: Output>(output: &mut O, text: &[u8], all_met: bool) -> Status
     }
 }
 
-/// Shows the help or the version that was asked for.
+/// Writes the help or the version that was asked for, as [`finish`] writes an output whose loops are all met.
 pub fn show<O: Output>(output: &mut O, text: &str) -> Status
     requires { O.failed output.old < 2 ^ 64 - 1 }
     ensures ends { EndsWritten text.now true (O.taken output.old) (O.taken output.new) result }
