@@ -1,21 +1,23 @@
 //! From the texts of a machine and of loops to their listing.
 
 ghost use Rattle.std.specs.Prelude.{◌≡◌, ◌≤◌, [], None, length, vec_capacity, vec_len, IfOk};
+ghost use Rattle.std.specs.List.{All, AllZip};
 ghost use Rattle.machine.specs.MachineText.{machine_of};
 ghost use Rattle.loops.specs.Meaning.{loops_in};
 ghost use Rattle.graph.specs.Units.{first_without_table, first_lacking, lacking_or};
 ghost use Rattle.ims.specs.Problems.{IsProblemOf};
+ghost use Rattle.candidates.specs.Choices.{IsChoice};
 ghost use Rattle.candidates.specs.Promises.{IsRight};
 ghost use Rattle.workers.specs.Files.{AnswersFile, AnswersIn, AnswersOn, HaveCeiling, ListsFile, ListsProblems, Prepares, PreparesAndLists};
 
-use crate::working::gate::Gate;
-use crate::working::pipelines::choose_by_workers;
 use candidates::{Listing, Pieces, Settings, prepare};
 use file_faults::FileFault;
+use gathering::{Chosen, gather};
 use graph::GraphFault;
 use ims::Prepared;
 use loops::{Loop, read_loops};
 use machine::{Machine, OutOfMemory, read_machine};
+use shared_work::{Gate, run_workers};
 use std::alloc::Global;
 use std::thread::Threads;
 
@@ -115,6 +117,29 @@ fn list<R: Threads + Sync, G: Gate + Sync>(
     let pieces = Pieces::of(loops.len(), settings.ceiling(), settings.cut());
     let chosen = choose_by_workers(rt, alloc, loops, &pieces, settings.workers(), gate)?;
     Listing::of(alloc, settings.ceiling(), loops, chosen.into_choices())
+}
+
+/// The choice of each loop, by at most so many workers and no more than there are pieces. Where there is no
+/// memory for the workers, the calling thread does all.
+fn choose_by_workers<R: Threads + Sync, G: Gate + Sync>(
+    rt: &R,
+    alloc: Global,
+    loops: &[Prepared],
+    pieces: &Pieces,
+    workers: usize,
+    gate: &G,
+) -> Result<Chosen, OutOfMemory>
+    requires each_loop { pieces.now.loops ≡ length loops.now }
+    requires ceilings { All (λ p. p.ceiling ≡ pieces.now.ceiling) loops.now }
+    requires some { 1 ≤ workers }
+    requires few { workers ≤ 64 }
+    ensures choices { IfOk result (λ c. AllZip IsChoice loops.now c.choices) }
+{
+    let workers = workers.min(pieces.number() as usize).max(1);
+    match run_workers(rt, alloc, loops, pieces, workers, gate) {
+        Ok(reports) => gather(alloc, loops, reports),
+        Err(_) => gather(alloc, loops, Vec::new(alloc)),
+    }
 }
 
 /// All loops prepared, or the fault of the first that has an opcode without a table.

@@ -6,9 +6,9 @@ use Rattle.std.proofs.lemmas.List.Folds.{Any-from_list_any}
 use Rattle.ims.specs.Problems.{ProblemData}
 use Rattle.candidates.specs.Choices.{IsChoice}
 use Rattle.candidates.specs.declared.choices.Choice.{Choice}
-use Rattle.workers.specs.Entries.{ReportData}
+use Rattle.workers.specs.Entries.{HasNoRefusal, ReportData}
 use Rattle.workers.specs.Gathered.{retried_from}
-use Rattle.workers.specs.Settled.{HasNoRefusal, LeaveNothing}
+use Rattle.workers.specs.Settled.{LeaveNothing}
 
 first_dry : (reports : List ReportData) → 0 < length reports → All (λ (r : ReportData). IsTrue r.dry) reports → Any (λ (r : ReportData). IsTrue r.dry) reports
 first_dry [] some dry = absurd (omega arith)

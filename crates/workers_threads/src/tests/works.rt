@@ -5,7 +5,7 @@ ghost use Rattle.std.specs.List.{All};
 ghost use Rattle.board.specs.Boards.{IsNewPassOf, IsPassOf, sizes_of};
 ghost use Rattle.board.specs.Closes.{loops_of};
 ghost use Rattle.board.specs.Names.{terms_of};
-ghost use Rattle.workers.specs.Settled.{HasNoRefusal};
+ghost use Rattle.workers.specs.Entries.{HasNoRefusal};
 
 use super::boards::{Count, FirstPiece, NoPiece, ZeroLooks};
 use super::gates::{Limited, Meeting};

@@ -1,6 +1,6 @@
 use Rattle.std.proofs.Common.{◌≡◌, ◌+◌, ◌≤◌, length, vec_capacity, vec_len}
 use Rattle.std.specs.Vec.Iter.{into_iter_items, into_iter_len}
-use Rattle.workers.proofs.files_read.Preparing.{Readied}
+use Rattle.workers.proofs.Preparing.{Readied}
 use Rattle.workers.proofs.files.prepare_into.Given as goal
 
 abbrev pub invariant-loop-innermost : goal.invariant-loop-innermost

@@ -1,7 +1,6 @@
 use Rattle.std.proofs.Common.{refl, subst}
 use Rattle.std.specs.List.{All}
-use Rattle.workers.specs.Entries.{ReportData}
-use Rattle.workers.specs.Settled.{HasNoRefusal}
+use Rattle.workers.specs.Entries.{HasNoRefusal, ReportData}
 use Rattle.workers_threads.proofs.Leaving.{none_left}
 use Rattle.workers_threads.proofs.tests.works.chosen_by.Goals as goal
 

@@ -1,0 +1,8 @@
+//! What workers found of the intervals of loops.
+#![tactic(auto)]
+
+mod entry;
+mod report;
+
+pub use entry::{Entry, Found};
+pub use report::Report;

@@ -1,0 +1,137 @@
+//! What a worker found.
+ghost use Rattle.std.specs.Prelude.{◌≡◌, ◌↔◌, ◌≤◌, ◌<◌, ◌+◌, ◌-◌, IsTrue, true, false, [], vec_len, vec_capacity};
+ghost use Rattle.std.specs.List.{All};
+ghost use Rattle.reports.specs.Entries.{IsEntry, ReportData, HasNoRefusal, Enters};
+
+use crate::entry::Entry;
+use ims::Prepared;
+use std::alloc::Global;
+use std::marker::Model;
+
+/// What a worker found of loops, which it borrows. Each entry that tells a kernel or a cause is true of its
+/// interval, by this type, wherever the report goes. Contracts see the entries and for how many more there
+/// is room.
+#[derive(Drop)]
+pub struct Report<'a> {
+    loops: &'a [Prepared],
+    entries: Vec<Entry>,
+    lost: u64,
+    dry: bool,
+}
+
+impl<'a> Model for Report<'a> {
+    ghost Value = { ReportData };
+
+    ghost view = { λ r. record { loops = r.loops.now; entries = r.entries.items; lost = r.lost; dry = r.dry; room = vec_capacity r.entries - vec_len r.entries } };
+
+    ghost invariant = { λ r. All (IsEntry r.loops.now) r.entries.items };
+}
+
+impl<'a> Report<'a> {
+    /// The loops that it is of.
+    pub fn loops(&self) -> &'a [Prepared]
+        ensures value { result.now ≡ self.now.loops }
+    {
+        self.loops
+    }
+
+    /// What was found, in order.
+    pub fn entries(&self) -> &[Entry]
+        ensures value { result.now ≡ self.now.entries }
+        ensures truth { All (IsEntry self.now.loops) self.now.entries }
+    {
+        self.entries.as_slice()
+    }
+
+    /// How many pieces were lost for want of memory.
+    pub fn lost(&self) -> u64
+        ensures value { result ≡ self.now.lost }
+    {
+        self.lost
+    }
+
+    /// Whether its pass went dry.
+    pub fn is_dry(&self) -> bool
+        ensures value { result ≡ self.now.dry }
+    {
+        self.dry
+    }
+
+    /// Whether nothing was refused to its worker: no piece is lost, and no interval unsettled.
+    pub fn is_whole(&self) -> bool
+        ensures { IsTrue result ↔ HasNoRefusal self.now.loops self.now }
+    {
+        self.lost == 0 && self.entries.iter().all(|entry| !entry.found.is_unsettled())
+    }
+
+    /// A report without entries.
+    pub fn new(alloc: Global, loops: &'a [Prepared]) -> Report<'a>
+        ensures loops { result.loops ≡ loops.now }
+        ensures entries { result.entries ≡ [] }
+        ensures lost { result.lost ≡ 0 }
+        ensures dry { result.dry ≡ false }
+    {
+        Report {
+            loops,
+            entries: Vec::new(alloc),
+            lost: 0,
+            dry: false,
+        }
+    }
+
+    /// Counts a piece as lost.
+    pub fn lose(&mut self)
+        requires few { self.old.lost < 18446744073709551615 }
+        ensures loops { self.new.loops ≡ self.old.loops }
+        ensures entries { self.new.entries ≡ self.old.entries }
+        ensures lost { self.new.lost ≡ self.old.lost + 1 }
+        ensures dry { self.new.dry ≡ self.old.dry }
+    {
+        self.lost += 1;
+    }
+
+    /// Tells that the pass went dry.
+    pub fn go_dry(&mut self)
+        ensures loops { self.new.loops ≡ self.old.loops }
+        ensures entries { self.new.entries ≡ self.old.entries }
+        ensures lost { self.new.lost ≡ self.old.lost }
+        ensures dry { self.new.dry ≡ true }
+    {
+        self.dry = true;
+    }
+
+    /// Makes room for so many entries more, if there is memory.
+    pub fn reserve(&mut self, count: usize) -> bool
+        ensures loops { self.new.loops ≡ self.old.loops }
+        ensures entries { self.new.entries ≡ self.old.entries }
+        ensures lost { self.new.lost ≡ self.old.lost }
+        ensures dry { self.new.dry ≡ self.old.dry }
+        ensures room { IsTrue result → count ≤ self.new.room }
+        ensures had { count ≤ self.old.room → IsTrue result }
+    {
+        self.entries.reserve(count).is_ok()
+    }
+
+    /// Adds an entry, for which there is room.
+    pub fn enter(&mut self, entry: Entry)
+        requires truth { IsEntry self.old.loops entry }
+        requires room { 0 < self.old.room }
+        ensures { Enters self.old entry self.new }
+    {
+        self.entries.push_reserved(entry);
+    }
+
+    /// The entries alone.
+    pub fn into_entries(self) -> Vec<Entry>
+        ensures value { result.items ≡ self.entry.entries }
+        ensures truth { All (IsEntry self.entry.loops) result.items }
+    {
+        let Report {
+            loops: _,
+            entries,
+            lost: _,
+            dry: _,
+        } = self;
+        entries
+    }
+}

@@ -1,0 +1,7 @@
+mod Left
+mod Members
+mod Nothing
+mod Open
+mod Sharing
+mod Turning
+mod Working

@@ -1,4 +1,0 @@
--- Files, and loops that are prepared.
-pub mod Answering
-pub mod Choosing
-pub mod Preparing

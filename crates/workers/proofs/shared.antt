@@ -1,4 +1,0 @@
--- Workers on one board.
-pub mod Sharing
-pub mod Turning
-pub mod Working
