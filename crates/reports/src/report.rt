@@ -64,7 +64,7 @@ impl<'a> Report<'a> {
         self.lost == 0 && self.entries.iter().all(|entry| !entry.found.is_unsettled())
     }
 
-    /// A report without entries.
+    /// A report of these loops, without entries.
     pub fn new(alloc: Global, loops: &'a [Prepared]) -> Report<'a>
         ensures loops { result.loops ≡ loops.now }
         ensures entries { result.entries ≡ [] }
@@ -100,7 +100,7 @@ impl<'a> Report<'a> {
         self.dry = true;
     }
 
-    /// Makes room for so many entries more, if there is memory.
+    /// Makes room for so many entries more. The result is whether there is memory for them.
     pub fn reserve(&mut self, count: usize) -> bool
         ensures loops { self.new.loops ≡ self.old.loops }
         ensures entries { self.new.entries ≡ self.old.entries }
