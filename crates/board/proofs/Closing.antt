@@ -11,7 +11,7 @@ use Rattle.board.specs.declared.view.Terms.{Terms}
 use Rattle.board.specs.Views.{blank, beyond, is_dry}
 use Rattle.board.specs.Rule.{total, occurrences, times_posted, least_of, IsTrueAnswer, IsWithinParts, Rule}
 use Rattle.board.specs.inner.Steps.{Keeps, both}
-use Rattle.board.specs.Together.{IsTogether}
+use Rattle.board.specs.inner.Together.{IsTogether}
 use Rattle.board.specs.declared.word.WordPass.{WordPass}
 use Rattle.board.specs.Boards.{view_of}
 use Rattle.board.specs.Drawing.{EachPieceOnce, SomeIsDry}

@@ -3,7 +3,6 @@ pub mod Views
 pub mod Rule
 pub mod Names
 pub mod Boards
-pub mod Together
 pub mod Closes
 pub mod Last
 pub mod Events

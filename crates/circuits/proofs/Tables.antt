@@ -9,7 +9,7 @@ use Rattle.std.proofs.lemmas.List.Elements.{All-contains}
 use Rattle.std.proofs.Math.Nat.{mul-add}
 use Rattle.graph.specs.Dependences.{EdgeData}
 use Rattle.graph.specs.Graphs.{GraphData, IsGraph}
-use Rattle.graph.specs.Reaches.{KeepsNumber}
+use Rattle.graph.specs.Kept.{KeepsNumber}
 use Rattle.graph.specs.Walks.{IsWalk, delay_of, distance_of, FitsCircuits}
 use Rattle.graph.proofs.walks.Circuits.{IsWalk-append, delay_of-append, distance_of-append}
 use Rattle.graph.proofs.walks.Raises.{all-from_filter, contained-from_filter}

@@ -9,7 +9,7 @@ use Rattle.ims.specs.Problems.{ProblemData, mii_of}
 use Rattle.candidates.specs.Choices.{IsChoice}
 use Rattle.reports.specs.Entries.{ReportData, is_settled_in, mii_at}
 use Rattle.reports.specs.Gathered.{tried, missing_in, retried_from}
-use Rattle.gathering.specs.Cells.{AddsChoice, AddsEmpty, AreEmptyCells, ChosenData, IsFirst, AreCellsOf, IsTrueCell, known_at, known_in, empty_from, is_full}
+use Rattle.gathering.specs.inner.Cells.{AddsChoice, AddsEmpty, AreEmptyCells, ChosenData, IsFirst, AreCellsOf, IsTrueCell, known_at, known_in, empty_from, is_full}
 
 pub first_on : (ps : List ProblemData) (rs : List LoopCells) (cs : List Choice) (retried : ℕ) (c : Choice) (p : ProblemData) (r : LoopCells) → IsFirst ps rs cs retried → length cs < length ps → length rs ≡ length ps
     → IsChoice (slice_index_or ps (length cs) p) c

@@ -11,7 +11,7 @@ use Rattle.candidates.specs.declared.outcomes.Outcome.TheVariants.{Met, Failed}
 use Rattle.ims.specs.Problems.{ProblemData, IsProblem, mii_of}
 use Rattle.candidates.specs.Outcomes.{GivesKernel, FailsBy}
 use Rattle.candidates.specs.Choices.{IsLeastMet, IsUnmet, NoneBefore}
-use Rattle.gathering.specs.Cells.{known_at, empty_from, is_full}
+use Rattle.gathering.specs.inner.Cells.{known_at, empty_from, is_full}
 use Rattle.gathering.proofs.Filling.{set_length}
 use Rattle.candidates.proofs.OneOutcomes.{one_outcome}
 

@@ -11,7 +11,7 @@ use Rattle.reports.specs.declared.entry.Found.{Found}
 use Rattle.reports.specs.declared.entry.Found.TheVariants.{Won, Failed, Beaten, Unsettled}
 use Rattle.ims.specs.Problems.{ProblemData, mii_of}
 use Rattle.reports.specs.Entries.{IsTrueAt, settles, is_settled, mii_at}
-use Rattle.gathering.specs.Cells.{AreCellsOf, IsTrueCell, known_at, known_in, is_full, kept_of}
+use Rattle.gathering.specs.inner.Cells.{AreCellsOf, IsTrueCell, known_at, known_in, is_full, kept_of}
 
 or_false : (b : Bool) → b ≡ (b || false)
 or_false true = refl

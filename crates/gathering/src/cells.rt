@@ -2,7 +2,7 @@
 ghost use Rattle.std.specs.Prelude.{◌≡◌, ◌<◌, ◌+◌, ◌||◌, ℕ, length, None, Some, IfOk, replicate};
 ghost use Rattle.std.specs.List.{All, AllZip, list_any, slice_set};
 ghost use Rattle.reports.specs.Entries.{IsEntry, is_settled_in, settles, mii_at};
-ghost use Rattle.gathering.specs.Cells.{AddsEmpty, AreEmptyCells, AreCellsOf, known_at, known_in, is_full, kept_of};
+ghost use Rattle.gathering.specs.inner.Cells.{AddsEmpty, AreEmptyCells, AreCellsOf, known_at, known_in, is_full, kept_of};
 
 use candidates::Cause;
 use ims::Prepared;

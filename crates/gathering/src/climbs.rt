@@ -5,7 +5,7 @@ ghost use Rattle.ims.specs.Problems.{mii_of};
 ghost use Rattle.candidates.specs.Outcomes.{Gives};
 ghost use Rattle.candidates.specs.Choices.{IsChoice};
 ghost use Rattle.reports.specs.Gathered.{tried};
-ghost use Rattle.gathering.specs.Cells.{AreCellsOf, IsTrueCell, known_at, empty_from, is_full};
+ghost use Rattle.gathering.specs.inner.Cells.{AreCellsOf, IsTrueCell, known_at, empty_from, is_full};
 
 use crate::cells::{LoopCells, Settled};
 use candidates::{Cause, Choice, Outcome, Trials};

@@ -3,7 +3,7 @@ ghost use Rattle.std.specs.Prelude.{◌≡◌, ◌<◌, ◌≤◌, ◌+◌, ◌+
 ghost use Rattle.std.specs.List.{All, AllZip};
 ghost use Rattle.candidates.specs.Choices.{IsChoice};
 ghost use Rattle.reports.specs.Gathered.{retried_from};
-ghost use Rattle.gathering.specs.Cells.{AddsChoice, ChosenData, IsFirst, AreCellsOf};
+ghost use Rattle.gathering.specs.inner.Cells.{AddsChoice, ChosenData, IsFirst, AreCellsOf};
 
 use crate::cells::{LoopCells, empty_cells, fill};
 use crate::climbs::climb;

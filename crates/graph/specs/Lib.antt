@@ -4,8 +4,8 @@ pub mod TablesAnswer
 pub mod Dependences
 pub mod Faults
 pub mod Graphs
+pub mod Kept
 pub mod Promises
-pub mod Reaches
 pub mod Rounds
 pub mod Schedules
 pub mod Subscripts

@@ -1,7 +1,8 @@
 -- Walks along edges, the recurrence-constrained lower bound (RecMII) and heights (HeightR), of B. R. Rau, HPL-94-115.
-use Rattle.std.specs.Prelude.{◌≡◌, ◌⊎◌, ℕ, ℤ, pos, ◌+◌, ◌-◌, ◌*◌, ◌+ℤ◌, ◌-ℤ◌, ◌≤ℤ◌, ◌<ℤ◌, ◌≤◌, List, [], ◌∷◌, slice_index}
+use Rattle.std.specs.Prelude.{◌≡◌, ◌⊎◌, ℕ, ℤ, pos, ◌+◌, ◌-◌, ◌*◌, ◌+ℤ◌, ◌-ℤ◌, ◌≤ℤ◌, ◌<ℤ◌, ◌<◌, ◌≤◌, List, [], ◌∷◌, length, slice_index}
 use Rattle.std.specs.List.{Contains}
 use Rattle.graph.specs.Dependences.{EdgeData}
+use Rattle.graph.specs.Graphs.{GraphData}
 
 -- the walk goes along edges of the list from one operation to another; the walk without edges stays
 abbrev pub IsWalk : List EdgeData → ℕ → List EdgeData → ℕ → Type 0
@@ -45,3 +46,7 @@ pub record IsHeight (edges : List EdgeData) (latencies : List ℕ) (ii : ℕ) (p
   pub is_walk : IsWalk edges p walk end
   pub as_long : pos height ≡ length_of latencies ii walk end
   pub longest : (other : List EdgeData) (last : ℕ) → IsWalk edges p other last → length_of latencies ii other last ≤ℤ pos height
+
+-- the height of each operation
+abbrev pub AreHeights : GraphData → ℕ → List ℕ → Type 0
+AreHeights graph ii numbers = (p : ℕ) → p < length graph.latencies → IsHeight graph.edges graph.latencies ii p (slice_index numbers p)

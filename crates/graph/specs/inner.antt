@@ -2,3 +2,4 @@
 pub mod SameArrays
 pub mod Layout
 pub mod Sweeps
+pub mod Reaches

@@ -3,7 +3,8 @@
 ghost use Rattle.std.specs.Prelude.{◌≡◌, ◌↔◌, ◌+◌, ◌%◌, ◌^◌, ◌<◌, ◌≤◌, ℕ, length, Some, None, IsTrue, if◌then◌else◌};
 ghost use Rattle.std.specs.List.{All};
 ghost use Rattle.mrt.specs.Placements.{alternatives_of, IsFree, IsFirstFree, IsFirstSlot};
-ghost use Rattle.mrt.specs.inner.Slots.{IsSlot, rows_in, takes, meets_held};
+ghost use Rattle.mrt.specs.inner.Slots.{IsSlot, rows_in, meets_held};
+ghost use Rattle.mrt.specs.Taken.{takes};
 ghost use Rattle.mrt.specs.inner.MaskTables.{AreTimes};
 ghost use Rattle.mrt.specs.inner.Times.{is_set};
 

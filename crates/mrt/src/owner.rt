@@ -4,7 +4,8 @@ ghost use Rattle.std.specs.Prelude.{◌≡◌, ◌↔◌, ◌+◌, ◌*◌, ◌%
 ghost use Rattle.std.specs.List.{All};
 ghost use Rattle.machine_data.specs.Alternative.{residue_of};
 ghost use Rattle.mrt.specs.Placements.{alternatives_of, IsFree};
-ghost use Rattle.mrt.specs.inner.Slots.{IsSlot, rows_in, takes, meets_held};
+ghost use Rattle.mrt.specs.inner.Slots.{IsSlot, rows_in, meets_held};
+ghost use Rattle.mrt.specs.Taken.{takes};
 ghost use Rattle.mrt.specs.inner.OwnerTables.{owner_at, is_owned};
 
 use crate::memory::refill;

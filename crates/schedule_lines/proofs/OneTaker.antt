@@ -6,7 +6,7 @@ use Rattle.std.proofs.lemmas.List.{get_or_default}
 use Rattle.std.proofs.lemmas.List.Folds.{Any-from_list_any}
 use Rattle.machine_data.specs.declared.alternative.Row.{Row}
 use Rattle.machine_data.specs.Alternative.{residue_of, rows_meet}
-use Rattle.mrt.specs.inner.Slots.{takes}
+use Rattle.mrt.specs.Taken.{takes}
 use Rattle.schedule_lines.specs.Slots.{SlotsHaveOneTaker, rows_at}
 
 and-both : (a b : Bool) → (a && b) ≡ true → (a ≡ true) × (b ≡ true)

@@ -6,7 +6,7 @@ use Rattle.graph.specs.Units.{greatest_of}
 use Rattle.graph_text.specs.Names.{op_name}
 use Rattle.graph_text.specs.Texts.{told}
 use Rattle.mrt.specs.Placements.{rows_of}
-use Rattle.mrt.specs.inner.Slots.{takes}
+use Rattle.mrt.specs.Taken.{takes}
 use Rattle.ims.specs.Schedules.{IsSchedule, ScheduleData, stage_of}
 use Rattle.overlap.specs.Lifetimes.{lifetimes_of}
 use Rattle.rotating.specs.Crowds.{crowd_in}

@@ -2,7 +2,7 @@
 
 ghost use Rattle.std.specs.Prelude.{◌≡◌, ◌<◌, ◌≤◌, ◌*◌, ◌^◌, ℕ, length, if◌then◌else◌, slice_index, IfOk};
 ghost use Rattle.std.specs.List.{All};
-ghost use Rattle.mrt.specs.inner.Slots.{takes};
+ghost use Rattle.mrt.specs.Taken.{takes};
 ghost use Rattle.schedule_lines.specs.Slots.{rows_at};
 ghost use Rattle.schedule_lines.specs.inner.Tables.{AreTakersFrom, taker_in};
 

@@ -3,7 +3,7 @@ ghost use Rattle.std.specs.Prelude.{◌≡◌, ◌+◌, ◌<◌, ◌≤◌, ◌�
 ghost use Rattle.board.specs.Last.{IsWhole};
 ghost use Rattle.board.specs.Views.{is_dry};
 ghost use Rattle.board.specs.Rule.{Rule, times_drawn, next_of, least_of};
-ghost use Rattle.board.specs.Together.{IsTogether};
+ghost use Rattle.board.specs.inner.Together.{IsTogether};
 ghost use Rattle.board.specs.Boards.{tag_of, sizes_of, pass_tag_of, view_of, IsPassOf};
 
 use super::{NONE, WordBoard, WordPass};

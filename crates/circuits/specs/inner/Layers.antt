@@ -3,7 +3,7 @@ use Rattle.std.specs.Prelude.{◌≡◌, ◌≢◌, ℕ, pos, ◌+◌, ◌*◌, 
 use Rattle.std.specs.List.{slice_index_or, All, AllPairs, Contains}
 use Rattle.graph.specs.Dependences.{EdgeData}
 use Rattle.graph.specs.Graphs.{GraphData}
-use Rattle.graph.specs.Reaches.{KeepsNumber}
+use Rattle.graph.specs.Kept.{KeepsNumber}
 
 -- at the interval, the edge leads on to a walk of its target's length, and with it the walk is this long
 abbrev pub LeadsOn : List EdgeData → ℕ → List ℕ → ℕ → EdgeData → Type 0

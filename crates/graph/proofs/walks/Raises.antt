@@ -11,7 +11,7 @@ use Rattle.std.proofs.Math.Nat.{mul-add}
 use Rattle.graph.specs.Dependences.{EdgeData}
 use Rattle.graph.specs.Graphs.{GraphData, IsGraph}
 use Rattle.graph.specs.Walks.{IsWalk, distance_of, length_of}
-use Rattle.graph.specs.Reaches.{IsReach, AreReaches, IsRaised}
+use Rattle.graph.specs.inner.Reaches.{IsReach, AreReaches, IsRaised}
 
 -- what holds of each element that passes a test
 pub all-from_filter : {X : Type 0} (p : X → Bool) (P : X → Type 0) (xs : List X) → All P (filter p xs) → All (λ x. p x ≡ true → P x) xs

@@ -9,9 +9,9 @@ use Rattle.std.proofs.lemmas.List.Elements.{All-contains, All-contains_itself}
 use Rattle.std.proofs.Math.Nat.{mul-add}
 use Rattle.graph.specs.Dependences.{EdgeData}
 use Rattle.graph.specs.Graphs.{GraphData, IsGraph}
-use Rattle.graph.specs.Walks.{IsWalk, delay_of, distance_of, length_of, FitsCircuits, Exceeds, IsHeight}
+use Rattle.graph.specs.Walks.{IsWalk, delay_of, distance_of, length_of, FitsCircuits, Exceeds, IsHeight, AreHeights}
 use Rattle.graph.specs.Rounds.{IsSettledAt, Settles, IsRounds}
-use Rattle.graph.specs.Reaches.{IsReach, AreReaches, IsRaised, IsUnsettled, AreHeights}
+use Rattle.graph.specs.inner.Reaches.{IsReach, AreReaches, IsRaised, IsUnsettled}
 use Rattle.graph.specs.Promises.{SumsAreLimited}
 use Rattle.graph.proofs.walks.Circuits.{exceeds_or_short}
 use Rattle.graph.proofs.walks.Raises.{reach-raised}

@@ -10,8 +10,9 @@ use Rattle.std.proofs.Math.ListN.{length-set, replicate}
 use Rattle.std.proofs.lemmas.List.{length-replicate, get_or-replicate, get_or_default}
 use Rattle.graph.specs.Dependences.{EdgeData}
 use Rattle.graph.specs.Graphs.{GraphData, IsGraph}
-use Rattle.graph.specs.Walks.{IsWalk, delay_of, distance_of, length_of, FitsCircuits, Exceeds}
-use Rattle.graph.specs.Reaches.{IsReach, AreReaches, KeepsNumber, KeepsNumbers, IsRaised, IsRise, AreHeights, AreVias}
+use Rattle.graph.specs.Walks.{IsWalk, delay_of, distance_of, length_of, FitsCircuits, Exceeds, AreHeights}
+use Rattle.graph.specs.inner.Reaches.{IsReach, AreReaches, KeepsNumbers, IsRaised, IsRise, AreVias}
+use Rattle.graph.specs.Kept.{KeepsNumber}
 use Rattle.graph.specs.inner.Sweeps.{KeepsOnward}
 use Rattle.graph.proofs.walks.Circuits.{exceeds_or_short, IsWalk-append, delay_of-append, distance_of-append}
 use Rattle.graph.proofs.walks.Raises.{all-from_filter, reach-raised}

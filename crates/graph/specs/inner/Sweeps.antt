@@ -3,7 +3,7 @@ use Rattle.std.specs.Prelude.{ℕ, ◌<◌, ◌≤◌, List, slice_index}
 use Rattle.std.specs.List.{All}
 use Rattle.graph.specs.Dependences.{EdgeData}
 use Rattle.graph.specs.Graphs.{GraphData}
-use Rattle.graph.specs.Reaches.{KeepsNumber}
+use Rattle.graph.specs.Kept.{KeepsNumber}
 
 -- no edge to a later operation raises a number
 abbrev pub KeepsOnward : GraphData → ℕ → List ℕ → Type 0

@@ -6,7 +6,7 @@ ghost use Rattle.std.specs.List.{All};
 ghost use Rattle.graph.specs.declared.dependence.edge.Edge.{Edge};
 ghost use Rattle.graph.specs.Graphs.{IsGraph};
 ghost use Rattle.std.specs.Bool.{OnTrue};
-ghost use Rattle.graph.specs.Reaches.{AreReaches, AreVias, IsRaised, IsRise, KeepsNumbers, IsAbove, Relaxes};
+ghost use Rattle.graph.specs.inner.Reaches.{AreReaches, AreVias, IsRaised, IsRise, KeepsNumbers, IsAbove, Relaxes};
 ghost use Rattle.graph.specs.inner.Sweeps.{KeepsBack, KeepsOnward};
 
 use crate::dependence::edge::Edge;

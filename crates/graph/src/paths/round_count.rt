@@ -4,7 +4,7 @@ ghost use Rattle.std.specs.Prelude.{◌≡◌, ℕ, true, ◌<◌, ◌≤◌, �
 ghost use Rattle.graph.specs.declared.dependence.edge.Edge.{Edge};
 ghost use Rattle.graph.specs.Walks.{FitsCircuits};
 ghost use Rattle.graph.specs.Rounds.{IsRounds, TellsFeasible};
-ghost use Rattle.graph.specs.Reaches.{IsRaised};
+ghost use Rattle.graph.specs.inner.Reaches.{IsRaised};
 
 use crate::layout::graph::Edges;
 use crate::paths::relaxation::{Relaxed, raised, relax, set_first};

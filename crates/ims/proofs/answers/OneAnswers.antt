@@ -9,8 +9,7 @@ use Rattle.std.proofs.lemmas.List.{ext_get_or}
 use Rattle.std.proofs.lemmas.Option.{none-some, same_Some, slice_get-get_or}
 use Rattle.machine_data.specs.declared.alternative.Row.{Row}
 use Rattle.graph.specs.Dependences.{EdgeData}
-use Rattle.graph.specs.Walks.{IsHeight, length_of}
-use Rattle.graph.specs.Reaches.{AreHeights}
+use Rattle.graph.specs.Walks.{IsHeight, length_of, AreHeights}
 use Rattle.mrt.specs.Placements.{OperationAlternatives, Placements, Placement, placement_of, IsFree, IsFirstSlot}
 use Rattle.ims.specs.declared.outcome.attempts.Try.{Try}
 use Rattle.ims.specs.declared.outcome.attempts.Try.TheVariants.{Placed, Failed}

@@ -12,7 +12,7 @@ use Rattle.machine_data.specs.declared.alternative.Row.{Row}
 use Rattle.machine_data.specs.Alternative.{residue_of, rows_meet, collides}
 use Rattle.graph.specs.Schedules.{KeepsUnits, KeepsEdge, issued_rows}
 use Rattle.mrt.specs.Placements.{OperationAlternatives, Placements, Placement, placement_of, alternatives_of, rows_of, IsFree, Holds, IsHolder}
-use Rattle.mrt.specs.inner.Slots.{AreApart}
+use Rattle.mrt.specs.Taken.{AreApart}
 use Rattle.mrt.proofs.searching.Scheduling.{AreApart-claimed, fits_from_no_holders}
 use Rattle.mrt.proofs.placements.Lists.{list_any_place, slice_get-set_same, slice_get-set_other}
 use Rattle.ims.specs.inner.Listed.{ArePlaces, IsHeld, IsClash}

@@ -7,7 +7,7 @@ use Rattle.std.proofs.lemmas.Option.{none-some, same_Some, slice_get_within, get
 use Rattle.machine_data.specs.declared.alternative.Row.{Row}
 use Rattle.machine_data.specs.Alternative.{residue_of, collides}
 use Rattle.mrt.specs.Placements.{OperationAlternatives, Placements, Placement, placement_of, rows_of, IsMetBy, Fits, Holds, IsHolder}
-use Rattle.mrt.specs.inner.Slots.{Takes}
+use Rattle.mrt.specs.Taken.{Takes}
 use Rattle.mrt.proofs.placements.Lists.{slice_get-set_same, slice_get-set_other}
 use Rattle.mrt.proofs.searching.Taking.{takes_from_Holds, met_from_takes, placed_within}
 use Rattle.mrt.proofs.searching.Scheduling.{Holds-removed, fits_from_no_holders}

@@ -15,7 +15,7 @@ use Rattle.graph.specs.Walks.{FitsCircuits, delay_of, distance_of}
 use Rattle.graph.specs.Schedules.{IsPlan, KeepsUnits, KeepsEdge, IsLawfulSchedule}
 use Rattle.graph.proofs.walks.Settling.{fits-at_longer}
 use Rattle.mrt.specs.Placements.{Placement, placement_of, alternatives_of, rows_of, IsMetBy, IsFree, IsFirstSlot}
-use Rattle.mrt.specs.inner.Slots.{Takes, AreApart, takes}
+use Rattle.mrt.specs.Taken.{Takes, AreApart, takes}
 use Rattle.mrt.proofs.searching.Taking.{takes_place, met_from_takes, unplaced_at_first}
 use Rattle.mrt.proofs.searching.Scheduling.{AreApart-none}
 use Rattle.ims.specs.Problems.{ProblemData, IsProblem, mii_of}

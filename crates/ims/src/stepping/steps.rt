@@ -1,7 +1,7 @@
 //! The steps of an attempt.
 
 ghost use Rattle.std.specs.Prelude.{◌≡◌, ℕ, ◌<◌, ◌≤◌, List, length, replicate, None, slice_index, IfOk};
-ghost use Rattle.graph.specs.Reaches.{AreHeights};
+ghost use Rattle.graph.specs.Walks.{AreHeights};
 ghost use Rattle.mrt.specs.Placements.{alternatives_of};
 ghost use Rattle.ims.specs.Problems.{mii_of};
 ghost use Rattle.ims.specs.Scheduling.{IsFirstSound, Stops, empty};

@@ -13,7 +13,6 @@ use Rattle.iterations.specs.declared.language.lists.Array.{Array}
 use Rattle.iterations.specs.declared.language.lists.Param.{Param}
 use Rattle.iterations.specs.declared.language.lists.Initial.{Initial}
 use Rattle.iterations.specs.declared.language.statement.Statement.{Statement}
-use Rattle.loop_reader.specs.inner.Blocks.{one_if}
 use Rattle.loop_lines.specs.Forms.{Form, ArrayLine, ParamLine, StatementLine}
 use Rattle.iterations.specs.Loops.{LoopData, IsLoop, GivesValue, HasInitial, declared_names, value_names}
 use Rattle.loop_reader.specs.Meaning.{Declared, AnArray, AParam, AValue, declared_by, first_declared, declared, how_many, is_array, is_param, is_statement, is_init, has_init, any_name}
@@ -151,14 +150,14 @@ pub how_many-all : {X : Type 0} (p : Form → Bool) (f : X → Form) (xs : List 
 how_many-all p f [] h = refl
 how_many-all p f (x ∷ xs) h =
     let c = how_many-cons p (f x) (map f xs) in
-    let one = ap one_if (h x) in
+    let one = ap (λ b. cond b 1 0) (h x) in
     omega (arith, how_many-all p f xs h)
 
 pub how_many-none : {X : Type 0} (p : Form → Bool) (f : X → Form) (xs : List X) → ((x : X) → p (f x) ≡ false) → how_many p (map f xs) ≡ 0
 how_many-none p f [] h = refl
 how_many-none p f (x ∷ xs) h =
     let c = how_many-cons p (f x) (map f xs) in
-    let one = ap one_if (h x) in
+    let one = ap (λ b. cond b 1 0) (h x) in
     omega (arith, how_many-none p f xs h)
 
 -- where the lines of each kind stand

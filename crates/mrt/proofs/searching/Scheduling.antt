@@ -6,7 +6,7 @@ use Rattle.std.proofs.lemmas.Option.{slice_get-get_or}
 use Rattle.machine_data.specs.declared.alternative.Row.{Row}
 use Rattle.machine_data.specs.Alternative.{residue_of, alternatives_meet, collides}
 use Rattle.mrt.specs.Placements.{OperationAlternatives, Placements, Placement, placement_of, rows_of, IsMetBy, Fits, IsFree, Holds}
-use Rattle.mrt.specs.inner.Slots.{Takes, AreApart}
+use Rattle.mrt.specs.Taken.{Takes, AreApart}
 use Rattle.mrt.proofs.searching.Taking.{none_placed, takes_at, takes_from_met, takes_from_Holds, Holds-from_takes, Takes-removed}
 use Rattle.mrt.proofs.slots.Marking.{AreApart-placed}
 

@@ -10,7 +10,8 @@ use Rattle.machine_data.specs.declared.alternative.Row.{Row}
 use Rattle.machine_data.specs.Alternative.{residue_of, rows_meet, collides}
 use Rattle.mrt.specs.declared.rosters.slot.Slot.{Slot}
 use Rattle.mrt.specs.Placements.{OperationAlternatives, Placements, Placement, placement_of, alternatives_of, rows_of, IsMetBy, IsFree, Holds}
-use Rattle.mrt.specs.inner.Slots.{rows_in, takes, Takes, meets_held, Occupies}
+use Rattle.mrt.specs.inner.Slots.{rows_in, meets_held, Occupies}
+use Rattle.mrt.specs.Taken.{takes, Takes}
 use Rattle.mrt.proofs.placements.Lists.{list_any_place, slice_get-set_same, slice_get-set_other}
 
 -- ---- one row and its slot

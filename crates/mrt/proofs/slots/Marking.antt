@@ -4,7 +4,8 @@ use Rattle.std.proofs.lemmas.Bool.{cases_Bool, false≢true, both_ways}
 use Rattle.std.proofs.lemmas.Option.{none-some, same_Some}
 use Rattle.machine_data.specs.declared.alternative.Row.{Row}
 use Rattle.mrt.specs.Placements.{OperationAlternatives, Placements, Placement, placement_of, rows_of, IsMetBy}
-use Rattle.mrt.specs.inner.Slots.{takes, Takes, Occupies, AreApart, Owns}
+use Rattle.mrt.specs.Taken.{takes, Takes, AreApart}
+use Rattle.mrt.specs.inner.Slots.{Occupies, Owns}
 use Rattle.mrt.proofs.searching.Taking.{takes_place, met_from_takes, takes_other, takes_own, Takes-placed, Takes-removed}
 
 module _ (ii units : ℕ) (operations : OperationAlternatives) (placed : Placements) (op : ℕ) (at : Placement) where

@@ -10,7 +10,8 @@ use Rattle.machine_data.specs.declared.alternative.Row.{Row}
 use Rattle.machine_data.specs.Alternative.{residue_of}
 use Rattle.mrt.specs.Placements.{OperationAlternatives, Placements, Placement, placement_of, rows_of, IsFree, Holds, IsHolder}
 use Rattle.mrt.specs.inner.Rosters.{Table}
-use Rattle.mrt.specs.inner.Slots.{takes, Takes, Occupies, AreApart}
+use Rattle.mrt.specs.Taken.{takes, Takes, AreApart}
+use Rattle.mrt.specs.inner.Slots.{Occupies}
 use Rattle.mrt.specs.inner.Times.{is_set, is_on}
 use Rattle.mrt.specs.inner.MaskTables.{IsMaskTable, AreTimes}
 use Rattle.mrt.proofs.searching.Taking.{none_placed, takes_from_Holds, Holds-from_takes}

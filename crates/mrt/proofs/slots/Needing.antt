@@ -7,7 +7,8 @@ use Rattle.std.proofs.lemmas.List.Folds.{list_any_more}
 use Rattle.machine_data.specs.declared.alternative.Row.{Row}
 use Rattle.machine_data.specs.Alternative.{residue_of, rows_meet, collides}
 use Rattle.mrt.specs.declared.rosters.slot.Slot.{Slot}
-use Rattle.mrt.specs.inner.Slots.{rows_in, needs_unit, HasUnits, takes}
+use Rattle.mrt.specs.inner.Slots.{rows_in, needs_unit, HasUnits}
+use Rattle.mrt.specs.Taken.{takes}
 use Rattle.mrt.proofs.placements.Lists.{list_any-map}
 use Rattle.mrt.proofs.placements.Choosing.{collides-drop}
 use Rattle.mrt.proofs.slots.Masking.{with_set, test_clear}

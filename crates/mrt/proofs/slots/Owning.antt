@@ -12,7 +12,8 @@ use Rattle.mrt.specs.declared.rosters.slot.Slot.{Slot}
 use Rattle.mrt.specs.declared.owner.TheConstants.{FREE}
 use Rattle.mrt.specs.Placements.{OperationAlternatives, Placements, Placement, placement_of, rows_of, IsFree, Holds}
 use Rattle.mrt.specs.inner.Rosters.{Table}
-use Rattle.mrt.specs.inner.Slots.{rows_in, takes, meets_held, Owns, Occupies}
+use Rattle.mrt.specs.inner.Slots.{rows_in, meets_held, Owns, Occupies}
+use Rattle.mrt.specs.Taken.{takes}
 use Rattle.mrt.specs.inner.OwnerTables.{owner_at, is_owned, IsOwnerTable}
 use Rattle.mrt.proofs.placements.Lists.{list_any-map}
 use Rattle.mrt.proofs.searching.Taking.{placed_within, none_placed, takes_from_Holds, Holds-from_takes}

@@ -1,7 +1,8 @@
 -- A table of bits, one for each residue or time of each unit.
 use Rattle.std.specs.Prelude.{◌≡◌, ℕ, ◌+◌, ◌*◌, ◌<◌, ◌≤◌, List, length}
 use Rattle.mrt.specs.inner.Rosters.{Table}
-use Rattle.mrt.specs.inner.Slots.{Occupies, AreApart}
+use Rattle.mrt.specs.inner.Slots.{Occupies}
+use Rattle.mrt.specs.Taken.{AreApart}
 use Rattle.mrt.specs.inner.Times.{is_set, Tell, TellOnce}
 
 -- the bits are those of the slots that the placed operations take

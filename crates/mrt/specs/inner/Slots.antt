@@ -1,11 +1,12 @@
--- Rows as a table at one interval reads them, and the slots that are taken.
-use Rattle.std.specs.Prelude.{◌≡◌, ◌≢◌, ℕ, ◌%◌, ◌^◌, ◌<◌, ◌==◌, ◌&&◌, Bool, true, List, map, Some}
+-- Rows as a table at one interval reads them, and the slots that are held.
+use Rattle.std.specs.Prelude.{◌≡◌, ◌≢◌, ℕ, ◌%◌, ◌^◌, ◌<◌, ◌==◌, Bool, true, List, map}
 use Rattle.std.specs.Int.{bit_at}
 use Rattle.std.specs.List.{list_any}
 use Rattle.machine_data.specs.declared.alternative.Row.{Row}
 use Rattle.machine_data.specs.Alternative.{residue_of}
 use Rattle.mrt.specs.declared.rosters.slot.Slot.{Slot}
-use Rattle.mrt.specs.Placements.{OperationAlternatives, Placements, Placement, placement_of, rows_of}
+use Rattle.mrt.specs.Placements.{OperationAlternatives, Placements}
+use Rattle.mrt.specs.Taken.{Takes}
 
 -- the row is one that a machine may have, and what is kept beside it is its offset modulo the interval and the bit of its unit
 pub record IsSlot (ii : ℕ) (slot : Slot) : Type 0 where
@@ -29,16 +30,6 @@ needs_unit unit rows = list_any (λ row. unit == row.unit) rows
 abbrev pub HasUnits : ℕ → List Row → Type 0
 HasUnits bits rows = (unit : ℕ) → (bit_at bits unit == 1) ≡ needs_unit unit rows
 
--- one of the rows, issued at the time, takes this slot
-abbrev pub takes : ℕ → List Row → ℕ → ℕ → ℕ → Bool
-takes ii rows time unit residue = list_any (λ row. (unit == row.unit) && (residue == residue_of ii row time)) rows
-
--- the operation is placed, and takes the slot
-pub record Takes (ii : ℕ) (operations : OperationAlternatives) (placed : Placements) (unit residue op : ℕ) : Type 0 where
-  pub at : Placement
-  pub is_placed : placement_of placed op ≡ Some at
-  pub takes : takes ii (rows_of operations op at.alternative) at.time unit residue ≡ true
-
 -- some row, issued at the time, takes a slot that is held
 abbrev pub meets_held : ℕ → (ℕ → ℕ → Bool) → List Row → ℕ → Bool
 meets_held ii held rows time = list_any (λ row. held row.unit (residue_of ii row time)) rows
@@ -47,10 +38,6 @@ meets_held ii held rows time = list_any (λ row. held row.unit (residue_of ii ro
 pub record Occupies (ii units : ℕ) (operations : OperationAlternatives) (placed : Placements) (held : ℕ → ℕ → Bool) : Type 0 where
   pub marked : (unit residue op : ℕ) → unit < units → residue < ii → Takes ii operations placed unit residue op → held unit residue ≡ true
   pub owed : (unit residue : ℕ) → unit < units → residue < ii → held unit residue ≡ true → (op : ℕ) × Takes ii operations placed unit residue op
-
--- no two operations take one slot
-abbrev pub AreApart : ℕ → OperationAlternatives → Placements → Type 0
-AreApart ii operations placed = (unit residue op other : ℕ) → Takes ii operations placed unit residue op → Takes ii operations placed unit residue other → op ≡ other
 
 -- the owner of a slot is the operation that takes it, or `free` where none does
 pub record Owns (ii units free : ℕ) (operations : OperationAlternatives) (placed : Placements) (owner : ℕ → ℕ → ℕ) : Type 0 where

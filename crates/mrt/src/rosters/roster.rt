@@ -4,7 +4,8 @@ ghost use Rattle.std.specs.Prelude.{◌≡◌, ◌++◌, ◌%◌, ◌^◌, ◌<�
 ghost use Rattle.std.specs.List.{All};
 ghost use Rattle.machine_data.specs.Alternative.{IsAlternative, collides};
 ghost use Rattle.mrt.specs.Placements.{placement_of, alternatives_of, rows_of};
-ghost use Rattle.mrt.specs.inner.Slots.{IsSlot, rows_in, HasUnits, takes, Takes};
+ghost use Rattle.mrt.specs.inner.Slots.{IsSlot, rows_in, HasUnits};
+ghost use Rattle.mrt.specs.Taken.{takes, Takes};
 
 use crate::rosters::choices::Choices;
 use crate::rosters::kinds::{Kind, of_kind};

@@ -4,7 +4,8 @@
 ghost use Rattle.std.specs.Prelude.{◌≡◌, ◌+◌, ◌-◌, ◌%◌, ◌<◌, ◌≤◌, ◌==◌, ℕ, Bool, not, true, false, length, if◌then◌else◌};
 ghost use Rattle.std.specs.Int.{bit_at};
 ghost use Rattle.std.specs.List.{All};
-ghost use Rattle.mrt.specs.inner.Slots.{IsSlot, rows_in, takes, meets_held};
+ghost use Rattle.mrt.specs.inner.Slots.{IsSlot, rows_in, meets_held};
+ghost use Rattle.mrt.specs.Taken.{takes};
 ghost use Rattle.mrt.specs.inner.Times.{is_on, TellOnce};
 
 use crate::rosters::slot::Slot;

@@ -1,5 +1,5 @@
 use Rattle.std.proofs.Common.{◌≡◌, length}
-use Rattle.gathering.specs.Cells.{AreEmptyCells}
+use Rattle.gathering.specs.inner.Cells.{AreEmptyCells}
 use Rattle.gathering.proofs.cells.empty_cells.Given as goal
 
 abbrev pub invariant-loop-number : goal.invariant-loop-number

@@ -2,7 +2,7 @@ use Rattle.std.proofs.Common.{◌≡◌, ◌+◌, ℕ, vec_len}
 use Rattle.std.specs.Prelude.{◌||◌}
 use Rattle.std.specs.List.{All, AllZip}
 use Rattle.reports.specs.Entries.{ReportData, is_settled_in, mii_at}
-use Rattle.gathering.specs.Cells.{AreCellsOf, known_in, is_full}
+use Rattle.gathering.specs.inner.Cells.{AreCellsOf, known_in, is_full}
 use Rattle.gathering.proofs.cells.fill.Given as goal
 
 abbrev pub invariant-loop-report : goal.invariant-loop-report

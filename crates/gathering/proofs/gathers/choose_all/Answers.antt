@@ -1,5 +1,5 @@
 use Rattle.std.proofs.Common.{sym, subst, arith, ℕ, slice_index_or}
-use Rattle.gathering.specs.Cells.{AreCellsOf}
+use Rattle.gathering.specs.inner.Cells.{AreCellsOf}
 use Rattle.gathering.proofs.Filling.{row_there, row_of}
 use Rattle.gathering.proofs.Choosing.{chosen_on}
 use Rattle.gathering.proofs.gathers.choose_all.Goals as goal

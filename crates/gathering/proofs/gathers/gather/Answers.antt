@@ -4,7 +4,7 @@ use Rattle.std.specs.List.{AllZip}
 use Rattle.candidates.specs.Choices.{IsChoice}
 use Rattle.reports.specs.Entries.{is_settled_in, mii_at}
 use Rattle.reports.specs.Gathered.{retried_from}
-use Rattle.gathering.specs.Cells.{ChosenData, IsFirst, AreCellsOf, known_in, is_full}
+use Rattle.gathering.specs.inner.Cells.{ChosenData, IsFirst, AreCellsOf, known_in, is_full}
 use Rattle.gathering.proofs.Choosing.{both_ok, empty_full, empty_rows_of, first_all, first_retried, written}
 use Rattle.gathering.proofs.Filling.{row_there}
 use Rattle.gathering.proofs.gathers.gather.Goals as goal

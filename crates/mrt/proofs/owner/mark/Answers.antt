@@ -1,6 +1,7 @@
 use Rattle.std.proofs.Common.{◌∙◌, arith, cond, ap}
 use Rattle.std.proofs.lemmas.List.{take_all}
-use Rattle.mrt.specs.inner.Slots.{takes, rows_in}
+use Rattle.mrt.specs.Taken.{takes}
+use Rattle.mrt.specs.inner.Slots.{rows_in}
 use Rattle.mrt.specs.inner.OwnerTables.{owner_at}
 use Rattle.mrt.proofs.slots.Owning.{owner_at_more}
 use Rattle.mrt.proofs.owner.mark.Goals as goal

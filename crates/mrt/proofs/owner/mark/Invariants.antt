@@ -1,5 +1,6 @@
 use Rattle.std.proofs.Common.{◌≡◌, ℕ, ◌%◌, ◌<◌, cond, take}
-use Rattle.mrt.specs.inner.Slots.{rows_in, takes}
+use Rattle.mrt.specs.inner.Slots.{rows_in}
+use Rattle.mrt.specs.Taken.{takes}
 use Rattle.mrt.specs.inner.OwnerTables.{owner_at}
 use Rattle.mrt.proofs.owner.mark.Given as goal
 

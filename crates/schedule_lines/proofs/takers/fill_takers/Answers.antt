@@ -1,6 +1,6 @@
 use Rattle.std.proofs.Common.{◌≡◌, ℕ, ◌+◌, ◌-◌, ◌<◌, List, length, cond, ap, ◌∙◌, subst, arith}
 use Rattle.machine_data.specs.declared.alternative.Row.{Row}
-use Rattle.mrt.specs.inner.Slots.{takes}
+use Rattle.mrt.specs.Taken.{takes}
 use Rattle.schedule_lines.specs.Slots.{rows_at, takes_slot}
 use Rattle.schedule_lines.specs.inner.Tables.{AreTakersFrom, taker_in}
 use Rattle.schedule_lines.proofs.Marks.{takers-more}

@@ -1,6 +1,6 @@
 use Rattle.std.proofs.Common.{◌≡◌, ℕ, ◌<◌, take}
 use Rattle.std.specs.Prelude.{if◌then◌else◌}
-use Rattle.mrt.specs.inner.Slots.{takes}
+use Rattle.mrt.specs.Taken.{takes}
 use Rattle.schedule_lines.specs.inner.Tables.{taker_in}
 use Rattle.schedule_lines.proofs.takers.mark_rows.Given as goal
 

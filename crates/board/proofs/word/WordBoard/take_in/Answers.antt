@@ -1,6 +1,6 @@
 use Rattle.std.proofs.Common.{ap, sym, ◌∙◌, [], ◌∷◌, ◌++◌, subst, arith, append_assoc}
 use Rattle.std.specs.Prelude.{map, All}
-use Rattle.board.specs.Together.{IsTogether}
+use Rattle.board.specs.inner.Together.{IsTogether}
 use Rattle.board.specs.Boards.{view_of, IsPassOf}
 use Rattle.board.proofs.Closing.{joins, together_one, together_more, all_before, one_after}
 use Rattle.board.proofs.word.WordBoard.take_in.Goals as goal

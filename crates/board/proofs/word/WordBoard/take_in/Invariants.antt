@@ -2,7 +2,7 @@ use Rattle.std.proofs.Common.{◌≡◌, ◌++◌, List}
 use Rattle.std.specs.Prelude.{All, map, vec_len}
 use Rattle.board.specs.declared.word.WordPass.{WordPass}
 use Rattle.board.specs.Boards.{IsPassOf, view_of}
-use Rattle.board.specs.Together.{IsTogether}
+use Rattle.board.specs.inner.Together.{IsTogether}
 use Rattle.board.proofs.word.WordBoard.take_in.Given as goal
 
 abbrev pub invariant-loop-pass : goal.invariant-loop-pass

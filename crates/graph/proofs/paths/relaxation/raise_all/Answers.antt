@@ -3,7 +3,7 @@ use Rattle.std.proofs.lemmas.List.Elements.{Contains-get_or}
 use Rattle.std.proofs.Math.ListN.{length-set}
 use Rattle.graph.specs.Dependences.{EdgeData}
 use Rattle.graph.specs.Graphs.{IsGraph}
-use Rattle.graph.specs.Reaches.{IsReach, IsRaised, IsRise}
+use Rattle.graph.specs.inner.Reaches.{IsReach, IsRaised, IsRise}
 use Rattle.graph.proofs.walks.Raises.{small-targets, edge-outgoing}
 use Rattle.graph.proofs.walks.Sweeps.{swept_none, swept_all, swept-small, swept-reach, swept-risen, swept-kept, rise-from_reach, vias-set, keep-more, keeps-from_each, onward-risen, onward-more, onward-all}
 use Rattle.graph.proofs.paths.relaxation.raise_all.Goals as goal

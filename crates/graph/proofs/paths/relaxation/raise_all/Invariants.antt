@@ -1,5 +1,5 @@
 use Rattle.std.proofs.Common.{◌≡◌, ℕ, ◌≤◌, Some, None, length}
-use Rattle.graph.specs.Reaches.{AreVias, IsRise}
+use Rattle.graph.specs.inner.Reaches.{AreVias, IsRise}
 use Rattle.graph.proofs.walks.Sweeps.{IsSwept, KeepFrom, KeepOnward}
 use Rattle.graph.proofs.paths.relaxation.raise_all.Given as goal
 

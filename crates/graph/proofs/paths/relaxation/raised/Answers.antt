@@ -5,7 +5,7 @@ use Rattle.std.proofs.lemmas.Int.{ints, to_z-of_z}
 use Rattle.std.proofs.lemmas.List.{take_more, take_all}
 use lib.IntN.{nat_abs}
 use Rattle.graph.specs.Dependences.{EdgeData}
-use Rattle.graph.specs.Reaches.{IsRaised}
+use Rattle.graph.specs.inner.Reaches.{IsRaised}
 use Rattle.graph.proofs.walks.Raises.{IsRaised-none, IsRaised-higher, IsRaised-kept, less-from_test, no_less-from_test, pos-nat_abs}
 use Rattle.graph.proofs.paths.relaxation.raised.Goals as goal
 use Rattle.graph.proofs.paths.relaxation.raised.Goals.{then-reached-number, else-reached-number}

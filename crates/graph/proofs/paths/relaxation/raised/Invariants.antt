@@ -1,5 +1,5 @@
 use Rattle.std.proofs.Common.{◌<◌, ◌≤◌, length, take}
-use Rattle.graph.specs.Reaches.{IsRaised}
+use Rattle.graph.specs.inner.Reaches.{IsRaised}
 use Rattle.graph.proofs.paths.relaxation.raised.Given as goal
 
 abbrev pub invariant-loop-place : goal.invariant-loop-place

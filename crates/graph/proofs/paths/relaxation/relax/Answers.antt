@@ -1,6 +1,6 @@
 use Rattle.std.proofs.Common.{◌≡◌, ◌+◌, ◌-◌, ◌<◌, ◌≤◌, length, subst, inl, inr, refl, arith}
 use Rattle.graph.specs.Graphs.{IsGraph}
-use Rattle.graph.specs.Reaches.{IsRise}
+use Rattle.graph.specs.inner.Reaches.{IsRise}
 use Rattle.graph.specs.Walks.{Exceeds}
 use Rattle.graph.proofs.walks.Sweeps.{heights-from_kept, fits-from_kept_numbers, exceeds-from_rise, vias-none}
 use Rattle.graph.proofs.paths.relaxation.relax.Goals as goal

@@ -1,5 +1,5 @@
 use Rattle.std.proofs.Common.{◌≡◌, ◌⊎◌, ℕ, ◌-◌, ◌*◌}
-use Rattle.graph.specs.Reaches.{AreReaches, AreVias, IsRise}
+use Rattle.graph.specs.inner.Reaches.{AreReaches, AreVias, IsRise}
 use Rattle.graph.proofs.paths.relaxation.relax.Given as goal
 
 abbrev pub invariant-loop-made : goal.invariant-loop-made

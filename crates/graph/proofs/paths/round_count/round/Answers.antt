@@ -1,7 +1,7 @@
 use Rattle.std.proofs.Common.{◌≡◌, ℕ, ◌+◌, ◌<◌, ◌≤◌, ◌==◌, List, length, get_or, set, filter, sym, ◌∙◌, subst, arith, get_or-set_same}
 use Rattle.std.proofs.Math.ListN.{length-set}
 use Rattle.graph.specs.Dependences.{EdgeData}
-use Rattle.graph.specs.Reaches.{IsRaised}
+use Rattle.graph.specs.inner.Reaches.{IsRaised}
 use Rattle.graph.proofs.walks.Raises.{row-more, get_or-set_far, small-targets}
 use Rattle.graph.proofs.paths.round_count.round.Goals as goal
 use Rattle.graph.proofs.paths.round_count.round.Goals.{then-own-best, else-own-best}

@@ -1,6 +1,6 @@
 use Rattle.std.proofs.Common.{◌≡◌, ℕ, ◌<◌, ◌==◌, Some, None, length, get_or, filter}
 use Rattle.graph.specs.Dependences.{EdgeData}
-use Rattle.graph.specs.Reaches.{IsRaised}
+use Rattle.graph.specs.inner.Reaches.{IsRaised}
 use Rattle.graph.proofs.paths.round_count.round.Given as goal
 
 abbrev pub invariant-loop-operation : goal.invariant-loop-operation

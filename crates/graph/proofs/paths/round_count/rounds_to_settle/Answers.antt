@@ -1,7 +1,7 @@
 use Rattle.std.specs.Option.{is_some}
 use Rattle.std.proofs.Common.{◌≡◌, ℕ, Option, Some, None, true, false, refl, ◌+◌, ◌*◌, ◌<◌, ◌≤◌, length, get_or, subst, arith}
 use Rattle.graph.specs.Graphs.{IsGraph}
-use Rattle.graph.specs.Reaches.{AreReaches}
+use Rattle.graph.specs.inner.Reaches.{AreReaches}
 use Rattle.graph.proofs.walks.Settling.{reach-limited, reaches-more, changed-more, settles-from_same, rounds-settled, exceeds-from_unsettled, exceeds-not_fits, HaveChanged}
 use Rattle.graph.proofs.paths.round_count.rounds_to_settle.Goals as goal
 

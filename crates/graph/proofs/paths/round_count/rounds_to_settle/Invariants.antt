@@ -1,5 +1,5 @@
 use Rattle.std.proofs.Common.{◌+◌}
-use Rattle.graph.specs.Reaches.{AreReaches}
+use Rattle.graph.specs.inner.Reaches.{AreReaches}
 use Rattle.graph.proofs.walks.Settling.{HaveChanged}
 use Rattle.graph.proofs.paths.round_count.rounds_to_settle.Given as goal
 

@@ -1,6 +1,6 @@
 use Rattle.std.proofs.Common.{◌≡◌, ℕ, ◌<◌, List, length, drop, sym, ◌∙◌, subst, arith}
 use Rattle.std.specs.List.{slice_index}
-use Rattle.graph.specs.Reaches.{AreHeights}
+use Rattle.graph.specs.Walks.{AreHeights}
 use Rattle.mrt.specs.Placements.{OperationAlternatives, alternatives_of}
 use Rattle.ims.specs.Scheduling.{IsFirstSound, Stops}
 use Rattle.ims.proofs.answers.Answering.{unblocked}

@@ -1,5 +1,5 @@
 use Rattle.std.proofs.Common.{◌≡◌, ℕ, ◌+◌, ◌*◌, List, length}
-use Rattle.graph.specs.Reaches.{AreHeights}
+use Rattle.graph.specs.Walks.{AreHeights}
 use Rattle.ims.specs.inner.Progress.{AreBelow}
 use Rattle.ims.specs.Scheduling.{LeadsTo}
 use Rattle.ims.specs.inner.Waiting.{IsByHeight}

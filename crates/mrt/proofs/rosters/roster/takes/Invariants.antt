@@ -1,5 +1,6 @@
 use Rattle.std.proofs.Common.{◌≡◌, ℕ, ◌%◌, false, take}
-use Rattle.mrt.specs.inner.Slots.{rows_in, takes}
+use Rattle.mrt.specs.inner.Slots.{rows_in}
+use Rattle.mrt.specs.Taken.{takes}
 use Rattle.mrt.proofs.rosters.roster.takes.Given as goal
 
 -- no slot so far is this one

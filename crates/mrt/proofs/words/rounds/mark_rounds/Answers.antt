@@ -2,7 +2,8 @@ use Rattle.std.proofs.Common.{◌<◌, ◌&&◌, eqb, length, get_or, ap, ◌∙
 use Rattle.std.proofs.lemmas.Nat.{one_shl}
 use Rattle.std.proofs.lemmas.List.{take_all}
 use Rattle.mrt.specs.declared.rosters.slot.Slot.{Slot}
-use Rattle.mrt.specs.inner.Slots.{takes, rows_in}
+use Rattle.mrt.specs.Taken.{takes}
+use Rattle.mrt.specs.inner.Slots.{rows_in}
 use Rattle.mrt.specs.inner.Times.{is_on}
 use Rattle.mrt.proofs.slots.Owning.{write_more}
 use Rattle.mrt.proofs.slots.Timing.{is_on-set}

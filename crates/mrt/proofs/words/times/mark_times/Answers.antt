@@ -1,7 +1,8 @@
 use Rattle.std.proofs.Common.{◌<◌, ◌%◌, length, ap, ◌∙◌, cond, arith}
 use Rattle.std.proofs.lemmas.List.{take_all}
 use Rattle.mrt.specs.declared.rosters.slot.Slot.{Slot}
-use Rattle.mrt.specs.inner.Slots.{takes, rows_in}
+use Rattle.mrt.specs.Taken.{takes}
+use Rattle.mrt.specs.inner.Slots.{rows_in}
 use Rattle.mrt.specs.inner.Times.{is_set}
 use Rattle.mrt.proofs.slots.Owning.{write_more}
 use Rattle.mrt.proofs.words.times.mark_times.Goals as goal

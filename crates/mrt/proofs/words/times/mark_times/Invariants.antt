@@ -1,6 +1,7 @@
 -- The bits of the slots so far are written, and no other.
 use Rattle.std.proofs.Common.{◌≡◌, ℕ, ◌+◌, ◌%◌, ◌<◌, cond, take}
-use Rattle.mrt.specs.inner.Slots.{rows_in, takes}
+use Rattle.mrt.specs.inner.Slots.{rows_in}
+use Rattle.mrt.specs.Taken.{takes}
 use Rattle.mrt.specs.inner.Times.{is_set}
 use Rattle.mrt.proofs.words.times.mark_times.Given as goal
 

@@ -1,5 +1,5 @@
 use Rattle.std.proofs.Common.{ℕ, ◌<◌}
-use Rattle.mrt.specs.inner.Slots.{Takes}
+use Rattle.mrt.specs.Taken.{Takes}
 use Rattle.mrt.proofs.rosters.roster.Roster.taker.Given as goal
 
 -- no operation before this one takes the slot

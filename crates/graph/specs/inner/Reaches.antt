@@ -3,7 +3,8 @@ use Rattle.std.specs.Prelude.{◌≡◌, ◌⊎◌, ℕ, pos, ◌+◌, ◌-◌, 
 use Rattle.std.specs.List.{slice_index_or, All, Contains}
 use Rattle.graph.specs.Dependences.{EdgeData}
 use Rattle.graph.specs.Graphs.{GraphData}
-use Rattle.graph.specs.Walks.{IsWalk, IsHeight, length_of, FitsCircuits, Exceeds}
+use Rattle.graph.specs.Kept.{KeepsNumber}
+use Rattle.graph.specs.Walks.{AreHeights, Exceeds, FitsCircuits, IsWalk, length_of}
 use Rattle.graph.specs.declared.paths.relaxation.Relaxed.{Relaxed}
 use Rattle.graph.specs.declared.paths.relaxation.Relaxed.TheVariants.{Heights, Above}
 
@@ -26,10 +27,6 @@ pub record IsThrough (edges : List EdgeData) (ii : ℕ) (numbers : List ℕ) (nu
   pub edge : EdgeData
   pub there : Contains edges edge
   pub as_long : (pos (slice_index numbers edge.to) +ℤ edge.delay) ≡ pos (number + ii * edge.distance)
-
--- the number at an edge's source is no lower than what the edge makes of its target's
-abbrev pub KeepsNumber : ℕ → List ℕ → ℕ → EdgeData → Type 0
-KeepsNumber ii numbers own e = (pos (slice_index numbers e.to) +ℤ e.delay) ≤ℤ pos (own + ii * e.distance)
 
 -- the greatest of an own number and of what these edges make of their targets' numbers
 pub record IsRaised (edges : List EdgeData) (ii : ℕ) (numbers : List ℕ) (own raised : ℕ) : Type 0 where
@@ -60,10 +57,6 @@ pub record IsUnsettled (graph : GraphData) (ii round : ℕ) : Type 0 where
   pub few : length walk ≤ round
   pub longer : (other : List EdgeData) (last : ℕ) → IsWalk graph.edges start other last → length other < round
       → length_of graph.latencies ii other last <ℤ length_of graph.latencies ii walk end
-
--- the height of each operation
-abbrev pub AreHeights : GraphData → ℕ → List ℕ → Type 0
-AreHeights graph ii numbers = (p : ℕ) → p < length graph.latencies → IsHeight graph.edges graph.latencies ii p (slice_index numbers p)
 
 -- each edge that is kept for an operation is one from it
 abbrev pub AreVias : GraphData → List (Option EdgeData) → Type 0
