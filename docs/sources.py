@@ -6,7 +6,7 @@ import re
 from dataclasses import dataclass, field
 
 WORD = re.compile(r"(?<![\w.«])(\w+)((?:\.\w+)*)")
-IMPORT = re.compile(r"^\s*(pub )?(?:ghost )?use Rattle\.([\w.]+?)(?:\.\{([^}]*)\}| as (\w+))?;?$")
+IMPORT = re.compile(r"^\s*(?:unfoldable )?(pub )?(?:ghost )?use Rattle\.([\w.]+?)(?:\.\{([^}]*)\}| as (\w+))?;?$")
 HEAD = re.compile(r"(?:(?:abbrev|unfoldable|opaque|pub|record|data)\s+)+(\w+)")
 
 
@@ -82,7 +82,7 @@ class Sources:
     def __init__(self, root="crates"):
         self.root = root
         self.definitions, self.imports, self.makers = {}, {}, {}
-        self.types, self.clauses, self.paths = {}, [], {}
+        self.types, self.clauses, self.paths, self.lost = {}, [], {}, set()
         self.crates = set(os.listdir(root))
         for crate in sorted(self.crates):
             for path in files(f"{root}/{crate}/src", ".rt"):
@@ -138,14 +138,14 @@ class Sources:
 
     def read_types(self, crate, module, path, lines, plain):
         for number, line in enumerate(plain.split("\n"), 1):
-            found = re.match(r"(pub |pub\(crate\) )?(struct|enum|trait|type) (\w+)", line)
+            found = re.match(r"(pub |pub\(crate\) )?(struct|enum|trait|type|const) (\w+)", line)
             if not found:
                 continue
             first, last = number - 1, number - 1
             while first and lines[first - 1].startswith(("///", "#[")):
                 first -= 1
             if not line.rstrip().endswith((";", "}")):
-                while lines[last] != "}":
+                while not (lines[last].endswith(";") if found[2] in ("type", "const") else lines[last] == "}"):
                     last += 1
             item = [it for it in lines[first : last + 1] if not it.startswith("#[")]
             code = "\n".join(plain.split("\n")[number - 1 : last + 1])
@@ -165,7 +165,8 @@ class Sources:
             value = re.search(r"ghost Value = \{(.*?)\};", found[2], re.S)
             if it and value:
                 comments = [line for line in it.text if line.startswith("///")]
-                it.text = [*comments, f"{next(line for line in it.text if not line.startswith('///')).split('{')[0].rstrip().rstrip(';')}: seen as {value[1].strip()}"]
+                head = re.split(r"[({;]", it.text[len(comments)])[0].rstrip()
+                it.text = [*comments, f"{head}: seen as {value[1].strip()}"]
                 it.uses = words(value[1])
 
     def read_contracts(self, crate, module, path, plain):
@@ -200,7 +201,8 @@ class Sources:
         return found[2], is_pub and (visibility == "pub " or found[1] is not None)
 
     def add(self, crate, path, owner, name, is_public, kind, text, signature):
-        bounds = set(re.findall(r"\w+: (\w+)", signature)) & {"Input", "Output", "ModuloTable", "Gate"}
+        parameters = re.match(r"<.*?>(?=\()", signature, re.S)
+        bounds = re.findall(r"(?:: |\+ )(\w+)", parameters[0]) if parameters else []
         self.clauses.append(Clauses(crate, path, owner, name, is_public, kind, words(text) | {(it, "") for it in bounds}))
 
     def add_contract(self, crate, name):
@@ -244,13 +246,13 @@ class Sources:
 
     def find(self, module, name, seen=()):
         """The definition that a name of a module means, if it is one of ours."""
+        module = module.removesuffix(".TheConstants")
         if module in seen:
             return None
-        for key in ((module, name),):
-            if key in self.definitions:
-                return key
-            if key in self.makers:
-                return self.makers[key]
+        if (module, name) in self.definitions:
+            return module, name
+        if (module, name) in self.makers:
+            return self.makers[(module, name)]
         parts = module.split(".")
         if parts[-1] == name and (".".join(parts[:-1]), name) in self.definitions:
             return ".".join(parts[:-1]), name
@@ -269,14 +271,21 @@ class Sources:
         imports, found = self.imports[module], set()
         for name, behind in uses:
             if behind and name in imports.modules:
-                found.add(self.find(imports.modules[name], behind.split(".")[0]))
+                found.add(self.looked_up(module, imports.modules[name], behind.split(".")[0]))
             if name in imports.names:
-                found.add(self.find(*imports.names[name]))
+                found.add(self.looked_up(module, *imports.names[name]))
             elif (module, name) in self.definitions or (module, name) in self.makers:
                 found.add(self.find(module, name))
             elif ".declared" in module and name in self.types:
                 found.add(self.type_of(module, name))
         return found - {None}
+
+    def looked_up(self, user, module, name):
+        """The definition that a name means. One of ours that is not found is lost: then a list would lack it."""
+        found = self.find(module, name)
+        if not found and module.split(".")[0] in self.crates:
+            self.lost.add(f"{user}: {module}.{name}")
+        return found
 
     def type_of(self, module, name):
         """The type that this name means in a file of src/: of its own crate, or of the only other one that has it."""
