@@ -195,8 +195,8 @@ pub(crate) const CEILING: &str =
 a loop that has none at all takes longer";
 
 pub(crate) const WORKERS: &str =
-    "How many threads share the work, from 1 to 64. More may take less time. The output is the same with any
-number";
+    "How many threads share the work, from 1 to 64. More may take less time, but not for `explain`, which has
+one thread. The output is the same with any number";
 
 pub(crate) const CUT: &str =
     "How many intervals of a loop a thread takes at once, from 1 to 256. With fewer, more threads can share

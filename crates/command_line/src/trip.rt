@@ -2,11 +2,12 @@
 
 ghost use Rattle.std.specs.Prelude.{◌≡◌, ◌≤◌, ◌↔◌, IsSome, IfSome};
 
+use machine_data::limits::MAX_TRIP;
 use std::fmt;
 use std::marker::Model;
 
 /// The greatest trip count.
-pub const TRIP_LIMIT: u64 = 100_000;
+pub const TRIP_LIMIT: u64 = MAX_TRIP;
 
 /// How many iterations a loop is run, 0 to 100,000. Contracts see the number.
 #[derive(Clone, Copy, PartialEq, Eq)]

@@ -14,7 +14,5 @@ pub use endings::{Line, Status, Told, exit_number, finish, show};
 pub use settings::{OutOfRange, Settings};
 pub use subcommand::engine;
 
-// The crates of inputs and of the command line know no machine, and so have these two limits by themselves.
-const _: () = prove!(
-    TEXT_LIMIT == machine::limits::MAX_TEXT && TRIP_LIMIT == machine::limits::MAX_TRIP
-);
+// The crate of inputs knows no machine, and so has this limit by itself.
+const _: () = prove!(TEXT_LIMIT == machine::limits::MAX_TEXT);

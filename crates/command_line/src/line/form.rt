@@ -9,6 +9,7 @@ ghost use Rattle.command_line.specs.inner.Made.{IsAdded};
 use crate::help;
 use clap::builder::ValueParser;
 use clap::{Arg, Command};
+use machine_data::limits::{MAX_CEILING, MAX_CUT, MAX_RATIO, MAX_TRIP, MAX_WORKERS};
 use std::alloc::{AllocError, Global};
 
 const VERSION: &str = "0.1.0";
@@ -221,7 +222,7 @@ fn trip<'a>(alloc: Global) -> Arg<'a>
         .long("trip")
         .value_name("N")
         .required(true)
-        .value_parser(ValueParser::unsigned(0, 100_000))
+        .value_parser(ValueParser::unsigned(0, MAX_TRIP))
         .help(help::TRIP)
 }
 
@@ -230,7 +231,7 @@ fn ratio<'a>(alloc: Global) -> Arg<'a>
     ensures rule { rule_of result ≡ ratio_rule }
     ensures local { result.global ≡ false }
 {
-    let range = ValueParser::unsigned(1, 64);
+    let range = ValueParser::unsigned(1, MAX_RATIO);
     option(alloc, "ratio", "R", "6", help::RATIO).value_parser(range)
 }
 
@@ -239,7 +240,7 @@ fn ceiling<'a>(alloc: Global) -> Arg<'a>
     ensures rule { rule_of result ≡ ceiling_rule }
     ensures local { result.global ≡ false }
 {
-    let range = ValueParser::unsigned(0, 255);
+    let range = ValueParser::unsigned(0, MAX_CEILING);
     option(alloc, "ceiling", "C", "32", help::CEILING).value_parser(range)
 }
 
@@ -248,7 +249,7 @@ fn workers<'a>(alloc: Global) -> Arg<'a>
     ensures rule { rule_of result ≡ workers_rule }
     ensures local { result.global ≡ false }
 {
-    let range = ValueParser::unsigned(1, 64);
+    let range = ValueParser::unsigned(1, MAX_WORKERS as u64);
     option(alloc, "workers", "W", "4", help::WORKERS).value_parser(range)
 }
 
@@ -257,7 +258,7 @@ fn cut<'a>(alloc: Global) -> Arg<'a>
     ensures rule { rule_of result ≡ cut_rule }
     ensures local { result.global ≡ false }
 {
-    let range = ValueParser::unsigned(1, 256);
+    let range = ValueParser::unsigned(1, MAX_CUT);
     option(alloc, "cut", "N", "4", help::CUT).value_parser(range)
 }
 
