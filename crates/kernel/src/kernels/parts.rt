@@ -66,10 +66,11 @@ impl Model for Kernel {
 }
 
 impl Kernel {
-    /// The kernel of these parts.
-    pub(crate) fn new(parts: Parts) -> Kernel
-        requires { IsWellFormed parts }
-        ensures { result ≡ parts }
+    /// The kernel of parts that are well formed, for a caller that knows it of them. Nothing is tested:
+    /// for parts of which it is not known, there is [`Kernel::check`].
+    pub fn new(parts: Parts) -> Kernel
+        requires well_formed { IsWellFormed parts }
+        ensures value { result ≡ parts }
     {
         Kernel { parts }
     }

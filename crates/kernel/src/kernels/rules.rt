@@ -13,6 +13,10 @@ use crate::kernels::check::Rule;
 use crate::kernels::operation::{Address, Operation, Source};
 use crate::kernels::parts::{Out, Parts, Preload};
 use machine_data::Opcode;
+use machine_data::limits::{
+    MAX_ARRAYS, MAX_INTERVAL, MAX_LATENCY, MAX_PARAMETERS, MAX_REGISTERS, MAX_STAGES,
+    MAX_STATEMENTS, MAX_SUBSCRIPT,
+};
 
 /// The rules, in the order in which they are tested.
 const RULES: [Rule; 9] = [
@@ -27,8 +31,11 @@ const RULES: [Rule; 9] = [
     Rule::Out,
 ];
 
-/// The greatest number of registers.
-const MAX_REGISTERS: usize = 256;
+/// The greatest number of registers, and so of preloads.
+const REGISTERS: usize = MAX_REGISTERS as usize;
+
+/// How far the cell of an address may be from the iteration's number.
+const FARTHEST: i32 = MAX_SUBSCRIPT as i32;
 
 /// The first rule that fails, if one does.
 pub(crate) fn first_failing(parts: &Parts) -> Option<Rule>
@@ -66,14 +73,14 @@ fn has_size(parts: &Parts) -> bool
     ensures { IsTrue result ↔ HasSize parts.now }
 {
     let operations = parts.operations.as_slice().len();
-    (1 <= parts.ii && parts.ii <= 16_384)
-        && (1 <= parts.stages && parts.stages <= 64)
-        && (1 <= parts.registers && parts.registers <= 256)
-        && (1 <= operations && operations <= 128)
-        && parts.arrays.as_slice().len() <= 32
-        && parts.params.as_slice().len() <= 64
-        && parts.preloads.as_slice().len() <= 256
-        && parts.outs.as_slice().len() <= 128
+    (1 <= parts.ii && parts.ii <= MAX_INTERVAL)
+        && (1 <= parts.stages && parts.stages <= MAX_STAGES)
+        && (1 <= parts.registers && parts.registers <= u64::from(MAX_REGISTERS))
+        && (1 <= operations && operations <= MAX_STATEMENTS)
+        && parts.arrays.as_slice().len() <= MAX_ARRAYS
+        && parts.params.as_slice().len() <= MAX_PARAMETERS
+        && parts.preloads.as_slice().len() <= REGISTERS
+        && parts.outs.as_slice().len() <= MAX_STATEMENTS
 }
 
 /// Whether each operation's row is below the interval.
@@ -96,7 +103,7 @@ fn have_latencies(operations: &[Operation]) -> bool
 {
     operations
         .iter()
-        .all(|op| 1 <= op.latency && op.latency <= 64)
+        .all(|op| 1 <= op.latency && op.latency <= MAX_LATENCY)
 }
 
 /// Whether each operation's registers are there.
@@ -220,7 +227,7 @@ fn address_is_there(op: &Operation, address: Address, arrays: usize) -> bool
     ensures { IsTrue result ↔ AddressIsThere arrays op.now address }
 {
     let cell = i32::from(op.stage) + i32::from(address.offset);
-    usize::from(address.array) < arrays && -64 <= cell && cell <= 64
+    usize::from(address.array) < arrays && -FARTHEST <= cell && cell <= FARTHEST
 }
 
 /// Whether preloads name different registers that are there.
@@ -228,7 +235,7 @@ fn are_preloads(preloads: &[Preload], registers: u64) -> bool
     requires { registers ≤ 256 }
     ensures { IsTrue result ↔ ArePreloads registers preloads.now }
 {
-    let mut is_taken = [false; MAX_REGISTERS];
+    let mut is_taken = [false; REGISTERS];
     for preload in preloads {
         let register = usize::from(preload.register);
         if u64::from(preload.register) >= registers || is_taken[register] {
