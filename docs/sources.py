@@ -193,12 +193,20 @@ class Sources:
         """The type or trait that a function belongs to, and whether users see the function."""
         found = re.match(r"(pub |pub\(crate\) )?trait (\w+)", head)
         if found:
-            return found[2], found[1] == "pub "
+            return found[2], found[1] == "pub " and self.is_handed_out(crate, found[2])
         if not head:
             return "", visibility == "pub "
-        found = re.match(r"impl(?:<.*?>)? (?:(.*) for )?(\w+)", head)
+        found = re.match(r"impl(?:<.*?>)? (?:(?:\w+::)*(\w+)(?:<[^\n]*>)? for )?(\w+)", head)
         is_pub = any(of == crate and is_public for of, _, is_public in self.types.get(found[2], []))
-        return found[2], is_pub and (visibility == "pub " or found[1] is not None)
+        is_seen = visibility == "pub " if found[1] is None else self.is_handed_out(crate, found[1])
+        return found[2], is_pub and is_seen
+
+    def is_handed_out(self, crate, name):
+        """Whether users of a crate can name this trait: one of another crate, or one that the crate's root hands out."""
+        if not any(re.search(rf"(?m)^pub trait {name}\b", read(it)) for it in files(f"{self.root}/{crate}/src", ".rt")):
+            return True
+        root = read(f"{self.root}/{crate}/src/lib.rt")
+        return any(name in re.findall(r"\w+", it) for it in re.findall(r"(?m)^pub (?:use [^;]*;|trait \w+)", root))
 
     def add(self, crate, path, owner, name, is_public, kind, text, signature):
         parameters = re.match(r"<.*?>(?=\()", signature, re.S)
