@@ -1,6 +1,7 @@
-//! What no clause says: lifetimes, numbers and kernels of loops that were worked by hand, and what
+//! What no clause says: lifetimes, numbers, kernels and choices of loops that were worked by hand, and what
 //! kernels with a lifetime cut short would do.
 
+mod choices;
 mod cut;
 mod runs;
 
