@@ -11,7 +11,7 @@ use crate::trials::Trials;
 use ims::{Failure, Prepared, Schedule, Try, attempt_on};
 use kernel::Kernel;
 use machine_data::OutOfMemory;
-use mrt::MaskTable;
+use mrt::DefaultTable;
 use rotating::{allot, emit};
 use std::alloc::Global;
 
@@ -69,7 +69,7 @@ pub fn try_interval(alloc: Global, prepared: &Prepared, ii: u64) -> Result<Outco
 pub(crate) fn outcome_on(
     alloc: Global,
     prepared: &Prepared,
-    table: &mut MaskTable,
+    table: &mut DefaultTable,
 ) -> Result<Outcome, OutOfMemory>
     requires operations { table.old.operations ≡ prepared.now.operations }
     requires empty { table.old.placed ≡ replicate (length prepared.now.operations) None }

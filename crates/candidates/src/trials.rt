@@ -8,7 +8,7 @@ ghost use Rattle.candidates.specs.Outcomes.{Gives};
 use crate::outcomes::{Outcome, outcome_on};
 use ims::Prepared;
 use machine_data::OutOfMemory;
-use mrt::{MaskTable, ModuloTable};
+use mrt::{DefaultTable, ModuloTable};
 use std::alloc::Global;
 use std::marker::Model;
 
@@ -18,7 +18,7 @@ use std::marker::Model;
 pub struct Trials<'a> {
     prepared: &'a Prepared,
     /// The table of the last interval that was tried.
-    table: Option<MaskTable>,
+    table: Option<DefaultTable>,
 }
 
 impl<'a> Model for Trials<'a> {
@@ -60,7 +60,7 @@ impl<'a> Trials<'a> {
     }
 
     /// The loop's table at an interval, with nothing placed, made from the last one where there is one.
-    fn table_at(&mut self, alloc: Global, ii: u64) -> Result<MaskTable, OutOfMemory>
+    fn table_at(&mut self, alloc: Global, ii: u64) -> Result<DefaultTable, OutOfMemory>
         requires from_mii { mii_of self.old ≤ ii }
         requires to_last { ii ≤ last_of self.old }
         ensures same { self.new ≡ self.old }
@@ -71,7 +71,7 @@ impl<'a> Trials<'a> {
         prove!(self.prepared.mii() >= 1);
         match self.table.take() {
             Some(table) => table.at(ii),
-            None => MaskTable::make(alloc, self.prepared.alternatives(), ii),
+            None => DefaultTable::make(alloc, self.prepared.alternatives(), ii),
         }
     }
 }

@@ -11,7 +11,7 @@ use crate::intervals::reasons::budget;
 use candidates::Choice;
 use ims::{Prepared, Try, attempt};
 use machine_data::{Machine, OutOfMemory};
-use mrt::MaskTable;
+use mrt::DefaultTable;
 use rotating::allot;
 use schedule_lines::push_schedule;
 use std::alloc::Global;
@@ -29,7 +29,7 @@ fn push_shown_at(
     requires gives { (kernel : Parts) × GivesKernel prepared.now ii kernel }
     ensures ok { OnOk result ((part : List ℕ) × IsShownAt machine.now prepared.now ii part × (text.new.items ≡ text.old.items ++ part)) }
 {
-    match attempt::<MaskTable>(alloc, prepared, ii, budget(prepared))? {
+    match attempt::<DefaultTable>(alloc, prepared, ii, budget(prepared))? {
         Try::Placed(schedule) => {
             let registers = u64::from(prepared.registers());
             match allot(alloc, &schedule, registers)? {

@@ -1,4 +1,6 @@
 -- The slots that are held, as owners and as bits.
+pub mod Lanes
+pub mod Laying
 pub mod Marking
 pub mod Masking
 pub mod Needing

@@ -1,6 +1,8 @@
 -- What the clauses of private functions cite.
+pub mod BitTables
 pub mod Choices
-pub mod MaskTables
+pub mod Lanes
+pub mod Masks
 pub mod OwnerTables
 pub mod Rosters
 pub mod Slots

@@ -2,7 +2,7 @@
 //! interval.
 #![tactic(auto)]
 
-mod mask;
+mod bits;
 mod memory;
 mod owner;
 mod rosters;
@@ -11,6 +11,6 @@ mod table;
 mod tests;
 mod words;
 
-pub use mask::MaskTable;
+pub use bits::{DefaultTable, MaskTable, TimelineTable};
 pub use owner::OwnerTable;
 pub use table::ModuloTable;

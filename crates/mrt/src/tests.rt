@@ -1,11 +1,11 @@
-//! The worked table on both bodies, and the two bodies side by side.
+//! The worked table of calls on each table, and the tables side by side.
 
 ghost use Rattle.std.specs.Prelude.{◌≡◌, ◌+◌, ◌^◌, ◌<◌, ◌≤◌, ◌∷◌, [], ℕ, length, slice_index_or, replicate, None, IfOk, vec_len};
 ghost use Rattle.machine_data.specs.Alternative.{IsAlternative};
 ghost use Rattle.mrt.specs.Placements.{placement_of};
 ghost use Rattle.mrt.specs.inner.Turns.{Tells};
 
-use crate::{MaskTable, ModuloTable, OwnerTable};
+use crate::{MaskTable, ModuloTable, OwnerTable, TimelineTable};
 use machine_data::{Alternative, Alternatives, OutOfMemory, Row};
 use smallvec::SmallVec;
 use std::alloc::Global;
@@ -223,52 +223,57 @@ fn made_from<T: ModuloTable>(
     answers(alloc, &mut table)
 }
 
-/// Both tables answer the same at an interval, also once they have served at another.
-fn agree(rt: &impl Abort, alloc: Global, before: u64, ii: u64) -> Result<(), OutOfMemory>
+/// A table answers this at an interval, also once it has served at another.
+fn agrees<T: ModuloTable>(
+    rt: &impl Abort,
+    alloc: Global,
+    before: u64,
+    ii: u64,
+    answers: &[Option<(u64, usize)>],
+) -> Result<(), OutOfMemory>
     requires some_before { 0 < before }
     requires few_before { before ≤ 128 }
     requires some { 0 < ii }
     requires few { ii ≤ 128 }
 {
-    let owners = made::<OwnerTable>(alloc, ii)?;
-    let masks = made::<MaskTable>(alloc, ii)?;
-    assert_eq!(rt; owners.as_slice(), masks.as_slice());
-    let owners_again = made_from::<OwnerTable>(alloc, before, ii)?;
-    assert_eq!(rt; owners_again.as_slice(), owners.as_slice());
-    let masks_again = made_from::<MaskTable>(alloc, before, ii)?;
-    assert_eq!(rt; masks_again.as_slice(), masks.as_slice());
+    let first = made::<T>(alloc, ii)?;
+    assert_eq!(rt; first.as_slice(), answers);
+    let again = made_from::<T>(alloc, before, ii)?;
+    assert_eq!(rt; again.as_slice(), answers);
     Ok(())
 }
 
 #[test]
-fn both_agree(rt: HostRuntime) -> Result<(), Fail> {
+fn all_agree(rt: HostRuntime) -> Result<(), Fail> {
     for (before, ii) in [(67, 3), (3, 11), (67, 63), (11, 67)] {
-        agree(&rt, rt.alloc(), before, ii)?;
+        let owners = made::<OwnerTable>(rt.alloc(), ii)?;
+        agrees::<OwnerTable>(&rt, rt.alloc(), before, ii, &owners)?;
+        agrees::<MaskTable>(&rt, rt.alloc(), before, ii, &owners)?;
+        agrees::<TimelineTable>(&rt, rt.alloc(), before, ii, &owners)?;
     }
     Ok(())
 }
 
-/// The table's answers at an interval.
-fn answers_of<T: ModuloTable>(rt: &impl Abort, alloc: Global, ii: u64) -> Result<(), OutOfMemory>
-    requires some { 5 < ii }
-    requires few { ii ≤ 128 }
-{
-    finds_the_hole::<T>(rt, alloc, ii)?;
-    finds_none::<T>(rt, alloc, ii)
+/// The worked calls, at intervals for each form that a table of bits has.
+fn worked_calls<T: ModuloTable>(rt: &impl Abort, alloc: Global) -> Result<(), OutOfMemory> {
+    for ii in [7, 8, 9, 63, 64, 80, 128] {
+        finds_the_hole::<T>(rt, alloc, ii)?;
+        finds_none::<T>(rt, alloc, ii)?;
+    }
+    tells_the_holder::<T>(rt, alloc)
 }
 
 #[test]
 fn owners(rt: HostRuntime) -> Result<(), Fail> {
-    answers_of::<OwnerTable>(&rt, rt.alloc(), 9)?;
-    tells_the_holder::<OwnerTable>(&rt, rt.alloc())?;
-    Ok(())
+    Ok(worked_calls::<OwnerTable>(&rt, rt.alloc())?)
 }
 
 #[test]
 fn masks(rt: HostRuntime) -> Result<(), Fail> {
-    for ii in [7, 8, 63, 64, 80, 128] {
-        answers_of::<MaskTable>(&rt, rt.alloc(), ii)?;
-    }
-    tells_the_holder::<MaskTable>(&rt, rt.alloc())?;
-    Ok(())
+    Ok(worked_calls::<MaskTable>(&rt, rt.alloc())?)
+}
+
+#[test]
+fn timelines(rt: HostRuntime) -> Result<(), Fail> {
+    Ok(worked_calls::<TimelineTable>(&rt, rt.alloc())?)
 }

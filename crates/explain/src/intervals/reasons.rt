@@ -10,7 +10,7 @@ ghost use Rattle.explain.specs.Reasons.{IsReason, LacksFor, cause_of};
 use candidates::Cause;
 use ims::{Culprit, Prepared, Try, attempt, culprit};
 use machine_data::OutOfMemory;
-use mrt::MaskTable;
+use mrt::DefaultTable;
 use rotating::{Lifetime, first_without_number};
 use std::alloc::Global;
 
@@ -48,7 +48,7 @@ fn culprit_of(
     ensures same { IfOk result (λ culprit. cause_of (Reason.Attempt culprit) ≡ _cause) }
     ensures exact { IfOk result (λ culprit. AnswersCulprit prepared.now ii (budget_of prepared.now) (Some culprit)) }
 {
-    match culprit::<MaskTable>(alloc, prepared, ii, budget(prepared))? {
+    match culprit::<DefaultTable>(alloc, prepared, ii, budget(prepared))? {
         Some(culprit) => Ok(culprit),
         None => unreachable!(),
     }
@@ -61,7 +61,7 @@ fn life_without(alloc: Global, prepared: &Prepared, ii: u64) -> Result<Lifetime,
     requires lacks { LacksRegisters prepared.now ii }
     ensures { IfOk result (LacksFor prepared.now ii) }
 {
-    match attempt::<MaskTable>(alloc, prepared, ii, budget(prepared))? {
+    match attempt::<DefaultTable>(alloc, prepared, ii, budget(prepared))? {
         Try::Placed(schedule) => {
             let registers = u64::from(prepared.registers());
             match first_without_number(alloc, &schedule, registers)? {

@@ -16,7 +16,7 @@ use crate::stepping::place::demand;
 use graph::Edge;
 use machine_data::limits::MAX_STAGES;
 use machine_data::{Alternatives, OutOfMemory, Row};
-use mrt::{MaskTable, ModuloTable};
+use mrt::{DefaultTable, ModuloTable};
 use std::alloc::Global;
 
 /// Whether a list of times and alternatives, one for each operation in text order, is a schedule.
@@ -37,7 +37,7 @@ pub(crate) fn is_schedule(
     if !keep_edges(prepared.edges().all(), ii, places) {
         return Ok(false);
     }
-    let mut table = MaskTable::make(alloc, prepared.alternatives(), ii)?;
+    let mut table = DefaultTable::make(alloc, prepared.alternatives(), ii)?;
     Ok(keep_units(&mut table, prepared.alternatives(), places))
 }
 

@@ -1,21 +1,18 @@
--- Words of units.
-use Rattle.std.proofs.Common.{◌≡◌, ◌≢◌, ℕ, ◌+◌, ◌-◌, ◌*◌, ◌/◌, ◌%◌, ◌^◌, ◌<◌, ◌≤◌, inl, inr, Bool, true, false, not, ◌&&◌, ◌||◌, cond, eqb, bit_and, bit_or, List, [], ◌∷◌, length, get_or, set, replicate, Option, Some, None, MatchOption, refl, sym, ap, ◌∙◌, arith, eq-eqb, length-set, w64}
+-- One bit of a word, and tables of bits.
+use Rattle.std.proofs.Common.{◌≡◌, ◌≢◌, ℕ, ◌-◌, ◌*◌, ◌^◌, ◌<◌, inl, inr, Bool, true, false, not, cond, eqb, bit_and, bit_or, length, set, replicate, Option, Some, None, MatchOption, sym, ap, ◌∙◌, arith, eq-eqb, length-set, w64}
 use Rattle.std.specs.Int.{bit_at, bit_not}
-use Rattle.std.proofs.lemmas.Bool.{cases_eq, cases_lt, ne_eqb, true≢false}
-use Rattle.std.proofs.lemmas.Nat.Bits.{bit_at-lt, bit_at_or, bit_at_and, bit_at_not, bit_at-pow_same, bit_at-pow_other, and_pow, bit_at-zero}
-use Rattle.std.proofs.lemmas.List.{get_or-replicate, length-replicate}
+use Rattle.std.proofs.lemmas.Bool.{cases_eq, ne_eqb, true≢false}
+use Rattle.std.proofs.lemmas.Nat.Bits.{bit_at-lt, bit_at_or, bit_at_and, bit_at_not, bit_at-pow_same, bit_at-pow_other, and_pow}
+use Rattle.std.proofs.lemmas.List.{length-replicate}
 use Rattle.std.proofs.Math.Pow.{pow_pos}
-use Rattle.std.proofs.Math.Nat.{mod-eq_of_lt}
 use Rattle.machine_data.specs.declared.alternative.Row.{Row}
 use Rattle.machine_data.specs.Alternative.{residue_of}
 use Rattle.mrt.specs.Placements.{OperationAlternatives, Placements, Placement, placement_of, rows_of, IsFree, Holds, IsHolder}
 use Rattle.mrt.specs.inner.Rosters.{Table}
-use Rattle.mrt.specs.Taken.{takes, Takes, AreApart}
 use Rattle.mrt.specs.inner.Slots.{Occupies}
-use Rattle.mrt.specs.inner.Times.{is_set, is_on}
-use Rattle.mrt.specs.inner.MaskTables.{IsMaskTable, AreTimes}
+use Rattle.mrt.specs.Taken.{takes, Takes, AreApart}
+use Rattle.mrt.specs.inner.BitTables.{IsBitTable}
 use Rattle.mrt.proofs.searching.Taking.{none_placed, takes_from_Holds, Holds-from_takes}
-use Rattle.mrt.proofs.slots.Owning.{place_below}
 use Rattle.mrt.proofs.slots.Marking.{Occupies-placed, Occupies-removed, AreApart-placed, AreApart-removed}
 
 -- ---- one bit of a word
@@ -69,59 +66,39 @@ test_is word mask own m =
       | inr some ↦ ap not (ne_eqb (bit_and word mask) 0 some) ∙ sym (test_set word mask own m some)
     ]
 
-and_with_false : (a b : Bool) → b ≡ false → (a && b) ≡ false
-and_with_false true b h = h
-and_with_false false b h = refl
-
--- ---- the words of a table
-no_bit : (n place bit : ℕ) → place < n → eqb (bit_at (get_or (replicate n 0) place 0) bit) 1 ≡ false
-no_bit n place bit lt = ap (λ w. eqb (bit_at w bit) 1) (get_or-replicate n place 0 0 lt) ∙ ap (λ b. eqb b 1) (bit_at-zero bit)
-
-none_set : (words unit place : ℕ) → unit < 64 → place < 64 * words → is_set words (replicate (64 * words) 0) unit place ≡ false
-none_set words unit place u p = no_bit (64 * words) (unit * words + place / 64) (place % 64) (place_below 64 words (place / 64) unit (omega arith) u)
-
--- where each unit has one word, a place is a bit of it
-is_set-one : (words : ℕ) (times : List ℕ) (unit place : ℕ) → words ≡ 1 → place < 64 → is_set words times unit place ≡ is_on times unit place
-is_set-one words times unit place one p =
-    let index : unit * words + place / 64 ≡ unit = ap (λ w. unit * w + place / 64) one ∙ omega arith in
-    let bit : place % 64 ≡ place = omega arith in
-    ap (λ k. eqb (bit_at (get_or times k 0) (place % 64)) 1) index ∙ ap (λ b. eqb (bit_at (get_or times unit 0) b) 1) bit
-
 -- ---- the table as it changes
-pub IsMaskTable-new : (ii n words : ℕ) (operations : OperationAlternatives) → n ≡ length operations → (ii < 64 → words ≡ 1) → (64 ≤ ii → ii + 64 ≤ 64 * words)
-    → IsMaskTable (record { interval = ii; operations = operations; placed = replicate n None }) words (replicate (64 * words) 0)
-IsMaskTable-new ii n words operations whole one reach = record {
+pub IsBitTable-new : (ii n : ℕ) (operations : OperationAlternatives) (held : ℕ → ℕ → Bool) → n ≡ length operations
+    → ((unit residue : ℕ) → unit < 64 → residue < ii → held unit residue ≡ false) → IsBitTable (record { interval = ii; operations = operations; placed = replicate n None }) held
+IsBitTable-new ii n operations held whole clear = record {
   whole = length-replicate n None ∙ whole;
   apart = λ unit residue x y s t. absurd (none_placed n x s.at s.is_placed);
   occupied = record {
     marked = λ unit residue op u r t. absurd (none_placed n op t.at t.is_placed);
-    owed = λ unit residue u r h.
-        let within : residue < 64 * words = elim (cases_lt ii 64) [ inl short ↦ omega (arith, one short) | inr long ↦ omega (arith, reach long) ] in
-        absurd (true≢false (sym h ∙ none_set words unit residue u within));
+    owed = λ unit residue u r h. absurd (true≢false (sym h ∙ clear unit residue u r));
   };
 }
 
-module _ (table : Table) (words : ℕ) (times times' : List ℕ) (op : ℕ) (at : Placement) (kept : IsMaskTable table words times) where
-  pub IsMaskTable-placed : op < length table.operations → placement_of table.placed op ≡ None → IsFree table.interval table.operations table.placed op at.time at.alternative
+module _ (table : Table) (held held' : ℕ → ℕ → Bool) (op : ℕ) (at : Placement) (kept : IsBitTable table held) where
+  pub IsBitTable-placed : op < length table.operations → placement_of table.placed op ≡ None → IsFree table.interval table.operations table.placed op at.time at.alternative
       → ((unit residue : ℕ) → unit < 64 → residue < table.interval
-      → is_set words times' unit residue ≡ cond (takes table.interval (rows_of table.operations op at.alternative) at.time unit residue) true (is_set words times unit residue))
-      → IsMaskTable (record table { placed = set table.placed op (Some at) }) words times'
-  IsMaskTable-placed there unplaced free write =
+      → held' unit residue ≡ cond (takes table.interval (rows_of table.operations op at.alternative) at.time unit residue) true (held unit residue))
+      → IsBitTable (record table { placed = set table.placed op (Some at) }) held'
+  IsBitTable-placed there unplaced free write =
       let within : op < length table.placed = omega (arith, there, kept.whole) in
       record {
         whole = length-set table.placed op (Some at) ∙ kept.whole;
         apart = AreApart-placed table.interval 64 table.operations table.placed op at within unplaced free.fits.meets_none kept.apart;
-        occupied = Occupies-placed table.interval 64 table.operations table.placed op at within unplaced free.fits.meets_none (is_set words times) (is_set words times') write kept.occupied;
+        occupied = Occupies-placed table.interval 64 table.operations table.placed op at within unplaced free.fits.meets_none held held' write kept.occupied;
       }
 
-  pub IsMaskTable-removed : placement_of table.placed op ≡ Some at
+  pub IsBitTable-removed : placement_of table.placed op ≡ Some at
       → ((unit residue : ℕ) → unit < 64 → residue < table.interval
-      → is_set words times' unit residue ≡ cond (takes table.interval (rows_of table.operations op at.alternative) at.time unit residue) false (is_set words times unit residue))
-      → IsMaskTable (record table { placed = set table.placed op None }) words times'
-  IsMaskTable-removed is_placed write = record {
+      → held' unit residue ≡ cond (takes table.interval (rows_of table.operations op at.alternative) at.time unit residue) false (held unit residue))
+      → IsBitTable (record table { placed = set table.placed op None }) held'
+  IsBitTable-removed is_placed write = record {
     whole = length-set table.placed op None ∙ kept.whole;
     apart = AreApart-removed table.interval 64 table.operations table.placed op at is_placed kept.apart;
-    occupied = Occupies-removed table.interval 64 table.operations table.placed op at is_placed kept.apart (is_set words times) (is_set words times') write kept.occupied;
+    occupied = Occupies-removed table.interval 64 table.operations table.placed op at is_placed kept.apart held held' write kept.occupied;
   }
 
 -- ---- who holds a slot
@@ -145,68 +122,3 @@ module _ (ii : ℕ) (operations : OperationAlternatives) (placed : Placements) (
       → IsHolder ii operations placed row time found
   holder_of_taker apart None none = nobody_holds none
   holder_of_taker apart (Some holder) t = taker_holds apart holder t
-
--- ---- the words and timelines of units
--- no slot past the interval is taken
-pub takes_past : (ii : ℕ) (rows : List Row) (time unit place : ℕ) → 0 < ii → ii ≤ place → takes ii rows time unit place ≡ false
-takes_past ii [] time unit place some past = refl
-takes_past ii (row ∷ rows) time unit place some past =
-    let ne : place ≢ residue_of ii row time = λ e. omega arith in
-    ap (λ b. b || takes ii rows time unit place) (and_with_false (eqb unit row.unit) (eqb place (residue_of ii row time)) (ne_eqb place (residue_of ii row time) ne))
-    ∙ takes_past ii rows time unit place some past
-
-pub AreTimes-new : (ii words : ℕ) → 0 < ii → words ≤ 257 → (ii < 64 → words ≡ 1) → (64 ≤ ii → ii + 64 ≤ 64 * words) → AreTimes ii words (replicate (64 * words) 0)
-AreTimes-new ii words some few one reach = record {
-  all = length-replicate (64 * words) 0;
-  few = few;
-  one = one;
-  reach = reach;
-  once = λ short.
-      let all : 64 ≤ 64 * words = omega (arith, one short) in
-      record {
-        tell = λ unit residue u r. no_bit (64 * words) unit residue (omega arith) ∙ sym (none_set words unit residue u (omega arith));
-        clear = λ unit place u past p. no_bit (64 * words) unit place (omega arith);
-      };
-  tell = λ long unit place u p.
-      none_set words unit place u (omega (arith, reach long)) ∙ sym (none_set words unit (place % ii) u (omega (arith, reach long)));
-}
-
--- slots are marked, whose bits are those of a time
-module _ (ii words : ℕ) (times times' : List ℕ) (rows : List Row) (time : ℕ) (held : Bool) (some : 0 < ii) (a : AreTimes ii words times) (long : length times' ≡ length times) where
-  module _ (short : ii < 64)
-      (written : (unit place : ℕ) → unit < 64 → place < 64 → is_on times' unit place ≡ cond (takes ii rows time unit place) held (is_on times unit place)) where
-    pub AreTimes-rounds : AreTimes ii words times'
-    AreTimes-rounds = record {
-      all = long ∙ a.all;
-      few = a.few;
-      one = a.one;
-      reach = a.reach;
-      once = λ _. record {
-        tell = λ unit residue u r. sym (is_set-one words times' unit residue (a.one short) (omega arith));
-        clear = λ unit place u past p.
-            written unit place u p ∙ ap (λ b. cond b held (is_on times unit place)) (takes_past ii rows time unit place some past) ∙ (a.once short).clear unit place u past p;
-      };
-      tell = λ far. absurd (omega arith);
-    }
-
-    pub is_set-rounds : (unit residue : ℕ) → unit < 64 → residue < ii → is_set words times' unit residue ≡ cond (takes ii rows time unit residue) held (is_set words times unit residue)
-    is_set-rounds unit residue u r =
-        is_set-one words times' unit residue (a.one short) (omega arith) ∙ written unit residue u (omega arith)
-        ∙ ap (λ b. cond (takes ii rows time unit residue) held b) (sym (is_set-one words times unit residue (a.one short) (omega arith)))
-
-  module _ (far : 64 ≤ ii)
-      (written : (unit place : ℕ) → unit < 64 → place < ii + 64 → is_set words times' unit place ≡ cond (takes ii rows time unit (place % ii)) held (is_set words times unit place)) where
-    pub is_set-times : (unit residue : ℕ) → unit < 64 → residue < ii → is_set words times' unit residue ≡ cond (takes ii rows time unit residue) held (is_set words times unit residue)
-    is_set-times unit residue u r =
-        written unit residue u (omega arith) ∙ ap (λ k. cond (takes ii rows time unit k) held (is_set words times unit residue)) (mod-eq_of_lt r)
-
-    pub AreTimes-times : AreTimes ii words times'
-    AreTimes-times = record {
-      all = long ∙ a.all;
-      few = a.few;
-      one = a.one;
-      reach = a.reach;
-      once = λ short. absurd (omega arith);
-      tell = λ _ unit place u p.
-          written unit place u p ∙ ap (λ b. cond (takes ii rows time unit (place % ii)) held b) (a.tell far unit place u p) ∙ sym (is_set-times unit (place % ii) u (omega arith));
-    }

@@ -1,5 +1,5 @@
 -- Timelines, one of as many words for each of 64 units.
-use Rattle.std.specs.Prelude.{◌≡◌, ℕ, ◌+◌, ◌*◌, ◌/◌, ◌%◌, ◌<◌, ◌≤◌, Bool, false, ◌==◌, List}
+use Rattle.std.specs.Prelude.{◌≡◌, ℕ, ◌+◌, ◌*◌, ◌/◌, ◌%◌, ◌<◌, ◌≤◌, Bool, false, ◌==◌, List, length}
 use Rattle.std.specs.Int.{bit_at}
 use Rattle.std.specs.List.{slice_index}
 
@@ -19,3 +19,13 @@ is_on rounds unit residue = bit_at (slice_index rounds unit) residue == 1
 pub record TellOnce (ii : ℕ) (rounds : List ℕ) (held : ℕ → ℕ → Bool) : Type 0 where
   pub tell : (unit residue : ℕ) → unit < 64 → residue < ii → is_on rounds unit residue ≡ held unit residue
   pub clear : (unit place : ℕ) → unit < 64 → ii ≤ place → place < 64 → is_on rounds unit place ≡ false
+
+-- below an interval of 64 each unit has one word, with a bit for each residue and no other, and from it on a timeline, which
+-- goes on for 64 cycles from each residue
+pub record AreTimes (ii words : ℕ) (times : List ℕ) : Type 0 where
+  pub all : length times ≡ 64 * words
+  pub few : words ≤ 257
+  pub one : ii < 64 → words ≡ 1
+  pub reach : 64 ≤ ii → ii + 64 ≤ 64 * words
+  pub once : ii < 64 → TellOnce ii times (is_set words times)
+  pub tell : 64 ≤ ii → Tell ii words times (is_set words times)

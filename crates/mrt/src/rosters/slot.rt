@@ -8,7 +8,7 @@ use machine_data::Row;
 
 /// A row, and what a query needs of it at one interval.
 #[derive(Clone, Copy)]
-pub(crate) struct Slot {
+pub struct Slot {
     /// The row as the alternative has it.
     pub(crate) row: Row,
     /// The row's offset modulo the interval.

@@ -1,11 +1,10 @@
 //! For each unit a word which has a bit for each residue, at an interval below 64: turned round, it tells
 //! of all times at once.
 
-ghost use Rattle.std.specs.Prelude.{◌≡◌, ◌+◌, ◌-◌, ◌%◌, ◌<◌, ◌≤◌, ◌==◌, ℕ, Bool, not, true, false, length, if◌then◌else◌};
+ghost use Rattle.std.specs.Prelude.{◌≡◌, ◌+◌, ◌-◌, ◌%◌, ◌<◌, ◌≤◌, ◌==◌, ◌&&◌, ℕ, Bool, not, true, false, length, if◌then◌else◌};
 ghost use Rattle.std.specs.Int.{bit_at};
 ghost use Rattle.std.specs.List.{All};
 ghost use Rattle.mrt.specs.inner.Slots.{IsSlot, rows_in, meets_held};
-ghost use Rattle.mrt.specs.Taken.{takes};
 ghost use Rattle.mrt.specs.inner.Times.{is_on, TellOnce};
 
 use crate::rosters::slot::Slot;
@@ -63,17 +62,14 @@ fn turned(round: u64, ii: usize, residue: usize) -> u64
     (round >> residue) | (round << (ii - residue))
 }
 
-/// Sets or clears the bits of slots, for an operation issued at a time whose residue is `base`.
-pub(crate) fn mark_rounds(rounds: &mut [u64], slots: &[Slot], ii: usize, base: usize, held: bool)
+/// Sets or clears the bit of a unit at a residue.
+pub(crate) fn write_round(rounds: &mut [u64], unit: u8, residue: usize, held: bool)
     requires all { length rounds.old ≡ 64 }
-    requires slots { All (IsSlot ii) slots.now }
-    requires base { base < ii }
-    requires short { ii < 64 }
-    ensures marked { (time unit place : ℕ) → time % ii ≡ base → unit < 64 → place < 64
-        → is_on rounds.new unit place ≡ (if takes ii (rows_in slots.now) time unit place then held else is_on rounds.old unit place) }
+    requires unit { unit < 64 }
+    requires residue { residue < 64 }
+    ensures written { (other place : ℕ) → other < 64 → place < 64
+        → is_on rounds.new other place ≡ (if (other == unit) && (place == residue) then held else is_on rounds.old other place) }
 {
-    for slot in slots {
-        let unit = usize::from(slot.row.unit);
-        rounds[unit] = with_bit(rounds[unit], 1 << slot.residue(base, ii), held);
-    }
+    let unit = usize::from(unit);
+    rounds[unit] = with_bit(rounds[unit], 1 << residue, held);
 }

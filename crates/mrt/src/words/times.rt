@@ -5,7 +5,6 @@ ghost use Rattle.std.specs.Prelude.{◌≡◌, ◌+◌, ◌*◌, ◌/◌, ◌%�
 ghost use Rattle.std.specs.Int.{bit_at};
 ghost use Rattle.std.specs.List.{All};
 ghost use Rattle.mrt.specs.inner.Slots.{IsSlot, rows_in, meets_held};
-ghost use Rattle.mrt.specs.Taken.{takes};
 ghost use Rattle.mrt.specs.inner.Times.{is_set, Tell};
 
 use crate::rosters::slot::Slot;
@@ -130,39 +129,15 @@ pub(crate) fn is_set(times: &[u64], words: usize, unit: u8, place: usize) -> boo
     times[usize::from(unit) * words + place / 64] & (1 << (place % 64)) != 0
 }
 
-/// Sets or clears the bits of slots, for an operation issued at a time whose residue is `base`.
-pub(crate) fn mark_times(
+/// Sets or clears the bits of a unit at all times with a residue.
+pub(crate) fn write(
     times: &mut [u64],
     words: usize,
-    slots: &[Slot],
+    unit: u8,
     ii: usize,
-    base: usize,
+    residue: usize,
     held: bool,
 )
-    requires all { length times.old ≡ 64 * words }
-    requires reach { ii + 64 ≤ 64 * words }
-    requires few_words { words ≤ 257 }
-    requires slots { All (IsSlot ii) slots.now }
-    requires base { base < ii }
-    requires long { 64 ≤ ii }
-    requires few { ii ≤ 16384 }
-    ensures marked { (time unit place : ℕ) → time % ii ≡ base → unit < 64 → place < ii + 64
-        → is_set words times.new unit place ≡ (if takes ii (rows_in slots.now) time unit (place % ii) then held else is_set words times.old unit place) }
-{
-    for slot in slots {
-        write(
-            times,
-            words,
-            slot.row.unit,
-            ii,
-            slot.residue(base, ii),
-            held,
-        );
-    }
-}
-
-/// Sets or clears the bits of a unit at all times with a residue.
-fn write(times: &mut [u64], words: usize, unit: u8, ii: usize, residue: usize, held: bool)
     requires all { length times.old ≡ 64 * words }
     requires reach { ii + 64 ≤ 64 * words }
     requires few_words { words ≤ 257 }
