@@ -1,5 +1,6 @@
 -- How the dependences of a loop are found, and what they promise.
 pub mod Found
+pub mod Given
 pub mod GraphOf
 pub mod Instances
 pub mod Latencies

@@ -26,3 +26,19 @@ pub record IsGraphOf (machine : MachineData) (loop : LoopData) (graph : GraphDat
   pub sound : All (Dependence loop (latencies_of machine loop)) graph.edges
   pub complete : (e : EdgeData) → Dependence loop (latencies_of machine loop) e → Contains graph.edges e
   pub ascending : AllPairs Precedes graph.edges
+
+-- edges, in any order, between 1 to 128 operations of 1 to 64 cycles, which within an iteration go forward only
+pub record AreEdges (list : List EdgeData) (latencies : List ℕ) : Type 0 where
+  pub some : 0 < length latencies
+  pub few : length latencies ≤ 128
+  pub cycles : All (λ l. (0 < l) × (l ≤ 64)) latencies
+  pub ends : All (λ (e : EdgeData). (e.from < length latencies) × (e.to < length latencies)) list
+  pub forward : All (λ (e : EdgeData). e.distance ≡ 0 → e.from < e.to) list
+  pub delays : All (λ (e : EdgeData). e.delay ≤ℤ pos 64) list
+
+-- the graph has just these edges
+pub record IsGraphWith (list : List EdgeData) (latencies : List ℕ) (graph : GraphData) : Type 0 where
+  pub same_latencies : graph.latencies ≡ latencies
+  pub is_graph : IsGraph graph
+  pub kept : (e : EdgeData) → Contains list e → Contains graph.edges e
+  pub no_more : (e : EdgeData) → Contains graph.edges e → Contains list e

@@ -3,3 +3,4 @@
 pub(crate) mod collect;
 pub(crate) mod dependences;
 pub(crate) mod edge;
+pub(crate) mod given;

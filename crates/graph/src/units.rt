@@ -4,16 +4,15 @@ ghost use Rattle.std.specs.Prelude.{◌≡◌, ◌≢◌, ℕ, ◌+◌, ◌*◌,
 ghost use Rattle.std.specs.List.{All};
 ghost use Rattle.machine_data.specs.declared.alternative.Row.{Row};
 ghost use Rattle.machine_data.specs.Alternative.{AreAlternatives};
-ghost use Rattle.machine_data.specs.Machines.{IsMachine};
-ghost use Rattle.iterations.specs.Loops.{IsLoop};
 ghost use Rattle.graph.specs.TablesAnswer.{TablesAnswer};
 ghost use Rattle.graph.specs.Units.{first_without_table, operations_of, greatest_of, greatest_use, IsBest, IsUnitBound};
 ghost use Rattle.graph.specs.Uses.{AtMost, Tallies, TakesBest, CountsRows, IsBelowLawful};
 
 use crate::fault::GraphFault;
+use crate::offers::{OfList, OfLoop, Offers};
 use iterations::Loop;
-use machine_data::limits::MAX_UNITS;
-use machine_data::{Alternative, Machine, Opcode, Row};
+use machine_data::limits::{MAX_STATEMENTS, MAX_UNITS};
+use machine_data::{Alternative, Alternatives, Machine, Opcode, Row};
 
 /// How many rows use each unit, and the use of the most used unit.
 ///
@@ -89,22 +88,22 @@ impl Uses {
         self.with(alternatives[best].rows())
     }
 
-    /// These uses with all operations taken on that have so many alternatives, in text order.
-    fn with_operations(self, machine: &Machine, innermost: &Loop, freedom: usize) -> Uses
+    /// These uses with all operations taken on that have so many alternatives, in their order.
+    fn with_operations<O: Offers>(self, operations: &O, freedom: usize) -> Uses
+        requires sound { O.sound operations.now }
+        requires count { length (O.operations operations.now) ≤ 128 }
         requires some { 0 < freedom }
         requires few { freedom ≤ 8 }
         requires room { AtMost (2048 * (freedom - 1)) self.counts }
         ensures taken { (done : List (List (List Row))) → CountsRows done self.counts self.greatest
-            → CountsRows (done ++ filter (λ alternatives. length alternatives == freedom) (operations_of machine.now innermost.now)) result.counts result.greatest }
+            → CountsRows (done ++ filter (λ alternatives. length alternatives == freedom) (O.operations operations.now)) result.counts result.greatest }
         ensures grown { AtMost (2048 * freedom) result.counts }
     {
         let mut uses = self;
-        for statement in innermost.statements() {
-            if let Some(table) = machine.table(statement.opcode) {
-                let alternatives = table.alternatives().as_slice();
-                if alternatives.len() == freedom {
-                    uses = uses.with_best(alternatives);
-                }
+        for operation in 0..operations.count() {
+            let alternatives = operations.alternatives(operation);
+            if alternatives.len() == freedom {
+                uses = uses.with_best(alternatives);
             }
         }
         uses
@@ -122,21 +121,40 @@ pub fn missing_table(machine: &Machine, innermost: &Loop) -> Option<Opcode>
         .find(|opcode| machine.table(*opcode).is_none())
 }
 
-/// The greatest number of alternatives that an operation of the loop has, 0 where none has any. An
-/// operation without a table has none.
-fn most_alternatives(machine: &Machine, innermost: &Loop) -> usize
-    ensures greatest { result ≡ greatest_of (map (λ alternatives. length alternatives) (operations_of machine.now innermost.now)) }
+/// The greatest number of alternatives that an operation has, 0 where there is no operation.
+fn most_alternatives<O: Offers>(operations: &O) -> usize
+    requires { O.sound operations.now }
+    ensures greatest { result ≡ greatest_of (map (λ alternatives. length alternatives) (O.operations operations.now)) }
     ensures few { result ≤ 8 }
-    ensures machine { IsMachine machine.now }
-    ensures innermost { IsLoop innermost.now }
+    ensures offered { All AreAlternatives (O.operations operations.now) }
 {
     let mut most = 0;
-    for statement in innermost.statements() {
-        if let Some(table) = machine.table(statement.opcode) {
-            most = most.max(table.alternatives().as_slice().len());
-        }
+    for operation in 0..operations.count() {
+        most = most.max(operations.alternatives(operation).len());
     }
     most
+}
+
+/// The use of the most used unit when the operations, 1 to 128, take their best alternatives.
+fn bound_of<O: Offers>(operations: &O) -> u64
+    requires sound { O.sound operations.now }
+    requires some { 0 < length (O.operations operations.now) }
+    requires count { length (O.operations operations.now) ≤ 128 }
+    ensures exact { IsUnitBound (O.operations operations.now) result }
+    ensures below { IsBelowLawful (O.operations operations.now) result }
+    ensures from_one { 1 ≤ result }
+    ensures range { result ≤ 2048 }
+    ensures offered { All AreAlternatives (O.operations operations.now) }
+{
+    let mut uses = Uses {
+        counts: [0; MAX_UNITS],
+        greatest: 0,
+    };
+    let most = most_alternatives(operations);
+    for freedom in 1..=most {
+        uses = uses.with_operations(operations, freedom);
+    }
+    u64::from(uses.greatest)
 }
 
 /// The resource-constrained lower bound of a loop's initiation interval on a machine, in cycles, 1 to
@@ -160,13 +178,19 @@ pub fn res_mii(machine: &Machine, innermost: &Loop) -> Result<u64, GraphFault>
     if let Some(opcode) = missing_table(machine, innermost) {
         return Err(GraphFault::NoTable(opcode));
     }
-    let mut uses = Uses {
-        counts: [0; MAX_UNITS],
-        greatest: 0,
-    };
-    let most = most_alternatives(machine, innermost);
-    for freedom in 1..=most {
-        uses = uses.with_operations(machine, innermost, freedom);
-    }
-    Ok(u64::from(uses.greatest))
+    prove!(innermost.statements().len() <= MAX_STATEMENTS);
+    Ok(bound_of(&OfLoop { machine, innermost }))
+}
+
+/// [`res_mii`] of operations that are given by the alternatives of each, 1 to 128 of them. No memory is taken.
+pub fn res_mii_of(operations: &[Alternatives]) -> u64
+    requires some { 0 < length operations.now }
+    requires few { length operations.now ≤ 128 }
+    ensures exact { IsUnitBound operations.now result }
+    ensures below { IsBelowLawful operations.now result }
+    ensures from_one { 1 ≤ result }
+    ensures range { result ≤ 2048 }
+    ensures offered { All AreAlternatives operations.now }
+{
+    bound_of(&OfList { operations })
 }

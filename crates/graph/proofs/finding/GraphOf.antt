@@ -65,7 +65,7 @@ good-from_found loop latencies l lat is e (inr m) =
           (elim m.edge.delay [ inl h ↦ inl h.2 | inr h ↦ inr (elim h [ inl k ↦ inl k.2 | inr k ↦ inr k.2 ]) ]);
     }
 
-all_from_contains : (P : EdgeData → Type 0) (list left : List EdgeData) → All P list → ((e : EdgeData) → Contains left e → Contains list e) → All P left
+pub all_from_contains : (P : EdgeData → Type 0) (list left : List EdgeData) → All P list → ((e : EdgeData) → Contains left e → Contains list e) → All P left
 all_from_contains P list left h less = λ k d within. All-contains P list (get_or left k d) h (less (get_or left k d) (Contains-get_or left k d within))
 
 -- each edge that is found is one from an operation of the loop

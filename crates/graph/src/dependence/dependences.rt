@@ -36,7 +36,11 @@ fn latencies(alloc: Global, machine: &Machine, innermost: &Loop) -> Result<Vec<u
 
 /// The same edges, ascending and each once. The edges to each operation stand together, so those from each
 /// are nearly in order, which a sort is quick to find.
-fn in_order(alloc: Global, list: &[Edge], operations: usize) -> Result<Vec<Edge>, AllocError>
+pub(crate) fn in_order(
+    alloc: Global,
+    list: &[Edge],
+    operations: usize,
+) -> Result<Vec<Edge>, AllocError>
     requires few { operations ≤ 128 }
     requires ends { All (λ (e : EdgeData). e.from < operations) list.now }
     ensures ascending { IfOk result (λ v. AllPairs Precedes v.items) }

@@ -1,12 +1,12 @@
 use Rattle.std.proofs.Common.{◌≡◌, ◌<◌, ◌≤◌, take}
-use Rattle.machine_data.specs.Machines.{IsMachine}
-use Rattle.graph.specs.Units.{operations_of}
+use Rattle.std.specs.List.{All}
+use Rattle.machine_data.specs.Alternative.{AreAlternatives}
 use Rattle.graph.proofs.unit_bound.Most.{most_of}
 use Rattle.graph.proofs.units.most_alternatives.Given as goal
 
-abbrev pub invariant-loop-statement : goal.invariant-loop-statement
-invariant-loop-statement l = record {
-  greatest : l.most ≡ most_of (take l.statement-index (operations_of l.machine l.innermost));
+abbrev pub invariant-loop-operation : goal.invariant-loop-operation
+invariant-loop-operation g l = record {
+  greatest : l.most ≡ most_of (take l.operation (g.O.Offers.operations l.operations));
   few : l.most ≤ 8;
-  machine : 0 < l.statement-index → IsMachine l.machine;
+  offered : All AreAlternatives (take l.operation (g.O.Offers.operations l.operations));
 }
