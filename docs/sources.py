@@ -60,12 +60,9 @@ class Imports:
     """What the names of a file mean: names of other modules, and modules by another name."""
 
     def __init__(self, lines):
-        self.names, self.modules, self.handed_on, self.all = {}, {}, [], []
-        for number, line in enumerate(lines, 1):
-            if not (found := IMPORT.match(line)):
-                continue
+        self.names, self.modules, self.handed_on = {}, {}, []
+        for found in filter(None, map(IMPORT.match, lines)):
             module, names, alias = found[2], found[3], found[4]
-            self.all.append((number, module))
             if names is None:
                 self.modules[alias or module.split(".")[-1]] = module
                 if found[1]:
@@ -129,7 +126,6 @@ class Sources:
         lines = text.split("\n")
         place = re.sub(r"^src\.|\.rt$", "", os.path.relpath(path, f"{self.root}/{crate}").replace("/", "."))
         module = f"{crate}.specs.declared" + ("" if place in ("lib", "main") else f".{place}")
-        module = module.removesuffix(".rt")
         self.imports[module], self.paths[module] = Imports(lines), path
         plain = "\n".join(re.sub(r'"(?:\\.|[^"\\])*"', '""', re.sub(r"(^|\s)//.*", r"\1", it)) for it in lines)
         self.read_types(crate, module, path, lines, plain)

@@ -143,6 +143,9 @@ declared-there l is before after form name d split named here =
 
 -- lines of one kind, counted
 
+abbrev counted : Bool → ℕ
+counted b = cond b 1 0
+
 pub how_many-append : (p : Form → Bool) (xs ys : List Form) → how_many p (xs ++ ys) ≡ how_many p xs + how_many p ys
 how_many-append p xs ys = sum_by-append (λ f. cond (p f) 1 0) xs ys
 
@@ -150,14 +153,14 @@ pub how_many-all : {X : Type 0} (p : Form → Bool) (f : X → Form) (xs : List 
 how_many-all p f [] h = refl
 how_many-all p f (x ∷ xs) h =
     let c = how_many-cons p (f x) (map f xs) in
-    let one = ap (λ b. cond b 1 0) (h x) in
+    let one = ap counted (h x) in
     omega (arith, how_many-all p f xs h)
 
 pub how_many-none : {X : Type 0} (p : Form → Bool) (f : X → Form) (xs : List X) → ((x : X) → p (f x) ≡ false) → how_many p (map f xs) ≡ 0
 how_many-none p f [] h = refl
 how_many-none p f (x ∷ xs) h =
     let c = how_many-cons p (f x) (map f xs) in
-    let one = ap (λ b. cond b 1 0) (h x) in
+    let one = ap counted (h x) in
     omega (arith, how_many-none p f xs h)
 
 -- where the lines of each kind stand
