@@ -3,6 +3,7 @@
 
 mod cut;
 mod runs;
+mod tables;
 
 ghost use Rattle.std.specs.Prelude.{◌≤◌};
 ghost use Rattle.rotating.specs.Allotments.{Suits};
