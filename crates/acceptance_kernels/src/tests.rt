@@ -4,6 +4,7 @@
 mod choices;
 mod cut;
 mod runs;
+mod tables;
 
 ghost use Rattle.std.specs.Prelude.{◌≤◌};
 ghost use Rattle.rotating.specs.Allotments.{Suits};

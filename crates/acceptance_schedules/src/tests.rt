@@ -1,4 +1,4 @@
-//! The worked loops at their intervals, over both tables, and lists that are schedules or are not.
+//! The worked loops at their intervals, over each table, and lists that are schedules or are not.
 
 mod given;
 
@@ -9,7 +9,7 @@ use given::{
 use ims::{Failure, Prepared, Schedule, Try, attempt};
 use loops::read_loops;
 use machine::read_machine;
-use mrt::{MaskTable, ModuloTable, OwnerTable};
+use mrt::{MaskTable, ModuloTable, OwnerTable, TimelineTable};
 use std::alloc::{AllocError, Global};
 use std::process::Abort;
 use std::test::Fail;
@@ -89,12 +89,14 @@ fn placed(
     places: &[(u64, usize)],
 ) -> Result<(), Fail> {
     placed_over::<OwnerTable>(rt, alloc, row, places)?;
-    placed_over::<MaskTable>(rt, alloc, row, places)
+    placed_over::<MaskTable>(rt, alloc, row, places)?;
+    placed_over::<TimelineTable>(rt, alloc, row, places)
 }
 
 fn fails(rt: &impl Abort, alloc: Global, row: Case<'_>, failure: Failure) -> Result<(), Fail> {
     fails_over::<OwnerTable>(rt, alloc, row, failure)?;
-    fails_over::<MaskTable>(rt, alloc, row, failure)
+    fails_over::<MaskTable>(rt, alloc, row, failure)?;
+    fails_over::<TimelineTable>(rt, alloc, row, failure)
 }
 
 fn on<'a>(machine: &'a str, text: &'a str, ii: u64, budget: u64) -> Case<'a> {
