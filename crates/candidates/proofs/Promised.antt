@@ -1,20 +1,26 @@
 -- What listings promise.
-use Rattle.std.proofs.Common.{◌≡◌, ℕ, ◌≤◌, List, [], ◌∷◌, refl, sym, ap, ◌∙◌, subst}
-use Rattle.std.specs.List.{AllZip}
-use Rattle.machine_data.specs.Machines.{MachineData}
+use Rattle.std.proofs.Common.{◌≡◌, ℕ, ◌≤◌, List, [], ◌∷◌, map, refl, sym, ap, ◌∙◌, subst}
+use Rattle.std.specs.List.{All, AllZip}
+use Rattle.std.proofs.lemmas.List.Elements.{All-nil, All-cons}
+use Rattle.machine_data.specs.Machines.{MachineData, table_of}
 use Rattle.machine_data.specs.declared.alternative.Row.{Row}
+use Rattle.machine_data.specs.declared.opcode.Opcode.{Opcode}
+use Rattle.iterations.specs.declared.language.statement.Statement.{Statement}
 use Rattle.iterations.specs.Loops.{LoopData}
+use Rattle.graph.specs.Dependences.{latency_in}
 use Rattle.graph.specs.Schedules.{IsLawfulSchedule}
+use Rattle.graph.specs.Units.{opcodes_of}
 use Rattle.ims.specs.Problems.{ProblemData, IsProblemOf}
 use Rattle.ims.specs.Schedules.{ScheduleData, IsSchedule}
 use Rattle.ims.proofs.problems.OneProblems.{one-problem}
 use Rattle.ims.proofs.answers.Promised.{problems-have}
+use Rattle.kernel.specs.declared.kernels.operation.Operation.{Operation}
 use Rattle.kernel.specs.declared.kernels.parts.Parts.{Parts}
 use Rattle.kernel.specs.Overlapped.{overlapped}
 use Rattle.overlap.specs.Allotments.{AllotmentData, IsAllotment, Suits}
 use Rattle.overlap.specs.Emission.{emitted}
 use Rattle.overlap.specs.Lifetimes.{lifetimes_of}
-use Rattle.overlap.specs.Overlap.{times_of, choices_of, RunsAsLoop}
+use Rattle.overlap.specs.Overlap.{times_of, choices_of, opcodes_in, KeepsSchedule, RunsAsLoop}
 use Rattle.overlap.proofs.End.{overlap-is_sequence}
 use Rattle.overlap.proofs.in_flight.Kept.{kernels-keep_schedules}
 use Rattle.overlap.proofs.in_registers.Least.{least-is_lawful}
@@ -31,28 +37,56 @@ emitted-ii : (s : ScheduleData) (a : AllotmentData) → (emitted s a).ii ≡ s.i
 unfolding emitted
 emitted-ii s a = refl
 
+emitted-registers : (s : ScheduleData) (a : AllotmentData) → (emitted s a).registers ≡ a.registers
+unfolding emitted
+emitted-registers s a = refl
+
 -- what a schedule's kernel keeps
-kept : (s : ScheduleData) (k : Parts) → IsSchedule s → HasKernel s k → (k.ii ≡ s.ii) × (times_of k ≡ s.times) × (choices_of k ≡ s.choices)
-kept s k is h =
-    let e = kernels-keep_schedules s h.allotment is in
-    (ap (λ (x : Parts). x.ii) h.is_kernel ∙ emitted-ii s h.allotment, ap times_of h.is_kernel ∙ e.0, ap choices_of h.is_kernel ∙ e.1)
+kept : (s : ScheduleData) (k : Parts) → IsSchedule s → HasKernel s k → KeepsSchedule s k
+kept s k is h = subst (KeepsSchedule s) (sym h.is_kernel) (kernels-keep_schedules s h.allotment is)
+
+kept-ii : (s : ScheduleData) (k : Parts) → HasKernel s k → k.ii ≡ s.ii
+kept-ii s k h = ap (λ (x : Parts). x.ii) h.is_kernel ∙ emitted-ii s h.allotment
+
+kept-registers : (s : ScheduleData) (k : Parts) → HasKernel s k → k.registers ≡ s.problem.registers
+kept-registers s k h = ap (λ (x : Parts). x.registers) h.is_kernel ∙ emitted-registers s h.allotment ∙ h.same_registers
 
 lawful_as : (ii : ℕ) (operations : List (List (List Row))) (s : ScheduleData) (k : Parts) → IsSchedule s → HasKernel s k → s.problem.operations ≡ operations
     → IsLawfulSchedule k.ii operations s.problem.graph.edges (times_of k) (choices_of k)
 lawful_as ii operations s k is h same =
     let e = kept s k is h in
-    subst (λ cs. IsLawfulSchedule k.ii operations s.problem.graph.edges (times_of k) cs) (sym e.2)
-    (subst (λ ts. IsLawfulSchedule k.ii operations s.problem.graph.edges ts s.choices) (sym e.1)
-    (subst (λ i. IsLawfulSchedule i operations s.problem.graph.edges s.times s.choices) (sym e.0)
+    subst (λ cs. IsLawfulSchedule k.ii operations s.problem.graph.edges (times_of k) cs) (sym e.choices)
+    (subst (λ ts. IsLawfulSchedule k.ii operations s.problem.graph.edges ts s.choices) (sym e.times)
+    (subst (λ i. IsLawfulSchedule i operations s.problem.graph.edges s.times s.choices) (sym (kept-ii s k h))
     (subst (λ os. IsLawfulSchedule s.ii os s.problem.graph.edges s.times s.choices) same is.lawful)))
 
+-- latencies that are those of the opcodes, each for itself
+each_latency : (l : Opcode → ℕ) (os : List Operation) (statements : List Statement) → map (λ (o : Operation). o.opcode) os ≡ map (λ (s : Statement). s.opcode) statements
+    → map (λ (o : Operation). o.latency) os ≡ map (λ (s : Statement). l s.opcode) statements → All (λ (o : Operation). o.latency ≡ l o.opcode) os
+each_latency l [] statements opcodes latencies = All-nil (λ (o : Operation). o.latency ≡ l o.opcode)
+each_latency l (o ∷ os) [] opcodes latencies = absurd (cc)
+each_latency l (o ∷ os) (s ∷ statements) opcodes latencies =
+    let opcode : o.opcode ≡ s.opcode = cc in
+    let latency : o.latency ≡ l s.opcode = cc in
+    All-cons (λ (o : Operation). o.latency ≡ l o.opcode) o os (latency ∙ sym (ap l opcode)) (each_latency l os statements (cc) (cc))
+
 pub kernels-keep : KernelsKeepLoops
-kernels-keep machine loop ratio ceiling ii problem kernel is g = record {
-  graph = problem.graph;
-  is_graph = problems-have machine loop ratio ceiling problem is;
-  lawful = subst (λ (q : ProblemData). IsLawfulSchedule kernel.ii _ q.graph.edges (times_of kernel) (choices_of kernel)) g.is_schedule.2
-      (lawful_as ii _ g.schedule kernel g.is_schedule.4 g.has_kernel (ap (λ (q : ProblemData). q.operations) g.is_schedule.2 ∙ is.alternatives));
-}
+kernels-keep machine loop ratio ceiling ii problem kernel is g =
+    let s = g.schedule in
+    let same : s.problem ≡ problem = g.is_schedule.2 in
+    let e = kept s kernel g.is_schedule.4 g.has_kernel in
+    let same_loop : s.problem.loop ≡ loop = ap (λ (q : ProblemData). q.loop) same ∙ is.same_loop in
+    let opcodes : opcodes_in kernel ≡ opcodes_of loop = e.opcodes ∙ ap opcodes_of same_loop in
+    record {
+      opcodes = opcodes;
+      latencies = each_latency (λ opcode. latency_in (table_of machine opcode)) kernel.operations loop.statements opcodes
+          (e.latencies ∙ ap (λ (q : ProblemData). q.graph.latencies) same ∙ is.latencies);
+      registers = kept-registers s kernel g.has_kernel ∙ ap (λ (q : ProblemData). q.registers) same ∙ is.same_registers;
+      graph = problem.graph;
+      is_graph = problems-have machine loop ratio ceiling problem is;
+      lawful = subst (λ (q : ProblemData). IsLawfulSchedule kernel.ii _ q.graph.edges (times_of kernel) (choices_of kernel)) same
+          (lawful_as ii _ s kernel g.is_schedule.4 g.has_kernel (ap (λ (q : ProblemData). q.operations) same ∙ is.alternatives));
+    }
 
 allotted : (s : ScheduleData) (a : AllotmentData) → 1 ≤ a.registers → a.registers ≤ 256 → Suits s a → IsAllotment a
 allotted s a some few suits = record { some = some; few = few; there = suits.there }
@@ -71,7 +105,7 @@ kernels-run machine loop ratio ceiling ii problem kernel is g =
 
 right_choice : (machine : MachineData) (loop : LoopData) (ratio ceiling : ℕ) (problem : ProblemData) (choice : Choice) → IsProblemOf machine loop ratio ceiling problem → IsChoice problem choice → IsRightChoice machine loop choice
 right_choice machine loop ratio ceiling problem (Met ii kernel) is c = (
-  (kept c.is_kernel.schedule kernel c.is_kernel.is_schedule.4 c.is_kernel.has_kernel).0 ∙ c.is_kernel.is_schedule.3,
+  kept-ii c.is_kernel.schedule kernel c.is_kernel.has_kernel ∙ c.is_kernel.is_schedule.3,
   kernels-keep machine loop ratio ceiling ii problem kernel is c.is_kernel,
   kernels-run machine loop ratio ceiling ii problem kernel is c.is_kernel,
 )

@@ -1,14 +1,16 @@
 -- What listings promise.
 use Rattle.std.specs.Prelude.{◌≡◌, ℕ, List}
-use Rattle.std.specs.List.{AllZip}
-use Rattle.machine_data.specs.Machines.{MachineData}
+use Rattle.std.specs.List.{All, AllZip}
+use Rattle.machine_data.specs.Machines.{MachineData, table_of}
 use Rattle.iterations.specs.Loops.{LoopData}
+use Rattle.graph.specs.Dependences.{latency_in}
 use Rattle.graph.specs.Graphs.{GraphData, IsGraphOf}
 use Rattle.graph.specs.Schedules.{IsLawfulSchedule}
-use Rattle.graph.specs.Units.{operations_of}
+use Rattle.graph.specs.Units.{opcodes_of, operations_of}
 use Rattle.ims.specs.Problems.{ProblemData, IsProblemOf}
+use Rattle.kernel.specs.declared.kernels.operation.Operation.{Operation}
 use Rattle.kernel.specs.declared.kernels.parts.Parts.{Parts}
-use Rattle.overlap.specs.Overlap.{times_of, choices_of, RunsAsLoop}
+use Rattle.overlap.specs.Overlap.{times_of, choices_of, opcodes_in, RunsAsLoop}
 use Rattle.candidates.specs.declared.choices.Choice.{Choice}
 use Rattle.candidates.specs.declared.choices.Choice.TheVariants.{Met, Failed}
 use Rattle.candidates.specs.declared.listings.Row.{Row}
@@ -29,8 +31,12 @@ abbrev pub OneListing : Type 0
 OneListing = (machine : MachineData) (loops : List LoopData) (ratio ceiling : ℕ) (one other : ListingData)
     → Lists machine loops ratio ceiling one → Lists machine loops ratio ceiling other → one ≡ other
 
--- the kernel keeps every dependence of the loop, and every unit of the machine
+-- the kernel's operations are those of the loop, each with the machine's latency of its opcode, and its registers are the machine's;
+-- it keeps every dependence of the loop, and every unit of the machine
 pub record KeepsAll (machine : MachineData) (loop : LoopData) (kernel : Parts) : Type 0 where
+  pub opcodes : opcodes_in kernel ≡ opcodes_of loop
+  pub latencies : All (λ (o : Operation). o.latency ≡ latency_in (table_of machine o.opcode)) kernel.operations
+  pub registers : kernel.registers ≡ machine.registers
   pub graph : GraphData
   pub is_graph : IsGraphOf machine loop graph
   pub lawful : IsLawfulSchedule kernel.ii (operations_of machine loop) graph.edges (times_of kernel) (choices_of kernel)

@@ -26,7 +26,8 @@ pub fn one_listing()
     ensures { OneListing }
 {}
 
-/// The kernel that an interval gives keeps every dependence of the loop and every unit of the machine.
+/// The kernel that an interval gives has the loop's operations, the machine's latencies and registers, and
+/// keeps every dependence of the loop and every unit of the machine.
 pub fn kernels_keep_loops()
     ensures { KernelsKeepLoops }
 {}

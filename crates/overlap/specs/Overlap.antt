@@ -1,5 +1,6 @@
 -- A kernel that overlaps the iterations of a loop does what the loop does one iteration after another: the passes, and the law.
 use Rattle.std.specs.Prelude.{◌≡◌, ◌↔◌, ◌⊎◌, ℕ, pos, ◌+◌, ◌-◌, ◌*◌, ◌<◌, ◌≤◌, ◌+ℤ◌, ◌-ℤ◌, true, List, map, Some, None, slice_get}
+use Rattle.machine_data.specs.declared.opcode.Opcode.{Opcode}
 use Rattle.machine_data.specs.declared.opcode.Opcode.TheVariants.{Load}
 use Rattle.iterations.specs.declared.language.statement.Operand.TheVariants.{Value}
 use Rattle.iterations.specs.declared.language.statement.Place.{Place}
@@ -8,6 +9,7 @@ use Rattle.iterations.specs.Loops.{LoopData}
 use Rattle.iterations.specs.Run.{HasShapeOf, MemoryData, IsMemory, cell_index, cell_of, initial_of, plain}
 use Rattle.graph.specs.Dependences.{Uses, ComesFirst}
 use Rattle.graph.specs.Promises.{issue_of}
+use Rattle.graph.specs.Units.{opcodes_of}
 use Rattle.kernel.specs.declared.kernels.operation.Operation.{Operation}
 use Rattle.kernel.specs.declared.kernels.operation.Source.TheVariants.{Register}
 use Rattle.kernel.specs.declared.kernels.parts.Parts.{Parts}
@@ -40,10 +42,24 @@ times_of parts = map (λ (o : Operation). o.stage * parts.ii + o.row) parts.oper
 abbrev pub choices_of : Parts → List ℕ
 choices_of parts = map (λ (o : Operation). o.alternative) parts.operations
 
--- and give back the schedule
+-- their opcodes, and their latencies in cycles
+abbrev pub opcodes_in : Parts → List Opcode
+opcodes_in parts = map (λ (o : Operation). o.opcode) parts.operations
+
+abbrev pub latencies_in : Parts → List ℕ
+latencies_in parts = map (λ (o : Operation). o.latency) parts.operations
+
+-- a kernel's operations are the statements of the schedule's loop, with the latencies, times and alternatives of the schedule
+pub record KeepsSchedule (schedule : ScheduleData) (parts : Parts) : Type 0 where
+  pub times : times_of parts ≡ schedule.times
+  pub choices : choices_of parts ≡ schedule.choices
+  pub opcodes : opcodes_in parts ≡ opcodes_of schedule.problem.loop
+  pub latencies : latencies_in parts ≡ schedule.problem.graph.latencies
+
+-- and so those of the kernel of a schedule give back the schedule
 abbrev pub KernelsKeepSchedules : Type 0
 KernelsKeepSchedules = (schedule : ScheduleData) (allotment : AllotmentData) → IsSchedule schedule
-    → (times_of (emitted schedule allotment) ≡ schedule.times) × (choices_of (emitted schedule allotment) ≡ schedule.choices)
+    → KeepsSchedule schedule (emitted schedule allotment)
 
 -- (i) an operation is issued in just the cycles of its instances
 abbrev pub InstancesAreIssuedOnce : Type 0

@@ -9,7 +9,8 @@ pub fn kernels_are_well_formed()
     ensures { KernelsAreWellFormed }
 {}
 
-/// The stages, rows and alternatives of a kernel's operations are its schedule.
+/// The stages, rows and alternatives of a kernel's operations are its schedule, their opcodes those of the
+/// loop's statements, and their latencies those that the schedule was made for.
 pub fn kernels_keep_schedules()
     ensures { KernelsKeepSchedules }
 {}
