@@ -12,6 +12,8 @@ pub enum Answer {
     Wrong,
     /// Memory ran out.
     Refused,
+    /// What it comes to with ample memory, by the calling thread alone, since no worker was started.
+    Alone,
     /// A worker went on to the end, and its report tells what it lacks for want of memory.
     InPart,
     /// A worker went on to the end, and its report tells that every piece was lost.
@@ -34,6 +36,7 @@ impl Answer {
             Answer::Right => "right",
             Answer::Wrong => "wrong",
             Answer::Refused => "refused",
+            Answer::Alone => "alone",
             Answer::InPart => "in part",
             Answer::AllLost => "all lost",
         }

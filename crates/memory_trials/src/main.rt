@@ -5,6 +5,7 @@
 
 mod answers;
 mod bare;
+mod files;
 mod given;
 mod sharing;
 mod single;
@@ -12,6 +13,7 @@ mod three;
 
 use answers::{NotBegun, tell_not_begun};
 use std::io;
+use std::thread::Threads;
 use three::{Three, given_three};
 
 fn main(rt: HostRuntime) -> io::Result<()> {
@@ -22,11 +24,12 @@ fn main(rt: HostRuntime) -> io::Result<()> {
 }
 
 /// Tells what all calls come to.
-fn try_all(rt: &(impl AllocGlobal + Print), three: &Three) -> io::Result<()> {
+fn try_all(rt: &(impl AllocGlobal + Print + Threads + Sync), three: &Three) -> io::Result<()> {
     let prepared = &three.loops[0];
     single::try_all(rt, prepared)?;
     single::try_schedule(rt, prepared)?;
     sharing::try_workers(rt, three)?;
+    files::try_file(rt)?;
     sharing::try_bare_board(rt)?;
     bare::try_tables(rt, prepared)?;
     bare::try_numbers(rt)

@@ -4,7 +4,7 @@ use Rattle.std.specs.List.{AllZip, flat_map, zip}
 use Rattle.std.proofs.lemmas.List.{length-map}
 use Rattle.machine.specs.Machines.{MachineData}
 use Rattle.loops.specs.Loops.{LoopData}
-use Rattle.ims.specs.Problems.{ProblemData, IsProblemOf}
+use Rattle.ims.specs.Problems.{ProblemData}
 use Rattle.ims.specs.Schedules.{ScheduleData}
 use Rattle.kernel.specs.declared.kernels.parts.Parts.{Parts}
 use Rattle.overlap.specs.Allotments.{AllotmentData}
@@ -15,9 +15,9 @@ use Rattle.candidates.specs.declared.listings.Row as row
 use Rattle.candidates.specs.Choices.{IsChoice}
 use Rattle.candidates.specs.Listings.{ListingData, listing_rows}
 use Rattle.candidates.specs.Outcomes.{GivesKernel}
-use Rattle.candidates.proofs.Promised.{kernels-run}
 use Rattle.workers.specs.Files.{ArePrepared, ListsProblems}
-use Rattle.modsched.specs.Run.{RunsAs, IsRunnable, choice_lines, told_lines}
+use Rattle.modsched.specs.Run.{choice_lines, told_lines}
+use Rattle.modsched.specs.inner.Runnable.{HasSizesOf, IsRunnable}
 
 emitted-arrays : (s : ScheduleData) (a : AllotmentData) → length (emitted s a).arrays ≡ length s.problem.loop.arrays
 unfolding emitted
@@ -27,39 +27,31 @@ emitted-outs : (s : ScheduleData) (a : AllotmentData) → length (emitted s a).o
 unfolding emitted
 emitted-outs s a = length-map s.problem.loop.outs _
 
-stands_for : (machine : MachineData) (loop : LoopData) (ratio ceiling ii : ℕ) (problem : ProblemData) (kernel : Parts)
-    → IsProblemOf machine loop ratio ceiling problem → GivesKernel problem ii kernel → RunsAs problem.loop kernel
-stands_for machine loop ratio ceiling ii problem kernel is g =
+stands_for : (problem : ProblemData) (ii : ℕ) (kernel : Parts) → GivesKernel problem ii kernel → HasSizesOf problem.loop kernel
+stands_for problem ii kernel g =
     let s = g.schedule in
     let a = g.has_kernel.allotment in record {
       same_arrays = ap (λ (k : Parts). length k.arrays) g.has_kernel.is_kernel ∙ emitted-arrays s a ∙ ap (λ (p : ProblemData). length p.loop.arrays) g.is_schedule.2;
       same_outs = ap (λ (k : Parts). length k.outs) g.has_kernel.is_kernel ∙ emitted-outs s a ∙ ap (λ (p : ProblemData). length p.loop.outs) g.is_schedule.2;
-      runs = rw is.same_loop (kernels-run machine loop ratio ceiling ii problem kernel is g);
     }
 
-runnable : (machine : MachineData) (loop : LoopData) (ratio ceiling : ℕ) (problem : ProblemData) (choice : Choice)
-    → IsProblemOf machine loop ratio ceiling problem → IsChoice problem choice → IsRunnable problem.loop choice
-runnable machine loop ratio ceiling problem (Met ii kernel) is c = stands_for machine loop ratio ceiling ii problem kernel is c.is_kernel
-runnable machine loop ratio ceiling problem (Failed cause) is c = tt
+runnable : (problem : ProblemData) (choice : Choice) → IsChoice problem choice → IsRunnable problem.loop choice
+runnable problem (Met ii kernel) c = stands_for problem ii kernel c.is_kernel
+runnable problem (Failed cause) c = tt
 
 -- each loop with its row
-all_runnable : (machine : MachineData) (ratio ceiling : ℕ) (loops : List LoopData) (problems : List ProblemData) (choices : List Choice)
-    → ArePrepared machine ratio ceiling loops problems → AllZip IsChoice problems choices
+all_runnable : (problems : List ProblemData) (choices : List Choice) → AllZip IsChoice problems choices
     → AllZip (λ (p : ProblemData) (r : row.Row). IsRunnable p.loop r.choice) problems (listing_rows problems choices)
-all_runnable machine ratio ceiling [] [] [] ps cs = tt
-all_runnable machine ratio ceiling [] [] (c ∷ choices) ps cs = absurd cs
-all_runnable machine ratio ceiling [] (p ∷ problems) choices ps cs = absurd ps
-all_runnable machine ratio ceiling (l ∷ loops) [] choices ps cs = absurd ps
-all_runnable machine ratio ceiling (l ∷ loops) (p ∷ problems) [] ps cs = absurd cs
-all_runnable machine ratio ceiling (l ∷ loops) (p ∷ problems) (c ∷ choices) ps cs =
-    (runnable machine l ratio ceiling p c ps.0 cs.0, all_runnable machine ratio ceiling loops problems choices ps.1 cs.1)
+all_runnable [] [] cs = tt
+all_runnable [] (c ∷ choices) cs = absurd cs
+all_runnable (p ∷ problems) [] cs = absurd cs
+all_runnable (p ∷ problems) (c ∷ choices) cs = (runnable p c cs.0, all_runnable problems choices cs.1)
 
-pub listed_runnable : (machine : MachineData) (ratio ceiling : ℕ) (loops : List LoopData) (problems : List ProblemData) (listing : ListingData)
-    → ArePrepared machine ratio ceiling loops problems → ListsProblems ceiling problems listing
+pub listed_runnable : (ceiling : ℕ) (problems : List ProblemData) (listing : ListingData) → ListsProblems ceiling problems listing
     → AllZip (λ (p : ProblemData) (r : row.Row). IsRunnable p.loop r.choice) problems listing.rows
-listed_runnable machine ratio ceiling loops problems listing ps is =
+listed_runnable ceiling problems listing is =
     subst (λ (l : ListingData). AllZip (λ (p : ProblemData) (r : row.Row). IsRunnable p.loop r.choice) problems l.rows) (sym is.is_listing)
-    (all_runnable machine ratio ceiling loops problems is.choices ps is.each_choice)
+    (all_runnable problems is.choices is.each_choice)
 
 -- the lines of prepared loops are those of the loops
 pub told_prepared : (trip high : ℕ) (machine : MachineData) (ratio ceiling : ℕ) (loops : List LoopData) (problems : List ProblemData) (rows : List row.Row)

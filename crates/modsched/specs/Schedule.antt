@@ -5,7 +5,7 @@ use Rattle.machine.specs.Machines.{MachineData}
 use Rattle.loops.specs.Loops.{LoopData}
 use Rattle.candidates.specs.declared.listings.Row.{Row}
 use Rattle.candidates.specs.Listings.{ListingData, is_met}
-use Rattle.candidates.specs.Promises.{Lists}
+use Rattle.candidates.specs.Promises.{IsRight, Lists}
 use Rattle.candidates.specs.Texts.{listing_text_of}
 use Rattle.listing_json.specs.Documents.{document_text}
 
@@ -13,10 +13,11 @@ use Rattle.listing_json.specs.Documents.{document_text}
 abbrev pub are_met : List Row → Bool
 are_met rows = list_all (λ (row : Row). is_met row.choice) rows
 
--- the text of the listing of one thread, with whether every loop has a kernel
+-- the text of the listing of one thread, each kernel of which is right, with whether every loop has a kernel
 pub record IsListingText (ratio ceiling : ℕ) (machine : MachineData) (loops : List LoopData) (text : List ℕ) (all_met : Bool) : Type 0 where
   pub listing : ListingData
   pub lists : Lists machine loops ratio ceiling listing
+  pub right : IsRight machine loops listing
   pub is_text : text ≡ listing_text_of listing
   pub met : all_met ≡ are_met listing.rows
 
@@ -24,5 +25,6 @@ pub record IsListingText (ratio ceiling : ℕ) (machine : MachineData) (loops : 
 pub record IsListingDocument (ratio ceiling : ℕ) (machine : MachineData) (loops : List LoopData) (text : List ℕ) (all_met : Bool) : Type 0 where
   pub listing : ListingData
   pub lists : Lists machine loops ratio ceiling listing
+  pub right : IsRight machine loops listing
   pub is_text : text ≡ document_text listing
   pub met : all_met ≡ are_met listing.rows

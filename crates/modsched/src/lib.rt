@@ -2,6 +2,7 @@
 #![tactic(auto)]
 
 mod commands;
+mod laws;
 mod output;
 mod subcommand;
 
@@ -11,6 +12,7 @@ pub use devices::{
     StandardOutput, TEXT_LIMIT, TakenBytes, read_text, write_text,
 };
 pub use endings::{Line, Status, Told, exit_number, finish, show};
+pub use laws::kernels_tell_plain_lines;
 pub use settings::{OutOfRange, Settings};
 pub use subcommand::engine;
 

@@ -119,9 +119,12 @@ fn list<R: Threads + Sync, G: Gate + Sync>(
     Listing::of(alloc, settings.ceiling(), loops, chosen.into_choices())
 }
 
-/// The choice of each loop, by at most so many workers and no more than there are pieces. Where there is no
-/// memory for the workers, the calling thread does all.
-fn choose_by_workers<R: Threads + Sync, G: Gate + Sync>(
+/// The choice of each loop, by at most so many workers, 1 to 64, and no more than there are pieces. The
+/// calling thread tries what workers leave, and all where there is no memory to start them.
+///
+/// # Errors
+/// The calling thread was refused memory.
+pub fn choose_by_workers<R: Threads + Sync, G: Gate + Sync>(
     rt: &R,
     alloc: Global,
     loops: &[Prepared],

@@ -9,9 +9,9 @@ ghost use Rattle.candidates.specs.declared.listings.Row as row;
 ghost use Rattle.candidates.specs.Listings.{IsRow};
 ghost use Rattle.candidates.specs.Texts.{counts_line, row_text};
 ghost use Rattle.modsched.specs.Outcomes.{OutcomeOf};
-ghost use Rattle.modsched.specs.Plain.{plain_lines};
 ghost use Rattle.modsched.specs.inner.Refusals.{PrintoutAnswer, HasOneMemory};
-ghost use Rattle.modsched.specs.Run.{IsRunText, IsRunnable, RunsAs, choice_lines};
+ghost use Rattle.modsched.specs.inner.Runnable.{HasSizesOf, IsRunnable};
+ghost use Rattle.modsched.specs.Run.{IsRunText, choice_lines, kernel_lines};
 
 use crate::commands::schedule::are_met;
 use crate::output::printout::Printout;
@@ -95,7 +95,7 @@ fn push_row(
     }
 }
 
-/// Appends the lines of the run of a loop's kernel, which are those of the loop's plain run.
+/// Appends the lines of the run of a loop's kernel.
 fn push_kernel(
     alloc: Global,
     text: &mut Vec<u8>,
@@ -103,8 +103,8 @@ fn push_kernel(
     kernel: &Kernel,
     trip: Trip,
 ) -> Result<(), AllocError>
-    requires { RunsAs innermost.now kernel.now }
-    ensures { OnOk result (text.new.items ≡ text.old.items ++ plain_lines trip innermost.now) }
+    requires { HasSizesOf innermost.now kernel.now }
+    ensures { OnOk result (text.new.items ≡ text.old.items ++ kernel_lines trip innermost.now kernel.now) }
 {
     let before = within_limits(opening(alloc, innermost, trip.count()))?;
     let after = within_limits(simulate(alloc, kernel, trip.count(), &before))?;

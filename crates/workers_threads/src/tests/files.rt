@@ -1,6 +1,6 @@
 //! Files by workers in threads.
 
-use super::gates::{Limited, Meeting};
+use super::gates::{Limited, Meeting, Roll};
 use super::given::{LISTING, LOOPS, MACHINE};
 use candidates::{Settings, listing_text};
 use std::alloc::Global;
@@ -47,6 +47,37 @@ fn two_at_once(rt: HostRuntime) -> Result<(), Fail> {
     assert_eq!(rt; text.as_str(), LISTING);
     assert!(rt; gate.met());
     assert_eq!(rt; gate.calls(), 12);
+    Ok(())
+}
+
+// Both workers call the gate by their own numbers: at each of the 12 pieces once, and once more than that before their draws.
+#[test]
+fn each_worker_tells_its_number_and_its_pieces(rt: HostRuntime) -> Result<(), Fail> {
+    let gate = Roll::new();
+    let text = listed(&rt, rt.alloc(), 2, 1, &gate)?;
+    assert_eq!(rt; text.as_str(), LISTING);
+    let (first, second) = gate.pieces();
+    assert_eq!(rt; gate.strange(), 0);
+    assert_eq!(rt; first.wrapping_add(second), 0x1111_1111_1111);
+    let draws = (
+        u64::from(first.count_ones()) + 1,
+        u64::from(second.count_ones()) + 1,
+    );
+    assert_eq!(rt; gate.asked(), draws);
+    Ok(())
+}
+
+// Four intervals of three loops, two in each piece.
+#[test]
+fn a_piece_has_as_many_intervals_as_the_cut(rt: HostRuntime) -> Result<(), Fail> {
+    let gate = Roll::new();
+    let text = listed(&rt, rt.alloc(), 2, 2, &gate)?;
+    assert_eq!(rt; text.as_str(), LISTING);
+    let (first, second) = gate.pieces();
+    assert_eq!(rt;
+        (first.wrapping_add(second), gate.strange()),
+        (0x11_1111, 0)
+    );
     Ok(())
 }
 

@@ -8,7 +8,7 @@ use workers::Gate;
 
 /// How often a call looks for another, at most. Between two looks it lets other threads run, so that a busy machine has time to start
 /// the second thread.
-const TURNS: u64 = 50_000_000;
+const TURNS: u64 = 10_000_000;
 
 /// A gate that holds its first call until a second one has come.
 #[derive(Drop)]
@@ -78,5 +78,106 @@ impl Gate for Limited {
 
     fn go_on(&self, _worker: usize) -> bool {
         self.asked.fetch_add(1, Ordering::SeqCst) < self.most
+    }
+}
+
+/// What a gate is called with in the name of one worker.
+#[derive(Drop)]
+struct Calls {
+    /// How often the worker came to each of 12 pieces, in four bits each.
+    pieces: AtomicU64,
+    /// How often it asked whether it goes on.
+    asked: AtomicU64,
+}
+
+impl Calls {
+    /// No call yet.
+    fn new() -> Calls {
+        Calls {
+            pieces: AtomicU64::new(0),
+            asked: AtomicU64::new(0),
+        }
+    }
+}
+
+/// A gate that keeps apart what workers 0 and 1 call it with.
+#[derive(Drop)]
+pub(super) struct Roll {
+    first: Calls,
+    second: Calls,
+    /// Calls in another worker's name, or with a piece past the twelfth.
+    strange: AtomicU64,
+}
+
+impl Roll {
+    /// No call yet.
+    pub(super) fn new() -> Roll {
+        Roll {
+            first: Calls::new(),
+            second: Calls::new(),
+            strange: AtomicU64::new(0),
+        }
+    }
+
+    /// What it is called with in a worker's name.
+    fn calls(&self, worker: usize) -> Option<&Calls> {
+        match worker {
+            0 => Some(&self.first),
+            1 => Some(&self.second),
+            _ => None,
+        }
+    }
+
+    /// How often workers 0 and 1 came to each piece, in four bits each.
+    pub(super) fn pieces(&self) -> (u64, u64) {
+        (
+            self.first.pieces.load(Ordering::SeqCst),
+            self.second.pieces.load(Ordering::SeqCst),
+        )
+    }
+
+    /// How often they asked whether they go on.
+    pub(super) fn asked(&self) -> (u64, u64) {
+        (
+            self.first.asked.load(Ordering::SeqCst),
+            self.second.asked.load(Ordering::SeqCst),
+        )
+    }
+
+    /// How many calls were of no such worker or piece.
+    pub(super) fn strange(&self) -> u64 {
+        self.strange.load(Ordering::SeqCst)
+    }
+}
+
+/// One time, in the four bits of a piece; none for a piece past the twelfth.
+pub(super) fn once(piece: u64) -> u64 {
+    if piece < 12 { 1 << (4 * piece) } else { 0 }
+}
+
+impl Gate for Roll {
+    ghost always_goes_on = { λ _. true };
+
+    fn at_piece(&self, worker: usize, piece: u64) {
+        match self.calls(worker) {
+            Some(calls) if piece < 12 => {
+                calls.pieces.fetch_add(once(piece), Ordering::SeqCst);
+            }
+            _ => {
+                self.strange.fetch_add(1, Ordering::SeqCst);
+            }
+        }
+    }
+
+    fn go_on(&self, worker: usize) -> bool {
+        match self.calls(worker) {
+            Some(calls) => {
+                calls.asked.fetch_add(1, Ordering::SeqCst);
+            }
+            None => {
+                self.strange.fetch_add(1, Ordering::SeqCst);
+            }
+        }
+        true
     }
 }

@@ -8,7 +8,7 @@ ghost use Rattle.board.specs.Names.{terms_of};
 ghost use Rattle.workers.specs.Entries.{HasNoRefusal};
 
 use super::boards::{Count, FirstPiece, NoPiece, ZeroLooks};
-use super::gates::{Limited, Meeting};
+use super::gates::{Limited, Meeting, Roll, once};
 use super::given::{LISTING, LOOPS, MACHINE};
 use board::{Board, Closed, WordBoard, WordPass};
 use candidates::{Listing, Pieces, Settings, listing_text};
@@ -16,7 +16,9 @@ use ims::Prepared;
 use std::alloc::Global;
 use std::test::Fail;
 use std::thread::{Threads, join};
-use workers::{Chosen, Gate, OpenGate, Report, gather, pipeline, run_workers, work};
+use workers::{
+    Chosen, Entry, Gate, OpenGate, Report, choose_by_workers, gather, pipeline, run_workers, work,
+};
 
 /// The three loops, prepared with a ceiling of 3. By one interval a piece that is 12 pieces.
 #[derive(Drop)]
@@ -194,9 +196,30 @@ fn a_worker_that_stops_at_once_leaves_all_to_try(rt: HostRuntime) -> Result<(), 
     Ok(())
 }
 
+/// How often a report tells of each of the 12 pieces, in four bits each.
+fn told_pieces(loops: &[Prepared], report: &Report<'_>) -> u64 {
+    let mut told: u64 = 0;
+    for entry in report.entries() {
+        told = told.wrapping_add(once(piece_of(loops, entry)));
+    }
+    told
+}
+
+/// The number of the piece of an entry, where a piece has one interval.
+fn piece_of(loops: &[Prepared], entry: &Entry) -> u64 {
+    let number = usize::from(entry.loop_number);
+    let Some(prepared) = loops.get(number) else {
+        return 12;
+    };
+    let above = u64::from(entry.interval).saturating_sub(prepared.mii());
+    above.saturating_mul(3).saturating_add(number as u64)
+}
+
 /// What two workers come to.
 #[derive(Drop)]
 struct Together {
+    /// How often the report of each tells of each piece, in four bits each.
+    pieces: (u64, u64),
     both_dry: bool,
     lost: u64,
     retried: u64,
@@ -225,11 +248,14 @@ fn by_two<R: Threads + Sync, G: Gate + Sync>(
             ensures { IsPassOf shared.entry.now result.0 × (result.1.loops ≡ three.entry.now.loops.items) }
         { three.work(alloc, 1, shared, two, gate) },
     );
+    let loops = three.loops.as_slice();
+    let pieces = (told_pieces(loops, &first), told_pieces(loops, &second));
     let both_dry = first.is_dry() && second.is_dry();
     let lost = first.lost().saturating_add(second.lost());
     let retried = three.retried(alloc, vec![in alloc; first, second]?)?;
     let closed = close(alloc, board, one, two)?;
     Ok(Together {
+        pieces,
         both_dry,
         lost,
         retried,
@@ -270,6 +296,24 @@ fn two_threads_of_a_caller_are_at_work_at_once(rt: HostRuntime) -> Result<(), Fa
     Ok(())
 }
 
+// The gate is called by the number of the worker whose report tells of the piece, once for each piece, and before each draw.
+#[test]
+fn a_gate_is_told_who_came_to_which_piece(rt: HostRuntime) -> Result<(), Fail> {
+    let alloc = rt.alloc();
+    let three = Three::new(&rt, alloc)?;
+    let gate = Roll::new();
+    let all = by_two(&rt, alloc, &three, &gate)?;
+    let (first, second) = all.pieces;
+    assert_eq!(rt; (gate.pieces(), gate.strange()), (all.pieces, 0));
+    assert_eq!(rt; first.wrapping_add(second), 0x1111_1111_1111);
+    let draws = (
+        u64::from(first.count_ones()) + 1,
+        u64::from(second.count_ones()) + 1,
+    );
+    assert_eq!(rt; gate.asked(), draws);
+    Ok(())
+}
+
 /// Whether nothing was refused to the workers of the reports.
 fn all_whole(reports: &[Report<'_>]) -> bool
     ensures { IsTrue result → All (λ (r : _). HasNoRefusal r.loops r) reports.now }
@@ -307,5 +351,32 @@ fn workers_to_whom_nothing_is_refused_leave_nothing(rt: HostRuntime) -> Result<(
         let chosen = chosen_by(&rt, alloc, &three, workers)?;
         assert!(rt; matches!(&chosen, Some(chosen) if chosen.retried() == 0));
     }
+    Ok(())
+}
+
+// The calling thread of a file has nothing left to try, by whatever workers and cut.
+#[test]
+fn workers_of_a_file_leave_nothing_to_try(rt: HostRuntime) -> Result<(), Fail> {
+    let alloc = rt.alloc();
+    let three = Three::new(&rt, alloc)?;
+    for workers in [1, 3, 64] {
+        for cut in [1, 2, 256] {
+            let pieces = Pieces::of(3, 3, cut);
+            let loops = three.loops.as_slice();
+            let chosen = choose_by_workers(&rt, alloc, loops, &pieces, workers, &OpenGate)?;
+            assert_eq!(rt; (chosen.choices().len(), chosen.retried()), (3, 0));
+        }
+    }
+    Ok(())
+}
+
+// It has all to try where the workers stop at once.
+#[test]
+fn workers_of_a_file_that_stop_leave_all_to_try(rt: HostRuntime) -> Result<(), Fail> {
+    let alloc = rt.alloc();
+    let three = Three::new(&rt, alloc)?;
+    let (pieces, loops) = (Pieces::of(3, 3, 1), three.loops.as_slice());
+    let chosen = choose_by_workers(&rt, alloc, loops, &pieces, 3, &Limited::new(0))?;
+    assert_eq!(rt; (chosen.choices().len(), chosen.retried()), (3, 5));
     Ok(())
 }

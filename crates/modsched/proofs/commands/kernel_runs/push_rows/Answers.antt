@@ -3,7 +3,8 @@ use Rattle.std.proofs.lemmas.Slice.Zip.{AllZip-long}
 use Rattle.ims.specs.Problems.{ProblemData}
 use Rattle.candidates.specs.declared.listings.Row as row
 use Rattle.loops.specs.Loops.{LoopData}
-use Rattle.modsched.specs.Run.{IsRunnable, choice_lines}
+use Rattle.modsched.specs.Run.{choice_lines}
+use Rattle.modsched.specs.inner.Runnable.{IsRunnable}
 use Rattle.modsched.proofs.PlainLines.{pair_more, pair_all}
 use Rattle.modsched.proofs.Runnable.{all_zip_at}
 use Rattle.modsched.proofs.commands.kernel_runs.push_rows.Goals as goal

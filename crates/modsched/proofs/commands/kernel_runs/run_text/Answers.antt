@@ -6,9 +6,10 @@ use Rattle.ims.specs.Problems.{ProblemData}
 use Rattle.candidates.specs.declared.listings.Row as row
 use Rattle.candidates.specs.Texts.{counts_line}
 use Rattle.workers.specs.Files.{PreparesAndLists}
-use Rattle.workers.proofs.Answering.{lists_of}
+use Rattle.workers.proofs.Answering.{lists_of, right_of}
 use Rattle.modsched.specs.Schedule.{are_met}
-use Rattle.modsched.specs.Run.{IsRunText, IsRunnable, choice_lines}
+use Rattle.modsched.specs.Run.{IsRunText, choice_lines}
+use Rattle.modsched.specs.inner.Runnable.{IsRunnable}
 use Rattle.modsched.proofs.Files.{accepted, file_memory, file_refused, written}
 use Rattle.modsched.proofs.Refusing.{told}
 use Rattle.modsched.proofs.Runnable.{listed_runnable, told_prepared}
@@ -32,7 +33,7 @@ push_rows-requires g c =
     let listing = c.in_ok-prepared.listing in
     let h = accepted (PreparesAndLists r k) (machine_of c.args.machine.now) (loops_in c.args.loops.now) (prepared, listing) c.in_ok-prepared.ensures.exact in
     subst (λ ps. AllZip (λ (p : ProblemData) (s : row.Row). IsRunnable p.loop s.choice) ps listing.rows) (sym c.as_slice.ensures.value)
-    (listed_runnable h.0 r k h.1 prepared.items listing h.5.0 h.5.1)
+    (listed_runnable k prepared.items listing h.5.1)
 
 pub returns-clause-exact : goal.returns-clause-exact
 returns-clause-exact g c =
@@ -49,6 +50,7 @@ returns-clause-exact g c =
     (λ m ls f. record {
       listing = listing;
       lists = lists_of m r k ls prepared.items listing f.0 f.1;
+      right = right_of m r k ls prepared.items listing f.0 f.1;
       is_text = told ∙ ap (λ (t : List ℕ). t ++ counts_line listing.rows) (rows ∙ told_prepared c.args.trip listing.ceiling m r k ls prepared.items listing.rows f.0);
       met = c.are_met.ensures ∙ ap are_met c.rows-2.ensures.value;
     }) c.in_ok-prepared.ensures.exact
