@@ -1,7 +1,6 @@
 //! The kernel of a scheduled loop.
 
 ghost use Rattle.std.specs.Prelude.{◌≡◌, IfOk};
-ghost use Rattle.kernel.specs.Check.{IsWellFormed};
 ghost use Rattle.ims.specs.Schedules.{IsSchedule};
 ghost use Rattle.overlap.specs.Allotments.{IsAllotment, Suits};
 ghost use Rattle.overlap.specs.Emission.{emitted};
@@ -18,17 +17,6 @@ use kernel::{Kernel, Parts};
 use machine_data::OutOfMemory;
 use machine_data::limits::MAX_STATEMENTS;
 use std::alloc::Global;
-
-/// The kernel of well-formed parts.
-fn checked(parts: Parts) -> Kernel
-    requires { IsWellFormed parts }
-    ensures { result ≡ parts }
-{
-    match Kernel::check(parts) {
-        Ok(kernel) => kernel,
-        Err(_bad) => unreachable!(),
-    }
-}
 
 /// The parts of the kernel of a schedule and an allotment.
 fn parts_of(
@@ -79,5 +67,5 @@ pub fn emit(
     ensures overlap { IfOk result (λ k. RunsAsLoop k innermost.now) }
 {
     let parts = parts_of(alloc, innermost, schedule, allotment)?;
-    Ok(checked(parts))
+    Ok(Kernel::new(parts))
 }
