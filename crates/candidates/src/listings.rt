@@ -45,23 +45,23 @@ impl Model for Listing {
 }
 
 impl Listing {
-    /// The listing of loops with their choices.
+    /// The listing of loops with their choices. The ceiling, 0 to 255, is that of each loop.
     ///
     /// # Errors
     /// Memory ran out.
     pub fn of(
         alloc: Global,
-        ceiling: u64,
+        ceiling: u8,
         loops: &[Prepared],
         choices: Vec<Choice>,
     ) -> Result<Listing, OutOfMemory>
         requires ceilings { All (λ (p : _). p.ceiling ≡ ceiling) loops.now }
-        requires ceiling { ceiling ≤ 255 }
         requires each { vec_len choices ≡ length loops.now }
         ensures value { IfOk result (λ l. l ≡ listing_of ceiling loops.now choices.items) }
     {
         let mut rows = Vec::with_capacity(alloc, loops.len())?;
         fill_rows(&mut rows, loops, choices);
+        let ceiling = u64::from(ceiling);
         Ok(Listing { ceiling, rows })
     }
 

@@ -5,4 +5,4 @@ mod entry;
 mod report;
 
 pub use entry::{Entry, Found};
-pub use report::Report;
+pub use report::{Report, enter, go_dry, lose, report_of, reserve};

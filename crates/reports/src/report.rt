@@ -64,63 +64,6 @@ impl<'a> Report<'a> {
         self.lost == 0 && self.entries.iter().all(|entry| !entry.found.is_unsettled())
     }
 
-    /// A report of these loops, without entries.
-    pub fn new(alloc: Global, loops: &'a [Prepared]) -> Report<'a>
-        ensures loops { result.loops ≡ loops.now }
-        ensures entries { result.entries ≡ [] }
-        ensures lost { result.lost ≡ 0 }
-        ensures dry { result.dry ≡ false }
-    {
-        Report {
-            loops,
-            entries: Vec::new(alloc),
-            lost: 0,
-            dry: false,
-        }
-    }
-
-    /// Counts a piece as lost.
-    pub fn lose(&mut self)
-        requires few { self.old.lost < 18446744073709551615 }
-        ensures loops { self.new.loops ≡ self.old.loops }
-        ensures entries { self.new.entries ≡ self.old.entries }
-        ensures lost { self.new.lost ≡ self.old.lost + 1 }
-        ensures dry { self.new.dry ≡ self.old.dry }
-    {
-        self.lost += 1;
-    }
-
-    /// Tells that the pass went dry.
-    pub fn go_dry(&mut self)
-        ensures loops { self.new.loops ≡ self.old.loops }
-        ensures entries { self.new.entries ≡ self.old.entries }
-        ensures lost { self.new.lost ≡ self.old.lost }
-        ensures dry { self.new.dry ≡ true }
-    {
-        self.dry = true;
-    }
-
-    /// Makes room for so many entries more. The result is whether there is memory for them.
-    pub fn reserve(&mut self, count: usize) -> bool
-        ensures loops { self.new.loops ≡ self.old.loops }
-        ensures entries { self.new.entries ≡ self.old.entries }
-        ensures lost { self.new.lost ≡ self.old.lost }
-        ensures dry { self.new.dry ≡ self.old.dry }
-        ensures room { IsTrue result → count ≤ self.new.room }
-        ensures had { count ≤ self.old.room → IsTrue result }
-    {
-        self.entries.reserve(count).is_ok()
-    }
-
-    /// Adds an entry, for which there is room.
-    pub fn enter(&mut self, entry: Entry)
-        requires truth { IsEntry self.old.loops entry }
-        requires room { 0 < self.old.room }
-        ensures { Enters self.old entry self.new }
-    {
-        self.entries.push_reserved(entry);
-    }
-
     /// The entries alone.
     pub fn into_entries(self) -> Vec<Entry>
         ensures value { result.items ≡ self.entry.entries }
@@ -134,4 +77,63 @@ impl<'a> Report<'a> {
         } = self;
         entries
     }
+}
+
+// What makes a report. Users of `workers` are handed reports, and these calls are not among what it hands on.
+
+/// A report of these loops, without entries.
+pub fn report_of<'a>(alloc: Global, loops: &'a [Prepared]) -> Report<'a>
+    ensures loops { result.loops ≡ loops.now }
+    ensures entries { result.entries ≡ [] }
+    ensures lost { result.lost ≡ 0 }
+    ensures dry { result.dry ≡ false }
+{
+    Report {
+        loops,
+        entries: Vec::new(alloc),
+        lost: 0,
+        dry: false,
+    }
+}
+
+/// Counts a piece as lost.
+pub fn lose(report: &mut Report<'_>)
+    requires few { report.old.lost < 18446744073709551615 }
+    ensures loops { report.new.loops ≡ report.old.loops }
+    ensures entries { report.new.entries ≡ report.old.entries }
+    ensures lost { report.new.lost ≡ report.old.lost + 1 }
+    ensures dry { report.new.dry ≡ report.old.dry }
+{
+    report.lost += 1;
+}
+
+/// Tells that the pass went dry.
+pub fn go_dry(report: &mut Report<'_>)
+    ensures loops { report.new.loops ≡ report.old.loops }
+    ensures entries { report.new.entries ≡ report.old.entries }
+    ensures lost { report.new.lost ≡ report.old.lost }
+    ensures dry { report.new.dry ≡ true }
+{
+    report.dry = true;
+}
+
+/// Makes room for so many entries more. The result is whether there is memory for them.
+pub fn reserve(report: &mut Report<'_>, count: usize) -> bool
+    ensures loops { report.new.loops ≡ report.old.loops }
+    ensures entries { report.new.entries ≡ report.old.entries }
+    ensures lost { report.new.lost ≡ report.old.lost }
+    ensures dry { report.new.dry ≡ report.old.dry }
+    ensures room { IsTrue result → count ≤ report.new.room }
+    ensures had { count ≤ report.old.room → IsTrue result }
+{
+    report.entries.reserve(count).is_ok()
+}
+
+/// Adds an entry, for which there is room.
+pub fn enter(report: &mut Report<'_>, entry: Entry)
+    requires truth { IsEntry report.old.loops entry }
+    requires room { 0 < report.old.room }
+    ensures { Enters report.old entry report.new }
+{
+    report.entries.push_reserved(entry);
 }

@@ -10,7 +10,7 @@ ghost use Rattle.shared_work.specs.inner.Turns.{EntersOne, Takes, TakesOrPasses,
 use board::Board;
 use candidates::{Outcome, Piece, Trials};
 use kernel::Kernel;
-use reports::{Entry, Found, Report};
+use reports::{Entry, Found, Report, enter, lose, reserve};
 use std::alloc::Global;
 
 /// Enters each interval of the piece, in order, or loses the piece for want of memory.
@@ -35,8 +35,8 @@ pub(crate) fn turn<B: Board>(
     ensures same_dry { report.new.dry ≡ report.old.dry }
     ensures turned { Turned B.tells (B.view pass.old) (B.view pass.new) piece.loop_number piece.start (piece.end - piece.start) report.old report.new }
 {
-    if !report.reserve((piece.end - piece.start) as usize) {
-        report.lose();
+    if !reserve(report, (piece.end - piece.start) as usize) {
+        lose(report);
         return;
     }
     let prepared = &report.loops()[piece.loop_number];
@@ -85,11 +85,14 @@ fn enter_one<B: Board>(
 {
     let found = found_at::<B>(alloc, board, pass, trials, number, interval, won);
     let wins = won || found.is_won();
-    report.enter(Entry {
-        loop_number: number as u16,
-        interval: interval as u16,
-        found,
-    });
+    enter(
+        report,
+        Entry {
+            loop_number: number as u16,
+            interval: interval as u16,
+            found,
+        },
+    );
     wins
 }
 

@@ -9,7 +9,7 @@ use crate::turn::turn;
 use board::Board;
 use candidates::Pieces;
 use ims::Prepared;
-use reports::Report;
+use reports::{Report, go_dry, report_of};
 use std::alloc::Global;
 
 /// Draws pieces from a board and tries their intervals, until none is left or the gate says no, and at most
@@ -38,13 +38,13 @@ pub fn work<'a, B: Board, G: Gate>(
     ensures worked { IsTrue B.tells → IsUnused (B.view pass) → WorkedAs pieces.now (B.view result.0) result.1 }
     ensures ends_dry { IsTrue B.tells → IsUnused (B.view pass) → IsTrue (G.always_goes_on gate.now) → IsTrue (B.dry result.0) }
 {
-    let mut report = Report::new(alloc, loops);
+    let mut report = report_of(alloc, loops);
     for _ in 0..pieces.number() + 1 {
         if !gate.go_on(worker) {
             break;
         }
         let Some(number) = board.draw(&mut pass) else {
-            report.go_dry();
+            go_dry(&mut report);
             break;
         };
         gate.at_piece(worker, number);

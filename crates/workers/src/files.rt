@@ -116,7 +116,12 @@ fn list<R: Threads + Sync, G: Gate + Sync>(
 {
     let pieces = Pieces::of(loops.len(), settings.ceiling(), settings.cut());
     let chosen = choose_by_workers(rt, alloc, loops, &pieces, settings.workers(), gate)?;
-    Listing::of(alloc, settings.ceiling(), loops, chosen.into_choices())
+    Listing::of(
+        alloc,
+        settings.ceiling() as u8,
+        loops,
+        chosen.into_choices(),
+    )
 }
 
 /// The choice of each loop, by at most so many workers, 1 to 64, and no more than there are pieces. The

@@ -12,14 +12,14 @@ use Rattle.shared_work.proofs.works.work.Goals as goal
 
 pub loop-init : goal.loop-init
 loop-init g c =
-    let e = c.new-report.ensures in (
+    let e = c.report_of-report.ensures in (
       c.requires.of,
       e.loops,
       (let k = e.lost in omega arith),
       e.dry,
       (λ dry. dry),
       (λ t. refl),
-      λ t un. worked_none c.args.pieces.now (g.B.Board.view c.args.pass) c.new-report.result un e.entries e.lost e.dry,
+      λ t un. worked_none c.args.pieces.now (g.B.Board.view c.args.pass) c.report_of-report.result un e.entries e.lost e.dry,
     )
 
 pub loop-preserved : goal.loop-preserved
