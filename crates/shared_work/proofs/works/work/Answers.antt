@@ -52,8 +52,8 @@ pub returns-clause-worked : goal.returns-clause-worked
 returns-clause-worked g c = λ t un. elim c.loop-test.branch [
   | else-loop-test w ↦ same_end g.B.Board.view c.args.pieces.now c.loop-test.pass c.loop.pass c.loop-test.report c.loop.report w.pass-is w.report-is (c.loop.invariant.6 t un).worked
   | then-loop-test+then-not-go_on w ↦ same_end g.B.Board.view c.args.pieces.now c.loop-test.pass c.loop.pass c.loop-test.report c.loop.report w.pass-is w.report-is (c.loop.invariant.6 t un).worked
-  | then-loop-test+else-not-go_on+in_default w ↦ same_end g.B.Board.view c.args.pieces.now c.loop-test.pass w.draw.new.pass c.loop-test.report w.go_dry.new.self w.pass-is w.report-is
-      (worked_dry c.args.pieces.now (g.B.Board.view c.loop.pass) (g.B.Board.view w.draw.new.pass) c.loop.report w.go_dry.new.self c.loop.counter (c.loop.invariant.6 t un)
+  | then-loop-test+else-not-go_on+in_default w ↦ same_end g.B.Board.view c.args.pieces.now c.loop-test.pass w.draw.new.pass c.loop-test.report w.go_dry.new.report w.pass-is w.report-is
+      (worked_dry c.args.pieces.now (g.B.Board.view c.loop.pass) (g.B.Board.view w.draw.new.pass) c.loop.report w.go_dry.new.report c.loop.counter (c.loop.invariant.6 t un)
       (subst (λ m. DrawsUnlessDry m (g.B.Board.view c.loop.pass) None (g.B.Board.view w.draw.new.pass)) c.requires.pieces
       (subst (λ a. DrawsUnlessDry (g.B.Board.pieces c.args.board.now) (g.B.Board.view c.loop.pass) a (g.B.Board.view w.draw.new.pass)) w.in_default.is (w.draw.ensures.told t)))
       w.go_dry.ensures.loops w.go_dry.ensures.entries w.go_dry.ensures.lost w.go_dry.ensures.dry)
