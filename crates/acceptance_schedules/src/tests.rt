@@ -1,6 +1,7 @@
 //! The worked loops at their intervals, over each table, and lists that are schedules or are not.
 
 mod given;
+mod problems;
 
 use given::{
     ACC, ALTS, CHAIN, FAR, FORCE, HOLD, KEEP, LATE, LONE, M1, M2, M3, M4, M5, M6, M7, M8, POW,

@@ -1,7 +1,7 @@
 -- An interval gives one thing.
 use Rattle.std.proofs.Common.{◌≡◌, ℕ, refl, sym, ap, ◌∙◌, subst}
+use Rattle.modulo.specs.declared.outcome.attempts.Failure.TheVariants as failure
 use Rattle.ims.specs.declared.outcome.attempts.Try.TheVariants as try
-use Rattle.ims.specs.declared.outcome.attempts.Failure.TheVariants as failure
 use Rattle.ims.specs.Problems.{ProblemData, IsProblem, budget_of}
 use Rattle.ims.specs.Schedules.{ScheduleData}
 use Rattle.ims.proofs.answers.OneAnswers.{one-answer}
@@ -9,7 +9,7 @@ use Rattle.kernel.specs.declared.kernels.parts.Parts.{Parts}
 use Rattle.overlap.specs.Allotments.{AreLeast, HaveNone, NoneFor}
 use Rattle.overlap.specs.Emission.{emitted}
 use Rattle.overlap.specs.Lifetimes.{lifetimes_of}
-use Rattle.overlap.proofs.in_registers.Least.{least-is_one, least-or_none}
+use Rattle.registers.proofs.allotted.Least.{least-is_one, least-or_none}
 use Rattle.candidates.specs.declared.outcomes.Cause.{Cause}
 use Rattle.candidates.specs.declared.outcomes.Cause.TheVariants.{Table, Budget, Stages, Registers}
 use Rattle.candidates.specs.declared.outcomes.Outcome.TheVariants.{Met, Failed}

@@ -23,7 +23,7 @@ use Rattle.overlap.specs.Lifetimes.{lifetimes_of}
 use Rattle.overlap.specs.Overlap.{times_of, choices_of, opcodes_in, KeepsSchedule, RunsAsLoop}
 use Rattle.overlap.proofs.End.{overlap-is_sequence}
 use Rattle.overlap.proofs.in_flight.Kept.{kernels-keep_schedules}
-use Rattle.overlap.proofs.in_registers.Least.{least-is_lawful}
+use Rattle.registers.proofs.allotted.Least.{least-is_lawful}
 use Rattle.candidates.specs.declared.choices.Choice.{Choice}
 use Rattle.candidates.specs.declared.choices.Choice.TheVariants.{Met, Failed}
 use Rattle.candidates.specs.declared.listings.Row as row

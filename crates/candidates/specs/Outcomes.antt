@@ -1,8 +1,8 @@
 -- What a loop gives at an interval: a kernel, or the cause for which it gives none.
 use Rattle.std.specs.Prelude.{◌≡◌, ℕ, ◌≤◌}
+use Rattle.modulo.specs.declared.outcome.attempts.Failure.{Failure}
+use Rattle.modulo.specs.declared.outcome.attempts.Failure.TheVariants as failure
 use Rattle.ims.specs.declared.outcome.attempts.Try.TheVariants as try
-use Rattle.ims.specs.declared.outcome.attempts.Failure.{Failure}
-use Rattle.ims.specs.declared.outcome.attempts.Failure.TheVariants as failure
 use Rattle.ims.specs.Attempts.{AnswersAttempt}
 use Rattle.ims.specs.Problems.{ProblemData, IsProblem, mii_of, budget_of}
 use Rattle.ims.specs.Schedules.{ScheduleData}

@@ -40,14 +40,14 @@ walked edges p q (e ∷ walk) w (suc k) d h = walked edges e.to q walk w.2 k d (
 pub circuit-short : (problem : ProblemData) (bound : ℕ) (circuit : List EdgeData) → IsProblem problem → IsCritical problem.graph.edges bound circuit → length circuit ≤ 128
 circuit-short problem bound [] is c = omega arith
 circuit-short problem bound (e ∷ circuit) is c =
-    let short : length (e ∷ circuit) ≤ length problem.graph.latencies = once-short problem.graph is.graph c.start c.start (e ∷ circuit) c.closed c.once in
-    let few : length problem.graph.latencies ≤ 128 = is.graph.few in
+    let short : length (e ∷ circuit) ≤ length problem.graph.latencies = once-short problem.graph is.is_problem.graph c.start c.start (e ∷ circuit) c.closed c.once in
+    let few : length problem.graph.latencies ≤ 128 = is.is_problem.graph.few in
     omega arith
 
 timed-one : (problem : ProblemData) → IsProblem problem → (e : EdgeData) → Contains problem.graph.edges e → IsTimed problem.loop problem.graph.latencies e
 timed-one problem is e there = record {
-  all = is.each_latency;
-  short = is.graph.latencies;
+  all = is.is_problem.each_latency ∙ is.each_operation;
+  short = is.is_problem.graph.latencies;
   dependence = All-contains (Dependence problem.loop problem.graph.latencies) problem.graph.edges e is.sound there;
 }
 

@@ -7,20 +7,21 @@ use Rattle.std.proofs.lemmas.List.Elements.{All-filter, Contains-get_or}
 use Rattle.std.proofs.lemmas.List.FromFn.{get_or-range_with_len, length-range_with_len}
 use Rattle.std.proofs.lemmas.Option.{slice_get-get_or, slice_get-map, slice_get_within}
 use Rattle.mrt.specs.Placements.{placement_of}
-use Rattle.ims.specs.declared.outcome.attempts.Culprit.{Culprit}
-use Rattle.ims.specs.declared.outcome.attempts.Failure.{Failure}
-use Rattle.ims.specs.declared.outcome.attempts.Failure.TheVariants as failure
+use Rattle.modulo.specs.declared.outcome.attempts.Culprit.{Culprit}
+use Rattle.modulo.specs.declared.outcome.attempts.Failure.{Failure}
+use Rattle.modulo.specs.declared.outcome.attempts.Failure.TheVariants as failure
+use Rattle.modulo.specs.Culprits.{EndsWithout, failure_of}
 use Rattle.ims.specs.declared.outcome.attempts.Try.TheVariants as try
 use Rattle.ims.specs.Attempts.{AnswersAttempt}
-use Rattle.ims.specs.Culprits.{AnswersCulprit, EndsWithout, failure_of}
-use Rattle.ims.specs.Problems.{ProblemData, IsProblem, budget_of, mii_of}
+use Rattle.ims.specs.Culprits.{AnswersCulprit}
+use Rattle.ims.specs.Problems.{ProblemData, IsProblem, budget_of, mii_of, without_loop}
 use Rattle.ims.specs.Schedules.{ScheduleData}
-use Rattle.ims.proofs.answers.Blaming.{culprits-are_failures}
 use Rattle.ims.proofs.answers.OneAnswers.{one-answer}
-use Rattle.overlap.specs.declared.lifetime.Lifetime.{Lifetime}
+use Rattle.ims.proofs.answers.Promised.{culprits-are_failures}
+use Rattle.registers.specs.declared.lifetime.Lifetime.{Lifetime}
 use Rattle.overlap.specs.Allotments.{AreLeast, HaveNone}
 use Rattle.overlap.specs.Lifetimes.{lifetime_of, lifetimes_of, values_of}
-use Rattle.overlap.proofs.in_registers.Least.{least-or_none}
+use Rattle.registers.proofs.allotted.Least.{least-or_none}
 use Rattle.overlap.proofs.in_registers.Preloaded.{value-back}
 use Rattle.rotating.specs.Numberless.{HasNone}
 use Rattle.candidates.specs.declared.outcomes.Cause.{Cause}
@@ -94,7 +95,7 @@ value-there p ii life lacks =
 pub op-there : (p : ProblemData) (op : ℕ) → IsProblem p → op < length p.operations → op < length p.loop.statements
 op-there p op is there = omega (arith, is.each_operation)
 
-pub ops-there : (p : ProblemData) (ii : ℕ) (ops : List ℕ) → IsProblem p → EndsWithout p ii (budget_of p) ops → All (λ op. op < length p.loop.statements) ops
+pub ops-there : (p : ProblemData) (ii : ℕ) (ops : List ℕ) → IsProblem p → EndsWithout (without_loop p) ii (budget_of p) ops → All (λ op. op < length p.loop.statements) ops
 ops-there p ii ops is ends =
     let count : ℕ = length p.operations in
     let below : All (λ op. op < length p.loop.statements) (range_with_len 0 count)

@@ -6,7 +6,7 @@ use Rattle.ims.specs.Schedules.{ScheduleData}
 use Rattle.kernel.specs.declared.kernels.parts.Parts.{Parts}
 use Rattle.overlap.specs.Allotments.{AllotmentData, AreLeast, LeastFor, NoneFor}
 use Rattle.overlap.specs.Lifetimes.{lifetimes_of}
-use Rattle.overlap.proofs.in_registers.Least.{least-or_none}
+use Rattle.registers.proofs.allotted.Least.{least-or_none}
 use Rattle.candidates.specs.Outcomes.{GivesKernel, IsPlacedAs}
 use Rattle.schedule_lines.specs.ScheduleTexts.{schedule_text}
 use Rattle.explain.specs.Shown.{IsShownAt}

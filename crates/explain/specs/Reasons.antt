@@ -4,12 +4,13 @@ use Rattle.std.specs.List.{flat_map}
 use Rattle.iterations.specs.Loops.{LoopData}
 use Rattle.graph_text.specs.Names.{op_name}
 use Rattle.graph_text.specs.Texts.{told}
-use Rattle.ims.specs.declared.outcome.attempts.Culprit.{Culprit}
-use Rattle.ims.specs.declared.outcome.attempts.Culprit.TheVariants.{Blocked, Unplaced, Late}
-use Rattle.ims.specs.Culprits.{AnswersCulprit, failure_of}
+use Rattle.modulo.specs.declared.outcome.attempts.Culprit.{Culprit}
+use Rattle.modulo.specs.declared.outcome.attempts.Culprit.TheVariants.{Blocked, Unplaced, Late}
+use Rattle.modulo.specs.Culprits.{failure_of}
+use Rattle.ims.specs.Culprits.{AnswersCulprit}
 use Rattle.ims.specs.Problems.{ProblemData, budget_of}
 use Rattle.ims.specs.Schedules.{ScheduleData}
-use Rattle.overlap.specs.declared.lifetime.Lifetime.{Lifetime}
+use Rattle.registers.specs.declared.lifetime.Lifetime.{Lifetime}
 use Rattle.overlap.specs.Lifetimes.{lifetimes_of}
 use Rattle.rotating.specs.Numberless.{HasNone}
 use Rattle.candidates.specs.declared.outcomes.Cause.{Cause}

@@ -1,6 +1,6 @@
 -- The resource-constrained lower bound of the initiation interval (ResMII of B. R. Rau, HPL-94-115).
 use Rattle.std.specs.Prelude.{◌≡◌, ℕ, ◌<◌, ◌≤◌, ◌==◌, max, is_none, List, [], ◌∷◌, ◌++◌, length, map, filter, count_by, find, Option, Some, None}
-use Rattle.std.specs.List.{slice_index_or, flat_map}
+use Rattle.std.specs.List.{slice_index_or, flat_map, range_with_len}
 use Rattle.machine_data.specs.declared.alternative.Row.{Row}
 use Rattle.machine_data.specs.declared.opcode.Opcode.{Opcode}
 use Rattle.machine_data.specs.Machines.{MachineData, OperationData, table_of}
@@ -68,9 +68,9 @@ chosen_rows [] choices = []
 chosen_rows (alternatives ∷ operations) [] = []
 chosen_rows (alternatives ∷ operations) (choice ∷ choices) = slice_index_or alternatives choice [] ++ chosen_rows operations choices
 
--- operations by increasing number of alternatives, which is 1 to 8, and of one number in their order
+-- operations by increasing number of alternatives, which is 1 to 16, and of one number in their order
 abbrev pub by_freedom : List (List (List Row)) → List (List (List Row))
-by_freedom operations = flat_map (λ n. filter (λ alternatives. length alternatives == n) operations) (1 ∷ 2 ∷ 3 ∷ 4 ∷ 5 ∷ 6 ∷ 7 ∷ 8 ∷ [])
+by_freedom operations = flat_map (λ n. filter (λ alternatives. length alternatives == n) operations) (range_with_len 1 16)
 
 -- the bound: the use of the most used unit when the operations take their best alternatives, those with the fewest first
 pub record IsUnitBound (operations : List (List (List Row))) (bound : ℕ) : Type 0 where

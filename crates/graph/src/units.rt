@@ -16,7 +16,7 @@ use machine_data::{Alternative, Alternatives, Machine, Opcode, Row};
 
 /// How many rows use each unit, and the use of the most used unit.
 ///
-/// Each of at most 8 passes takes at most 16 rows for each of 128 operations, so no counter is above
+/// Each of at most 16 passes takes at most 16 rows for each of 128 operations, so no counter is above
 /// 16,384. The bounds that the functions below ask for only keep its sums within 16 bits.
 #[derive(Clone, Copy)]
 struct Uses {
@@ -93,7 +93,7 @@ impl Uses {
         requires sound { O.sound operations.now }
         requires count { length (O.operations operations.now) ≤ 128 }
         requires some { 0 < freedom }
-        requires few { freedom ≤ 8 }
+        requires few { freedom ≤ 16 }
         requires room { AtMost (2048 * (freedom - 1)) self.counts }
         ensures taken { (done : List (List (List Row))) → CountsRows done self.counts self.greatest
             → CountsRows (done ++ filter (λ alternatives. length alternatives == freedom) (O.operations operations.now)) result.counts result.greatest }
@@ -125,7 +125,7 @@ pub fn missing_table(machine: &Machine, innermost: &Loop) -> Option<Opcode>
 fn most_alternatives<O: Offers>(operations: &O) -> usize
     requires { O.sound operations.now }
     ensures greatest { result ≡ greatest_of (map (λ alternatives. length alternatives) (O.operations operations.now)) }
-    ensures few { result ≤ 8 }
+    ensures few { result ≤ 16 }
     ensures offered { All AreAlternatives (O.operations operations.now) }
 {
     let mut most = 0;

@@ -1,5 +1,4 @@
 -- What attempts answer.
-pub mod Answering
-pub mod Blaming
+pub mod OfLoops
 pub mod OneAnswers
 pub mod Promised

@@ -1,6 +1,3 @@
--- What is scheduled, and the order in which operations are taken.
-pub mod Apart
+-- What is scheduled.
 pub mod Offered
 pub mod OneProblems
-pub mod Ranking
-pub mod Sorting

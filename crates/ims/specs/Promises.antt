@@ -5,15 +5,16 @@ use Rattle.iterations.specs.Loops.{LoopData}
 use Rattle.graph.specs.Graphs.{IsGraphOf}
 use Rattle.graph.specs.Promises.{KeepsDependences}
 use Rattle.graph.specs.Schedules.{IsLawfulSchedule}
+use Rattle.modulo.specs.Attempts.{EndsPlaced}
 use Rattle.ims.specs.declared.outcome.attempts.Try.{Try}
-use Rattle.ims.specs.Problems.{ProblemData, IsProblem, IsProblemOf, mii_of}
+use Rattle.ims.specs.Problems.{ProblemData, IsProblem, IsProblemOf, mii_of, without_loop}
 use Rattle.ims.specs.Schedules.{ScheduleData, IsSchedule, stage_of, stages_of}
-use Rattle.ims.specs.Attempts.{EndsPlaced, AnswersAttempt}
+use Rattle.ims.specs.Attempts.{AnswersAttempt}
 
 -- the end of an attempt keeps each edge and each unit
 abbrev pub AttemptsAreLawful : Type 0
 AttemptsAreLawful = (problem : ProblemData) (ii budget : ℕ) (times choices : List ℕ)
-    → IsProblem problem → mii_of problem ≤ ii → EndsPlaced problem ii budget times choices
+    → IsProblem problem → mii_of problem ≤ ii → EndsPlaced (without_loop problem) ii budget times choices
     → IsLawfulSchedule ii problem.operations problem.graph.edges times choices
 
 -- a schedule keeps each dependence of its loop

@@ -1,17 +1,17 @@
-//! Iterative modulo scheduling at one initiation interval.
+//! Iterative modulo scheduling of loops at one initiation interval.
 #![tactic(auto)]
 
 mod laws;
 mod outcome;
 mod problem;
 mod schedules;
-mod stepping;
 
 pub use laws::{
     attempts_are_lawful, culprits_are_failures, one_answer, one_problem, problems_have_graphs,
     schedules_keep_dependences, stages_are_few,
 };
-pub use outcome::attempts::{Culprit, Failure, Try, attempt, attempt_on};
+pub use modulo::{Culprit, Failure};
+pub use outcome::attempts::{Try, attempt, attempt_on};
 pub use outcome::culprits::culprit;
 pub use problem::prepared::Prepared;
 pub use schedules::schedule::Schedule;

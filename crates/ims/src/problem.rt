@@ -1,6 +1,4 @@
-//! What is scheduled, and in which order.
+//! What is scheduled.
 
 pub(crate) mod offers;
-pub(crate) mod order;
 pub(crate) mod prepared;
-pub(crate) mod sound;

@@ -131,7 +131,7 @@ module _ (path : List ℕ) (units : List (List ℕ)) where
         let upper = at_most 1 8 (length (data_of values)) counted in (
           record {
             some = rw (length-map (data_of values) (rows_of units)) (omega (arith, lower));
-            few = rw (length-map (data_of values) (rows_of units)) upper;
+            few = rw (length-map (data_of values) (rows_of units)) (omega (arith, upper));
             each = law.0;
           },
           law.1,
@@ -142,6 +142,19 @@ module _ (path : List ℕ) (units : List (List ℕ)) where
     alternatives-law (Some (boolean b)) h = cc
     alternatives-law (Some (datetime t)) h = cc
     alternatives-law (Some (table ns)) h = cc
+
+    pub alternatives-count : (found : Option Data) → faults_of_alternatives path units found ≡ [] → length (alternatives_of units found) ≤ 8
+    unfolding faults_of_alternatives
+    alternatives-count None h = cc
+    alternatives-count (Some (array values)) h =
+        let (count, each) = none-parts _ _ h in
+        rw (length-map (data_of values) (rows_of units)) (at_most 1 8 (length (data_of values)) (unless-passed _ _ count))
+    alternatives-count (Some (string s)) h = cc
+    alternatives-count (Some (integer y)) h = cc
+    alternatives-count (Some (float x)) h = cc
+    alternatives-count (Some (boolean b)) h = cc
+    alternatives-count (Some (datetime t)) h = cc
+    alternatives-count (Some (table ns)) h = cc
 
 -- numbers
 
@@ -170,7 +183,7 @@ module _ (units : List (List ℕ)) (few : length units ≤ 64) where
       let (first, middle) = none-parts _ _ front in
       let latency = number-law _ _ 64 _ middle in
       let law = alternatives-law _ units few _ last in
-      (record { latency_some = latency.0; latency_few = latency.1; alternatives = law.0 }, law.1)
+      (record { latency_some = latency.0; latency_few = latency.1; alternatives = law.0; alternatives_few = alternatives-count _ units few _ last }, law.1)
   table-law opcode (string s) h = cc
   table-law opcode (integer y) h = cc
   table-law opcode (float x) h = cc

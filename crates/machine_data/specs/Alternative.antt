@@ -11,10 +11,10 @@ pub record IsAlternative (rows : List Row) : Type 0 where
   pub offsets : All (λ r. r.offset < 64) rows
   pub different : AllPairs (λ r s. r ≢ s) rows
 
--- 1 to 8 alternatives
+-- 1 to 16 alternatives
 pub record AreAlternatives (alternatives : List (List Row)) : Type 0 where
   pub some : 0 < length alternatives
-  pub few : length alternatives ≤ 8
+  pub few : length alternatives ≤ 16
   pub each : All IsAlternative alternatives
 
 -- the residue, which is the row of the modulo reservation table, that a row takes at an interval,

@@ -28,6 +28,7 @@ pub record IsOperation (table : OperationData) : Type 0 where
   pub latency_some : 0 < table.latency
   pub latency_few : table.latency ≤ 64
   pub alternatives : AreAlternatives table.alternatives
+  pub alternatives_few : length table.alternatives ≤ 8
 
 -- each row of the table is of one of the machine's first units
 abbrev pub UsesUnits : ℕ → OperationData → Type 0

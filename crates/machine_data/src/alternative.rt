@@ -66,8 +66,8 @@ impl Alternative {
     }
 }
 
-/// The 1 to 8 alternatives by which operations of one opcode may be issued, in the order of the
-/// machine text. Contracts see the list of the alternatives' lists of rows.
+/// The 1 to 16 alternatives by which an operation may be issued, in the order of the text. Those of an opcode
+/// of a machine text are at most 8. Contracts see the list of the alternatives' lists of rows.
 #[derive(Drop)]
 pub struct Alternatives {
     list: Shelf,

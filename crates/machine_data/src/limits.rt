@@ -17,6 +17,9 @@ pub const MAX_REGISTERS: u16 = 256;
 /// Alternatives of an opcode: the reservation tables by which it may be issued. The least is 1.
 pub const MAX_ALTERNATIVES: usize = 8;
 
+/// Alternatives of an operation of a scheduling problem, and so of every operation. The least is 1.
+pub const MAX_OPERATION_ALTERNATIVES: usize = 16;
+
 /// Rows of an alternative. The least is 1.
 pub const MAX_ROWS: usize = 16;
 
@@ -71,6 +74,30 @@ pub const MAX_INTERVAL: u64 = 16_384;
 
 /// Placements of one attempt: [`MAX_RATIO`] for each of [`MAX_STATEMENTS`] operations.
 pub const MAX_BUDGET: u64 = 8_192;
+
+/// Bytes of a name in a scheduling problem. The least is 1.
+pub const MAX_LABEL: usize = 64;
+
+/// Register files of a scheduling problem.
+pub const MAX_FILES: usize = 8;
+
+/// Kinds of operations of a scheduling problem. The least is 1.
+pub const MAX_KINDS: usize = 256;
+
+/// Values of a scheduling problem, of all its operations together.
+pub const MAX_VALUES: usize = 256;
+
+/// Reads of a scheduling problem, of all its operations together.
+pub const MAX_READS: usize = 2_048;
+
+/// Edges that a scheduling problem gives beside those that its reads imply.
+pub const MAX_ORDERS: usize = 16_384;
+
+/// Delay of a given edge, in cycles; the least is the same number below 0.
+pub const MAX_DELAY: i64 = 64;
+
+/// Distance of a given edge, in iterations.
+pub const MAX_ORDER_DISTANCE: u64 = 255;
 
 /// Pieces of work of a file: for each of [`MAX_LOOPS`] loops, one for each of [`MAX_CEILING`] + 1
 /// intervals, where the cut is 1.

@@ -27,7 +27,8 @@ use Rattle.iterations.proofs.InstanceCells.{HaveBlocks, cell, blocks-at}
 use Rattle.overlap.proofs.in_flight.Issued.{issued-from_sequence, sequence-from_issued}
 use Rattle.overlap.proofs.in_flight.Landing.{contains-cases, last-of_all_is, none-of_all}
 use Rattle.overlap.proofs.in_cells.LastStores.{holds-last}
-use Rattle.overlap.proofs.in_registers.Lives.{times-more, greatest-of, contains-map, begins-by_landing, lasts-to_landing, lasts-to_end, life-at_rank, rank-one, flag-on}
+use Rattle.registers.proofs.Whole.{times-more}
+use Rattle.overlap.proofs.in_registers.Lives.{greatest-of, contains-map, begins-by_landing, lasts-to_landing, lasts-to_end, life-at_rank, rank-one, flag-on}
 use Rattle.overlap.proofs.in_cells.Loads.{lands-first}
 use Rattle.overlap.proofs.in_flight.Made.{writes-are_of_values}
 use Rattle.iterations.proofs.Instances.{arrays-first, earlier-at, initial-at, slice_get-within}
@@ -209,7 +210,7 @@ lands-by_last schedule sc q s there =
     let within = slice_get-within schedule.problem.loop.statements q s there in
     let a = sc.problem.each_operation in
     let b = sc.lawful.plan.each_time in
-    let c = sc.problem.each_latency in
+    let c = sc.problem.is_problem.each_latency in
     landing-zip schedule.times schedule.problem.graph.latencies q (omega arith) (omega arith)
 
 -- the register of a live value is that of its last instance

@@ -225,8 +225,9 @@ kernels-are_well_formed schedule allotment b =
           let e = z k in subst (λ n. stage_of schedule n < stages_of schedule) (sym e) (stage-below schedule sc k s h));
       latency = all-operations (λ (op : Operation). (1 ≤ op.latency) × (op.latency ≤ 64)) schedule allotment 0 loop.statements (λ k s h.
           let within = slice_get-within loop.statements k s h in
-          let long = sc.problem.each_latency in
-          let l = All-get_or (λ l. (0 < l) × (l ≤ 64)) schedule.problem.graph.latencies k 0 (omega arith) sc.problem.graph.latencies in
+          let long = sc.problem.is_problem.each_latency in
+          let many = sc.problem.each_operation in
+          let l = All-get_or (λ l. (0 < l) × (l ≤ 64)) schedule.problem.graph.latencies k 0 (omega arith) sc.problem.is_problem.graph.latencies in
           subst (λ n. (1 ≤ slice_index schedule.problem.graph.latencies n) × (slice_index schedule.problem.graph.latencies n ≤ 64)) (sym (z k)) (l.0, l.1));
       register = all-operations (RegistersAreThere allotment.registers) schedule allotment 0 loop.statements (λ k s h. record {
         destination = λ name e. destination-there schedule allotment some (0 + k) s.name name e;

@@ -1,6 +1,8 @@
 pub use Rattle.iterations.specs.Loops
 pub use Rattle.machine_data.specs.Machines
+pub use Rattle.registers.specs.Values
 pub mod Lifetimes
+pub mod LoopValues
 pub mod Allotments
 pub mod Emission
 pub mod Sequence

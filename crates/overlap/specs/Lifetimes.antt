@@ -1,13 +1,13 @@
 -- How long the values of a scheduled loop live, in cycles.
 use Rattle.std.specs.Prelude.{ℕ, ◌+◌, ◌*◌, ◌==◌, min, max, Bool, if◌then◌else◌, is_some, List, [], ◌∷◌, ◌++◌, length, map, take, zip, Option, Some, None, filter_map, slice_index}
-use Rattle.std.specs.Prelude.{ℤ, pos, ◌+ℤ◌, ◌*ℤ◌, ◌≤ℤ◌}
 use Rattle.std.specs.List.{list_any}
 use Rattle.iterations.specs.declared.language.statement.Operand.{Operand}
 use Rattle.iterations.specs.declared.language.statement.Operand.TheVariants.{Value}
 use Rattle.iterations.specs.declared.language.statement.Statement.{Statement}
 use Rattle.iterations.specs.Loops.{LoopData}
 use Rattle.graph.specs.Units.{greatest_of}
-use Rattle.overlap.specs.declared.lifetime.Lifetime.{Lifetime}
+use Rattle.registers.specs.declared.lifetime.Lifetime.{Lifetime}
+pub use Rattle.registers.specs.Lifetimes.{IsLiveIn}
 use Rattle.ims.specs.Schedules.{ScheduleData, stages_of}
 
 -- values and their uses
@@ -90,8 +90,3 @@ lifetime_of schedule value = record { operation = value; first = first_cycle sch
 -- the lifetimes in iteration 0, in text order
 unfoldable pub lifetimes_of : ScheduleData → List Lifetime
 lifetimes_of schedule = map (lifetime_of schedule) (values_of schedule.problem.loop)
-
--- the instance of an iteration, any whole number, lives in a cycle
-pub record IsLiveIn (ii : ℕ) (life : Lifetime) (iteration cycle : ℤ) : Type 0 where
-  pub begun : (pos life.first +ℤ (iteration *ℤ pos ii)) ≤ℤ cycle
-  pub lasts : cycle ≤ℤ (pos life.last +ℤ (iteration *ℤ pos ii))

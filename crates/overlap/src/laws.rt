@@ -1,8 +1,13 @@
-//! What lifetimes, allotments and kernels promise: laws, stated by the contracts of functions that do
+//! What kernels of lawful schedules and allotments promise: laws, stated by the contracts of functions that do
 //! nothing.
 
-ghost use Rattle.overlap.specs.Allotments.{LeastIsLawful, LeastIsOne, LeastOrNone};
+ghost use Rattle.overlap.specs.LoopValues.{LifetimesAreOfValues};
 ghost use Rattle.overlap.specs.Overlap.{KernelsAreWellFormed, KernelsKeepSchedules, InstancesAreIssuedOnce, NamesAreOfInstances, RegistersHoldValues, LoadsFollowStores, WritesAreOfValues, OverlapIsSequence};
+
+/// The lifetimes of a scheduled loop are those of the list of its values, with its uses as reads.
+pub fn lifetimes_are_of_values()
+    ensures { LifetimesAreOfValues }
+{}
 
 /// The kernel of a lawful schedule and a lawful allotment is well formed.
 pub fn kernels_are_well_formed()
@@ -48,19 +53,4 @@ pub fn writes_are_of_values()
 /// allotment leaves of each memory, for every number of iterations, what the loop leaves.
 pub fn overlap_is_sequence()
     ensures { OverlapIsSequence }
-{}
-
-/// Least numbers are lawful.
-pub fn least_is_lawful()
-    ensures { LeastIsLawful }
-{}
-
-/// There is one list of least numbers.
-pub fn least_is_one()
-    ensures { LeastIsOne }
-{}
-
-/// There is none where some value has no number behind the least ones of those before it.
-pub fn least_or_none()
-    ensures { LeastOrNone }
 {}

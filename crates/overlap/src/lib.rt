@@ -4,11 +4,10 @@
 #![tactic(auto)]
 
 mod laws;
-mod lifetime;
 
 pub use laws::{
-    instances_are_issued_once, kernels_are_well_formed, kernels_keep_schedules, least_is_lawful,
-    least_is_one, least_or_none, loads_follow_stores, names_are_of_instances, overlap_is_sequence,
+    instances_are_issued_once, kernels_are_well_formed, kernels_keep_schedules,
+    lifetimes_are_of_values, loads_follow_stores, names_are_of_instances, overlap_is_sequence,
     registers_hold_values, writes_are_of_values,
 };
-pub use lifetime::Lifetime;
+pub use registers::{Lifetime, least_is_lawful, least_is_one, least_or_none};

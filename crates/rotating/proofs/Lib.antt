@@ -1,3 +1,2 @@
 pub mod lives
-pub mod registers
 pub mod emitted

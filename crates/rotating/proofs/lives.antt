@@ -1,6 +1,3 @@
--- How long values live, and how many live at once.
-pub mod Ages
-pub mod Crowded
+-- How long the values of a loop live.
 pub mod Greatest
-pub mod Pigeons
 pub mod Spans

@@ -4,8 +4,8 @@ pub use Rattle.overlap.specs.Lifetimes
 pub use Rattle.overlap.specs.Allotments
 pub use Rattle.overlap.specs.Emission
 pub use Rattle.overlap.specs.Overlap
+pub use Rattle.registers.specs.Crowds
+pub use Rattle.registers.specs.Numberless
+pub use Rattle.registers.specs.Residues
 pub mod CheckAnswers
-pub mod Crowds
-pub mod Numberless
-pub mod Residues
 pub mod inner

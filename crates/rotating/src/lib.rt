@@ -2,13 +2,11 @@
 #![tactic(auto)]
 
 mod kernels;
-mod laws;
 mod numbers;
 mod values;
 
 pub use kernels::emission::emit;
-pub use laws::{ages_are_between, forbids_between, lawful_more, shifts_are_between};
 pub use numbers::allotment::{Allotment, allot, first_without_number};
-pub use overlap::Lifetime;
+pub use registers::{Lifetime, ages_are_between, forbids_between, lawful_more, shifts_are_between};
 pub use values::crowd::live_in;
 pub use values::lifetime::lifetimes;

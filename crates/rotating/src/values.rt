@@ -2,5 +2,4 @@
 
 pub(crate) mod crowd;
 pub(crate) mod lifetime;
-pub(crate) mod turns;
 pub(crate) mod uses;

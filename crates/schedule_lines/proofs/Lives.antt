@@ -6,7 +6,7 @@ use Rattle.std.proofs.lemmas.Bool.{cases_Bool, cond-true, cond-false}
 use Rattle.std.proofs.lemmas.List.Elements.{All-nil, All-cons, All-map}
 use Rattle.iterations.specs.declared.language.statement.Statement.{Statement}
 use Rattle.ims.specs.Schedules.{ScheduleData}
-use Rattle.overlap.specs.declared.lifetime.Lifetime.{Lifetime}
+use Rattle.registers.specs.declared.lifetime.Lifetime.{Lifetime}
 use Rattle.overlap.specs.Lifetimes.{lifetime_of, lifetimes_of, values_from, values_of}
 
 values-within : (n : ℕ) (statements : List Statement) → All (λ value. value < n + length statements) (values_from n statements)

@@ -6,7 +6,7 @@ use Rattle.iterations.specs.Loops.{LoopData}
 use Rattle.graph_text.specs.Names.{op_name}
 use Rattle.graph_text.specs.Texts.{told}
 use Rattle.ims.specs.Schedules.{ScheduleData}
-use Rattle.overlap.specs.declared.lifetime.Lifetime.{Lifetime}
+use Rattle.registers.specs.declared.lifetime.Lifetime.{Lifetime}
 use Rattle.overlap.specs.Allotments.{AllotmentData}
 use Rattle.overlap.specs.Lifetimes.{lifetimes_of}
 use Rattle.rotating.specs.Crowds.{nobody}

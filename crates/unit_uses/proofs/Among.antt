@@ -1,6 +1,6 @@
 -- The choices of the operations that have one number of alternatives.
 use Rattle.std.proofs.Common.{◌≡◌, ◌≢◌, ℕ, zero, suc, ◌+◌, ◌-◌, ◌<◌, ◌≤◌, ◌==◌, Bool, true, false, cond, List, [], ◌∷◌, ◌++◌, length, get_or, map, take, set, refl, sym, ap, ◌∙◌, arith, filter}
-use Rattle.std.specs.List.{zip}
+use Rattle.std.specs.List.{flat_map, range_with_len, zip}
 use Rattle.std.proofs.lemmas.List.{append-nil, append_assoc}
 use Rattle.std.proofs.lemmas.Bool.{eq-eqb, ne_eqb}
 use Rattle.machine_data.specs.declared.alternative.Row.{Row}
@@ -98,11 +98,21 @@ passed-kept operations choices others (suc n) same =
     ap (λ l. l ++ choices_among operations choices (suc n)) (passed-kept operations choices others n (λ k h. same k (omega arith)))
     ∙ ap (λ l. passed operations others n ++ l) (sym (same (suc n) (omega arith)))
 
-regroup : {X : Type 0} (a b c d e f g h : List X)
-    → (((((((([] ++ a) ++ b) ++ c) ++ d) ++ e) ++ f) ++ g) ++ h) ≡ a ++ (b ++ (c ++ (d ++ (e ++ (f ++ (g ++ (h ++ [])))))))
-regroup a b c d e f g h = simp (append_assoc, append-nil)
-
-pub passed_all : (operations : List (List (List Row))) (choices : List ℕ) → passed operations choices 8 ≡ by_freedom_too operations choices
-passed_all operations choices =
+-- n more passes
+passed-from : (operations : List (List (List Row))) (choices : List ℕ) (a n : ℕ)
+    → passed operations choices (a + n) ≡ passed operations choices a ++ flat_map (choices_among operations choices) (range_with_len (a + 1) n)
+passed-from operations choices a zero =
+    let none : a + 0 ≡ a = omega arith in
+    ap (passed operations choices) none ∙ sym (append-nil (passed operations choices a))
+passed-from operations choices a (suc n) =
     let f : ℕ → List ℕ = choices_among operations choices in
-    regroup (f 1) (f 2) (f 3) (f 4) (f 5) (f 6) (f 7) (f 8)
+    let next : a + suc n ≡ (a + 1) + n = omega arith in
+    let one : a + 1 ≡ suc a = omega arith in
+    let split : passed operations choices (a + 1) ≡ passed operations choices a ++ f (a + 1)
+    = ap (passed operations choices) one ∙ ap (λ k. passed operations choices a ++ f k) (sym one) in
+    ap (passed operations choices) next ∙ passed-from operations choices (a + 1) n
+    ∙ ap (λ l. l ++ flat_map f (range_with_len ((a + 1) + 1) n)) split
+    ∙ append_assoc (passed operations choices a) (f (a + 1)) (flat_map f (range_with_len ((a + 1) + 1) n))
+
+pub passed_all : (operations : List (List (List Row))) (choices : List ℕ) → passed operations choices 16 ≡ by_freedom_too operations choices
+passed_all operations choices = passed-from operations choices 0 16

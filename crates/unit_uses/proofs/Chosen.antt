@@ -4,11 +4,8 @@ use Rattle.std.proofs.lemmas.List.{append-nil, append_assoc}
 use Rattle.std.proofs.lemmas.List.Elements.{filter_more}
 use Rattle.std.proofs.lemmas.Bool.{eq-eqb, ne_eqb}
 use Rattle.machine_data.specs.declared.alternative.Row.{Row}
-use Rattle.machine_data.specs.Machines.{MachineData}
-use Rattle.iterations.specs.Loops.{LoopData}
-use Rattle.graph.specs.Units.{IsBest, AreBest, by_freedom, chosen_rows, operations_of}
+use Rattle.graph.specs.Units.{IsBest, AreBest, by_freedom, chosen_rows}
 use Rattle.graph.specs.Uses.{Tallies}
-use Rattle.graph.proofs.unit_bound.Chosen.{length-operations}
 use Rattle.graph.proofs.unit_bound.Passes.{passes, passes-more, passes_all}
 use Rattle.unit_uses.specs.Choices.{AreUnitChoices, by_freedom_too, choices_among, rows_at}
 use Rattle.unit_uses.specs.inner.Tallies.{HasChosen, TakesChoice}
@@ -123,14 +120,13 @@ chosen-pass operations choices others freedom counts greatest some kept h =
     (subst (λ l. HasChosen (passes operations (freedom - 1) ++ filter (λ a. length a == freedom) operations) l counts greatest) same h)
 
 -- all passes
-pub choices-all : (machine : MachineData) (loop : LoopData) (choices : List ℕ) (n : ℕ) (counts : List ℕ) (greatest : ℕ) → n ≡ 8
-    → HasChosen (passes (operations_of machine loop) n) (passed (operations_of machine loop) choices n) counts greatest → length choices ≡ length loop.statements
-    → AreUnitChoices (operations_of machine loop) choices
-choices-all machine loop choices n counts greatest eight h each =
-    let operations : List (List (List Row)) = operations_of machine loop in
-    let order : passes operations n ≡ by_freedom operations = ap (passes operations) eight ∙ passes_all operations in
-    let too : passed operations choices n ≡ by_freedom_too operations choices = ap (passed operations choices) eight ∙ passed_all operations choices in
+pub choices-all : (operations : List (List (List Row))) (choices : List ℕ) (n : ℕ) (counts : List ℕ) (greatest : ℕ) → n ≡ 16
+    → HasChosen (passes operations n) (passed operations choices n) counts greatest → length choices ≡ length operations
+    → AreUnitChoices operations choices
+choices-all operations choices n counts greatest sixteen h each =
+    let order : passes operations n ≡ by_freedom operations = ap (passes operations) sixteen ∙ passes_all operations in
+    let too : passed operations choices n ≡ by_freedom_too operations choices = ap (passed operations choices) sixteen ∙ passed_all operations choices in
     record {
-      each = each ∙ sym (length-operations machine loop);
+      each = each;
       best = subst (λ l. AreBest [] l (by_freedom_too operations choices)) order (subst (AreBest [] (passes operations n)) too h.best);
     }

@@ -85,17 +85,17 @@ use_up_to-none (first ∷ operations) (k ∷ choices) unit some =
     = use_up_to-none operations choices unit (All-tail (λ (alternatives : List (List Row)). 0 < length alternatives) first operations some) in
     omega arith
 
-use_up_to-all : (operations : List (List (List Row))) (choices : List ℕ) (unit : ℕ) → All (λ alternatives. length alternatives ≤ 8) operations
-    → use_up_to operations choices 8 unit ≡ use_of (chosen_rows operations choices) unit
+use_up_to-all : (operations : List (List (List Row))) (choices : List ℕ) (unit : ℕ) → All (λ alternatives. length alternatives ≤ 16) operations
+    → use_up_to operations choices 16 unit ≡ use_of (chosen_rows operations choices) unit
 unfolding use_up_to
 use_up_to-all [] choices unit few = refl
 use_up_to-all (first ∷ operations) [] unit few = refl
 use_up_to-all (first ∷ operations) (k ∷ choices) unit few =
     let v : ℕ = use_of (get_or first k []) unit in
-    let a : cond (leb (length first) 8) v 0 ≡ v
-    = ap (λ b. cond b v 0) (le-leb (length first) 8 (All-head (λ (alternatives : List (List Row)). length alternatives ≤ 8) first operations few)) in
-    let h : use_up_to operations choices 8 unit ≡ use_of (chosen_rows operations choices) unit
-    = use_up_to-all operations choices unit (All-tail (λ (alternatives : List (List Row)). length alternatives ≤ 8) first operations few) in
+    let a : cond (leb (length first) 16) v 0 ≡ v
+    = ap (λ b. cond b v 0) (le-leb (length first) 16 (All-head (λ (alternatives : List (List Row)). length alternatives ≤ 16) first operations few)) in
+    let h : use_up_to operations choices 16 unit ≡ use_of (chosen_rows operations choices) unit
+    = use_up_to-all operations choices unit (All-tail (λ (alternatives : List (List Row)). length alternatives ≤ 16) first operations few) in
     let s : use_of (get_or first k [] ++ chosen_rows operations choices) unit ≡ v + use_of (chosen_rows operations choices) unit
     = use_of-append (get_or first k []) (chosen_rows operations choices) unit in
     omega arith
@@ -144,8 +144,8 @@ use-by_freedom : (operations : List (List (List Row))) (choices : List ℕ) (uni
     → use_of (chosen_rows (by_freedom operations) (by_freedom_too operations choices)) unit ≡ use_of (chosen_rows operations choices) unit
 use-by_freedom operations choices unit e formed =
     ap (λ l. use_of (chosen_rows l (by_freedom_too operations choices)) unit) (sym (passes_all operations))
-    ∙ ap (λ l. use_of (chosen_rows (passes operations 8) l) unit) (sym (passed_all operations choices))
-    ∙ use-passed operations choices 8 unit e (λ k d h. (formed k d h).some)
+    ∙ ap (λ l. use_of (chosen_rows (passes operations 16) l) unit) (sym (passed_all operations choices))
+    ∙ use-passed operations choices 16 unit e (λ k d h. (formed k d h).some)
     ∙ use_up_to-all operations choices unit (λ k d h. (formed k d h).few)
 
 greatest_of-le : (f : Row → ℕ) (bound : ℕ) → ((r : Row) → f r ≤ bound) → (rows : List Row) → greatest_of (map f rows) ≤ bound

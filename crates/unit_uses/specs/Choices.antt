@@ -1,6 +1,6 @@
 -- The alternatives that the resource-constrained lower bound takes, in text order, and the rows that they use.
-use Rattle.std.specs.Prelude.{◌≡◌, ℕ, ◌==◌, List, [], ◌∷◌, length, map, filter, None}
-use Rattle.std.specs.List.{flat_map, slice_index, slice_index_or, zip}
+use Rattle.std.specs.Prelude.{◌≡◌, ℕ, ◌==◌, List, [], length, map, filter, None}
+use Rattle.std.specs.List.{flat_map, range_with_len, slice_index, slice_index_or, zip}
 use Rattle.machine_data.specs.declared.alternative.Row.{Row}
 use Rattle.machine_data.specs.Machines.{MachineData, IsMachine}
 use Rattle.iterations.specs.Loops.{LoopData}
@@ -12,7 +12,7 @@ choices_among operations choices n = map (λ both. both.1) (filter (λ both. len
 
 -- the choices, given in text order, by increasing number of alternatives of their operations
 abbrev pub by_freedom_too : List (List (List Row)) → List ℕ → List ℕ
-by_freedom_too operations choices = flat_map (choices_among operations choices) (1 ∷ 2 ∷ 3 ∷ 4 ∷ 5 ∷ 6 ∷ 7 ∷ 8 ∷ [])
+by_freedom_too operations choices = flat_map (choices_among operations choices) (range_with_len 1 16)
 
 -- a choice for each operation, in text order: the best ones, when the operations with the fewest alternatives choose first
 pub record AreUnitChoices (operations : List (List (List Row))) (choices : List ℕ) : Type 0 where

@@ -6,6 +6,6 @@ mod laws;
 mod tally;
 mod unit_lines;
 
-pub use choices::unit_choices;
+pub use choices::{unit_choices, unit_choices_of};
 pub use laws::fullest_use_is_bound;
 pub use unit_lines::push_unit_lines;

@@ -2,11 +2,11 @@
 
 use graph::res_mii;
 use loops::read_loops;
-use machine::read_machine;
+use machine::{Opcode, read_machine};
 use std::alloc::Global;
 use std::process::Abort;
 use std::test::Fail;
-use unit_uses::{push_unit_lines, unit_choices};
+use unit_uses::{push_unit_lines, unit_choices, unit_choices_of};
 
 /// Two units that add, one of which multiplies too, and one that no operation uses.
 const ADDERS: &str = r#"registers = 8
@@ -77,6 +77,22 @@ fn expect(
 fn operations_without_a_choice_come_first(rt: HostRuntime) -> Result<(), Fail> {
     let lines = "unit a0 uses 2 full: y m\nunit a1 uses 1: x\n";
     expect(&rt, rt.alloc(), ADDERS, SUMS, &[1, 0, 0], lines, 2)
+}
+
+/// The same two sums and product, by their alternatives alone.
+#[test]
+fn operations_may_be_given_by_their_alternatives(rt: HostRuntime) -> Result<(), Fail> {
+    let alloc = rt.alloc();
+    let machine = read_machine(alloc, ADDERS.as_bytes())?;
+    let mut list = Vec::new(alloc);
+    for opcode in [Opcode::Add, Opcode::Add, Opcode::Mul] {
+        let table = machine.table(opcode).ok_or("a table")?;
+        list.push(table.alternatives().copied(alloc)?)?;
+    }
+    assert!(&rt; list.len() <= 128);
+    let made = unit_choices_of(alloc, &list)?;
+    assert_eq!(&rt; made.as_slice(), [1, 0, 0].as_slice());
+    Ok(())
 }
 
 #[test]

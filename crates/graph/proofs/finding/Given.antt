@@ -1,10 +1,10 @@
 -- Edges that are given make a graph once they are in order.
 use Rattle.std.proofs.Common.{◌≡◌, List}
-use Rattle.std.specs.List.{All, AllPairs, Contains}
+use Rattle.std.specs.List.{AllPairs, Contains}
 use Rattle.graph.specs.Dependences.{EdgeData, Precedes}
 use Rattle.graph.specs.Graphs.{IsGraph, AreEdges}
 use Rattle.graph.proofs.finding.GraphOf.{all_from_contains}
-use Rattle.std.proofs.Common.{ℕ, ◌<◌, ◌≤◌, pos, length}
+use Rattle.std.proofs.Common.{ℕ, ◌<◌, pos, length}
 use Rattle.std.specs.Prelude.{◌≤ℤ◌}
 
 pub graph_given : (list left : List EdgeData) (latencies : List ℕ) → AreEdges list latencies → AllPairs Precedes left → ((e : EdgeData) → Contains left e → Contains list e)

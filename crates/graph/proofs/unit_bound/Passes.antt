@@ -4,7 +4,7 @@ use Rattle.std.proofs.lemmas.List.{append-nil, append_assoc, length-append}
 use Rattle.std.proofs.lemmas.List.Elements.{All-head, All-tail, All-nil, All-append, All-filter}
 use Rattle.std.proofs.lemmas.List.Sums.{sum_by-cons, length-filter}
 use Rattle.std.proofs.lemmas.Bool.{eq-eqb, ne_eqb, cases_order, le-leb, lt-leb}
-use Rattle.std.specs.List.{count_by, All}
+use Rattle.std.specs.List.{count_by, All, flat_map, range_with_len}
 use Rattle.machine_data.specs.declared.alternative.Row.{Row}
 use Rattle.graph.specs.Units.{by_freedom}
 
@@ -21,14 +21,23 @@ passes-more operations (suc n) some =
     let b : (suc n + 1) - 1 ≡ suc n = omega arith in
     ap (λ k. passes operations k ++ filter (λ alternatives. length alternatives == suc n) operations) a ∙ sym (ap (passes operations) b)
 
-regroup : {X : Type 0} (a b c d e f g h : List X)
-    → (((((((([] ++ a) ++ b) ++ c) ++ d) ++ e) ++ f) ++ g) ++ h) ≡ a ++ (b ++ (c ++ (d ++ (e ++ (f ++ (g ++ (h ++ [])))))))
-regroup a b c d e f g h = simp (append_assoc, append-nil)
+-- n more passes
+passes_from : (operations : List (List (List Row))) (a n : ℕ)
+    → passes operations (a + n) ≡ passes operations a ++ flat_map (λ k. filter (λ alternatives. length alternatives == k) operations) (range_with_len (a + 1) n)
+passes_from operations a zero =
+    let none : a + 0 ≡ a = omega arith in
+    ap (passes operations) none ∙ sym (append-nil (passes operations a))
+passes_from operations a (suc n) =
+    let f : ℕ → List (List (List Row)) = λ k. filter (λ alternatives. length alternatives == k) operations in
+    let next : a + suc n ≡ (a + 1) + n = omega arith in
+    let one : a + 1 ≡ suc a = omega arith in
+    let split : passes operations (a + 1) ≡ passes operations a ++ f (a + 1) = ap (passes operations) one ∙ ap (λ k. passes operations a ++ f k) (sym one) in
+    ap (passes operations) next ∙ passes_from operations (a + 1) n
+    ∙ ap (λ l. l ++ flat_map f (range_with_len ((a + 1) + 1) n)) split
+    ∙ append_assoc (passes operations a) (f (a + 1)) (flat_map f (range_with_len ((a + 1) + 1) n))
 
-pub passes_all : (operations : List (List (List Row))) → passes operations 8 ≡ by_freedom operations
-passes_all operations =
-    let f : ℕ → List (List (List Row)) = λ n. filter (λ alternatives. length alternatives == n) operations in
-    regroup (f 1) (f 2) (f 3) (f 4) (f 5) (f 6) (f 7) (f 8)
+pub passes_all : (operations : List (List (List Row))) → passes operations 16 ≡ by_freedom operations
+passes_all operations = passes_from operations 0 16
 
 abbrev one_if : Bool → ℕ
 one_if b = cond b 1 0
@@ -90,12 +99,12 @@ length-passes operations (suc n) some =
     = count-more (λ alternatives. length alternatives) n operations in
     omega arith
 
--- where each operation has 1 to 8 alternatives, each is taken once
+-- where each operation has 1 to 16 alternatives, each is taken once
 pub length-by_freedom : (operations : List (List (List Row))) → All (λ alternatives. 0 < length alternatives) operations
-    → All (λ alternatives. length alternatives ≤ 8) operations → length (by_freedom operations) ≡ length operations
+    → All (λ alternatives. length alternatives ≤ 16) operations → length (by_freedom operations) ≡ length operations
 length-by_freedom operations some few =
-    ap length (sym (passes_all operations)) ∙ length-passes operations 8 some
-    ∙ count-all (λ alternatives. leb (length alternatives) 8) operations (λ k d h. le-leb (length (get_or operations k d)) 8 (few k d h))
+    ap length (sym (passes_all operations)) ∙ length-passes operations 16 some
+    ∙ count-all (λ alternatives. leb (length alternatives) 16) operations (λ k d h. le-leb (length (get_or operations k d)) 16 (few k d h))
 
 pub filter_all : {X : Type 0} (p : X → Bool) (xs : List X) → All (λ x. p x ≡ true) xs → filter p xs ≡ xs
 filter_all p [] h = refl
@@ -120,7 +129,7 @@ passes_single operations (suc n) one =
 
 -- where each operation has one alternative, they are taken in text order
 pub by_freedom_single : (operations : List (List (List Row))) → All (λ alternatives. length alternatives ≡ 1) operations → by_freedom operations ≡ operations
-by_freedom_single operations one = sym (passes_all operations) ∙ passes_single operations 7 one
+by_freedom_single operations one = sym (passes_all operations) ∙ passes_single operations 15 one
 
 -- passes for more alternatives than any operation has take nothing
 passes_rest : (operations : List (List (List Row))) (most k : ℕ) → All (λ alternatives. length alternatives ≤ most) operations

@@ -131,7 +131,7 @@ chosen-some taken (first ∷ operations) (k ∷ choices) best h some =
     omega arith
 
 by_freedom_well_formed : (operations : List (List (List Row))) → All AreAlternatives operations → All AreAlternatives (by_freedom operations)
-by_freedom_well_formed operations h = subst (All AreAlternatives) (passes_all operations) (passes_keep AreAlternatives operations 8 h)
+by_freedom_well_formed operations h = subst (All AreAlternatives) (passes_all operations) (passes_keep AreAlternatives operations 16 h)
 
 -- the bound is 1 or more, and at most 16 for each operation
 pub bound-range : (operations : List (List (List Row))) (bound : ℕ) → IsUnitBound operations bound → All AreAlternatives operations → 0 < length operations
@@ -151,10 +151,10 @@ bound-range operations bound b h some =
 
 -- the passes up to the greatest number of alternatives, or to a greater number, take all operations
 pub CountsRows-all : (operations : List (List (List Row))) (most n : ℕ) (counts : List ℕ) (greatest : ℕ) → All (λ alternatives. length alternatives ≤ most) operations
-    → most ≤ 8 → most ≤ n → CountsRows (passes operations n) counts greatest → CountsRows (by_freedom operations) counts greatest
+    → most ≤ 16 → most ≤ n → CountsRows (passes operations n) counts greatest → CountsRows (by_freedom operations) counts greatest
 CountsRows-all operations most n counts greatest few low past p =
     let order : passes operations n ≡ by_freedom operations
-    = passes_past operations most n few past ∙ sym (passes_past operations most 8 few low) ∙ passes_all operations in
+    = passes_past operations most n few past ∙ sym (passes_past operations most 16 few low) ∙ passes_all operations in
     subst (λ l. CountsRows l counts greatest) order p
 
 pub IsUnitBound-from : (operations : List (List (List Row))) (counts : List ℕ) (greatest bound : ℕ)

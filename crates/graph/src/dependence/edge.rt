@@ -1,4 +1,4 @@
-//! Dependences between the operations of a loop.
+//! Dependences between operations.
 
 /// A dependence of one operation upon another: at an interval `ii`, the issue times `t` of a schedule
 /// have to keep `t(to) + ii * distance >= t(from) + delay`. Edges are ordered by their fields.
@@ -8,8 +8,8 @@ pub struct Edge {
     pub from: u8,
     /// The operation that depends on it, by its number; below 128.
     pub to: u8,
-    /// How many iterations later, 0 to 128.
+    /// How many iterations later: 0 to 128 of a loop's dependence, 0 to 255 of an edge that is given.
     pub distance: u8,
-    /// Cycles, -63 to 64.
+    /// Cycles: -63 to 64 of a loop's dependence, -128 to 64 of an edge that is given.
     pub delay: i8,
 }

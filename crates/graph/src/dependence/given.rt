@@ -49,7 +49,12 @@ fn are_edges(list: &[Edge], cycles: &[u8]) -> bool
         && are_short(list)
 }
 
-/// The graph of these edges between operations with these latencies, each edge once, where it is one.
+/// The graph of these edges, in any order, between operations with these latencies: each edge once. `None` exactly where
+/// they are no graph: where there is no operation or more than 128, a latency is not 1 to 64 cycles, an end of an edge is no
+/// operation, an edge of distance 0 does not go to a later operation, or a delay is above 64 cycles.
+///
+/// # Errors
+/// [`AllocError`] where memory ran out.
 pub fn given(alloc: Global, list: &[Edge], cycles: Vec<u8>) -> Result<Option<Edges>, AllocError>
     ensures exact { IfOk result (λ found. MatchOption found (¬ AreEdges list.now cycles.items) (IsGraphWith list.now cycles.items)) }
 {

@@ -1,18 +1,15 @@
 -- A loop, a machine and settings have one problem.
-use Rattle.std.proofs.Common.{◌≡◌, ◌⊎◌, ℕ, suc, ◌<◌, ◌≤◌, List, [], ◌∷◌, ◌++◌, length, get_or, refl, sym, ap, ◌∙◌, subst, inl, inr, arith}
+use Rattle.std.proofs.Common.{◌≡◌, ◌⊎◌, ℕ, suc, ◌<◌, List, [], ◌∷◌, length, get_or, refl, sym, ap, ◌∙◌, subst, inl, inr, arith}
 use Rattle.std.specs.List.{AllPairs, Contains}
-use Rattle.std.proofs.lemmas.Bool.{cases_lt}
 use Rattle.std.proofs.lemmas.Int.{ints}
 use Rattle.std.proofs.lemmas.List.Elements.{All-contains}
-use Rattle.machine_data.specs.declared.alternative.Row.{Row}
 use Rattle.graph.specs.Dependences.{EdgeData, Precedes, Dependence}
 use Rattle.graph.specs.Graphs.{GraphData}
-use Rattle.graph.specs.Units.{greatest_use, IsBest, AreBest, chosen_rows, by_freedom, IsUnitBound}
-use Rattle.graph.specs.Walks.{IsRecurrenceBound}
-use Rattle.graph.proofs.walks.Recurrences.{bound-le-fitting}
-use Rattle.ims.proofs.states.Filtered.{in_rest, behind}
-use Rattle.ims.specs.Problems.{ProblemData, IsProblem}
+use Rattle.ims.specs.Problems.{ProblemData, IsProblem, without_loop}
 use Rattle.ims.specs.Promises.{OneProblem}
+use Rattle.modulo.specs.Problems as problems
+use Rattle.modulo.proofs.problems.OneProblems as given
+use Rattle.modulo.proofs.states.Filtered.{in_rest, behind}
 
 -- ---- edges that ascend are one list where they are the same edges
 level_or : (x y : ℕ) (P Q : Type 0) → (x < y) ⊎ ((x ≡ y) × P) → (y < x) ⊎ ((y ≡ x) × Q) → (P → Q → ⊥) → ⊥
@@ -74,59 +71,12 @@ same_edges (x ∷ xs) (y ∷ ys) a b one other =
     let rest : xs ≡ ys = same_edges xs ys (rest_ascends x xs a) (rest_ascends y ys b) (among_rest x y xs ys a same one) (among_rest y x ys xs b (sym same) other) in
     ap (λ k. k ∷ xs) same ∙ ap (λ k. y ∷ k) rest
 
--- ---- one bound by units
-one_best : (taken : List Row) (alternatives : List (List Row)) (one other : ℕ) → IsBest taken alternatives one → IsBest taken alternatives other → one ≡ other
-one_best taken alternatives one other a b = elim (cases_lt one other) [
-  | inl less ↦
-      let x : greatest_use (taken ++ get_or alternatives other []) < greatest_use (taken ++ get_or alternatives one []) = b.first one less in
-      let y : greatest_use (taken ++ get_or alternatives one []) ≤ greatest_use (taken ++ get_or alternatives other []) = a.least other b.there in
-      absurd (omega arith)
-  | inr above ↦ elim (cases_lt other one) [
-    | inl more ↦
-        let x : greatest_use (taken ++ get_or alternatives one []) < greatest_use (taken ++ get_or alternatives other []) = a.first other more in
-        let y : greatest_use (taken ++ get_or alternatives other []) ≤ greatest_use (taken ++ get_or alternatives one []) = b.least one a.there in
-        absurd (omega arith)
-    | inr level ↦ omega arith
-  ]
-]
-
-one_choices : (taken : List Row) (operations : List (List (List Row))) (one other : List ℕ) → AreBest taken operations one → AreBest taken operations other → one ≡ other
-one_choices taken [] [] [] a b = refl
-one_choices taken [] [] (d ∷ ds) a b = absurd b
-one_choices taken [] (c ∷ cs) other a b = absurd a
-one_choices taken (alternatives ∷ operations) [] other a b = absurd a
-one_choices taken (alternatives ∷ operations) (c ∷ cs) [] a b = absurd b
-one_choices taken (alternatives ∷ operations) (c ∷ cs) (d ∷ ds) a b =
-    let same : c ≡ d = one_best taken alternatives c d a.0 b.0 in
-    let rest : AreBest (taken ++ get_or alternatives d []) operations cs
-    = subst (λ k. AreBest (taken ++ get_or alternatives k []) operations cs) same a.1 in
-    ap (λ k. k ∷ cs) same ∙ ap (λ k. d ∷ k) (one_choices (taken ++ get_or alternatives d []) operations cs ds rest b.1)
-
-pub one_unit_bound : (operations : List (List (List Row))) (one other : ℕ) → IsUnitBound operations one → IsUnitBound operations other → one ≡ other
-one_unit_bound operations one other a b =
-    a.is_use ∙ ap (λ cs. greatest_use (chosen_rows (by_freedom operations) cs)) (one_choices [] (by_freedom operations) a.choices b.choices a.best b.best) ∙ sym b.is_use
-
--- ---- one bound by circuits
-pub one_recurrence_bound : (edges : List EdgeData) (one other : ℕ) → IsRecurrenceBound edges one → IsRecurrenceBound edges other → one ≡ other
-one_recurrence_bound edges one other a b =
-    let x : 1 ≤ one = a.from_one in
-    let y : 1 ≤ other = b.from_one in
-    let less : one ≤ other = bound-le-fitting edges one other a (omega arith) b.fits in
-    let more : other ≤ one = bound-le-fitting edges other one b (omega arith) a.fits in
-    omega arith
-
 -- ---- one problem
-same_problems : (one other : ProblemData) → one.loop ≡ other.loop → one.graph ≡ other.graph → one.operations ≡ other.operations → one.registers ≡ other.registers
-    → one.resources ≡ other.resources → one.recurrences ≡ other.recurrences → one.ratio ≡ other.ratio → one.ceiling ≡ other.ceiling → one ≡ other
-same_problems one other loop graph operations registers resources recurrences ratio ceiling =
+same_problems : (one other : ProblemData) → one.loop ≡ other.loop → one.registers ≡ other.registers → without_loop one ≡ without_loop other → one ≡ other
+same_problems one other loop registers same =
     ap (λ k. let p : ProblemData = record { loop = k; graph = one.graph; operations = one.operations; registers = one.registers; resources = one.resources; recurrences = one.recurrences; ratio = one.ratio; ceiling = one.ceiling } in p) loop
-    ∙ ap (λ k. let p : ProblemData = record { loop = other.loop; graph = k; operations = one.operations; registers = one.registers; resources = one.resources; recurrences = one.recurrences; ratio = one.ratio; ceiling = one.ceiling } in p) graph
-    ∙ ap (λ k. let p : ProblemData = record { loop = other.loop; graph = other.graph; operations = k; registers = one.registers; resources = one.resources; recurrences = one.recurrences; ratio = one.ratio; ceiling = one.ceiling } in p) operations
-    ∙ ap (λ k. let p : ProblemData = record { loop = other.loop; graph = other.graph; operations = other.operations; registers = k; resources = one.resources; recurrences = one.recurrences; ratio = one.ratio; ceiling = one.ceiling } in p) registers
-    ∙ ap (λ k. let p : ProblemData = record { loop = other.loop; graph = other.graph; operations = other.operations; registers = other.registers; resources = k; recurrences = one.recurrences; ratio = one.ratio; ceiling = one.ceiling } in p) resources
-    ∙ ap (λ k. let p : ProblemData = record { loop = other.loop; graph = other.graph; operations = other.operations; registers = other.registers; resources = other.resources; recurrences = k; ratio = one.ratio; ceiling = one.ceiling } in p) recurrences
-    ∙ ap (λ k. let p : ProblemData = record { loop = other.loop; graph = other.graph; operations = other.operations; registers = other.registers; resources = other.resources; recurrences = other.recurrences; ratio = k; ceiling = one.ceiling } in p) ratio
-    ∙ ap (λ k. let p : ProblemData = record { loop = other.loop; graph = other.graph; operations = other.operations; registers = other.registers; resources = other.resources; recurrences = other.recurrences; ratio = other.ratio; ceiling = k } in p) ceiling
+    ∙ ap (λ k. let p : ProblemData = record { loop = other.loop; graph = one.graph; operations = one.operations; registers = k; resources = one.resources; recurrences = one.recurrences; ratio = one.ratio; ceiling = one.ceiling } in p) registers
+    ∙ ap (λ (k : problems.ProblemData). let p : ProblemData = record { loop = other.loop; graph = k.graph; operations = k.operations; registers = other.registers; resources = k.resources; recurrences = k.recurrences; ratio = k.ratio; ceiling = k.ceiling } in p) same
 
 same_graphs : (one other : GraphData) → one.edges ≡ other.edges → one.latencies ≡ other.latencies → one ≡ other
 same_graphs one other edges latencies =
@@ -144,11 +94,21 @@ one-problem machine loop ratio ceiling one other a b =
     let loops : one.loop ≡ other.loop = a.same_loop ∙ sym b.same_loop in
     let latencies : one.graph.latencies ≡ other.graph.latencies = a.latencies ∙ sym b.latencies in
     let operations : one.operations ≡ other.operations = a.alternatives ∙ sym b.alternatives in
-    let edges : one.graph.edges ≡ other.graph.edges = same_edges one.graph.edges other.graph.edges a.is_problem.graph.ascending b.is_problem.graph.ascending
+    let edges : one.graph.edges ≡ other.graph.edges = same_edges one.graph.edges other.graph.edges a.is_problem.is_problem.graph.ascending b.is_problem.is_problem.graph.ascending
     (among one other a.is_problem b.is_problem loops latencies) (among other one b.is_problem a.is_problem (sym loops) (sym latencies)) in
-    let resources : one.resources ≡ other.resources = one_unit_bound other.operations one.resources other.resources
-    (subst (λ os. IsUnitBound os one.resources) operations a.is_problem.unit_bound) b.is_problem.unit_bound in
-    let recurrences : one.recurrences ≡ other.recurrences = one_recurrence_bound other.graph.edges one.recurrences other.recurrences
-    (subst (λ es. IsRecurrenceBound es one.recurrences) edges a.is_problem.recurrence_bound) b.is_problem.recurrence_bound in
-    same_problems one other loops (same_graphs one.graph other.graph edges latencies) operations (a.same_registers ∙ sym b.same_registers) resources recurrences
-    (a.same_ratio ∙ sym b.same_ratio) (a.same_ceiling ∙ sym b.same_ceiling)
+    let first : problems.IsProblemOf other.graph other.operations ratio ceiling (without_loop one) = record {
+      is_problem = a.is_problem.is_problem;
+      same_graph = same_graphs one.graph other.graph edges latencies;
+      same_operations = operations;
+      same_ratio = a.same_ratio;
+      same_ceiling = a.same_ceiling;
+    } in
+    let second : problems.IsProblemOf other.graph other.operations ratio ceiling (without_loop other) = record {
+      is_problem = b.is_problem.is_problem;
+      same_graph = refl;
+      same_operations = refl;
+      same_ratio = b.same_ratio;
+      same_ceiling = b.same_ceiling;
+    } in
+    same_problems one other loops (a.same_registers ∙ sym b.same_registers)
+    (given.one-problem other.graph other.operations ratio ceiling (without_loop one) (without_loop other) first second)

@@ -1,27 +1,16 @@
 //! One attempt at an interval.
 
 ghost use Rattle.std.specs.Prelude.{◌≡◌, ◌≤◌, ℕ, length, replicate, None, IfOk};
-ghost use Rattle.graph.specs.Schedules.{IsLawfulSchedule};
-ghost use Rattle.ims.specs.Problems.{IsProblem, mii_of};
-ghost use Rattle.ims.specs.Attempts.{IsBlocked, EndsPlaced, AnswersAttempt};
+ghost use Rattle.ims.specs.Attempts.{AnswersAttempt};
+ghost use Rattle.ims.specs.Problems.{mii_of, without_loop};
+ghost use Rattle.modulo.specs.Attempts as attempts;
 
-use crate::outcome::ending::{End, end_on, first_late};
 use crate::problem::prepared::Prepared;
 use crate::schedules::schedule::Schedule;
 use machine_data::OutOfMemory;
+use modulo::Failure;
 use mrt::ModuloTable;
 use std::alloc::Global;
-
-/// Why an attempt at an interval found no schedule: the first of these causes that holds.
-#[derive(Clone, Copy, Debug, PartialEq, Eq)]
-pub enum Failure {
-    /// All alternatives of some operation collide with themselves at the interval; nothing was placed.
-    Table,
-    /// As many operations were placed as the budget allows, and one is not placed in the end.
-    Budget,
-    /// All operations were placed, one of them in stage 64 or later.
-    Stages,
-}
 
 /// What an attempt answers.
 #[derive(Drop)]
@@ -30,18 +19,6 @@ pub enum Try<'a> {
     Placed(Schedule<'a>),
     /// No schedule, and why.
     Failed(Failure),
-}
-
-/// What keeps an attempt from a schedule.
-#[derive(Debug, Drop)]
-pub enum Culprit {
-    /// The first operation all of whose alternatives collide with themselves at the interval.
-    Blocked(usize),
-    /// The operations that are not placed when the budget is used up, in text order.
-    Unplaced(Vec<usize>),
-    /// The first operation in stage 64 or later, and when it is issued, in cycles from the beginning of its
-    /// iteration.
-    Late(usize, u64),
 }
 
 /// One attempt to schedule a loop at an initiation interval of `ii` cycles, from the least one on and at
@@ -62,8 +39,8 @@ pub fn attempt<'a, T: ModuloTable>(
     requires budget { budget ≤ 8192 }
     ensures exact { IfOk result (AnswersAttempt prepared.now ii budget) }
 {
-    let mut table = T::make(alloc, prepared.alternatives(), ii)?;
-    attempt_on(alloc, prepared, &mut table, budget)
+    let found = modulo::attempt::<T>(alloc, prepared.problem(), ii, budget)?;
+    Ok(of_loop(prepared, found))
 }
 
 /// [`attempt`] over a table of the loop's operations with nothing placed, at the table's interval. Where intervals
@@ -85,25 +62,17 @@ pub fn attempt_on<'a, T: ModuloTable>(
     ensures exact { IfOk result (AnswersAttempt prepared.now (T.interval table.old) budget) }
     ensures operations { T.operations table.new ≡ T.operations table.old }
 {
-    prove!(prepared.operations() >= 1);
-    let ii = table.ii();
-    match end_on(alloc, prepared, table, budget)? {
-        End::Blocked(_) => Ok(Try::Failed(Failure::Table)),
-        End::Short(_) => Ok(Try::Failed(Failure::Budget)),
-        End::Full(times, choices) => Ok(answer(prepared, ii, times, choices)),
-    }
+    let found = modulo::attempt_on(alloc, prepared.problem(), table, budget)?;
+    Ok(of_loop(prepared, found))
 }
 
-/// What is answered where all operations are placed, at these times and by these alternatives.
-fn answer<'a>(prepared: &'a Prepared, ii: u64, times: Vec<u64>, choices: Vec<usize>) -> Try<'a>
-    requires whole { IsProblem prepared.now }
-    requires some { 1 ≤ ii }
-    requires limit { ii ≤ 16384 }
-    requires lawful { IsLawfulSchedule ii prepared.now.operations prepared.now.graph.edges times.items choices.items }
-    ensures { (budget : ℕ) → EndsPlaced prepared.now ii budget times.items choices.items → (IsBlocked prepared.now ii → ⊥) → AnswersAttempt prepared.now ii budget result }
+/// What is answered of a loop where an attempt at its problem answers this.
+fn of_loop<'a>(prepared: &'a Prepared, found: modulo::Try<'a>) -> Try<'a>
+    requires { (ii : ℕ) × (budget : ℕ) × attempts.AnswersAttempt (without_loop prepared.now) ii budget found }
+    ensures { (ii budget : ℕ) → attempts.AnswersAttempt (without_loop prepared.now) ii budget found.entry → AnswersAttempt prepared.now ii budget result }
 {
-    match first_late(&times, ii) {
-        Some(_) => Try::Failed(Failure::Stages),
-        None => Try::Placed(Schedule::new(prepared, ii, times, choices)),
+    match found {
+        modulo::Try::Placed(schedule) => Try::Placed(Schedule::of_loop(prepared, schedule)),
+        modulo::Try::Failed(failure) => Try::Failed(failure),
     }
 }

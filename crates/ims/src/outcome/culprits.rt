@@ -1,16 +1,12 @@
 //! What keeps an attempt from a schedule.
 
-ghost use Rattle.std.specs.Prelude.{◌≡◌, ◌≤◌, length, is_none, filter, IfOk};
-ghost use Rattle.std.specs.List.{range_with_len};
-ghost use Rattle.mrt.specs.Placements.{placement_of};
+ghost use Rattle.std.specs.Prelude.{◌≤◌, IfOk};
 ghost use Rattle.ims.specs.Culprits.{AnswersCulprit};
 ghost use Rattle.ims.specs.Problems.{mii_of};
 
-use crate::outcome::attempts::Culprit;
-use crate::outcome::ending::{End, end_on, first_late};
 use crate::problem::prepared::Prepared;
-use crate::stepping::progress::Progress;
 use machine_data::OutOfMemory;
+use modulo::Culprit;
 use mrt::ModuloTable;
 use std::alloc::Global;
 
@@ -30,34 +26,5 @@ pub fn culprit<T: ModuloTable>(
     requires budget { budget ≤ 8192 }
     ensures exact { IfOk result (AnswersCulprit prepared.now ii budget) }
 {
-    let operations = prepared.operations();
-    let mut table = T::make(alloc, prepared.alternatives(), ii)?;
-    match end_on(alloc, prepared, &mut table, budget)? {
-        End::Blocked(op) => Ok(Some(Culprit::Blocked(op))),
-        End::Short(progress) => {
-            Ok(Some(Culprit::Unplaced(unplaced(alloc, &progress, operations)?)))
-        }
-        End::Full(times, _) => match first_late(&times, ii) {
-            Some(op) => Ok(Some(Culprit::Late(op, times[op]))),
-            None => Ok(None),
-        },
-    }
-}
-
-/// The operations that are not placed, in text order.
-fn unplaced(
-    alloc: Global,
-    progress: &Progress,
-    operations: usize,
-) -> Result<Vec<usize>, OutOfMemory>
-    requires { operations ≡ length progress.now.state.placed }
-    ensures { IfOk result (λ ops. ops.items ≡ filter (λ op. is_none (placement_of progress.now.state.placed op)) (range_with_len 0 operations)) }
-{
-    let mut ops = Vec::new(alloc);
-    for op in 0..operations {
-        if progress.placement(op).is_none() {
-            ops.push(op)?;
-        }
-    }
-    Ok(ops)
+    modulo::culprit::<T>(alloc, prepared.problem(), ii, budget)
 }

@@ -3,13 +3,13 @@
 ghost use Rattle.std.specs.Prelude.{◌≡◌, ◌≤◌, max, length};
 ghost use Rattle.graph.specs.TablesAnswer.{TablesAnswer};
 ghost use Rattle.graph.specs.Units.{first_without_table};
-ghost use Rattle.ims.specs.Problems.{IsProblem, IsProblemOf, mii_of};
+ghost use Rattle.ims.specs.Problems.{IsProblem, IsProblemOf, mii_of, without_loop};
 
 use crate::problem::offers::offers;
 use graph::{Edges, GraphFault};
 use iterations::Loop;
-use machine_data::limits::MAX_STATEMENTS;
 use machine_data::{Alternatives, Machine};
+use modulo::Problem;
 use std::alloc::Global;
 use std::marker::Model;
 
@@ -19,13 +19,8 @@ use std::marker::Model;
 #[derive(Drop)]
 pub struct Prepared {
     innermost: Loop,
-    edges: Edges,
-    alternatives: Vec<Alternatives>,
+    problem: Problem,
     registers: u16,
-    resources: u64,
-    recurrences: u64,
-    ratio: u64,
-    ceiling: u64,
 }
 
 impl Model for Prepared {
@@ -33,9 +28,9 @@ impl Model for Prepared {
 
     ghost Value = { ProblemData };
 
-    ghost view = { λ p. record { loop = p.innermost; graph = p.edges; operations = p.alternatives.items; registers = p.registers; resources = p.resources; recurrences = p.recurrences; ratio = p.ratio; ceiling = p.ceiling } };
+    ghost view = { λ p. record { loop = p.innermost; graph = p.problem.graph; operations = p.problem.operations; registers = p.registers; resources = p.problem.resources; recurrences = p.problem.recurrences; ratio = p.problem.ratio; ceiling = p.problem.ceiling } };
 
-    ghost invariant = { λ p. IsProblem (record { loop = p.innermost; graph = p.edges; operations = p.alternatives.items; registers = p.registers; resources = p.resources; recurrences = p.recurrences; ratio = p.ratio; ceiling = p.ceiling }) };
+    ghost invariant = { λ p. IsProblem (record { loop = p.innermost; graph = p.problem.graph; operations = p.problem.operations; registers = p.registers; resources = p.problem.resources; recurrences = p.problem.recurrences; ratio = p.problem.ratio; ceiling = p.problem.ceiling }) };
 }
 
 impl Prepared {
@@ -58,20 +53,21 @@ impl Prepared {
     {
         let edges = graph::edges(alloc, machine, &innermost)?;
         let alternatives = offers(alloc, machine, &innermost)?;
-        let resources = graph::res_mii(machine, &innermost)?;
-        let recurrences = graph::rec_mii(alloc, &edges)?;
+        let problem = Problem::new(alloc, edges, alternatives, ratio, ceiling)?;
         let registers = machine.registers();
-        prove!(edges.operations() <= MAX_STATEMENTS);
         Ok(Prepared {
             innermost,
-            edges,
-            alternatives,
+            problem,
             registers,
-            resources,
-            recurrences,
-            ratio,
-            ceiling,
         })
+    }
+
+    /// The problem of its operations, which an attempt is made at.
+    pub(crate) fn problem(&self) -> &Problem
+        ensures value { result.now ≡ without_loop self.now }
+        ensures well_formed { IsProblem self.now }
+    {
+        &self.problem
     }
 
     /// The loop.
@@ -87,7 +83,7 @@ impl Prepared {
         ensures value { result.now ≡ self.now.graph }
         ensures well_formed { IsProblem self.now }
     {
-        &self.edges
+        self.problem.edges()
     }
 
     /// The alternatives of each operation, in text order.
@@ -95,7 +91,7 @@ impl Prepared {
         ensures value { result.now ≡ self.now.operations }
         ensures well_formed { IsProblem self.now }
     {
-        self.alternatives.as_slice()
+        self.problem.alternatives()
     }
 
     /// The number of operations, 1 to 128.
@@ -103,7 +99,7 @@ impl Prepared {
         ensures value { result ≡ length self.now.operations }
         ensures well_formed { IsProblem self.now }
     {
-        self.alternatives.len()
+        self.problem.operations()
     }
 
     /// The least interval that is tried, in cycles, 1 to 8,192: the greater of the two lower bounds.
@@ -113,7 +109,7 @@ impl Prepared {
         ensures range { result ≤ 8192 }
         ensures well_formed { IsProblem self.now }
     {
-        self.resources.max(self.recurrences)
+        self.problem.mii()
     }
 
     /// The number of rotating registers of the machine, 1 to 256.
@@ -129,7 +125,7 @@ impl Prepared {
         ensures value { result ≡ self.now.resources }
         ensures well_formed { IsProblem self.now }
     {
-        self.resources
+        self.problem.resources()
     }
 
     /// The recurrence-constrained lower bound of the interval, in cycles, 1 to 8,192.
@@ -137,7 +133,7 @@ impl Prepared {
         ensures value { result ≡ self.now.recurrences }
         ensures well_formed { IsProblem self.now }
     {
-        self.recurrences
+        self.problem.recurrences()
     }
 
     /// How many placements an attempt may make for each operation, 1 to 64.
@@ -145,7 +141,7 @@ impl Prepared {
         ensures value { result ≡ self.now.ratio }
         ensures well_formed { IsProblem self.now }
     {
-        self.ratio
+        self.problem.ratio()
     }
 
     /// How many intervals above the least one are tried, 0 to 255.
@@ -153,6 +149,6 @@ impl Prepared {
         ensures value { result ≡ self.now.ceiling }
         ensures well_formed { IsProblem self.now }
     {
-        self.ceiling
+        self.problem.ceiling()
     }
 }

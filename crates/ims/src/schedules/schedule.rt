@@ -1,12 +1,11 @@
 //! Modulo schedules.
 
-ghost use Rattle.std.specs.Prelude.{◌≡◌, ℕ, ◌≤◌, ◌<◌, ◌*◌, [], length, map, slice_index, MatchOption, IfOk};
+ghost use Rattle.std.specs.Prelude.{◌≡◌, ℕ, ◌≤◌, ◌<◌, ◌*◌, [], length, slice_index, MatchOption, IfOk};
 ghost use Rattle.std.specs.List.{slice_index_or};
+ghost use Rattle.ims.specs.Problems.{without_loop};
 ghost use Rattle.ims.specs.Schedules.{ScheduleData, IsSchedule, stages_of, as_listed};
 
-use crate::outcome::ending::count_stages;
 use crate::problem::prepared::Prepared;
-use crate::schedules::check::is_schedule;
 use machine_data::OutOfMemory;
 use std::alloc::Global;
 use std::marker::Model;
@@ -18,43 +17,32 @@ use std::marker::Model;
 #[derive(Drop)]
 pub struct Schedule<'a> {
     prepared: &'a Prepared,
-    ii: u64,
-    stages: u64,
-    times: Vec<u64>,
-    choices: Vec<usize>,
+    schedule: modulo::Schedule<'a>,
 }
 
 impl<'a> Model for Schedule<'a> {
     ghost use Rattle.std.specs.Prelude.{◌≡◌};
-    ghost use Rattle.ims.specs.Schedules.{ScheduleData, IsSchedule, stages_of};
+    ghost use Rattle.ims.specs.Problems.{without_loop};
+    ghost use Rattle.ims.specs.Schedules.{ScheduleData, IsSchedule};
 
     ghost Value = { ScheduleData };
 
-    ghost view = { λ s. record { problem = s.prepared.now; ii = s.ii; times = s.times.items; choices = s.choices.items } };
+    ghost view = { λ s. record { problem = s.prepared.now; ii = s.schedule.ii; times = s.schedule.times; choices = s.schedule.choices } };
 
-    ghost invariant = { λ s. IsSchedule (record { problem = s.prepared.now; ii = s.ii; times = s.times.items; choices = s.choices.items })
-        × (s.stages ≡ stages_of (record { problem = s.prepared.now; ii = s.ii; times = s.times.items; choices = s.choices.items })) };
+    ghost invariant = { λ s. IsSchedule (record { problem = s.prepared.now; ii = s.schedule.ii; times = s.schedule.times; choices = s.schedule.choices })
+        × (s.schedule.problem ≡ without_loop s.prepared.now) };
 }
 
 impl<'a> Schedule<'a> {
-    /// The schedule with these times and alternatives.
-    pub(crate) fn new(
-        prepared: &'a Prepared,
-        ii: u64,
-        times: Vec<u64>,
-        choices: Vec<usize>,
-    ) -> Schedule<'a>
-        requires { IsSchedule (record { problem = prepared.now; ii = ii; times = times.items; choices = choices.items }) }
-        ensures { result ≡ record { problem = prepared.now; ii = ii; times = times.items; choices = choices.items } }
+    /// The schedule of a loop that a schedule of its problem is.
+    pub(crate) fn of_loop(prepared: &'a Prepared, schedule: modulo::Schedule<'a>) -> Schedule<'a>
+        requires { schedule.problem ≡ without_loop prepared.now }
+        ensures same { result ≡ record { problem = prepared.now; ii = schedule.entry.ii; times = schedule.entry.times; choices = schedule.entry.choices } }
+        ensures well_formed { IsSchedule result }
     {
-        let stages = count_stages(&times, ii);
-        Schedule {
-            prepared,
-            ii,
-            stages,
-            times,
-            choices,
-        }
+        prove!(prepared.operations() >= 1);
+        prove!(schedule.ii() >= 1);
+        Schedule { prepared, schedule }
     }
 
     /// The loop that it schedules.
@@ -70,7 +58,7 @@ impl<'a> Schedule<'a> {
         ensures value { result ≡ self.now.ii }
         ensures well_formed { IsSchedule self.now }
     {
-        self.ii
+        self.schedule.ii()
     }
 
     /// The number of stages, 1 to 64: one more than the greatest stage of an operation, which is its time
@@ -81,7 +69,7 @@ impl<'a> Schedule<'a> {
         ensures few { result ≤ 64 }
         ensures well_formed { IsSchedule self.now }
     {
-        self.stages
+        self.schedule.stages()
     }
 
     /// When an operation is issued, in cycles from the beginning of its iteration; less than 64
@@ -92,7 +80,7 @@ impl<'a> Schedule<'a> {
         ensures below { result < 64 * self.now.ii }
         ensures well_formed { IsSchedule self.now }
     {
-        self.times[op]
+        self.schedule.time(op)
     }
 
     /// By which of its alternatives an operation is issued, by its number, from 0.
@@ -102,7 +90,7 @@ impl<'a> Schedule<'a> {
         ensures there { result < length (slice_index_or self.now.problem.operations op []) }
         ensures well_formed { IsSchedule self.now }
     {
-        self.choices[op]
+        self.schedule.alternative(op)
     }
 
     /// The schedule at an interval of 1 to 16,384 cycles that a list of times and alternatives gives, one
@@ -123,25 +111,9 @@ impl<'a> Schedule<'a> {
         ensures exact { IfOk result (λ found. MatchOption found (IsSchedule (as_listed prepared.now ii places.now) → ⊥)
             (λ s. IsSchedule s × (s ≡ as_listed prepared.now ii places.now))) }
     {
-        if !is_schedule(alloc, prepared, ii, places)? {
-            return Ok(None);
+        match modulo::Schedule::check(alloc, prepared.problem(), ii, places)? {
+            Some(schedule) => Ok(Some(Schedule::of_loop(prepared, schedule))),
+            None => Ok(None),
         }
-        let times = times_of(alloc, places)?;
-        let choices = choices_of(alloc, places)?;
-        Ok(Some(Schedule::new(prepared, ii, times, choices)))
     }
-}
-
-/// The times of a list.
-fn times_of(alloc: Global, places: &[(u64, usize)]) -> Result<Vec<u64>, OutOfMemory>
-    ensures { IfOk result (λ v. v.items ≡ map (λ (p : ℕ × ℕ). p.0) places.now) }
-{
-    places.iter().map(|place| place.0).collect(alloc)
-}
-
-/// The alternatives of a list.
-fn choices_of(alloc: Global, places: &[(u64, usize)]) -> Result<Vec<usize>, OutOfMemory>
-    ensures { IfOk result (λ v. v.items ≡ map (λ (p : ℕ × ℕ). p.1) places.now) }
-{
-    places.iter().map(|place| place.1).collect(alloc)
 }

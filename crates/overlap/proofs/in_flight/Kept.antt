@@ -59,7 +59,7 @@ kernels-keep_schedules schedule allotment s =
     let a = p.each_time in
     let b = p.each_choice in
     let c = s.problem.each_operation in
-    let d = s.problem.each_latency in record {
+    let d = s.problem.is_problem.each_latency in record {
       times = times-kept schedule allotment 0 schedule.problem.loop.statements schedule.times (omega arith) (λ k lt. (let z : k ≡ 0 + k = omega arith in ap (slice_index schedule.times) z));
       choices = choices-kept schedule allotment 0 schedule.problem.loop.statements schedule.choices (omega arith) (λ k lt. (let z : k ≡ 0 + k = omega arith in ap (slice_index schedule.choices) z));
       opcodes = opcodes-kept schedule allotment 0 schedule.problem.loop.statements;

@@ -25,8 +25,9 @@ keeps-dependences schedule s = λ e d. All-contains (KeepsEdge schedule.ii sched
 pub takes-time : (schedule : ScheduleData) → IsSchedule schedule → (op : ℕ) (s : Statement) → slice_get schedule.problem.loop.statements op ≡ Some s → 0 < slice_index schedule.problem.graph.latencies op
 takes-time schedule sc op s there =
     let within = slice_get-within schedule.problem.loop.statements op s there in
-    let long = sc.problem.each_latency in
-    (All-get_or (λ l. (0 < l) × (l ≤ 64)) schedule.problem.graph.latencies op 0 (omega arith) sc.problem.graph.latencies).0
+    let long = sc.problem.is_problem.each_latency in
+    let many = sc.problem.each_operation in
+    (All-get_or (λ l. (0 < l) × (l ≤ 64)) schedule.problem.graph.latencies op 0 (omega arith) sc.problem.is_problem.graph.latencies).0
 
 -- a store, or an operation that gives a value
 pub kinds : (opcode : Opcode) → (opcode ≡ Store)

@@ -1,24 +1,12 @@
 -- Of two instances in one register, what the one lands doesn't disturb the other.
-use Rattle.std.proofs.Common.{◌≡◌, ◌⊎◌, ℕ, ℤ, pos, negsuc, ◌+ℤ◌, List, Some, inl, inr, arith}
+use Rattle.std.proofs.Common.{◌≡◌, ◌⊎◌, ℕ, ℤ, pos, ◌+ℤ◌, List, Some, inl, inr, arith}
 use Rattle.std.specs.Prelude.{◌*ℤ◌, ◌≤ℤ◌, ◌<ℤ◌, slice_get, slice_index}
-use Rattle.std.proofs.lemmas.Bool.{cases_lt}
 use Rattle.std.proofs.lemmas.Int.{ints}
-use Rattle.kernel.specs.Overlapped.{physical}
-use Rattle.overlap.specs.declared.lifetime.Lifetime.{Lifetime}
-use Rattle.overlap.specs.Lifetimes.{IsLiveIn}
-use Rattle.overlap.specs.Allotments.{IsLawfulAllotment}
-
-pub cases-int : (a b : ℤ) → (a ≤ℤ b) ⊎ (b <ℤ a)
-cases-int (pos a) (pos b) = elim (cases_lt b a) [
-  | inl lt ↦ inr (omega (arith, ints))
-  | inr ge ↦ inl (omega (arith, ints))
-]
-cases-int (pos a) (negsuc b) = inr (omega (arith, ints))
-cases-int (negsuc a) (pos b) = inl (omega (arith, ints))
-cases-int (negsuc a) (negsuc b) = elim (cases_lt a b) [
-  | inl lt ↦ inr (omega (arith, ints))
-  | inr ge ↦ inl (omega (arith, ints))
-]
+use Rattle.registers.specs.declared.lifetime.Lifetime.{Lifetime}
+use Rattle.registers.specs.Allotments.{IsLawfulAllotment}
+use Rattle.registers.specs.Lifetimes.{IsLiveIn}
+use Rattle.registers.specs.Physical.{physical}
+use Rattle.registers.proofs.Whole.{cases-int}
 
 -- an instance lives in a cycle; another one in the same register that lives in an earlier one does so before the first begins
 pub before-or_same : (ii registers : ℕ) (lives : List Lifetime) (numbers : List ℕ) → IsLawfulAllotment ii registers lives numbers

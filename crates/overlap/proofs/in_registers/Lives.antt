@@ -3,7 +3,6 @@ use Rattle.std.proofs.Common.{◌≡◌, ◌⊎◌, ℕ, suc, zero, ◌+◌, ◌
 use Rattle.std.specs.Prelude.{slice_get, slice_index, is_some, filter_map, if◌then◌else◌}
 use Rattle.std.specs.List.{Contains, cons_option}
 use Rattle.std.proofs.lemmas.Bool.{cases_Bool, cases_eq, cases_lt, eq-eqb, ne_eqb, cond-true, cond-false, true≢false}
-use Rattle.std.proofs.Math.Nat.{mul-add}
 use Rattle.std.proofs.lemmas.List.Elements.{Contains-append_left, Contains-append_right, Contains-append_cases}
 use Rattle.iterations.specs.declared.language.statement.Statement.{Statement}
 use Rattle.iterations.specs.declared.language.statement.Operand.{Operand}
@@ -17,9 +16,7 @@ use Rattle.overlap.specs.Lifetimes.{Use, distance_to, uses_from, uses_of, is_out
 use Rattle.overlap.proofs.in_flight.Landing.{contains-cases, contains-head, contains-tail}
 use Rattle.overlap.proofs.in_flight.Issued.{option-behind, option-cases}
 use Rattle.iterations.proofs.Instances.{split-there}
-
-pub times-more : (ii m n : ℕ) → m ≤ n → ii * n ≡ ii * m + ii * (n - m)
-times-more ii m n le = ap (λ k. ii * k) (let e : n ≡ m + (n - m) = omega arith in e) ∙ mul-add ii m (n - m)
+use Rattle.registers.proofs.Whole.{times-more}
 
 -- the greatest of some numbers
 

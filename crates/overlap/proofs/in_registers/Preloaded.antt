@@ -16,7 +16,8 @@ use Rattle.overlap.specs.Emission.{name_of, preloads_from, preloads_of, emitted}
 use Rattle.overlap.specs.Overlap.{Belong}
 use Rattle.overlap.proofs.in_flight.Landing.{contains-cases, contains-head, contains-tail}
 use Rattle.overlap.proofs.in_registers.Turned.{physical-is}
-use Rattle.overlap.proofs.in_registers.Lives.{times-more, begins-by_interval, lasts-when_carried, life-at_rank, rank-one, value-at_rank}
+use Rattle.registers.proofs.Whole.{times-more}
+use Rattle.overlap.proofs.in_registers.Lives.{begins-by_interval, lasts-when_carried, life-at_rank, rank-one, value-at_rank}
 use Rattle.overlap.proofs.in_registers.Registers.{times-back}
 use Rattle.overlap.proofs.in_registers.Different.{flat-back}
 

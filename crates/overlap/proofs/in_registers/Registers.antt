@@ -20,7 +20,8 @@ use Rattle.overlap.specs.Overlap.{IsRun}
 use Rattle.overlap.proofs.in_registers.Apart.{before-or_same}
 use Rattle.overlap.proofs.in_flight.Issued.{IsIssued, issued-from_sequence, sequence-from_issued}
 use Rattle.overlap.proofs.in_flight.Landing.{last-landed_is, none-landed}
-use Rattle.overlap.proofs.in_registers.Lives.{times-more, begins-by_landing, begins-by_interval, lasts-to_landing, lasts-to_use, carried-far, life-at_rank, rank-one}
+use Rattle.registers.proofs.Whole.{times-more}
+use Rattle.overlap.proofs.in_registers.Lives.{begins-by_landing, begins-by_interval, lasts-to_landing, lasts-to_use, carried-far, life-at_rank, rank-one}
 use Rattle.overlap.proofs.in_flight.Writes.{keeps-dependences, takes-time, into-register, makes-value}
 
 -- an iteration so many before another one, in cycles

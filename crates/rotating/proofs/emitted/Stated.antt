@@ -30,6 +30,6 @@ operands-limited loop is q s there = few-operands s.opcode s (is.each q s there)
 pub operands-may : (loop : LoopData) → IsLoop loop → (q : ℕ) (s : Statement) → slice_get loop.statements q ≡ Some s → (reader : ℕ) × All (MayRead loop reader) s.operands
 operands-may loop is q s there = (q, (is.each q s there).operands)
 
--- an operation has at most eight alternatives
-pub alternatives-few : (operations : List (List (List Row))) → All AreAlternatives operations → (op : ℕ) → op < length operations → length (slice_index_or operations op []) ≤ 8
+-- an operation has at most 16 alternatives
+pub alternatives-few : (operations : List (List (List Row))) → All AreAlternatives operations → (op : ℕ) → op < length operations → length (slice_index_or operations op []) ≤ 16
 alternatives-few operations all op lt = (All-get_or AreAlternatives operations op [] lt all).few

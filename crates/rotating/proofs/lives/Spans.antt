@@ -12,7 +12,7 @@ use Rattle.graph.specs.Units.{greatest_of}
 use Rattle.graph.proofs.finding.Promised.{values-in_time}
 use Rattle.overlap.specs.Lifetimes.{uses_of, is_out, landing_of, read_at, last_read, last_landing, lifetime_of, lifetimes_of, values_of}
 use Rattle.ims.specs.Schedules.{ScheduleData, IsSchedule, stages_of}
-use Rattle.rotating.specs.Residues.{IsLifeSpan}
+use Rattle.registers.specs.Residues.{IsLifeSpan}
 use Rattle.overlap.proofs.in_registers.Lives.{contains-map_back, use-back, begins-by_landing, lasts-to_landing}
 use Rattle.overlap.proofs.in_flight.Landing.{contains-head, contains-tail}
 use Rattle.overlap.proofs.in_flight.Writes.{keeps-dependences}
@@ -38,7 +38,7 @@ pub time-few : (schedule : ScheduleData) → IsSchedule schedule → (k : ℕ) �
 time-few schedule is k = index-few schedule.times 1048576 k (λ i d h. let q = quotient-few (get_or schedule.times i d) schedule.ii is.ii_some is.ii_few (is.stages i d h) in omega arith)
 
 pub latency-few : (schedule : ScheduleData) → IsSchedule schedule → (k : ℕ) → slice_index schedule.problem.graph.latencies k ≤ 64
-latency-few schedule is k = index-few schedule.problem.graph.latencies 64 k (λ i d h. (is.problem.graph.latencies i d h).1)
+latency-few schedule is k = index-few schedule.problem.graph.latencies 64 k (λ i d h. (is.problem.is_problem.graph.latencies i d h).1)
 
 pub distance-few : (schedule : ScheduleData) → IsSchedule schedule → (value reader distance : ℕ) → Uses schedule.problem.loop reader value distance → distance ≤ 16
 distance-few schedule is value reader distance u =
@@ -71,7 +71,7 @@ sums-few (t ∷ ts) (l ∷ ls) n a b e =
 pub landing-few : (schedule : ScheduleData) → IsSchedule schedule → last_landing schedule ≤ 1048640
 landing-few schedule is = sums-few schedule.times schedule.problem.graph.latencies 1048640
     (λ i d h. let q = quotient-few (get_or schedule.times i d) schedule.ii is.ii_some is.ii_few (is.stages i d h) in omega arith)
-    (λ i d h. (is.problem.graph.latencies i d h).1) refl
+    (λ i d h. (is.problem.is_problem.graph.latencies i d h).1) refl
 
 greatest-stage : (ts : List ℕ) (ii : ℕ) → All (λ t. t / ii < 64) ts → greatest_of (map (λ t. t / ii) ts) ≤ 63
 greatest-stage [] ii all = omega arith

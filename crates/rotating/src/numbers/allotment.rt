@@ -1,23 +1,17 @@
 //! Registers for values.
 
-ghost use Rattle.std.specs.Prelude.{◌≡◌, ◌<◌, ◌≤◌, ℕ, List, IfOk, MatchOption, true, false, length, slice_get, vec_len};
-ghost use Rattle.std.specs.List.{All};
-ghost use Rattle.overlap.specs.Allotments.{IsAllotment, AreLeast, HaveNone, LeastFor, NoneFor, Suits};
+ghost use Rattle.std.specs.Prelude.{◌≡◌, ◌≤◌, ℕ, List, IfOk, MatchOption, vec_len};
+ghost use Rattle.overlap.specs.Allotments.{IsAllotment, AreLeast, LeastFor, NoneFor, Suits};
 ghost use Rattle.overlap.specs.Lifetimes.{lifetimes_of};
-ghost use Rattle.overlap.specs.declared.lifetime.Lifetime.{Lifetime};
+ghost use Rattle.registers.specs.Numberless.{HasNone};
 ghost use Rattle.rotating.specs.CheckAnswers.{CheckAnswers};
-ghost use Rattle.rotating.specs.Numberless.{HasNone};
-ghost use Rattle.rotating.specs.Residues.{IsLifeSpan};
 
-use crate::numbers::gaps::{Gap, least_fit, number_of, take};
-use crate::numbers::lawful::are_lawful;
-use crate::values::crowd::are_crowded;
 use crate::values::lifetime::{fill_lifetimes, lifetimes};
-use crate::values::turns::{Arc, point_of};
 use ims::Schedule;
 use machine_data::OutOfMemory;
-use machine_data::limits::{MAX_INTERVAL, MAX_STATEMENTS};
+use machine_data::limits::MAX_STATEMENTS;
 use overlap::Lifetime;
+use registers::{are_lawful, fill_least, find_least};
 use std::alloc::Global;
 use std::marker::Model;
 
@@ -82,76 +76,6 @@ impl Allotment {
             Err(numbers)
         }
     }
-}
-
-/// Writes the least numbers of these values, up to the first value that has none, whose place is given where
-/// there is one. The first value's first point is the origin, so that no arc goes past the last point around
-/// the registers to the first.
-fn fill_least(
-    alloc: Global,
-    ii: u64,
-    registers: usize,
-    lives: &[Lifetime],
-    numbers: &mut [usize],
-) -> Result<Option<usize>, OutOfMemory>
-    requires some { 1 ≤ ii }
-    requires few { ii ≤ 16384 }
-    requires registers_some { 1 ≤ registers }
-    requires registers_few { registers ≤ 256 }
-    requires lives { All IsLifeSpan lives.now }
-    requires each { length numbers.old ≡ length lives.now }
-    ensures each { length numbers.new ≡ length lives.now }
-    ensures first { IfOk result (λ found. MatchOption found (AreLeast ii registers lives.now numbers.new)
-        (λ place. (life : Lifetime) × (slice_get lives.now place ≡ Some life) × HasNone ii registers lives.now life)) }
-{
-    if lives.is_empty() {
-        return Ok(None);
-    }
-    let origin = point_of(ii, lives[0].first);
-    let mut gaps = Vec::with_capacity(alloc, lives.len())?;
-    gaps.push_reserved(Gap {
-        start: 0,
-        room: registers as u64 * MAX_INTERVAL,
-    });
-    for k in 0..lives.len() {
-        let arc = Arc::of(ii, registers, origin, lives[k]);
-        let Some(fit) = least_fit(gaps.as_slice(), registers, arc) else {
-            return Ok(Some(k));
-        };
-        numbers[k] = number_of(registers, arc.turn, fit.turn);
-        take(
-            &mut gaps,
-            fit.gap,
-            fit.turn * MAX_INTERVAL + arc.phase,
-            arc.length,
-        )?;
-    }
-    Ok(None)
-}
-
-/// As [`fill_least`], but at once where more values live in one cycle than there are registers.
-fn find_least(
-    alloc: Global,
-    ii: u64,
-    registers: usize,
-    lives: &[Lifetime],
-    numbers: &mut [usize],
-) -> Result<bool, OutOfMemory>
-    requires some { 1 ≤ ii }
-    requires few { ii ≤ 16384 }
-    requires registers_some { 1 ≤ registers }
-    requires registers_few { registers ≤ 256 }
-    requires lives { All IsLifeSpan lives.now }
-    requires few_lives { length lives.now ≤ 128 }
-    requires each { length numbers.old ≡ length lives.now }
-    ensures each { length numbers.new ≡ length lives.now }
-    ensures least { result ≡ Ok true → AreLeast ii registers lives.now numbers.new }
-    ensures none { result ≡ Ok false → HaveNone ii registers lives.now }
-{
-    if are_crowded(ii, registers, lives) {
-        return Ok(false);
-    }
-    Ok(fill_least(alloc, ii, registers, lives, numbers)?.is_none())
 }
 
 /// So many zeros.

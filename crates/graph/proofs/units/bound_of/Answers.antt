@@ -1,7 +1,7 @@
 use Rattle.std.proofs.Common.{◌≡◌, ◌+◌, ◌*◌, ◌-◌, ◌<◌, ◌≤◌, List, length, sym, subst, arith}
 use Rattle.std.specs.List.{All}
 use Rattle.machine_data.specs.declared.alternative.Row.{Row}
-use Rattle.graph.specs.Units.{IsUnitBound, by_freedom}
+use Rattle.graph.specs.Units.{by_freedom}
 use Rattle.graph.specs.Uses.{AtMost, CountsRows}
 use Rattle.graph.proofs.unit_bound.UnitBound.{CountsRows-all, IsUnitBound-from, bound-le-interval, bound-range}
 use Rattle.graph.proofs.unit_bound.Most.{All-most}
@@ -30,7 +30,7 @@ returns-clause-exact g c =
     let operations : List (List (List Row)) = g.O.Offers.operations c.args.operations.now in
     let most = c.most_alternatives-most.result in
     let freedom = c.loop-freedom.freedom in
-    let low : most ≤ 8 = c.most_alternatives-most.ensures.few in
+    let low : most ≤ 16 = c.most_alternatives-most.ensures.few in
     let few : All (λ alternatives. length alternatives ≤ most) operations = All-most operations most (omega (arith, c.most_alternatives-most.ensures.greatest)) in
     let taken : CountsRows (by_freedom operations) c.loop-freedom-test.uses.counts c.loop-freedom-test.uses.greatest
     = elim c.loop-freedom-test.branch [

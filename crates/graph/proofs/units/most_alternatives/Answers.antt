@@ -1,4 +1,4 @@
-use Rattle.std.proofs.Common.{◌≡◌, ◌+◌, ◌<◌, ◌≤◌, max, List, [], ◌∷◌, ◌++◌, length, get_or, take, sym, ap, ◌∙◌, subst, arith}
+use Rattle.std.proofs.Common.{◌≡◌, ◌+◌, ◌<◌, ◌≤◌, max, List, [], ◌∷◌, length, get_or, take, sym, ap, ◌∙◌, subst, arith}
 use Rattle.std.specs.List.{All}
 use Rattle.std.proofs.lemmas.List.{take_all, take_more}
 use Rattle.std.proofs.lemmas.List.Elements.{All-nil, All-cons, All-append}
@@ -17,8 +17,8 @@ loop-operation-preserved g c =
     let more : most_of (take (i + 1) operations) ≡ max (most_of (take i operations)) (length (get_or operations i [])) = most-more operations i within in
     let before : c.loop-operation.most ≡ most_of (take i operations) = c.loop-operation.invariant.greatest in
     let long : length c.alternatives.result.now ≡ length (get_or operations i []) = ap length same in
-    let few : length (get_or operations i []) ≤ 8 = formed.few in
-    let kept : c.loop-operation.most ≤ 8 = c.loop-operation.invariant.few in
+    let few : length (get_or operations i []) ≤ 16 = formed.few in
+    let kept : c.loop-operation.most ≤ 16 = c.loop-operation.invariant.few in
     let top : c.max-most.result ≡ max c.loop-operation.most (length c.alternatives.result.now) = c.max-most.ensures ∙ greater c.loop-operation.most (length c.alternatives.result.now) in
     record {
       greatest = omega arith;

@@ -1,4 +1,4 @@
-use Rattle.std.proofs.Common.{◌≡◌, ◌<◌, ◌≤◌, take}
+use Rattle.std.proofs.Common.{◌≡◌, ◌≤◌, take}
 use Rattle.std.specs.List.{All}
 use Rattle.machine_data.specs.Alternative.{AreAlternatives}
 use Rattle.graph.proofs.unit_bound.Most.{most_of}
@@ -7,6 +7,6 @@ use Rattle.graph.proofs.units.most_alternatives.Given as goal
 abbrev pub invariant-loop-operation : goal.invariant-loop-operation
 invariant-loop-operation g l = record {
   greatest : l.most ≡ most_of (take l.operation (g.O.Offers.operations l.operations));
-  few : l.most ≤ 8;
+  few : l.most ≤ 16;
   offered : All AreAlternatives (take l.operation (g.O.Offers.operations l.operations));
 }

@@ -2,7 +2,7 @@ use Rattle.std.proofs.Common.{◌≡◌, ◌-◌, ℕ, List, ◌++◌, length, a
 use Rattle.iterations.specs.Loops.{LoopData}
 use Rattle.machine_data.specs.Machines.{MachineData}
 use Rattle.ims.specs.Schedules.{ScheduleData}
-use Rattle.overlap.specs.declared.lifetime.Lifetime.{Lifetime}
+use Rattle.registers.specs.declared.lifetime.Lifetime.{Lifetime}
 use Rattle.overlap.specs.Allotments.{AllotmentData}
 use Rattle.overlap.specs.Lifetimes.{lifetimes_of}
 use Rattle.schedule_lines.specs.Columns.{used_units}

@@ -4,7 +4,7 @@ use Rattle.std.proofs.lemmas.List.{flat_map_more}
 use Rattle.iterations.specs.Loops.{LoopData}
 use Rattle.graph_text.proofs.Texts.{numbers-push}
 use Rattle.ims.specs.Problems.{ProblemData}
-use Rattle.overlap.specs.declared.lifetime.Lifetime.{Lifetime}
+use Rattle.registers.specs.declared.lifetime.Lifetime.{Lifetime}
 use Rattle.rotating.specs.Crowds.{nobody}
 use Rattle.schedule_lines.specs.ScheduleTexts.{value_line}
 use Rattle.schedule_lines.proofs.Lives.{lives-within}

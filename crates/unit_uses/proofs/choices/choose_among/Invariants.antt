@@ -1,16 +1,15 @@
 use Rattle.std.proofs.Common.{◌≡◌, ◌≢◌, ℕ, ◌+◌, ◌*◌, ◌-◌, ◌==◌, List, ◌++◌, length, take, filter}
 use Rattle.machine_data.specs.declared.alternative.Row.{Row}
-use Rattle.graph.specs.Units.{operations_of}
 use Rattle.graph.specs.Uses.{AtMost}
 use Rattle.unit_uses.specs.Choices.{choices_among}
 use Rattle.unit_uses.specs.inner.Tallies.{HasChosen}
 use Rattle.unit_uses.proofs.choices.choose_among.Given as goal
 
 abbrev pub invariant-loop-number : goal.invariant-loop-number
-invariant-loop-number l = record {
+invariant-loop-number g l = record {
   taken : (done : List (List (List Row))) (made : List ℕ) → HasChosen done made l.fn.counted.counts l.fn.counted.greatest
-      → HasChosen (done ++ filter (λ alternatives. length alternatives == l.freedom) (take l.number (operations_of l.machine l.innermost)))
-      (made ++ choices_among (take l.number (operations_of l.machine l.innermost)) l.choices l.freedom) l.tally.counts l.tally.greatest;
-  kept : (n : ℕ) → n ≢ l.freedom → choices_among (operations_of l.machine l.innermost) l.choices n ≡ choices_among (operations_of l.machine l.innermost) l.initial.choices n;
+      → HasChosen (done ++ filter (λ alternatives. length alternatives == l.freedom) (take l.number (g.O.Offers.operations l.operations)))
+      (made ++ choices_among (take l.number (g.O.Offers.operations l.operations)) l.choices l.freedom) l.tally.counts l.tally.greatest;
+  kept : (n : ℕ) → n ≢ l.freedom → choices_among (g.O.Offers.operations l.operations) l.choices n ≡ choices_among (g.O.Offers.operations l.operations) l.initial.choices n;
   room : AtMost (2048 * (l.freedom - 1) + 16 * l.number) l.tally.counts;
 }

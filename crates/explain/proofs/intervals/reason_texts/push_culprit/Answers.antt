@@ -1,7 +1,7 @@
 use Rattle.std.proofs.Common.{◌<◌, Some, length, sym, subst}
 use Rattle.std.specs.List.{All}
 use Rattle.iterations.specs.Loops.{LoopData}
-use Rattle.ims.specs.declared.outcome.attempts.Culprit.{Culprit}
+use Rattle.modulo.specs.declared.outcome.attempts.Culprit.{Culprit}
 use Rattle.ims.specs.Culprits.{AnswersCulprit}
 use Rattle.ims.specs.Problems.{budget_of}
 use Rattle.explain.proofs.Reasoned.{op-there, ops-there}

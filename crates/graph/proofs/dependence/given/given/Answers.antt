@@ -1,5 +1,5 @@
-use Rattle.std.proofs.Common.{◌≡◌, refl, sym, subst}
-use Rattle.graph.specs.Graphs.{AreEdges, IsGraph, IsGraphWith}
+use Rattle.std.proofs.Common.{refl, sym, subst}
+use Rattle.graph.specs.Graphs.{AreEdges, IsGraphWith}
 use Rattle.graph.proofs.finding.Given.{graph_given}
 use Rattle.graph.proofs.dependence.given.given.Goals as goal
 

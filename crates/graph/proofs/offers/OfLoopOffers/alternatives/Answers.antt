@@ -1,4 +1,4 @@
-use Rattle.std.proofs.Common.{◌≡◌, ◌<◌, [], length, get_or, sym, ap, ◌∙◌, subst, arith}
+use Rattle.std.proofs.Common.{◌<◌, [], length, get_or, sym, ap, ◌∙◌, subst, arith}
 use Rattle.machine_data.specs.Alternative.{AreAlternatives}
 use Rattle.machine_data.specs.Machines.{table_of}
 use Rattle.iterations.specs.declared.language.statement.Statement.{Statement}

@@ -1,19 +1,22 @@
-use Rattle.std.proofs.Common.{ℕ, ◌≤◌, sym, subst, arith}
-use Rattle.graph.specs.Schedules.{IsLawfulSchedule}
-use Rattle.ims.specs.inner.Endings.{EndsAs}
-use Rattle.ims.specs.Problems.{mii_of}
-use Rattle.ims.proofs.answers.Blaming.{mii-some}
-use Rattle.ims.proofs.states.Reached.{attempts-are_lawful}
+use Rattle.std.proofs.Common.{◌≤◌, sym, subst}
+use Rattle.modulo.specs.Attempts as attempts
+use Rattle.modulo.specs.Problems as problems
 use Rattle.ims.proofs.outcome.attempts.attempt_on.Goals as goal
 
-pub answer-requires-clause-some : goal.answer-requires-clause-some
-answer-requires-clause-some g c =
-    let from : mii_of c.args.prepared.now ≤ c.ii-ii.result = omega arith in
-    mii-some c.args.prepared.now c.ii-ii.result c.operations.ensures.well_formed from
+pub attempt_on-requires-clause-from_mii : goal.attempt_on-requires-clause-from_mii
+attempt_on-requires-clause-from_mii g c =
+    subst (λ (p : problems.ProblemData). problems.mii_of p ≤ g.T.ModuloTable.interval c.args.table.now) (sym c.problem.ensures.value) c.requires.from_mii
 
-pub answer-requires-clause-lawful : goal.answer-requires-clause-lawful
-answer-requires-clause-lawful g c =
-    let ii : ℕ = g.T.ModuloTable.interval c.args.table.now in
-    let e = subst (EndsAs c.args.prepared.now ii c.args.budget) c.in-Full.is c.in_ok-end_on.ensures.exact in
-    subst (λ n. IsLawfulSchedule n c.args.prepared.now.operations c.args.prepared.now.graph.edges c.in-Full.times.items c.in-Full.choices.items) (sym c.ii-ii.ensures)
-    (attempts-are_lawful c.args.prepared.now ii c.args.budget c.in-Full.times.items c.in-Full.choices.items c.operations.ensures.well_formed c.requires.from_mii e.1)
+pub of_loop-requires : goal.of_loop-requires
+of_loop-requires g c = (
+  g.T.ModuloTable.interval c.args.table.now,
+  c.args.budget,
+  subst (λ (p : problems.ProblemData). attempts.AnswersAttempt p (g.T.ModuloTable.interval c.args.table.now) c.args.budget c.in_ok-found.found) c.problem.ensures.value
+      c.in_ok-found.ensures.exact,
+)
+
+pub returns-clause-exact : goal.returns-clause-exact
+returns-clause-exact g c =
+    c.of_loop.ensures (g.T.ModuloTable.interval c.args.table.now) c.args.budget
+    (subst (λ (p : problems.ProblemData). attempts.AnswersAttempt p (g.T.ModuloTable.interval c.args.table.now) c.args.budget c.in_ok-found.found) c.problem.ensures.value
+    c.in_ok-found.ensures.exact)

@@ -1,40 +1,16 @@
-use Rattle.std.proofs.Common.{ℕ, ◌/◌, ◌<◌, List, refl, subst}
-use Rattle.std.specs.List.{All}
-use Rattle.ims.specs.inner.Endings.{EndsAs}
-use Rattle.ims.specs.Schedules.{IsSchedule}
-use Rattle.ims.proofs.answers.Blaming.{ends-without, mii-some}
-use Rattle.ims.proofs.states.Reached.{attempts-are_lawful}
+use Rattle.std.proofs.Common.{◌≤◌, sym, subst}
+use Rattle.std.proofs.lemmas.Result.{IfOk-weaker}
+use Rattle.modulo.specs.Culprits as culprits
+use Rattle.modulo.specs.Problems as problems
+use Rattle.ims.proofs.answers.OfLoops.{culprit-of}
 use Rattle.ims.proofs.outcome.culprits.culprit.Goals as goal
 
-pub returns-in-Short : goal.returns-in-Short
-returns-in-Short g c =
-    let ends = subst (λ n. EndsAs c.args.prepared.now n c.args.budget c.in_ok-op.field-0) c.in_ok-table.ensures.interval c.in_ok-op.ensures.exact in
-    let e = subst (EndsAs c.args.prepared.now c.args.ii c.args.budget) c.in-Short.is ends in
-    record {
-      exact = (
-        e.0,
-        ends-without c.args.prepared.now c.args.ii c.args.budget c.operations-operations.result e.3.0 c.in-Short.progress.state _ e.1 c.operations-operations.ensures.value e.3.1
-            c.in_ok-unplaced-in-Short.ensures,
-      );
-    }
-
-pub first_late-requires : goal.first_late-requires
-first_late-requires g c = mii-some c.args.prepared.now c.args.ii c.operations-operations.ensures.well_formed c.requires.from_mii
+pub culprit-requires-clause-from_mii : goal.culprit-requires-clause-from_mii
+culprit-requires-clause-from_mii g c = subst (λ (p : problems.ProblemData). problems.mii_of p ≤ c.args.ii) (sym c.problem.ensures.value) c.requires.from_mii
 
 pub returns : goal.returns
-returns g c =
-    let p = c.args.prepared.now in
-    let is = c.operations-operations.ensures.well_formed in
-    let ends = subst (λ n. EndsAs p n c.args.budget c.in_ok-op.field-0) c.in_ok-table.ensures.interval c.in_ok-op.ensures.exact in
-    let e = subst (EndsAs p c.args.ii c.args.budget) c.in-Full.is ends in
-    let times : List ℕ = c.in-Full.times.items in
-    let choices : List ℕ = c.in-Full.field-1.items in
-    let scheduled : IsSchedule (record { problem = p; ii = c.args.ii; times = times; choices = choices })
-    = record {
-      problem = is;
-      ii_some = mii-some p c.args.ii is c.requires.from_mii;
-      ii_few = c.requires.limit;
-      lawful = attempts-are_lawful p c.args.ii c.args.budget times choices is c.requires.from_mii e.1;
-      stages = subst (All (λ time. time / c.args.ii < 64)) c.deref.ensures.value c.in-None.ensures;
-    } in
-    record { exact = (record { problem = p; ii = c.args.ii; times = times; choices = choices }, (e.0, e.1, refl, refl, scheduled)) }
+returns g c = record {
+  exact = IfOk-weaker c.culprit.result _ _
+      (λ found h. culprit-of c.args.prepared.now c.args.ii c.args.budget found c.problem.ensures.well_formed
+      (subst (λ (p : problems.ProblemData). culprits.AnswersCulprit p c.args.ii c.args.budget found) c.problem.ensures.value h)) c.culprit.ensures.exact;
+}

@@ -1,11 +1,11 @@
 use Rattle.std.proofs.Common.{◌≡◌, ◌<◌, ◌++◌, ℕ, List, length, take, drop, Ok, sym, ap, ◌∙◌, subst, arith}
 use Rattle.std.specs.List.{All}
-use Rattle.overlap.specs.declared.lifetime.Lifetime.{Lifetime}
+use Rattle.registers.specs.declared.lifetime.Lifetime.{Lifetime}
 use Rattle.overlap.specs.Allotments.{IsLawfulAllotment}
 use Rattle.overlap.specs.Lifetimes.{lifetimes_of}
-use Rattle.rotating.specs.Residues.{IsLifeSpan}
-use Rattle.rotating.proofs.registers.Filled.{take-front}
-use Rattle.overlap.proofs.in_registers.Least.{least-is_lawful}
+use Rattle.registers.specs.Residues.{IsLifeSpan}
+use Rattle.registers.proofs.allotted.Filled.{take-front}
+use Rattle.registers.proofs.allotted.Least.{least-is_lawful}
 use Rattle.rotating.proofs.emitted.Ranks.{lives-few}
 use Rattle.rotating.proofs.lives.Spans.{are-spans}
 use Rattle.rotating.proofs.numbers.allotment.allot.Goals as goal

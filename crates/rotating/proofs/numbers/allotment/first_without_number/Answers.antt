@@ -2,12 +2,13 @@ use Rattle.std.proofs.Common.{◌≡◌, ◌<◌, ℕ, List, Option, Some, lengt
 use Rattle.std.specs.Prelude.{MatchOption, slice_get}
 use Rattle.std.specs.List.{All}
 use Rattle.std.proofs.lemmas.Option.{slice_get-get_or}
-use Rattle.overlap.specs.declared.lifetime.Lifetime.{Lifetime}
+use Rattle.registers.specs.declared.lifetime.Lifetime.{Lifetime}
 use Rattle.overlap.specs.Allotments.{AreLeast}
 use Rattle.overlap.specs.Lifetimes.{lifetimes_of}
-use Rattle.overlap.proofs.in_registers.Least.{place-within}
-use Rattle.rotating.specs.Numberless.{HasNone}
-use Rattle.rotating.specs.Residues.{IsLifeSpan}
+use Rattle.registers.proofs.allotted.Least.{place-within}
+use Rattle.registers.specs.Numberless.{HasNone, HasNoneAt}
+use Rattle.registers.proofs.allotted.Filled.{has-none}
+use Rattle.registers.specs.Residues.{IsLifeSpan}
 use Rattle.rotating.proofs.lives.Spans.{are-spans}
 use Rattle.rotating.proofs.numbers.allotment.first_without_number.Goals as goal
 
@@ -19,8 +20,8 @@ pub index-requires : goal.index-requires
 index-requires c =
     let lives : List Lifetime = c.as_slice.result.now in
     let first = subst (λ (f : Option ℕ). MatchOption f (AreLeast c.ii.result c.args.registers lives c.fill_least.new.numbers)
-    (λ place. (life : Lifetime) × (slice_get lives place ≡ Some life) × HasNone c.ii.result c.args.registers lives life)) c.in-Some.is c.in_ok-found.ensures.first in
-    let within : c.in-Some.place < length lives = place-within lives first.0 c.in-Some.place first.1 in
+    (HasNoneAt c.ii.result c.args.registers lives c.fill_least.new.numbers)) c.in-Some.is c.in_ok-found.ensures.first in
+    let within : c.in-Some.place < length lives = place-within lives first.life c.in-Some.place first.is_life in
     let same = c.as_slice.ensures.len in
     omega arith
 
@@ -29,16 +30,16 @@ returns-in-Some c =
     let lives : List Lifetime = c.as_slice.result.now in
     let place : ℕ = c.in-Some.place in
     let first = subst (λ (f : Option ℕ). MatchOption f (AreLeast c.ii.result c.args.registers lives c.fill_least.new.numbers)
-    (λ p. (life : Lifetime) × (slice_get lives p ≡ Some life) × HasNone c.ii.result c.args.registers lives life)) c.in-Some.is c.in_ok-found.ensures.first in
-    let within : place < length lives = place-within lives first.0 place first.1 in
+    (HasNoneAt c.ii.result c.args.registers lives c.fill_least.new.numbers)) c.in-Some.is c.in_ok-found.ensures.first in
+    let within : place < length lives = place-within lives first.life place first.is_life in
     let found : Lifetime = c.index.result.now in
     let there : place < length c.in_ok-lives.lives.items = subst (λ (ls : List Lifetime). place < length ls) c.as_slice.ensures.value within in
-    let both : Some first.0 ≡ Some found
-    = sym first.1 ∙ ap (λ (ls : List Lifetime). slice_get ls place) c.as_slice.ensures.value ∙ slice_get-get_or c.in_ok-lives.lives.items place found there
+    let both : Some first.life ≡ Some found
+    = sym first.is_life ∙ ap (λ (ls : List Lifetime). slice_get ls place) c.as_slice.ensures.value ∙ slice_get-get_or c.in_ok-lives.lives.items place found there
     ∙ ap (λ (l : Lifetime). Some l) (sym c.index.ensures) in
-    let same : first.0 ≡ found = cc in
+    let same : first.life ≡ found = cc in
     record {
       exact = subst (λ ii. HasNone ii c.args.registers (lifetimes_of c.args.schedule.now) found) c.ii.ensures.value
           (subst (λ (ls : List Lifetime). HasNone c.ii.result c.args.registers ls found) (c.as_slice.ensures.value ∙ c.in_ok-lives.ensures.exact)
-          (subst (λ (l : Lifetime). HasNone c.ii.result c.args.registers lives l) same first.2));
+          (subst (λ (l : Lifetime). HasNone c.ii.result c.args.registers lives l) same (has-none c.ii.result c.args.registers lives c.fill_least.new.numbers place first)));
     }

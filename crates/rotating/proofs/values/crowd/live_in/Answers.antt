@@ -1,6 +1,6 @@
 use Rattle.std.proofs.Common.{length, sym, ap, subst, arith}
 use Rattle.std.specs.List.{All}
-use Rattle.rotating.specs.Residues.{IsLifeSpan}
+use Rattle.registers.specs.Residues.{IsLifeSpan}
 use Rattle.rotating.proofs.emitted.Ranks.{lives-few}
 use Rattle.rotating.proofs.lives.Spans.{are-spans}
 use Rattle.rotating.proofs.values.crowd.live_in.Goals as goal

@@ -5,7 +5,7 @@ use Rattle.ims.specs.Problems.{ProblemData}
 use Rattle.std.specs.Prelude.{is_some, if◌then◌else◌}
 use Rattle.graph.specs.Units.{greatest_of}
 use Rattle.rotating.proofs.emitted.Ranks.{zero-at, values-yes, values-no}
-use Rattle.overlap.specs.declared.lifetime.Lifetime.{Lifetime}
+use Rattle.registers.specs.declared.lifetime.Lifetime.{Lifetime}
 use Rattle.overlap.specs.Lifetimes.{is_out, read_at, uses_of, values_from, lifetime_of, lifetimes_of}
 use Rattle.rotating.proofs.lives.Greatest.{drop-none}
 use Rattle.rotating.proofs.values.lifetime.push_lifetimes.Goals.{then-is_some, else-is_some}

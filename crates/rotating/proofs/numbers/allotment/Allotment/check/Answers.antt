@@ -2,7 +2,7 @@ use Rattle.std.proofs.Common.{ℕ, List, refl, sym, subst}
 use Rattle.std.specs.List.{All}
 use Rattle.overlap.specs.Allotments.{IsLawfulAllotment}
 use Rattle.overlap.specs.Lifetimes.{lifetimes_of}
-use Rattle.rotating.specs.Residues.{IsLifeSpan}
+use Rattle.registers.specs.Residues.{IsLifeSpan}
 use Rattle.rotating.proofs.lives.Spans.{are-spans}
 use Rattle.rotating.proofs.numbers.allotment.Allotment.check.Goals as goal
 

@@ -1,6 +1,0 @@
-use Rattle.std.proofs.Common.{ℕ, ◌≤◌, sym, subst}
-use Rattle.ims.proofs.lawfulness.Stages.{stages-are_few}
-use Rattle.ims.proofs.schedules.schedule.Schedule.stages.Goals as goal
-
-pub returns-clause-few : goal.returns-clause-few
-returns-clause-few c = subst (λ (n : ℕ). n ≤ 64) (sym c.self.invariant.1) (stages-are_few _ c.self.invariant.0).0

@@ -1,0 +1,3 @@
+pub mod allotted
+pub mod lives
+pub mod Whole

@@ -1,0 +1,71 @@
+//! Which numbers make two values meet in a register.
+
+ghost use Rattle.std.specs.Prelude.{◌≡◌, ◌<◌, ◌≤◌, ◌↔◌, pos, ◌≤ℤ◌, IsTrue, neg_ℤ};
+ghost use Rattle.registers.specs.Residues.{least_shift, greatest_shift, distance_up, Forbids};
+
+use crate::lifetime::Lifetime;
+
+/// The least difference of iterations at which the other value's instance shares a cycle with the one's.
+pub(crate) fn least_shift(ii: u64, one: Lifetime, other: Lifetime) -> i64
+    requires some { 1 ≤ ii }
+    requires few { ii ≤ 16384 }
+    requires one { one.first ≤ 4294967296 }
+    requires other { other.last ≤ 4294967296 }
+    ensures value { result ≡ least_shift ii one other }
+    ensures low { neg_ℤ (pos 4294967296) ≤ℤ result }
+    ensures high { result ≤ℤ pos 4294967296 }
+{
+    (one.first as i64 - other.last as i64 + (ii as i64 - 1)).div_euclid(ii as i64)
+}
+
+/// The greatest such difference.
+pub(crate) fn greatest_shift(ii: u64, one: Lifetime, other: Lifetime) -> i64
+    requires some { 1 ≤ ii }
+    requires few { ii ≤ 16384 }
+    requires one { one.last ≤ 4294967296 }
+    requires other { other.first ≤ 4294967296 }
+    ensures value { result ≡ greatest_shift ii one other }
+    ensures low { neg_ℤ (pos 4294967296) ≤ℤ result }
+    ensures high { result ≤ℤ pos 4294967296 }
+{
+    (one.last as i64 - other.first as i64).div_euclid(ii as i64)
+}
+
+/// How far a candidate is above the first forbidden register, around the registers.
+pub(crate) fn distance_up(registers: usize, number: usize, low: i64, candidate: usize) -> usize
+    requires some { 1 ≤ registers }
+    requires few { registers ≤ 256 }
+    requires number { number < registers }
+    requires candidate { candidate < registers }
+    requires low { neg_ℤ (pos 4294967296) ≤ℤ low }
+    requires high { low ≤ℤ pos 4294967296 }
+    ensures value { result ≡ distance_up registers number low candidate }
+    ensures within { result < registers }
+{
+    (candidate as i64 - (number as i64 + low)).rem_euclid(registers as i64) as usize
+}
+
+/// Whether the candidate makes the other value meet the one in a register.
+pub(crate) fn forbids(
+    ii: u64,
+    registers: usize,
+    one: Lifetime,
+    number: usize,
+    other: Lifetime,
+    candidate: usize,
+) -> bool
+    requires some { 1 ≤ ii }
+    requires few { ii ≤ 16384 }
+    requires registers_some { 1 ≤ registers }
+    requires registers_few { registers ≤ 256 }
+    requires one { one.first ≤ one.last }
+    requires one_few { one.last ≤ 4294967296 }
+    requires other { other.first ≤ other.last }
+    requires other_few { other.last ≤ 4294967296 }
+    requires number { number < registers }
+    requires candidate { candidate < registers }
+    ensures { IsTrue result ↔ Forbids ii registers one number other candidate }
+{
+    let low = least_shift(ii, one, other);
+    low + distance_up(registers, number, low, candidate) as i64 <= greatest_shift(ii, one, other)
+}

@@ -1,5 +1,0 @@
-use Rattle.rotating.proofs.laws.ages_are_between.Goals as goal
-use Rattle.rotating.proofs.lives.Ages.{ages-are_between}
-
-pub returns : goal.returns
-returns c = ages-are_between

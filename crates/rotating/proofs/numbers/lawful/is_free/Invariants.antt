@@ -1,6 +1,0 @@
-use Rattle.std.proofs.Common.{take}
-use Rattle.rotating.specs.Residues.{IsFreeNumber}
-use Rattle.rotating.proofs.numbers.lawful.is_free.Given as goal
-
-abbrev pub invariant-loop-k : goal.invariant-loop-k
-invariant-loop-k l = IsFreeNumber l.ii l.registers (take l.k l.lives) l.numbers l.other l.number

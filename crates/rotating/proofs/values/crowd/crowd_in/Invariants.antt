@@ -1,6 +1,0 @@
-use Rattle.std.proofs.Common.{◌≡◌, ◌≤◌, ◌*◌}
-use Rattle.rotating.specs.Crowds.{crowd_in}
-use Rattle.rotating.proofs.values.crowd.crowd_in.Given as goal
-
-abbrev pub invariant-loop-k : goal.invariant-loop-k
-invariant-loop-k l = (l.crowd ≡ crowd_in l.ii l.row l.lives l.k) × (l.crowd ≤ l.k * 4294983680)
