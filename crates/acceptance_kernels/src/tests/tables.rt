@@ -1,15 +1,9 @@
 //! Listings over each of the three reservation tables: the same bytes.
 
-mod given;
-
 ghost use Rattle.std.specs.Prelude.{◌≤◌, ◌<◌};
 ghost use Rattle.ims.specs.Problems.{mii_of};
 
 use super::text_of;
-use given::{
-    CLUSTERED, COMPLEX_MULTIPLY, DOT_PRODUCT, FEW, FIR8, HISTOGRAM, MATRIX_ROW, PREFIX_SUM,
-    RECURRENCE2, SAXPY, SMALL_DSP, WIDE,
-};
 use ims::{Failure, Prepared, Schedule, Try, attempt};
 use loops::read_loops;
 use machine::{Machine, read_machine};
@@ -19,8 +13,9 @@ use std::alloc::{AllocError, Global};
 use std::process::Abort;
 use std::test::Fail;
 use worked_texts::{
-    ABS, ACC, ACCO, ALTS, CHAIN, EDGE, FAR, FORCE, HOLD, KEEP, LAST, LATE, LONE, M1, M2, M3, M4,
-    M5, M6, M7, M8, POW, SHIFT, SUM, THREE, TWO_REGISTERS, WRAP,
+    ABS, ACC, ACCO, ALTS, CHAIN, CLUSTERED, COMPLEX_MULTIPLY, DOT_PRODUCT, EDGE, FAR, FEW, FIR8,
+    FORCE, HISTOGRAM, HOLD, KEEP, LAST, LATE, LONE, M1, M2, M3, M4, M5, M6, M7, M8, MATRIX_ROW,
+    POW, PREFIX_SUM, RECURRENCE2, SAXPY, SHIFT, SMALL_DSP, SUM, THREE, TWO_REGISTERS, WIDE, WRAP,
 };
 
 /// The machines of the rows.

@@ -1,7 +1,8 @@
 //! The machines and loops of the gallery, in examples/gallery, without their comments, and a machine of the
 //! benchmarks.
 
-pub(super) const SMALL_DSP: &str = r#"registers = 16
+/// A signal processor with two buses, a multiplier and an adder.
+pub const SMALL_DSP: &str = r#"registers = 16
 units = ["bus_x", "bus_y", "mul", "alu"]
 [ops.load]
 latency = 2
@@ -23,7 +24,8 @@ latency = 1
 alts = [["alu@0"]]
 "#;
 
-pub(super) const CLUSTERED: &str = r#"registers = 16
+/// A machine of two clusters, whose loads return over a bus.
+pub const CLUSTERED: &str = r#"registers = 16
 units = ["l_a", "s_a", "m_a", "d_a", "back_a", "l_b", "s_b", "m_b", "d_b", "back_b"]
 [ops.load]
 latency = 5
@@ -45,7 +47,8 @@ latency = 1
 alts = [["l_a@0"], ["l_b@0"]]
 "#;
 
-pub(super) const WIDE: &str = r#"registers = 96
+/// A wide machine with many registers.
+pub const WIDE: &str = r#"registers = 96
 units = ["load0", "load1", "store0", "store1", "int0", "int1", "mul0", "mul1"]
 [ops.load]
 latency = 12
@@ -67,7 +70,8 @@ latency = 1
 alts = [["int0@0"], ["int1@0"], ["store0@0"], ["store1@0"], ["load0@0"], ["load1@0"]]
 "#;
 
-pub(super) const DOT_PRODUCT: &str = "\
+/// A dot product.
+pub const DOT_PRODUCT: &str = "\
 loop dot_product
 array a = 3 1 -4 1 5 -9 2 6
 array b = 2 7 1 -8 2 8 1 -8
@@ -80,7 +84,8 @@ out s
 end
 ";
 
-pub(super) const SAXPY: &str = "\
+/// A vector times a number, added to a vector.
+pub const SAXPY: &str = "\
 loop saxpy
 array x = 1 2 3 4 5 6 7 8
 array y = 10 20 30 40 50 60 70 80
@@ -93,7 +98,8 @@ store y[i] r
 end
 ";
 
-pub(super) const PREFIX_SUM: &str = "\
+/// A running sum of an array.
+pub const PREFIX_SUM: &str = "\
 loop prefix_sum
 array a = 5 -2 7 1 -6 4 3 8
 array b =
@@ -104,7 +110,8 @@ store b[i] s
 end
 ";
 
-pub(super) const FIR8: &str = "\
+/// A filter of eight taps.
+pub const FIR8: &str = "\
 loop fir8
 array x = 1 0 0 2 -1 3 0 5
 array y =
@@ -143,7 +150,8 @@ store y[i] s7
 end
 ";
 
-pub(super) const COMPLEX_MULTIPLY: &str = "\
+/// Products of complex numbers.
+pub const COMPLEX_MULTIPLY: &str = "\
 loop complex_multiply
 array xr = 1 2 0 -3 4 1
 array xi = 1 -1 2 5 0 1
@@ -166,7 +174,8 @@ store zi[i] im
 end
 ";
 
-pub(super) const HISTOGRAM: &str = "\
+/// A histogram of four classes.
+pub const HISTOGRAM: &str = "\
 loop histogram
 array x = 4 12 30 19 20 7 9 10
 array low = 0
@@ -192,7 +201,8 @@ store high[i+1] h1 if is_high
 end
 ";
 
-pub(super) const RECURRENCE2: &str = "\
+/// A recurrence over two iterations.
+pub const RECURRENCE2: &str = "\
 loop recurrence2
 array x = 1 0 0 0 2 0 0 0
 array y =
@@ -209,7 +219,8 @@ store y[i] y1
 end
 ";
 
-pub(super) const MATRIX_ROW: &str = "\
+/// A row of a product of matrices.
+pub const MATRIX_ROW: &str = "\
 loop matrix_row
 array m0 = 1 2 3 4
 array m1 = 0 1 0 1
@@ -256,7 +267,8 @@ end
 ";
 
 /// A machine whose reservation tables get into their own way.
-pub(super) const FEW: &str = r#"registers = 20
+/// A machine of the benchmarks with few registers.
+pub const FEW: &str = r#"registers = 20
 units = ["m0", "m1", "a0", "a1", "x0", "x1", "b0", "b1"]
 [ops.load]
 latency = 4
