@@ -1,10 +1,10 @@
 -- What a list of times and alternatives breaks first, case by case; and that it breaks one thing first.
-use Rattle.std.proofs.Common.{◌≡◌, ◌≢◌, ◌⊎◌, ℕ, pos, ◌+◌, ◌*◌, ◌/◌, ◌<◌, ◌≤◌, ◌^◌, ◌+ℤ◌, ◌≤ℤ◌, true, eqb, List, [], length, map, get_or, Some, refl, sym, ap, ◌∙◌, subst, inl, inr, arith}
+use Rattle.std.proofs.Common.{◌≡◌, ◌⊎◌, ℕ, pos, ◌+◌, ◌*◌, ◌/◌, ◌<◌, ◌≤◌, ◌^◌, ◌+ℤ◌, true, eqb, List, [], length, get_or, refl, sym, ap, ◌∙◌, subst, inl, inr, arith}
 use Rattle.std.specs.List.{All, slice_index, slice_get}
-use Rattle.std.proofs.lemmas.Bool.{cases_eq, cases_lt, and_parts, and_from, eqb-true, eq-eqb}
+use Rattle.std.proofs.lemmas.Bool.{cases_lt, and_parts, and_from, eqb-true, eq-eqb}
 use Rattle.std.proofs.lemmas.Int.{ints}
 use Rattle.std.proofs.lemmas.List.{get_or_default, length-map}
-use Rattle.std.proofs.lemmas.Option.{same_Some, slice_get-get_or, slice_get_within, get_or_from_slice_get}
+use Rattle.std.proofs.lemmas.Option.{same_Some, slice_get_within, get_or_from_slice_get}
 use Rattle.machine_data.specs.declared.alternative.Row.{Row}
 use Rattle.machine_data.specs.Alternative.{residue_of, rows_meet}
 use Rattle.graph.specs.Dependences.{EdgeData}
@@ -12,10 +12,10 @@ use Rattle.graph.specs.Schedules.{KeepsEdge, KeepsUnits, issued_rows}
 use Rattle.mrt.specs.Placements.{OperationAlternatives, Placements, rows_of}
 use Rattle.modulo.specs.declared.schedules.breach.Breach.{Breach}
 use Rattle.modulo.specs.declared.schedules.breach.Breach.TheVariants.{Count, Time, Alternative, Slot, Edge, Stage}
-use Rattle.modulo.specs.Breaches.{times_in, choices_in, IsInRange, AreInRange, BreaksTime, BreaksAlternative, ComesBefore, TakesSlot, BreaksSlot, IsFirstUnkept, BreaksEdge, BreaksStage, IsFirstBreach}
+use Rattle.modulo.specs.Breaches.{times_in, choices_in, IsInRange, AreInRange, BreaksTime, BreaksAlternative, ComesBefore, TakesSlot, BreaksSlot, IsFirstUnkept, BreaksStage, IsFirstBreach}
 use Rattle.modulo.specs.Problems.{ProblemData, IsProblem}
 use Rattle.modulo.specs.Promises.{BreachesBreak, OneBreach}
-use Rattle.modulo.specs.Schedules.{ScheduleData, IsSchedule, as_listed}
+use Rattle.modulo.specs.Schedules.{IsSchedule, as_listed}
 use Rattle.modulo.specs.inner.Listed.{IsFirstTaken}
 use Rattle.modulo.proofs.lawfulness.Checking.{ArePlaced, takes_from, taken_where, none_before, time_at, choice_at}
 use Rattle.modulo.proofs.lawfulness.Stages.{time_below}

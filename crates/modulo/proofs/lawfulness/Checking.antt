@@ -1,5 +1,5 @@
 -- The first operations of a list are placed in a table, and a row of the next one takes the slot of a row before it, or none does.
-use Rattle.std.proofs.Common.{◌≡◌, ◌≢◌, ℕ, suc, ◌+◌, ◌%◌, ◌<◌, ◌≤◌, ◌^◌, true, false, ◌||◌, eqb, List, [], ◌∷◌, length, map, take, get_or, set, Some, None, refl, sym, ap, ◌∙◌, subst, inl, inr, arith, length-set}
+use Rattle.std.proofs.Common.{◌≡◌, ◌≢◌, ℕ, suc, ◌+◌, ◌%◌, ◌<◌, ◌≤◌, true, false, ◌||◌, eqb, List, [], ◌∷◌, length, take, get_or, set, Some, None, refl, sym, ap, ◌∙◌, subst, inl, inr, arith, length-set}
 use Rattle.std.specs.List.{slice_index, list_any, slice_get}
 use Rattle.std.specs.Option.{option_flatten}
 use Rattle.std.proofs.lemmas.Bool.{cases_eq, cases_lt, cases_Bool, both_ways, and_parts, and_from, eqb-true, eq-eqb}
@@ -10,11 +10,11 @@ use Rattle.std.proofs.Math.Nat.{add-mod-mod}
 use Rattle.machine_data.specs.declared.alternative.Row.{Row}
 use Rattle.machine_data.specs.Alternative.{residue_of, rows_meet, collides}
 use Rattle.graph.specs.Schedules.{KeepsUnits, issued_rows}
-use Rattle.mrt.specs.Placements.{OperationAlternatives, Placements, Placement, placement_of, alternatives_of, rows_of, IsFree, Holds, IsHolder}
+use Rattle.mrt.specs.Placements.{OperationAlternatives, Placements, Placement, placement_of, alternatives_of, rows_of, IsFree, IsHolder}
 use Rattle.mrt.specs.Taken.{AreApart}
 use Rattle.mrt.proofs.searching.Scheduling.{AreApart-claimed, fits_from_no_holders}
 use Rattle.mrt.proofs.placements.Lists.{list_any_place, slice_get-set_same, slice_get-set_other}
-use Rattle.modulo.specs.Breaches.{times_in, choices_in, ComesBefore, TakesSlot}
+use Rattle.modulo.specs.Breaches.{times_in, choices_in, TakesSlot}
 use Rattle.modulo.specs.declared.schedules.breach.Breach.{Breach}
 use Rattle.modulo.specs.declared.schedules.breach.Breach.TheVariants.{Slot}
 use Rattle.modulo.specs.inner.Listed.{IsTaken, IsFirstTaken}
@@ -245,15 +245,18 @@ module _ (ii : ℕ) (operations : OperationAlternatives) (places : List (ℕ × 
               = same_Some h.at (record { time = slice_index times earlier; alternative = slice_index choices earlier }) (sym h.is_placed ∙ are.each earlier before) in
               let rows : List Row = issued_rows operations choices earlier in
               let theirs : rows_of operations earlier h.at.alternative ≡ rows = ap (λ (p : Placement). rows_of operations earlier p.alternative) is in
-              let i_there : h.own < length rows = subst (λ (l : List Row). h.own < length l) theirs h.own_there in
-              (h.own, record {
-                row = row;
-                is_row = taken.is_row;
-                other = get_or rows h.own row;
-                is_other = slice_get-get_or rows h.own row i_there;
-                before = inl before;
-                meet = subst (λ (p : Placement). rows_meet ii row time (get_or (rows_of operations earlier p.alternative) h.own row) p.time ≡ true) is h.same;
-              }, refl)
+              let i_there : h.own < length rows = subst (λ (l : List Row). h.own < length l) theirs h.own_there in (
+                h.own,
+                record {
+                  row = row;
+                  is_row = taken.is_row;
+                  other = get_or rows h.own row;
+                  is_other = slice_get-get_or rows h.own row i_there;
+                  before = inl before;
+                  meet = subst (λ (p : Placement). rows_meet ii row time (get_or (rows_of operations earlier p.alternative) h.own row) p.time ≡ true) is h.same;
+                },
+                refl,
+              )
           | inr h ↦
               let k = met_before ii own j row row j_there h.1 in
               let i : ℕ = k.0 in
@@ -295,8 +298,11 @@ module _ (ii : ℕ) (operations : OperationAlternatives) (places : List (ℕ × 
               record {
                 row = row;
                 is_row = takes.is_row;
-                how = inr (h.0, meets_before ii own k l row row h.1 l_there
-                    (subst (λ (r : Row). rows_meet ii row 0 r 0 ≡ true) (sym here) (meet_at_zero ii row takes.other time some meet)));
+                how = inr (
+                  h.0,
+                  meets_before ii own k l row row h.1 l_there
+                      (subst (λ (r : Row). rows_meet ii row 0 r 0 ≡ true) (sym here) (meet_at_zero ii row takes.other time some meet)),
+                );
               }
         ]
 

@@ -1,4 +1,4 @@
-use Rattle.std.proofs.Common.{ℕ, ◌/◌, ◌<◌, ◌≤◌, length, sym, subst, arith}
+use Rattle.std.proofs.Common.{◌/◌, ◌<◌, ◌≤◌, length, sym, subst, arith}
 use Rattle.modulo.proofs.lawfulness.Checking.{time_at}
 use Rattle.modulo.proofs.schedules.check.late.Goals as goal
 
