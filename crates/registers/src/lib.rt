@@ -1,11 +1,14 @@
 //! Rotating registers for values: when each of a list of values lives, how many live at once, which numbers are
-//! lawful and which values meet where they are not, and the least numbers. It knows issue times and lists of values and reads, and neither loops nor schedules.
+//! lawful, which values meet where they are not, and the least numbers. It knows issue times and lists of values and
+//! reads, and neither loops nor schedules.
 #![tactic(auto)]
 
 mod laws;
 mod lifetime;
 mod meeting;
 mod numbers;
+#[cfg(test)]
+mod tests;
 mod value;
 mod values;
 

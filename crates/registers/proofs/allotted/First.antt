@@ -11,7 +11,7 @@ use Rattle.registers.specs.declared.lifetime.Lifetime.{Lifetime}
 use Rattle.registers.specs.declared.meeting.Meeting.{Meeting}
 use Rattle.registers.specs.Allotments.{DoMeet, IsLawfulAllotment}
 use Rattle.registers.specs.Meetings.{IsFirstMeeting, MeetingsAreUnlawful}
-use Rattle.registers.specs.Residues.{Forbids, FitsItself, IsFreeNumber}
+use Rattle.registers.specs.Residues.{Forbids, IsFreeNumber}
 use Rattle.registers.specs.inner.Forbidding.{MeetIn, IsFirstForbidding}
 use Rattle.registers.proofs.Whole.{times-more}
 use Rattle.registers.proofs.allotted.Filled.{life-take, number-take, meets-same}
@@ -46,8 +46,8 @@ forbids-more ii registers lives numbers y c k i j some long lt m =
         m.one,
         there,
         subst (λ (o : Lifetime). Forbids ii registers m.one (slice_index numbers k) o c) is_last
-        (subst (λ n. Forbids ii registers m.one (slice_index numbers k) m.other n) (number-last numbers c (length lives) (sym long))
-        (subst (λ n. Forbids ii registers m.one n m.other (slice_index (numbers ++ c ∷ []) (length lives))) (number-left numbers c k (omega arith)) f)),
+            (subst (λ n. Forbids ii registers m.one (slice_index numbers k) m.other n) (number-last numbers c (length lives) (sym long))
+            (subst (λ n. Forbids ii registers m.one n m.other (slice_index (numbers ++ c ∷ []) (length lives))) (number-left numbers c k (omega arith)) f)),
       )
       | inr last ↦ let l = last.0 in absurd (omega arith)
     ]
@@ -69,7 +69,7 @@ first-before ii registers lives numbers one y c k cycle some lt lawful there f m
         other = y;
         is_other = place-last lives y;
         same_register = ap (λ n. physical registers n met.iteration) (number-left numbers c k (omega arith)) ∙ met.same_register
-        ∙ ap (λ n. physical registers n (pos 0)) (sym (number-last numbers c (length lives) (sym long)));
+            ∙ ap (λ n. physical registers n (pos 0)) (sym (number-last numbers c (length lives) (sym long)));
         cycle = pos cycle;
         one_lives = met.one_lives;
         other_lives = met.other_lives;
@@ -77,7 +77,7 @@ first-before ii registers lives numbers one y c k cycle some lt lawful there f m
       is_cycle = refl;
       is_register = number-register registers numbers c (length lives) lt (sym long);
       lawful_before = subst (λ ls. IsLawfulAllotment ii registers ls (take (length lives) (numbers ++ c ∷ []))) (sym (take-append_seam lives (y ∷ [])))
-      (subst (IsLawfulAllotment ii registers lives) (sym (ap (λ n. take n (numbers ++ c ∷ [])) (sym long) ∙ take-append_seam numbers (c ∷ []))) lawful);
+          (subst (IsLawfulAllotment ii registers lives) (sym (ap (λ n. take n (numbers ++ c ∷ [])) (sym long) ∙ take-append_seam numbers (c ∷ []))) lawful);
       none_before = λ n i j before m.
           let g = forbids-more ii registers lives numbers y c n i j some long (omega arith) m in
           f.none_before n g.0 (at-taken lives k n g.0 g.1 before) g.2;
@@ -121,7 +121,7 @@ first-itself ii registers lives numbers y c some regs lt order lawful free long_
       is_cycle = refl;
       is_register = number-register registers numbers c (length lives) lt (sym long);
       lawful_before = subst (λ ls. IsLawfulAllotment ii registers ls (take (length lives) (numbers ++ c ∷ []))) (sym (take-append_seam lives (y ∷ [])))
-      (subst (IsLawfulAllotment ii registers lives) (sym (ap (λ n. take n (numbers ++ c ∷ [])) (sym long) ∙ take-append_seam numbers (c ∷ []))) lawful);
+          (subst (IsLawfulAllotment ii registers lives) (sym (ap (λ n. take n (numbers ++ c ∷ [])) (sym long) ∙ take-append_seam numbers (c ∷ []))) lawful);
       none_before = λ n i j less m.
           let f = forbids-more ii registers lives numbers y c n i j regs long less m in
           free n f.0 f.1 f.2;
@@ -153,7 +153,7 @@ first-whole ii registers lives numbers n meeting first =
       is_cycle = first.is_cycle;
       is_register = ap (λ c. physical registers c (pos 0)) (sym (index-taken numbers n meeting.later ln)) ∙ first.is_register;
       lawful_before = subst (λ ls. IsLawfulAllotment ii registers ls (take meeting.later numbers)) (take-twice lives meeting.later n (omega arith))
-      (subst (IsLawfulAllotment ii registers (take meeting.later (take n lives))) (take-twice numbers meeting.later n (omega arith)) first.lawful_before);
+          (subst (IsLawfulAllotment ii registers (take meeting.later (take n lives))) (take-twice numbers meeting.later n (omega arith)) first.lawful_before);
       none_before = λ k i j less h. first.none_before k i j less (record {
         one = h.one;
         is_one = at-taken lives n k h.one h.is_one (omega arith);

@@ -5,9 +5,8 @@ use Rattle.std.specs.Int.{int_max}
 use lib.Dec.{T}
 use lib.Signed.{non_neg}
 use Rattle.std.proofs.lemmas.Int.{ints, clamps, to_z-of_z}
-use Rattle.registers.specs.Physical.{physical}
 use Rattle.registers.specs.declared.lifetime.Lifetime.{Lifetime}
-use Rattle.registers.specs.Residues.{least_shift, greatest_shift, distance_up, Forbids, IsLifeSpan}
+use Rattle.registers.specs.Residues.{least_shift, Forbids, IsLifeSpan}
 use Rattle.registers.specs.inner.Forbidding.{first_shift, MeetIn}
 use Rattle.registers.proofs.allotted.More.{mul-less}
 use Rattle.registers.proofs.allotted.Shifts.{up-above, down-below, round, round-shift, same-at_first, forbids-between}
@@ -19,8 +18,7 @@ pub shift-between : (ii registers number candidate : ℕ) (one other : Lifetime)
     × ((first_shift ii registers one number other candidate *ℤ pos ii) ≤ℤ (pos one.last -ℤ pos other.first))
 shift-between ii registers number candidate one other some regs oh ot forbids =
     let shift : ℤ = first_shift ii registers one number other candidate in
-    let lowest : least_shift ii one other ≤ℤ shift = omega (arith, ints) in
-    (
+    let lowest : least_shift ii one other ≤ℤ shift = omega (arith, ints) in (
       up-above shift (pos one.first -ℤ pos other.last) ii some lowest,
       down-below shift (pos one.last -ℤ pos other.first) ii some ((forbids-between ii registers number candidate one other some regs oh ot).0 forbids),
     )
@@ -53,8 +51,8 @@ met-in ii registers number candidate cycle one other some regs oh ot forbids is 
     record {
       iteration = pos 0 -ℤ shift;
       same_register = ap (round registers) (sym left)
-      ∙ round-shift registers (pos number -ℤ pos 0) (pos candidate -ℤ shift) shift regs (same-at_first registers number candidate (least_shift ii one other) regs)
-      ∙ ap (round registers) right;
+          ∙ round-shift registers (pos number -ℤ pos 0) (pos candidate -ℤ shift) shift regs (same-at_first registers number candidate (least_shift ii one other) regs)
+          ∙ ap (round registers) right;
       one_lives = record { begun = omega (arith, ints, clamps); lasts = omega (arith, ints, clamps) };
       other_lives = record { begun = omega (arith, ints, clamps); lasts = omega (arith, ints, clamps) };
     }

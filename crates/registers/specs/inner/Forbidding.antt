@@ -5,7 +5,7 @@ use Rattle.registers.specs.declared.lifetime.Lifetime.{Lifetime}
 use Rattle.registers.specs.Lifetimes.{IsLiveIn}
 use Rattle.registers.specs.Residues.{least_shift, distance_up, Forbids, IsFreeNumber}
 
--- the least difference of iterations from the least one on at which the candidate is the register of the one value's instance
+-- the first difference of iterations, from the least one on, at which the candidate puts the other value's instance into the register of the one's
 abbrev pub first_shift : ℕ → ℕ → Lifetime → ℕ → Lifetime → ℕ → ℤ
 first_shift ii registers one number other candidate =
     least_shift ii one other +ℤ pos (distance_up registers number (least_shift ii one other) candidate)

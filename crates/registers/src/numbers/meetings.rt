@@ -108,14 +108,14 @@ pub fn first_meeting(
     ensures exact { MatchOption result (IsLawfulAllotment ii registers lives.now numbers.now)
         (IsFirstMeeting ii registers lives.now numbers.now) }
 {
-    for k in 0..lives.len() {
+    for later in 0..lives.len() {
         let met = first_meeting_more(
             ii,
             registers,
-            &lives[..k],
-            &numbers[..k],
-            lives[k],
-            numbers[k],
+            &lives[..later],
+            &numbers[..later],
+            lives[later],
+            numbers[later],
         );
         if let Some(meeting) = met {
             return Some(meeting);

@@ -46,8 +46,8 @@ pub(crate) fn distance_up(registers: usize, number: usize, low: i64, candidate: 
     (candidate as i64 - (number as i64 + low)).rem_euclid(registers as i64) as usize
 }
 
-/// The least difference from the least one on at which the candidate makes the other value's instance stand in the
-/// register of the one's, whether or not the two still share a cycle there.
+/// The first difference, from the least one on, at which the candidate puts the other value's instance into the register
+/// of the one's. It may be past the greatest one; then the two meet in no register.
 fn first_shift(
     ii: u64,
     registers: usize,

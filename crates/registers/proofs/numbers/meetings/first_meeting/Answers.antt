@@ -7,8 +7,8 @@ use Rattle.registers.proofs.numbers.meetings.first_meeting.Goals as goal
 pub returns-in-Some : goal.returns-in-Some
 returns-in-Some c =
     let none : Lifetime = record { operation = 0; first = 0; last = 0 } in
-    let t : c.loop-k.k < length c.args.lives.now = c.loop-k-test.true in
+    let t : c.loop-later.later < length c.args.lives.now = c.loop-later-test.true in
     let each = c.requires.each in
     record {
-      exact = first-more c.args.ii c.args.registers c.args.lives.now c.args.numbers.now c.loop-k.k _ c.in-Some.meeting (one-there c.args.lives.now c.loop-k.k none t) (omega arith) c.in-Some.ensures;
+      exact = first-more c.args.ii c.args.registers c.args.lives.now c.args.numbers.now c.loop-later.later _ c.in-Some.meeting (one-there c.args.lives.now c.loop-later.later none t) (omega arith) c.in-Some.ensures;
     }

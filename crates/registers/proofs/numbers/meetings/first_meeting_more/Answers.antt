@@ -1,5 +1,5 @@
-use Rattle.std.proofs.Common.{rules, ◌<◌, length, arith}
-use Rattle.registers.specs.Residues.{FitsItself, IsFreeNumber}
+use Rattle.std.proofs.Common.{◌<◌, length, arith}
+use Rattle.registers.specs.Residues.{FitsItself}
 use Rattle.registers.proofs.allotted.First.{first-before, first-itself}
 use Rattle.registers.proofs.allotted.Freed.{one-there}
 use Rattle.registers.proofs.allotted.Least.{place-within}

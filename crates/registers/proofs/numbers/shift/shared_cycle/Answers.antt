@@ -1,8 +1,7 @@
-use Rattle.std.proofs.Common.{rules, ◌≡◌, ℕ, ◌<◌, ◌≤◌, ℤ, pos, ◌-ℤ◌, refl, sym, ap, ◌∙◌, subst, arith, FitsSigned, to_z, of_z, w64}
-use Rattle.std.specs.Prelude.{◌*ℤ◌, ◌≤ℤ◌}
-use Rattle.std.proofs.lemmas.Int.{ints, to_z-of_z}
-use Rattle.std.specs.Int.{int_max}
-use Rattle.registers.specs.inner.Forbidding.{first_shift, MeetIn}
+use Rattle.std.proofs.Common.{rules, ℤ, pos, ◌-ℤ◌, sym, subst, arith, FitsSigned, w64}
+use Rattle.std.specs.Prelude.{◌*ℤ◌}
+use Rattle.std.proofs.lemmas.Int.{ints}
+use Rattle.registers.specs.inner.Forbidding.{first_shift}
 use Rattle.registers.proofs.allotted.Shared.{product-small, met-in, fits-between, product-is, begin-is, max-is, cycle-is, cast-fits}
 use Rattle.registers.proofs.numbers.shift.shared_cycle.Goals as goal
 
