@@ -1,9 +1,9 @@
-use Rattle.std.proofs.Common.{◌≡◌, ◌<◌, ◌+◌, ℕ, List, [], ◌∷◌, ◌++◌, false, max, length, get_or, map, set, take, drop, sym, ap, ◌∙◌, arith, append-nil, append_assoc}
-use Rattle.std.specs.Prelude.{slice_index, replicate, if◌then◌else◌}
+use Rattle.std.proofs.Common.{◌≡◌, ◌<◌, ◌+◌, ℕ, List, [], ◌∷◌, ◌++◌, false, max, length, get_or, map, take, drop, sym, ap, ◌∙◌, arith, append-nil, append_assoc}
+use Rattle.std.specs.Prelude.{slice_index, if◌then◌else◌}
 use Rattle.registers.specs.declared.lifetime.Lifetime.{Lifetime}
 use Rattle.registers.specs.declared.value.Value.{Value}
 use Rattle.registers.specs.declared.value.Read.{Read}
-use Rattle.registers.specs.Values.{greatest_of, landing_of, first_cycle, last_read, live_of, lives_from, lives_of, read_at, reads_of}
+use Rattle.registers.specs.Values.{greatest_of, landing_of, first_cycle, live_of, lives_from, lives_of, read_at, reads_of}
 use Rattle.registers.specs.inner.Lasts.{last_or}
 use Rattle.registers.proofs.lives.Listed.{behind-more, drop-at, drop-none, last-is, put-front, zero-at}
 use Rattle.registers.proofs.values.lives.fill_lives.Goals as goal
