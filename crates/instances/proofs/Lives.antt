@@ -1,18 +1,17 @@
 -- What lifetimes give: they begin no later than the landing, last to each read, and those of initial values are there at the start.
-use Rattle.std.proofs.Common.{◌≡◌, ◌⊎◌, ℕ, suc, zero, ◌+◌, ◌-◌, ◌*◌, ◌<◌, ◌≤◌, min, max, Bool, true, false, eqb, List, [], ◌∷◌, length, map, Some, ℤ, pos, negsuc, ◌+ℤ◌, ◌-ℤ◌, refl, sym, ap, ◌∙◌, subst, inl, inr, arith}
-use Rattle.std.specs.Prelude.{slice_get, slice_index, if◌then◌else◌, ◌*ℤ◌, ◌≤ℤ◌}
+use Rattle.std.proofs.Common.{◌≡◌, ◌⊎◌, ℕ, suc, zero, ◌+◌, ◌-◌, ◌*◌, ◌<◌, ◌≤◌, min, max, Bool, true, false, eqb, List, [], ◌∷◌, length, map, Some, pos, negsuc, ◌-ℤ◌, refl, sym, ap, ◌∙◌, subst, inl, inr, arith}
+use Rattle.std.specs.Prelude.{slice_get, if◌then◌else◌, ◌*ℤ◌}
 use Rattle.std.proofs.lemmas.Bool.{cases_Bool, cases_eq, cases_lt, eq-eqb, ne_eqb, cond-true, cond-false, true≢false}
 use Rattle.std.proofs.lemmas.Int.{ints}
-use Rattle.std.proofs.lemmas.List.Elements.{All-get_or}
 use Rattle.std.proofs.lemmas.Option.{get_or_from_slice_get, slice_get-get_or, slice_get_within}
 use Rattle.std.proofs.Math.IntN.{negsuc-*ℤ-pos}
 use Rattle.registers.specs.declared.lifetime.Lifetime.{Lifetime}
 use Rattle.registers.specs.declared.value.Value.{Value}
 use Rattle.registers.specs.declared.value.Read.{Read}
 use Rattle.registers.specs.Lifetimes.{IsLiveIn}
-use Rattle.registers.specs.Values.{IsRead, greatest_of, reads_of, carried, landing_of, read_at, last_read, first_cycle, live_of, lives_from, lives_of}
+use Rattle.registers.specs.Values.{greatest_of, reads_of, landing_of, read_at, last_read, first_cycle, live_of, lives_from, lives_of}
 use Rattle.registers.proofs.Whole.{times-more}
-use Rattle.instances.specs.Runs.{RunData, IsRun, carried_by, landing, reading_cycle, value_of}
+use Rattle.instances.specs.Runs.{RunData, IsRun, carried_by, landing, value_of}
 
 -- an iteration so many before another one, in cycles
 pub times-back : (j d ii : ℕ) → ((pos j -ℤ pos d) *ℤ pos ii) ≡ (pos (ii * j) -ℤ pos (ii * d))

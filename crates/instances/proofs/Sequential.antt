@@ -1,14 +1,12 @@
 -- The values of overlapped runs, and of runs of one iteration after another.
-use Rattle.std.proofs.Common.{◌≡◌, ◌⊎◌, ℕ, suc, zero, ◌+◌, ◌-◌, ◌*◌, ◌<◌, ◌≤◌, false, eqb, leb, List, [], ◌∷◌, length, map, Some, refl, sym, ap, ◌∙◌, subst, inl, inr, arith}
+use Rattle.std.proofs.Common.{◌≡◌, ℕ, suc, zero, ◌+◌, ◌-◌, ◌*◌, ◌<◌, ◌≤◌, false, eqb, leb, List, [], ◌∷◌, length, map, Some, refl, sym, ap, ◌∙◌, subst, inl, inr, arith}
 use Rattle.std.specs.Prelude.{slice_get}
 use Rattle.std.proofs.lemmas.Bool.{cases_eq, cases_lt, eq-eqb, ne_eqb, le-leb, lt-leb, cond-true, cond-false}
 use Rattle.std.proofs.lemmas.List.{length-map}
-use Rattle.registers.specs.declared.value.Value.{Value}
 use Rattle.registers.specs.declared.value.Read.{Read}
-use Rattle.registers.specs.Values.{IsValue}
 use Rattle.registers.proofs.Whole.{times-more}
-use Rattle.instances.specs.Runs.{Place, RunData, IsRun, IsOpening, StandsIn, carried_by, preloaded, reading_cycle, source, value_of}
-use Rattle.instances.specs.Histories.{reads_by, Computes, Initials, History, got, IsSequential, Gives, AreGiven, IsOverlapped, AreSame}
+use Rattle.instances.specs.Runs.{Place, RunData, IsRun, StandsIn, reading_cycle, source, value_of}
+use Rattle.instances.specs.Histories.{reads_by, Computes, Initials, History, got, IsSequential, Gives, IsOverlapped}
 use Rattle.instances.specs.Promises.{GoForward, RunsAreSequential}
 use Rattle.instances.proofs.Lives.{read-within, carried-far}
 use Rattle.instances.proofs.Standing.{read-lands, read-opens}
@@ -97,8 +95,10 @@ module _ {V : Type 0} (run : RunData) (is : IsRun run) (trip : ℕ) (initial : I
   gives-got history = elim (cases_lt i r.distance) [
     | inl lt ↦
         let far = carried-far run is n r there in
-        inr (read-opens run is n r there trip i lt,
-        (r.value, r.distance - i, read-within run is n r there, omega arith, omega arith, sym (opening-read run is r i lt), got-initial initial history i r lt))
+        inr (
+          read-opens run is n r there trip i lt,
+          (r.value, r.distance - i, read-within run is n r there, omega arith, omega arith, sym (opening-read run is r i lt), got-initial initial history i r lt),
+        )
     | inr le ↦ inl (r.value, i - r.distance, read-lands run is n r there trip i within le, got-value initial history i r le)
   ]
 
@@ -162,7 +162,7 @@ read-earlier run is forward v n i r at le =
     let in_v = read-within run is b.0 r b.1 in (
       in_v,
       comes-before (length run.times) i r.distance (value_of run r.value).maker (value_of run v).maker le (maker-within run is r.value in_v)
-      (λ none. let f = forward b.0 r b.1 none in let e = b.2 in omega arith),
+          (λ none. let f = forward b.0 r b.1 none in let e = b.2 in omega arith),
     )
 
 module _ {V : Type 0} (run : RunData) (is : IsRun run) (forward : GoForward run) (compute : Computes V) (initial : Initials V) where

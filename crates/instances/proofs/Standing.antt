@@ -1,11 +1,10 @@
 -- What stands in a place: nothing that lands there disturbs an instance that lives.
-use Rattle.std.proofs.Common.{◌≡◌, ◌⊎◌, ℕ, ◌+◌, ◌-◌, ◌*◌, ◌<◌, ◌≤◌, true, length, Some, ℤ, pos, ◌+ℤ◌, ◌-ℤ◌, refl, sym, ap, ◌∙◌, inl, inr, arith}
+use Rattle.std.proofs.Common.{◌≡◌, ◌⊎◌, ℕ, ◌+◌, ◌-◌, ◌*◌, ◌<◌, ◌≤◌, length, Some, ℤ, pos, ◌+ℤ◌, ◌-ℤ◌, refl, sym, ap, ◌∙◌, inl, inr, arith}
 use Rattle.std.specs.Prelude.{slice_get, ◌*ℤ◌, ◌≤ℤ◌, ◌<ℤ◌}
 use Rattle.std.proofs.lemmas.Int.{ints}
 use Rattle.registers.specs.declared.value.Read.{Read}
-use Rattle.registers.specs.Values.{landing_of, read_at}
 use Rattle.registers.proofs.Whole.{cases-int, times-more}
-use Rattle.instances.specs.Runs.{Place, RunData, IsRun, IsOpening, StandsIn, carried_by, destination, landing, place_of, preloaded, reading_cycle, source, value_of}
+use Rattle.instances.specs.Runs.{Place, RunData, IsRun, IsOpening, StandsIn, destination, landing, place_of, reading_cycle, source, value_of}
 use Rattle.instances.specs.Promises.{EndsHoldLast, RegistersHoldInstances}
 use Rattle.instances.proofs.Turned.{destination-is, source-is}
 use Rattle.instances.proofs.Lives.{life, life-there, times-back, read-within, carried-far, begins-by_landing, begins-by_interval, lasts-to_read, lasts-to_end, lands-by_end, lives-at_landing, value-there}
@@ -17,15 +16,15 @@ pub before-or_same : (run : RunData) → IsRun run → (v w : ℕ) (i : ℤ) (l 
 before-or_same run is v w i l in_v in_w same late =
     elim (cases-int (pos (life run v).first +ℤ (i *ℤ pos run.ii)) (pos (landing run w l))) [
       | inl met ↦ inl (is.apart v w i (pos l) (record {
-          one = life run v;
-          is_one = life-there run v in_v;
-          other = life run w;
-          is_other = life-there run w in_w;
-          same_place = same;
-          cycle = pos (landing run w l);
-          one_lives = record { begun = met; lasts = late };
-          other_lives = lives-at_landing run is w l in_w;
-        }))
+        one = life run v;
+        is_one = life-there run v in_v;
+        other = life run w;
+        is_other = life-there run w in_w;
+        same_place = same;
+        cycle = pos (landing run w l);
+        one_lives = record { begun = met; lasts = late };
+        other_lives = lives-at_landing run is w l in_w;
+      }))
       | inr before ↦ inr before
     ]
 

@@ -1,12 +1,12 @@
 -- Names of registers in turns, and of instances.
 use Rattle.std.proofs.Common.{◌≡◌, ℕ, suc, zero, ◌+◌, ◌-◌, ◌*◌, ◌%◌, ◌/◌, ◌<◌, ◌≤◌, List, [], ◌∷◌, get_or, Some, ℤ, pos, negsuc, ◌+ℤ◌, ◌-ℤ◌, refl, sym, ap, ◌∙◌, arith}
-use Rattle.std.specs.Prelude.{slice_get, unsigned_abs}
+use Rattle.std.specs.Prelude.{unsigned_abs}
 use Rattle.std.specs.Int.{int_rem_euclid}
 use Rattle.std.proofs.lemmas.Int.{ints, int_rem_euclid_is}
 use Rattle.std.proofs.Math.Nat.{mul-le-mul_left, div-add-mod', add-mul-mod_self_right}
 use Rattle.registers.specs.declared.value.Read.{Read}
 use Rattle.registers.specs.Physical.{physical}
-use Rattle.instances.specs.Runs.{Place, Home, InRegister, Alone, Rotates, Unallotted, RunData, AreHomes, value_of, home_of, place_in, place_of, stage_of, destination_in, destination, source_in, source, preloaded_in, preloaded}
+use Rattle.instances.specs.Runs.{Home, InRegister, Rotates, Unallotted, RunData, AreHomes, value_of, home_of, place_in, place_of, stage_of, destination_in, destination, source_in, source, preloaded_in, preloaded}
 use Rattle.instances.specs.Promises.{NamesAreOfInstances}
 
 -- the physical register of a name in a turn, with so many rounds added that nothing is below 0

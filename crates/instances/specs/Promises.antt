@@ -2,7 +2,7 @@
 use Rattle.std.specs.Prelude.{◌≡◌, ◌↔◌, ℕ, pos, ◌+◌, ◌-◌, ◌*◌, ◌/◌, ◌%◌, ◌-ℤ◌, ◌<◌, ◌≤◌, true, length, Some, slice_get}
 use Rattle.registers.specs.declared.value.Read.{Read}
 use Rattle.registers.specs.Physical.{physical}
-use Rattle.instances.specs.Runs.{Place, RunData, IsRun, AreHomes, IsOpening, StandsIn, carried_by, destination, place_of, preloaded, reading_cycle, source, value_of}
+use Rattle.instances.specs.Runs.{RunData, IsRun, AreHomes, IsOpening, StandsIn, carried_by, destination, place_of, preloaded, reading_cycle, source, value_of}
 use Rattle.instances.specs.Histories.{AreSame, Computes, History, Initials, IsOverlapped, IsSequential}
 
 -- an operation of this time in iteration 0 is issued in the turns from its stage on, so many, in its row, and in just the cycles of
