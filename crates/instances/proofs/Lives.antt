@@ -1,7 +1,7 @@
 -- What lifetimes give: they begin no later than the landing, last to each read, and those of initial values are there at the start.
 use Rattle.std.proofs.Common.{◌≡◌, ◌⊎◌, ℕ, suc, zero, ◌+◌, ◌-◌, ◌*◌, ◌<◌, ◌≤◌, min, max, Bool, true, false, eqb, List, [], ◌∷◌, length, map, Some, pos, negsuc, ◌-ℤ◌, refl, sym, ap, ◌∙◌, subst, inl, inr, arith}
 use Rattle.std.specs.Prelude.{slice_get, if◌then◌else◌, ◌*ℤ◌}
-use Rattle.std.proofs.lemmas.Bool.{cases_Bool, cases_eq, cases_lt, eq-eqb, ne_eqb, cond-true, cond-false, true≢false}
+use Rattle.std.proofs.lemmas.Bool.{cases_Bool, cases_eq, cases_lt, eq-eqb, ne_eqb, cond-true, cond-false, cond_both, true≢false}
 use Rattle.std.proofs.lemmas.Int.{ints}
 use Rattle.std.proofs.lemmas.Option.{get_or_from_slice_get, slice_get-get_or, slice_get_within}
 use Rattle.std.proofs.Math.IntN.{negsuc-*ℤ-pos}
@@ -143,16 +143,14 @@ last-late f landing v (r ∷ reads) all = elim (cases_eq r.value v) [
 -- a value's lifetime
 
 first-early : (ii landing iterations : ℕ) → first_cycle ii landing iterations ≤ landing
-first-early ii landing iterations = elim (cases_eq iterations 0) [
-  | inl none ↦ let e = cond-true (eqb iterations 0) landing (min landing ii) (eq-eqb iterations 0 none) in omega arith
-  | inr some ↦ let e = cond-false (eqb iterations 0) landing (min landing ii) (ne_eqb iterations 0 some) in omega arith
-]
+first-early ii landing iterations =
+    cond_both (eqb iterations 0) landing (min landing ii) (λ n. n ≤ landing) (λ _. omega arith) (λ _. omega arith)
 
 first-interval : (ii landing iterations : ℕ) → 1 ≤ iterations → first_cycle ii landing iterations ≤ ii
 first-interval ii landing iterations some =
     let e = cond-false (eqb iterations 0) landing (min landing ii) (ne_eqb iterations 0 (λ z. omega arith)) in omega arith
 
-if-on : (b : Bool) (n : ℕ) → b ≡ true → (if b then n else 0) ≡ n
+pub if-on : (b : Bool) (n : ℕ) → b ≡ true → (if b then n else 0) ≡ n
 if-on true n e = refl
 if-on false n e = absurd (true≢false (sym e))
 

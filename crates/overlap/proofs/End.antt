@@ -26,7 +26,7 @@ use Rattle.overlap.proofs.in_flight.Issued.{issued-from_sequence, sequence-from_
 use Rattle.overlap.proofs.in_flight.Landing.{contains-cases, last-of_all_is, none-of_all}
 use Rattle.overlap.proofs.in_cells.LastStores.{holds-last}
 use Rattle.registers.proofs.Whole.{times-more}
-use Rattle.overlap.proofs.in_registers.Lives.{greatest-of, contains-map, flag-on, value-at_rank}
+use Rattle.overlap.proofs.in_registers.Lives.{greatest-of, contains-map, value-at_rank}
 use Rattle.overlap.proofs.in_cells.Loads.{lands-first}
 use Rattle.overlap.proofs.in_flight.Made.{writes-are_of_values}
 use Rattle.iterations.proofs.Instances.{arrays-first, earlier-at, initial-at, slice_get-within}
@@ -35,6 +35,7 @@ use Rattle.overlap.proofs.in_registers.OfSchedule.{run_of, is-run, value-is}
 use Rattle.overlap.proofs.in_registers.Registers.{made-write, lands-before, rank-destination, rank-within}
 use Rattle.registers.specs.declared.value.Value.{Value}
 use Rattle.instances.specs.Runs.{StandsIn, destination}
+use Rattle.instances.proofs.Lives.{if-on}
 use Rattle.instances.proofs.Standing.{ends-hold_last}
 use Rattle.instances.proofs.Turned.{physical-wrapped, physical-later}
 use Rattle.overlap.specs.LoopValues as overlap
@@ -250,7 +251,7 @@ out-same schedule allotment memory r zero none x c =
     let sc = r.belong.scheduled in
     let gives = named-in loop x (All-contains (λ o. GivesValue loop o × HasInitial loop o 1) loop.outs x sc.problem.loop.outs c).0 in
     let out : is_out loop x ≡ true = any-there loop.outs x c in
-    let flag = flag-on (is_out loop x) out in
+    let flag = if-on (is_out loop x) 1 out in
     let register : ℕ = physical allotment.registers (allotted_number loop allotment x) (pos 0 -ℤ pos 1) in
     ap (λ o. value_or o (preloaded (emitted schedule allotment) register)) (none-of_all (sequence_before schedule allotment memory (cycles schedule allotment memory.trip)) (InRegister register) (λ v d t.
     let is = issued-from_sequence schedule allotment memory (cycles schedule allotment memory.trip) v d in

@@ -2,7 +2,7 @@
 use Rattle.std.proofs.Common.{◌≡◌, ◌⊎◌, ℕ, suc, zero, ◌+◌, ◌*◌, ◌<◌, ◌≤◌, min, max, Bool, true, false, eqb, List, [], ◌∷◌, ◌++◌, length, map, take, drop, Option, Some, None, refl, sym, ap, ◌∙◌, subst, inl, inr, arith}
 use Rattle.std.specs.Prelude.{slice_get, slice_index, is_some, filter_map, if◌then◌else◌, zip}
 use Rattle.std.specs.List.{Contains, cons_option}
-use Rattle.std.proofs.lemmas.Bool.{cases_Bool, cases_eq, cases_lt, eq-eqb, ne_eqb, cond-true, cond-false, true≢false}
+use Rattle.std.proofs.lemmas.Bool.{cases_Bool, cases_eq, cases_lt, eq-eqb, ne_eqb, cond-true, cond-false, cond_both, true≢false}
 use Rattle.std.proofs.lemmas.List.Elements.{Contains-append_left, Contains-append_right, Contains-append_cases}
 use Rattle.iterations.specs.declared.language.statement.Statement.{Statement}
 use Rattle.iterations.specs.declared.language.statement.Operand.{Operand}
@@ -76,10 +76,8 @@ carried-far loop value reader distance u =
 
 -- it has begun when it lands
 pub begins-by_landing : (schedule : ScheduleData) (value : ℕ) → first_cycle schedule value ≤ landing_of schedule value
-begins-by_landing schedule value = elim (cases_eq (carried schedule.problem.loop value) 0) [
-  | inl none ↦ let e = cond-true (eqb (carried schedule.problem.loop value) 0) (landing_of schedule value) (min (landing_of schedule value) schedule.ii) (eq-eqb (carried schedule.problem.loop value) 0 none) in omega arith
-  | inr some ↦ let e = cond-false (eqb (carried schedule.problem.loop value) 0) (landing_of schedule value) (min (landing_of schedule value) schedule.ii) (ne_eqb (carried schedule.problem.loop value) 0 some) in omega arith
-]
+begins-by_landing schedule value =
+    cond_both (eqb (carried schedule.problem.loop value) 0) (landing_of schedule value) (min (landing_of schedule value) schedule.ii) (λ n. n ≤ landing_of schedule value) (λ _. omega arith) (λ _. omega arith)
 
 -- the uses are all such
 
@@ -163,10 +161,6 @@ greatest-reached (n ∷ ns) = elim (cases_lt n (greatest_of ns)) [
   | inr ge ↦ let e : max n (greatest_of ns) ≡ n = omega arith in inr (subst (Contains (n ∷ ns)) (sym e) (contains-head n ns))
 ]
 
-pub flag-on : (b : Bool) → b ≡ true → ◌≡◌ {A = ℕ} (if b then 1 else 0) 1
-flag-on true e = refl
-flag-on false e = absurd (true≢false (sym e))
-
 -- landings
 
 landing-zip : (times latencies : List ℕ) (q : ℕ) → q < length times → q < length latencies
@@ -204,10 +198,7 @@ pub values-few : (n : ℕ) (xs : List Statement) → length (values_from n xs) �
 values-few n [] = omega arith
 values-few n (x ∷ xs) =
     let r = values-few (n + 1) xs in
-    elim (cases_Bool (is_some x.name)) [
-      | inl named ↦ let e = ap length (cond-true (is_some x.name) (n ∷ values_from (n + 1) xs) (values_from (n + 1) xs) named) in omega arith
-      | inr unnamed ↦ let e = ap length (cond-false (is_some x.name) (n ∷ values_from (n + 1) xs) (values_from (n + 1) xs) unnamed) in omega arith
-    ]
+    cond_both (is_some x.name) (n ∷ values_from (n + 1) xs) (values_from (n + 1) xs) (λ ys. length ys ≤ suc (length xs)) (λ _. omega arith) (λ _. omega arith)
 
 pub values-append : (n : ℕ) (xs ys : List Statement) → values_from n (xs ++ ys) ≡ values_from n xs ++ values_from (n + length xs) ys
 values-append n [] ys = ap (λ k. values_from k ys) (omega arith)

@@ -1,9 +1,9 @@
 -- A scheduled loop with its allotment is a run of lists of values.
 use Rattle.std.proofs.Common.{◌≡◌, ℕ, suc, zero, ◌+◌, ◌*◌, ◌<◌, ◌≤◌, true, false, List, [], ◌∷◌, length, get_or, map, Some, ℤ, refl, sym, ap, ◌∙◌, subst, inl, inr, arith}
-use Rattle.std.specs.Prelude.{slice_get, slice_index, is_some}
+use Rattle.std.specs.Prelude.{slice_get, slice_index, is_some, ◌==◌}
 use Rattle.std.specs.List.{Contains}
 use Rattle.std.proofs.lemmas.List.{length-map}
-use Rattle.std.proofs.lemmas.List.Elements.{All-contains, All-get_or, Contains-append_left, Contains-append_right, Contains-append_cases, Contains-get_or}
+use Rattle.std.proofs.lemmas.List.Elements.{All-contains, All-filter, All-get_or, All-map, Contains-append_cases, Contains-get_or}
 use Rattle.std.proofs.lemmas.Option.{get_or_from_slice_get, same_Some, slice_get-get_or, slice_get_within}
 use Rattle.std.proofs.Math.Nat.{div-lt_iff_lt-mul}
 use Rattle.iterations.specs.declared.language.statement.Operand.TheVariants as operand
@@ -25,7 +25,7 @@ use Rattle.overlap.specs.LoopValues.{value_of_loop, values_of_loop, reads_by, re
 use Rattle.overlap.specs.Overlap.{Belong}
 use Rattle.overlap.proofs.in_flight.Writes.{keeps-dependences}
 use Rattle.overlap.proofs.in_registers.Lives.{contains-map, contains-map_back, slice_get-map, use-back, use-is, value-at_rank, value-back, values-few, lands-by_last}
-use Rattle.overlap.proofs.in_registers.OfValues.{carried-same, lifetimes-are_of_values}
+use Rattle.overlap.proofs.in_registers.OfValues.{carried-same, reads-of_value, lifetimes-are_of_values}
 
 abbrev pub run_of : ScheduleData → AllotmentData → RunData
 run_of schedule allotment = record {
@@ -39,61 +39,37 @@ run_of schedule allotment = record {
 
 -- reads are uses
 
-abbrev pub read_of : ℕ → Use → Read
-read_of number u = record { value = number; reader = u.reader; distance = u.distance; offset = 0 }
-
-read-in : (loop : LoopData) (number : ℕ) (statements : List ℕ) (k x : ℕ) (u : Use) → slice_get statements k ≡ Some x → Contains (uses_of loop x) u
-    → Contains (reads_from loop number statements) (read_of (number + k) u)
-read-in loop number [] k x u there c = cc
-read-in loop number (y ∷ statements) zero x u there c =
-    let same : y ≡ x = cc in
-    let z : number ≡ number + 0 = omega arith in
-    subst (λ n. Contains (reads_from loop number (y ∷ statements)) (read_of n u)) z
-    (Contains-append_left (reads_by number (uses_of loop y)) (reads_from loop (number + 1) statements) (read_of number u)
-    (contains-map (read_of number) (uses_of loop y) u (subst (λ n. Contains (uses_of loop n) u) (sym same) c)))
-read-in loop number (y ∷ statements) (suc k) x u there c =
-    let z : (number + 1) + k ≡ number + suc k = omega arith in
-    Contains-append_right (reads_by number (uses_of loop y)) (reads_from loop (number + 1) statements) (read_of (number + suc k) u)
-    (subst (λ n. Contains (reads_from loop (number + 1) statements) (read_of n u)) z (read-in loop (number + 1) statements k x u there c))
-
-pub record IsUse (loop : LoopData) (number : ℕ) (statements : List ℕ) (r : Read) : Type 0 where
-  pub place : ℕ
-  pub value : ℕ
-  pub there : slice_get statements place ≡ Some value
-  pub numbered : r.value ≡ number + place
-  pub uses : Uses loop r.reader value r.distance
-  pub at_issue : r.offset ≡ 0
-
-use-of_read : (loop : LoopData) (number : ℕ) (statements : List ℕ) (r : Read) → Contains (reads_from loop number statements) r → IsUse loop number statements r
-use-of_read loop number [] r c = absurd (let l = c.1 in omega arith)
-use-of_read loop number (x ∷ statements) r c = elim (Contains-append_cases (reads_by number (uses_of loop x)) (reads_from loop (number + 1) statements) r c) [
-  | inl here ↦
-      let m = contains-map_back (read_of number) (uses_of loop x) r here in
-      let u = use-back loop x m.0 m.1 in
-      record {
-        place = 0;
-        value = x;
-        there = refl;
-        numbered = let e : number ≡ r.value = ap (λ (y : Read). y.value) m.2 in omega arith;
-        uses = subst (λ (y : Read). Uses loop y.reader x y.distance) m.2 u;
-        at_issue = sym (ap (λ (y : Read). y.offset) m.2);
-      }
-  | inr behind ↦
-      let i = use-of_read loop (number + 1) statements r behind in
-      record { place = suc i.place; value = i.value; there = i.there; numbered = let e = i.numbered in omega arith; uses = i.uses; at_issue = i.at_issue }
-]
-
 pub contains-at : {X : Type 0} (xs : List X) (k : ℕ) (x : X) → slice_get xs k ≡ Some x → Contains xs x
 contains-at xs k x e = (k, slice_get_within xs k x e, get_or_from_slice_get xs k x x e)
 
-pub read-of_use : (loop : LoopData) (v x : ℕ) → slice_get (values_of loop) v ≡ Some x → (q d : ℕ) → Uses loop q x d
+pub read-of_use : (loop : LoopData) (v x q d : ℕ) → slice_get (values_of loop) v ≡ Some x → Uses loop q x d
     → (n : ℕ) × (slice_get (reads_of_loop loop) n ≡ Some (record { value = v; reader = q; distance = d; offset = 0 }))
-read-of_use loop v x listed q d u =
+read-of_use loop v x q d listed u =
+    let reads : List Read = reads_of_loop loop in
     let r : Read = record { value = v; reader = q; distance = d; offset = 0 } in
-    let z : 0 + v ≡ v = omega arith in
-    let one : Use = record { reader = q; distance = d } in
-    let c : Contains (reads_of_loop loop) r = subst (λ n. Contains (reads_of_loop loop) (read_of n one)) z (read-in loop 0 (values_of loop) v x one listed (use-is loop x q d u)) in
-    (c.0, slice_get-get_or (reads_of_loop loop) c.0 r c.1 ∙ ap Some c.2)
+    let one : Contains (reads_by v (uses_of loop x)) r
+    = contains-map (λ (y : Use). record { value = v; reader = y.reader; distance = y.distance; offset = 0 }) (uses_of loop x) (record { reader = q; distance = d }) (use-is loop x q d u) in
+    let c = All-contains (Contains reads) (list.reads_of reads v) r (All-filter (λ (y : Read). y.value == v) (Contains reads) reads (Contains-get_or reads))
+    (subst (λ (rs : List Read). Contains rs r) (sym (reads-of_value loop v x listed)) one) in
+    (c.0, slice_get-get_or reads c.0 r c.1 ∙ ap Some c.2)
+
+abbrev IsUse : LoopData → Read → Type 0
+IsUse loop r = (x : ℕ) × (slice_get (values_of loop) r.value ≡ Some x) × Uses loop r.reader x r.distance × (r.offset ≡ 0)
+
+use-from : (loop : LoopData) (number : ℕ) (statements : List ℕ) → ((k x : ℕ) → slice_get statements k ≡ Some x → slice_get (values_of loop) (number + k) ≡ Some x)
+    → (r : Read) → Contains (reads_from loop number statements) r → IsUse loop r
+use-from loop number [] listed r c = absurd (let l = c.1 in omega arith)
+use-from loop number (x ∷ statements) listed r c = elim (Contains-append_cases (reads_by number (uses_of loop x)) (reads_from loop (number + 1) statements) r c) [
+  | inl here ↦
+      let m = contains-map_back (λ (y : Use). record { value = number; reader = y.reader; distance = y.distance; offset = 0 }) (uses_of loop x) r here in
+      let z : number + 0 ≡ number = omega arith in
+      subst (IsUse loop) m.2 (x, ap (slice_get (values_of loop)) (sym z) ∙ listed 0 x refl, use-back loop x m.0 m.1, refl)
+  | inr behind ↦ use-from loop (number + 1) statements
+      (λ k y e. ap (slice_get (values_of loop)) (let z : (number + 1) + k ≡ number + suc k = omega arith in z) ∙ listed (suc k) y e) r behind
+]
+
+use-of_read : (loop : LoopData) (r : Read) → Contains (reads_of_loop loop) r → IsUse loop r
+use-of_read loop = use-from loop 0 (values_of loop) (λ k x e. ap (slice_get (values_of loop)) (let z : 0 + k ≡ k = omega arith in z) ∙ e)
 
 -- homes
 
@@ -117,58 +93,48 @@ module _ (schedule : ScheduleData) (allotment : AllotmentData) (b : Belong sched
   pub value-within : (v x : ℕ) → slice_get (values_of schedule.problem.loop) v ≡ Some x → v < length (run_of schedule allotment).values
   value-within v x there = slice_get_within (run_of schedule allotment).values v (value_of_loop schedule.problem.loop schedule.problem.graph.latencies x) (value-listed v x there)
 
-  listed : (v : ℕ) → v < length (run_of schedule allotment).values → (x : ℕ) × (slice_get (values_of schedule.problem.loop) v ≡ Some x)
-  listed v within =
-      let e = length-map (values_of schedule.problem.loop) (value_of_loop schedule.problem.loop schedule.problem.graph.latencies) in
-      (get_or (values_of schedule.problem.loop) v 0, slice_get-get_or (values_of schedule.problem.loop) v 0 (omega arith))
-
-  statement-of : (v x : ℕ) → slice_get (values_of schedule.problem.loop) v ≡ Some x → (s : Statement) × (slice_get schedule.problem.loop.statements x ≡ Some s)
-  statement-of v x there =
-      let back = value-back 0 schedule.problem.loop.statements x (contains-at (values_of schedule.problem.loop) v x there) in
+  statement-of : (x : ℕ) → Contains (values_of schedule.problem.loop) x → (s : Statement) × (slice_get schedule.problem.loop.statements x ≡ Some s)
+  statement-of x c =
+      let back = value-back 0 schedule.problem.loop.statements x c in
       let e = back.3 in
       let same : x ≡ back.0 = omega arith in
       (back.1, ap (slice_get schedule.problem.loop.statements) same ∙ back.2)
 
   many-times : length schedule.times ≡ length schedule.problem.loop.statements
-  many-times = let a = b.scheduled.problem.each_operation in let t = b.scheduled.lawful.plan.each_time in omega arith
+  many-times = b.scheduled.lawful.plan.each_time ∙ b.scheduled.problem.each_operation
 
-  is-value : (v x : ℕ) → slice_get (values_of schedule.problem.loop) v ≡ Some x → IsValue (length schedule.times) (value_of_loop schedule.problem.loop schedule.problem.graph.latencies x)
-  is-value v x there =
-      let sc = b.scheduled in
-      let s = statement-of v x there in
+  is-value : (x : ℕ) → Contains (values_of schedule.problem.loop) x → IsValue (length schedule.times) (value_of_loop schedule.problem.loop schedule.problem.graph.latencies x)
+  is-value x c =
+      let problem = b.scheduled.problem in
+      let s = statement-of x c in
       let within = slice_get-within schedule.problem.loop.statements x s.0 s.1 in
       let many = many-times in
-      let a = sc.problem.each_operation in
-      let long = sc.problem.is_problem.each_latency in
-      record { maker = omega arith; lands = (All-get_or (λ l. (0 < l) × (l ≤ 64)) schedule.problem.graph.latencies x 0 (omega arith) sc.problem.is_problem.graph.latencies).1 }
+      let a = problem.each_operation in
+      let long = problem.is_problem.each_latency in
+      record { maker = omega arith; lands = (All-get_or (λ l. (0 < l) × (l ≤ 64)) schedule.problem.graph.latencies x 0 (omega arith) problem.is_problem.graph.latencies).1 }
 
   is-read : (r : Read) → Contains (reads_of_loop schedule.problem.loop) r → IsRead (length schedule.times) (length (run_of schedule allotment).values) r
   is-read r c =
       let loop = schedule.problem.loop in
-      let u = use-of_read loop 0 (values_of loop) r c in
-      let numbered = u.numbered in
-      let value = value-within u.place u.value u.there in
-      let reader = slice_get-within loop.statements r.reader u.uses.0 u.uses.1 in
-      let may : MayRead loop r.reader (operand.Value u.value r.distance)
-      = All-contains (MayRead loop r.reader) u.uses.0.operands (operand.Value u.value r.distance) (b.scheduled.problem.loop.each r.reader u.uses.0 u.uses.1).operands u.uses.2 in
+      let u = use-of_read loop r c in
+      let s = u.2 in
+      let reader = slice_get-within loop.statements r.reader s.0 s.1 in
+      let may = All-contains (MayRead loop r.reader) s.0.operands (operand.Value u.0 r.distance) (b.scheduled.problem.loop.each r.reader s.0 s.1).operands s.2 in
       let many = many-times in
-      let at = u.at_issue in
-      record { value = omega arith; reader = omega arith; distance = may.1; offset = omega arith }
+      let at = u.3 in
+      record { value = value-within r.value u.0 u.1; reader = omega arith; distance = may.1; offset = omega arith }
 
   in-time : (k : ℕ) (r : Read) (value : Value) → slice_get (reads_of_loop schedule.problem.loop) k ≡ Some r → slice_get (run_of schedule allotment).values r.value ≡ Some value
       → landing_of schedule.times value ≤ read_at schedule.ii schedule.times r
   in-time k r value there is =
       let loop = schedule.problem.loop in
-      let u = use-of_read loop 0 (values_of loop) r (contains-at (reads_of_loop loop) k r there) in
-      let e = u.numbered in
-      let z : r.value ≡ u.place = omega arith in
-      let same : value ≡ value_of_loop loop schedule.problem.graph.latencies u.value
-      = same_Some value (value_of_loop loop schedule.problem.graph.latencies u.value) (sym is ∙ ap (slice_get (run_of schedule allotment).values) z ∙ value-listed u.place u.value u.there) in
-      let lands : landing_of schedule.times value ≡ slice_index schedule.times u.value + slice_index schedule.problem.graph.latencies u.value = ap (landing_of schedule.times) same in
-      let t = values-in_time loop schedule.problem.graph.latencies schedule.ii schedule.times (keeps-dependences schedule b.scheduled) u.value r.reader r.distance 0 u.uses in
+      let latencies = schedule.problem.graph.latencies in
+      let u = use-of_read loop r (contains-at (reads_of_loop loop) k r there) in
+      let lands = ap (landing_of schedule.times) (same_Some value (value_of_loop loop latencies u.0) (sym is ∙ value-listed r.value u.0 u.1)) in
+      let t = values-in_time loop latencies schedule.ii schedule.times (keeps-dependences schedule b.scheduled) u.0 r.reader r.distance 0 u.2 in
       let none : schedule.ii * 0 ≡ 0 = omega arith in
       let first : schedule.ii * (0 + r.distance) ≡ schedule.ii * r.distance = ap (λ n. schedule.ii * n) (let x : 0 + r.distance ≡ r.distance = omega arith in x) in
-      let at = u.at_issue in
+      let at = u.3 in
       omega arith
 
   -- their homes
@@ -191,14 +157,6 @@ module _ (schedule : ScheduleData) (allotment : AllotmentData) (b : Belong sched
       ap (λ home. place_in home v i)
       (get_or_from_slice_get (run_of schedule allotment).homes v (Rotates 0 allotment.registers (slice_index allotment.numbers v)) Unallotted (number-at v within))
 
-  numbered-as : (v x : ℕ) → slice_get (values_of schedule.problem.loop) v ≡ Some x → v < length allotment.numbers
-  unfolding lifetimes_of
-  numbered-as v x there =
-      let each = b.suits.each in
-      let within = slice_get_within (values_of schedule.problem.loop) v x there in
-      let e = length-map (values_of schedule.problem.loop) (lifetime_of schedule) in
-      omega arith
-
   many-homes : length (run_of schedule allotment).homes ≡ length (run_of schedule allotment).values
   unfolding lifetimes_of
   many-homes =
@@ -220,20 +178,16 @@ module _ (schedule : ScheduleData) (allotment : AllotmentData) (b : Belong sched
           operations = let few = sc.problem.loop.statements_few in omega arith;
           issued = λ i d h. (div-lt_iff_lt-mul sc.ii_some).0 (sc.stages i d h);
           size = let few = sc.problem.loop.statements_few in let v = values-few 0 loop.statements in let e = length-map (values_of loop) of_loop in omega arith;
-          each_value = λ i d h.
-              let x = listed i h in
-              subst (IsValue (length schedule.times)) (sym (get_or_from_slice_get (run_of schedule allotment).values i (of_loop x.0) d (value-listed i x.0 x.1))) (is-value i x.0 x.1);
+          each_value = All-map (IsValue (length schedule.times)) of_loop (values_of loop) (λ i d h. is-value (get_or (values_of loop) i d) (Contains-get_or (values_of loop) i d h));
           each_read = λ i d h. is-read (get_or (reads_of_loop loop) i d) (Contains-get_or (reads_of_loop loop) i d h);
         };
         in_time = in-time;
         each_home = many-homes;
         homes = are-homes;
-        lasts = λ i d h.
-            let x = listed i h in
-            let s = statement-of i x.0 x.1 in
-            let e = ap (landing_of schedule.times) (get_or_from_slice_get (run_of schedule allotment).values i (of_loop x.0) d (value-listed i x.0 x.1)) in
-            let l = lands-by_last schedule sc x.0 s.0 s.1 in
-            omega arith;
+        lasts = All-map (λ value. landing_of schedule.times value ≤ end_of schedule) of_loop (values_of loop) (λ i d h.
+            let s = statement-of (get_or (values_of loop) i d) (Contains-get_or (values_of loop) i d h) in
+            let l = lands-by_last schedule sc (get_or (values_of loop) i d) s.0 s.1 in
+            omega arith);
         apart = λ v w i j meet.
             let one = ap (λ l. slice_get l v) same ∙ meet.is_one in
             let other = ap (λ l. slice_get l w) same ∙ meet.is_other in
@@ -257,7 +211,10 @@ module _ (schedule : ScheduleData) (allotment : AllotmentData) (b : Belong sched
   pub rank-place : (x : ℕ) (s : Statement) (i : ℤ) → slice_get schedule.problem.loop.statements x ≡ Some s → is_some s.name ≡ true
       → place_of (run_of schedule allotment) (rank_of schedule.problem.loop x) i ≡ InRegister 0 (physical allotment.registers (allotted_number schedule.problem.loop allotment x) i)
   rank-place x s i there named =
-      place-is (rank_of schedule.problem.loop x) i (numbered-as (rank_of schedule.problem.loop x) x (value-at_rank schedule.problem.loop x s there named))
+      let within = value-within (rank_of schedule.problem.loop x) x (value-at_rank schedule.problem.loop x s there named) in
+      let e = length-map allotment.numbers (Rotates 0 allotment.registers) in
+      let many = many-homes in
+      place-is (rank_of schedule.problem.loop x) i (omega arith)
 
   -- and how far it is carried
   pub rank-carried : (x : ℕ) (s : Statement) → slice_get schedule.problem.loop.statements x ≡ Some s → is_some s.name ≡ true

@@ -88,11 +88,13 @@ far-same : (reads : List Read) (number : ℕ) (uses : List Use) → reads_of rea
 far-same reads number uses e =
     ap (λ (rs : List Read). list.greatest_of (map (λ (r : Read). r.distance) rs)) e ∙ ap list.greatest_of (distances-same number uses) ∙ greatest-same (map (λ (u : Use). u.distance) uses)
 
-pub carried-same : (loop : LoopData) (v x : ℕ) → slice_get (values_of loop) v ≡ Some x → list.carried (reads_of_loop loop) v (is_out loop x) ≡ carried loop x
-carried-same loop v x there =
+pub reads-of_value : (loop : LoopData) (v x : ℕ) → slice_get (values_of loop) v ≡ Some x → reads_of (reads_of_loop loop) v ≡ reads_by v (uses_of loop x)
+reads-of_value loop v x there =
     let z : v ≡ 0 + v = omega arith in
-    ap (λ n. max n (if is_out loop x then 1 else 0)) (far-same (reads_of_loop loop) v (uses_of loop x)
-    (ap (reads_of (reads_of_loop loop)) z ∙ reads-at loop 0 (values_of loop) v x there ∙ ap (λ n. reads_by n (uses_of loop x)) (sym z)))
+    ap (reads_of (reads_of_loop loop)) z ∙ reads-at loop 0 (values_of loop) v x there ∙ ap (λ n. reads_by n (uses_of loop x)) (sym z)
+
+pub carried-same : (loop : LoopData) (v x : ℕ) → slice_get (values_of loop) v ≡ Some x → list.carried (reads_of_loop loop) v (is_out loop x) ≡ carried loop x
+carried-same loop v x there = ap (λ n. max n (if is_out loop x then 1 else 0)) (far-same (reads_of_loop loop) v (uses_of loop x) (reads-of_value loop v x there))
 
 -- lifetimes
 

@@ -133,7 +133,7 @@ module _ (schedule : ScheduleData) (allotment : AllotmentData) (memory : MemoryD
       let cycle : ℕ = issue_of schedule.ii schedule.times q j in
       let rank : ℕ = rank_of loop x in
       let r : Read = record { value = rank; reader = q; distance = d; offset = 0 } in
-      let n = read-of_use loop rank x (value-at_rank loop x s there named) q d u in
+      let n = read-of_use loop rank x q d (value-at_rank loop x s there named) u in
       let same : (pos j -ℤ pos d) ≡ pos (j - d) = omega (arith, ints) in
       let at : lists.reading_cycle (run_of schedule allotment) r j ≡ cycle = omega arith in
       let place : lists.source (run_of schedule allotment) r j ≡ lists.InRegister 0 (physical allotment.registers (allotted_number loop allotment x) (pos (j - d)))
@@ -154,7 +154,7 @@ module _ (schedule : ScheduleData) (allotment : AllotmentData) (memory : MemoryD
       let loop = schedule.problem.loop in
       let cycle : ℕ = issue_of schedule.ii schedule.times q j in
       let r : Read = record { value = rank_of loop x; reader = q; distance = d; offset = 0 } in
-      let n = read-of_use loop (rank_of loop x) x (value-at_rank loop x s there named) q d u in
+      let n = read-of_use loop (rank_of loop x) x q d (value-at_rank loop x s there named) u in
       let at : lists.reading_cycle (run_of schedule allotment) r j ≡ cycle = omega arith in
       opens-last cycle (physical allotment.registers (allotted_number loop allotment x) (pos j -ℤ pos d))
       (subst (λ p. lists.IsOpening (run_of schedule allotment) memory.trip p cycle) (use-source x q d j s there named)
