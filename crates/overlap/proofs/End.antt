@@ -1,6 +1,6 @@
 -- The memory at the end.
 use Rattle.std.proofs.Common.{◌≡◌, ℕ, suc, zero, ◌+◌, ◌-◌, ◌*◌, ◌/◌, ◌%◌, ◌<◌, ◌≤◌, ◌||◌, Bool, true, false, eqb, List, [], ◌∷◌, length, get_or, map, Some, ℤ, pos, ◌+ℤ◌, ◌-ℤ◌, refl, sym, ap, ◌∙◌, subst, inl, inr, arith}
-use Rattle.std.specs.Prelude.{slice_get, slice_index, is_some, zip, ◌≤ℤ◌, nat_abs, neg_ℤ}
+use Rattle.std.specs.Prelude.{slice_get, slice_index, is_some, ◌≤ℤ◌, nat_abs, neg_ℤ}
 use Rattle.std.specs.List.{Contains, list_any}
 use Rattle.std.proofs.lemmas.Bool.{eq-eqb}
 use Rattle.std.proofs.lemmas.Int.{ints}
@@ -13,31 +13,34 @@ use Rattle.iterations.specs.Loops.{LoopData, GivesValue, HasInitial}
 use Rattle.iterations.specs.Run.{MemoryData, RunState, start, after_iterations, end_of, earlier_value, plain, cell_index}
 use Rattle.graph.specs.Dependences.{ComesFirst}
 use Rattle.graph.specs.Promises.{issue_of}
-use Rattle.graph.specs.Units.{greatest_of}
 use Rattle.kernel.specs.declared.kernels.parts.Parts.{Parts}
 use Rattle.kernel.specs.Overlapped.{InRegister, InCell, Write, physical, value_or, preloaded, last_of_all, all_writes, overlapped, turns_of, cells_after, arrays_left, out_after}
 use Rattle.overlap.specs.Allotments.{AllotmentData, allotted_number}
-use Rattle.overlap.specs.Lifetimes.{IsLiveIn, is_out, landing_of, last_landing, last_cycle, lifetime_of, lifetimes_of, rank_of}
+use Rattle.overlap.specs.Lifetimes.{is_out, rank_of}
 use Rattle.ims.specs.Schedules.{ScheduleData, IsSchedule, stages_of}
 use Rattle.overlap.specs.Emission.{out_of, emitted}
 use Rattle.overlap.specs.Sequence.{state_before, given_by, write_of_instance, sequence_before}
 use Rattle.overlap.specs.Overlap.{IsRun, IsLastStore, OverlapIsSequence}
-use Rattle.overlap.proofs.in_registers.Apart.{before-or_same}
 use Rattle.iterations.proofs.InstanceCells.{HaveBlocks, cell, blocks-at}
 use Rattle.overlap.proofs.in_flight.Issued.{issued-from_sequence, sequence-from_issued}
 use Rattle.overlap.proofs.in_flight.Landing.{contains-cases, last-of_all_is, none-of_all}
 use Rattle.overlap.proofs.in_cells.LastStores.{holds-last}
 use Rattle.registers.proofs.Whole.{times-more}
-use Rattle.overlap.proofs.in_registers.Lives.{greatest-of, contains-map, begins-by_landing, lasts-to_landing, lasts-to_end, life-at_rank, rank-one, flag-on}
+use Rattle.overlap.proofs.in_registers.Lives.{greatest-of, contains-map, value-at_rank}
 use Rattle.overlap.proofs.in_cells.Loads.{lands-first}
 use Rattle.overlap.proofs.in_flight.Made.{writes-are_of_values}
 use Rattle.iterations.proofs.Instances.{arrays-first, earlier-at, initial-at, slice_get-within}
 use Rattle.overlap.proofs.in_registers.Preloaded.{preloaded-is}
-use Rattle.overlap.proofs.in_registers.Registers.{lives-at_landing}
-use Rattle.overlap.proofs.in_registers.Turned.{physical-wrapped, physical-later}
+use Rattle.overlap.proofs.in_registers.OfSchedule.{run_of, is-run, value-is}
+use Rattle.overlap.proofs.in_registers.Registers.{made-write, lands-before, rank-destination, rank-within}
+use Rattle.registers.specs.declared.value.Value.{Value}
+use Rattle.instances.specs.Runs.{StandsIn, destination}
+use Rattle.instances.proofs.Lives.{if-on}
+use Rattle.instances.proofs.Standing.{ends-hold_last}
+use Rattle.instances.proofs.Turned.{physical-wrapped, physical-later}
+use Rattle.overlap.specs.LoopValues as overlap
 use Rattle.overlap.proofs.in_flight.Values.{map-same, map-map, blocks-of}
-use Rattle.overlap.proofs.in_flight.Writes.{keeps-dependences, into-register, makes-value}
-use Rattle.graph.proofs.finding.Promised.{values-in_time}
+use Rattle.overlap.proofs.in_flight.Writes.{makes-value}
 
 -- each instance is issued before the last turn ends
 
@@ -198,21 +201,6 @@ any-there (y ∷ xs) x c = elim (contains-cases y xs x c) [
   | inr d ↦ ap (λ b. eqb y x || b) (any-there xs x d) ∙ or-true (eqb y x)
 ]
 
-landing-zip : (times latencies : List ℕ) (q : ℕ) → q < length times → q < length latencies
-    → slice_index times q + slice_index latencies q ≤ greatest_of (map (λ (p : ℕ × ℕ). p.0 + p.1) (zip times latencies))
-landing-zip [] latencies q h k = absurd (omega arith)
-landing-zip (t ∷ times) [] q h k = absurd (omega arith)
-landing-zip (t ∷ times) (l ∷ latencies) zero h k = omega arith
-landing-zip (t ∷ times) (l ∷ latencies) (suc q) h k = let r = landing-zip times latencies q (omega arith) (omega arith) in omega arith
-
-lands-by_last : (schedule : ScheduleData) → IsSchedule schedule → (q : ℕ) (s : Statement) → slice_get schedule.problem.loop.statements q ≡ Some s → landing_of schedule q ≤ last_landing schedule
-lands-by_last schedule sc q s there =
-    let within = slice_get-within schedule.problem.loop.statements q s there in
-    let a = sc.problem.each_operation in
-    let b = sc.lawful.plan.each_time in
-    let c = sc.problem.is_problem.each_latency in
-    landing-zip schedule.times schedule.problem.graph.latencies q (omega arith) (omega arith)
-
 -- the register of a live value is that of its last instance
 out-name : (registers number stages trip : ℕ) → 0 < registers → 1 ≤ stages
     → physical registers ((number + 0 + (stages - 1)) % registers) (pos (trip + stages) -ℤ pos 2) ≡ physical registers number (pos trip -ℤ pos 1)
@@ -235,41 +223,19 @@ out-lands schedule allotment memory r x k s there named out trip =
     let final : ℕ = cycles schedule allotment memory.trip in
     let issued : List Write = sequence_before schedule allotment memory final in
     let shape = (sc.problem.loop.each x s there).shape in
-    let w : Write = record {
-      target = InRegister (physical allotment.registers (allotted_number loop allotment x) (pos k));
-      value = given_by loop memory.arrays x k s;
-      start = issue_of ii schedule.times x k + slice_index schedule.problem.graph.latencies x;
-    } in
+    let w : Write = made-write schedule allotment memory x k s in
     let is_write : write_of_instance schedule allotment memory.arrays x k s ≡ Some w = makes-value schedule allotment memory.arrays x k s shape named in
     let c : Contains issued w = sequence-from_issued schedule allotment memory final w some x k s there (omega arith) (issued-early schedule allotment sc memory.trip x k s there (omega arith)) is_write in
-    let b = begins-by_landing schedule x in
-    let l = lasts-to_landing values-in_time schedule (keeps-dependences schedule sc) x in
-    let e = lasts-to_end schedule x out in
-    let late : ℕ = last_cycle schedule x + k * ii in
-    let live : IsLiveIn ii (lifetime_of schedule x) (pos k) (pos late) = record { begun = omega (arith, ints); lasts = omega (arith, ints) } in
+    let rank : ℕ = rank_of loop x in
+    let is = is-run schedule allotment r.belong in
+    let value = value-is schedule allotment r.belong rank x (value-at_rank loop x s there named) in
+    let last : memory.trip - 1 ≡ k = omega arith in
     last-of_all_is issued w c (λ v d t.
-    let is = issued-from_sequence schedule allotment memory final v d in
-    let is_shape = (sc.problem.loop.each is.op is.statement is.is_statement).shape in
-    let ir = into-register schedule allotment memory.arrays is.op is.iteration is.statement v (physical allotment.registers (allotted_number loop allotment x) (pos k)) is_shape is.is_write t in
-    let land : IsLiveIn ii (lifetime_of schedule is.op) (pos is.iteration) (pos v.start)
-    = subst (λ n. IsLiveIn ii (lifetime_of schedule is.op) (pos is.iteration) (pos n)) (sym ir.2) (lives-at_landing schedule sc is.op is.iteration) in
-    let bl = lands-by_last schedule sc is.op is.statement is.is_statement in
-    let st = ir.2 in
-    let wi = is.within in
-    let m : ii * k ≡ ii * is.iteration + ii * (k - is.iteration) = times-more ii is.iteration k (omega arith) in
-    let n : k * ii ≡ ii * k = omega arith in
-    elim (before-or_same ii allotment.registers (lifetimes_of schedule) allotment.numbers r.belong.suits (rank_of loop x) (rank_of loop is.op) (lifetime_of schedule x) (lifetime_of schedule is.op)
-    (pos k) (pos is.iteration) (life-at_rank schedule x s there named) (life-at_rank schedule is.op is.statement is.is_statement ir.0) ir.1 (pos late) (pos v.start) live land (omega (arith, ints))) [
-      | inl same ↦
-          let op : x ≡ is.op = rank-one loop x is.op s is.statement there named is.is_statement ir.0 same.0 in
-          let it : is.iteration ≡ k = let z = same.1 in omega (arith, ints) in
-          let xs : is.statement ≡ s = same_Some is.statement s (sym is.is_statement ∙ ap (slice_get loop.statements) (sym op) ∙ there) in
-          inl (same_Some v w (sym is.is_write
-          ∙ ap (λ y. write_of_instance schedule allotment memory.arrays y is.iteration is.statement) (sym op)
-          ∙ ap (λ y. write_of_instance schedule allotment memory.arrays x y is.statement) it
-          ∙ ap (write_of_instance schedule allotment memory.arrays x k) xs ∙ is_write))
-      | inr before ↦ inr (omega (arith, ints))
-    ])
+    let by : ℕ = overlap.end_of schedule + ii * (memory.trip - 1) + v.start in
+    let stands = (ends-hold_last (run_of schedule allotment) memory.trip is rank by (rank-within schedule allotment memory r x s there named) (ap (λ (y : Value). y.out) value ∙ out)).0 (omega arith) (omega arith) in
+    lands-before schedule allotment memory r final by x k s there named
+    (subst (λ p. StandsIn (run_of schedule allotment) memory.trip p by rank k) (rank-destination schedule allotment memory r x k s there named)
+    (subst (λ n. StandsIn (run_of schedule allotment) memory.trip (destination (run_of schedule allotment) rank n) by rank n) last stands)) v d t (omega arith))
     ∙ sym is_write
 
 named-in : (loop : LoopData) (x : ℕ) → GivesValue loop x → (s : Statement) × (slice_get loop.statements x ≡ Some s) × (is_some s.name ≡ true)
@@ -285,7 +251,7 @@ out-same schedule allotment memory r zero none x c =
     let sc = r.belong.scheduled in
     let gives = named-in loop x (All-contains (λ o. GivesValue loop o × HasInitial loop o 1) loop.outs x sc.problem.loop.outs c).0 in
     let out : is_out loop x ≡ true = any-there loop.outs x c in
-    let flag = flag-on (is_out loop x) out in
+    let flag = if-on (is_out loop x) 1 out in
     let register : ℕ = physical allotment.registers (allotted_number loop allotment x) (pos 0 -ℤ pos 1) in
     ap (λ o. value_or o (preloaded (emitted schedule allotment) register)) (none-of_all (sequence_before schedule allotment memory (cycles schedule allotment memory.trip)) (InRegister register) (λ v d t.
     let is = issued-from_sequence schedule allotment memory (cycles schedule allotment memory.trip) v d in

@@ -17,14 +17,15 @@ use Rattle.overlap.specs.Allotments.{AllotmentData, allotted_number}
 use Rattle.ims.specs.Schedules.{ScheduleData, stage_of, row_of}
 use Rattle.overlap.specs.Emission.{name_of, source_of, operation_of, operations_from, emitted}
 use Rattle.overlap.specs.Overlap.{IsLastStore, InstancesAreIssuedOnce, NamesAreOfInstances, RegistersHoldValues, LoadsFollowStores}
-use Rattle.overlap.proofs.in_flight.Issued.{cycle-from_row, row-of_issue, turn-of_issue}
+use Rattle.instances.proofs.Issued as issued
+use Rattle.instances.proofs.Turned.{name-in_turn}
 use Rattle.overlap.proofs.in_cells.LastStores.{holds-last}
 use Rattle.overlap.proofs.in_registers.Lives.{carried-far}
 use Rattle.overlap.proofs.in_cells.Loads.{load-finds, load-opens}
 use Rattle.iterations.proofs.Instances.{slice_get-within}
 use Rattle.overlap.proofs.in_registers.Preloaded.{preloaded-is}
 use Rattle.overlap.proofs.in_registers.Registers.{register-lands, register-opens}
-use Rattle.overlap.proofs.in_flight.Values.{name-in_turn, load-same, blocks-of, cell-index_below}
+use Rattle.overlap.proofs.in_flight.Values.{load-same, blocks-of, cell-index_below}
 
 -- (i)
 
@@ -51,6 +52,7 @@ instances-are_issued_once schedule allotment b trip cycle op o there =
     let row : Bool = eqb (cycle % ii) (row_of schedule op) in
     let begun : Bool = leb (stage_of schedule op) (cycle / ii) in
     let lasts : Bool = ltb (cycle / ii) (stage_of schedule op + trip) in
+    let once = issued.instances-are_issued_once ii (slice_index schedule.times op) trip cycle some in
     let same : is_issued (emitted schedule allotment) trip cycle o ≡ (row && begun && lasts) = ap (is_issued (emitted schedule allotment) trip cycle) is in (
       λ on.
           let one = and_parts (row && begun) lasts (sym same ∙ on) in
@@ -58,12 +60,10 @@ instances-are_issued_once schedule allotment b trip cycle op o there =
           let e : cycle % ii ≡ row_of schedule op = eqb-true (cycle % ii) (row_of schedule op) two.0 in
           let f : stage_of schedule op ≤ cycle / ii = leb-true (stage_of schedule op) (cycle / ii) two.1 in
           let l : cycle / ii < stage_of schedule op + trip = ltb-true (cycle / ii) (stage_of schedule op + trip) one.1 in
-          (cycle / ii - stage_of schedule op, omega arith, cycle-from_row ii (slice_index schedule.times op) cycle e f),
+          once.0 (e, f, l),
       λ it.
-          let r : cycle % ii ≡ row_of schedule op = ap (λ n. n % ii) it.2 ∙ row-of_issue ii (slice_index schedule.times op) it.0 in
-          let t : cycle / ii ≡ stage_of schedule op + it.0 = ap (λ n. n / ii) it.2 ∙ turn-of_issue ii (slice_index schedule.times op) it.0 some in
-          let w = it.1 in
-          same ∙ and_from (row && begun) lasts (and_from row begun (eq-eqb (cycle % ii) (row_of schedule op) r) (le-leb (stage_of schedule op) (cycle / ii) (omega arith))) (lt-ltb (cycle / ii) (stage_of schedule op + trip) (omega arith)),
+          let w = once.1 it in
+          same ∙ and_from (row && begun) lasts (and_from row begun (eq-eqb (cycle % ii) (row_of schedule op) w.0) (le-leb (stage_of schedule op) (cycle / ii) w.1)) (lt-ltb (cycle / ii) (stage_of schedule op + trip) w.2),
     )
 
 -- (ii)
@@ -96,7 +96,7 @@ names-are_of_instances schedule allotment b reader operand value distance iterat
     let z : 0 + reader ≡ reader = omega arith in
     let e : operation_of schedule allotment reader s ≡ o
     = ap (λ n. operation_of schedule allotment n s) (sym z) ∙ some-operation (operation_of schedule allotment (0 + reader) s) o (sym (statement-at schedule allotment 0 loop.statements reader s there) ∙ is) in
-    let t : issue_of schedule.ii schedule.times reader iteration / schedule.ii ≡ stage + iteration = turn-of_issue schedule.ii (slice_index schedule.times reader) iteration b.scheduled.ii_some in (
+    let t : issue_of schedule.ii schedule.times reader iteration / schedule.ii ≡ stage + iteration = issued.turn-of_issue schedule.ii (slice_index schedule.times reader) iteration b.scheduled.ii_some in (
       name_of schedule allotment value distance stage,
       ap (λ (x : Operation). slice_get x.sources operand) (sym e) ∙ source-in schedule allotment stage s.operands operand (Value value distance) is_operand,
       ap (λ n. physical allotment.registers (name_of schedule allotment value distance stage) (pos n)) t

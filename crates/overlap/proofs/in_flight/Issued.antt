@@ -1,10 +1,10 @@
 -- The writes of the sequence are those of the instances that are issued.
-use Rattle.std.proofs.Common.{◌≡◌, ◌⊎◌, ℕ, suc, zero, ◌+◌, ◌-◌, ◌*◌, ◌/◌, ◌%◌, ◌<◌, ◌≤◌, ◌&&◌, Bool, eqb, ltb, leb, List, [], ◌∷◌, Option, Some, None, refl, sym, ap, ◌∙◌, subst, inl, inr, arith}
+use Rattle.std.proofs.Common.{◌≡◌, ◌⊎◌, ℕ, suc, zero, ◌+◌, ◌-◌, ◌/◌, ◌%◌, ◌<◌, ◌≤◌, ◌&&◌, Bool, eqb, ltb, leb, List, [], ◌∷◌, Option, Some, None, refl, sym, ap, ◌∙◌, subst, inl, inr, arith}
 use Rattle.std.specs.Prelude.{slice_get, slice_index}
 use Rattle.std.specs.List.{Contains, cons_option}
 use Rattle.std.proofs.lemmas.Bool.{cases_Bool, cases_lt, and_parts, and_from, eqb-true, eq-eqb, leb-true, ltb-true, le-leb, lt-ltb, cond-true, cond-false}
 use Rattle.std.proofs.lemmas.List.Elements.{Contains-append_left, Contains-append_right, Contains-append_cases}
-use Rattle.std.proofs.Math.Nat.{mul-add, div-add-mod', add-mul-mod_self_right, add-mul-div_right}
+use Rattle.instances.proofs.Issued.{cycle-from_row, row-of_issue, turn-of_issue}
 use Rattle.iterations.specs.declared.language.statement.Statement.{Statement}
 use Rattle.iterations.specs.Run.{MemoryData}
 use Rattle.graph.specs.Promises.{issue_of}
@@ -23,17 +23,6 @@ pub record IsIssued (schedule : ScheduleData) (allotment : AllotmentData) (memor
   pub within : iteration < memory.trip
   pub early : issue_of schedule.ii schedule.times op iteration < cycle
   pub is_write : write_of_instance schedule allotment memory.arrays op iteration statement ≡ Some w
-
--- a cycle of an operation's row, in a turn of its stage or later
-pub cycle-from_row : (ii time cycle : ℕ) → cycle % ii ≡ time % ii → time / ii ≤ cycle / ii → cycle ≡ time + ii * (cycle / ii - time / ii)
-cycle-from_row ii time cycle row stage =
-    let a : (cycle / ii) * ii + cycle % ii ≡ cycle = div-add-mod' cycle ii in
-    let b : (time / ii) * ii + time % ii ≡ time = div-add-mod' time ii in
-    let turns : time / ii + (cycle / ii - time / ii) ≡ cycle / ii = omega arith in
-    let times : ii * (cycle / ii) ≡ ii * (time / ii) + ii * (cycle / ii - time / ii) = ap (λ n. ii * n) (sym turns) ∙ mul-add ii (time / ii) (cycle / ii - time / ii) in
-    let c : (cycle / ii) * ii ≡ ii * (cycle / ii) = omega arith in
-    let d : (time / ii) * ii ≡ ii * (time / ii) = omega arith in
-    omega arith
 
 -- what is issued in a cycle
 
@@ -110,13 +99,6 @@ now-from_write schedule allotment memory cycle op s w e =
           }
       | inr off ↦ let none : None ≡ Some w = sym (cond-false (row && begun && lasts) write None off) ∙ e in cc
     ]
-
--- the row and the turn of an instance's issue
-pub row-of_issue : (ii time iteration : ℕ) → (time + ii * iteration) % ii ≡ time % ii
-row-of_issue ii time iteration = ap (λ n. n % ii) (let e : time + ii * iteration ≡ time + iteration * ii = omega arith in e) ∙ add-mul-mod_self_right time iteration ii
-
-pub turn-of_issue : (ii time iteration : ℕ) → 0 < ii → (time + ii * iteration) / ii ≡ time / ii + iteration
-turn-of_issue ii time iteration some = ap (λ n. n / ii) (let e : time + ii * iteration ≡ time + iteration * ii = omega arith in e) ∙ add-mul-div_right time iteration some
 
 write-now_at : (schedule : ScheduleData) (allotment : AllotmentData) (memory : MemoryData) (cycle op iteration : ℕ) (s : Statement) → 0 < schedule.ii
     → iteration < memory.trip → issue_of schedule.ii schedule.times op iteration ≡ cycle

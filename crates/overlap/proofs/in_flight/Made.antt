@@ -20,9 +20,10 @@ use Rattle.ims.specs.Schedules.{ScheduleData, stage_of, row_of}
 use Rattle.overlap.specs.Emission.{name_of, address_of, operation_of, operations_from, emitted}
 use Rattle.overlap.specs.Sequence.{state_before, read_by, stored_by, made_by, write_by_opcode, write_of_instance, write_now, sequence_in, sequence_before}
 use Rattle.overlap.specs.Overlap.{IsRun, WritesAreOfValues}
-use Rattle.overlap.proofs.in_flight.Issued.{cycle-from_row, turn-of_issue}
+use Rattle.instances.proofs.Issued.{cycle-from_row, turn-of_issue}
+use Rattle.instances.proofs.Turned.{name-in_turn}
 use Rattle.iterations.proofs.Instances.{length-before}
-use Rattle.overlap.proofs.in_flight.Values.{name-in_turn, sources-same, load-same}
+use Rattle.overlap.proofs.in_flight.Values.{sources-same, load-same}
 
 -- the cell of an address is that of the place
 cell-in_turn : (schedule : ScheduleData) (allotment : AllotmentData) (q j : ℕ) (place : Place) → 0 < schedule.ii

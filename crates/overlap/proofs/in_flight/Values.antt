@@ -1,5 +1,5 @@
 -- The kernel makes the writes of the plain run's values.
-use Rattle.std.proofs.Common.{◌≡◌, ℕ, ◌+◌, ◌-◌, ◌/◌, ◌%◌, ◌<◌, List, [], ◌∷◌, length, map, Some, ℤ, pos, ◌+ℤ◌, ◌-ℤ◌, refl, sym, ap, ◌∙◌, inl, inr, arith}
+use Rattle.std.proofs.Common.{◌≡◌, ℕ, ◌+◌, ◌-◌, ◌/◌, ◌<◌, List, [], ◌∷◌, length, map, Some, ℤ, pos, ◌+ℤ◌, ◌-ℤ◌, refl, sym, ap, ◌∙◌, inl, inr, arith}
 use Rattle.std.specs.Prelude.{slice_get, slice_index, ◌≤ℤ◌, ◌<ℤ◌, nat_abs, negsuc}
 use Rattle.std.specs.List.{Contains}
 use Rattle.std.proofs.lemmas.Bool.{cases_lt}
@@ -22,8 +22,8 @@ use Rattle.overlap.specs.Emission.{name_of, source_of, emitted}
 use Rattle.overlap.specs.Sequence.{state_before, read_by, sequence_before}
 use Rattle.overlap.specs.Overlap.{IsRun}
 use Rattle.overlap.proofs.in_flight.Landing.{contains-head, contains-tail}
-use Rattle.overlap.proofs.in_flight.Issued.{turn-of_issue}
-use Rattle.overlap.proofs.in_registers.Turned.{physical-wrapped, physical-later}
+use Rattle.instances.proofs.Issued.{turn-of_issue}
+use Rattle.instances.proofs.Turned.{name-in_turn}
 use Rattle.iterations.proofs.Instances.{read-value, read-initial, slice_get-within}
 use Rattle.iterations.proofs.InstanceCells.{HaveBlocks}
 use Rattle.overlap.proofs.in_cells.LastStores.{holds-last}
@@ -32,15 +32,6 @@ use Rattle.overlap.proofs.in_flight.Writes.{makes-value}
 use Rattle.overlap.proofs.in_registers.Registers.{register-lands, register-opens}
 use Rattle.overlap.proofs.in_registers.Preloaded.{preloaded-is}
 use Rattle.overlap.proofs.in_cells.Loads.{load-finds, load-opens}
-
--- names
-
-pub name-in_turn : (registers number d stage j : ℕ) → 0 < registers → physical registers ((number + d + stage) % registers) (pos (stage + j)) ≡ physical registers number (pos j -ℤ pos d)
-name-in_turn registers number d stage j some =
-    physical-wrapped registers (number + d + stage) (pos (stage + j)) some
-    ∙ ap (λ n. physical registers n (pos (stage + j))) (let e : number + d + stage ≡ number + (d + stage) = omega arith in e)
-    ∙ ap (λ z. physical registers (number + (d + stage)) z) (let e : pos (stage + j) ≡ ((pos j -ℤ pos d) +ℤ pos (d + stage)) = omega (arith, ints) in e)
-    ∙ physical-later registers number (d + stage) (pos j -ℤ pos d) some
 
 -- what an operand's source gives
 

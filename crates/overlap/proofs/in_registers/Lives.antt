@@ -1,8 +1,8 @@
 -- What lifetimes give: they begin no later than the landing, last to each use, and those of initial values are there at the start.
-use Rattle.std.proofs.Common.{◌≡◌, ◌⊎◌, ℕ, suc, zero, ◌+◌, ◌-◌, ◌*◌, ◌≤◌, min, max, Bool, true, false, cond, eqb, List, [], ◌∷◌, ◌++◌, length, map, take, drop, Option, Some, None, refl, sym, ap, ◌∙◌, subst, inl, inr, arith}
-use Rattle.std.specs.Prelude.{slice_get, slice_index, is_some, filter_map, if◌then◌else◌}
+use Rattle.std.proofs.Common.{◌≡◌, ◌⊎◌, ℕ, suc, zero, ◌+◌, ◌*◌, ◌<◌, ◌≤◌, min, max, Bool, true, false, eqb, List, [], ◌∷◌, ◌++◌, length, map, take, drop, Option, Some, None, refl, sym, ap, ◌∙◌, subst, inl, inr, arith}
+use Rattle.std.specs.Prelude.{slice_get, slice_index, is_some, filter_map, if◌then◌else◌, zip}
 use Rattle.std.specs.List.{Contains, cons_option}
-use Rattle.std.proofs.lemmas.Bool.{cases_Bool, cases_eq, cases_lt, eq-eqb, ne_eqb, cond-true, cond-false, true≢false}
+use Rattle.std.proofs.lemmas.Bool.{cases_Bool, cases_eq, cases_lt, eq-eqb, ne_eqb, cond-true, cond-false, cond_both, true≢false}
 use Rattle.std.proofs.lemmas.List.Elements.{Contains-append_left, Contains-append_right, Contains-append_cases}
 use Rattle.iterations.specs.declared.language.statement.Statement.{Statement}
 use Rattle.iterations.specs.declared.language.statement.Operand.{Operand}
@@ -11,12 +11,11 @@ use Rattle.iterations.specs.Loops.{LoopData}
 use Rattle.graph.specs.Dependences.{Uses}
 use Rattle.graph.specs.Promises.{KeepsDependences, ValuesInTime}
 use Rattle.graph.specs.Units.{greatest_of}
-use Rattle.ims.specs.Schedules.{ScheduleData, stages_of}
-use Rattle.overlap.specs.Lifetimes.{Use, distance_to, uses_from, uses_of, is_out, carried, landing_of, read_at, last_read, last_landing, first_cycle, last_cycle, lifetime_of, lifetimes_of, values_from, values_of, rank_of}
+use Rattle.ims.specs.Schedules.{ScheduleData, IsSchedule}
+use Rattle.overlap.specs.Lifetimes.{Use, distance_to, uses_from, uses_of, carried, landing_of, read_at, last_read, last_landing, first_cycle, last_cycle, values_from, values_of, rank_of}
 use Rattle.overlap.proofs.in_flight.Landing.{contains-cases, contains-head, contains-tail}
 use Rattle.overlap.proofs.in_flight.Issued.{option-behind, option-cases}
-use Rattle.iterations.proofs.Instances.{split-there}
-use Rattle.registers.proofs.Whole.{times-more}
+use Rattle.iterations.proofs.Instances.{slice_get-within, split-there}
 
 -- the greatest of some numbers
 
@@ -75,29 +74,10 @@ carried-far loop value reader distance u =
 
 -- lifetimes
 
-last-read_some : (landing : ℕ) (reads : List ℕ) (read : ℕ) → Contains reads read → read ≤ last_read landing reads
-last-read_some landing [] read c = absurd (let l = c.1 in omega arith)
-last-read_some landing (r ∷ reads) read c = greatest-of (r ∷ reads) read c
-
--- a value lives when it is used
-pub lasts-to_use : (schedule : ScheduleData) (value reader distance : ℕ) → Uses schedule.problem.loop reader value distance
-    → slice_index schedule.times reader + schedule.ii * distance ≤ last_cycle schedule value
-lasts-to_use schedule value reader distance u =
-    let r = last-read_some (landing_of schedule value) (map (read_at schedule) (uses_of schedule.problem.loop value)) (slice_index schedule.times reader + schedule.ii * distance)
-    (contains-map (read_at schedule) (uses_of schedule.problem.loop value) (record { reader = reader; distance = distance }) (use-is schedule.problem.loop value reader distance u)) in
-    omega arith
-
 -- it has begun when it lands
 pub begins-by_landing : (schedule : ScheduleData) (value : ℕ) → first_cycle schedule value ≤ landing_of schedule value
-begins-by_landing schedule value = elim (cases_eq (carried schedule.problem.loop value) 0) [
-  | inl none ↦ let e = cond-true (eqb (carried schedule.problem.loop value) 0) (landing_of schedule value) (min (landing_of schedule value) schedule.ii) (eq-eqb (carried schedule.problem.loop value) 0 none) in omega arith
-  | inr some ↦ let e = cond-false (eqb (carried schedule.problem.loop value) 0) (landing_of schedule value) (min (landing_of schedule value) schedule.ii) (ne_eqb (carried schedule.problem.loop value) 0 some) in omega arith
-]
-
--- that of a value that is carried on begins by the interval
-pub begins-by_interval : (schedule : ScheduleData) (value : ℕ) → 1 ≤ carried schedule.problem.loop value → first_cycle schedule value ≤ schedule.ii
-begins-by_interval schedule value some =
-    let e = cond-false (eqb (carried schedule.problem.loop value) 0) (landing_of schedule value) (min (landing_of schedule value) schedule.ii) (ne_eqb (carried schedule.problem.loop value) 0 (λ z. omega arith)) in omega arith
+begins-by_landing schedule value =
+    cond_both (eqb (carried schedule.problem.loop value) 0) (landing_of schedule value) (min (landing_of schedule value) schedule.ii) (λ n. n ≤ landing_of schedule value) (λ _. omega arith) (λ _. omega arith)
 
 -- the uses are all such
 
@@ -181,54 +161,44 @@ greatest-reached (n ∷ ns) = elim (cases_lt n (greatest_of ns)) [
   | inr ge ↦ let e : max n (greatest_of ns) ≡ n = omega arith in inr (subst (Contains (n ∷ ns)) (sym e) (contains-head n ns))
 ]
 
-pub flag-on : (b : Bool) → b ≡ true → ◌≡◌ {A = ℕ} (if b then 1 else 0) 1
-flag-on true e = refl
-flag-on false e = absurd (true≢false (sym e))
+-- landings
 
-flag-off : (b : Bool) → b ≡ false → ◌≡◌ {A = ℕ} (if b then 1 else 0) 0
-flag-off true e = absurd (true≢false e)
-flag-off false e = refl
+landing-zip : (times latencies : List ℕ) (q : ℕ) → q < length times → q < length latencies
+    → slice_index times q + slice_index latencies q ≤ greatest_of (map (λ (p : ℕ × ℕ). p.0 + p.1) (zip times latencies))
+landing-zip [] latencies q h k = absurd (omega arith)
+landing-zip (t ∷ times) [] q h k = absurd (omega arith)
+landing-zip (t ∷ times) (l ∷ latencies) zero h k = omega arith
+landing-zip (t ∷ times) (l ∷ latencies) (suc q) h k = let r = landing-zip times latencies q (omega arith) (omega arith) in omega arith
 
--- a value that is carried on lives for as many intervals
-pub lasts-when_carried : (schedule : ScheduleData) (value m : ℕ) → 1 ≤ m → m ≤ carried schedule.problem.loop value → schedule.ii * m ≤ last_cycle schedule value
-lasts-when_carried schedule value m some le =
-    let loop = schedule.problem.loop in
-    let far : ℕ = greatest_of (map (λ (u : Use). u.distance) (uses_of loop value)) in
-    elim (cases_lt far m) [
-      | inr within ↦
-          elim (greatest-reached (map (λ (u : Use). u.distance) (uses_of loop value))) [
-            | inl none ↦ absurd (omega arith)
-            | inr c ↦
-                let u = contains-map_back (λ (u : Use). u.distance) (uses_of loop value) far c in
-                let l = lasts-to_use schedule value u.0.reader u.0.distance (use-back loop value u.0 u.1) in
-                let e : u.0.distance ≡ far = u.2 in
-                let more : schedule.ii * u.0.distance ≡ schedule.ii * m + schedule.ii * (u.0.distance - m) = times-more schedule.ii m u.0.distance (omega arith) in
-                omega arith
-          ]
-      | inl beyond ↦
-          elim (cases_Bool (is_out loop value)) [
-            | inl out ↦
-                let one = flag-on (is_out loop value) out in
-                let m1 : m ≡ 1 = omega arith in
-                let stages : ℕ = stages_of schedule in
-                let more : schedule.ii * stages ≡ schedule.ii * 1 + schedule.ii * (stages - 1) = times-more schedule.ii 1 stages (omega arith) in
-                let e : cond (is_out loop value) (max (schedule.ii * stages) (last_landing schedule)) 0 ≡ max (schedule.ii * stages) (last_landing schedule)
-                = cond-true (is_out loop value) (max (schedule.ii * stages) (last_landing schedule)) 0 out in
-                let f : schedule.ii * m ≡ schedule.ii * 1 = ap (λ n. schedule.ii * n) m1 in
-                omega arith
-            | inr not_out ↦ let zero = flag-off (is_out loop value) not_out in absurd (omega arith)
-          ]
-    ]
-
--- and one that is live at the end lives until all has landed
-pub lasts-to_end : (schedule : ScheduleData) (value : ℕ) → is_out schedule.problem.loop value ≡ true → last_landing schedule ≤ last_cycle schedule value
-lasts-to_end schedule value out =
-    let stages : ℕ = stages_of schedule in
-    let e : cond (is_out schedule.problem.loop value) (max (schedule.ii * stages) (last_landing schedule)) 0 ≡ max (schedule.ii * stages) (last_landing schedule)
-    = cond-true (is_out schedule.problem.loop value) (max (schedule.ii * stages) (last_landing schedule)) 0 out in
-    omega arith
+pub lands-by_last : (schedule : ScheduleData) → IsSchedule schedule → (q : ℕ) (s : Statement) → slice_get schedule.problem.loop.statements q ≡ Some s → landing_of schedule q ≤ last_landing schedule
+lands-by_last schedule sc q s there =
+    let within = slice_get-within schedule.problem.loop.statements q s there in
+    let a = sc.problem.each_operation in
+    let b = sc.lawful.plan.each_time in
+    let c = sc.problem.is_problem.each_latency in
+    landing-zip schedule.times schedule.problem.graph.latencies q (omega arith) (omega arith)
 
 -- ranks
+
+pub value-back : (n : ℕ) (xs : List Statement) (y : ℕ) → Contains (values_from n xs) y → (k : ℕ) × (s : Statement) × (slice_get xs k ≡ Some s) × (y ≡ n + k) × (is_some s.name ≡ true)
+value-back n [] y c = absurd (let l = c.1 in omega arith)
+value-back n (x ∷ xs) y c =
+    elim (cases_Bool (is_some x.name)) [
+      | inl named ↦
+          elim (contains-cases n (values_from (n + 1) xs) y (subst (λ l. Contains l y) (cond-true (is_some x.name) (n ∷ values_from (n + 1) xs) (values_from (n + 1) xs) named) c)) [
+            | inl e ↦ (0, x, refl, omega arith, named)
+            | inr d ↦ let r = value-back (n + 1) xs y d in (suc r.0, r.1, r.2, let e = r.3 in omega arith, r.4)
+          ]
+      | inr unnamed ↦
+          let r = value-back (n + 1) xs y (subst (λ l. Contains l y) (cond-false (is_some x.name) (n ∷ values_from (n + 1) xs) (values_from (n + 1) xs) unnamed) c) in
+          (suc r.0, r.1, r.2, let e = r.3 in omega arith, r.4)
+    ]
+
+pub values-few : (n : ℕ) (xs : List Statement) → length (values_from n xs) ≤ length xs
+values-few n [] = omega arith
+values-few n (x ∷ xs) =
+    let r = values-few (n + 1) xs in
+    cond_both (is_some x.name) (n ∷ values_from (n + 1) xs) (values_from (n + 1) xs) (λ ys. length ys ≤ suc (length xs)) (λ _. omega arith) (λ _. omega arith)
 
 pub values-append : (n : ℕ) (xs ys : List Statement) → values_from n (xs ++ ys) ≡ values_from n xs ++ values_from (n + length xs) ys
 values-append n [] ys = ap (λ k. values_from k ys) (omega arith)
@@ -249,7 +219,7 @@ slice_get-middle : {X : Type 0} (xs : List X) (y : X) (ys : List X) → slice_ge
 slice_get-middle [] y ys = refl
 slice_get-middle (x ∷ xs) y ys = slice_get-middle xs y ys
 
-slice_get-map : {X Y : Type 0} (f : X → Y) (xs : List X) (k : ℕ) (x : X) → slice_get xs k ≡ Some x → slice_get (map f xs) k ≡ Some (f x)
+pub slice_get-map : {X Y : Type 0} (f : X → Y) (xs : List X) (k : ℕ) (x : X) → slice_get xs k ≡ Some x → slice_get (map f xs) k ≡ Some (f x)
 slice_get-map f [] k x e = cc
 slice_get-map f (y ∷ xs) zero x e = let z : y ≡ x = cc in ap (λ w. Some (f w)) z
 slice_get-map f (y ∷ xs) (suc k) x e = slice_get-map f xs k x e
@@ -264,12 +234,6 @@ value-at_rank loop x s there named =
     = ap (values_from 0) front.0 ∙ values-append 0 before (s ∷ rest)
     ∙ ap (λ l. values_from 0 before ++ l) (ap (λ n. values_from n (s ∷ rest)) (let e = front.1 in let z : 0 + length before ≡ x = omega arith in z) ∙ cond-true (is_some s.name) (x ∷ values_from (x + 1) rest) (values_from (x + 1) rest) named) in
     ap (λ l. slice_get l (rank_of loop x)) whole ∙ slice_get-middle (values_from 0 before) x (values_from (x + 1) rest)
-
-pub life-at_rank : (schedule : ScheduleData) (x : ℕ) (s : Statement) → slice_get schedule.problem.loop.statements x ≡ Some s → is_some s.name ≡ true
-    → slice_get (lifetimes_of schedule) (rank_of schedule.problem.loop x) ≡ Some (lifetime_of schedule x)
-unfolding lifetimes_of
-life-at_rank schedule x s there named =
-    slice_get-map (lifetime_of schedule) (values_of schedule.problem.loop) (rank_of schedule.problem.loop x) x (value-at_rank schedule.problem.loop x s there named)
 
 -- values of one rank are one
 pub rank-one : (loop : LoopData) (x y : ℕ) (s t : Statement) → slice_get loop.statements x ≡ Some s → is_some s.name ≡ true → slice_get loop.statements y ≡ Some t → is_some t.name ≡ true

@@ -1,19 +1,17 @@
 -- The lifetimes of a loop's values are those of lists of values and reads.
-use Rattle.std.proofs.Common.{◌≡◌, ◌≢◌, ℕ, suc, zero, ◌+◌, ◌*◌, ◌<◌, min, max, Bool, true, false, eqb, List, [], ◌∷◌, ◌++◌, map, Some, refl, sym, ap, ◌∙◌, arith, append-nil}
+use Rattle.std.proofs.Common.{◌≡◌, ◌≢◌, ℕ, suc, zero, ◌+◌, ◌*◌, ◌<◌, max, eqb, List, [], ◌∷◌, ◌++◌, map, Some, refl, sym, ap, ◌∙◌, arith, append-nil}
 use Rattle.std.specs.Prelude.{slice_get, slice_index, ◌==◌, if◌then◌else◌}
-use Rattle.std.specs.List.{filter}
 use Rattle.std.proofs.lemmas.Bool.{eq-eqb, ne_eqb, cond-true, cond-false}
 use Rattle.std.proofs.lemmas.List.Elements.{filter-append}
 use Rattle.registers.specs.declared.lifetime.Lifetime.{Lifetime}
-use Rattle.registers.specs.declared.value.Value.{Value}
 use Rattle.registers.specs.declared.value.Read.{Read}
 use Rattle.registers.specs.Values as list
 use Rattle.registers.specs.Values.{reads_of, lives_from, lives_of}
 use Rattle.iterations.specs.Loops.{LoopData}
 use Rattle.graph.specs.Units.{greatest_of}
 use Rattle.ims.specs.Schedules.{ScheduleData}
-use Rattle.overlap.specs.Lifetimes.{Use, values_of, uses_of, is_out, carried, landing_of, read_at, last_read, first_cycle, last_cycle, lifetime_of, lifetimes_of}
-use Rattle.overlap.specs.LoopValues.{value_of_loop, values_of_loop, reads_by, reads_from, reads_of_loop, end_of, LifetimesAreOfValues}
+use Rattle.overlap.specs.Lifetimes.{Use, values_of, uses_of, is_out, carried, landing_of, read_at, last_read, first_cycle, lifetime_of, lifetimes_of}
+use Rattle.overlap.specs.LoopValues.{value_of_loop, reads_by, reads_from, reads_of_loop, end_of, LifetimesAreOfValues}
 
 -- the greatest of some numbers is told by both crates alike
 greatest-same : (ns : List ℕ) → list.greatest_of ns ≡ greatest_of ns
@@ -83,6 +81,21 @@ cycles-same schedule number (u ∷ uses) =
     ap (λ n. (n + schedule.ii * u.distance) ∷ map (list.read_at schedule.ii schedule.times) (reads_by number uses)) no_offset
     ∙ ap (λ ns. read_at schedule u ∷ ns) (cycles-same schedule number uses)
 
+-- so a value is carried as far
+
+far-same : (reads : List Read) (number : ℕ) (uses : List Use) → reads_of reads number ≡ reads_by number uses
+    → list.greatest_of (map (λ (r : Read). r.distance) (reads_of reads number)) ≡ greatest_of (map (λ (u : Use). u.distance) uses)
+far-same reads number uses e =
+    ap (λ (rs : List Read). list.greatest_of (map (λ (r : Read). r.distance) rs)) e ∙ ap list.greatest_of (distances-same number uses) ∙ greatest-same (map (λ (u : Use). u.distance) uses)
+
+pub reads-of_value : (loop : LoopData) (v x : ℕ) → slice_get (values_of loop) v ≡ Some x → reads_of (reads_of_loop loop) v ≡ reads_by v (uses_of loop x)
+reads-of_value loop v x there =
+    let z : v ≡ 0 + v = omega arith in
+    ap (reads_of (reads_of_loop loop)) z ∙ reads-at loop 0 (values_of loop) v x there ∙ ap (λ n. reads_by n (uses_of loop x)) (sym z)
+
+pub carried-same : (loop : LoopData) (v x : ℕ) → slice_get (values_of loop) v ≡ Some x → list.carried (reads_of_loop loop) v (is_out loop x) ≡ carried loop x
+carried-same loop v x there = ap (λ n. max n (if is_out loop x then 1 else 0)) (far-same (reads_of_loop loop) v (uses_of loop x) (reads-of_value loop v x there))
+
 -- lifetimes
 
 life-same : (schedule : ScheduleData) (reads : List Read) (number s : ℕ) → reads_of reads number ≡ reads_by number (uses_of schedule.problem.loop s)
@@ -90,8 +103,7 @@ life-same : (schedule : ScheduleData) (reads : List Read) (number s : ℕ) → r
 life-same schedule reads number s e =
     let loop = schedule.problem.loop in
     let landing : ℕ = landing_of schedule s in
-    let far : list.greatest_of (map (λ (r : Read). r.distance) (reads_of reads number)) ≡ greatest_of (map (λ (u : Use). u.distance) (uses_of loop s))
-    = ap (λ (rs : List Read). list.greatest_of (map (λ (r : Read). r.distance) rs)) e ∙ ap list.greatest_of (distances-same number (uses_of loop s)) ∙ greatest-same (map (λ (u : Use). u.distance) (uses_of loop s)) in
+    let far = far-same reads number (uses_of loop s) e in
     let late : list.last_read landing (map (list.read_at schedule.ii schedule.times) (reads_of reads number)) ≡ last_read landing (map (read_at schedule) (uses_of loop s))
     = ap (λ (rs : List Read). list.last_read landing (map (list.read_at schedule.ii schedule.times) rs)) e ∙ ap (list.last_read landing) (cycles-same schedule number (uses_of loop s))
     ∙ last-same landing (map (read_at schedule) (uses_of loop s)) in

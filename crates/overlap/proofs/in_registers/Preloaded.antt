@@ -1,8 +1,8 @@
 -- The registers of initial values.
-use Rattle.std.proofs.Common.{◌≡◌, ℕ, suc, zero, ◌+◌, ◌-◌, ◌*◌, ◌%◌, ◌<◌, ◌≤◌, true, eqb, List, [], ◌∷◌, Option, Some, option_map, unwrap_or, find, ℤ, pos, ◌-ℤ◌, refl, sym, ap, ◌∙◌, subst, inl, inr, arith}
+use Rattle.std.proofs.Common.{◌≡◌, ℕ, suc, zero, ◌+◌, ◌-◌, ◌*◌, ◌%◌, ◌<◌, ◌≤◌, true, eqb, List, [], ◌∷◌, Option, Some, option_map, unwrap_or, find, ℤ, pos, ◌-ℤ◌, sym, ap, ◌∙◌, subst, inl, inr, arith}
 use Rattle.std.specs.Prelude.{slice_get, is_some, flat_map}
 use Rattle.std.specs.List.{Contains}
-use Rattle.std.proofs.lemmas.Bool.{cases_Bool, cases_eq, eq-eqb, ne_eqb, cond-true, cond-false}
+use Rattle.std.proofs.lemmas.Bool.{cases_eq, eq-eqb, ne_eqb, cond-true, cond-false}
 use Rattle.std.proofs.lemmas.Int.{ints}
 use Rattle.std.proofs.lemmas.List.Elements.{Contains-append_left, Contains-append_right}
 use Rattle.iterations.specs.declared.language.statement.Statement.{Statement}
@@ -10,15 +10,17 @@ use Rattle.iterations.specs.Run.{initial_of}
 use Rattle.kernel.specs.declared.kernels.parts.Preload.{Preload}
 use Rattle.kernel.specs.Overlapped.{physical, preloaded}
 use Rattle.overlap.specs.Allotments.{AllotmentData, allotted_number}
-use Rattle.overlap.specs.Lifetimes.{IsLiveIn, carried, values_from, values_of, rank_of, lifetime_of}
-use Rattle.ims.specs.Schedules.{ScheduleData, IsSchedule}
+use Rattle.overlap.specs.Lifetimes.{carried, values_of, rank_of}
+use Rattle.ims.specs.Schedules.{ScheduleData}
 use Rattle.overlap.specs.Emission.{name_of, preloads_from, preloads_of, emitted}
 use Rattle.overlap.specs.Overlap.{Belong}
 use Rattle.overlap.proofs.in_flight.Landing.{contains-cases, contains-head, contains-tail}
-use Rattle.overlap.proofs.in_registers.Turned.{physical-is}
-use Rattle.registers.proofs.Whole.{times-more}
-use Rattle.overlap.proofs.in_registers.Lives.{begins-by_interval, lasts-when_carried, life-at_rank, rank-one, value-at_rank}
-use Rattle.overlap.proofs.in_registers.Registers.{times-back}
+use Rattle.instances.specs.Runs.{InRegister, RunData}
+use Rattle.instances.proofs.Turned as places
+use Rattle.instances.proofs.Openings.{openings-one}
+use Rattle.overlap.proofs.in_registers.Lives.{rank-one, value-at_rank}
+pub use Rattle.overlap.proofs.in_registers.Lives.{value-back}
+use Rattle.overlap.proofs.in_registers.OfSchedule.{contains-at, run_of, is-run, rank-carried, rank-place, value-within}
 use Rattle.overlap.proofs.in_registers.Different.{flat-back}
 
 found-in : (ps : List Preload) (r : ℕ) (v : ℤ) (p : Preload) → Contains ps p → p.register ≡ r → ((q : Preload) → Contains ps q → q.register ≡ r → q.value ≡ v)
@@ -48,20 +50,6 @@ pub record IsPreload (schedule : ScheduleData) (allotment : AllotmentData) (p : 
   pub some : 1 ≤ number
   pub few : number ≤ carried schedule.problem.loop value
   pub is : p ≡ record { register = name_of schedule allotment value number 0; value = initial_of schedule.problem.loop value number }
-
-pub value-back : (n : ℕ) (xs : List Statement) (y : ℕ) → Contains (values_from n xs) y → (k : ℕ) × (s : Statement) × (slice_get xs k ≡ Some s) × (y ≡ n + k) × (is_some s.name ≡ true)
-value-back n [] y c = absurd (let l = c.1 in omega arith)
-value-back n (x ∷ xs) y c =
-    elim (cases_Bool (is_some x.name)) [
-      | inl named ↦
-          elim (contains-cases n (values_from (n + 1) xs) y (subst (λ l. Contains l y) (cond-true (is_some x.name) (n ∷ values_from (n + 1) xs) (values_from (n + 1) xs) named) c)) [
-            | inl e ↦ (0, x, refl, omega arith, named)
-            | inr d ↦ let r = value-back (n + 1) xs y d in (suc r.0, r.1, r.2, let e = r.3 in omega arith, r.4)
-          ]
-      | inr unnamed ↦
-          let r = value-back (n + 1) xs y (subst (λ l. Contains l y) (cond-false (is_some x.name) (n ∷ values_from (n + 1) xs) (values_from (n + 1) xs) unnamed) c) in
-          (suc r.0, r.1, r.2, let e = r.3 in omega arith, r.4)
-    ]
 
 pub number-back : (schedule : ScheduleData) (allotment : AllotmentData) (value from n : ℕ) (p : Preload) → Contains (preloads_from schedule allotment value from n) p
     → (k : ℕ) × (k < n) × (p ≡ record { register = name_of schedule allotment value (from + k) 0; value = initial_of schedule.problem.loop value (from + k) })
@@ -110,26 +98,10 @@ preload-back schedule allotment p c =
       is = n.2;
     }
 
-contains-from_get : (xs : List ℕ) (k x : ℕ) → slice_get xs k ≡ Some x → Contains xs x
-contains-from_get [] k x e = cc
-contains-from_get (y ∷ xs) zero x e = let z : y ≡ x = cc in subst (λ w. Contains (w ∷ xs) x) (sym z) (contains-head x xs)
-contains-from_get (y ∷ xs) (suc k) x e = contains-tail y xs x (contains-from_get xs k x e)
-
 -- registers
 
 pub name-physical : (registers number m : ℕ) → 0 < registers → (number + m + 0) % registers ≡ physical registers number (pos 0 -ℤ pos m)
-name-physical registers number m some = sym (physical-is registers number (pos 0 -ℤ pos m) 0 (number + m + 0) some (let z : 0 * registers ≡ 0 = omega arith in omega (arith, ints)))
-
--- an instance of an initial value lives in the first cycle
-pub lives-at_start : (schedule : ScheduleData) → IsSchedule schedule → (x m : ℕ) → 1 ≤ m → m ≤ carried schedule.problem.loop x
-    → IsLiveIn schedule.ii (lifetime_of schedule x) (pos 0 -ℤ pos m) (pos 0)
-lives-at_start schedule sc x m some few =
-    let b = begins-by_interval schedule x (omega arith) in
-    let l = lasts-when_carried schedule x m some few in
-    let t = times-back 0 m schedule.ii in
-    let z : schedule.ii * 0 ≡ 0 = omega arith in
-    let more : schedule.ii * m ≡ schedule.ii * 1 + schedule.ii * (m - 1) = times-more schedule.ii 1 m some in
-    record { begun = omega (arith, ints); lasts = omega (arith, ints) }
+name-physical registers number m some = sym (places.physical-is registers number (pos 0 -ℤ pos m) 0 (number + m + 0) some (let z : 0 * registers ≡ 0 = omega arith in omega (arith, ints)))
 
 -- two initial values in one register are one
 pub preloads-one : (schedule : ScheduleData) (allotment : AllotmentData) → Belong schedule allotment → (x m y n : ℕ) (s t : Statement)
@@ -139,19 +111,18 @@ pub preloads-one : (schedule : ScheduleData) (allotment : AllotmentData) → Bel
 preloads-one schedule allotment b x m y n s t hx nx hy ny m1 mc n1 nc e =
     let loop = schedule.problem.loop in
     let some : 0 < allotment.registers = b.allotted.some in
-    let same : physical allotment.registers (allotted_number loop allotment x) (pos 0 -ℤ pos m) ≡ physical allotment.registers (allotted_number loop allotment y) (pos 0 -ℤ pos n)
-    = sym (name-physical allotment.registers (allotted_number loop allotment x) m some) ∙ e ∙ name-physical allotment.registers (allotted_number loop allotment y) n some in
-    let r = b.suits.apart (rank_of loop x) (rank_of loop y) (pos 0 -ℤ pos m) (pos 0 -ℤ pos n) (record {
-      one = lifetime_of schedule x;
-      is_one = life-at_rank schedule x s hx nx;
-      other = lifetime_of schedule y;
-      is_other = life-at_rank schedule y t hy ny;
-      same_register = same;
-      cycle = pos 0;
-      one_lives = lives-at_start schedule b.scheduled x m m1 mc;
-      other_lives = lives-at_start schedule b.scheduled y n n1 nc;
-    }) in
-    (rank-one loop x y s t hx nx hy ny r.0, let z = r.1 in omega (arith, ints))
+    let run : RunData = run_of schedule allotment in
+    let is = is-run schedule allotment b in
+    let one = value-at_rank loop x s hx nx in
+    let other = value-at_rank loop y t hy ny in
+    let place_x = places.preloaded-is run is.homes (rank_of loop x) m ∙ rank-place schedule allotment b x s (pos 0 -ℤ pos m) hx nx in
+    let place_y = places.preloaded-is run is.homes (rank_of loop y) n ∙ rank-place schedule allotment b y t (pos 0 -ℤ pos n) hy ny in
+    let same = sym (name-physical allotment.registers (allotted_number loop allotment x) m some) ∙ e ∙ name-physical allotment.registers (allotted_number loop allotment y) n some in
+    let far_x = rank-carried schedule allotment b x s hx nx in
+    let far_y = rank-carried schedule allotment b y t hy ny in
+    let r = openings-one run is (rank_of loop x) (rank_of loop y) m n (value-within schedule allotment b (rank_of loop x) x one) (value-within schedule allotment b (rank_of loop y) y other)
+    m1 (omega arith) n1 (omega arith) (place_x ∙ ap (InRegister 0) same ∙ sym place_y) in
+    (rank-one loop x y s t hx nx hy ny r.0, r.1)
 
 -- the register of an initial value opens with it
 pub preloaded-is : (schedule : ScheduleData) (allotment : AllotmentData) → Belong schedule allotment → (x m : ℕ) (s : Statement)
@@ -167,7 +138,7 @@ preloaded-is schedule allotment b x m s hx nx m1 mc =
     let at : ℕ → Preload = λ n. record { register = name_of schedule allotment x n 0; value = initial_of loop x n } in
     found-in (preloads_of schedule allotment) r (initial_of loop x m) (at m)
     (flat-there (λ value. preloads_from schedule allotment value 1 (carried loop value)) (values_of loop) x (at m)
-    (contains-from_get (values_of loop) (rank_of loop x) x (value-at_rank loop x s hx nx))
+    (contains-at (values_of loop) (rank_of loop x) x (value-at_rank loop x s hx nx))
     (subst (λ n. Contains (preloads_from schedule allotment x 1 (carried loop x)) (at n)) back (number-there schedule allotment x 1 (carried loop x) (m - 1) (omega arith))))
     name
     (λ q c e.

@@ -1,165 +1,162 @@
 -- A register holds, when it is read, the value of the instance that is wanted.
-use Rattle.std.proofs.Common.{◌≡◌, ◌⊎◌, ℕ, suc, ◌+◌, ◌-◌, ◌*◌, ◌<◌, ◌≤◌, true, Some, None, pos, negsuc, ◌+ℤ◌, ◌-ℤ◌, refl, sym, ap, ◌∙◌, subst, inl, inr, arith}
-use Rattle.std.specs.Prelude.{slice_get, slice_index, is_some, ◌*ℤ◌, ◌<ℤ◌}
+use Rattle.std.proofs.Common.{◌≡◌, ℕ, ◌+◌, ◌-◌, ◌<◌, ◌≤◌, true, length, Some, None, pos, ◌-ℤ◌, sym, ap, ◌∙◌, subst, inl, inr, arith}
+use Rattle.std.specs.Prelude.{slice_get, slice_index, is_some}
 use Rattle.std.specs.List.{Contains}
 use Rattle.std.proofs.lemmas.Bool.{cases_lt}
 use Rattle.std.proofs.lemmas.Int.{ints}
-use Rattle.std.proofs.Math.IntN.{negsuc-*ℤ-pos}
 use Rattle.std.proofs.lemmas.Option.{same_Some}
 use Rattle.iterations.specs.declared.language.statement.Statement.{Statement}
 use Rattle.iterations.specs.Run.{MemoryData}
 use Rattle.graph.specs.Dependences.{Uses}
 use Rattle.graph.specs.Promises.{issue_of}
-use Rattle.graph.proofs.finding.Promised.{values-in_time}
 use Rattle.kernel.specs.Overlapped.{InRegister, Write, physical, last_landed}
+use Rattle.registers.specs.declared.value.Read.{Read}
+use Rattle.registers.specs.Values as values
+use Rattle.instances.specs.Runs as lists
+use Rattle.instances.proofs.Turned.{destination-is, source-is}
+use Rattle.instances.proofs.Standing.{read-lands, read-opens}
 use Rattle.overlap.specs.Allotments.{AllotmentData, allotted_number}
-use Rattle.overlap.specs.Lifetimes.{IsLiveIn, first_cycle, lifetime_of, lifetimes_of, rank_of}
-use Rattle.ims.specs.Schedules.{ScheduleData, IsSchedule}
+use Rattle.overlap.specs.Lifetimes.{rank_of}
+use Rattle.ims.specs.Schedules.{ScheduleData}
 use Rattle.overlap.specs.Sequence.{write_of_instance, given_by, sequence_before}
 use Rattle.overlap.specs.Overlap.{IsRun}
-use Rattle.overlap.proofs.in_registers.Apart.{before-or_same}
-use Rattle.overlap.proofs.in_flight.Issued.{IsIssued, issued-from_sequence, sequence-from_issued}
-use Rattle.overlap.proofs.in_flight.Landing.{last-landed_is, none-landed}
-use Rattle.registers.proofs.Whole.{times-more}
-use Rattle.overlap.proofs.in_registers.Lives.{begins-by_landing, begins-by_interval, lasts-to_landing, lasts-to_use, carried-far, life-at_rank, rank-one}
-use Rattle.overlap.proofs.in_flight.Writes.{keeps-dependences, takes-time, into-register, makes-value}
+use Rattle.overlap.proofs.in_flight.Issued.{issued-from_sequence, sequence-from_issued}
+use Rattle.overlap.proofs.in_flight.Landing.{IsEarlier, last-landed_is, none-landed}
+use Rattle.overlap.proofs.in_flight.Writes.{takes-time, into-register, makes-value}
+use Rattle.overlap.proofs.in_registers.Lives.{rank-one, value-at_rank}
+use Rattle.overlap.proofs.in_registers.OfSchedule.{run_of, is-run, rank-place, read-of_use, value-is, value-within}
 
--- an iteration so many before another one, in cycles
-pub times-back : (j d ii : ℕ) → ((pos j -ℤ pos d) *ℤ pos ii) ≡ (pos (ii * j) -ℤ pos (ii * d))
-times-back j d ii = elim (cases_lt j d) [
-  | inr le ↦
-      let e : (pos j -ℤ pos d) ≡ pos (j - d) = omega (arith, ints) in
-      let m : ii * j ≡ ii * d + ii * (j - d) = times-more ii d j le in
-      let c : (j - d) * ii ≡ ii * (j - d) = omega arith in
-      ap (λ z. z *ℤ pos ii) e ∙ (let f : (pos (j - d) *ℤ pos ii) ≡ pos ((j - d) * ii) = refl in omega (arith, ints))
-  | inl lt ↦
-      let n : ℕ = d - suc j in
-      let e : (pos j -ℤ pos d) ≡ negsuc n = omega (arith, ints) in
-      let m : ii * d ≡ ii * j + ii * (d - j) = times-more ii j d (omega arith) in
-      let s : d - j ≡ suc n = omega arith in
-      let c : suc n * ii ≡ ii * (d - j) = ap (λ k. k * ii) (sym s) ∙ (let x : (d - j) * ii ≡ ii * (d - j) = omega arith in x) in
-      ap (λ z. z *ℤ pos ii) e ∙ negsuc-*ℤ-pos n ii ∙ (omega (arith, ints))
-]
+-- the write of an instance of a statement that gives a value
+abbrev pub made-write : ScheduleData → AllotmentData → MemoryData → ℕ → ℕ → Statement → Write
+made-write schedule allotment memory x k s = record {
+  target = InRegister (physical allotment.registers (allotted_number schedule.problem.loop allotment x) (pos k));
+  value = given_by schedule.problem.loop memory.arrays x k s;
+  start = issue_of schedule.ii schedule.times x k + slice_index schedule.problem.graph.latencies x;
+}
 
--- an instance lives in the cycle in which it lands
-pub lives-at_landing : (schedule : ScheduleData) → IsSchedule schedule → (x k : ℕ)
-    → IsLiveIn schedule.ii (lifetime_of schedule x) (pos k) (pos (issue_of schedule.ii schedule.times x k + slice_index schedule.problem.graph.latencies x))
-lives-at_landing schedule sc x k =
-    let b = begins-by_landing schedule x in
-    let l = lasts-to_landing values-in_time schedule (keeps-dependences schedule sc) x in
-    let c : k * schedule.ii ≡ schedule.ii * k = omega arith in
-    let f : (pos k *ℤ pos schedule.ii) ≡ pos (k * schedule.ii) = refl in
-    record { begun = omega (arith, ints); lasts = omega (arith, ints) }
+module _ (schedule : ScheduleData) (allotment : AllotmentData) (memory : MemoryData) (run : IsRun schedule allotment memory) where
+  -- where and when an instance lands
+  pub rank-within : (x : ℕ) (s : Statement) → slice_get schedule.problem.loop.statements x ≡ Some s → is_some s.name ≡ true
+      → rank_of schedule.problem.loop x < length (run_of schedule allotment).values
+  rank-within x s there named = value-within schedule allotment run.belong (rank_of schedule.problem.loop x) x (value-at_rank schedule.problem.loop x s there named)
 
--- and in which it is used
-pub lives-at_use : (schedule : ScheduleData) → IsSchedule schedule → (x q d j : ℕ) → Uses schedule.problem.loop q x d
-    → (first_cycle schedule x + schedule.ii * j ≤ slice_index schedule.times q + schedule.ii * j + schedule.ii * d)
-    → IsLiveIn schedule.ii (lifetime_of schedule x) (pos j -ℤ pos d) (pos (issue_of schedule.ii schedule.times q j))
-lives-at_use schedule sc x q d j u first =
-    let l = lasts-to_use schedule x q d u in
-    let t = times-back j d schedule.ii in
-    record { begun = omega (arith, ints); lasts = omega (arith, ints) }
+  pub rank-destination : (x k : ℕ) (s : Statement) → slice_get schedule.problem.loop.statements x ≡ Some s → is_some s.name ≡ true
+      → lists.destination (run_of schedule allotment) (rank_of schedule.problem.loop x) k
+      ≡ lists.InRegister 0 (physical allotment.registers (allotted_number schedule.problem.loop allotment x) (pos k))
+  rank-destination x k s there named =
+      destination-is (run_of schedule allotment) (is-run schedule allotment run.belong).homes (rank_of schedule.problem.loop x) k
+      ∙ rank-place schedule allotment run.belong x s (pos k) there named
 
--- a write into the register of the instance that is wanted, by the time at which it is read, is of that instance or is there
--- before it begins to live
-disturbs : (schedule : ScheduleData) (allotment : AllotmentData) (memory : MemoryData) → IsRun schedule allotment memory
-    → (x q d j : ℕ) (s : Statement) → slice_get schedule.problem.loop.statements x ≡ Some s → is_some s.name ≡ true
-    → (first : first_cycle schedule x + schedule.ii * j ≤ slice_index schedule.times q + schedule.ii * j + schedule.ii * d) → Uses schedule.problem.loop q x d
-    → (v : Write) → (is : IsIssued schedule allotment memory (issue_of schedule.ii schedule.times q j) v)
-    → v.target ≡ InRegister (physical allotment.registers (allotted_number schedule.problem.loop allotment x) (pos j -ℤ pos d))
-    → v.start ≤ issue_of schedule.ii schedule.times q j
-    → ((x ≡ is.op) × ((pos j -ℤ pos d) ≡ pos is.iteration)) ⊎ (pos v.start <ℤ (pos (first_cycle schedule x) +ℤ ((pos j -ℤ pos d) *ℤ pos schedule.ii)))
-disturbs schedule allotment memory run x q d j s there named first u v is target early =
-    let loop = schedule.problem.loop in
-    let sc = run.belong.scheduled in
-    let shape = (sc.problem.loop.each is.op is.statement is.is_statement).shape in
-    let r : ℕ = physical allotment.registers (allotted_number loop allotment x) (pos j -ℤ pos d) in
-    let w = into-register schedule allotment memory.arrays is.op is.iteration is.statement v r shape is.is_write target in
-    let land : IsLiveIn schedule.ii (lifetime_of schedule is.op) (pos is.iteration) (pos v.start)
-    = subst (λ n. IsLiveIn schedule.ii (lifetime_of schedule is.op) (pos is.iteration) (pos n)) (sym w.2) (lives-at_landing schedule sc is.op is.iteration) in
-    elim (before-or_same schedule.ii allotment.registers (lifetimes_of schedule) allotment.numbers run.belong.suits
-    (rank_of loop x) (rank_of loop is.op) (lifetime_of schedule x) (lifetime_of schedule is.op) (pos j -ℤ pos d) (pos is.iteration)
-    (life-at_rank schedule x s there named) (life-at_rank schedule is.op is.statement is.is_statement w.0) w.1
-    (pos (issue_of schedule.ii schedule.times q j)) (pos v.start) (lives-at_use schedule sc x q d j u first) land (omega (arith, ints))) [
-      | inl same ↦ inl (rank-one loop x is.op s is.statement there named is.is_statement w.0 same.0, same.1)
-      | inr before ↦ inr before
-    ]
+  rank-landing : (x k : ℕ) (s : Statement) → slice_get schedule.problem.loop.statements x ≡ Some s → is_some s.name ≡ true
+      → lists.landing (run_of schedule allotment) (rank_of schedule.problem.loop x) k ≡ issue_of schedule.ii schedule.times x k + slice_index schedule.problem.graph.latencies x
+  rank-landing x k s there named =
+      let e = ap (values.landing_of schedule.times) (value-is schedule allotment run.belong (rank_of schedule.problem.loop x) x (value-at_rank schedule.problem.loop x s there named)) in
+      omega arith
 
--- of a value of the run
-pub register-lands : (schedule : ScheduleData) (allotment : AllotmentData) (memory : MemoryData) → IsRun schedule allotment memory
-    → (x q d j : ℕ) (s : Statement) → slice_get schedule.problem.loop.statements x ≡ Some s → is_some s.name ≡ true
-    → Uses schedule.problem.loop q x d → j < memory.trip → d ≤ j
-    → last_landed (sequence_before schedule allotment memory (issue_of schedule.ii schedule.times q j))
-    (InRegister (physical allotment.registers (allotted_number schedule.problem.loop allotment x) (pos j -ℤ pos d))) (issue_of schedule.ii schedule.times q j)
-    ≡ write_of_instance schedule allotment memory.arrays x (j - d) s
-register-lands schedule allotment memory run x q d j s there named u within le =
-    let loop = schedule.problem.loop in
-    let sc = run.belong.scheduled in
-    let ii : ℕ = schedule.ii in
-    let some : 0 < ii = sc.ii_some in
-    let cycle : ℕ = issue_of ii schedule.times q j in
-    let k : ℕ = j - d in
-    let latency : ℕ = slice_index schedule.problem.graph.latencies x in
-    let shape = (sc.problem.loop.each x s there).shape in
-    let w : Write = record {
-      target = InRegister (physical allotment.registers (allotted_number loop allotment x) (pos k));
-      value = given_by loop memory.arrays x k s;
-      start = issue_of ii schedule.times x k + latency;
-    } in
-    let is_write : write_of_instance schedule allotment memory.arrays x k s ≡ Some w = makes-value schedule allotment memory.arrays x k s shape named in
-    let back : k + d ≡ j = omega arith in
-    let in_time : issue_of ii schedule.times x k + latency ≤ cycle
-    = subst (λ n. issue_of ii schedule.times x k + latency ≤ issue_of ii schedule.times q n) back
-    (values-in_time loop schedule.problem.graph.latencies ii schedule.times (keeps-dependences schedule sc) x q d k u) in
-    let takes = takes-time schedule sc x s there in
-    let b = begins-by_landing schedule x in
-    let m : ii * j ≡ ii * d + ii * k = times-more ii d j le in
-    let first : first_cycle schedule x + ii * j ≤ slice_index schedule.times q + ii * j + ii * d = omega arith in
-    let same : (pos j -ℤ pos d) ≡ pos k = omega (arith, ints) in
-    let c : Contains (sequence_before schedule allotment memory cycle) w
-    = sequence-from_issued schedule allotment memory cycle w some x k s there (omega arith) (omega arith) is_write in
-    let target : InRegister (physical allotment.registers (allotted_number loop allotment x) (pos j -ℤ pos d)) ≡ w.target
-    = ap (λ z. InRegister (physical allotment.registers (allotted_number loop allotment x) z)) same in
-    ap (λ t. last_landed (sequence_before schedule allotment memory cycle) t cycle) target
-    ∙ last-landed_is (sequence_before schedule allotment memory cycle) cycle w c in_time (λ v e t early.
-    let is = issued-from_sequence schedule allotment memory cycle v e in
-    elim (disturbs schedule allotment memory run x q d j s there named first u v is (t ∙ sym target) early) [
-      | inl met ↦
-          let it : is.iteration ≡ k = let z = met.1 in omega (arith, ints) in
-          let st : is.statement ≡ s = same_Some is.statement s (sym is.is_statement ∙ ap (slice_get loop.statements) (sym met.0) ∙ there) in
-          inl (same_Some v w (sym is.is_write
-          ∙ ap (λ n. write_of_instance schedule allotment memory.arrays n is.iteration is.statement) (sym met.0)
-          ∙ ap (λ n. write_of_instance schedule allotment memory.arrays x n is.statement) it
-          ∙ ap (write_of_instance schedule allotment memory.arrays x k) st ∙ is_write))
-      | inr before ↦
-          let tb = times-back j d ii in
-          inr (omega (arith, ints))
-    ])
-    ∙ sym is_write
-
--- and of one before the first iteration: nothing has landed there
-pub register-opens : (schedule : ScheduleData) (allotment : AllotmentData) (memory : MemoryData) → IsRun schedule allotment memory
-    → (x q d j : ℕ) (s : Statement) → slice_get schedule.problem.loop.statements x ≡ Some s → is_some s.name ≡ true
-    → Uses schedule.problem.loop q x d → j < d
-    → last_landed (sequence_before schedule allotment memory (issue_of schedule.ii schedule.times q j))
-    (InRegister (physical allotment.registers (allotted_number schedule.problem.loop allotment x) (pos j -ℤ pos d))) (issue_of schedule.ii schedule.times q j)
-    ≡ None
-register-opens schedule allotment memory run x q d j s there named u lt =
-    let loop = schedule.problem.loop in
-    let sc = run.belong.scheduled in
-    let ii : ℕ = schedule.ii in
-    let cycle : ℕ = issue_of ii schedule.times q j in
-    let far = carried-far loop x q d u in
-    let b : first_cycle schedule x ≤ ii = begins-by_interval schedule x (omega arith) in
-    let m : ii * d ≡ ii * j + ii * (d - j) = times-more ii j d (omega arith) in
-    let one : ii * (d - j) ≡ ii * 1 + ii * (d - j - 1) = times-more ii 1 (d - j) (omega arith) in
-    let first : first_cycle schedule x + ii * j ≤ slice_index schedule.times q + ii * j + ii * d = omega arith in
-    none-landed (sequence_before schedule allotment memory cycle) (InRegister (physical allotment.registers (allotted_number loop allotment x) (pos j -ℤ pos d))) cycle (λ v e t.
-    let is = issued-from_sequence schedule allotment memory cycle v e in
-    elim (cases_lt cycle v.start) [
-      | inl late ↦ late
-      | inr early ↦ elim (disturbs schedule allotment memory run x q d j s there named first u v is t early) [
-        | inl met ↦ let z = met.1 in absurd (omega (arith, ints))
-        | inr before ↦ let tb = times-back j d ii in absurd (omega (arith, ints))
+  -- what lands in the register of an instance that stands there has landed before it
+  pub lands-before : (final by x k : ℕ) (s : Statement) → slice_get schedule.problem.loop.statements x ≡ Some s → is_some s.name ≡ true
+      → lists.StandsIn (run_of schedule allotment) memory.trip (lists.InRegister 0 (physical allotment.registers (allotted_number schedule.problem.loop allotment x) (pos k))) by (rank_of schedule.problem.loop x) k
+      → (v : Write) → Contains (sequence_before schedule allotment memory final) v → v.target ≡ (made-write schedule allotment memory x k s).target → v.start ≤ by
+      → IsEarlier (made-write schedule allotment memory x k s) v
+  lands-before final by x k s there named stands v c target early =
+      let loop = schedule.problem.loop in
+      let sc = run.belong.scheduled in
+      let register : ℕ = physical allotment.registers (allotted_number loop allotment x) (pos k) in
+      let is = issued-from_sequence schedule allotment memory final v c in
+      let is_shape = (sc.problem.loop.each is.op is.statement is.is_statement).shape in
+      let shape = (sc.problem.loop.each x s there).shape in
+      let w = into-register schedule allotment memory.arrays is.op is.iteration is.statement v register is_shape is.is_write target in
+      let start = w.2 in
+      let lands = rank-landing is.op is.iteration is.statement is.is_statement w.0 in
+      let this = rank-landing x k s there named in
+      elim (stands.last (rank_of loop is.op) is.iteration (rank-within is.op is.statement is.is_statement w.0) is.within
+      (rank-destination is.op is.iteration is.statement is.is_statement w.0 ∙ ap (lists.InRegister 0) (sym w.1)) (omega arith)) [
+        | inl same ↦
+            let op : is.op ≡ x = rank-one loop is.op x is.statement s is.is_statement w.0 there named same.0 in
+            let statement : is.statement ≡ s = same_Some is.statement s (sym is.is_statement ∙ ap (slice_get loop.statements) op ∙ there) in
+            inl (same_Some v (made-write schedule allotment memory x k s) (sym is.is_write
+            ∙ ap (λ n. write_of_instance schedule allotment memory.arrays n is.iteration is.statement) op
+            ∙ ap (λ n. write_of_instance schedule allotment memory.arrays x n is.statement) same.1
+            ∙ ap (write_of_instance schedule allotment memory.arrays x k) statement ∙ makes-value schedule allotment memory.arrays x k s shape named))
+        | inr before ↦ inr (omega arith)
       ]
-    ])
+
+  -- so that one is what landed last
+  stands-last : (cycle x k : ℕ) (s : Statement) → slice_get schedule.problem.loop.statements x ≡ Some s → is_some s.name ≡ true
+      → lists.StandsIn (run_of schedule allotment) memory.trip (lists.InRegister 0 (physical allotment.registers (allotted_number schedule.problem.loop allotment x) (pos k))) cycle (rank_of schedule.problem.loop x) k
+      → last_landed (sequence_before schedule allotment memory cycle) (InRegister (physical allotment.registers (allotted_number schedule.problem.loop allotment x) (pos k))) cycle
+      ≡ write_of_instance schedule allotment memory.arrays x k s
+  stands-last cycle x k s there named stands =
+      let sc = run.belong.scheduled in
+      let shape = (sc.problem.loop.each x s there).shape in
+      let is_write = makes-value schedule allotment memory.arrays x k s shape named in
+      let takes = takes-time schedule sc x s there in
+      let lands = rank-landing x k s there named in
+      let landed = stands.landed in
+      last-landed_is (sequence_before schedule allotment memory cycle) cycle (made-write schedule allotment memory x k s)
+      (sequence-from_issued schedule allotment memory cycle (made-write schedule allotment memory x k s) sc.ii_some x k s there stands.within (omega arith) is_write) (omega arith)
+      (λ v c target early. lands-before cycle cycle x k s there named stands v c target early)
+      ∙ sym is_write
+
+  -- where nothing has landed by the run of lists, nothing has
+  opens-last : (cycle register : ℕ) → lists.IsOpening (run_of schedule allotment) memory.trip (lists.InRegister 0 register) cycle
+      → last_landed (sequence_before schedule allotment memory cycle) (InRegister register) cycle ≡ None
+  opens-last cycle register opening =
+      none-landed (sequence_before schedule allotment memory cycle) (InRegister register) cycle (λ v c target.
+      let is = issued-from_sequence schedule allotment memory cycle v c in
+      let shape = (run.belong.scheduled.problem.loop.each is.op is.statement is.is_statement).shape in
+      let w = into-register schedule allotment memory.arrays is.op is.iteration is.statement v register shape is.is_write target in
+      let start = w.2 in
+      let lands = rank-landing is.op is.iteration is.statement is.is_statement w.0 in
+      elim (cases_lt cycle v.start) [
+        | inl late ↦ late
+        | inr early ↦ absurd (opening (rank_of schedule.problem.loop is.op) is.iteration (rank-within is.op is.statement is.is_statement w.0) is.within
+            (rank-destination is.op is.iteration is.statement is.is_statement w.0 ∙ ap (lists.InRegister 0) (sym w.1)) (omega arith))
+      ])
+
+  -- a use as a read: its place is that of the instance that is wanted, and it is made when its reader is issued
+  use-source : (x q d j : ℕ) (s : Statement) → slice_get schedule.problem.loop.statements x ≡ Some s → is_some s.name ≡ true
+      → lists.source (run_of schedule allotment) (record { value = rank_of schedule.problem.loop x; reader = q; distance = d; offset = 0 }) j
+      ≡ lists.InRegister 0 (physical allotment.registers (allotted_number schedule.problem.loop allotment x) (pos j -ℤ pos d))
+  use-source x q d j s there named =
+      source-is (run_of schedule allotment) (is-run schedule allotment run.belong).homes (record { value = rank_of schedule.problem.loop x; reader = q; distance = d; offset = 0 }) j
+      ∙ rank-place schedule allotment run.belong x s (pos j -ℤ pos d) there named
+
+  -- of a value of the run
+  pub register-lands : (x q d j : ℕ) (s : Statement) → slice_get schedule.problem.loop.statements x ≡ Some s → is_some s.name ≡ true
+      → Uses schedule.problem.loop q x d → j < memory.trip → d ≤ j
+      → last_landed (sequence_before schedule allotment memory (issue_of schedule.ii schedule.times q j))
+      (InRegister (physical allotment.registers (allotted_number schedule.problem.loop allotment x) (pos j -ℤ pos d))) (issue_of schedule.ii schedule.times q j)
+      ≡ write_of_instance schedule allotment memory.arrays x (j - d) s
+  register-lands x q d j s there named u within le =
+      let loop = schedule.problem.loop in
+      let cycle : ℕ = issue_of schedule.ii schedule.times q j in
+      let rank : ℕ = rank_of loop x in
+      let r : Read = record { value = rank; reader = q; distance = d; offset = 0 } in
+      let n = read-of_use loop rank x q d (value-at_rank loop x s there named) u in
+      let same : (pos j -ℤ pos d) ≡ pos (j - d) = omega (arith, ints) in
+      let at : lists.reading_cycle (run_of schedule allotment) r j ≡ cycle = omega arith in
+      let place : lists.source (run_of schedule allotment) r j ≡ lists.InRegister 0 (physical allotment.registers (allotted_number loop allotment x) (pos (j - d)))
+      = use-source x q d j s there named ∙ ap (λ z. lists.InRegister 0 (physical allotment.registers (allotted_number loop allotment x) z)) same in
+      let stands = read-lands (run_of schedule allotment) (is-run schedule allotment run.belong) n.0 r n.1 memory.trip j within le in
+      ap (λ z. last_landed (sequence_before schedule allotment memory cycle) (InRegister (physical allotment.registers (allotted_number loop allotment x) z)) cycle) same
+      ∙ stands-last cycle x (j - d) s there named
+      (subst (λ p. lists.StandsIn (run_of schedule allotment) memory.trip p cycle rank (j - d)) place
+      (subst (λ c. lists.StandsIn (run_of schedule allotment) memory.trip (lists.source (run_of schedule allotment) r j) c rank (j - d)) at stands))
+
+  -- and of one before the first iteration: nothing has landed there
+  pub register-opens : (x q d j : ℕ) (s : Statement) → slice_get schedule.problem.loop.statements x ≡ Some s → is_some s.name ≡ true
+      → Uses schedule.problem.loop q x d → j < d
+      → last_landed (sequence_before schedule allotment memory (issue_of schedule.ii schedule.times q j))
+      (InRegister (physical allotment.registers (allotted_number schedule.problem.loop allotment x) (pos j -ℤ pos d))) (issue_of schedule.ii schedule.times q j)
+      ≡ None
+  register-opens x q d j s there named u lt =
+      let loop = schedule.problem.loop in
+      let cycle : ℕ = issue_of schedule.ii schedule.times q j in
+      let r : Read = record { value = rank_of loop x; reader = q; distance = d; offset = 0 } in
+      let n = read-of_use loop (rank_of loop x) x q d (value-at_rank loop x s there named) u in
+      let at : lists.reading_cycle (run_of schedule allotment) r j ≡ cycle = omega arith in
+      opens-last cycle (physical allotment.registers (allotted_number loop allotment x) (pos j -ℤ pos d))
+      (subst (λ p. lists.IsOpening (run_of schedule allotment) memory.trip p cycle) (use-source x q d j s there named)
+      (subst (lists.IsOpening (run_of schedule allotment) memory.trip (lists.source (run_of schedule allotment) r j)) at
+      (read-opens (run_of schedule allotment) (is-run schedule allotment run.belong) n.0 r n.1 memory.trip j lt)))
