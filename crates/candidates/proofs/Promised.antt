@@ -105,9 +105,9 @@ kernels-run machine loop ratio ceiling ii problem kernel is g =
 
 right_choice : (machine : MachineData) (loop : LoopData) (ratio ceiling : ℕ) (problem : ProblemData) (choice : Choice) → IsProblemOf machine loop ratio ceiling problem → IsChoice problem choice → IsRightChoice machine loop choice
 right_choice machine loop ratio ceiling problem (Met ii kernel) is c = (
-  kept-ii c.is_kernel.schedule kernel c.is_kernel.has_kernel ∙ c.is_kernel.is_schedule.3,
-  kernels-keep machine loop ratio ceiling ii problem kernel is c.is_kernel,
-  kernels-run machine loop ratio ceiling ii problem kernel is c.is_kernel,
+  kept-ii c.is_given.schedule kernel c.is_given.has_kernel ∙ c.is_given.is_schedule.3,
+  kernels-keep machine loop ratio ceiling ii problem kernel is c.is_given,
+  kernels-run machine loop ratio ceiling ii problem kernel is c.is_given,
 )
 right_choice machine loop ratio ceiling problem (Failed cause) is c = tt
 

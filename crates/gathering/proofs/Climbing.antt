@@ -91,7 +91,7 @@ climbed_on p old now next above retried tries last cause is c fails set tried = 
 pub met_here : (p : ProblemData) (old now : LoopCells) (above retried m : ℕ) (last : Cause) (kernel : Parts) → Climbed p old now above retried last → GivesKernel p (mii_of p + above) kernel → above ≤ p.ceiling → m ≡ mii_of p
     → IsLeastMet p (m + above) kernel
 met_here p old now above retried m last kernel c gives few same = subst (λ k. IsLeastMet p (k + above) kernel) (sym same)
-    (record { from_mii = omega arith; to_last = omega arith; is_kernel = gives; least = c.none })
+    (record { from_first = omega arith; to_last = omega arith; is_given = gives; least = c.none })
 
 pub count_met : (p : ProblemData) (old now : LoopCells) (above retried tries m : ℕ) (last : Cause) → Climbed p old now above retried last → tries ≡ (if is_full (known_at now.cells.items above) then 0 else 1) → m ≡ mii_of p
     → retried + tries ≡ empty_from old.cells.items 0 (m + above + 1 - mii_of p)

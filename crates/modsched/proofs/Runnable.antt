@@ -36,7 +36,7 @@ stands_for problem ii kernel g =
     }
 
 runnable : (problem : ProblemData) (choice : Choice) → IsChoice problem choice → IsRunnable problem.loop choice
-runnable problem (Met ii kernel) c = stands_for problem ii kernel c.is_kernel
+runnable problem (Met ii kernel) c = stands_for problem ii kernel c.is_given
 runnable problem (Failed cause) c = tt
 
 -- each loop with its row

@@ -75,7 +75,7 @@ later p ps ceiling l (Some ii) h = record { from_mii = h.from_mii; to_ceiling = 
 
 first_chosen : (p : ProblemData) (ps : List ProblemData) (ceiling : ℕ) (c : Choice) → p.ceiling ≡ ceiling → IsChoice p c → IsChosen (wins_at (p ∷ ps)) (p ∷ ps) ceiling 0 (met_at c)
 first_chosen p ps ceiling (Met ii kernel) same h =
-    record { from_mii = h.from_mii; to_ceiling = subst (λ k. ii ≤ mii_of p + k) same h.to_last; is_win = (h.from_mii, (kernel, h.is_kernel)); least = λ k low less w. h.least k w.1.0 low less w.1.1 }
+    record { from_mii = h.from_first; to_ceiling = subst (λ k. ii ≤ mii_of p + k) same h.to_last; is_win = (h.from_first, (kernel, h.is_given)); least = λ k low less w. h.least k w.1.0 low less w.1.1 }
 first_chosen p ps ceiling (Failed cause) same h = λ k low high w. h.none k w.1.0 low (omega arith) w.1.1
 
 chosen_at : (ps : List ProblemData) (cs : List Choice) (ceiling l : ℕ) (o : Option ℕ) → All (λ (p : ProblemData). p.ceiling ≡ ceiling) ps → AllZip IsChoice ps cs → slice_get (map met_at cs) l ≡ Some o
