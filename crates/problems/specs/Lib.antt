@@ -1,0 +1,6 @@
+pub mod Drafts
+pub mod Faults
+pub mod Labels
+pub mod Problems
+pub mod Promises
+pub mod Refusals
