@@ -59,11 +59,15 @@ count_fault draft = first_of (
 abbrev pub is_repeated : List (List ℕ) → ℕ → List ℕ → Bool
 is_repeated names number name = list_any (same_word name) (take number names)
 
+-- of the name with a number among the names of a part
+abbrev pub repeat_fault : Part → List (List ℕ) → ℕ → List ℕ → Option Fault
+repeat_fault part names number name = unless (not (is_repeated names number name)) (Repeated part number)
+
 -- of a part of which there are so many
 abbrev pub name_fault : Part → ℕ → List (List ℕ) → Option Fault
 name_fault part count names = first_of (
     unless (length names == 0 || length names == count) (NameCount part)
-    ∷ first_in (λ number name. unless (not (is_repeated names number name)) (Repeated part number)) names
+    ∷ first_in (repeat_fault part names) names
     ∷ [])
 
 abbrev pub names_fault : Draft → Option Fault
@@ -139,14 +143,17 @@ order_fault operations number order = first_of (
 
 -- all
 
-abbrev pub first_fault_of : Draft → Option Fault
-first_fault_of draft = first_of (
-    count_fault draft
-    ∷ names_fault draft
-    ∷ first_in file_fault draft.files.items
+-- apart from counts and names
+abbrev pub part_fault : Draft → Option Fault
+part_fault draft = first_of (
+    first_in file_fault draft.files.items
     ∷ first_in (kind_fault draft.units) draft.kinds.items
     ∷ first_in (operation_fault (length draft.kinds.items)) draft.operations.items
     ∷ first_in (value_fault (length draft.operations.items) (length draft.files.items)) draft.values.items
     ∷ first_in (read_fault draft) draft.reads.items
     ∷ first_in (order_fault (length draft.operations.items)) draft.orders.items
     ∷ [])
+
+-- the first thing that is wrong with a draft
+abbrev pub first_fault_of : Draft → Option Fault
+first_fault_of draft = first_of (count_fault draft ∷ names_fault draft ∷ part_fault draft ∷ [])

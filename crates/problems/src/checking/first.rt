@@ -1,7 +1,7 @@
 //! The first fault of a draft.
 
 ghost use Rattle.std.specs.Prelude.{◌≡◌, IfOk};
-ghost use Rattle.problems.specs.Faults.{first_fault_of, count_fault};
+ghost use Rattle.problems.specs.Faults.{first_fault_of, count_fault, part_fault};
 
 use crate::checking::kinds::first_in_kinds;
 use crate::checking::names::names_fault;
@@ -46,15 +46,23 @@ fn count_fault(draft: &Draft) -> Option<Fault>
 fn part_fault(draft: &Draft) -> Option<Fault>
     ensures { result ≡ part_fault draft.now }
 {
-    first_in_files(draft.files.as_slice())
-        .or_else(|| first_in_kinds(draft.units, draft.kinds.as_slice()))
-        .or_else(|| first_in_operations(draft.kinds.len(), draft.operations.as_slice()))
-        .or_else(|| {
-            let operations = draft.operations.len();
-            first_in_values(operations, draft.files.len(), draft.values.as_slice())
-        })
-        .or_else(|| first_in_reads(draft, draft.reads.as_slice()))
-        .or_else(|| first_in_orders(draft.operations.len(), draft.orders.as_slice()))
+    if let Some(fault) = first_in_files(draft.files.as_slice()) {
+        return Some(fault);
+    }
+    if let Some(fault) = first_in_kinds(draft.units, draft.kinds.as_slice()) {
+        return Some(fault);
+    }
+    if let Some(fault) = first_in_operations(draft.kinds.len(), draft.operations.as_slice()) {
+        return Some(fault);
+    }
+    let operations = draft.operations.len();
+    if let Some(fault) = first_in_values(operations, draft.files.len(), draft.values.as_slice()) {
+        return Some(fault);
+    }
+    if let Some(fault) = first_in_reads(draft) {
+        return Some(fault);
+    }
+    first_in_orders(operations, draft.orders.as_slice())
 }
 
 /// The first thing that is wrong with a draft, if anything is: the counts of all parts come first, then the names of
