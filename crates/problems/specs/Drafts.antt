@@ -34,11 +34,11 @@ abbrev pub IsFile : File → Type 0
 IsFile (Rotating registers) = (1 ≤ registers) × (registers ≤ 256)
 IsFile Unallotted = Unit {0}
 
--- 1 to 16 different rows, of the first units and at offsets of 0 to 63 cycles
-pub record AreRows (units : ℕ) (rows : List Hold) : Type 0 where
+-- 1 to 16 different rows, of the first so many units and at offsets of 0 to 63 cycles
+pub record AreRows (count : ℕ) (rows : List Hold) : Type 0 where
   pub some : 1 ≤ length rows
   pub few : length rows ≤ 16
-  pub units : All (λ (row : Hold). row.unit < units) rows
+  pub units : All (λ (row : Hold). row.unit < count) rows
   pub offsets : All (λ (row : Hold). row.offset ≤ 63) rows
   pub different : AllPairs (λ a b. a ≢ b) rows
 
