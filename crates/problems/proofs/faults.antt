@@ -2,4 +2,5 @@
 pub mod Among
 pub mod Apart
 pub mod Says
+pub mod Seen
 pub mod Sound

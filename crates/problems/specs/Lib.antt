@@ -4,3 +4,4 @@ pub mod Labels
 pub mod Problems
 pub mod Promises
 pub mod Refusals
+pub mod inner

@@ -2,6 +2,7 @@
 
 ghost use Rattle.std.specs.Prelude.{◌≡◌, ◌<◌, length, Vec};
 ghost use Rattle.std.specs.Global.{Global};
+ghost use Rattle.std.specs.List.{list_any};
 ghost use Rattle.problems.specs.declared.draft.Hold.{Hold};
 ghost use Rattle.problems.specs.Faults.{first_in, same_hold, row_fault, alternative_fault, kind_fault};
 
@@ -14,6 +15,13 @@ fn same_hold(row: Hold, other: Hold) -> bool
     ensures { result ≡ same_hold row other }
 {
     row.unit == other.unit && row.offset == other.offset
+}
+
+/// Whether a row is among others.
+fn is_among(row: Hold, others: &[Hold]) -> bool
+    ensures { result ≡ list_any (same_hold row) others.now }
+{
+    others.iter().any(|other| same_hold(row, *other))
 }
 
 /// The fault of the row with a number among the rows of an alternative. It is compared with those before it, which are
@@ -35,8 +43,7 @@ fn row_fault(
     if row.offset > u64::from(MAX_OFFSET) {
         return Some(Fault::Offset(kind, alternative, number));
     }
-    let before = &rows[..number];
-    if before.iter().any(|other| same_hold(row, *other)) {
+    if is_among(row, &rows[..number]) {
         return Some(Fault::RepeatedRow(kind, alternative, number));
     }
     None

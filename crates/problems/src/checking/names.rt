@@ -1,6 +1,8 @@
 //! The first fault of the names of a draft.
 
-ghost use Rattle.std.specs.Prelude.{◌≡◌, IfOk, length};
+ghost use Rattle.std.specs.Prelude.{◌≡◌, ◌||◌, ℕ, List, IfOk, OnOk, length, not};
+ghost use Rattle.machine_data.specs.Opcodes.{same_word};
+ghost use Rattle.problems.specs.inner.Seen.{is_seen};
 ghost use Rattle.problems.specs.Faults.{first_in, repeat_fault, name_fault, names_fault};
 
 use crate::draft::Draft;
@@ -10,13 +12,21 @@ use machine_data::OutOfMemory;
 use std::alloc::Global;
 use std::collections::BTreeSet;
 
-/// The least number of a name that stands before it too.
+/// Adds a name, unless it is there already. The result is whether it was added.
+fn add<'a>(seen: &mut BTreeSet<&'a str>, name: &'a str) -> Result<bool, OutOfMemory>
+    ensures added { IfOk result (λ added. added ≡ not (is_seen seen.old name.now)) }
+    ensures seen { OnOk result ((q : List ℕ) → is_seen seen.new q ≡ (is_seen seen.old q || same_word q name.now)) }
+{
+    Ok(seen.insert(name)?)
+}
+
+/// The first name that stands before it too.
 fn first_repeated(alloc: Global, part: Part, names: &[Label]) -> Result<Option<Fault>, OutOfMemory>
     ensures { IfOk result (λ found. found ≡ first_in (repeat_fault part names.now) names.now) }
 {
     let mut seen = BTreeSet::new(alloc);
     for (number, name) in names.iter().enumerate() {
-        if !seen.insert(name.as_str())? {
+        if !add(&mut seen, name.as_str())? {
             return Ok(Some(Fault::Repeated(part, number)));
         }
     }
