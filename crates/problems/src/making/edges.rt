@@ -1,6 +1,6 @@
 //! The edges that the reads and the orders of a draft come to.
 
-ghost use Rattle.std.specs.Prelude.{◌≡◌, ◌≤◌, IfOk};
+ghost use Rattle.std.specs.Prelude.{◌≡◌, ◌≤◌, ◌++◌, map, IfOk};
 ghost use Rattle.problems.specs.Drafts.{IsWellFormed, IsRead, IsOrder, read_edge, order_edge, edges_of};
 
 use crate::draft::{Draft, Order};
@@ -38,17 +38,35 @@ fn order_edge(operations: usize, order: &Order) -> Edge
     }
 }
 
-/// The edges of the reads and the orders, in their order.
+/// Appends the edges of the reads, in their order.
+fn push_reads(draft: &Draft, edges: &mut Vec<Edge>) -> Result<(), OutOfMemory>
+    requires { IsWellFormed draft.now }
+    ensures { IfOk result (λ _. edges.new.items ≡ edges.old.items ++ map (read_edge draft.now) draft.now.reads.items) }
+{
+    for read in draft.reads.as_slice() {
+        edges.push(read_edge(draft, read))?;
+    }
+    Ok(())
+}
+
+/// Appends the edges of the orders, in their order.
+fn push_orders(draft: &Draft, edges: &mut Vec<Edge>) -> Result<(), OutOfMemory>
+    requires { IsWellFormed draft.now }
+    ensures { IfOk result (λ _. edges.new.items ≡ edges.old.items ++ map order_edge draft.now.orders.items) }
+{
+    for order in draft.orders.as_slice() {
+        edges.push(order_edge(draft.operations.len(), order))?;
+    }
+    Ok(())
+}
+
+/// The edges of the reads, and behind them those of the orders.
 pub(crate) fn edges_of(alloc: Global, draft: &Draft) -> Result<Vec<Edge>, OutOfMemory>
     requires { IsWellFormed draft.now }
     ensures { IfOk result (λ edges. edges.items ≡ edges_of draft.now) }
 {
     let mut edges = Vec::with_capacity(alloc, draft.reads.len() + draft.orders.len())?;
-    for read in draft.reads.as_slice() {
-        edges.push(read_edge(draft, read))?;
-    }
-    for order in draft.orders.as_slice() {
-        edges.push(order_edge(draft.operations.len(), order))?;
-    }
+    push_reads(draft, &mut edges)?;
+    push_orders(draft, &mut edges)?;
     Ok(edges)
 }
