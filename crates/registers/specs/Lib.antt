@@ -1,6 +1,7 @@
 pub mod Allotments
 pub mod Crowds
 pub mod Lifetimes
+pub mod Meetings
 pub mod Numberless
 pub mod Physical
 pub mod Residues

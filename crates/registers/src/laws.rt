@@ -4,6 +4,7 @@
 
 ghost use Rattle.registers.specs.Allotments.{LeastIsLawful, LeastIsOne, LeastOrNone};
 ghost use Rattle.registers.specs.Crowds.{AgesAreBetween};
+ghost use Rattle.registers.specs.Meetings.{MeetingsAreUnlawful};
 ghost use Rattle.registers.specs.Residues.{ForbidsBetween, LawfulMore, ShiftsAreBetween};
 ghost use Rattle.registers.specs.Values.{LivesAreSpans};
 
@@ -23,6 +24,11 @@ pub fn forbids_between()
 /// the others forbids the number.
 pub fn lawful_more()
     ensures { LawfulMore }
+{}
+
+/// Where two values of a list meet in a register, the numbers are not lawful.
+pub fn meetings_are_unlawful()
+    ensures { MeetingsAreUnlawful }
 {}
 
 /// The instances of a value that live in the cycle of a row, in whatever interval, are those whose

@@ -88,7 +88,7 @@ index-taken-or (x ∷ xs) zero k d lt = absurd (omega arith)
 index-taken-or (x ∷ xs) (suc n) zero d lt = refl
 index-taken-or (x ∷ xs) (suc n) (suc k) d lt = index-taken-or xs n k d (omega arith)
 
-meets-same : (registers : ℕ) (numbers : List ℕ) (n k l : ℕ) (i j : ℤ) → k < n → l < n
+pub meets-same : (registers : ℕ) (numbers : List ℕ) (n k l : ℕ) (i j : ℤ) → k < n → l < n
     → physical registers (slice_index (take n numbers) k) i ≡ physical registers (slice_index (take n numbers) l) j
     → physical registers (slice_index numbers k) i ≡ physical registers (slice_index numbers l) j
 meets-same registers numbers n k l i j kn ln e =

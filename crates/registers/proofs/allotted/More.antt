@@ -49,7 +49,7 @@ mul-more (negsuc a) k n = elim (cases_lt a k) [
       ap (λ z. z *ℤ pos n) s ∙ f ∙ omega (arith, ints)
 ]
 
-mul-less : (j i : ℤ) (n : ℕ) → ((j -ℤ i) *ℤ pos n) ≡ ((j *ℤ pos n) -ℤ (i *ℤ pos n))
+pub mul-less : (j i : ℤ) (n : ℕ) → ((j -ℤ i) *ℤ pos n) ≡ ((j *ℤ pos n) -ℤ (i *ℤ pos n))
 mul-less j (pos b) n =
     let m = mul-more (j -ℤ pos b) b n in
     let s : ((j -ℤ pos b) +ℤ pos b) ≡ j = omega (arith, ints) in
@@ -65,7 +65,7 @@ mul-less j (negsuc b) n =
 
 -- only the difference of two iterations counts
 
-forbids-from_meeting : (ii registers : ℕ) (lives : List Lifetime) (numbers : List ℕ) (k l : ℕ) (i j : ℤ) → 1 ≤ registers
+pub forbids-from_meeting : (ii registers : ℕ) (lives : List Lifetime) (numbers : List ℕ) (k l : ℕ) (i j : ℤ) → 1 ≤ registers
     → (m : DoMeet ii registers lives numbers k i l j) → Forbids ii registers m.one (slice_index numbers k) m.other (slice_index numbers l)
 forbids-from_meeting ii registers lives numbers k l i j some m =
     let c : ℕ = slice_index numbers k in
@@ -85,7 +85,7 @@ forbids-from_meeting ii registers lives numbers k l i j some m =
       ap (round registers) (sym left) ∙ round-shift registers (pos c -ℤ i) (pos d -ℤ j) i some m.same_register ∙ ap (round registers) right,
     )
 
-swapped : (ii registers : ℕ) (lives : List Lifetime) (numbers : List ℕ) (k l : ℕ) (i j : ℤ) → DoMeet ii registers lives numbers k i l j → DoMeet ii registers lives numbers l j k i
+pub swapped : (ii registers : ℕ) (lives : List Lifetime) (numbers : List ℕ) (k l : ℕ) (i j : ℤ) → DoMeet ii registers lives numbers k i l j → DoMeet ii registers lives numbers l j k i
 swapped ii registers lives numbers k l i j m = record {
   one = m.other;
   is_one = m.is_other;
@@ -99,7 +99,7 @@ swapped ii registers lives numbers k l i j m = record {
 
 -- places of a list with one more
 
-place-cases : {X : Type 0} (xs : List X) (y x : X) (k : ℕ) → slice_get (xs ++ y ∷ []) k ≡ Some x → (slice_get xs k ≡ Some x) ⊎ ((k ≡ length xs) × (x ≡ y))
+pub place-cases : {X : Type 0} (xs : List X) (y x : X) (k : ℕ) → slice_get (xs ++ y ∷ []) k ≡ Some x → (slice_get xs k ≡ Some x) ⊎ ((k ≡ length xs) × (x ≡ y))
 place-cases [] y x zero e = let z : y ≡ x = cc in inr (refl, sym z)
 place-cases [] y x (suc k) e = cc
 place-cases (w ∷ xs) y x zero e = inl e
@@ -108,12 +108,12 @@ place-cases (w ∷ xs) y x (suc k) e = elim (place-cases xs y x k e) [
   | inr h ↦ inr (ap suc h.0, h.1)
 ]
 
-place-left : {X : Type 0} (xs : List X) (y x : X) (k : ℕ) → slice_get xs k ≡ Some x → slice_get (xs ++ y ∷ []) k ≡ Some x
+pub place-left : {X : Type 0} (xs : List X) (y x : X) (k : ℕ) → slice_get xs k ≡ Some x → slice_get (xs ++ y ∷ []) k ≡ Some x
 place-left [] y x k e = cc
 place-left (w ∷ xs) y x zero e = e
 place-left (w ∷ xs) y x (suc k) e = place-left xs y x k e
 
-place-last : {X : Type 0} (xs : List X) (y : X) → slice_get (xs ++ y ∷ []) (length xs) ≡ Some y
+pub place-last : {X : Type 0} (xs : List X) (y : X) → slice_get (xs ++ y ∷ []) (length xs) ≡ Some y
 place-last [] y = refl
 place-last (w ∷ xs) y = place-last xs y
 
@@ -172,10 +172,10 @@ itself-one ii registers number life some regs order fits (negsuc b, meets, same)
 
 -- numbers with one more
 
-number-left : (numbers : List ℕ) (c k : ℕ) → k < length numbers → slice_index (numbers ++ c ∷ []) k ≡ slice_index numbers k
+pub number-left : (numbers : List ℕ) (c k : ℕ) → k < length numbers → slice_index (numbers ++ c ∷ []) k ≡ slice_index numbers k
 number-left numbers c k h = get_or_append_left numbers (c ∷ []) 0 k h
 
-number-last : (numbers : List ℕ) (c k : ℕ) → k ≡ length numbers → slice_index (numbers ++ c ∷ []) k ≡ c
+pub number-last : (numbers : List ℕ) (c k : ℕ) → k ≡ length numbers → slice_index (numbers ++ c ∷ []) k ≡ c
 number-last numbers c k h = get_or_push numbers c 0 k (sym h)
 
 -- a meeting of two places of the shorter lists

@@ -5,6 +5,7 @@ use Rattle.std.specs.Int.{int_rem_euclid}
 use Rattle.std.proofs.lemmas.Int.{ints, int_rem_euclid_is}
 use Rattle.std.proofs.Math.Nat.{div-add-mod', mod-lt, mod-le, mod-eq_of_lt, mul-le-mul_left, add-mul-mod_self_right}
 use Rattle.std.proofs.Math.IntN.{negsuc-*ℤ-pos}
+use Rattle.registers.specs.Physical.{physical}
 use Rattle.registers.specs.Residues.{rounded_down, rounded_up, least_shift, greatest_shift, ShiftsAreBetween, distance_up, ForbidsBetween}
 use Rattle.registers.proofs.Whole.{cases-int}
 use Rattle.registers.proofs.Whole.{times-more}
@@ -146,6 +147,18 @@ pub nat-from : (z : ℤ) → pos 0 ≤ℤ z → (n : ℕ) × (z ≡ pos n)
 nat-from (pos n) h = (n, refl)
 nat-from (negsuc n) h = absurd (omega (arith, ints))
 
+-- the first difference from a least one on that makes the candidate the register of the other's instance
+pub same-at_first : (registers number candidate : ℕ) (low : ℤ) → 0 < registers
+    → physical registers number (pos 0) ≡ physical registers candidate (low +ℤ pos (distance_up registers number low candidate))
+same-at_first registers number candidate low some =
+    let far : ℕ = distance_up registers number low candidate in
+    let t : ℤ = pos number -ℤ pos far in
+    let a : (pos far +ℤ t) ≡ (pos number -ℤ pos 0) = omega (arith, ints) in
+    let b : ((pos candidate -ℤ (pos number +ℤ low)) +ℤ t) ≡ (pos candidate -ℤ (low +ℤ pos far)) = omega (arith, ints) in
+    let below : far < registers = round-below registers (pos candidate -ℤ (pos number +ℤ low)) some in
+    let itself : round registers (pos far) ≡ far = round-pos registers far some ∙ mod-eq_of_lt below in
+    ap (round registers) (sym a) ∙ round-shift registers (pos far) (pos candidate -ℤ (pos number +ℤ low)) t some itself ∙ ap (round registers) b
+
 pub forbids-between : ForbidsBetween
 forbids-between ii registers number candidate one other some regs oh ot =
     let low : ℤ = least_shift ii one other in
@@ -167,14 +180,9 @@ forbids-between ii registers number candidate one other some regs oh ot =
           omega (arith, ints),
       λ h.
           let shift : ℤ = low +ℤ pos far in
-          let t : ℤ = pos number -ℤ pos far in
-          let a : (pos far +ℤ t) ≡ (pos number -ℤ pos 0) = omega (arith, ints) in
-          let b : ((pos candidate -ℤ (pos number +ℤ low)) +ℤ t) ≡ (pos candidate -ℤ shift) = omega (arith, ints) in
-          let below : far < registers = round-below registers (pos candidate -ℤ (pos number +ℤ low)) regs in
-          let itself : round registers (pos far) ≡ far = round-pos registers far regs ∙ mod-eq_of_lt below in
           let lowest : low ≤ℤ shift = omega (arith, ints) in (
             shift,
             (shifts-are_between ii one other shift some oh ot).1 (lowest, h),
-            ap (round registers) (sym a) ∙ round-shift registers (pos far) (pos candidate -ℤ (pos number +ℤ low)) t regs itself ∙ ap (round registers) b,
+            same-at_first registers number candidate low regs,
           ),
     )

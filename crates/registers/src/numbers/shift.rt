@@ -1,7 +1,8 @@
 //! Which numbers make two values meet in a register.
 
 ghost use Rattle.std.specs.Prelude.{◌≡◌, ◌<◌, ◌≤◌, ◌↔◌, pos, ◌≤ℤ◌, IsTrue, neg_ℤ};
-ghost use Rattle.registers.specs.Residues.{least_shift, greatest_shift, distance_up, Forbids};
+ghost use Rattle.registers.specs.Residues.{least_shift, greatest_shift, distance_up, Forbids, IsLifeSpan};
+ghost use Rattle.registers.specs.inner.Forbidding.{first_shift, MeetIn};
 
 use crate::lifetime::Lifetime;
 
@@ -45,6 +46,32 @@ pub(crate) fn distance_up(registers: usize, number: usize, low: i64, candidate: 
     (candidate as i64 - (number as i64 + low)).rem_euclid(registers as i64) as usize
 }
 
+/// The least difference from the least one on at which the candidate makes the other value's instance stand in the
+/// register of the one's, whether or not the two still share a cycle there.
+fn first_shift(
+    ii: u64,
+    registers: usize,
+    one: Lifetime,
+    number: usize,
+    other: Lifetime,
+    candidate: usize,
+) -> i64
+    requires some { 1 ≤ ii }
+    requires few { ii ≤ 16384 }
+    requires registers_some { 1 ≤ registers }
+    requires registers_few { registers ≤ 256 }
+    requires one { one.first ≤ 4294967296 }
+    requires other { other.last ≤ 4294967296 }
+    requires number { number < registers }
+    requires candidate { candidate < registers }
+    ensures value { result ≡ first_shift ii registers one number other candidate }
+    ensures low { neg_ℤ (pos 4294967296) ≤ℤ result }
+    ensures high { result ≤ℤ pos 4294967552 }
+{
+    let low = least_shift(ii, one, other);
+    low + distance_up(registers, number, low, candidate) as i64
+}
+
 /// Whether the candidate makes the other value meet the one in a register.
 pub(crate) fn forbids(
     ii: u64,
@@ -66,6 +93,31 @@ pub(crate) fn forbids(
     requires candidate { candidate < registers }
     ensures { IsTrue result ↔ Forbids ii registers one number other candidate }
 {
-    let low = least_shift(ii, one, other);
-    low + distance_up(registers, number, low, candidate) as i64 <= greatest_shift(ii, one, other)
+    first_shift(ii, registers, one, number, other, candidate) <= greatest_shift(ii, one, other)
+}
+
+/// A cycle in which instance 0 of the other value meets an instance of the one, where the candidate makes the two meet.
+pub(crate) fn shared_cycle(
+    ii: u64,
+    registers: usize,
+    one: Lifetime,
+    number: usize,
+    other: Lifetime,
+    candidate: usize,
+) -> u64
+    requires some { 1 ≤ ii }
+    requires few { ii ≤ 16384 }
+    requires registers_some { 1 ≤ registers }
+    requires registers_few { registers ≤ 256 }
+    requires one { IsLifeSpan one }
+    requires other { IsLifeSpan other }
+    requires number { number < registers }
+    requires candidate { candidate < registers }
+    requires forbids { Forbids ii registers one number other candidate }
+    ensures { MeetIn ii registers one number other candidate result }
+{
+    let shift = first_shift(ii, registers, one, number, other, candidate);
+    // (the other's instance `shift` meets the one's instance 0, so its instance 0 meets the one's instance `-shift`)
+    let begin = one.first as i64 - shift * ii as i64;
+    begin.max(other.first as i64) as u64
 }
