@@ -1,30 +1,20 @@
 -- What lists of places and numbers break first, where they are no solution.
-use Rattle.std.specs.Prelude.{◌≡◌, ◌≢◌, ℕ, ◌<◌, ◌≤◌, List, length, Option, Some, None, slice_get, slice_index}
+use Rattle.std.specs.Prelude.{◌≡◌, ◌≢◌, ℕ, ◌<◌, ◌≤◌, List, length, Some, slice_get, slice_index}
 use Rattle.modulo.specs.declared.schedules.breach.Breach.{Breach}
 use Rattle.modulo.specs.Breaches.{IsFirstBreach}
 use Rattle.modulo.specs.Schedules.{IsSchedule, as_listed}
 use Rattle.problems.specs.declared.draft.Draft.{Draft}
-use Rattle.problems.specs.declared.draft.File.{File}
-use Rattle.problems.specs.declared.draft.File.TheVariants.{Rotating, Unallotted}
+use Rattle.problems.specs.declared.draft.File.TheVariants.{Rotating}
 use Rattle.problems.specs.Problems.{ProblemData}
 use Rattle.registers.specs.Allotments.{IsLawfulAllotment}
 use Rattle.registers.specs.Meetings.{IsFirstMeeting}
 use Rattle.solutions.specs.declared.judging.broken.Broken.{Broken}
 use Rattle.solutions.specs.declared.judging.broken.Broken.TheVariants.{Interval, Numbers, Number, Schedule, Registers}
 use Rattle.solutions.specs.Files.{in_file, place_in}
-use Rattle.solutions.specs.Solutions.{files_of, listed, lives_of_solution}
+use Rattle.solutions.specs.Solutions.{IsLawfulSolution, IsRightNumber, files_of, listed, lives_of_solution}
 
 abbrev pub IsInterval : ℕ → Type 0
 IsInterval ii = (1 ≤ ii) × (ii ≤ 16384)
-
--- the number is that of a register of its rotating file, or 0 in an unallotted one
-abbrev pub IsNumberIn : Option File → ℕ → Type 0
-IsNumberIn None number = ⊥
-IsNumberIn (Some (Rotating registers)) number = number < registers
-IsNumberIn (Some Unallotted) number = number ≡ 0
-
-abbrev pub IsRightNumber : Draft → List ℕ → ℕ → Type 0
-IsRightNumber draft numbers value = IsNumberIn (slice_get draft.files.items (slice_index (files_of draft) value)) (slice_index numbers value)
 
 -- there is not one number for each value
 pub record BreaksNumbers (draft : Draft) (ii : ℕ) (numbers : List ℕ) : Type 0 where
@@ -78,3 +68,9 @@ IsFirstBroken problem ii places numbers Numbers = BreaksNumbers problem.draft ii
 IsFirstBroken problem ii places numbers (Number value) = BreaksNumber problem.draft ii numbers value
 IsFirstBroken problem ii places numbers (Schedule breach) = BreaksSchedule problem ii places numbers breach
 IsFirstBroken problem ii places numbers (Registers file earlier later register cycle) = BreaksRegisters problem ii places numbers file earlier later register cycle
+
+-- law: whatever is named, the lists are no solution
+
+abbrev pub BrokenIsUnlawful : Type 0
+BrokenIsUnlawful = (problem : ProblemData) (ii : ℕ) (places : List (ℕ × ℕ)) (numbers : List ℕ) (broken : Broken)
+    → IsFirstBroken problem ii places numbers broken → IsLawfulSolution (listed problem ii places numbers) → ⊥

@@ -1,18 +1,11 @@
 -- Laws of solutions.
-use Rattle.std.specs.Prelude.{◌≡◌, ℕ, List}
+use Rattle.std.specs.Prelude.{◌≡◌, ℕ}
 use Rattle.instances.specs.Runs.{IsRun}
 use Rattle.problems.specs.Problems.{ProblemData, IsProblem}
-use Rattle.solutions.specs.declared.judging.broken.Broken.{Broken}
 use Rattle.solutions.specs.declared.solving.outcome.Outcome.{Outcome}
-use Rattle.solutions.specs.Breaks.{IsFirstBroken}
 use Rattle.solutions.specs.Outcomes.{Gives, IsSolved}
 use Rattle.solutions.specs.Runs.{run_of}
-use Rattle.solutions.specs.Solutions.{SolutionData, IsLawfulSolution, listed}
-
--- whatever is named, the lists are no solution
-abbrev pub BrokenIsUnlawful : Type 0
-BrokenIsUnlawful = (problem : ProblemData) (ii : ℕ) (places : List (ℕ × ℕ)) (numbers : List ℕ) (broken : Broken)
-    → IsFirstBroken problem ii places numbers broken → IsLawfulSolution (listed problem ii places numbers) → ⊥
+use Rattle.solutions.specs.Solutions.{SolutionData, IsLawfulSolution}
 
 -- what an interval gives is lawful
 abbrev pub GivesIsLawful : Type 0

@@ -1,8 +1,9 @@
 -- Solutions of scheduling problems.
-use Rattle.std.specs.Prelude.{◌≡◌, ℕ, ◌+◌, ◌*◌, ◌<◌, max, List, length, map, Some, slice_get, slice_index}
+use Rattle.std.specs.Prelude.{◌≡◌, ℕ, ◌+◌, ◌*◌, ◌<◌, max, List, length, map, Option, Some, None, slice_get, slice_index}
 use Rattle.std.specs.List.{zip}
 use Rattle.modulo.specs.Schedules.{ScheduleData, IsSchedule, stages_of}
 use Rattle.problems.specs.declared.draft.Draft.{Draft}
+use Rattle.problems.specs.declared.draft.File.{File}
 use Rattle.problems.specs.declared.draft.File.TheVariants.{Rotating, Unallotted}
 use Rattle.problems.specs.declared.draft.Value.{Value}
 use Rattle.problems.specs.Drafts.{plain_values}
@@ -58,6 +59,15 @@ pub record AreNumbers (draft : Draft) (numbers : List ℕ) : Type 0 where
   pub each : length numbers ≡ length draft.values.items
   pub zero : (value : ℕ) → value < length draft.values.items → slice_get draft.files.items (slice_index (files_of draft) value) ≡ Some Unallotted
       → slice_index numbers value ≡ 0
+
+-- the number is that of a register of its rotating file, or 0 in an unallotted one
+abbrev pub IsNumberIn : Option File → ℕ → Type 0
+IsNumberIn None number = ⊥
+IsNumberIn (Some (Rotating registers)) number = number < registers
+IsNumberIn (Some Unallotted) number = number ≡ 0
+
+abbrev pub IsRightNumber : Draft → List ℕ → ℕ → Type 0
+IsRightNumber draft numbers value = IsNumberIn (slice_get draft.files.items (slice_index (files_of draft) value)) (slice_index numbers value)
 
 -- a schedule of the problem, and in each rotating file no two different instances of values stand in one register in one cycle
 pub record IsLawfulSolution (s : SolutionData) : Type 0 where

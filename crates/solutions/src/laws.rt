@@ -1,6 +1,7 @@
 //! Laws of solutions, stated by the contracts of functions that do nothing.
 
-ghost use Rattle.solutions.specs.Promises.{BrokenIsUnlawful, GivesIsLawful, LawfulSolutionsAreRuns, OneOutcome};
+ghost use Rattle.solutions.specs.Breaks.{BrokenIsUnlawful};
+ghost use Rattle.solutions.specs.Promises.{GivesIsLawful, LawfulSolutionsAreRuns, OneOutcome};
 
 /// Whatever [`Solution::check`](crate::Solution::check) names, the lists are no solution.
 pub fn broken_is_unlawful()

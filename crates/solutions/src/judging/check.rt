@@ -5,8 +5,8 @@ ghost use Rattle.std.specs.List.{All};
 ghost use Rattle.problems.specs.Drafts.{IsFile};
 ghost use Rattle.registers.specs.Residues.{IsLifeSpan};
 ghost use Rattle.solutions.specs.inner.Judging.{AreApart, IsApart, IsWrong, MeetsFirst, Meets};
-ghost use Rattle.solutions.specs.Breaks.{AreRight, IsFirstBroken, IsNumberIn};
-ghost use Rattle.solutions.specs.Solutions.{IsLawfulSolution, listed, files_of, lives_at};
+ghost use Rattle.solutions.specs.Breaks.{AreRight, IsFirstBroken};
+ghost use Rattle.solutions.specs.Solutions.{IsLawfulSolution, IsNumberIn, listed, files_of, lives_at};
 
 use crate::judging::broken::Broken;
 use crate::solution::Solution;

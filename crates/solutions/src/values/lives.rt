@@ -42,7 +42,7 @@ fn fill_times(schedule: &Schedule, times: &mut [u64])
     requires { length times.old ≡ length schedule.now.problem.operations }
     ensures { times.new ≡ schedule.now.times }
 {
-    for op in 0..times.len() {
+    for op in 0..schedule.problem().operations() {
         times[op] = schedule.time(op);
     }
 }
