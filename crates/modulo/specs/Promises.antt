@@ -4,9 +4,11 @@ use Rattle.machine_data.specs.declared.alternative.Row.{Row}
 use Rattle.graph.specs.Graphs.{GraphData}
 use Rattle.graph.specs.Schedules.{IsLawfulSchedule}
 use Rattle.modulo.specs.declared.outcome.attempts.Try.{Try}
+use Rattle.modulo.specs.declared.schedules.breach.Breach.{Breach}
 use Rattle.modulo.specs.Problems.{ProblemData, IsProblem, IsProblemOf, mii_of}
-use Rattle.modulo.specs.Schedules.{ScheduleData, IsSchedule, stage_of, stages_of}
+use Rattle.modulo.specs.Schedules.{ScheduleData, IsSchedule, as_listed, stage_of, stages_of}
 use Rattle.modulo.specs.Attempts.{EndsPlaced, AnswersAttempt}
+use Rattle.modulo.specs.Breaches.{IsFirstBreach}
 
 -- the end of an attempt keeps each edge and each unit
 abbrev pub AttemptsAreLawful : Type 0
@@ -28,3 +30,13 @@ OneProblem = (graph : GraphData) (operations : List (List (List Row))) (ratio ce
 abbrev pub StagesAreFew : Type 0
 StagesAreFew = (schedule : ScheduleData) → IsSchedule schedule
     → (stages_of schedule ≤ 64) × ((op : ℕ) → op < length schedule.problem.operations → stage_of schedule op < stages_of schedule)
+
+-- a list of times and alternatives that breaks something is no schedule
+abbrev pub BreachesBreak : Type 0
+BreachesBreak = (problem : ProblemData) (ii : ℕ) (places : List (ℕ × ℕ)) (breach : Breach) → 1 ≤ ii → ii ≤ 16384
+    → IsFirstBreach problem ii places breach → IsSchedule (as_listed problem ii places) → ⊥
+
+-- a list of times and alternatives breaks one thing first
+abbrev pub OneBreach : Type 0
+OneBreach = (problem : ProblemData) (ii : ℕ) (places : List (ℕ × ℕ)) (one other : Breach)
+    → IsFirstBreach problem ii places one → IsFirstBreach problem ii places other → one ≡ other

@@ -1,11 +1,16 @@
 //! Laws of attempts and schedules, stated by the contracts of functions that do nothing.
 
 ghost use Rattle.modulo.specs.Culprits.{CulpritsAreFailures};
-ghost use Rattle.modulo.specs.Promises.{AttemptsAreLawful, OneAnswer, OneProblem, StagesAreFew};
+ghost use Rattle.modulo.specs.Promises.{AttemptsAreLawful, BreachesBreak, OneAnswer, OneBreach, OneProblem, StagesAreFew};
 
 /// The end of an attempt keeps each edge and each unit.
 pub fn attempts_are_lawful()
     ensures { AttemptsAreLawful }
+{}
+
+/// A list of times and alternatives that breaks something is no schedule.
+pub fn breaches_break()
+    ensures { BreachesBreak }
 {}
 
 /// Each culprit is behind a failure of the attempt.
@@ -16,6 +21,11 @@ pub fn culprits_are_failures()
 /// An attempt has one answer.
 pub fn one_answer()
     ensures { OneAnswer }
+{}
+
+/// A list of times and alternatives breaks one thing first.
+pub fn one_breach()
+    ensures { OneBreach }
 {}
 
 /// Edges, latencies, alternatives and settings have one problem.

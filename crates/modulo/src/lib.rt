@@ -9,9 +9,11 @@ mod schedules;
 mod stepping;
 
 pub use laws::{
-    attempts_are_lawful, culprits_are_failures, one_answer, one_problem, stages_are_few,
+    attempts_are_lawful, breaches_break, culprits_are_failures, one_answer, one_breach,
+    one_problem, stages_are_few,
 };
 pub use outcome::attempts::{Culprit, Failure, Try, attempt, attempt_on};
 pub use outcome::culprits::culprit;
 pub use problem::problems::Problem;
+pub use schedules::breach::Breach;
 pub use schedules::schedule::Schedule;

@@ -1,12 +1,14 @@
 //! Modulo schedules.
 
-ghost use Rattle.std.specs.Prelude.{◌≡◌, ℕ, ◌≤◌, ◌<◌, ◌*◌, [], length, map, slice_index, MatchOption, IfOk};
+ghost use Rattle.std.specs.Prelude.{◌≡◌, ℕ, ◌≤◌, ◌<◌, ◌*◌, [], length, map, slice_index, MatchOption, MatchResult, IfOk};
 ghost use Rattle.std.specs.List.{slice_index_or};
+ghost use Rattle.modulo.specs.Breaches.{IsFirstBreach};
 ghost use Rattle.modulo.specs.Schedules.{ScheduleData, IsSchedule, stages_of, as_listed};
 
 use crate::outcome::ending::count_stages;
 use crate::problem::problems::Problem;
-use crate::schedules::check::is_schedule;
+use crate::schedules::breach::Breach;
+use crate::schedules::check::first_breach;
 use machine_data::OutOfMemory;
 use std::alloc::Global;
 use std::marker::Model;
@@ -106,8 +108,36 @@ impl<'a> Schedule<'a> {
     }
 
     /// The schedule at an interval of 1 to 16,384 cycles that a list of times and alternatives gives, one
+    /// for each operation in order, or what the list breaks first: the count of places; then, by
+    /// operation, a time or an alternative that is out of range; then a row that takes the slot of a row
+    /// before it; then an edge; then the stage of an operation.
+    ///
+    /// # Errors
+    /// [`AllocError`](std::alloc::AllocError) where memory ran out.
+    pub fn judge(
+        alloc: Global,
+        problem: &'a Problem,
+        ii: u64,
+        places: &[(u64, usize)],
+    ) -> Result<Result<Schedule<'a>, Breach>, OutOfMemory>
+        requires some { 1 ≤ ii }
+        requires limit { ii ≤ 16384 }
+        ensures exact { IfOk result (λ found. MatchResult found
+            (λ s. IsSchedule s × (s ≡ as_listed problem.now ii places.now))
+            (IsFirstBreach problem.now ii places.now)) }
+    {
+        if let Some(breach) = first_breach(alloc, problem, ii, places)? {
+            return Ok(Err(breach));
+        }
+        let times = times_of(alloc, places)?;
+        let choices = choices_of(alloc, places)?;
+        Ok(Ok(Schedule::new(problem, ii, times, choices)))
+    }
+
+    /// The schedule at an interval of 1 to 16,384 cycles that a list of times and alternatives gives, one
     /// for each operation in order. `None` exactly where the list is no schedule: where it is too long or
     /// too short, an alternative is not there, an edge or a unit is not kept, or a stage is 64 or more.
+    /// [`Schedule::judge`] tells which.
     ///
     /// # Errors
     /// [`AllocError`](std::alloc::AllocError) where memory ran out.
@@ -122,12 +152,7 @@ impl<'a> Schedule<'a> {
         ensures exact { IfOk result (λ found. MatchOption found (IsSchedule (as_listed problem.now ii places.now) → ⊥)
             (λ s. IsSchedule s × (s ≡ as_listed problem.now ii places.now))) }
     {
-        if !is_schedule(alloc, problem, ii, places)? {
-            return Ok(None);
-        }
-        let times = times_of(alloc, places)?;
-        let choices = choices_of(alloc, places)?;
-        Ok(Some(Schedule::new(problem, ii, times, choices)))
+        Ok(Schedule::judge(alloc, problem, ii, places)?.ok())
     }
 }
 

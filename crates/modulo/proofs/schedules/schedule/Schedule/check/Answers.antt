@@ -1,14 +1,27 @@
-use Rattle.std.proofs.Common.{◌≡◌, sym, subst}
-use Rattle.std.proofs.lemmas.Bool.{OnTrue_at}
+use Rattle.std.proofs.Common.{◌≡◌, ℕ, ◌≤◌, List, Option, Result, Ok, Err, sym, subst}
+use Rattle.std.specs.Option.{MatchOption}
+use Rattle.std.specs.Result.{MatchResult, result_ok}
+use Rattle.modulo.specs.declared.schedules.breach.Breach.{Breach}
+use Rattle.modulo.specs.Breaches.{IsFirstBreach}
+use Rattle.modulo.specs.Problems.{ProblemData}
 use Rattle.modulo.specs.Schedules.{ScheduleData, IsSchedule, as_listed}
+use Rattle.modulo.proofs.lawfulness.Breaking.{breaches-break}
 use Rattle.modulo.proofs.schedules.schedule.Schedule.check.Goals as goal
 
+abbrev IsChecked : ProblemData → ℕ → List (ℕ × ℕ) → Option ScheduleData → Type 0
+IsChecked problem ii places answer =
+    MatchOption answer (IsSchedule (as_listed problem ii places) → ⊥) (λ s. IsSchedule s × (s ≡ as_listed problem ii places))
+
+-- what is judged without the breach
+checked : (problem : ProblemData) (ii : ℕ) (places : List (ℕ × ℕ)) (found : Result ScheduleData Breach) (answer : Option ScheduleData) → 1 ≤ ii → ii ≤ 16384
+    → answer ≡ result_ok found → MatchResult found (λ s. IsSchedule s × (s ≡ as_listed problem ii places)) (IsFirstBreach problem ii places)
+    → IsChecked problem ii places answer
+checked problem ii places (Ok s) answer some few is found = subst (IsChecked problem ii places) (sym is) found
+checked problem ii places (Err breach) answer some few is found =
+    subst (IsChecked problem ii places) (sym is) (breaches-break problem ii places breach some few found)
+
 pub returns : goal.returns
-returns c =
-    let listed : ScheduleData = as_listed c.args.problem.now c.args.ii c.args.places.now in
-    let times = c.in_ok-times.ensures in
-    let choices = c.in_ok-choices.ensures in
-    let made = c.new.ensures in
-    let same : c.new.result ≡ listed = cc in
-    let is : IsSchedule listed = OnTrue_at c.if-not-branch.false c.in_ok-is_schedule.ensures.yes in
-    record { exact = (subst IsSchedule (sym same) is, same) }
+returns c = record {
+  exact = checked c.args.problem.now c.args.ii c.args.places.now c.in_ok-judge.field-0 c.ok.result c.requires.some c.requires.limit c.ok.ensures.value
+      c.in_ok-judge.ensures.exact;
+}
