@@ -1,0 +1,74 @@
+-- Numbers that are written file by file.
+use Rattle.std.proofs.Common.{◌≡◌, ◌≢◌, ◌⊎◌, ℕ, ◌+◌, ◌<◌, ◌≤◌, List, length, Some, refl, sym, ap, ◌∙◌, subst, inl, inr, arith}
+use Rattle.std.specs.Prelude.{◌==◌, count_by, slice_get, slice_index}
+use Rattle.std.specs.List.{All}
+use Rattle.std.proofs.lemmas.Bool.{cases_eq, cases_lt}
+use Rattle.problems.specs.declared.draft.File.{File}
+use Rattle.problems.specs.declared.draft.File.TheVariants.{Rotating, Unallotted}
+use Rattle.registers.specs.declared.lifetime.Lifetime.{Lifetime}
+use Rattle.registers.specs.Allotments.{AreLeast}
+use Rattle.registers.specs.Numberless.{HasNoneAt}
+use Rattle.registers.proofs.allotted.Least.{place-within}
+use Rattle.solutions.specs.Files.{in_file, place_in}
+use Rattle.solutions.specs.inner.Filling.{AreFilled, IsFilled, IsLeftOut, Lacks, LacksFirst}
+use Rattle.solutions.proofs.Filing.{same_in_file, length-in_file}
+
+-- the numbers of the first so many files are the least ones
+abbrev pub FilledBelow : ℕ → List File → List ℕ → List Lifetime → List ℕ → ℕ → Type 0
+FilledBelow ii kinds files lives numbers end = (file : ℕ) (kind : File) → file < end → slice_get kinds file ≡ Some kind → IsFilled ii files lives numbers file kind
+
+abbrev pub Zeros : List File → List ℕ → List ℕ → Type 0
+Zeros kinds files numbers = (value : ℕ) → slice_get kinds (slice_index files value) ≡ Some Unallotted → slice_index numbers value ≡ 0
+
+filled-same : (ii : ℕ) (files : List ℕ) (lives : List Lifetime) (numbers others : List ℕ) (file : ℕ) (kind : File) → in_file files file numbers ≡ in_file files file others
+    → IsFilled ii files lives numbers file kind → IsFilled ii files lives others file kind
+filled-same ii files lives numbers others file (Rotating registers) same is = subst (AreLeast ii registers (in_file files file lives)) same is
+filled-same ii files lives numbers others file Unallotted same is = tt
+
+-- one file more
+pub filled-more : (ii : ℕ) (kinds : List File) (files : List ℕ) (lives : List Lifetime) (old new : List ℕ) (file : ℕ) (kind : File) → length old ≡ length files → length new ≡ length files
+    → slice_get kinds file ≡ Some kind → ((value : ℕ) → slice_index files value ≢ file → slice_index new value ≡ slice_index old value)
+    → IsFilled ii files lives new file kind → FilledBelow ii kinds files lives old file → FilledBelow ii kinds files lives new (file + 1)
+filled-more ii kinds files lives old new file kind old_long new_long is others here before f other lt there = choose (cases_eq f file)
+  where
+    choose : (f ≡ file) ⊎ (f ≡ file → ⊥) → IsFilled ii files lives new f other
+    choose (inl same) =
+        let both : Some kind ≡ Some other = sym is ∙ ap (slice_get kinds) (sym same) ∙ there in
+        let one : kind ≡ other = cc in
+        subst (λ (k : File). IsFilled ii files lives new f k) one (subst (λ n. IsFilled ii files lives new n kind) (sym same) here)
+    choose (inr apart) =
+        filled-same ii files lives old new f other
+        (same_in_file files f old new old_long new_long (λ k in_f. sym (others k (λ in_file. apart (sym in_f ∙ in_file)))))
+        (before f other (omega arith) there)
+
+pub zeros-more : (kinds : List File) (files old new : List ℕ) (file : ℕ) (kind : File) → slice_get kinds file ≡ Some kind
+    → ((value : ℕ) → slice_index files value ≢ file → slice_index new value ≡ slice_index old value) → (kind ≡ Unallotted → new ≡ old)
+    → Zeros kinds files old → Zeros kinds files new
+zeros-more kinds files old new file kind is others same before value there = choose (cases_eq (slice_index files value) file)
+  where
+    choose : (slice_index files value ≡ file) ⊎ (slice_index files value ≡ file → ⊥) → slice_index new value ≡ 0
+    choose (inl at) =
+        let both : Some kind ≡ Some Unallotted = sym is ∙ ap (slice_get kinds) (sym at) ∙ there in
+        let one : kind ≡ Unallotted = cc in
+        ap (λ ns. slice_index ns value) (same one) ∙ before value there
+    choose (inr apart) = others value apart ∙ before value there
+
+pub are-filled : (ii : ℕ) (kinds : List File) (files : List ℕ) (lives : List Lifetime) (numbers : List ℕ) (end : ℕ) → length kinds ≤ end
+    → FilledBelow ii kinds files lives numbers end → Zeros kinds files numbers → AreFilled ii kinds files lives numbers
+are-filled ii kinds files lives numbers end all filled zeros = record {
+  filled = λ file kind there. filled file kind (let l = place-within kinds kind file there in omega arith) there;
+  zero = zeros;
+}
+
+pub lacks-first : (ii : ℕ) (kinds : List File) (files : List ℕ) (lives : List Lifetime) (numbers : List ℕ) (file value : ℕ) (kind : File) → slice_get kinds file ≡ Some kind
+    → FilledBelow ii kinds files lives numbers file → Lacks ii files lives file value kind → LacksFirst ii kinds files lives file value
+lacks-first ii kinds files lives numbers file value kind is filled lacks =
+    record { kind = kind; is_kind = is; lacks = lacks; before = λ sooner other lt there. (numbers, filled sooner other lt there) }
+
+-- the place of a value that has no number is that of one of the file's values
+pub place-there : (ii registers : ℕ) (files : List ℕ) (file place : ℕ) (lives : List Lifetime) (numbers : List ℕ) → length lives ≡ length files
+    → HasNoneAt ii registers (in_file files file lives) numbers place → place < count_by (λ other. other == file) files
+place-there ii registers files file place lives numbers long none =
+    let l = place-within (in_file files file lives) none.life place none.is_life in
+    let c = length-in_file files file lives long in
+    omega arith

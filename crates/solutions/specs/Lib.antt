@@ -1,0 +1,11 @@
+pub use Rattle.problems.specs.Problems
+pub use Rattle.modulo.specs.Schedules
+pub use Rattle.settings.specs.Searches
+pub mod Files
+pub mod Solutions
+pub mod Outcomes
+pub mod Breaks
+pub mod Copies
+pub mod Runs
+pub mod Promises
+pub mod inner

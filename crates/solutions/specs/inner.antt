@@ -1,0 +1,4 @@
+-- What the clauses of private functions cite.
+pub mod Filling
+pub mod Trying
+pub mod Judging

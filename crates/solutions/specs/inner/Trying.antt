@@ -1,0 +1,10 @@
+-- What an interval gives.
+use Rattle.std.specs.Prelude.{ℕ}
+use Rattle.problems.specs.Problems.{ProblemData}
+use Rattle.solutions.specs.declared.solving.outcome.Outcome.{Outcome}
+use Rattle.solutions.specs.declared.solving.outcome.Outcome.TheVariants.{Met, Failed}
+use Rattle.solutions.specs.Outcomes.{Gives, FailsBy}
+
+abbrev pub GivesOrFails : ProblemData → ℕ → Outcome → Type 0
+GivesOrFails problem ii (Met s) = Gives problem ii s
+GivesOrFails problem ii (Failed cause) = FailsBy problem ii cause

@@ -1,0 +1,1 @@
+//! How many instances of values live at once.

@@ -1,0 +1,4 @@
+//! What is broken in solutions that are given.
+
+pub(crate) mod broken;
+pub(crate) mod check;

@@ -1,0 +1,17 @@
+//! Solutions of scheduling problems: they are found, interval by interval, and anybody's solution is judged.
+#![tactic(auto)]
+
+mod copies;
+mod judging;
+mod laws;
+mod solution;
+mod solving;
+mod values;
+
+pub use judging::broken::Broken;
+pub use laws::{
+    broken_is_unlawful, gives_is_lawful, lawful_solutions_are_runs, one_outcome,
+};
+pub use solution::Solution;
+pub use solving::outcome::{Cause, Outcome};
+pub use solving::solve::solve;

@@ -1,0 +1,5 @@
+//! The least interval that has a solution.
+
+pub(crate) mod outcome;
+pub(crate) mod solve;
+pub(crate) mod trials;

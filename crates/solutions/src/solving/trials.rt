@@ -1,0 +1,119 @@
+//! Intervals of one problem, tried one after another.
+
+ghost use Rattle.std.specs.Prelude.{◌≡◌, ◌≤◌, length, map, replicate, None, IfOk};
+ghost use Rattle.modulo.specs.Problems.{budget_of};
+ghost use Rattle.problems.specs.declared.draft.Value.{Value};
+ghost use Rattle.problems.specs.Problems.{IsProblem};
+ghost use Rattle.solutions.specs.inner.Trying.{GivesOrFails};
+ghost use Rattle.solutions.specs.Outcomes.{IsPlacedAs, first_of, last_of};
+
+use crate::solution::Solution;
+use crate::solving::outcome::{Cause, Outcome, cause_of};
+use crate::values::lives::{files, lives_at, plain};
+use crate::values::numbers::fill_numbers;
+use machine_data::OutOfMemory;
+use modulo::{Schedule, Try, attempt_on};
+use mrt::{DefaultTable, ModuloTable};
+use problems::Problem;
+use std::alloc::Global;
+use std::marker::Model;
+
+/// Tries intervals of a problem one after another, each over the reservation table of the one before it, so that
+/// alternatives are prepared once. Contracts see the problem.
+#[derive(Drop)]
+pub(crate) struct Trials<'a> {
+    problem: &'a Problem,
+    /// The values as registers take them.
+    values: Vec<registers::Value>,
+    /// The file of each value.
+    files: Vec<usize>,
+    /// The table of the last interval that was tried.
+    table: Option<DefaultTable>,
+}
+
+impl<'a> Model for Trials<'a> {
+    ghost use Rattle.std.specs.Prelude.{◌≡◌, IfSome};
+    ghost use Rattle.problems.specs.Drafts.{plain_values};
+    ghost use Rattle.problems.specs.Problems.{ProblemData};
+    ghost use Rattle.solutions.specs.Solutions.{files_of};
+
+    ghost Value = { ProblemData };
+
+    ghost view = { λ t. t.problem.now };
+
+    ghost invariant = { λ t. (t.values.items ≡ plain_values t.problem.now.draft) × (t.files.items ≡ files_of t.problem.now.draft)
+        × IfSome t.table (λ table. table.operations ≡ t.problem.now.scheduling.operations) };
+}
+
+impl<'a> Trials<'a> {
+    /// No interval is tried yet.
+    pub(crate) fn of(alloc: Global, problem: &'a Problem) -> Result<Trials<'a>, OutOfMemory>
+        ensures { IfOk result (λ trials. trials ≡ problem.now) }
+    {
+        let values = plain(alloc, &problem.draft().values)?;
+        let files = files(alloc, &problem.draft().values)?;
+        Ok(Trials {
+            problem,
+            values,
+            files,
+            table: None,
+        })
+    }
+
+    /// What the problem gives at an interval.
+    pub(crate) fn try_interval(&mut self, alloc: Global, ii: u64) -> Result<Outcome<'a>, OutOfMemory>
+        requires from_first { first_of self.old ≤ ii }
+        requires to_last { ii ≤ last_of self.old }
+        ensures same { self.new ≡ self.old }
+        ensures exact { IfOk result (GivesOrFails self.old ii) }
+    {
+        let mut table = self.table_at(alloc, ii)?;
+        let scheduling = self.problem.scheduling();
+        let attempt = attempt_on(alloc, scheduling, &mut table, budget(scheduling));
+        self.table = Some(table);
+        match attempt? {
+            Try::Placed(schedule) => self.numbered(alloc, schedule),
+            Try::Failed(failure) => Ok(Outcome::Failed(cause_of(failure))),
+        }
+    }
+
+    /// The solution of a schedule and the least numbers, where each value has one.
+    fn numbered(&self, alloc: Global, schedule: Schedule<'a>) -> Result<Outcome<'a>, OutOfMemory>
+        requires { IsPlacedAs self.now schedule.ii schedule }
+        ensures { IfOk result (GivesOrFails self.now schedule.ii) }
+    {
+        let lives = lives_at(alloc, self.problem, &self.values, &schedule)?;
+        let mut numbers = vec![in alloc; 0; lives.len()]?;
+        let kinds = self.problem.draft().files.as_slice();
+        match fill_numbers(alloc, schedule.ii(), kinds, &self.files, &lives, &mut numbers)? {
+            Some((file, value)) => Ok(Outcome::Failed(Cause::Registers(file, value))),
+            None => Ok(Outcome::Met(Solution::new(self.problem, schedule, numbers, lives))),
+        }
+    }
+
+    /// The problem's table at an interval, with nothing placed, made from the last one where there is one.
+    fn table_at(&mut self, alloc: Global, ii: u64) -> Result<DefaultTable, OutOfMemory>
+        requires from_first { first_of self.old ≤ ii }
+        requires to_last { ii ≤ last_of self.old }
+        ensures same { self.new ≡ self.old }
+        ensures operations { IfOk result (λ table. table.operations ≡ self.old.scheduling.operations) }
+        ensures empty { IfOk result (λ table. table.placed ≡ replicate (length self.old.scheduling.operations) None) }
+        ensures interval { IfOk result (λ table. table.interval ≡ ii) }
+    {
+        prove!(self.problem.scheduling().mii() >= 1);
+        match self.table.take() {
+            Some(table) => table.at(ii),
+            None => DefaultTable::make(alloc, self.problem.scheduling().alternatives(), ii),
+        }
+    }
+}
+
+/// How many placements an attempt may make.
+fn budget(scheduling: &modulo::Problem) -> u64
+    ensures value { result ≡ budget_of scheduling.now }
+    ensures few { result ≤ 8192 }
+{
+    let operations = scheduling.operations() as u64;
+    prove!(operations <= 128);
+    scheduling.ratio() * operations
+}

@@ -1,0 +1,5 @@
+//! The values of a problem: when they live, and their numbers.
+
+pub(crate) mod files;
+pub(crate) mod lives;
+pub(crate) mod numbers;

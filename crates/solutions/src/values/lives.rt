@@ -1,0 +1,111 @@
+//! When the values of a schedule live.
+
+ghost use Rattle.std.specs.Prelude.{◌≡◌, ◌*◌, ◌<◌, ◌≤◌, length, map, max, IfOk};
+ghost use Rattle.std.specs.List.{All};
+ghost use Rattle.modulo.specs.Schedules.{stages_of};
+ghost use Rattle.problems.specs.declared.draft.Value.{Value};
+ghost use Rattle.problems.specs.Drafts.{plain_values};
+ghost use Rattle.registers.specs.declared.value.Value.{Value as PlainValue};
+ghost use Rattle.registers.specs.Residues.{IsLifeSpan};
+ghost use Rattle.registers.specs.Values.{greatest_of, landing_of};
+ghost use Rattle.solutions.specs.Solutions.{last_operation, lives_at};
+
+use machine_data::OutOfMemory;
+use modulo::Schedule;
+use problems::{Problem, Value};
+use registers::{Lifetime, fill_lives};
+use std::alloc::Global;
+
+/// The values as registers take them.
+pub(crate) fn plain(alloc: Global, values: &[Value]) -> Result<Vec<registers::Value>, OutOfMemory>
+    ensures { IfOk result (λ v. v.items ≡ map (λ (value : Value). record { maker = value.maker; lands = value.lands; out = value.out }) values.now) }
+{
+    values
+        .iter()
+        .map(|value| registers::Value {
+            maker: value.maker,
+            lands: value.lands,
+            out: value.out,
+        })
+        .collect(alloc)
+}
+
+/// The file of each value.
+pub(crate) fn files(alloc: Global, values: &[Value]) -> Result<Vec<usize>, OutOfMemory>
+    ensures { IfOk result (λ v. v.items ≡ map (λ (value : Value). value.file) values.now) }
+{
+    values.iter().map(|value| value.file).collect(alloc)
+}
+
+/// Writes the issue time of each operation in iteration 0.
+fn fill_times(schedule: &Schedule, times: &mut [u64])
+    requires { length times.old ≡ length schedule.now.problem.operations }
+    ensures { times.new ≡ schedule.now.times }
+{
+    for op in 0..schedule.problem().operations() {
+        times[op] = schedule.time(op);
+    }
+}
+
+/// The cycle in which the last operation of iteration 0 has landed.
+fn last_operation(schedule: &Schedule) -> u64
+    ensures value { result ≡ last_operation schedule.now }
+    ensures few { result ≤ 1048640 }
+{
+    let edges = schedule.problem().edges();
+    let mut greatest = 0;
+    for op in 0..schedule.problem().operations() {
+        greatest = greatest.max(schedule.time(op) + u64::from(edges.latency(op)));
+    }
+    greatest
+}
+
+/// The cycle in which the last value of iteration 0 lands.
+fn last_value(times: &[u64], values: &[registers::Value]) -> u64
+    requires times { All (λ time. time ≤ 1048576) times.now }
+    requires values { All (λ (value : PlainValue). (value.maker < length times.now) × (value.lands ≤ 64)) values.now }
+    ensures value { result ≡ greatest_of (map (landing_of times.now) values.now) }
+    ensures few { result ≤ 1048640 }
+{
+    let mut greatest = 0;
+    for value in values {
+        greatest = greatest.max(times[value.maker] + value.lands);
+    }
+    greatest
+}
+
+/// The cycle up to which values that are live at the end last.
+fn end_at(schedule: &Schedule, times: &[u64], values: &[registers::Value]) -> u64
+    requires times { times.now ≡ schedule.now.times }
+    requires values { All (λ (value : PlainValue). (value.maker < length times.now) × (value.lands ≤ 64)) values.now }
+    ensures value { result ≡ max (schedule.now.ii * stages_of schedule.now) (max (last_operation schedule.now) (greatest_of (map (landing_of times.now) values.now))) }
+    ensures few { result ≤ 1048640 }
+{
+    let stages = schedule.ii() * schedule.stages();
+    stages
+        .max(last_operation(schedule))
+        .max(last_value(times, values))
+}
+
+/// When each value lives in iteration 0, in cycles. `values` are those of the problem, as registers take them.
+pub(crate) fn lives_at(
+    alloc: Global,
+    problem: &Problem,
+    values: &[registers::Value],
+    schedule: &Schedule,
+) -> Result<Vec<Lifetime>, OutOfMemory>
+    requires scheduled { schedule.now.problem ≡ problem.now.scheduling }
+    requires values { values.now ≡ plain_values problem.now.draft }
+    ensures exact { IfOk result (λ lives. lives.items ≡ lives_at problem.now.draft schedule.now) }
+    ensures spans { IfOk result (λ lives. All IsLifeSpan lives.items) }
+    ensures each { IfOk result (λ lives. length lives.items ≡ length problem.now.draft.values.items) }
+    ensures few { IfOk result (λ lives. length lives.items ≤ 256) }
+{
+    let mut times = vec![in alloc; 0; schedule.problem().operations()]?;
+    fill_times(schedule, &mut times);
+    let end = end_at(schedule, &times, values);
+    let mut lives = vec![in alloc; Lifetime::default(); values.len()]?;
+    let reads = problem.draft().reads.as_slice();
+    fill_lives(schedule.ii(), &times, end, values, reads, &mut lives);
+    Ok(lives)
+}
