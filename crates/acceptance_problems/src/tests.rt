@@ -40,14 +40,58 @@ fn unnamed(alloc: Global) -> Names {
     }
 }
 
-/// What a problem is made of, beside its kinds.
+/// What a problem is made of, beside its kinds: values by maker, landing, whether they are live at the end, and file; reads by value, reader, distance and
+/// offset; orders by both operations, delay and distance.
+#[derive(Clone, Copy)]
 struct Lists<'a> {
     units: usize,
     files: &'a [File],
     operations: &'a [usize],
-    values: &'a [Value],
-    reads: &'a [Read],
-    orders: &'a [Order],
+    values: &'a [(usize, u64, bool, usize)],
+    reads: &'a [(usize, usize, u64, u64)],
+    orders: &'a [(usize, usize, i64, u64)],
+}
+
+/// The values of a list.
+fn values_of(alloc: Global, list: &[(usize, u64, bool, usize)]) -> Result<Vec<Value>, OutOfMemory> {
+    let mut values = Vec::new(alloc);
+    for (maker, lands, out, file) in list {
+        values.push(Value {
+            maker: *maker,
+            lands: *lands,
+            out: *out,
+            file: *file,
+        })?;
+    }
+    Ok(values)
+}
+
+/// The reads of a list.
+fn reads_of(alloc: Global, list: &[(usize, usize, u64, u64)]) -> Result<Vec<Read>, OutOfMemory> {
+    let mut reads = Vec::new(alloc);
+    for (value, reader, distance, offset) in list {
+        reads.push(Read {
+            value: *value,
+            reader: *reader,
+            distance: *distance,
+            offset: *offset,
+        })?;
+    }
+    Ok(reads)
+}
+
+/// The orders of a list.
+fn orders_of(alloc: Global, list: &[(usize, usize, i64, u64)]) -> Result<Vec<Order>, OutOfMemory> {
+    let mut orders = Vec::new(alloc);
+    for (from, to, delay, distance) in list {
+        orders.push(Order {
+            from: *from,
+            to: *to,
+            delay: *delay,
+            distance: *distance,
+        })?;
+    }
+    Ok(orders)
 }
 
 /// The problem of these lists, with at most six placements for each operation and so many intervals above the least one.
@@ -62,33 +106,13 @@ fn problem_of(
         files: Vec::from_slice(alloc, lists.files)?,
         kinds,
         operations: Vec::from_slice(alloc, lists.operations)?,
-        values: Vec::from_slice(alloc, lists.values)?,
-        reads: Vec::from_slice(alloc, lists.reads)?,
-        orders: Vec::from_slice(alloc, lists.orders)?,
+        values: values_of(alloc, lists.values)?,
+        reads: reads_of(alloc, lists.reads)?,
+        orders: orders_of(alloc, lists.orders)?,
         names: unnamed(alloc),
     };
     let settings = Settings::new(6, ceiling, 1, 1)?;
     Ok(Problem::new(alloc, draft, &settings)?)
-}
-
-/// A value of the first file, which is not live at the end.
-const fn value(maker: usize, lands: u64) -> Value {
-    Value {
-        maker,
-        lands,
-        out: false,
-        file: 0,
-    }
-}
-
-/// An operation reads a value of so many iterations ago, so many cycles after its issue.
-const fn read(value: usize, reader: usize, distance: u64, offset: u64) -> Read {
-    Read {
-        value,
-        reader,
-        distance,
-        offset,
-    }
 }
 
 /// The times and alternatives of a solution's operations.
@@ -119,16 +143,8 @@ fn numbers_of(alloc: Global, solution: &Solution) -> Result<Vec<usize>, OutOfMem
     Ok(numbers)
 }
 
-/// How many instances of each value live at once.
-fn copies_of(alloc: Global, solution: &Solution) -> Result<Vec<u64>, OutOfMemory> {
-    let mut copies = Vec::new(alloc);
-    for value in 0..solution.problem().draft().values.len() {
-        copies.push(solution.copies(value))?;
-    }
-    Ok(copies)
-}
-
 /// What a problem is to come to.
+#[derive(Clone, Copy)]
 struct Expected<'a> {
     ii: u64,
     stages: u64,
@@ -138,7 +154,12 @@ struct Expected<'a> {
 }
 
 /// Solves a problem, compares what it comes to, and has the check judge it.
-fn solves(rt: &impl Abort, alloc: Global, problem: &Problem, expected: &Expected) -> Result<(), Fail> {
+fn solves(
+    rt: &impl Abort,
+    alloc: Global,
+    problem: &Problem,
+    expected: &Expected,
+) -> Result<(), Fail> {
     let Outcome::Met(solution) = solve(alloc, problem)? else {
         panic!(rt; "no interval is found");
     };
@@ -147,7 +168,13 @@ fn solves(rt: &impl Abort, alloc: Global, problem: &Problem, expected: &Expected
     assert_eq!(rt; places_of(alloc, &solution)?.as_slice(), expected.places);
     assert_eq!(rt; spans_of(alloc, &solution)?.as_slice(), expected.spans);
     assert_eq!(rt; numbers_of(alloc, &solution)?.as_slice(), expected.numbers);
-    let judged = Solution::check(alloc, problem, expected.ii, expected.places, expected.numbers)?;
+    let judged = Solution::check(
+        alloc,
+        problem,
+        expected.ii,
+        expected.places,
+        expected.numbers,
+    )?;
     assert!(rt; judged.is_ok());
     Ok(())
 }

@@ -4,13 +4,11 @@
 //! the reader needs it `offset` cycles after its own. Instance `i` of a value with the number `n` stands in the register `n - i`, modulo the registers of its file. Operations are placed
 //! by falling height, each at the first free slot from the earliest time that those placed before it allow.
 
-use super::{Expected, Lists, copies_of, kind, numbers_of, problem_of, read, solves, value};
+use super::{Expected, Lists, kind, problem_of, solves};
 use machine_data::OutOfMemory;
-use problems::{File, Kind, Order, Problem, Value};
-use registers::Read;
+use problems::{File, Kind, Problem};
 use solutions::{Cause, Outcome, solve};
 use std::alloc::Global;
-use std::process::Abort;
 use std::test::Fail;
 
 /// Two taps of a filter in Q15: four loads, and two multiply-accumulates that read their accumulator one cycle after their issue.
@@ -21,25 +19,20 @@ pub(super) const FIR: Lists = Lists {
     files: &[File::Rotating(16)],
     operations: &[0, 0, 0, 0, 1, 1],
     values: &[
-        value(0, 3),
-        value(1, 3),
-        value(2, 3),
-        value(3, 3),
-        value(4, 2),
-        Value {
-            maker: 5,
-            lands: 2,
-            out: true,
-            file: 0,
-        },
+        (0, 3, false, 0),
+        (1, 3, false, 0),
+        (2, 3, false, 0),
+        (3, 3, false, 0),
+        (4, 2, false, 0),
+        (5, 2, true, 0),
     ],
     reads: &[
-        read(0, 4, 0, 0),
-        read(1, 4, 0, 0),
-        read(5, 4, 1, 1),
-        read(2, 5, 0, 0),
-        read(3, 5, 0, 0),
-        read(4, 5, 0, 1),
+        (0, 4, 0, 0),
+        (1, 4, 0, 0),
+        (5, 4, 1, 1),
+        (2, 5, 0, 0),
+        (3, 5, 0, 0),
+        (4, 5, 0, 1),
     ],
     orders: &[],
 };
@@ -74,29 +67,6 @@ fn fir(rt: HostRuntime) -> Result<(), Fail> {
     solves(&rt, alloc, &problem, &expected)
 }
 
-/// The same, with values that are allotted to no registers: the second sum lives for five cycles, so three of its instances live at
-/// once at an interval of 2, and a kernel without rotating registers has to be unrolled three times. In the even cycles the second pair and three
-/// sums live, in the odd ones the first pair, the first sum and two second ones: five.
-#[test]
-fn fir_without_registers(rt: HostRuntime) -> Result<(), Fail> {
-    let alloc = rt.alloc();
-    let lists = Lists {
-        files: &[File::Unallotted],
-        ..FIR
-    };
-    let problem = problem_of(alloc, fir_kinds(alloc)?, &lists, 20)?;
-    let Outcome::Met(solution) = solve(alloc, &problem)? else {
-        panic!(rt; "no interval is found");
-    };
-    assert_eq!(rt; solution.ii(), 2);
-    assert_eq!(rt; numbers_of(alloc, &solution)?.as_slice(), [0; 6].as_slice());
-    assert_eq!(rt; copies_of(alloc, &solution)?.as_slice(), [1, 1, 1, 1, 1, 3].as_slice());
-    assert_eq!(rt; solution.unroll(), 3);
-    assert_eq!(rt; solution.problem().draft().files.len(), 1);
-    assert_eq!(rt; solution.max_live(0), 5);
-    Ok(())
-}
-
 /// A second-order filter (transposed form) with saturating adds. Values, by their makers: the sample, b0 x, the result, b1 x, a1 y, a partial sum, the first state, b2 x, a2 y,
 /// the second state. Units: memory, two multipliers, the saturating adder.
 const BIQUAD: Lists = Lists {
@@ -104,32 +74,32 @@ const BIQUAD: Lists = Lists {
     files: &[File::Rotating(16)],
     operations: &[0, 1, 2, 1, 1, 2, 2, 1, 1, 2, 3],
     values: &[
-        value(0, 3),
-        value(1, 2),
-        value(2, 2),
-        value(3, 2),
-        value(4, 2),
-        value(5, 2),
-        value(6, 2),
-        value(7, 2),
-        value(8, 2),
-        value(9, 2),
+        (0, 3, false, 0),
+        (1, 2, false, 0),
+        (2, 2, false, 0),
+        (3, 2, false, 0),
+        (4, 2, false, 0),
+        (5, 2, false, 0),
+        (6, 2, false, 0),
+        (7, 2, false, 0),
+        (8, 2, false, 0),
+        (9, 2, false, 0),
     ],
     reads: &[
-        read(0, 1, 0, 0),
-        read(1, 2, 0, 0),
-        read(6, 2, 1, 0),
-        read(0, 3, 0, 0),
-        read(2, 4, 0, 0),
-        read(3, 5, 0, 0),
-        read(9, 5, 1, 0),
-        read(5, 6, 0, 0),
-        read(4, 6, 0, 0),
-        read(0, 7, 0, 0),
-        read(2, 8, 0, 0),
-        read(7, 9, 0, 0),
-        read(8, 9, 0, 0),
-        read(2, 10, 0, 0),
+        (0, 1, 0, 0),
+        (1, 2, 0, 0),
+        (6, 2, 1, 0),
+        (0, 3, 0, 0),
+        (2, 4, 0, 0),
+        (3, 5, 0, 0),
+        (9, 5, 1, 0),
+        (5, 6, 0, 0),
+        (4, 6, 0, 0),
+        (0, 7, 0, 0),
+        (2, 8, 0, 0),
+        (7, 9, 0, 0),
+        (8, 9, 0, 0),
+        (2, 10, 0, 0),
     ],
     orders: &[],
 };
@@ -190,25 +160,20 @@ const POST_INCREMENT: Lists = Lists {
     files: &[File::Rotating(8)],
     operations: &[0, 0, 1, 2],
     values: &[
-        value(0, 3),
-        value(0, 1),
-        value(1, 3),
-        value(1, 1),
-        value(2, 2),
-        Value {
-            maker: 3,
-            lands: 1,
-            out: true,
-            file: 0,
-        },
+        (0, 3, false, 0),
+        (0, 1, false, 0),
+        (1, 3, false, 0),
+        (1, 1, false, 0),
+        (2, 2, false, 0),
+        (3, 1, true, 0),
     ],
     reads: &[
-        read(1, 0, 1, 0),
-        read(3, 1, 1, 0),
-        read(0, 2, 0, 0),
-        read(2, 2, 0, 0),
-        read(4, 3, 0, 0),
-        read(5, 3, 1, 0),
+        (1, 0, 1, 0),
+        (3, 1, 1, 0),
+        (0, 2, 0, 0),
+        (2, 2, 0, 0),
+        (4, 3, 0, 0),
+        (5, 3, 1, 0),
     ],
     orders: &[],
 };
@@ -242,19 +207,9 @@ const BRANCH: Lists = Lists {
     units: 2,
     files: &[File::Rotating(8)],
     operations: &[0, 1, 3, 1, 2],
-    values: &[value(0, 2), value(1, 1), value(3, 1)],
-    reads: &[
-        read(0, 1, 0, 0),
-        read(1, 2, 0, 0),
-        read(2, 3, 1, 0),
-        read(2, 4, 0, 0),
-    ],
-    orders: &[Order {
-        from: 2,
-        to: 4,
-        delay: 0,
-        distance: 0,
-    }],
+    values: &[(0, 2, false, 0), (1, 1, false, 0), (3, 1, false, 0)],
+    reads: &[(0, 1, 0, 0), (1, 2, 0, 0), (2, 3, 1, 0), (2, 4, 0, 0)],
+    orders: &[(2, 4, 0, 0)],
 };
 
 /// MII is 3: five operations on two slots. Heights at 3: 4, 2, 1, 2, 1. The load is issued in 0, the add in 2 on the first slot, the count in 0 on the second, the store in 4,
@@ -284,27 +239,13 @@ const TWO_FILES: Lists = Lists {
     units: 3,
     files: &[File::Rotating(2), File::Rotating(4)],
     operations: &[0, 1, 2, 3],
-    values: &[
-        value(0, 1),
-        Value {
-            maker: 1,
-            lands: 3,
-            out: false,
-            file: 1,
-        },
-        Value {
-            maker: 2,
-            lands: 2,
-            out: false,
-            file: 1,
-        },
-    ],
+    values: &[(0, 1, false, 0), (1, 3, false, 1), (2, 2, false, 1)],
     reads: &[
-        read(0, 0, 1, 0),
-        read(0, 1, 0, 0),
-        read(1, 2, 0, 0),
-        read(0, 3, 0, 0),
-        read(2, 3, 0, 0),
+        (0, 0, 1, 0),
+        (0, 1, 0, 0),
+        (1, 2, 0, 0),
+        (0, 3, 0, 0),
+        (2, 3, 0, 0),
     ],
     orders: &[],
 };
@@ -349,20 +290,20 @@ fn two_files_lack_addresses(rt: HostRuntime) -> Result<(), Fail> {
 /// A second-order filter in eight instructions, as LLVM selects them for a machine of four slots: a load that steps its pointer, a multiply,
 /// four multiply-accumulates, a shift and a store. Multiplies land after 3 cycles and take either of two slots with the shift, which lands after 2. Accumulators,
 /// and what is shifted, are read `late` cycles after the issue.
-const fn eight_reads(late: u64) -> [Read; 12] {
+fn eight_reads(late: u64) -> [(usize, usize, u64, u64); 12] {
     [
-        read(1, 0, 1, 0),
-        read(0, 1, 0, 0),
-        read(0, 2, 1, 0),
-        read(2, 2, 0, late),
-        read(0, 3, 2, 0),
-        read(3, 3, 0, late),
-        read(7, 4, 2, 0),
-        read(4, 4, 0, late),
-        read(7, 5, 1, 0),
-        read(5, 5, 0, late),
-        read(6, 6, 0, late),
-        read(7, 7, 0, 0),
+        (1, 0, 1, 0),
+        (0, 1, 0, 0),
+        (0, 2, 1, 0),
+        (2, 2, 0, late),
+        (0, 3, 2, 0),
+        (3, 3, 0, late),
+        (7, 4, 2, 0),
+        (4, 4, 0, late),
+        (7, 5, 1, 0),
+        (5, 5, 0, late),
+        (6, 6, 0, late),
+        (7, 7, 0, 0),
     ]
 }
 
@@ -377,14 +318,14 @@ fn eight(alloc: Global, late: u64) -> Result<Problem, Fail> {
         files: &[File::Rotating(32)],
         operations: &[0, 1, 1, 1, 1, 1, 2, 3],
         values: &[
-            value(0, 3),
-            value(0, 1),
-            value(1, 3),
-            value(2, 3),
-            value(3, 3),
-            value(4, 3),
-            value(5, 3),
-            value(6, 2),
+            (0, 3, false, 0),
+            (0, 1, false, 0),
+            (1, 3, false, 0),
+            (2, 3, false, 0),
+            (3, 3, false, 0),
+            (4, 3, false, 0),
+            (5, 3, false, 0),
+            (6, 2, false, 0),
         ],
         reads: &eight_reads(late),
         orders: &[],

@@ -12,6 +12,7 @@ use std::test::Fail;
 
 /// The solution of the filter at an interval of 2: times and alternatives, and numbers.
 const PLACES: [(u64, usize); 6] = [(0, 0), (0, 1), (1, 0), (1, 1), (3, 0), (4, 0)];
+
 const NUMBERS: [usize; 6] = [0, 1, 0, 1, 1, 3];
 
 fn fir(alloc: Global) -> Result<Problem, Fail> {
@@ -56,7 +57,14 @@ fn intervals(rt: HostRuntime) -> Result<(), Fail> {
 fn numbers(rt: HostRuntime) -> Result<(), Fail> {
     let alloc = rt.alloc();
     breaks(&rt, alloc, 2, &PLACES, &[0, 1, 0, 1, 1], Broken::Numbers)?;
-    breaks(&rt, alloc, 2, &PLACES, &[0, 16, 0, 1, 1, 16], Broken::Number(1))
+    breaks(
+        &rt,
+        alloc,
+        2,
+        &PLACES,
+        &[0, 16, 0, 1, 1, 16],
+        Broken::Number(1),
+    )
 }
 
 /// There are six operations, loads have two alternatives, and no schedule is later than 64 stages of the longest interval.
@@ -64,7 +72,14 @@ fn numbers(rt: HostRuntime) -> Result<(), Fail> {
 fn ranges(rt: HostRuntime) -> Result<(), Fail> {
     let alloc = rt.alloc();
     let short = Broken::Schedule(Breach::Count);
-    breaks(&rt, alloc, 2, &[(0, 0), (0, 1), (1, 0), (1, 1), (3, 0)], &NUMBERS, short)?;
+    breaks(
+        &rt,
+        alloc,
+        2,
+        &[(0, 0), (0, 1), (1, 0), (1, 1), (3, 0)],
+        &NUMBERS,
+        short,
+    )?;
     let late = Broken::Schedule(Breach::Time(4));
     breaks(&rt, alloc, 2, &moved(4, (1_048_576, 0)), &NUMBERS, late)?;
     let missing = Broken::Schedule(Breach::Alternative(1));
@@ -80,7 +95,14 @@ fn slots(rt: HostRuntime) -> Result<(), Fail> {
         unit: 0,
         residue: 0,
     };
-    breaks(&rt, rt.alloc(), 2, &moved(1, (0, 0)), &NUMBERS, Broken::Schedule(slot))
+    breaks(
+        &rt,
+        rt.alloc(),
+        2,
+        &moved(1, (0, 0)),
+        &NUMBERS,
+        Broken::Schedule(slot),
+    )
 }
 
 /// The first tap is issued in 2, one cycle before its loads land; the second in 5, so that the multiplier is free.

@@ -92,7 +92,10 @@ fn values_of(alloc: Global, prepared: &Prepared) -> Result<Vec<Value>, OutOfMemo
             values.push(Value {
                 maker,
                 lands: latency_of(prepared, maker),
-                out: innermost.outs().iter().any(|out| usize::from(*out) == maker),
+                out: innermost
+                    .outs()
+                    .iter()
+                    .any(|out| usize::from(*out) == maker),
                 file: 0,
             })?;
         }
@@ -168,8 +171,14 @@ fn same_kernel(rt: &impl Abort, kernel: &Kernel, solution: &Solution) {
     assert_eq!(rt; parts.operations.as_slice().len(), count);
     for op in 0..count {
         let operation = &parts.operations.as_slice()[op];
-        assert_eq!(rt; solution.time(op), u64::from(operation.stage) * parts.ii + u64::from(operation.row));
-        assert_eq!(rt; solution.alternative(op), usize::from(operation.alternative));
+        assert_eq!(rt;
+            solution.time(op),
+            u64::from(operation.stage) * parts.ii + u64::from(operation.row)
+        );
+        assert_eq!(rt;
+            solution.alternative(op),
+            usize::from(operation.alternative)
+        );
     }
     for value in 0..draft.values.len() {
         let maker = draft.values[value].maker;
