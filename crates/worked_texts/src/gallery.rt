@@ -1,6 +1,18 @@
 //! The machines and loops of the gallery, in examples/gallery, without their comments, and a machine of the
 //! benchmarks.
 
+/// The loops of the gallery.
+pub const GALLERY_LOOPS: &[&str] = &[
+    DOT_PRODUCT,
+    SAXPY,
+    PREFIX_SUM,
+    FIR8,
+    COMPLEX_MULTIPLY,
+    HISTOGRAM,
+    RECURRENCE2,
+    MATRIX_ROW,
+];
+
 /// A signal processor with two buses, a multiplier and an adder.
 pub const SMALL_DSP: &str = r#"registers = 16
 units = ["bus_x", "bus_y", "mul", "alu"]
@@ -71,7 +83,7 @@ alts = [["int0@0"], ["int1@0"], ["store0@0"], ["store1@0"], ["load0@0"], ["load1
 "#;
 
 /// A dot product.
-pub const DOT_PRODUCT: &str = "\
+const DOT_PRODUCT: &str = "\
 loop dot_product
 array a = 3 1 -4 1 5 -9 2 6
 array b = 2 7 1 -8 2 8 1 -8
@@ -85,7 +97,7 @@ end
 ";
 
 /// A vector times a number, added to a vector.
-pub const SAXPY: &str = "\
+const SAXPY: &str = "\
 loop saxpy
 array x = 1 2 3 4 5 6 7 8
 array y = 10 20 30 40 50 60 70 80
@@ -99,7 +111,7 @@ end
 ";
 
 /// A running sum of an array.
-pub const PREFIX_SUM: &str = "\
+const PREFIX_SUM: &str = "\
 loop prefix_sum
 array a = 5 -2 7 1 -6 4 3 8
 array b =
@@ -111,7 +123,7 @@ end
 ";
 
 /// A filter of eight taps.
-pub const FIR8: &str = "\
+const FIR8: &str = "\
 loop fir8
 array x = 1 0 0 2 -1 3 0 5
 array y =
@@ -151,7 +163,7 @@ end
 ";
 
 /// Products of complex numbers.
-pub const COMPLEX_MULTIPLY: &str = "\
+const COMPLEX_MULTIPLY: &str = "\
 loop complex_multiply
 array xr = 1 2 0 -3 4 1
 array xi = 1 -1 2 5 0 1
@@ -175,7 +187,7 @@ end
 ";
 
 /// A histogram of four classes.
-pub const HISTOGRAM: &str = "\
+const HISTOGRAM: &str = "\
 loop histogram
 array x = 4 12 30 19 20 7 9 10
 array low = 0
@@ -202,7 +214,7 @@ end
 ";
 
 /// A recurrence over two iterations.
-pub const RECURRENCE2: &str = "\
+const RECURRENCE2: &str = "\
 loop recurrence2
 array x = 1 0 0 0 2 0 0 0
 array y =
@@ -220,7 +232,7 @@ end
 ";
 
 /// A row of a product of matrices.
-pub const MATRIX_ROW: &str = "\
+const MATRIX_ROW: &str = "\
 loop matrix_row
 array m0 = 1 2 3 4
 array m1 = 0 1 0 1

@@ -14,35 +14,10 @@ use solutions::{Cause, Outcome, Solution, solve};
 use std::alloc::Global;
 use std::process::Abort;
 use std::test::Fail;
-use worked_texts::{
-    ABS, ACC, ACCO, ALTS, CHAIN, CLUSTERED, COMPLEX_MULTIPLY, DOT_PRODUCT, EDGE, FAR, FEW, FIR8,
-    FORCE, HISTOGRAM, HOLD, KEEP, LAST, LATE, LONE, M1, M2, M3, M4, M5, M6, M7, M8, MATRIX_ROW,
-    POW, PREFIX_SUM, RECURRENCE2, SAXPY, SHIFT, SMALL_DSP, SUM, THREE, TWO_REGISTERS, WIDE, WRAP,
-};
+use worked_texts::{CLUSTERED, FEW, GALLERY_LOOPS, LOOPS, MACHINES, SMALL_DSP, WIDE};
 
 /// The machines of the gallery, and one with few registers.
 const GALLERY_MACHINES: &[&str] = &[SMALL_DSP, CLUSTERED, WIDE, FEW];
-
-/// The loops of the gallery.
-const GALLERY_LOOPS: &[&str] = &[
-    DOT_PRODUCT,
-    SAXPY,
-    PREFIX_SUM,
-    FIR8,
-    COMPLEX_MULTIPLY,
-    HISTOGRAM,
-    RECURRENCE2,
-    MATRIX_ROW,
-];
-
-/// The worked machines.
-const MACHINES: &[&str] = &[M1, M2, M3, M4, M5, M6, M7, M8, TWO_REGISTERS];
-
-/// The worked loops.
-const LOOPS: &[&str] = &[
-    ABS, ACC, ACCO, ALTS, CHAIN, EDGE, FAR, FORCE, HOLD, KEEP, LAST, LATE, LONE, POW, SHIFT, SUM,
-    THREE, WRAP,
-];
 
 /// The same alternatives as lists of holds.
 fn holds_of(alloc: Global, alternatives: &Alternatives) -> Result<Vec<Vec<Hold>>, OutOfMemory> {
