@@ -94,42 +94,11 @@ pub meets-same : (registers : ℕ) (numbers : List ℕ) (n k l : ℕ) (i j : ℤ
 meets-same registers numbers n k l i j kn ln e =
     ap (λ c. physical registers c i) (sym (index-taken numbers n k kn)) ∙ e ∙ ap (λ c. physical registers c j) (index-taken numbers n l ln)
 
--- lawful numbers are lawful as far as one likes
-pub lawful-before : (ii registers : ℕ) (lives : List Lifetime) (numbers : List ℕ) (n : ℕ) → IsLawfulAllotment ii registers lives numbers → IsLawfulAllotment ii registers (take n lives) (take n numbers)
-lawful-before ii registers lives numbers n h =
-    let e = h.each in
-    record {
-      each = omega (arith, length-take n numbers, length-take n lives);
-      there = λ k d l. (
-          let s : k < length numbers = omega (arith, length-take n numbers) in
-          let m : k < n = omega (arith, length-take n numbers) in
-          subst (λ v. v < registers) (sym (index-taken-or numbers n k d m)) (h.there k d s));
-      apart = λ k l i j m.
-          let a = taken-at lives n k m.one m.is_one in
-          let b = taken-at lives n l m.other m.is_other in
-          h.apart k l i j (record {
-            one = m.one;
-            is_one = a.0;
-            other = m.other;
-            is_other = b.0;
-            same_register = meets-same registers numbers n k l i j a.1 b.1 m.same_register;
-            cycle = m.cycle;
-            one_lives = m.one_lives;
-            other_lives = m.other_lives;
-          });
-    }
-
 pub life-take : (xs : List Lifetime) (k : ℕ) (x : Lifetime) → slice_get xs k ≡ Some x → take (k + 1) xs ≡ take k xs ++ x ∷ []
 life-take xs k x e = let z : k + 1 ≡ suc k = omega arith in ap (λ n. take n xs) z ∙ take-life xs k x e
 
 pub number-take : (xs : List ℕ) (k : ℕ) → k < length xs → take (k + 1) xs ≡ take k xs ++ slice_index xs k ∷ []
 number-take xs k lt = let z : k + 1 ≡ suc k = omega arith in ap (λ n. take n xs) z ∙ take-more xs k lt
-
-pub more-lawful : (ii registers : ℕ) (lives : List Lifetime) (numbers : List ℕ) (k : ℕ) (x : Lifetime) → slice_get lives k ≡ Some x → k < length numbers
-    → IsLawfulAllotment ii registers lives numbers → IsLawfulAllotment ii registers (take k lives ++ x ∷ []) (take k numbers ++ slice_index numbers k ∷ [])
-more-lawful ii registers lives numbers k x there lt h =
-    subst (λ ls. IsLawfulAllotment ii registers ls (take k numbers ++ slice_index numbers k ∷ [])) (life-take lives k x there)
-    (subst (IsLawfulAllotment ii registers (take (k + 1) lives)) (number-take numbers k lt) (lawful-before ii registers lives numbers (k + 1) h))
 
 pub take-front : (xs ys : List ℕ) (n : ℕ) → n ≡ length xs → take n (xs ++ ys) ≡ xs
 take-front [] ys zero e = refl
