@@ -212,11 +212,6 @@ slice_get-middle : {X : Type 0} (xs : List X) (y : X) (ys : List X) → slice_ge
 slice_get-middle [] y ys = refl
 slice_get-middle (x ∷ xs) y ys = slice_get-middle xs y ys
 
-pub slice_get-map : {X Y : Type 0} (f : X → Y) (xs : List X) (k : ℕ) (x : X) → slice_get xs k ≡ Some x → slice_get (map f xs) k ≡ Some (f x)
-slice_get-map f [] k x e = cc
-slice_get-map f (y ∷ xs) zero x e = let z : y ≡ x = cc in ap (λ w. Some (f w)) z
-slice_get-map f (y ∷ xs) (suc k) x e = slice_get-map f xs k x e
-
 -- the value at a statement's rank is the statement's
 pub value-at_rank : (loop : LoopData) (x : ℕ) (s : Statement) → slice_get loop.statements x ≡ Some s → is_some s.name ≡ true → slice_get (values_of loop) (rank_of loop x) ≡ Some x
 value-at_rank loop x s there named =

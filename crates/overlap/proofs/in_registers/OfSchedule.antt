@@ -1,10 +1,10 @@
 -- A scheduled loop with its allotment is a run of lists of values.
 use Rattle.std.proofs.Common.{◌≡◌, ℕ, suc, ◌+◌, ◌*◌, ◌<◌, ◌≤◌, true, false, List, [], ◌∷◌, length, get_or, map, Some, ℤ, refl, sym, ap, ◌∙◌, subst, inl, inr, arith}
-use Rattle.std.specs.Prelude.{slice_get, slice_index, is_some, ◌==◌}
+use Rattle.std.specs.Prelude.{option_map, slice_get, slice_index, is_some, ◌==◌}
 use Rattle.std.specs.List.{Contains}
-use Rattle.std.proofs.lemmas.List.{length-map}
+use Rattle.std.proofs.lemmas.List.{get_or-map, length-map}
 use Rattle.std.proofs.lemmas.List.Elements.{All-contains, All-filter, All-get_or, All-map, Contains-append_cases, Contains-get_or}
-use Rattle.std.proofs.lemmas.Option.{get_or_from_slice_get, same_Some, slice_get-get_or, slice_get_within}
+use Rattle.std.proofs.lemmas.Option.{get_or_from_slice_get, same_Some, slice_get-get_or, slice_get-map, slice_get_within}
 use Rattle.std.proofs.Math.Nat.{div-lt_iff_lt-mul}
 use Rattle.iterations.specs.declared.language.statement.Operand.TheVariants as operand
 use Rattle.iterations.specs.declared.language.statement.Statement.{Statement}
@@ -24,7 +24,7 @@ use Rattle.overlap.specs.Lifetimes.{Use, carried, lifetime_of, lifetimes_of, ran
 use Rattle.overlap.specs.LoopValues.{value_of_loop, values_of_loop, reads_by, reads_from, reads_of_loop, end_of}
 use Rattle.overlap.specs.Overlap.{Belong}
 use Rattle.overlap.proofs.in_flight.Writes.{keeps-dependences}
-use Rattle.overlap.proofs.in_registers.Lives.{contains-map, contains-map_back, slice_get-map, use-back, use-is, value-at_rank, value-back, values-few, lands-by_last}
+use Rattle.overlap.proofs.in_registers.Lives.{contains-map, contains-map_back, use-back, use-is, value-at_rank, value-back, values-few, lands-by_last}
 use Rattle.overlap.proofs.in_registers.OfValues.{carried-same, reads-of_value, lifetimes-are_of_values}
 
 abbrev pub run_of : ScheduleData → AllotmentData → RunData
@@ -86,7 +86,7 @@ module _ (schedule : ScheduleData) (allotment : AllotmentData) (b : Belong sched
   -- the values of the run
   pub value-listed : (v x : ℕ) → slice_get (values_of schedule.problem.loop) v ≡ Some x
       → slice_get (run_of schedule allotment).values v ≡ Some (value_of_loop schedule.problem.loop schedule.problem.graph.latencies x)
-  value-listed v x there = slice_get-map (value_of_loop schedule.problem.loop schedule.problem.graph.latencies) (values_of schedule.problem.loop) v x there
+  value-listed v x there = slice_get-map (value_of_loop schedule.problem.loop schedule.problem.graph.latencies) (values_of schedule.problem.loop) v ∙ ap (option_map (value_of_loop schedule.problem.loop schedule.problem.graph.latencies)) there
 
   pub value-is : (v x : ℕ) → slice_get (values_of schedule.problem.loop) v ≡ Some x
       → value_of (run_of schedule allotment) v ≡ value_of_loop schedule.problem.loop schedule.problem.graph.latencies x
@@ -142,7 +142,7 @@ module _ (schedule : ScheduleData) (allotment : AllotmentData) (b : Belong sched
 
   -- their homes
   number-at : (v : ℕ) → v < length allotment.numbers → slice_get (run_of schedule allotment).homes v ≡ Some (Rotates 0 allotment.registers (slice_index allotment.numbers v))
-  number-at v within = slice_get-map (Rotates 0 allotment.registers) allotment.numbers v (slice_index allotment.numbers v) (slice_get-get_or allotment.numbers v 0 within)
+  number-at v within = slice_get-map (Rotates 0 allotment.registers) allotment.numbers v ∙ ap (option_map (Rotates 0 allotment.registers)) (slice_get-get_or allotment.numbers v 0 within)
 
   are-homes : AreHomes (run_of schedule allotment).homes
   are-homes v file registers number there =
@@ -157,8 +157,7 @@ module _ (schedule : ScheduleData) (allotment : AllotmentData) (b : Belong sched
   place-is : (v : ℕ) (i : ℤ) → v < length allotment.numbers
       → place_of (run_of schedule allotment) v i ≡ InRegister 0 (physical allotment.registers (slice_index allotment.numbers v) i)
   place-is v i within =
-      ap (λ home. place_in home v i)
-      (get_or_from_slice_get (run_of schedule allotment).homes v (Rotates 0 allotment.registers (slice_index allotment.numbers v)) Unallotted (number-at v within))
+      ap (λ home. place_in home v i) (get_or-map (Rotates 0 allotment.registers) allotment.numbers v 0 Unallotted within)
 
   many-homes : length (run_of schedule allotment).homes ≡ length (run_of schedule allotment).values
   unfolding lifetimes_of
