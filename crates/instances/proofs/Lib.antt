@@ -1,3 +1,4 @@
+pub mod Apart
 pub mod Turned
 pub mod Issued
 pub mod Lives

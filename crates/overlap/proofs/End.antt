@@ -31,8 +31,8 @@ use Rattle.overlap.proofs.in_cells.Loads.{lands-first}
 use Rattle.overlap.proofs.in_flight.Made.{writes-are_of_values}
 use Rattle.iterations.proofs.Instances.{arrays-first, earlier-at, initial-at, slice_get-within}
 use Rattle.overlap.proofs.in_registers.Preloaded.{preloaded-is}
-use Rattle.overlap.proofs.in_registers.OfSchedule.{run_of, is-run, value-is}
-use Rattle.overlap.proofs.in_registers.Registers.{made-write, lands-before, rank-destination, rank-within}
+use Rattle.overlap.proofs.in_registers.OfSchedule.{run_of, is-run, rank-within, value-is}
+use Rattle.overlap.proofs.in_registers.Registers.{made-write, lands-before, rank-destination}
 use Rattle.registers.specs.declared.value.Value.{Value}
 use Rattle.instances.specs.Runs.{StandsIn, destination}
 use Rattle.instances.proofs.Lives.{if-on}
@@ -232,9 +232,9 @@ out-lands schedule allotment memory r x k s there named out trip =
     let last : memory.trip - 1 ≡ k = omega arith in
     last-of_all_is issued w c (λ v d t.
     let by : ℕ = overlap.end_of schedule + ii * (memory.trip - 1) + v.start in
-    let stands = (ends-hold_last (run_of schedule allotment) memory.trip is rank by (rank-within schedule allotment memory r x s there named) (ap (λ (y : Value). y.out) value ∙ out)).0 (omega arith) (omega arith) in
-    lands-before schedule allotment memory r final by x k s there named
-    (subst (λ p. StandsIn (run_of schedule allotment) memory.trip p by rank k) (rank-destination schedule allotment memory r x k s there named)
+    let stands = (ends-hold_last (run_of schedule allotment) memory.trip is rank by (rank-within schedule allotment r.belong x s there named) (ap (λ (y : Value). y.out) value ∙ out)).0 (omega arith) (omega arith) in
+    lands-before schedule allotment memory r x s there named final by k
+    (subst (λ p. StandsIn (run_of schedule allotment) memory.trip p by rank k) (rank-destination schedule allotment memory r x s there named k)
     (subst (λ n. StandsIn (run_of schedule allotment) memory.trip (destination (run_of schedule allotment) rank n) by rank n) last stands)) v d t (omega arith))
     ∙ sym is_write
 

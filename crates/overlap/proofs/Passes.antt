@@ -1,7 +1,6 @@
 -- The passes as laws.
-use Rattle.std.proofs.Common.{◌≡◌, ℕ, suc, zero, ◌+◌, ◌-◌, ◌/◌, ◌%◌, ◌<◌, ◌≤◌, ◌&&◌, Bool, true, eqb, ltb, leb, List, [], ◌∷◌, length, map, Some, None, ℤ, pos, ◌+ℤ◌, ◌-ℤ◌, sym, ap, ◌∙◌, subst, inl, inr, arith}
+use Rattle.std.proofs.Common.{◌≡◌, ℕ, suc, zero, ◌+◌, ◌/◌, ◌<◌, true, List, [], ◌∷◌, length, map, Some, None, ℤ, pos, ◌+ℤ◌, sym, ap, ◌∙◌, subst, inl, inr, arith}
 use Rattle.std.specs.Prelude.{slice_get, slice_index, is_some}
-use Rattle.std.proofs.lemmas.Bool.{and_parts, and_from, eqb-true, leb-true, ltb-true, eq-eqb, le-leb, lt-ltb}
 use Rattle.std.proofs.lemmas.Int.{ints}
 use Rattle.std.proofs.lemmas.List.Elements.{All-contains}
 use Rattle.std.proofs.lemmas.Option.{same_Some}
@@ -12,18 +11,17 @@ use Rattle.iterations.specs.Loops.{MayRead}
 use Rattle.iterations.specs.Run.{cell_index}
 use Rattle.graph.specs.Promises.{issue_of}
 use Rattle.kernel.specs.declared.kernels.operation.Operation.{Operation}
-use Rattle.kernel.specs.Overlapped.{physical, preloaded, is_issued}
+use Rattle.kernel.specs.Overlapped.{physical, is_issued}
 use Rattle.overlap.specs.Allotments.{AllotmentData, allotted_number}
-use Rattle.ims.specs.Schedules.{ScheduleData, stage_of, row_of}
+use Rattle.ims.specs.Schedules.{ScheduleData, stage_of}
 use Rattle.overlap.specs.Emission.{name_of, source_of, operation_of, operations_from, emitted}
 use Rattle.overlap.specs.Overlap.{IsLastStore, InstancesAreIssuedOnce, NamesAreOfInstances, RegistersHoldValues, LoadsFollowStores}
 use Rattle.instances.proofs.Issued as issued
 use Rattle.instances.proofs.Turned.{name-in_turn}
 use Rattle.overlap.proofs.in_cells.LastStores.{holds-last}
-use Rattle.overlap.proofs.in_registers.Lives.{carried-far}
 use Rattle.overlap.proofs.in_cells.Loads.{load-finds, load-opens}
 use Rattle.iterations.proofs.Instances.{slice_get-within}
-use Rattle.overlap.proofs.in_registers.Preloaded.{preloaded-is}
+use Rattle.overlap.proofs.in_flight.Issued.{is_on, on-parts, on-from_parts}
 use Rattle.overlap.proofs.in_registers.Registers.{register-lands, register-opens}
 use Rattle.overlap.proofs.in_flight.Values.{load-same, blocks-of, cell-index_below}
 
@@ -49,22 +47,10 @@ instances-are_issued_once schedule allotment b trip cycle op o there =
     let at = operation-at schedule allotment 0 schedule.problem.loop.statements op o there in
     let z : 0 + op ≡ op = omega arith in
     let is : o ≡ operation_of schedule allotment op at.0 = at.1 ∙ ap (λ n. operation_of schedule allotment n at.0) z in
-    let row : Bool = eqb (cycle % ii) (row_of schedule op) in
-    let begun : Bool = leb (stage_of schedule op) (cycle / ii) in
-    let lasts : Bool = ltb (cycle / ii) (stage_of schedule op + trip) in
-    let once = issued.instances-are_issued_once ii (slice_index schedule.times op) trip cycle some in
-    let same : is_issued (emitted schedule allotment) trip cycle o ≡ (row && begun && lasts) = ap (is_issued (emitted schedule allotment) trip cycle) is in (
-      λ on.
-          let one = and_parts (row && begun) lasts (sym same ∙ on) in
-          let two = and_parts row begun one.0 in
-          let e : cycle % ii ≡ row_of schedule op = eqb-true (cycle % ii) (row_of schedule op) two.0 in
-          let f : stage_of schedule op ≤ cycle / ii = leb-true (stage_of schedule op) (cycle / ii) two.1 in
-          let l : cycle / ii < stage_of schedule op + trip = ltb-true (cycle / ii) (stage_of schedule op + trip) one.1 in
-          once.0 (e, f, l),
-      λ it.
-          let w = once.1 it in
-          same ∙ and_from (row && begun) lasts (and_from row begun (eq-eqb (cycle % ii) (row_of schedule op) w.0) (le-leb (stage_of schedule op) (cycle / ii) w.1)) (lt-ltb (cycle / ii) (stage_of schedule op + trip) w.2),
-    )
+    let time = slice_index schedule.times op in
+    let once = issued.instances-are_issued_once ii time trip cycle some in
+    let same : is_issued (emitted schedule allotment) trip cycle o ≡ is_on ii time trip cycle = ap (is_issued (emitted schedule allotment) trip cycle) is in
+    (λ on. once.0 (on-parts ii time trip cycle (sym same ∙ on)), λ it. same ∙ on-from_parts ii time trip cycle (once.1 it))
 
 -- (ii)
 
@@ -111,15 +97,7 @@ registers-hold_values schedule allotment memory r value distance reader iteratio
     let gives = may.0 in
     let same : gives.0 ≡ s = same_Some gives.0 s (sym gives.1 ∙ there) in
     let named : is_some s.name ≡ true = ap (λ (x : Statement). is_some x.name) (sym same) ∙ gives.2 in
-    let far = carried-far loop value reader distance u in (
-      λ le. register-lands schedule allotment memory r value reader distance iteration s there named u within le,
-      λ lt.
-          let z : (pos iteration -ℤ pos distance) ≡ (pos 0 -ℤ pos (distance - iteration)) = omega (arith, ints) in (
-            register-opens schedule allotment memory r value reader distance iteration s there named u lt,
-            ap (λ i. preloaded (emitted schedule allotment) (physical allotment.registers (allotted_number loop allotment value) i)) z
-                ∙ preloaded-is schedule allotment r.belong value (distance - iteration) s there named (omega arith) (omega arith),
-          ),
-    )
+    (register-lands schedule allotment memory r value s there named reader distance iteration u within, register-opens schedule allotment memory r value s there named reader distance iteration u)
 
 -- (iii)
 

@@ -1,16 +1,16 @@
 -- The writes of the sequence are those of the instances that are issued.
-use Rattle.std.proofs.Common.{◌≡◌, ◌⊎◌, ℕ, suc, zero, ◌+◌, ◌-◌, ◌/◌, ◌%◌, ◌<◌, ◌≤◌, ◌&&◌, Bool, eqb, ltb, leb, List, [], ◌∷◌, Option, Some, None, refl, sym, ap, ◌∙◌, subst, inl, inr, arith}
+use Rattle.std.proofs.Common.{◌≡◌, ◌⊎◌, ℕ, suc, zero, ◌+◌, ◌-◌, ◌/◌, ◌%◌, ◌<◌, ◌≤◌, ◌&&◌, Bool, true, eqb, ltb, leb, List, [], ◌∷◌, Option, Some, None, refl, sym, ap, ◌∙◌, subst, inl, inr, arith}
 use Rattle.std.specs.Prelude.{slice_get, slice_index}
 use Rattle.std.specs.List.{Contains, cons_option}
 use Rattle.std.proofs.lemmas.Bool.{cases_Bool, cases_lt, and_parts, and_from, eqb-true, eq-eqb, leb-true, ltb-true, le-leb, lt-ltb, cond-true, cond-false}
 use Rattle.std.proofs.lemmas.List.Elements.{Contains-append_left, Contains-append_right, Contains-append_cases}
-use Rattle.instances.proofs.Issued.{cycle-from_row, row-of_issue, turn-of_issue}
+use Rattle.instances.proofs.Issued.{cycle-from_row, instances-are_issued_once, turn-of_issue}
 use Rattle.iterations.specs.declared.language.statement.Statement.{Statement}
 use Rattle.iterations.specs.Run.{MemoryData}
 use Rattle.graph.specs.Promises.{issue_of}
 use Rattle.kernel.specs.Overlapped.{Write}
 use Rattle.overlap.specs.Allotments.{AllotmentData}
-use Rattle.ims.specs.Schedules.{ScheduleData, stage_of, row_of}
+use Rattle.ims.specs.Schedules.{ScheduleData, stage_of}
 use Rattle.overlap.specs.Sequence.{write_of_instance, write_now, sequence_in, sequence_before}
 use Rattle.overlap.proofs.in_flight.Landing.{contains-cases, contains-head, contains-tail}
 
@@ -23,6 +23,22 @@ pub record IsIssued (schedule : ScheduleData) (allotment : AllotmentData) (memor
   pub within : iteration < memory.trip
   pub early : issue_of schedule.ii schedule.times op iteration < cycle
   pub is_write : write_of_instance schedule allotment memory.arrays op iteration statement ≡ Some w
+
+-- the test by which an operation is issued in a cycle
+abbrev pub is_on : (ii time trip cycle : ℕ) → Bool
+is_on ii time trip cycle = eqb (cycle % ii) (time % ii) && leb (time / ii) (cycle / ii) && ltb (cycle / ii) (time / ii + trip)
+
+pub on-parts : (ii time trip cycle : ℕ) → is_on ii time trip cycle ≡ true → (cycle % ii ≡ time % ii) × (time / ii ≤ cycle / ii) × (cycle / ii < time / ii + trip)
+on-parts ii time trip cycle on =
+    let one = and_parts (eqb (cycle % ii) (time % ii) && leb (time / ii) (cycle / ii)) (ltb (cycle / ii) (time / ii + trip)) on in
+    let two = and_parts (eqb (cycle % ii) (time % ii)) (leb (time / ii) (cycle / ii)) one.0 in
+    (eqb-true (cycle % ii) (time % ii) two.0, leb-true (time / ii) (cycle / ii) two.1, ltb-true (cycle / ii) (time / ii + trip) one.1)
+
+pub on-from_parts : (ii time trip cycle : ℕ) → (cycle % ii ≡ time % ii) × (time / ii ≤ cycle / ii) × (cycle / ii < time / ii + trip) → is_on ii time trip cycle ≡ true
+on-from_parts ii time trip cycle p =
+    and_from (eqb (cycle % ii) (time % ii) && leb (time / ii) (cycle / ii)) (ltb (cycle / ii) (time / ii + trip))
+    (and_from (eqb (cycle % ii) (time % ii)) (leb (time / ii) (cycle / ii)) (eq-eqb (cycle % ii) (time % ii) p.0) (le-leb (time / ii) (cycle / ii) p.1))
+    (lt-ltb (cycle / ii) (time / ii + trip) p.2)
 
 -- what is issued in a cycle
 
@@ -80,24 +96,19 @@ now-from_write : (schedule : ScheduleData) (allotment : AllotmentData) (memory :
     → write_now schedule allotment memory cycle op s ≡ Some w → IsNow schedule allotment memory cycle op s w
 now-from_write schedule allotment memory cycle op s w e =
     let ii = schedule.ii in
-    let row : Bool = eqb (cycle % ii) (row_of schedule op) in
-    let begun : Bool = leb (stage_of schedule op) (cycle / ii) in
-    let lasts : Bool = ltb (cycle / ii) (stage_of schedule op + memory.trip) in
+    let time = slice_index schedule.times op in
     let write : Option Write = write_of_instance schedule allotment memory.arrays op (cycle / ii - stage_of schedule op) s in
-    elim (cases_Bool (row && begun && lasts)) [
+    elim (cases_Bool (is_on ii time memory.trip cycle)) [
       | inl on ↦
-          let one = and_parts (row && begun) lasts on in
-          let two = and_parts row begun one.0 in
-          let r : cycle % ii ≡ row_of schedule op = eqb-true (cycle % ii) (row_of schedule op) two.0 in
-          let b : stage_of schedule op ≤ cycle / ii = leb-true (stage_of schedule op) (cycle / ii) two.1 in
-          let l : cycle / ii < stage_of schedule op + memory.trip = ltb-true (cycle / ii) (stage_of schedule op + memory.trip) one.1 in
+          let p = on-parts ii time memory.trip cycle on in
+          let l = p.2 in
           record {
             iteration = cycle / ii - stage_of schedule op;
             within = omega arith;
-            is_cycle = cycle-from_row ii (slice_index schedule.times op) cycle r b;
-            is_write = sym (cond-true (row && begun && lasts) write None on) ∙ e;
+            is_cycle = cycle-from_row ii time cycle p.0 p.1;
+            is_write = sym (cond-true (is_on ii time memory.trip cycle) write None on) ∙ e;
           }
-      | inr off ↦ let none : None ≡ Some w = sym (cond-false (row && begun && lasts) write None off) ∙ e in cc
+      | inr off ↦ let none : None ≡ Some w = sym (cond-false (is_on ii time memory.trip cycle) write None off) ∙ e in cc
     ]
 
 write-now_at : (schedule : ScheduleData) (allotment : AllotmentData) (memory : MemoryData) (cycle op iteration : ℕ) (s : Statement) → 0 < schedule.ii
@@ -106,15 +117,10 @@ write-now_at : (schedule : ScheduleData) (allotment : AllotmentData) (memory : M
 write-now_at schedule allotment memory cycle op iteration s some within at =
     let ii = schedule.ii in
     let time = slice_index schedule.times op in
-    let r : cycle % ii ≡ row_of schedule op = ap (λ n. n % ii) (sym at) ∙ row-of_issue ii time iteration in
     let t : cycle / ii ≡ stage_of schedule op + iteration = ap (λ n. n / ii) (sym at) ∙ turn-of_issue ii time iteration some in
     let back : cycle / ii - stage_of schedule op ≡ iteration = omega arith in
-    let row : Bool = eqb (cycle % ii) (row_of schedule op) in
-    let begun : Bool = leb (stage_of schedule op) (cycle / ii) in
-    let lasts : Bool = ltb (cycle / ii) (stage_of schedule op + memory.trip) in
-    let write : Option Write = write_of_instance schedule allotment memory.arrays op (cycle / ii - stage_of schedule op) s in
-    cond-true (row && begun && lasts) write None
-    (and_from (row && begun) lasts (and_from row begun (eq-eqb (cycle % ii) (row_of schedule op) r) (le-leb (stage_of schedule op) (cycle / ii) (omega arith))) (lt-ltb (cycle / ii) (stage_of schedule op + memory.trip) (omega arith)))
+    cond-true (is_on ii time memory.trip cycle) (write_of_instance schedule allotment memory.arrays op (cycle / ii - stage_of schedule op) s) None
+    (on-from_parts ii time memory.trip cycle ((instances-are_issued_once ii time memory.trip cycle some).1 (iteration, within, sym at)))
     ∙ ap (λ n. write_of_instance schedule allotment memory.arrays op n s) back
 
 -- each write of the sequence is an instance's

@@ -1,8 +1,8 @@
 -- What the kernel's operations write is what the instances write.
-use Rattle.std.proofs.Common.{◌≡◌, ◌⊎◌, ℕ, suc, zero, ◌+◌, ◌-◌, ◌/◌, ◌%◌, ◌<◌, ◌≤◌, ◌&&◌, Bool, true, false, cond, eqb, ltb, leb, List, [], ◌∷◌, ◌++◌, Option, Some, None, option_map, ℤ, pos, ◌+ℤ◌, ◌-ℤ◌, refl, sym, ap, ◌∙◌, subst, inl, inr, arith}
+use Rattle.std.proofs.Common.{◌≡◌, ◌⊎◌, ℕ, suc, zero, ◌+◌, ◌-◌, ◌/◌, ◌<◌, Bool, true, false, cond, List, [], ◌∷◌, ◌++◌, Option, Some, None, option_map, ℤ, pos, ◌+ℤ◌, ◌-ℤ◌, refl, sym, ap, ◌∙◌, subst, inl, inr, arith}
 use Rattle.std.specs.Prelude.{slice_get, slice_index, is_some, IsSome}
 use Rattle.std.specs.List.{cons_option}
-use Rattle.std.proofs.lemmas.Bool.{and_parts, eqb-true, leb-true, ltb-true, true≢false}
+use Rattle.std.proofs.lemmas.Bool.{true≢false}
 use Rattle.std.proofs.lemmas.Int.{ints}
 use Rattle.machine_data.specs.declared.opcode.Opcode.{Opcode}
 use Rattle.machine_data.specs.declared.opcode.Opcode.TheVariants.{Load, Store}
@@ -16,13 +16,14 @@ use Rattle.kernel.specs.declared.kernels.operation.Operation.{Operation}
 use Rattle.kernel.specs.declared.kernels.parts.Parts.{Parts}
 use Rattle.kernel.specs.Overlapped.{InRegister, InCell, Write, physical, addressed, cell_landed, load_landed, write_of, write_given, to_register, to_cell, is_issued, writes_in}
 use Rattle.overlap.specs.Allotments.{AllotmentData, allotted_number}
-use Rattle.ims.specs.Schedules.{ScheduleData, stage_of, row_of}
+use Rattle.ims.specs.Schedules.{ScheduleData, stage_of}
 use Rattle.overlap.specs.Emission.{name_of, address_of, operation_of, operations_from, emitted}
 use Rattle.overlap.specs.Sequence.{state_before, read_by, stored_by, made_by, write_by_opcode, write_of_instance, write_now, sequence_in, sequence_before}
 use Rattle.overlap.specs.Overlap.{IsRun, WritesAreOfValues}
 use Rattle.instances.proofs.Issued.{cycle-from_row, turn-of_issue}
 use Rattle.instances.proofs.Turned.{name-in_turn}
 use Rattle.iterations.proofs.Instances.{length-before}
+use Rattle.overlap.proofs.in_flight.Issued.{is_on, on-parts}
 use Rattle.overlap.proofs.in_flight.Values.{sources-same, load-same}
 
 -- the cell of an address is that of the place
@@ -153,19 +154,14 @@ unfolding emitted
 one-same schedule allotment memory r cycle q s there =
     let ii : ℕ = schedule.ii in
     let j : ℕ = cycle / ii - stage_of schedule q in
-    let row : Bool = eqb (cycle % ii) (row_of schedule q) in
-    let begun : Bool = leb (stage_of schedule q) (cycle / ii) in
-    let lasts : Bool = ltb (cycle / ii) (stage_of schedule q + memory.trip) in
-    same-test (row && begun && lasts)
+    let time = slice_index schedule.times q in
+    same-test (is_on ii time memory.trip cycle)
     (write_of (emitted schedule allotment) memory (sequence_before schedule allotment memory cycle) cycle (operation_of schedule allotment q s))
     (write_of_instance schedule allotment memory.arrays q j s)
     (λ on.
-    let one = and_parts (row && begun) lasts on in
-    let two = and_parts row begun one.0 in
-    let e : cycle % ii ≡ row_of schedule q = eqb-true (cycle % ii) (row_of schedule q) two.0 in
-    let b : stage_of schedule q ≤ cycle / ii = leb-true (stage_of schedule q) (cycle / ii) two.1 in
-    let l : cycle / ii < stage_of schedule q + memory.trip = ltb-true (cycle / ii) (stage_of schedule q + memory.trip) one.1 in
-    let at : cycle ≡ issue_of ii schedule.times q j = cycle-from_row ii (slice_index schedule.times q) cycle e b in
+    let p = on-parts ii time memory.trip cycle on in
+    let l = p.2 in
+    let at : cycle ≡ issue_of ii schedule.times q j = cycle-from_row ii time cycle p.0 p.1 in
     ap (λ c. write_of (emitted schedule allotment) memory (sequence_before schedule allotment memory c) c (operation_of schedule allotment q s)) at
     ∙ write-same schedule allotment memory r q j s there (omega arith))
 

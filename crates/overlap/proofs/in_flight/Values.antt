@@ -27,10 +27,8 @@ use Rattle.instances.proofs.Turned.{name-in_turn}
 use Rattle.iterations.proofs.Instances.{read-value, read-initial, slice_get-within}
 use Rattle.iterations.proofs.InstanceCells.{HaveBlocks}
 use Rattle.overlap.proofs.in_cells.LastStores.{holds-last}
-use Rattle.overlap.proofs.in_registers.Lives.{carried-far}
 use Rattle.overlap.proofs.in_flight.Writes.{makes-value}
 use Rattle.overlap.proofs.in_registers.Registers.{register-lands, register-opens}
-use Rattle.overlap.proofs.in_registers.Preloaded.{preloaded-is}
 use Rattle.overlap.proofs.in_cells.Loads.{load-finds, load-opens}
 
 -- what an operand's source gives
@@ -51,15 +49,12 @@ value-same schedule allotment memory run q j s there within x d c may =
     let shape = (run.belong.scheduled.problem.loop.each x gives.0 gives.1).shape in
     elim (cases_lt j d) [
       | inr le ↦
-          ap (λ o. value_or o opening) (register-lands schedule allotment memory run x q d j gives.0 gives.1 gives.2 u within le
+          ap (λ o. value_or o opening) (register-lands schedule allotment memory run x gives.0 gives.1 gives.2 q d j u within le
           ∙ makes-value schedule allotment memory.arrays x (j - d) gives.0 shape gives.2)
           ∙ sym (read-value loop memory.arrays q j x d gives.0 gives.1 may.2 le)
       | inl lt ↦
-          let z : (pos j -ℤ pos d) ≡ (pos 0 -ℤ pos (d - j)) = omega (arith, ints) in
-          let far = carried-far loop x q d u in
-          ap (λ o. value_or o opening) (register-opens schedule allotment memory run x q d j gives.0 gives.1 gives.2 u lt)
-          ∙ ap (λ i. preloaded (emitted schedule allotment) (physical allotment.registers (allotted_number loop allotment x) i)) z
-          ∙ preloaded-is schedule allotment run.belong x (d - j) gives.0 gives.1 gives.2 (omega arith) (omega arith)
+          let opens = register-opens schedule allotment memory run x gives.0 gives.1 gives.2 q d j u lt in
+          ap (λ o. value_or o opening) opens.0 ∙ opens.1
           ∙ sym (read-initial loop memory.arrays q j x d lt)
     ]
 

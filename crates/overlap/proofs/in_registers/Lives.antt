@@ -1,8 +1,8 @@
 -- What lifetimes give: they begin no later than the landing, last to each use, and those of initial values are there at the start.
-use Rattle.std.proofs.Common.{◌≡◌, ◌⊎◌, ℕ, suc, zero, ◌+◌, ◌*◌, ◌<◌, ◌≤◌, min, max, Bool, true, false, eqb, List, [], ◌∷◌, ◌++◌, length, map, take, drop, Option, Some, None, refl, sym, ap, ◌∙◌, subst, inl, inr, arith}
-use Rattle.std.specs.Prelude.{slice_get, slice_index, is_some, filter_map, if◌then◌else◌, zip}
+use Rattle.std.proofs.Common.{◌≡◌, ◌⊎◌, ℕ, suc, zero, ◌+◌, ◌*◌, ◌<◌, ◌≤◌, min, max, true, eqb, List, [], ◌∷◌, ◌++◌, length, map, take, drop, Option, Some, None, refl, sym, ap, ◌∙◌, subst, inl, inr, arith}
+use Rattle.std.specs.Prelude.{slice_get, slice_index, is_some, filter_map, zip}
 use Rattle.std.specs.List.{Contains, cons_option}
-use Rattle.std.proofs.lemmas.Bool.{cases_Bool, cases_eq, cases_lt, eq-eqb, ne_eqb, cond-true, cond-false, cond_both, true≢false}
+use Rattle.std.proofs.lemmas.Bool.{cases_Bool, cases_eq, cases_lt, eq-eqb, ne_eqb, cond-true, cond-false, cond_both}
 use Rattle.std.proofs.lemmas.List.Elements.{Contains-append_left, Contains-append_right, Contains-append_cases}
 use Rattle.iterations.specs.declared.language.statement.Statement.{Statement}
 use Rattle.iterations.specs.declared.language.statement.Operand.{Operand}
@@ -64,13 +64,6 @@ pub use-is : (loop : LoopData) (value reader distance : ℕ) → Uses loop reade
 use-is loop value reader distance u =
     let z : 0 + reader ≡ reader = omega arith in
     subst (λ n. Contains (uses_of loop value) (record { reader = n; distance = distance })) z (use-from value 0 loop.statements reader distance u.0 u.1 u.2)
-
--- a use is at most as far as the value is carried
-pub carried-far : (loop : LoopData) (value reader distance : ℕ) → Uses loop reader value distance → distance ≤ carried loop value
-carried-far loop value reader distance u =
-    let r = greatest-of (map (λ (x : Use). x.distance) (uses_of loop value)) distance
-    (contains-map (λ (x : Use). x.distance) (uses_of loop value) (record { reader = reader; distance = distance }) (use-is loop value reader distance u)) in
-    omega arith
 
 -- lifetimes
 
@@ -218,11 +211,6 @@ values-append n (x ∷ xs) ys =
 slice_get-middle : {X : Type 0} (xs : List X) (y : X) (ys : List X) → slice_get (xs ++ y ∷ ys) (length xs) ≡ Some y
 slice_get-middle [] y ys = refl
 slice_get-middle (x ∷ xs) y ys = slice_get-middle xs y ys
-
-pub slice_get-map : {X Y : Type 0} (f : X → Y) (xs : List X) (k : ℕ) (x : X) → slice_get xs k ≡ Some x → slice_get (map f xs) k ≡ Some (f x)
-slice_get-map f [] k x e = cc
-slice_get-map f (y ∷ xs) zero x e = let z : y ≡ x = cc in ap (λ w. Some (f w)) z
-slice_get-map f (y ∷ xs) (suc k) x e = slice_get-map f xs k x e
 
 -- the value at a statement's rank is the statement's
 pub value-at_rank : (loop : LoopData) (x : ℕ) (s : Statement) → slice_get loop.statements x ≡ Some s → is_some s.name ≡ true → slice_get (values_of loop) (rank_of loop x) ≡ Some x

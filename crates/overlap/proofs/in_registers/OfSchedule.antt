@@ -1,10 +1,10 @@
 -- A scheduled loop with its allotment is a run of lists of values.
-use Rattle.std.proofs.Common.{◌≡◌, ℕ, suc, zero, ◌+◌, ◌*◌, ◌<◌, ◌≤◌, true, false, List, [], ◌∷◌, length, get_or, map, Some, ℤ, refl, sym, ap, ◌∙◌, subst, inl, inr, arith}
-use Rattle.std.specs.Prelude.{slice_get, slice_index, is_some, ◌==◌}
+use Rattle.std.proofs.Common.{◌≡◌, ℕ, suc, ◌+◌, ◌*◌, ◌<◌, ◌≤◌, true, false, List, [], ◌∷◌, length, get_or, map, Some, ℤ, refl, sym, ap, ◌∙◌, subst, inl, inr, arith}
+use Rattle.std.specs.Prelude.{option_map, slice_get, slice_index, is_some, ◌==◌}
 use Rattle.std.specs.List.{Contains}
-use Rattle.std.proofs.lemmas.List.{length-map}
+use Rattle.std.proofs.lemmas.List.{get_or-map, length-map}
 use Rattle.std.proofs.lemmas.List.Elements.{All-contains, All-filter, All-get_or, All-map, Contains-append_cases, Contains-get_or}
-use Rattle.std.proofs.lemmas.Option.{get_or_from_slice_get, same_Some, slice_get-get_or, slice_get_within}
+use Rattle.std.proofs.lemmas.Option.{get_or_from_slice_get, same_Some, slice_get-get_or, slice_get-map, slice_get_within}
 use Rattle.std.proofs.Math.Nat.{div-lt_iff_lt-mul}
 use Rattle.iterations.specs.declared.language.statement.Operand.TheVariants as operand
 use Rattle.iterations.specs.declared.language.statement.Statement.{Statement}
@@ -24,7 +24,7 @@ use Rattle.overlap.specs.Lifetimes.{Use, carried, lifetime_of, lifetimes_of, ran
 use Rattle.overlap.specs.LoopValues.{value_of_loop, values_of_loop, reads_by, reads_from, reads_of_loop, end_of}
 use Rattle.overlap.specs.Overlap.{Belong}
 use Rattle.overlap.proofs.in_flight.Writes.{keeps-dependences}
-use Rattle.overlap.proofs.in_registers.Lives.{contains-map, contains-map_back, slice_get-map, use-back, use-is, value-at_rank, value-back, values-few, lands-by_last}
+use Rattle.overlap.proofs.in_registers.Lives.{contains-map, contains-map_back, use-back, use-is, value-at_rank, value-back, values-few, lands-by_last}
 use Rattle.overlap.proofs.in_registers.OfValues.{carried-same, reads-of_value, lifetimes-are_of_values}
 
 abbrev pub run_of : ScheduleData → AllotmentData → RunData
@@ -42,13 +42,16 @@ run_of schedule allotment = record {
 pub contains-at : {X : Type 0} (xs : List X) (k : ℕ) (x : X) → slice_get xs k ≡ Some x → Contains xs x
 contains-at xs k x e = (k, slice_get_within xs k x e, get_or_from_slice_get xs k x x e)
 
+abbrev pub read_of : (value reader distance : ℕ) → Read
+read_of value reader distance = record { value = value; reader = reader; distance = distance; offset = 0 }
+
 pub read-of_use : (loop : LoopData) (v x q d : ℕ) → slice_get (values_of loop) v ≡ Some x → Uses loop q x d
-    → (n : ℕ) × (slice_get (reads_of_loop loop) n ≡ Some (record { value = v; reader = q; distance = d; offset = 0 }))
+    → (n : ℕ) × (slice_get (reads_of_loop loop) n ≡ Some (read_of v q d))
 read-of_use loop v x q d listed u =
     let reads : List Read = reads_of_loop loop in
-    let r : Read = record { value = v; reader = q; distance = d; offset = 0 } in
+    let r : Read = read_of v q d in
     let one : Contains (reads_by v (uses_of loop x)) r
-    = contains-map (λ (y : Use). record { value = v; reader = y.reader; distance = y.distance; offset = 0 }) (uses_of loop x) (record { reader = q; distance = d }) (use-is loop x q d u) in
+    = contains-map (λ (y : Use). read_of v y.reader y.distance) (uses_of loop x) (record { reader = q; distance = d }) (use-is loop x q d u) in
     let c = All-contains (Contains reads) (list.reads_of reads v) r (All-filter (λ (y : Read). y.value == v) (Contains reads) reads (Contains-get_or reads))
     (subst (λ (rs : List Read). Contains rs r) (sym (reads-of_value loop v x listed)) one) in
     (c.0, slice_get-get_or reads c.0 r c.1 ∙ ap Some c.2)
@@ -61,7 +64,7 @@ use-from : (loop : LoopData) (number : ℕ) (statements : List ℕ) → ((k x : 
 use-from loop number [] listed r c = absurd (let l = c.1 in omega arith)
 use-from loop number (x ∷ statements) listed r c = elim (Contains-append_cases (reads_by number (uses_of loop x)) (reads_from loop (number + 1) statements) r c) [
   | inl here ↦
-      let m = contains-map_back (λ (y : Use). record { value = number; reader = y.reader; distance = y.distance; offset = 0 }) (uses_of loop x) r here in
+      let m = contains-map_back (λ (y : Use). read_of number y.reader y.distance) (uses_of loop x) r here in
       let z : number + 0 ≡ number = omega arith in
       subst (IsUse loop) m.2 (x, ap (slice_get (values_of loop)) (sym z) ∙ listed 0 x refl, use-back loop x m.0 m.1, refl)
   | inr behind ↦ use-from loop (number + 1) statements
@@ -83,7 +86,7 @@ module _ (schedule : ScheduleData) (allotment : AllotmentData) (b : Belong sched
   -- the values of the run
   pub value-listed : (v x : ℕ) → slice_get (values_of schedule.problem.loop) v ≡ Some x
       → slice_get (run_of schedule allotment).values v ≡ Some (value_of_loop schedule.problem.loop schedule.problem.graph.latencies x)
-  value-listed v x there = slice_get-map (value_of_loop schedule.problem.loop schedule.problem.graph.latencies) (values_of schedule.problem.loop) v x there
+  value-listed v x there = slice_get-map (value_of_loop schedule.problem.loop schedule.problem.graph.latencies) (values_of schedule.problem.loop) v ∙ ap (option_map (value_of_loop schedule.problem.loop schedule.problem.graph.latencies)) there
 
   pub value-is : (v x : ℕ) → slice_get (values_of schedule.problem.loop) v ≡ Some x
       → value_of (run_of schedule allotment) v ≡ value_of_loop schedule.problem.loop schedule.problem.graph.latencies x
@@ -139,7 +142,7 @@ module _ (schedule : ScheduleData) (allotment : AllotmentData) (b : Belong sched
 
   -- their homes
   number-at : (v : ℕ) → v < length allotment.numbers → slice_get (run_of schedule allotment).homes v ≡ Some (Rotates 0 allotment.registers (slice_index allotment.numbers v))
-  number-at v within = slice_get-map (Rotates 0 allotment.registers) allotment.numbers v (slice_index allotment.numbers v) (slice_get-get_or allotment.numbers v 0 within)
+  number-at v within = slice_get-map (Rotates 0 allotment.registers) allotment.numbers v ∙ ap (option_map (Rotates 0 allotment.registers)) (slice_get-get_or allotment.numbers v 0 within)
 
   are-homes : AreHomes (run_of schedule allotment).homes
   are-homes v file registers number there =
@@ -154,8 +157,7 @@ module _ (schedule : ScheduleData) (allotment : AllotmentData) (b : Belong sched
   place-is : (v : ℕ) (i : ℤ) → v < length allotment.numbers
       → place_of (run_of schedule allotment) v i ≡ InRegister 0 (physical allotment.registers (slice_index allotment.numbers v) i)
   place-is v i within =
-      ap (λ home. place_in home v i)
-      (get_or_from_slice_get (run_of schedule allotment).homes v (Rotates 0 allotment.registers (slice_index allotment.numbers v)) Unallotted (number-at v within))
+      ap (λ home. place_in home v i) (get_or-map (Rotates 0 allotment.registers) allotment.numbers v 0 Unallotted within)
 
   many-homes : length (run_of schedule allotment).homes ≡ length (run_of schedule allotment).values
   unfolding lifetimes_of
@@ -207,19 +209,20 @@ module _ (schedule : ScheduleData) (allotment : AllotmentData) (b : Belong sched
             });
       }
 
-  -- the place of an instance of a statement that gives a value
-  pub rank-place : (x : ℕ) (s : Statement) (i : ℤ) → slice_get schedule.problem.loop.statements x ≡ Some s → is_some s.name ≡ true
-      → place_of (run_of schedule allotment) (rank_of schedule.problem.loop x) i ≡ InRegister 0 (physical allotment.registers (allotted_number schedule.problem.loop allotment x) i)
-  rank-place x s i there named =
-      let within = value-within (rank_of schedule.problem.loop x) x (value-at_rank schedule.problem.loop x s there named) in
-      let e = length-map allotment.numbers (Rotates 0 allotment.registers) in
-      let many = many-homes in
-      place-is (rank_of schedule.problem.loop x) i (omega arith)
+-- the value of a statement that gives one: its number, the places of its instances, and how far it is carried
+module _ (schedule : ScheduleData) (allotment : AllotmentData) (b : Belong schedule allotment) (x : ℕ) (s : Statement) (there : slice_get schedule.problem.loop.statements x ≡ Some s) (named : is_some s.name ≡ true) where
+  pub rank-within : rank_of schedule.problem.loop x < length (run_of schedule allotment).values
+  rank-within = value-within schedule allotment b (rank_of schedule.problem.loop x) x (value-at_rank schedule.problem.loop x s there named)
 
-  -- and how far it is carried
-  pub rank-carried : (x : ℕ) (s : Statement) → slice_get schedule.problem.loop.statements x ≡ Some s → is_some s.name ≡ true
-      → carried_by (run_of schedule allotment) (rank_of schedule.problem.loop x) ≡ carried schedule.problem.loop x
-  rank-carried x s there named =
+  pub rank-place : (i : ℤ) → place_of (run_of schedule allotment) (rank_of schedule.problem.loop x) i ≡ InRegister 0 (physical allotment.registers (allotted_number schedule.problem.loop allotment x) i)
+  rank-place i =
+      let within = rank-within in
+      let e = length-map allotment.numbers (Rotates 0 allotment.registers) in
+      let many = many-homes schedule allotment b in
+      place-is schedule allotment b (rank_of schedule.problem.loop x) i (omega arith)
+
+  pub rank-carried : carried_by (run_of schedule allotment) (rank_of schedule.problem.loop x) ≡ carried schedule.problem.loop x
+  rank-carried =
       let loop = schedule.problem.loop in
       let at = value-at_rank loop x s there named in
-      ap (λ (v : Value). list.carried (reads_of_loop loop) (rank_of loop x) v.out) (value-is (rank_of loop x) x at) ∙ carried-same loop (rank_of loop x) x at
+      ap (λ (v : Value). list.carried (reads_of_loop loop) (rank_of loop x) v.out) (value-is schedule allotment b (rank_of loop x) x at) ∙ carried-same loop (rank_of loop x) x at

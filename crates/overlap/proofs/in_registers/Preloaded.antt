@@ -15,12 +15,12 @@ use Rattle.ims.specs.Schedules.{ScheduleData}
 use Rattle.overlap.specs.Emission.{name_of, preloads_from, preloads_of, emitted}
 use Rattle.overlap.specs.Overlap.{Belong}
 use Rattle.overlap.proofs.in_flight.Landing.{contains-cases, contains-head, contains-tail}
-use Rattle.instances.specs.Runs.{InRegister, RunData}
+use Rattle.instances.specs.Runs as lists
 use Rattle.instances.proofs.Turned as places
 use Rattle.instances.proofs.Openings.{openings-one}
 use Rattle.overlap.proofs.in_registers.Lives.{rank-one, value-at_rank}
 pub use Rattle.overlap.proofs.in_registers.Lives.{value-back}
-use Rattle.overlap.proofs.in_registers.OfSchedule.{contains-at, run_of, is-run, rank-carried, rank-place, value-within}
+use Rattle.overlap.proofs.in_registers.OfSchedule.{contains-at, run_of, is-run, rank-carried, rank-place, rank-within}
 use Rattle.overlap.proofs.in_registers.Different.{flat-back}
 
 found-in : (ps : List Preload) (r : ℕ) (v : ℤ) (p : Preload) → Contains ps p → p.register ≡ r → ((q : Preload) → Contains ps q → q.register ≡ r → q.value ≡ v)
@@ -103,6 +103,13 @@ preload-back schedule allotment p c =
 pub name-physical : (registers number m : ℕ) → 0 < registers → (number + m + 0) % registers ≡ physical registers number (pos 0 -ℤ pos m)
 name-physical registers number m some = sym (places.physical-is registers number (pos 0 -ℤ pos m) 0 (number + m + 0) some (let z : 0 * registers ≡ 0 = omega arith in omega (arith, ints)))
 
+opening-at : (schedule : ScheduleData) (allotment : AllotmentData) → Belong schedule allotment → (x m : ℕ) (s : Statement)
+    → slice_get schedule.problem.loop.statements x ≡ Some s → is_some s.name ≡ true
+    → lists.preloaded (run_of schedule allotment) (rank_of schedule.problem.loop x) m ≡ lists.InRegister 0 (name_of schedule allotment x m 0)
+opening-at schedule allotment b x m s hx nx =
+    places.preloaded-is (run_of schedule allotment) (is-run schedule allotment b).homes (rank_of schedule.problem.loop x) m ∙ rank-place schedule allotment b x s hx nx (pos 0 -ℤ pos m)
+    ∙ ap (lists.InRegister 0) (sym (name-physical allotment.registers (allotted_number schedule.problem.loop allotment x) m b.allotted.some))
+
 -- two initial values in one register are one
 pub preloads-one : (schedule : ScheduleData) (allotment : AllotmentData) → Belong schedule allotment → (x m y n : ℕ) (s t : Statement)
     → slice_get schedule.problem.loop.statements x ≡ Some s → is_some s.name ≡ true → slice_get schedule.problem.loop.statements y ≡ Some t → is_some t.name ≡ true
@@ -110,18 +117,10 @@ pub preloads-one : (schedule : ScheduleData) (allotment : AllotmentData) → Bel
     → name_of schedule allotment x m 0 ≡ name_of schedule allotment y n 0 → (x ≡ y) × (m ≡ n)
 preloads-one schedule allotment b x m y n s t hx nx hy ny m1 mc n1 nc e =
     let loop = schedule.problem.loop in
-    let some : 0 < allotment.registers = b.allotted.some in
-    let run : RunData = run_of schedule allotment in
-    let is = is-run schedule allotment b in
-    let one = value-at_rank loop x s hx nx in
-    let other = value-at_rank loop y t hy ny in
-    let place_x = places.preloaded-is run is.homes (rank_of loop x) m ∙ rank-place schedule allotment b x s (pos 0 -ℤ pos m) hx nx in
-    let place_y = places.preloaded-is run is.homes (rank_of loop y) n ∙ rank-place schedule allotment b y t (pos 0 -ℤ pos n) hy ny in
-    let same = sym (name-physical allotment.registers (allotted_number loop allotment x) m some) ∙ e ∙ name-physical allotment.registers (allotted_number loop allotment y) n some in
     let far_x = rank-carried schedule allotment b x s hx nx in
     let far_y = rank-carried schedule allotment b y t hy ny in
-    let r = openings-one run is (rank_of loop x) (rank_of loop y) m n (value-within schedule allotment b (rank_of loop x) x one) (value-within schedule allotment b (rank_of loop y) y other)
-    m1 (omega arith) n1 (omega arith) (place_x ∙ ap (InRegister 0) same ∙ sym place_y) in
+    let r = openings-one (run_of schedule allotment) (is-run schedule allotment b) (rank_of loop x) (rank_of loop y) m n (rank-within schedule allotment b x s hx nx) (rank-within schedule allotment b y t hy ny)
+    m1 (omega arith) n1 (omega arith) (opening-at schedule allotment b x m s hx nx ∙ ap (lists.InRegister 0) e ∙ sym (opening-at schedule allotment b y n t hy ny)) in
     (rank-one loop x y s t hx nx hy ny r.0, r.1)
 
 -- the register of an initial value opens with it
