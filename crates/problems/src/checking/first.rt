@@ -59,7 +59,7 @@ fn part_fault(draft: &Draft) -> Option<Fault>
     if let Some(fault) = first_in_values(operations, draft.files.len(), draft.values.as_slice()) {
         return Some(fault);
     }
-    if let Some(fault) = first_in_reads(draft) {
+    if let Some(fault) = first_in_reads(draft, draft.reads.as_slice()) {
         return Some(fault);
     }
     first_in_orders(operations, draft.orders.as_slice())

@@ -1,0 +1,3 @@
+-- What a well-formed draft comes to.
+pub mod Edges
+pub mod Tables
