@@ -5,7 +5,9 @@ ghost use Rattle.problems.specs.Faults.{first_fault_of, count_fault, part_fault}
 
 use crate::checking::kinds::first_in_kinds;
 use crate::checking::names::names_fault;
-use crate::checking::parts::{first_in_files, first_in_operations, first_in_orders, first_in_reads, first_in_values};
+use crate::checking::parts::{
+    first_in_files, first_in_operations, first_in_orders, first_in_reads, first_in_values,
+};
 use crate::draft::Draft;
 use crate::fault::{Fault, Part};
 use machine_data::OutOfMemory;
