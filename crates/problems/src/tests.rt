@@ -207,38 +207,64 @@ fn counts_and_names_at_fault(rt: HostRuntime) -> Result<(), Fail> {
     Ok(())
 }
 
-/// The first fault of the draft that has the second kind made anew has to be this one.
-fn is_kind_at_fault(
-    rt: &impl Abort,
-    alloc: Global,
-    latency: u64,
-    tables: &[&[Hold]],
-    fault: Fault,
-) -> Result<(), Fail> {
-    let kinds = &[(2, SOUND.kinds[0].1), (latency, tables)];
-    is_at_fault(rt, alloc, Parts { kinds, ..SOUND }, fault)
-}
+/// A kind of operations without a fault, and rows that are at fault.
+const FINE: (u64, &[&[Hold]]) = (2, &[&[FIRST]]);
+
+const LATE: Hold = Hold {
+    unit: 1,
+    offset: 64,
+};
+
+const ABSENT: Hold = Hold { unit: 2, offset: 0 };
 
 #[test]
 fn kinds_at_fault(rt: HostRuntime) -> Result<(), Fail> {
-    let late = Hold {
-        unit: 1,
-        offset: 64,
-    };
-    let absent = Hold { unit: 2, offset: 0 };
-    let alloc = rt.alloc();
-    is_kind_at_fault(&rt, alloc, 0, &[&[SECOND]], Fault::Latency(1))?;
-    is_kind_at_fault(&rt, alloc, 1, &[], Fault::Alternatives(1))?;
-    is_kind_at_fault(&rt, alloc, 1, &[&[SECOND], &[]], Fault::Rows(1, 1))?;
-    is_kind_at_fault(&rt, alloc, 1, &[&[absent]], Fault::NoUnit(1, 0, 0))?;
-    is_kind_at_fault(&rt, alloc, 1, &[&[late]], Fault::Offset(1, 0, 0))?;
-    is_kind_at_fault(
-        &rt,
-        alloc,
-        1,
-        &[&[SECOND, FIRST, SECOND]],
-        Fault::RepeatedRow(1, 0, 2),
-    )?;
+    for (parts, fault) in [
+        (
+            Parts {
+                kinds: &[FINE, (0, &[&[SECOND]])],
+                ..SOUND
+            },
+            Fault::Latency(1),
+        ),
+        (
+            Parts {
+                kinds: &[FINE, (1, &[])],
+                ..SOUND
+            },
+            Fault::Alternatives(1),
+        ),
+        (
+            Parts {
+                kinds: &[FINE, (1, &[&[SECOND], &[]])],
+                ..SOUND
+            },
+            Fault::Rows(1, 1),
+        ),
+        (
+            Parts {
+                kinds: &[FINE, (1, &[&[ABSENT]])],
+                ..SOUND
+            },
+            Fault::NoUnit(1, 0, 0),
+        ),
+        (
+            Parts {
+                kinds: &[FINE, (1, &[&[LATE]])],
+                ..SOUND
+            },
+            Fault::Offset(1, 0, 0),
+        ),
+        (
+            Parts {
+                kinds: &[FINE, (1, &[&[SECOND, FIRST, SECOND]])],
+                ..SOUND
+            },
+            Fault::RepeatedRow(1, 0, 2),
+        ),
+    ] {
+        is_at_fault(&rt, rt.alloc(), parts, fault)?;
+    }
     Ok(())
 }
 
