@@ -1,6 +1,8 @@
 //! A small problem, and drafts with one fault each.
 
-use crate::{Draft, Fault, File, Hold, Kind, Label, Names, Order, Part, Problem, Value, first_fault};
+use crate::{
+    Draft, Fault, File, Hold, Kind, Label, Names, Order, Part, Problem, Value, first_fault,
+};
 use registers::Read;
 use settings::Settings;
 use std::alloc::{AllocError, Global};
@@ -22,6 +24,7 @@ struct Parts<'a> {
 
 /// Each unit at the issue.
 const FIRST: Hold = Hold { unit: 0, offset: 0 };
+
 const SECOND: Hold = Hold { unit: 1, offset: 0 };
 
 /// What the first operation makes, and the second reads in its own iteration.
@@ -31,6 +34,7 @@ const MADE: Value = Value {
     out: false,
     file: 0,
 };
+
 const READ: Read = Read {
     value: 0,
     reader: 1,
@@ -45,6 +49,7 @@ const CARRIED: Value = Value {
     out: true,
     file: 1,
 };
+
 const AGAIN: Read = Read {
     value: 1,
     reader: 1,
@@ -132,7 +137,10 @@ fn a_sound_draft_makes_a_problem(rt: HostRuntime) -> Result<(), Fail> {
     let settings = Settings::new(6, 32, 1, 1)?;
     let problem = Problem::new(rt.alloc(), draft(rt.alloc(), SOUND)?, &settings)?;
     let edges = edges(rt.alloc(), &problem)?;
-    assert_eq!(rt; edges.as_slice(), &[(0, 1, 0, 1), (1, 1, 1, 1), (1, 2, 0, -1)][..]);
+    assert_eq!(rt;
+        edges.as_slice(),
+        &[(0, 1, 0, 1), (1, 1, 1, 1), (1, 2, 0, -1)][..]
+    );
     let scheduling = problem.scheduling();
     assert!(rt; scheduling.resources() == 2 && scheduling.recurrences() == 1);
     assert!(rt; scheduling.ratio() == 6 && scheduling.ceiling() == 32);
@@ -151,49 +159,132 @@ fn is_at_fault(rt: &impl Abort, alloc: Global, parts: Parts<'_>, fault: Fault) -
 fn counts_and_names_at_fault(rt: HostRuntime) -> Result<(), Fail> {
     for (parts, fault) in [
         (Parts { units: 65, ..SOUND }, Fault::Count(Part::Units, 65)),
-        (Parts { kinds: &[], ..SOUND }, Fault::Count(Part::Kinds, 0)),
-        (Parts { operations: &[], ..SOUND }, Fault::Count(Part::Operations, 0)),
-        (Parts { names: &["a"], ..SOUND }, Fault::NameCount(Part::Files)),
-        (Parts { names: &["a", "a"], ..SOUND }, Fault::Repeated(Part::Files, 1)),
-        (Parts { files: &[File::Rotating(1), File::Rotating(257)], ..SOUND }, Fault::Registers(1)),
-        (Parts { operations: &[0, 1, 2], ..SOUND }, Fault::NoKind(2)),
+        (
+            Parts {
+                kinds: &[],
+                ..SOUND
+            },
+            Fault::Count(Part::Kinds, 0),
+        ),
+        (
+            Parts {
+                operations: &[],
+                ..SOUND
+            },
+            Fault::Count(Part::Operations, 0),
+        ),
+        (
+            Parts {
+                names: &["a"],
+                ..SOUND
+            },
+            Fault::NameCount(Part::Files),
+        ),
+        (
+            Parts {
+                names: &["a", "a"],
+                ..SOUND
+            },
+            Fault::Repeated(Part::Files, 1),
+        ),
+        (
+            Parts {
+                files: &[File::Rotating(1), File::Rotating(257)],
+                ..SOUND
+            },
+            Fault::Registers(1),
+        ),
+        (
+            Parts {
+                operations: &[0, 1, 2],
+                ..SOUND
+            },
+            Fault::NoKind(2),
+        ),
     ] {
         is_at_fault(&rt, rt.alloc(), parts, fault)?;
     }
     Ok(())
 }
 
-/// The first fault of the draft that has the second kind made anew has to be this one.
-fn is_kind_at_fault(
-    rt: &impl Abort,
-    alloc: Global,
-    latency: u64,
-    tables: &[&[Hold]],
-    fault: Fault,
-) -> Result<(), Fail> {
-    let kinds = &[(2, SOUND.kinds[0].1), (latency, tables)];
-    is_at_fault(rt, alloc, Parts { kinds, ..SOUND }, fault)
-}
+/// A kind of operations without a fault, and rows that are at fault.
+const FINE: (u64, &[&[Hold]]) = (2, &[&[FIRST]]);
+
+const LATE: Hold = Hold {
+    unit: 1,
+    offset: 64,
+};
+
+const ABSENT: Hold = Hold { unit: 2, offset: 0 };
 
 #[test]
 fn kinds_at_fault(rt: HostRuntime) -> Result<(), Fail> {
-    let late = Hold { unit: 1, offset: 64 };
-    let absent = Hold { unit: 2, offset: 0 };
-    let alloc = rt.alloc();
-    is_kind_at_fault(&rt, alloc, 0, &[&[SECOND]], Fault::Latency(1))?;
-    is_kind_at_fault(&rt, alloc, 1, &[], Fault::Alternatives(1))?;
-    is_kind_at_fault(&rt, alloc, 1, &[&[SECOND], &[]], Fault::Rows(1, 1))?;
-    is_kind_at_fault(&rt, alloc, 1, &[&[absent]], Fault::NoUnit(1, 0, 0))?;
-    is_kind_at_fault(&rt, alloc, 1, &[&[late]], Fault::Offset(1, 0, 0))?;
-    is_kind_at_fault(&rt, alloc, 1, &[&[SECOND, FIRST, SECOND]], Fault::RepeatedRow(1, 0, 2))?;
+    for (parts, fault) in [
+        (
+            Parts {
+                kinds: &[FINE, (0, &[&[SECOND]])],
+                ..SOUND
+            },
+            Fault::Latency(1),
+        ),
+        (
+            Parts {
+                kinds: &[FINE, (1, &[])],
+                ..SOUND
+            },
+            Fault::Alternatives(1),
+        ),
+        (
+            Parts {
+                kinds: &[FINE, (1, &[&[SECOND], &[]])],
+                ..SOUND
+            },
+            Fault::Rows(1, 1),
+        ),
+        (
+            Parts {
+                kinds: &[FINE, (1, &[&[ABSENT]])],
+                ..SOUND
+            },
+            Fault::NoUnit(1, 0, 0),
+        ),
+        (
+            Parts {
+                kinds: &[FINE, (1, &[&[LATE]])],
+                ..SOUND
+            },
+            Fault::Offset(1, 0, 0),
+        ),
+        (
+            Parts {
+                kinds: &[FINE, (1, &[&[SECOND, FIRST, SECOND]])],
+                ..SOUND
+            },
+            Fault::RepeatedRow(1, 0, 2),
+        ),
+    ] {
+        is_at_fault(&rt, rt.alloc(), parts, fault)?;
+    }
     Ok(())
 }
 
 #[test]
 fn values_at_fault(rt: HostRuntime) -> Result<(), Fail> {
     for (value, fault) in [
-        (Value { maker: 3, ..CARRIED }, Fault::NoMaker(1)),
-        (Value { lands: 65, ..CARRIED }, Fault::Lands(1)),
+        (
+            Value {
+                maker: 3,
+                ..CARRIED
+            },
+            Fault::NoMaker(1),
+        ),
+        (
+            Value {
+                lands: 65,
+                ..CARRIED
+            },
+            Fault::Lands(1),
+        ),
         (Value { file: 2, ..CARRIED }, Fault::NoFile(1)),
     ] {
         let values = &[MADE, value];
@@ -207,9 +298,27 @@ fn reads_at_fault(rt: HostRuntime) -> Result<(), Fail> {
     for (read, fault) in [
         (Read { value: 2, ..AGAIN }, Fault::NoValue(1)),
         (Read { reader: 3, ..AGAIN }, Fault::NoReader(1)),
-        (Read { distance: 17, ..AGAIN }, Fault::Distance(1)),
-        (Read { offset: 64, ..AGAIN }, Fault::ReadOffset(1)),
-        (Read { distance: 0, ..AGAIN }, Fault::ReadBackward(1)),
+        (
+            Read {
+                distance: 17,
+                ..AGAIN
+            },
+            Fault::Distance(1),
+        ),
+        (
+            Read {
+                offset: 64,
+                ..AGAIN
+            },
+            Fault::ReadOffset(1),
+        ),
+        (
+            Read {
+                distance: 0,
+                ..AGAIN
+            },
+            Fault::ReadBackward(1),
+        ),
     ] {
         let reads = &[READ, read];
         is_at_fault(&rt, rt.alloc(), Parts { reads, ..SOUND }, fault)?;
@@ -222,8 +331,20 @@ fn orders_at_fault(rt: HostRuntime) -> Result<(), Fail> {
     for (order, fault) in [
         (Order { from: 3, ..ORDER }, Fault::NoFrom(1)),
         (Order { to: 3, ..ORDER }, Fault::NoTo(1)),
-        (Order { delay: -65, ..ORDER }, Fault::Delay(1)),
-        (Order { distance: 256, ..ORDER }, Fault::OrderDistance(1)),
+        (
+            Order {
+                delay: -65,
+                ..ORDER
+            },
+            Fault::Delay(1),
+        ),
+        (
+            Order {
+                distance: 256,
+                ..ORDER
+            },
+            Fault::OrderDistance(1),
+        ),
         (Order { to: 1, ..ORDER }, Fault::OrderBackward(1)),
     ] {
         let orders = &[ORDER, order];

@@ -16,7 +16,7 @@ pairs-from_none {X} test same xs none i j d lt within eq =
     let at : get_or (take j xs) i d ≡ get_or xs i d = get_or-take j xs i d lt in
     let there : i < length (take j xs) = omega arith in
     both_ways (list_any (test (get_or xs j d)) (take j xs)) (none j d within)
-        (list_any_at (test (get_or xs j d)) (take j xs) i d there (ap (test (get_or xs j d)) at ∙ same (get_or xs j d) (get_or xs i d) (sym eq)))
+    (list_any_at (test (get_or xs j d)) (take j xs) i d there (ap (test (get_or xs j d)) at ∙ same (get_or xs j d) (get_or xs i d) (sym eq)))
 
 pub none-from_pairs : {X : Type 0} (test : X → X → Bool) → ((a b : X) → test a b ≡ true → a ≡ b) → (xs : List X) → AllPairs (λ a b. a ≢ b) xs → NoneAgain test xs
 none-from_pairs {X} test equal xs pairs k d within =

@@ -114,9 +114,9 @@ pub says-in : {X : Type 0} (fault_of : ℕ → X → Option Fault) (P : ℕ → 
     → Says (first_in fault_of xs) ((k : ℕ) (d : X) → k < length xs → P k (get_or xs k d))
 says-in fault_of P xs each = (
   λ h k d lt.
-  let is : k ≡ 0 + k = omega arith in
-  (each k (get_or xs k d)).0 (ap (λ n. fault_of n (get_or xs k d)) is ∙ among-none fault_of 0 xs h k d lt),
+      let is : k ≡ 0 + k = omega arith in
+      (each k (get_or xs k d)).0 (ap (λ n. fault_of n (get_or xs k d)) is ∙ among-none fault_of 0 xs h k d lt),
   λ h. none-among fault_of 0 xs (λ k d lt.
-  let is : 0 + k ≡ k = omega arith in
-  ap (λ n. fault_of n (get_or xs k d)) is ∙ (each k (get_or xs k d)).1 (h k d lt)),
+      let is : 0 + k ≡ k = omega arith in
+      ap (λ n. fault_of n (get_or xs k d)) is ∙ (each k (get_or xs k d)).1 (h k d lt)),
 )

@@ -37,9 +37,9 @@ field-plain f g h same vs n v is =
     ∙ get_or-map g (map h vs) n v 0 (slice_get_within (map h vs) n v is)
     ∙ ap g (get_or_from_slice_get (map h vs) n v v is)
   where
-  fields : (f : Value → ℕ) (g : PlainValue → ℕ) (h : Value → PlainValue) → ((v : Value) → g (h v) ≡ f v) → (xs : List Value) → map f xs ≡ map g (map h xs)
-  fields f g h same [] = refl
-  fields f g h same (x ∷ xs) = ap (λ n. n ∷ map f xs) (sym (same x)) ∙ ap (λ (l : List ℕ). g (h x) ∷ l) (fields f g h same xs)
+    fields : (f : Value → ℕ) (g : PlainValue → ℕ) (h : Value → PlainValue) → ((v : Value) → g (h v) ≡ f v) → (xs : List Value) → map f xs ≡ map g (map h xs)
+    fields f g h same [] = refl
+    fields f g h same (x ∷ xs) = ap (λ n. n ∷ map f xs) (sym (same x)) ∙ ap (λ (l : List ℕ). g (h x) ∷ l) (fields f g h same xs)
 
 landed : (a lands offset b later : ℕ) → (pos a +ℤ (pos lands -ℤ pos offset)) ≤ℤ pos (b + later) → a + lands ≤ b + offset + later
 landed a lands offset b later h = omega (arith, ints)

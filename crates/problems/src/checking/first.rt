@@ -5,7 +5,9 @@ ghost use Rattle.problems.specs.Faults.{first_fault_of, count_fault, part_fault}
 
 use crate::checking::kinds::first_in_kinds;
 use crate::checking::names::names_fault;
-use crate::checking::parts::{first_in_files, first_in_operations, first_in_orders, first_in_reads, first_in_values};
+use crate::checking::parts::{
+    first_in_files, first_in_operations, first_in_orders, first_in_reads, first_in_values,
+};
 use crate::draft::Draft;
 use crate::fault::{Fault, Part};
 use machine_data::OutOfMemory;
@@ -59,7 +61,7 @@ fn part_fault(draft: &Draft) -> Option<Fault>
     if let Some(fault) = first_in_values(operations, draft.files.len(), draft.values.as_slice()) {
         return Some(fault);
     }
-    if let Some(fault) = first_in_reads(draft) {
+    if let Some(fault) = first_in_reads(draft, draft.reads.as_slice()) {
         return Some(fault);
     }
     first_in_orders(operations, draft.orders.as_slice())

@@ -50,12 +50,7 @@ fn row_fault(
 }
 
 /// The first fault of an alternative, by its number and that of its kind.
-fn alternative_fault(
-    units: usize,
-    kind: usize,
-    alternative: usize,
-    rows: &[Hold],
-) -> Option<Fault>
+fn alternative_fault(units: usize, kind: usize, alternative: usize, rows: &[Hold]) -> Option<Fault>
     ensures { result ≡ alternative_fault units kind alternative rows.now }
 {
     if !(1..=MAX_ROWS).contains(&rows.len()) {

@@ -56,15 +56,18 @@ pub(crate) fn names_fault(alloc: Global, draft: &Draft) -> Result<Option<Fault>,
     if let Some(fault) = name_fault(alloc, Part::Units, draft.units, names.units.as_slice())? {
         return Ok(Some(fault));
     }
-    if let Some(fault) = name_fault(alloc, Part::Files, draft.files.len(), names.files.as_slice())? {
+    let files = draft.files.len();
+    if let Some(fault) = name_fault(alloc, Part::Files, files, names.files.as_slice())? {
         return Ok(Some(fault));
     }
-    if let Some(fault) = name_fault(alloc, Part::Kinds, draft.kinds.len(), names.kinds.as_slice())? {
+    let kinds = draft.kinds.len();
+    if let Some(fault) = name_fault(alloc, Part::Kinds, kinds, names.kinds.as_slice())? {
         return Ok(Some(fault));
     }
-    let operations = names.operations.as_slice();
-    if let Some(fault) = name_fault(alloc, Part::Operations, draft.operations.len(), operations)? {
+    let count = draft.operations.len();
+    if let Some(fault) = name_fault(alloc, Part::Operations, count, names.operations.as_slice())? {
         return Ok(Some(fault));
     }
-    name_fault(alloc, Part::Values, draft.values.len(), names.values.as_slice())
+    let values = draft.values.len();
+    name_fault(alloc, Part::Values, values, names.values.as_slice())
 }

@@ -96,11 +96,11 @@ fn read_fault(draft: &Draft, number: usize, read: &Read) -> Option<Fault>
     None
 }
 
-/// The first fault of the reads.
-pub(crate) fn first_in_reads(draft: &Draft) -> Option<Fault>
-    ensures { result ≡ first_in (read_fault draft.now) draft.now.reads.items }
+/// The first fault of these reads in a draft.
+pub(crate) fn first_in_reads(draft: &Draft, reads: &[Read]) -> Option<Fault>
+    ensures { result ≡ first_in (read_fault draft.now) reads.now }
 {
-    for (number, read) in draft.reads.iter().enumerate() {
+    for (number, read) in reads.iter().enumerate() {
         if let Some(fault) = read_fault(draft, number, read) {
             return Some(fault);
         }

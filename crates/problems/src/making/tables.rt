@@ -51,11 +51,7 @@ fn alternatives_of(alloc: Global, units: usize, kind: &Kind) -> Result<Alternati
 }
 
 /// The alternatives of each kind.
-fn tables_of(
-    alloc: Global,
-    units: usize,
-    kinds: &[Kind],
-) -> Result<Vec<Alternatives>, OutOfMemory>
+fn tables_of(alloc: Global, units: usize, kinds: &[Kind]) -> Result<Vec<Alternatives>, OutOfMemory>
     requires few { units ≤ 64 }
     requires kinds { All (IsKind units) kinds.now }
     ensures { IfOk result (λ tables. tables.items ≡ map alternatives_of kinds.now) }
