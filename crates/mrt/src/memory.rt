@@ -1,6 +1,6 @@
 //! Memory that is used again.
 
-ghost use Rattle.std.specs.Prelude.{◌≡◌, replicate, IfOk};
+ghost use Rattle.std.specs.Prelude.{◌≡◌, [], replicate, OnOk, OnErr};
 
 use machine_data::OutOfMemory;
 
@@ -11,7 +11,8 @@ pub(crate) fn refill<T: Copy + Drop>(
     count: usize,
     value: T,
 ) -> Result<(), OutOfMemory>
-    ensures { IfOk result (λ _. list.new.items ≡ replicate count value) }
+    ensures ok { OnOk result (list.new.items ≡ replicate count value) }
+    ensures err { OnErr result (list.new.items ≡ []) }
 {
     list.clear();
     list.resize(count, value)

@@ -5,7 +5,7 @@ use Rattle.std.specs.Simd.Lanes.{zip2, mask_l}
 use Rattle.std.proofs.lemmas.Simd.{length-zip2, get_or-zip2, get_or-replicate, length-replicate, bit_mask_l}
 use Rattle.std.proofs.lemmas.Bool.{cases_eq, cases_lt, ne_eqb}
 use Rattle.std.proofs.lemmas.Nat.{le_or_l, le_or_r}
-use Rattle.std.proofs.lemmas.List.{get_or-map}
+use Rattle.std.proofs.lemmas.List.{get_or-map, get_or_past, length-map}
 use Rattle.machine_data.specs.declared.alternative.Row.{Row}
 use Rattle.machine_data.specs.Alternative.{residue_of}
 use Rattle.mrt.specs.declared.rosters.slot.Slot.{Slot}
@@ -41,6 +41,11 @@ pub bit_of_zero_lanes : (met : List ℕ) (k : ℕ) → length met ≡ 8 → k < 
 bit_of_zero_lanes met k p l =
     ap (λ n. eqb n 1) (bit_mask_l (map (λ x. eqb x 0) met) k ∙ ap (λ b. cond b 1 0) (get_or-map (λ x. eqb x 0) met k 0 false (omega arith)))
     ∙ one_if (eqb (get_or met k 0) 0)
+
+pub no_bit_past : (met : List ℕ) (k : ℕ) → length met ≡ 8 → 8 ≤ k → bit_at (mask_l (map (λ x. eqb x 0) met)) k ≡ 0
+no_bit_past met k p past =
+    let far : length (map (λ x. eqb x 0) met) ≤ k = omega (arith, length-map met (λ x. eqb x 0), p, past) in
+    bit_mask_l (map (λ x. eqb x 0) met) k ∙ ap (λ b. cond b 1 0) (get_or_past (map (λ x. eqb x 0) met) k false far)
 
 -- no bit stands in either
 pub or_is_zero : (a b : ℕ) → eqb (bit_or a b) 0 ≡ (eqb a 0 && eqb b 0)

@@ -23,12 +23,13 @@ is_set-one words times unit place one p =
     ap (λ k. eqb (bit_at (get_or times k 0) (place % 64)) 1) index ∙ ap (λ b. eqb (bit_at (get_or times unit 0) b) 1) bit
 
 module _ (ii words : ℕ) (some : 0 < ii) (one : ii < 64 → words ≡ 1) (reach : 64 ≤ ii → ii + 64 ≤ 64 * words) where
-  pub AreTimes-new : words ≤ 257 → AreTimes ii words (replicate (64 * words) 0)
-  AreTimes-new few = record {
+  pub AreTimes-new : words ≤ 257 → ((other : ℕ) → 64 ≤ ii → ii + 64 ≤ 64 * other → words ≤ other) → AreTimes ii words (replicate (64 * words) 0)
+  AreTimes-new few least = record {
     all = length-replicate (64 * words) 0;
     few = few;
     one = one;
     reach = reach;
+    least = least;
     once = λ short.
         let all : 64 ≤ 64 * words = omega (arith, one short) in
         record {
@@ -58,6 +59,7 @@ module _ (ii words own at : ℕ) (times times' : List ℕ) (held : Bool) (some :
       few = a.few;
       one = a.one;
       reach = a.reach;
+      least = a.least;
       once = λ _. record {
         tell = λ unit residue u r. sym (is_set-one words times' unit residue (a.one short) (omega arith));
         clear = λ unit place u past p.
@@ -84,18 +86,18 @@ module _ (ii words own at : ℕ) (times times' : List ℕ) (held : Bool) (some :
       few = a.few;
       one = a.one;
       reach = a.reach;
+      least = a.least;
       once = λ short. absurd (omega arith);
       tell = λ _ unit place u p.
           written unit place u p ∙ ap (λ b. cond (eqb unit own && eqb (place % ii) at) held b) (a.tell far unit place u p) ∙ sym (is_set-times unit (place % ii) u (omega arith));
     }
 
 -- ---- a word of units for each residue
-pub AreMasks-new : (ii n : ℕ) → ii ≤ n → n ≤ ii + ii → (8 ≤ ii → n ≡ ii + 7) → AreMasks ii (replicate n 0)
-AreMasks-new ii n least most spare =
+pub AreMasks-new : (ii n : ℕ) → (ii < 8 → n ≡ ii) → (8 ≤ ii → n ≡ ii + 7) → AreMasks ii (replicate n 0)
+AreMasks-new ii n short spare =
     let long : length (replicate n 0) ≡ n = length-replicate {A = ℕ} n 0 in
     record {
-      least = omega (arith, long, least);
-      most = omega (arith, long, most);
+      short = λ few. long ∙ short few;
       spare = λ eight. long ∙ spare eight;
       repeats = λ place within. get_or-replicate n (place + ii) 0 0 (omega (arith, long, within)) ∙ sym (get_or-replicate n place 0 0 (omega (arith, long, within)));
     }

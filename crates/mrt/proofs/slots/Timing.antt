@@ -212,6 +212,13 @@ all_set met k is lt = eq-eqb (bit_at met k) 1 (ap (λ m. bit_at m k) is ∙ bit_
 pub none_set : (k : ℕ) (met : Bool) → met ≡ true → eqb (bit_at 0 k) 1 ≡ not met
 none_set k met is = ap (λ n. eqb n 1) (bit_at-zero k) ∙ sym (ap not is)
 
+-- a bit that is set stays so, and is not set in what is left
+pub still_set : (met word k : ℕ) → bit_at met k ≡ 1 → bit_at (bit_or met word) k ≡ 1
+still_set met word k one = omega (arith, bit_at_or met word k, one, bit_at-lt word k)
+
+pub not_left : (met k : ℕ) → met < 2 ^ 64 → k < 64 → bit_at met k ≡ 1 → bit_at (2 ^ 64 - 1 - met) k ≡ 0
+not_left met k fits lt one = omega (arith, bit_at_not w64 met k fits lt, one)
+
 pub bit_of_rest : (met k : ℕ) → met < 2 ^ 64 → k < 64 → eqb (bit_at (2 ^ 64 - 1 - met) k) 1 ≡ not (eqb (bit_at met k) 1)
 bit_of_rest met k fits lt =
     let is = bit_at_not w64 met k fits lt in

@@ -11,9 +11,8 @@ is_held words unit place = bit_at (slice_index words place) unit == 1
 abbrev pub Repeats : ℕ → List ℕ → Type 0
 Repeats ii words = (place : ℕ) → place + ii < length words → slice_index words (place + ii) ≡ slice_index words place
 
--- there is a word for each residue, and from an interval of 8 on the first seven stand at the end again
+-- there is a word for each residue, and from an interval of 8 on seven more: the first ones again
 pub record AreMasks (ii : ℕ) (words : List ℕ) : Type 0 where
-  pub least : ii ≤ length words
-  pub most : length words ≤ ii + ii
+  pub short : ii < 8 → length words ≡ ii
   pub spare : 8 ≤ ii → length words ≡ ii + 7
   pub repeats : Repeats ii words

@@ -21,11 +21,12 @@ pub record TellOnce (ii : ℕ) (rounds : List ℕ) (held : ℕ → ℕ → Bool)
   pub clear : (unit place : ℕ) → unit < 64 → ii ≤ place → place < 64 → is_on rounds unit place ≡ false
 
 -- below an interval of 64 each unit has one word, with a bit for each residue and no other, and from it on a timeline, which
--- goes on for 64 cycles from each residue
+-- goes on for 64 cycles from each residue, and has no word more than that takes
 pub record AreTimes (ii words : ℕ) (times : List ℕ) : Type 0 where
   pub all : length times ≡ 64 * words
   pub few : words ≤ 257
   pub one : ii < 64 → words ≡ 1
   pub reach : 64 ≤ ii → ii + 64 ≤ 64 * words
+  pub least : (other : ℕ) → 64 ≤ ii → ii + 64 ≤ 64 * other → words ≤ other
   pub once : ii < 64 → TellOnce ii times (is_set words times)
   pub tell : 64 ≤ ii → Tell ii words times (is_set words times)

@@ -1,6 +1,6 @@
 //! Alternatives in one piece of memory, prepared for one initiation interval.
 
-ghost use Rattle.std.specs.Prelude.{◌≡◌, ◌++◌, ◌∷◌, [], ◌<◌, ◌≤◌, ℕ, length, map, take, drop, IfOk, OnOk, slice_index_or};
+ghost use Rattle.std.specs.Prelude.{◌≡◌, ◌++◌, ◌∷◌, [], ◌<◌, ◌≤◌, ℕ, length, map, take, drop, IfOk, OnOk, OnErr, slice_index_or};
 ghost use Rattle.std.specs.List.{All, list_any};
 ghost use Rattle.machine_data.specs.Alternative.{IsAlternative, collides, rows_meet};
 ghost use Rattle.mrt.specs.inner.Choices.{span_at};
@@ -124,7 +124,8 @@ impl Choices {
     pub(crate) fn push(&mut self, rows: &[Row]) -> Result<(), OutOfMemory>
         requires { IsAlternative rows.now }
         ensures interval { self.new.interval ≡ self.old.interval }
-        ensures pushed { IfOk result (λ _. self.new.alternatives ≡ self.old.alternatives ++ rows.now ∷ []) }
+        ensures pushed { OnOk result (self.new.alternatives ≡ self.old.alternatives ++ rows.now ∷ []) }
+        ensures err { OnErr result (self.new.alternatives ≡ self.old.alternatives) }
     {
         let start = self.slots.len();
         push_slots(&mut self.slots, rows, self.ii)?;

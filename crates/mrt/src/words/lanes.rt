@@ -11,7 +11,7 @@ use crate::rosters::slot::Slot;
 use std::simd::prelude::*;
 
 /// At which of eight consecutive cycles, from one whose residue is `base`, no slot is held: bit `k` is
-/// set where that is so `k` cycles later.
+/// set where that is so `k` cycles later, and no other bit is.
 pub(crate) fn free_cycles(busy: &[u64], slots: &[Slot], ii: usize, base: usize) -> u64
     requires long { 8 ≤ ii }
     requires few { ii ≤ 16384 }
@@ -19,8 +19,9 @@ pub(crate) fn free_cycles(busy: &[u64], slots: &[Slot], ii: usize, base: usize) 
     requires repeats { Repeats ii busy.now }
     requires slots { All (IsSlot ii) slots.now }
     requires base { base < ii }
-    ensures { (time k : ℕ) → time % ii ≡ base → k < 8
+    ensures asked { (time k : ℕ) → time % ii ≡ base → k < 8
         → (bit_at result k == 1) ≡ not (meets_held ii (is_held busy.now) (rows_in slots.now) (time + k)) }
+    ensures rest { (k : ℕ) → 8 ≤ k → bit_at result k ≡ 0 }
 {
     let mut met = none();
     for slot in slots {
@@ -57,7 +58,8 @@ fn with_words(met: u64x8, words: u64x8, mask: u64) -> u64x8
 /// Which of eight words have no bit.
 #[inline(always)]
 fn zero_lanes(met: u64x8) -> u64
-    ensures { (k : ℕ) → k < 8 → (bit_at result k == 1) ≡ (slice_index met k == 0) }
+    ensures each { (k : ℕ) → k < 8 → (bit_at result k == 1) ≡ (slice_index met k == 0) }
+    ensures rest { (k : ℕ) → 8 ≤ k → bit_at result k ≡ 0 }
 {
     met.simd_eq(u64x8::splat(0)).to_bitmask()
 }

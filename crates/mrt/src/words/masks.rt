@@ -16,7 +16,7 @@ use crate::words::times::with_bit;
 pub struct Masks;
 
 impl Layout for Masks {
-    ghost is_laid = { λ ii width words. AreMasks ii words };
+    ghost is_laid = { λ ii width words. (width ≡ 1) × AreMasks ii words };
 
     ghost tells = { λ width words. is_held words };
 

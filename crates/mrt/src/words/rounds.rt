@@ -29,15 +29,16 @@ pub(crate) fn first_off(rounds: &[u64], slots: &[Slot], ii: usize, base: usize, 
 }
 
 /// At which of the next `cycles` cycles, from one whose residue is `base`, no slot is held: bit `k` is set
-/// where that is so `k` cycles later.
+/// where that is so `k` cycles later, and no other bit is.
 fn free_cycles(rounds: &[u64], slots: &[Slot], ii: usize, base: usize, cycles: u64) -> u64
     requires all { length rounds.now ≡ 64 }
     requires slots { All (IsSlot ii) slots.now }
     requires base { base < ii }
     requires short { ii < 64 }
     requires cycles { cycles ≤ ii }
-    ensures { (held : ℕ → ℕ → Bool) (time k : ℕ) → TellOnce ii rounds.now held → time % ii ≡ base → k < cycles
+    ensures asked { (held : ℕ → ℕ → Bool) (time k : ℕ) → TellOnce ii rounds.now held → time % ii ≡ base → k < cycles
         → (bit_at result k == 1) ≡ not (meets_held ii held (rows_in slots.now) (time + k)) }
+    ensures rest { (k : ℕ) → k < 64 → cycles ≤ k → bit_at result k ≡ 0 }
 {
     // (what is not asked for counts as met, so that the search ends as soon as the rest is)
     let mut met = bits_from(cycles);

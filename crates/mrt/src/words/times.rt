@@ -12,13 +12,14 @@ use crate::rosters::slot::Slot;
 /// From which interval on timelines are kept. At a shorter one a word has a bit for each residue.
 pub(crate) const LEAST: usize = 64;
 
-/// How many words each unit has at an interval: one below [`LEAST`], and else so many that 64 consecutive
-/// times stand in its timeline from each residue on.
+/// How many words each unit has at an interval: one below [`LEAST`], and else as few as it takes for 64 consecutive
+/// times to stand in its timeline from each residue on.
 pub(crate) fn words_at(ii: usize) -> usize
     requires few { ii ≤ 16384 }
     ensures few { result ≤ 257 }
     ensures one { ii < 64 → result ≡ 1 }
     ensures reach { 64 ≤ ii → ii + 64 ≤ 64 * result }
+    ensures least { (words : ℕ) → 64 ≤ ii → ii + 64 ≤ 64 * words → result ≤ words }
 {
     if ii < LEAST { 1 } else { ii.div_ceil(64) + 1 }
 }
@@ -60,7 +61,7 @@ pub(crate) fn first_unheld(
 }
 
 /// At which of some consecutive cycles, from one whose residue is `base`, no slot is held: bit `k` is set
-/// where that is so `k` cycles later. It tells of `cycles` of them, and of no more than 64.
+/// where that is so `k` cycles later. It tells of `cycles` of them, and of no more than 64: no other bit is set.
 fn free_cycles(
     times: &[u64],
     words: usize,
@@ -75,8 +76,9 @@ fn free_cycles(
     requires slots { All (IsSlot ii) slots.now }
     requires base { base < ii }
     requires few { ii ≤ 16384 }
-    ensures { (held : ℕ → ℕ → Bool) (time k : ℕ) → Tell ii words times.now held → time % ii ≡ base → k < 64 → k < cycles
+    ensures asked { (held : ℕ → ℕ → Bool) (time k : ℕ) → Tell ii words times.now held → time % ii ≡ base → k < 64 → k < cycles
         → (bit_at result k == 1) ≡ not (meets_held ii held (rows_in slots.now) (time + k)) }
+    ensures rest { (k : ℕ) → k < 64 → cycles ≤ k → bit_at result k ≡ 0 }
 {
     // (what is not asked for counts as met, so that the search ends as soon as the rest is)
     let mut met = bits_from(cycles);

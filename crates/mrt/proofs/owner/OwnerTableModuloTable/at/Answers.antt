@@ -8,4 +8,4 @@ invariant_of-result c =
     let i = c.self.invariant in
     let operations = c.self.inside.roster.operations in
     let short : length operations ≤ FREE = omega (arith, i.whole, i.short) in
-    rw (c.reset.ensures, c.in_ok-refill.ensures) (IsOwnerTable-new c.args.ii c.self.inside.units (length operations) operations refl short i.few i.covered)
+    rw (c.reset.ensures, c.in_ok-refill.ensures.ok) (IsOwnerTable-new c.args.ii c.self.inside.units (length operations) operations refl short i.few i.covered)

@@ -17,8 +17,8 @@ loop-slot-preserved c time k base small =
     lt c.requires.long c.requires.words c.requires.repeats (c.residue.ensures.value time base) c.residue.ensures.below small slot.mask (c.load.ensures.each k small)
     (c.loop-slot.invariant time k base small) (c.with_words-met.ensures.each k small)
 
-pub returns : goal.returns
-returns c time k base small =
+pub returns-clause-asked : goal.returns-clause-asked
+returns-clause-asked c time k base small =
     let all = take_all c.loop-slot.slot-index c.args.slots.now (omega arith) in
-    c.zero_lanes.ensures k small ∙ c.loop-slot.invariant time k base small
+    c.zero_lanes.ensures.each k small ∙ c.loop-slot.invariant time k base small
     ∙ ap (λ slots. not (meets_held c.args.ii (is_held c.args.busy.now) (rows_in slots) (time + k))) all

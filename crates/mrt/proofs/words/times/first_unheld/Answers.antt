@@ -17,7 +17,7 @@ returns-then-free-ne0-clause-met c held time sooner tell base lt =
     met_until M time passed (c.min.result - passed) (λ k lk. i.met held time k tell base lk (omega (arith, lk, c.loop-passed-test.true)))
     (λ k lk.
     let before = low.2 k (omega (arith, c.from.ensures, lk, c.min.ensures)) in
-    met_from_bit free k _ (c.free_cycles-free.ensures held (time + passed) k tell (i.at time base) (omega (arith, c.from.ensures, lk, low.0, c.min.ensures)) (omega (arith, lk, c.min.ensures))) (λ one. omega (arith, before, one)))
+    met_from_bit free k _ (c.free_cycles-free.ensures.asked held (time + passed) k tell (i.at time base) (omega (arith, c.from.ensures, lk, low.0, c.min.ensures)) (omega (arith, lk, c.min.ensures))) (λ one. omega (arith, before, one)))
     sooner (omega (arith, lt, c.min.ensures))
 
 pub returns-then-free-ne0-clause-unmet : goal.returns-then-free-ne0-clause-unmet
@@ -29,7 +29,7 @@ returns-then-free-ne0-clause-unmet c held time tell base lt =
     let low = bit_at-trailing_zeros w64 free (omega (arith, c.if-free-ne0.true)) c.free_cycles-free.type_inv in
     let first : bit_at free c.from.result ≡ 1 = ap (λ k. bit_at free k) c.from.ensures ∙ low.1 in
     let whole : time + passed + c.from.result ≡ time + c.min.result = omega (arith, lt, c.min.ensures) in
-    sym (ap M whole) ∙ unmet_from_bit free c.from.result _ (c.free_cycles-free.ensures held (time + passed) c.from.result tell (i.at time base) (omega (arith, c.from.ensures, low.0)) (omega (arith, lt, c.min.ensures))) first
+    sym (ap M whole) ∙ unmet_from_bit free c.from.result _ (c.free_cycles-free.ensures.asked held (time + passed) c.from.result tell (i.at time base) (omega (arith, c.from.ensures, low.0)) (omega (arith, lt, c.min.ensures))) first
 
 pub loop-passed-preserved : goal.loop-passed-preserved
 loop-passed-preserved c =
@@ -45,7 +45,7 @@ loop-passed-preserved c =
       met = λ held time sooner tell base lt asked.
           let M : ℕ → Bool = meets_held ii held (rows_in c.args.slots.now) in
           met_until M time passed (sooner + 1 - passed) (λ k lk. i.met held time k tell base lk (omega (arith, lk, c.loop-passed-test.true)))
-          (λ k lk. met_from_bit free k _ (c.free_cycles-free.ensures held (time + passed) k tell (i.at time base) (omega (arith, lk, lt)) (omega (arith, lk, asked)))
+          (λ k lk. met_from_bit free k _ (c.free_cycles-free.ensures.asked held (time + passed) k tell (i.at time base) (omega (arith, lk, lt)) (omega (arith, lk, asked)))
           (λ one. omega (arith, sym one ∙ ap (λ n. bit_at n k) c.if-free-ne0.false ∙ bit_at-zero k)))
           sooner (omega arith);
     }

@@ -1,8 +1,9 @@
-use Rattle.std.proofs.Common.{◌≡◌, length, ◌∙◌}
+use Rattle.std.proofs.Common.{◌≡◌, length, map, ◌∙◌, rules}
 use Rattle.std.specs.List.{All}
 use Rattle.std.proofs.lemmas.List.Elements.{All-take, All-drop}
+use Rattle.mrt.specs.inner.Choices.{rows_at}
 use Rattle.mrt.specs.inner.Slots.{IsSlot}
-use Rattle.mrt.proofs.placements.Choosing.{AreChoices-grown, AreChoices-pushed, rows_at-pushed}
+use Rattle.mrt.proofs.placements.Choosing.{AreChoices-grown, AreChoices-pushed, rows_at-kept, rows_at-pushed}
 use Rattle.mrt.proofs.rosters.choices.Choices.push.Goals as goal
 
 pub invariant_of-self : goal.invariant_of-self
@@ -28,3 +29,15 @@ returns-clause-pushed c =
     let to : c.len-end.result ≡ length c.push_slots.new.slots.items = c.len-end.ensures ∙ c.push_slots.new.slots.ok.0 in
     rw (c.in_ok-push.ensures.items, ← c.self.view_is)
     (rows_at-pushed _ _ _ _ _ _ c.self.invariant.each_span c.push_slots.ensures.kept from to c.in_ok-push_slots.ensures.added)
+
+pub returns-in_err-push_slots-clause-err : goal.returns-in_err-push_slots-clause-err
+returns-in_err-push_slots-clause-err c =
+    let same : map (rows_at c.push_slots.new.slots.items) c.self.inside.spans.items ≡ c.args.self.now.alternatives =
+    rw (← c.self.view_is) (rows_at-kept _ _ _ _ c.push_slots.ensures.kept c.self.invariant.each_span) in
+    search rules
+
+pub returns-in_err-push-clause-err : goal.returns-in_err-push-clause-err
+returns-in_err-push-clause-err c =
+    let same : map (rows_at c.push_slots.new.slots.items) c.push.new.self.items ≡ c.args.self.now.alternatives =
+    rw (c.in_err-push.ensures.items, ← c.self.view_is) (rows_at-kept _ _ _ _ c.push_slots.ensures.kept c.self.invariant.each_span) in
+    search rules
