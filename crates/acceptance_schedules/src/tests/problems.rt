@@ -2,9 +2,7 @@
 
 use graph::{Edge, Edges, given};
 use machine::{Alternatives, Opcode, read_machine};
-use modulo::{
-    Breach, Culprit, Failure, Problem, Schedule, Try, attempt, attempt_on, culprit,
-};
+use modulo::{Breach, Culprit, Failure, Problem, Schedule, Try, attempt, attempt_on, culprit};
 use mrt::{MaskTable, ModuloTable, OwnerTable};
 use std::alloc::Global;
 use std::process::Abort;
@@ -211,13 +209,22 @@ fn what_lists_for_the_ring_break_first(rt: HostRuntime) -> Result<(), Fail> {
         unit: 0,
         residue: 2,
     };
-    assert_eq!(&rt; breach(alloc, &problem, &[(3, 0), (2, 0), (6, 0)])?, Some(slot));
+    assert_eq!(&rt;
+        breach(alloc, &problem, &[(3, 0), (2, 0), (6, 0)])?,
+        Some(slot)
+    );
     // the product is a cycle too early, and the last sum too
     let first = Breach::Edge(edge(0, 1, 0, 2), 1);
-    assert_eq!(&rt; breach(alloc, &problem, &[(0, 0), (1, 1), (3, 0)])?, Some(first));
+    assert_eq!(&rt;
+        breach(alloc, &problem, &[(0, 0), (1, 1), (3, 0)])?,
+        Some(first)
+    );
     // a first sum of two iterations later comes at 0 + 2 * 4, and the sum that it takes is there at 10 + 2
     let back = Breach::Edge(edge(2, 0, 2, 2), 4);
-    assert_eq!(&rt; breach(alloc, &problem, &[(0, 0), (2, 1), (10, 0)])?, Some(back));
+    assert_eq!(&rt;
+        breach(alloc, &problem, &[(0, 0), (2, 1), (10, 0)])?,
+        Some(back)
+    );
     // all is kept, but cycle 256 begins stage 64
     let late = breach(alloc, &problem, &[(254, 0), (256, 1), (259, 0)])?;
     assert_eq!(&rt; late, Some(Breach::Stage(1)));
