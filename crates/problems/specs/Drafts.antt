@@ -1,5 +1,5 @@
 -- Drafts of scheduling problems: when one is well formed, and what it comes to.
-use Rattle.std.specs.Prelude.{◌≡◌, ◌≢◌, ◌⊎◌, ℕ, ℤ, pos, negsuc, ◌<◌, ◌≤◌, ◌-ℤ◌, ◌≤ℤ◌, List, [], ◌++◌, length, map, slice_index, Vec}
+use Rattle.std.specs.Prelude.{◌≡◌, ◌≢◌, ◌⊎◌, ℕ, pos, negsuc, ◌<◌, ◌≤◌, ◌-ℤ◌, ◌≤ℤ◌, List, [], ◌++◌, length, map, slice_index, Vec}
 use Rattle.std.specs.Global.{Global}
 use Rattle.std.specs.List.{All, AllPairs, slice_index_or}
 use Rattle.machine_data.specs.declared.alternative.Row.{Row}
@@ -12,7 +12,6 @@ use Rattle.problems.specs.declared.draft.Hold.{Hold}
 use Rattle.problems.specs.declared.draft.Kind.{Kind}
 use Rattle.problems.specs.declared.draft.Value.{Value}
 use Rattle.problems.specs.declared.draft.Order.{Order}
-use Rattle.problems.specs.declared.draft.Names.{Names}
 use Rattle.problems.specs.declared.draft.Draft.{Draft}
 
 -- the operation that makes the value with a number

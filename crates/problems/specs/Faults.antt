@@ -1,5 +1,5 @@
 -- The first thing that is wrong with a draft.
-use Rattle.std.specs.Prelude.{ℕ, pos, negsuc, ◌+◌, ◌==◌, ◌&&◌, ◌||◌, not, nat_lt, nat_le, int_le, Bool, true, false, List, [], ◌∷◌, length, map, take, Option, Some, None, slice_index, Vec}
+use Rattle.std.specs.Prelude.{ℕ, pos, negsuc, ◌+◌, ◌==◌, ◌&&◌, ◌||◌, not, nat_lt, nat_le, int_le, Bool, true, false, List, [], ◌∷◌, length, take, Option, Some, None, Vec}
 use Rattle.std.specs.Global.{Global}
 use Rattle.std.specs.List.{list_any}
 use Rattle.std.specs.Option.{option_or}

@@ -1,5 +1,5 @@
 -- Scheduling problems as data.
-use Rattle.std.specs.Prelude.{◌≡◌, ℕ, Option, Some, None, Result, Ok, Err}
+use Rattle.std.specs.Prelude.{◌≡◌, ℕ, Some, None, Result, Ok, Err}
 use Rattle.graph.specs.Graphs.{IsGraphWith}
 use Rattle.modulo.specs.Problems.{ProblemData as SchedulingData, IsProblem as IsScheduling}
 use Rattle.problems.specs.declared.draft.Draft.{Draft}

@@ -1,7 +1,7 @@
 -- A draft without a fault is well formed, and the other way round.
-use Rattle.std.proofs.Common.{◌≡◌, ◌≢◌, ℕ, pos, negsuc, ◌<◌, ◌≤◌, ◌⊎◌, Bool, true, false, ◌&&◌, ◌||◌, not, List, [], ◌∷◌, length, take, get_or, refl, sym, ap, ◌∙◌, Vec, Global}
-use Rattle.std.specs.Prelude.{◌↔◌, ◌≤ℤ◌, ◌==◌, Option, Some, None, nat_lt, nat_le, int_le}
-use Rattle.std.specs.List.{All, AllPairs, list_any}
+use Rattle.std.proofs.Common.{◌≡◌, ℕ, pos, negsuc, ◌<◌, ◌≤◌, ◌⊎◌, true, false, List, length, take, get_or, refl, ap, ◌∙◌, Vec, Global}
+use Rattle.std.specs.Prelude.{◌≤ℤ◌, ◌==◌, Option}
+use Rattle.std.specs.List.{All, list_any}
 use Rattle.std.proofs.lemmas.Bool.{eqb-true, eq-eqb, and_parts, and_from}
 use Rattle.std.proofs.lemmas.Slice.Eq.{bytes_eq-Decides}
 use Rattle.machine_data.specs.Opcodes.{same_word}
@@ -18,9 +18,9 @@ use Rattle.problems.specs.declared.fault.Part.TheVariants.{Units, Files, Kinds, 
 use Rattle.problems.specs.declared.fault.Fault.{Fault}
 use Rattle.problems.specs.declared.fault.Fault.TheVariants.{Count, NameCount, Repeated, Registers, Latency, Alternatives, Rows, NoUnit, Offset, RepeatedRow, NoKind, NoMaker, Lands, NoFile, NoValue, NoReader, Distance, ReadOffset, ReadBackward, NoFrom, NoTo, Delay, OrderDistance, OrderBackward}
 use Rattle.problems.specs.Drafts.{maker_of, AreNames, IsFile, AreRows, IsKind, IsValue, IsRead, IsOrder, AreCounts, AreAllNames, IsWellFormed}
-use Rattle.problems.specs.Faults.{unless, first_in, within, is_repeated, repeat_fault, name_fault, names_fault, file_fault, same_hold, row_fault, alternative_fault, kind_fault, operation_fault, value_fault, read_fault, order_fault, count_fault, part_fault, first_fault_of}
-use Rattle.problems.proofs.faults.Apart.{NoneAgain, pairs-from_none, none-from_pairs}
-use Rattle.problems.proofs.faults.Says.{Says, says-both, says-last, says-test, says-below, says-most, says-within, says-between, says-forward, says-either, says-not, says-in}
+use Rattle.problems.specs.Faults.{is_repeated, repeat_fault, name_fault, names_fault, file_fault, same_hold, row_fault, alternative_fault, kind_fault, operation_fault, value_fault, read_fault, order_fault, count_fault, part_fault, first_fault_of}
+use Rattle.problems.proofs.faults.Apart.{pairs-from_none, none-from_pairs}
+use Rattle.problems.proofs.faults.Says.{Says, says-both, says-last, says-below, says-most, says-within, says-between, says-forward, says-either, says-not, says-in}
 
 -- the same fact in other words
 said : (o : Option Fault) (P Q : Type 0) → (P → Q) → (Q → P) → Says o P → Says o Q

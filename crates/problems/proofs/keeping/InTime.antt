@@ -1,5 +1,5 @@
 -- Each read and each order of a draft is an edge of its problem, which issue times keep.
-use Rattle.std.proofs.Common.{◌≡◌, ℕ, ℤ, pos, ◌+◌, ◌*◌, ◌<◌, ◌≤◌, ◌+ℤ◌, ◌-ℤ◌, List, [], ◌∷◌, length, map, get_or, refl, sym, ap, ◌∙◌, subst, arith}
+use Rattle.std.proofs.Common.{◌≡◌, ℕ, pos, ◌+◌, ◌*◌, ◌<◌, ◌≤◌, ◌+ℤ◌, ◌-ℤ◌, List, [], ◌∷◌, length, map, get_or, refl, sym, ap, ◌∙◌, arith}
 use Rattle.std.specs.Prelude.{◌≤ℤ◌, Some, slice_get, slice_index}
 use Rattle.std.specs.List.{All, Contains}
 use Rattle.std.proofs.lemmas.Int.{ints}
@@ -10,10 +10,9 @@ use Rattle.graph.specs.Dependences.{EdgeData}
 use Rattle.graph.specs.Schedules.{KeepsEdge}
 use Rattle.registers.specs.declared.value.Read.{Read}
 use Rattle.registers.specs.declared.value.Value.{Value as PlainValue}
-use Rattle.registers.specs.Values.{AreReadInTime, landing_of, read_at}
+use Rattle.registers.specs.Values.{AreReadInTime}
 use Rattle.problems.specs.declared.draft.Value.{Value}
 use Rattle.problems.specs.declared.draft.Order.{Order}
-use Rattle.problems.specs.declared.draft.Draft.{Draft}
 use Rattle.problems.specs.Drafts.{maker_of, lands_of, read_edge, order_edge, edges_of, plain_values}
 use Rattle.problems.specs.Problems.{ProblemData, IsProblem}
 

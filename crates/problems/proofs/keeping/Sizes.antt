@@ -1,11 +1,11 @@
 -- The values of a problem and their reads are of the sizes that registers are allotted for.
-use Rattle.std.proofs.Common.{◌≡◌, ℕ, ◌*◌, ◌<◌, ◌≤◌, List, length, map, get_or, sym, subst, arith}
+use Rattle.std.proofs.Common.{◌≡◌, ℕ, ◌*◌, ◌<◌, ◌≤◌, List, length, arith}
 use Rattle.std.specs.List.{All}
 use Rattle.std.proofs.lemmas.List.{length-map}
 use Rattle.std.proofs.lemmas.List.Elements.{All-map}
 use Rattle.registers.specs.declared.value.Read.{Read}
 use Rattle.registers.specs.declared.value.Value.{Value as PlainValue}
-use Rattle.registers.specs.Values.{AreValues, IsValue as IsPlainValue, IsRead as IsPlainRead}
+use Rattle.registers.specs.Values.{AreValues, IsValue as IsPlainValue}
 use Rattle.problems.specs.declared.draft.Value.{Value}
 use Rattle.problems.specs.Drafts.{maker_of, plain_values}
 use Rattle.problems.specs.Problems.{ProblemData, IsProblem}

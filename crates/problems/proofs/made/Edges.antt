@@ -1,5 +1,5 @@
 -- The edges and the latencies of a well-formed draft make a graph.
-use Rattle.std.proofs.Common.{◌≡◌, ℕ, ℤ, pos, ◌<◌, ◌≤◌, ◌-ℤ◌, List, length, map, get_or, arith}
+use Rattle.std.proofs.Common.{◌≡◌, ℕ, pos, ◌<◌, ◌≤◌, ◌-ℤ◌, length, map, get_or, arith}
 use Rattle.std.specs.Prelude.{◌≤ℤ◌, slice_index}
 use Rattle.std.specs.List.{All}
 use Rattle.std.proofs.lemmas.Int.{ints}

@@ -1,5 +1,4 @@
-use Rattle.std.proofs.Common.{sym, subst, ap, ◌∙◌, ◌≤◌, length, map, Vec, Global, List, arith}
-use Rattle.machine_data.specs.declared.alternative.Row.{Row}
+use Rattle.std.proofs.Common.{sym, subst, ap, ◌≤◌, length, map, Vec, Global, arith}
 use Rattle.machine_data.specs.Alternative.{AreAlternatives}
 use Rattle.problems.specs.declared.draft.Hold.{Hold}
 use Rattle.problems.specs.Drafts.{row_of}
