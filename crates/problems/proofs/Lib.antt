@@ -1,0 +1,3 @@
+pub mod faults
+pub mod keeping
+pub mod made

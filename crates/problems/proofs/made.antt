@@ -1,0 +1,4 @@
+-- What a well-formed draft comes to.
+pub mod Edges
+pub mod Tables
+pub mod Whole

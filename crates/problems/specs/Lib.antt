@@ -1,0 +1,7 @@
+pub mod Drafts
+pub mod Faults
+pub mod Labels
+pub mod Problems
+pub mod Promises
+pub mod Refusals
+pub mod inner

@@ -1,0 +1,43 @@
+//! What is scheduled of a draft.
+
+ghost use Rattle.std.specs.Prelude.{◌≡◌, ◌≤◌, IfOk};
+ghost use Rattle.graph.specs.Graphs.{IsGraphWith};
+ghost use Rattle.problems.specs.Drafts.{IsWellFormed, edges_of, latencies_of};
+ghost use Rattle.problems.specs.Problems.{IsSchedulingOf};
+
+use crate::draft::Draft;
+use crate::making::edges::edges_of;
+use crate::making::tables::{latencies_of, operations_of};
+use graph::Edges;
+use machine_data::OutOfMemory;
+use std::alloc::Global;
+
+/// The graph of a draft's edges.
+fn graph_of(alloc: Global, draft: &Draft) -> Result<Edges, OutOfMemory>
+    requires { IsWellFormed draft.now }
+    ensures { IfOk result (IsGraphWith (edges_of draft.now) (latencies_of draft.now)) }
+{
+    let edges = edges_of(alloc, draft)?;
+    let cycles = latencies_of(alloc, draft)?;
+    match graph::given(alloc, edges.as_slice(), cycles)? {
+        Some(graph) => Ok(graph),
+        None => unreachable!(),
+    }
+}
+
+/// What is scheduled of a draft, with this budget ratio and ceiling.
+pub(crate) fn scheduling_of(
+    alloc: Global,
+    draft: &Draft,
+    ratio: u64,
+    ceiling: u64,
+) -> Result<modulo::Problem, OutOfMemory>
+    requires well_formed { IsWellFormed draft.now }
+    requires ratio { (1 ≤ ratio) × (ratio ≤ 64) }
+    requires ceiling { ceiling ≤ 255 }
+    ensures { IfOk result (λ made. IsSchedulingOf draft.now made × (made.ratio ≡ ratio) × (made.ceiling ≡ ceiling)) }
+{
+    let operations = operations_of(alloc, draft)?;
+    let graph = graph_of(alloc, draft)?;
+    modulo::Problem::new(alloc, graph, operations, ratio, ceiling)
+}
