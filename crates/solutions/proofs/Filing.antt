@@ -1,19 +1,20 @@
 -- The entries of the values of one file.
-use Rattle.std.proofs.Common.{◌≡◌, ◌≢◌, ℕ, suc, zero, ◌+◌, ◌<◌, ◌≤◌, true, false, List, [], ◌∷◌, ◌++◌, length, get_or, set, take, drop, Some, None, refl, sym, ap, ◌∙◌, subst, inl, inr, arith, append_assoc, append-nil}
+use Rattle.std.proofs.Common.{◌≡◌, ◌≢◌, ℕ, suc, zero, ◌+◌, ◌<◌, ◌≤◌, Bool, true, false, List, [], ◌∷◌, ◌++◌, length, get_or, set, take, drop, filter, cond, refl, sym, ap, ◌∙◌, inl, inr, arith, append_assoc, append-nil}
 use Rattle.std.specs.Prelude.{◌==◌, count_by, slice_get, slice_index}
 use Rattle.std.specs.List.{All}
-use Rattle.std.proofs.lemmas.Bool.{cases_Bool, eqb-true, eq-eqb, ne_eqb}
+use Rattle.std.proofs.lemmas.Bool.{cases_Bool, cond-true, eqb-true, eq-eqb, ne_eqb}
 use Rattle.std.proofs.lemmas.List.{drop_more, take_more, take_more_set, length-take}
+use Rattle.std.proofs.lemmas.List.Sums.{length-filter}
 use Rattle.std.proofs.lemmas.List.Elements.{All-nil, All-cons, All-head, All-tail}
 use Rattle.solutions.specs.Files.{in_file, place_in}
 
 -- one value more
 
 pub in_file-yes : {X : Type 0} (f : ℕ) (files : List ℕ) (file : ℕ) (x : X) (xs : List X) → (f == file) ≡ true → in_file (f ∷ files) file (x ∷ xs) ≡ x ∷ in_file files file xs
-in_file-yes f files file x xs yes = rw yes refl
+in_file-yes f files file x xs hit = rw hit refl
 
 pub in_file-no : {X : Type 0} (f : ℕ) (files : List ℕ) (file : ℕ) (x : X) (xs : List X) → (f == file) ≡ false → in_file (f ∷ files) file (x ∷ xs) ≡ in_file files file xs
-in_file-no f files file x xs no = rw no refl
+in_file-no f files file x xs miss = rw miss refl
 
 pub in_file-append : {X : Type 0} (files others : List ℕ) (file : ℕ) (xs ys : List X) → length xs ≡ length files
     → in_file (files ++ others) file (xs ++ ys) ≡ in_file files file xs ++ in_file others file ys
@@ -23,21 +24,28 @@ in_file-append (f ∷ files) others file [] ys long = absurd (omega arith)
 in_file-append (f ∷ files) others file (x ∷ xs) ys long =
     let rest = in_file-append files others file xs ys (omega arith) in
     elim (cases_Bool (f == file)) [
-      | inl yes ↦ rw yes (ap (λ zs. x ∷ zs) rest)
-      | inr no ↦ rw no rest
+      | inl hit ↦ rw hit (ap (λ zs. x ∷ zs) rest)
+      | inr miss ↦ rw miss rest
     ]
 
 -- how many there are
-pub length-in_file : {X : Type 0} (files : List ℕ) (file : ℕ) (xs : List X) → length xs ≡ length files → length (in_file files file xs) ≡ count_by (λ other. other == file) files
-length-in_file [] file [] long = refl
-length-in_file [] file (x ∷ xs) long = absurd (omega arith)
-length-in_file (f ∷ files) file [] long = absurd (omega arith)
-length-in_file (f ∷ files) file (x ∷ xs) long =
-    let rest = length-in_file files file xs (omega arith) in
+
+counted : (files : List ℕ) (file : ℕ) → length (filter (λ other. other == file) files) ≡ count_by (λ other. other == file) files
+counted files file = length-filter (λ other. other == file) files
+
+length-kept : {X : Type 0} (files : List ℕ) (file : ℕ) (xs : List X) → length xs ≡ length files → length (in_file files file xs) ≡ length (filter (λ other. other == file) files)
+length-kept [] file [] long = refl
+length-kept [] file (x ∷ xs) long = absurd (omega arith)
+length-kept (f ∷ files) file [] long = absurd (omega arith)
+length-kept (f ∷ files) file (x ∷ xs) long =
+    let rest = length-kept files file xs (omega arith) in
     elim (cases_Bool (f == file)) [
-      | inl yes ↦ rw yes (omega arith)
-      | inr no ↦ rw no (omega arith)
+      | inl hit ↦ rw hit (ap suc rest)
+      | inr miss ↦ rw miss rest
     ]
+
+pub length-in_file : {X : Type 0} (files : List ℕ) (file : ℕ) (xs : List X) → length xs ≡ length files → length (in_file files file xs) ≡ count_by (λ other. other == file) files
+length-in_file files file xs long = length-kept files file xs long ∙ counted files file
 
 -- what is so of each is so of each in the file
 pub All-in_file : {X : Type 0} (P : X → Type 0) (files : List ℕ) (file : ℕ) (xs : List X) → All P xs → All P (in_file files file xs)
@@ -46,85 +54,89 @@ All-in_file P (f ∷ files) file [] all = All-nil P
 All-in_file P (f ∷ files) file (x ∷ xs) all =
     let rest = All-in_file P files file xs (All-tail P x xs all) in
     elim (cases_Bool (f == file)) [
-      | inl yes ↦ rw yes (All-cons P x (in_file files file xs) (All-head P x xs all) rest)
-      | inr no ↦ rw no rest
+      | inl hit ↦ rw hit (All-cons P x (in_file files file xs) (All-head P x xs all) rest)
+      | inr miss ↦ rw miss rest
     ]
+
+-- how many values of a file come before a value, counted one by one
+abbrev rank : List ℕ → ℕ → ℕ → ℕ
+rank files file value = length (filter (λ other. other == file) (take value files))
+
+rank-is : (files : List ℕ) (file value : ℕ) → rank files file value ≡ place_in files file value
+rank-is files file value = counted (take value files) file
 
 -- a value of the file stands at its place
-pub at_place : {X : Type 0} (files : List ℕ) (file value : ℕ) (xs : List X) → length xs ≡ length files → value < length files → slice_index files value ≡ file
-    → slice_get (in_file files file xs) (place_in files file value) ≡ slice_get xs value
-at_place [] file value xs long lt is = absurd (omega arith)
-at_place (f ∷ files) file value [] long lt is = absurd (omega arith)
-at_place (f ∷ files) file zero (x ∷ xs) long lt is = rw (eq-eqb f file is) refl
-at_place (f ∷ files) file (suc value) (x ∷ xs) long lt is =
-    let rest = at_place files file value xs (omega arith) (omega arith) is in
+
+at_rank : {X : Type 0} (files : List ℕ) (file value : ℕ) (xs : List X) → length xs ≡ length files → value < length files → slice_index files value ≡ file
+    → slice_get (in_file files file xs) (rank files file value) ≡ slice_get xs value
+at_rank [] file value xs long lt is = absurd (omega arith)
+at_rank (f ∷ files) file value [] long lt is = absurd (omega arith)
+at_rank (f ∷ files) file zero (x ∷ xs) long lt is = rw (eq-eqb f file is) refl
+at_rank (f ∷ files) file (suc value) (x ∷ xs) long lt is =
+    let rest = at_rank files file value xs (omega arith) (omega arith) is in
     elim (cases_Bool (f == file)) [
-      | inl yes ↦ rw yes rest
-      | inr no ↦ rw no rest
+      | inl hit ↦ rw hit rest
+      | inr miss ↦ rw miss rest
     ]
 
--- and what stands at a place is of a value of the file
-pub record IsPlaced {X : Type 0} (files : List ℕ) (file : ℕ) (xs : List X) (place : ℕ) (x : X) : Type 0 where
-  pub value : ℕ
-  pub there : value < length files
-  pub is_file : slice_index files value ≡ file
-  pub is_place : place_in files file value ≡ place
-  pub is_at : slice_get xs value ≡ Some x
-
-place_here : {X : Type 0} (f : ℕ) (files : List ℕ) (file place : ℕ) (y : X) (xs : List X) (x : X) → (f == file) ≡ true
-    → slice_get (y ∷ in_file files file xs) place ≡ Some x
-    → ((n : ℕ) (ys : List X) (z : X) → slice_get (in_file files file ys) n ≡ Some z → IsPlaced files file ys n z)
-    → IsPlaced (f ∷ files) file (y ∷ xs) place x
-place_here f files file zero y xs x yes is back = record { value = 0; there = omega arith; is_file = eqb-true f file yes; is_place = refl; is_at = is }
-place_here f files file (suc n) y xs x yes is back =
-    let r = back n xs x is in
-    record {
-      value = suc r.value;
-      there = let l = r.there in omega arith;
-      is_file = r.is_file;
-      is_place = rw yes (let e = r.is_place in omega arith);
-      is_at = r.is_at;
-    }
-
-pub place_back : {X : Type 0} (files : List ℕ) (file place : ℕ) (xs : List X) (x : X) → slice_get (in_file files file xs) place ≡ Some x → IsPlaced files file xs place x
-place_back [] file place xs x is = cc
-place_back (f ∷ files) file place [] x is = cc
-place_back (f ∷ files) file place (y ∷ xs) x is = elim (cases_Bool (f == file)) [
-  | inl yes ↦ place_here f files file place y xs x yes (rw yes at is) (place_back files file)
-  | inr no ↦
-      let r = place_back files file place xs x (rw no at is) in
-      record {
-        value = suc r.value;
-        there = let l = r.there in omega arith;
-        is_file = r.is_file;
-        is_place = rw no r.is_place;
-        is_at = r.is_at;
-      }
-]
+pub at_place : {X : Type 0} (files : List ℕ) (file value : ℕ) (xs : List X) → length xs ≡ length files → value < length files → slice_index files value ≡ file
+    → slice_get (in_file files file xs) (place_in files file value) ≡ slice_get xs value
+at_place files file value xs long lt is = ap (slice_get (in_file files file xs)) (sym (rank-is files file value)) ∙ at_rank files file value xs long lt is
 
 -- values of one file with one place are one
+
+one_rank : (files : List ℕ) (file v w : ℕ) → v < length files → w < length files → slice_index files v ≡ file → slice_index files w ≡ file
+    → rank files file v ≡ rank files file w → v ≡ w
+one_rank [] file v w vl wl vf wf same = absurd (omega arith)
+one_rank (f ∷ files) file zero zero vl wl vf wf same = refl
+one_rank (f ∷ files) file zero (suc w) vl wl vf wf same =
+    let e : 0 ≡ suc (rank files file w) = same ∙ ap length (cond-true (f == file) (f ∷ filter (λ other. other == file) (take w files)) (filter (λ other. other == file) (take w files)) (eq-eqb f file vf)) in
+    absurd (omega arith)
+one_rank (f ∷ files) file (suc v) zero vl wl vf wf same =
+    let e : 0 ≡ suc (rank files file v) = sym same ∙ ap length (cond-true (f == file) (f ∷ filter (λ other. other == file) (take v files)) (filter (λ other. other == file) (take v files)) (eq-eqb f file wf)) in
+    absurd (omega arith)
+one_rank (f ∷ files) file (suc v) (suc w) vl wl vf wf same =
+    ap suc (one_rank files file v w (omega arith) (omega arith) vf wf (less (f == file) same))
+  where
+    less : (b : Bool) → length (cond b (f ∷ filter (λ other. other == file) (take v files)) (filter (λ other. other == file) (take v files)))
+        ≡ length (cond b (f ∷ filter (λ other. other == file) (take w files)) (filter (λ other. other == file) (take w files)))
+        → rank files file v ≡ rank files file w
+    less true e = omega arith
+    less false e = e
+
 pub one_place : (files : List ℕ) (file v w : ℕ) → v < length files → w < length files → slice_index files v ≡ file → slice_index files w ≡ file
     → place_in files file v ≡ place_in files file w → v ≡ w
-one_place [] file v w vl wl vf wf same = absurd (omega arith)
-one_place (f ∷ files) file zero zero vl wl vf wf same = refl
-one_place (f ∷ files) file zero (suc w) vl wl vf wf same = absurd (let e = rw (eq-eqb f file vf) at same in omega arith)
-one_place (f ∷ files) file (suc v) zero vl wl vf wf same = absurd (let e = rw (eq-eqb f file wf) at same in omega arith)
-one_place (f ∷ files) file (suc v) (suc w) vl wl vf wf same =
-    let less = elim (cases_Bool (f == file)) as (λ _. place_in files file v ≡ place_in files file w) [
-      | inl yes ↦ let e = rw yes at same in omega arith
-      | inr no ↦ let e = rw no at same in omega arith
-    ] in
-    ap suc (one_place files file v w (omega arith) (omega arith) vf wf less)
+one_place files file v w vl wl vf wf same = one_rank files file v w vl wl vf wf (rank-is files file v ∙ same ∙ sym (rank-is files file w))
 
 -- a place is below the number of the file's values
-pub place-below : (files : List ℕ) (file value : ℕ) → value < length files → slice_index files value ≡ file → place_in files file value < count_by (λ other. other == file) files
-place-below [] file value lt is = absurd (omega arith)
-place-below (f ∷ files) file zero lt is = rw (eq-eqb f file is) (omega arith)
-place-below (f ∷ files) file (suc value) lt is =
-    let rest = place-below files file value (omega arith) is in
+
+rank-below : (files : List ℕ) (file value : ℕ) → value < length files → slice_index files value ≡ file → rank files file value < length (filter (λ other. other == file) files)
+rank-below [] file value lt is = absurd (omega arith)
+rank-below (f ∷ files) file zero lt is = rw (eq-eqb f file is) (omega arith)
+rank-below (f ∷ files) file (suc value) lt is =
+    let rest = rank-below files file value (omega arith) is in
     elim (cases_Bool (f == file)) [
-      | inl yes ↦ rw yes (omega arith)
-      | inr no ↦ rw no (omega arith)
+      | inl hit ↦ rw hit (omega arith)
+      | inr miss ↦ rw miss rest
+    ]
+
+pub place-below : (files : List ℕ) (file value : ℕ) → value < length files → slice_index files value ≡ file → place_in files file value < count_by (λ other. other == file) files
+place-below files file value lt is =
+    let r = rank-below files file value lt is in
+    let a = rank-is files file value in
+    let b = counted files file in
+    omega arith
+
+-- where the number of each value of the file is below one, each of them is
+pub below-in_file : (files : List ℕ) (file n : ℕ) (xs : List ℕ) → length xs ≡ length files → ((value : ℕ) → value < length files → slice_index files value ≡ file → slice_index xs value < n)
+    → All (λ x. x < n) (in_file files file xs)
+below-in_file [] file n xs long each = All-nil (λ x. x < n)
+below-in_file (f ∷ files) file n [] long each = All-nil (λ x. x < n)
+below-in_file (f ∷ files) file n (x ∷ xs) long each =
+    let rest = below-in_file files file n xs (omega arith) (λ value lt is. each (suc value) (omega arith) is) in
+    elim (cases_Bool (f == file)) [
+      | inl hit ↦ rw hit (All-cons (λ y. y < n) x (in_file files file xs) (each 0 (omega arith) (eqb-true f file hit)) rest)
+      | inr miss ↦ rw miss rest
     ]
 
 -- entries that are the same for each value of the file
@@ -138,8 +150,8 @@ same_in_file (f ∷ files) file (x ∷ xs) [] xl yl same = absurd (omega arith)
 same_in_file (f ∷ files) file (x ∷ xs) (y ∷ ys) xl yl same =
     let rest = same_in_file files file xs ys (omega arith) (omega arith) (λ k is. same (suc k) is) in
     elim (cases_Bool (f == file)) [
-      | inl yes ↦ rw yes (ap (λ z. z ∷ in_file files file xs) (same 0 (eqb-true f file yes)) ∙ ap (λ zs. y ∷ zs) rest)
-      | inr no ↦ rw no rest
+      | inl hit ↦ rw hit (ap (λ z. z ∷ in_file files file xs) (same 0 (eqb-true f file hit)) ∙ ap (λ zs. y ∷ zs) rest)
+      | inr miss ↦ rw miss rest
     ]
 
 -- entries one after another
@@ -151,12 +163,14 @@ drop_yes files file k xs x lt long is at =
     ∙ ap (λ ys. in_file (get_or files k 0 ∷ drop (k + 1) files) file ys) (drop_more xs k x (omega arith) ∙ ap (λ y. y ∷ drop (k + 1) xs) (sym at))
     ∙ in_file-yes (get_or files k 0) (drop (k + 1) files) file x (drop (k + 1) xs) (eq-eqb (get_or files k 0) file is)
 
-drop_no : {X : Type 0} (files : List ℕ) (file k : ℕ) (xs : List X) (x : X) → k < length files → length xs ≡ length files → slice_index files k ≢ file
+drop_no : {X : Type 0} (files : List ℕ) (file k : ℕ) (xs : List X) → k < length files → length xs ≡ length files → slice_index files k ≢ file
     → in_file (drop k files) file (drop k xs) ≡ in_file (drop (k + 1) files) file (drop (k + 1) xs)
-drop_no files file k xs x lt long not =
-    ap (λ fs. in_file fs file (drop k xs)) (drop_more files k 0 lt)
-    ∙ ap (λ ys. in_file (get_or files k 0 ∷ drop (k + 1) files) file ys) (drop_more xs k x (omega arith))
-    ∙ in_file-no (get_or files k 0) (drop (k + 1) files) file (get_or xs k x) (drop (k + 1) xs) (ne_eqb (get_or files k 0) file not)
+drop_no [] file k xs lt long not = absurd (omega arith)
+drop_no (f ∷ files) file k [] lt long not = absurd (omega arith)
+drop_no (f ∷ files) file zero (x ∷ xs) lt long not = in_file-no f files file x xs (ne_eqb f file not)
+drop_no (f ∷ files) file (suc k) (x ∷ xs) lt long not =
+    let z : suc (k + 1) ≡ suc k + 1 = omega arith in
+    drop_no files file k xs (omega arith) (omega arith) not ∙ ap (λ n. in_file (drop n (f ∷ files)) file (drop n (x ∷ xs))) z
 
 pub gather_yes : {X : Type 0} (files : List ℕ) (file k count : ℕ) (xs into all : List X) (x : X) → k < length files → length xs ≡ length files → slice_index files k ≡ file → x ≡ get_or xs k x
     → count < length into → take count into ++ in_file (drop k files) file (drop k xs) ≡ all
@@ -168,10 +182,10 @@ gather_yes files file k count xs into all x lt long is at room before =
     ∙ ap (λ ys. take count into ++ ys) (sym (drop_yes files file k xs x lt long is at))
     ∙ before
 
-pub gather_no : {X : Type 0} (files : List ℕ) (file k count : ℕ) (xs into all : List X) (x : X) → k < length files → length xs ≡ length files → slice_index files k ≢ file
+pub gather_no : {X : Type 0} (files : List ℕ) (file k count : ℕ) (xs into all : List X) → k < length files → length xs ≡ length files → slice_index files k ≢ file
     → take count into ++ in_file (drop k files) file (drop k xs) ≡ all
     → take count into ++ in_file (drop (k + 1) files) file (drop (k + 1) xs) ≡ all
-gather_no files file k count xs into all x lt long not before = ap (λ ys. take count into ++ ys) (sym (drop_no files file k xs x lt long not)) ∙ before
+gather_no files file k count xs into all lt long not before = ap (λ ys. take count into ++ ys) (sym (drop_no files file k xs lt long not)) ∙ before
 
 -- the entries of the first so many values
 

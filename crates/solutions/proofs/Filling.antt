@@ -1,8 +1,9 @@
 -- Numbers that are written file by file.
-use Rattle.std.proofs.Common.{◌≡◌, ◌≢◌, ◌⊎◌, ℕ, ◌+◌, ◌<◌, ◌≤◌, List, length, Some, refl, sym, ap, ◌∙◌, subst, inl, inr, arith}
+use Rattle.std.proofs.Common.{◌≡◌, ◌≢◌, ◌⊎◌, ℕ, ◌+◌, ◌<◌, ◌≤◌, List, length, get_or, Some, refl, sym, ap, ◌∙◌, subst, inl, inr, arith}
 use Rattle.std.specs.Prelude.{◌==◌, count_by, slice_get, slice_index}
 use Rattle.std.specs.List.{All}
 use Rattle.std.proofs.lemmas.Bool.{cases_eq, cases_lt}
+use Rattle.std.proofs.lemmas.Option.{slice_get-get_or}
 use Rattle.problems.specs.declared.draft.File.{File}
 use Rattle.problems.specs.declared.draft.File.TheVariants.{Rotating, Unallotted}
 use Rattle.registers.specs.declared.lifetime.Lifetime.{Lifetime}
@@ -72,3 +73,20 @@ place-there ii registers files file place lives numbers long none =
     let l = place-within (in_file files file lives) none.life place none.is_life in
     let c = length-in_file files file lives long in
     omega arith
+
+-- one file more, by what is written for it
+pub record IsMore (ii : ℕ) (kinds : List File) (files : List ℕ) (lives : List Lifetime) (numbers : List ℕ) (end : ℕ) : Type 0 where
+  pub filled : FilledBelow ii kinds files lives numbers end
+  pub zeros : Zeros kinds files numbers
+
+pub file-more : (ii : ℕ) (kinds : List File) (files : List ℕ) (lives : List Lifetime) (old new : List ℕ) (file : ℕ) (d : File) → (get_or kinds file d ≡ Unallotted → new ≡ old)
+    → length old ≡ length files → length new ≡ length files → file < length kinds
+    → ((value : ℕ) → slice_index files value ≢ file → slice_index new value ≡ slice_index old value)
+    → IsFilled ii files lives new file (get_or kinds file d) → FilledBelow ii kinds files lives old file → Zeros kinds files old
+    → IsMore ii kinds files lives new (file + 1)
+file-more ii kinds files lives old new file d same old_long new_long lt others here filled zeros =
+    let is = slice_get-get_or kinds file d lt in
+    record {
+      filled = filled-more ii kinds files lives old new file (get_or kinds file d) old_long new_long is others here filled;
+      zeros = zeros-more kinds files old new file (get_or kinds file d) is others same zeros;
+    }

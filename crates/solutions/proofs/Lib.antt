@@ -1,4 +1,3 @@
-pub mod Borrowed
 pub mod Filing
 pub mod Filling
 pub mod Lives
@@ -6,3 +5,5 @@ pub mod Rightness
 pub mod Breaking
 pub mod OneOutcomes
 pub mod Rising
+pub mod Judged
+pub mod Numbered

@@ -19,7 +19,8 @@ use Rattle.registers.specs.Residues.{IsLifeSpan}
 use Rattle.registers.specs.Values.{AreReadInTime, AreValues, greatest_of, landing_of, lives_from, lives_of}
 use Rattle.registers.proofs.lives.Spans.{lives-are_spans}
 use Rattle.solutions.specs.Solutions.{end_at, files_of, last_operation, last_value, lives_at}
-use Rattle.solutions.proofs.Borrowed.{reads-are_in_time, values-are_values}
+use Rattle.problems.proofs.keeping.InTime.{reads-in_time}
+use Rattle.problems.proofs.keeping.Sizes.{values-values}
 
 -- a schedule of the problem
 pub record IsOf (problem : ProblemData) (schedule : ScheduleData) : Type 0 where
@@ -56,12 +57,12 @@ length-times problem schedule is =
 -- the lists are of the sizes that registers takes
 pub are-values : (problem : ProblemData) (schedule : ScheduleData) → IsOf problem schedule
     → AreValues schedule.ii schedule.times (plain_values problem.draft) problem.draft.reads.items
-are-values problem schedule is = values-are_values problem schedule.ii schedule.times is.is_problem is.is_schedule.ii_some is.is_schedule.ii_few
+are-values problem schedule is = values-values problem schedule.ii schedule.times is.is_problem is.is_schedule.ii_some is.is_schedule.ii_few
     (length-times problem schedule is) (times-below schedule is.is_schedule)
 
 pub are-in_time : (problem : ProblemData) (schedule : ScheduleData) → IsOf problem schedule
     → AreReadInTime schedule.ii schedule.times (plain_values problem.draft) problem.draft.reads.items
-are-in_time problem schedule is = reads-are_in_time problem schedule.ii schedule.times is.is_problem
+are-in_time problem schedule is = reads-in_time problem schedule.ii schedule.times is.is_problem
     (subst (λ (p : SchedulingData). All (KeepsEdge schedule.ii schedule.times) p.graph.edges) is.same is.is_schedule.lawful.keeps_edges)
 
 -- the end
@@ -130,3 +131,37 @@ length-lives draft schedule =
 
 pub length-files : (draft : Draft) → length (files_of draft) ≡ length draft.values.items
 length-files draft = length-map draft.values.items _
+
+-- what the calls have to be given
+
+pub values-fit : (problem : ProblemData) (schedule : ScheduleData) (times : List ℕ) (values : List PlainValue) → IsOf problem schedule → times ≡ schedule.times → values ≡ plain_values problem.draft
+    → All (λ (v : PlainValue). (v.maker < length times) × (v.lands ≤ 64)) values
+values-fit problem schedule times values is same_times same_values =
+    subst (λ ts. All (λ (v : PlainValue). (v.maker < length ts) × (v.lands ≤ 64)) values) (sym same_times)
+    (subst (λ (vs : List PlainValue). All (λ (v : PlainValue). (v.maker < length schedule.times) × (v.lands ≤ 64)) vs) (sym same_values)
+    (λ k d lt. let e = (are-values problem schedule is).each_value k d lt in (e.maker, e.lands)))
+
+pub lists-fit : (problem : ProblemData) (schedule : ScheduleData) (ii : ℕ) (times : List ℕ) (values : List PlainValue) (reads : List Read) → IsOf problem schedule
+    → ii ≡ schedule.ii → times ≡ schedule.times → values ≡ plain_values problem.draft → reads ≡ problem.draft.reads.items → AreValues ii times values reads
+lists-fit problem schedule ii times values reads is same_ii same_times same_values same_reads =
+    subst (λ n. AreValues n times values reads) (sym same_ii)
+    (subst (λ ts. AreValues schedule.ii ts values reads) (sym same_times)
+    (subst (λ (vs : List PlainValue). AreValues schedule.ii schedule.times vs reads) (sym same_values)
+    (subst (λ (rs : List Read). AreValues schedule.ii schedule.times (plain_values problem.draft) rs) (sym same_reads) (are-values problem schedule is))))
+
+abbrev end_with : ScheduleData → List ℕ → List PlainValue → ℕ
+end_with schedule times values = max (schedule.ii * stages_of schedule) (max (last_operation schedule) (greatest_of (map (landing_of times) values)))
+
+pub lives-of_parts : (draft : Draft) (schedule : ScheduleData) (ii end : ℕ) (times : List ℕ) (values : List PlainValue) (reads : List Read)
+    → ii ≡ schedule.ii → times ≡ schedule.times → values ≡ plain_values draft → reads ≡ draft.reads.items → end ≡ end_with schedule times values
+    → lives_of ii times end values reads ≡ lives_at draft schedule
+unfolding lives_at
+lives-of_parts draft schedule ii end times values reads same_ii same_times same_values same_reads same_end =
+    ap (λ n. lives_of n times end values reads) same_ii
+    ∙ ap (λ n. lives_of schedule.ii times n values reads) (same_end ∙ ap (λ ts. end_with schedule ts values) same_times ∙ ap (λ (vs : List PlainValue). end_with schedule schedule.times vs) same_values)
+    ∙ ap (λ ts. lives_of schedule.ii ts (end_at draft schedule) values reads) same_times
+    ∙ ap (λ (vs : List PlainValue). lives_of schedule.ii schedule.times (end_at draft schedule) vs reads) same_values
+    ∙ ap (λ (rs : List Read). lives_of schedule.ii schedule.times (end_at draft schedule) (plain_values draft) rs) same_reads
+
+pub length-plain : (draft : Draft) → length (plain_values draft) ≡ length draft.values.items
+length-plain draft = length-map draft.values.items _

@@ -47,6 +47,15 @@ same-list (x ∷ xs) [] long each = absurd (omega arith)
 same-list (x ∷ xs) (y ∷ ys) long each =
     ap (λ z. z ∷ xs) (each 0 (omega arith)) ∙ ap (λ zs. y ∷ zs) (same-list xs ys (omega arith) (λ k lt. each (suc k) (omega arith)))
 
+same-index : (xs ys : List ℕ) (k : ℕ) → slice_get xs k ≡ slice_get ys k → slice_index xs k ≡ slice_index ys k
+same-index [] [] k e = refl
+same-index [] (y ∷ ys) zero e = cc
+same-index [] (y ∷ ys) (suc k) e = same-index [] ys k e
+same-index (x ∷ xs) [] zero e = cc
+same-index (x ∷ xs) [] (suc k) e = same-index xs [] k e
+same-index (x ∷ xs) (y ∷ ys) zero e = cc
+same-index (x ∷ xs) (y ∷ ys) (suc k) e = same-index xs ys k e
+
 -- the least numbers of the values of a draft, at a schedule
 record AreLeastFor (draft : Draft) (schedule : ScheduleData) (numbers : List ℕ) : Type 0 where
   pub numbers_are : AreNumbers draft numbers
@@ -65,6 +74,7 @@ same-numbers draft schedule ns ms is a b = same-list ns ms (a.numbers_are.each �
     of-kind : (k : ℕ) (kind : File) → k < length draft.values.items → slice_get draft.files.items (slice_index (files_of draft) k) ≡ Some kind → slice_index ns k ≡ slice_index ms k
     of-kind k (Rotating registers) there e =
         let files = files_of draft in
+        let l = length-files draft in
         let file = slice_index files k in
         let lives = in_file files file (lives_at draft schedule) in
         let one : in_file files file ns ≡ in_file files file ms
@@ -74,15 +84,6 @@ same-numbers draft schedule ns ms is a b = same-list ns ms (a.numbers_are.each �
             ∙ at_place files file k ms (b.numbers_are.each ∙ sym lf) (omega arith) refl in
         same-index ns ms k at
     of-kind k Unallotted there e = a.numbers_are.zero k there e ∙ sym (b.numbers_are.zero k there e)
-
-    same-index : (xs ys : List ℕ) (k : ℕ) → slice_get xs k ≡ slice_get ys k → slice_index xs k ≡ slice_index ys k
-    same-index [] [] k e = refl
-    same-index [] (y ∷ ys) zero e = cc
-    same-index [] (y ∷ ys) (suc k) e = same-index [] ys k e
-    same-index (x ∷ xs) [] zero e = cc
-    same-index (x ∷ xs) [] (suc k) e = same-index xs [] k e
-    same-index (x ∷ xs) (y ∷ ys) zero e = cc
-    same-index (x ∷ xs) (y ∷ ys) (suc k) e = same-index xs ys k e
 
     each : (k : ℕ) → k < length ns → slice_index ns k ≡ slice_index ms k
     each k lt =

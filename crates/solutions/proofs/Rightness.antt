@@ -220,3 +220,6 @@ lawful-is_run s is =
       lasts = landing-below s.times (plain_values s.problem.draft) (end_of s) (omega arith);
       apart = is-apart s is;
     }
+
+pub given-is_right : (p : ProblemData) (ii : ℕ) (s : SolutionData) → IsProblem p → Gives p ii s → IsLawfulSolution s × IsRun (run_of s)
+given-is_right p ii s is g = let lawful = gives-is_lawful p ii s is g in (lawful, lawful-is_run s lawful)

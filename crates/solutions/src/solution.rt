@@ -46,7 +46,7 @@ impl<'a> Solution<'a> {
         requires lawful { IsLawfulSolution (record { problem = problem.now; ii = schedule.ii; times = schedule.times; choices = schedule.choices; numbers = numbers.items }) }
         requires scheduled { schedule.problem ≡ problem.now.scheduling }
         requires lives { lives.items ≡ lives_at problem.now.draft schedule }
-        ensures { result ≡ record { problem = problem.now; ii = schedule.ii; times = schedule.times; choices = schedule.choices; numbers = numbers.items } }
+        ensures { result ≡ record { problem = problem.now; ii = schedule.entry.ii; times = schedule.entry.times; choices = schedule.entry.choices; numbers = numbers.items } }
     {
         Solution {
             problem,

@@ -87,18 +87,24 @@ fn in_registers<'a>(
     requires scheduled { schedule.problem ≡ problem.now.scheduling }
     requires right { AreRight problem.now.draft schedule.ii numbers.now }
     ensures { IfOk result (λ found. MatchResult found
-        (λ s. s ≡ record { problem = problem.now; ii = schedule.ii; times = schedule.times; choices = schedule.choices; numbers = numbers.now })
-        (MeetsFirst schedule.ii problem.now.draft.files.items (files_of problem.now.draft) (lives_at problem.now.draft schedule) numbers.now)) }
+        (λ s. IsLawfulSolution s × (s ≡ record { problem = problem.now; ii = schedule.entry.ii; times = schedule.entry.times; choices = schedule.entry.choices; numbers = numbers.now }))
+        (MeetsFirst schedule.entry.ii problem.now.draft.files.items (files_of problem.now.draft) (lives_at problem.now.draft schedule.entry) numbers.now)) }
 {
-    let values = plain(alloc, &problem.draft().values)?;
-    let homes = files(alloc, &problem.draft().values)?;
-    let lives = lives_at(alloc, problem, &values, &schedule)?;
-    let kinds = problem.draft().files.as_slice();
-    if let Some(broken) = first_meeting_of(schedule.ii(), kinds, &homes, &lives, numbers) {
-        return Ok(Err(broken));
+    let draft = problem.draft();
+    let kinds = draft.files.as_slice();
+    let ii = schedule.ii();
+    let values = plain(alloc, draft.values.as_slice())?;
+    let homes = files(alloc, draft.values.as_slice())?;
+    let lives = lives_at(alloc, problem, values.as_slice(), &schedule)?;
+    let found = first_meeting_of(ii, kinds, homes.as_slice(), lives.as_slice(), numbers);
+    match found {
+        Some(broken) => Ok(Err(broken)),
+        None => {
+            let numbers = Vec::from_slice(alloc, numbers)?;
+            let solution = Solution::new(problem, schedule, numbers, lives);
+            Ok(Ok(solution))
+        }
     }
-    let numbers = Vec::from_slice(alloc, numbers)?;
-    Ok(Ok(Solution::new(problem, schedule, numbers, lives)))
 }
 
 /// The first two values that meet in a register of the first file that has such values.

@@ -32,11 +32,15 @@ fn first_success<'a>(
 ) -> Result<Outcome<'a>, OutOfMemory>
     requires { trials ≡ problem.now }
     ensures exact { IfOk result (IsSolved problem.now) }
+    ensures right { IfOk result IsRightOutcome }
 {
     let scheduling = problem.scheduling();
+    let mii = scheduling.mii();
+    let ceiling = scheduling.ceiling();
     let mut last = Cause::Table;
-    for above in 0..scheduling.ceiling() + 1 {
-        match trials.try_interval(alloc, scheduling.mii() + above) {
+    for above in 0..ceiling + 1 {
+        let ii = mii + above;
+        match trials.try_interval(alloc, ii) {
             Err(fault) => return Err(fault),
             Ok(Outcome::Met(solution)) => return Ok(Outcome::Met(solution)),
             Ok(Outcome::Failed(cause)) => last = cause,

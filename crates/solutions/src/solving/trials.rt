@@ -1,11 +1,11 @@
 //! Intervals of one problem, tried one after another.
 
-ghost use Rattle.std.specs.Prelude.{◌≡◌, ◌≤◌, length, map, replicate, None, IfOk};
+ghost use Rattle.std.specs.Prelude.{◌≡◌, ◌≤◌, length, replicate, None, IfOk};
 ghost use Rattle.modulo.specs.Problems.{budget_of};
-ghost use Rattle.problems.specs.declared.draft.Value.{Value};
-ghost use Rattle.problems.specs.Problems.{IsProblem};
+ghost use Rattle.problems.specs.Drafts.{plain_values};
 ghost use Rattle.solutions.specs.inner.Trying.{GivesOrFails};
 ghost use Rattle.solutions.specs.Outcomes.{IsPlacedAs, first_of, last_of};
+ghost use Rattle.solutions.specs.Solutions.{files_of};
 
 use crate::solution::Solution;
 use crate::solving::outcome::{Cause, Outcome, cause_of};
@@ -72,22 +72,10 @@ impl<'a> Trials<'a> {
         let attempt = attempt_on(alloc, scheduling, &mut table, budget(scheduling));
         self.table = Some(table);
         match attempt? {
-            Try::Placed(schedule) => self.numbered(alloc, schedule),
+            Try::Placed(schedule) => {
+                numbered(alloc, self.problem, &self.values, &self.files, schedule)
+            }
             Try::Failed(failure) => Ok(Outcome::Failed(cause_of(failure))),
-        }
-    }
-
-    /// The solution of a schedule and the least numbers, where each value has one.
-    fn numbered(&self, alloc: Global, schedule: Schedule<'a>) -> Result<Outcome<'a>, OutOfMemory>
-        requires { IsPlacedAs self.now schedule.ii schedule }
-        ensures { IfOk result (GivesOrFails self.now schedule.ii) }
-    {
-        let lives = lives_at(alloc, self.problem, &self.values, &schedule)?;
-        let mut numbers = vec![in alloc; 0; lives.len()]?;
-        let kinds = self.problem.draft().files.as_slice();
-        match fill_numbers(alloc, schedule.ii(), kinds, &self.files, &lives, &mut numbers)? {
-            Some((file, value)) => Ok(Outcome::Failed(Cause::Registers(file, value))),
-            None => Ok(Outcome::Met(Solution::new(self.problem, schedule, numbers, lives))),
         }
     }
 
@@ -104,6 +92,35 @@ impl<'a> Trials<'a> {
         match self.table.take() {
             Some(table) => table.at(ii),
             None => DefaultTable::make(alloc, self.problem.scheduling().alternatives(), ii),
+        }
+    }
+}
+
+/// The solution of a schedule and the least numbers, where each value has one. `values` are those of the problem, as registers
+/// take them, and `files` has the file of each.
+fn numbered<'a>(
+    alloc: Global,
+    problem: &'a Problem,
+    values: &[registers::Value],
+    files: &[usize],
+    schedule: Schedule<'a>,
+) -> Result<Outcome<'a>, OutOfMemory>
+    requires placed { IsPlacedAs problem.now schedule.ii schedule }
+    requires values { values.now ≡ plain_values problem.now.draft }
+    requires files { files.now ≡ files_of problem.now.draft }
+    ensures { IfOk result (GivesOrFails problem.now schedule.entry.ii) }
+{
+    let draft = problem.draft();
+    let kinds = draft.files.as_slice();
+    let ii = schedule.ii();
+    let lives = lives_at(alloc, problem, values, &schedule)?;
+    let mut numbers = vec![in alloc; 0; values.len()]?;
+    let found = fill_numbers(alloc, ii, kinds, files, lives.as_slice(), numbers.as_mut_slice())?;
+    match found {
+        Some((file, value)) => Ok(Outcome::Failed(Cause::Registers(file, value))),
+        None => {
+            let solution = Solution::new(problem, schedule, numbers, lives);
+            Ok(Outcome::Met(solution))
         }
     }
 }

@@ -6,7 +6,6 @@ ghost use Rattle.modulo.specs.Schedules.{stages_of};
 ghost use Rattle.problems.specs.declared.draft.Value.{Value};
 ghost use Rattle.problems.specs.Drafts.{plain_values};
 ghost use Rattle.registers.specs.declared.value.Value.{Value as PlainValue};
-ghost use Rattle.registers.specs.Residues.{IsLifeSpan};
 ghost use Rattle.registers.specs.Values.{greatest_of, landing_of};
 ghost use Rattle.solutions.specs.Solutions.{last_operation, lives_at};
 
@@ -47,10 +46,18 @@ fn fill_times(schedule: &Schedule, times: &mut [u64])
     }
 }
 
+/// The issue time of each operation in iteration 0.
+fn times_of(alloc: Global, schedule: &Schedule) -> Result<Vec<u64>, OutOfMemory>
+    ensures { IfOk result (λ times. times.items ≡ schedule.now.times) }
+{
+    let mut times = vec![in alloc; 0; schedule.problem().operations()]?;
+    fill_times(schedule, &mut times);
+    Ok(times)
+}
+
 /// The cycle in which the last operation of iteration 0 has landed.
 fn last_operation(schedule: &Schedule) -> u64
-    ensures value { result ≡ last_operation schedule.now }
-    ensures few { result ≤ 1048640 }
+    ensures { result ≡ last_operation schedule.now }
 {
     let edges = schedule.problem().edges();
     let mut greatest = 0;
@@ -64,8 +71,7 @@ fn last_operation(schedule: &Schedule) -> u64
 fn last_value(times: &[u64], values: &[registers::Value]) -> u64
     requires times { All (λ time. time ≤ 1048576) times.now }
     requires values { All (λ (value : PlainValue). (value.maker < length times.now) × (value.lands ≤ 64)) values.now }
-    ensures value { result ≡ greatest_of (map (landing_of times.now) values.now) }
-    ensures few { result ≤ 1048640 }
+    ensures { result ≡ greatest_of (map (landing_of times.now) values.now) }
 {
     let mut greatest = 0;
     for value in values {
@@ -78,13 +84,34 @@ fn last_value(times: &[u64], values: &[registers::Value]) -> u64
 fn end_at(schedule: &Schedule, times: &[u64], values: &[registers::Value]) -> u64
     requires times { times.now ≡ schedule.now.times }
     requires values { All (λ (value : PlainValue). (value.maker < length times.now) × (value.lands ≤ 64)) values.now }
-    ensures value { result ≡ max (schedule.now.ii * stages_of schedule.now) (max (last_operation schedule.now) (greatest_of (map (landing_of times.now) values.now))) }
-    ensures few { result ≤ 1048640 }
+    ensures { result ≡ max (schedule.now.ii * stages_of schedule.now) (max (last_operation schedule.now) (greatest_of (map (landing_of times.now) values.now))) }
 {
     let stages = schedule.ii() * schedule.stages();
     stages
         .max(last_operation(schedule))
         .max(last_value(times, values))
+}
+
+/// Writes when each value lives in iteration 0. `times` has the issue time of each operation, and `values` are those of the
+/// problem, as registers take them.
+fn fill_lives_at(
+    problem: &Problem,
+    schedule: &Schedule,
+    times: &[u64],
+    values: &[registers::Value],
+    lives: &mut [Lifetime],
+)
+    requires scheduled { schedule.now.problem ≡ problem.now.scheduling }
+    requires times { times.now ≡ schedule.now.times }
+    requires values { values.now ≡ plain_values problem.now.draft }
+    requires room { length lives.old ≡ length values.now }
+    ensures { lives.new ≡ lives_at problem.now.draft schedule.now }
+{
+    let ii = schedule.ii();
+    let draft = problem.draft();
+    let reads = draft.reads.as_slice();
+    let end = end_at(schedule, times, values);
+    fill_lives(ii, times, end, values, reads, lives);
 }
 
 /// When each value lives in iteration 0, in cycles. `values` are those of the problem, as registers take them.
@@ -96,16 +123,10 @@ pub(crate) fn lives_at(
 ) -> Result<Vec<Lifetime>, OutOfMemory>
     requires scheduled { schedule.now.problem ≡ problem.now.scheduling }
     requires values { values.now ≡ plain_values problem.now.draft }
-    ensures exact { IfOk result (λ lives. lives.items ≡ lives_at problem.now.draft schedule.now) }
-    ensures spans { IfOk result (λ lives. All IsLifeSpan lives.items) }
-    ensures each { IfOk result (λ lives. length lives.items ≡ length problem.now.draft.values.items) }
-    ensures few { IfOk result (λ lives. length lives.items ≤ 256) }
+    ensures { IfOk result (λ lives. lives.items ≡ lives_at problem.now.draft schedule.now) }
 {
-    let mut times = vec![in alloc; 0; schedule.problem().operations()]?;
-    fill_times(schedule, &mut times);
-    let end = end_at(schedule, &times, values);
+    let times = times_of(alloc, schedule)?;
     let mut lives = vec![in alloc; Lifetime::default(); values.len()]?;
-    let reads = problem.draft().reads.as_slice();
-    fill_lives(schedule.ii(), &times, end, values, reads, &mut lives);
+    fill_lives_at(problem, schedule, &times, values, &mut lives);
     Ok(lives)
 }
