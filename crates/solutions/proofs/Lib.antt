@@ -7,3 +7,4 @@ pub mod OneOutcomes
 pub mod Rising
 pub mod Judged
 pub mod Numbered
+pub mod Copying

@@ -1,5 +1,5 @@
 -- How many instances of values live at once.
-use Rattle.std.specs.Prelude.{ℕ, ◌+◌, ◌-◌, ◌/◌, ◌==◌, max, Bool, true, false, List, length, map, filter, Option, Some, None, slice_get}
+use Rattle.std.specs.Prelude.{ℕ, ◌+◌, ◌-◌, ◌/◌, max, Bool, true, false, List, length, map, filter, Option, Some, None, slice_get}
 use Rattle.std.specs.List.{range_with_len, zip}
 use Rattle.problems.specs.declared.draft.File.{File}
 use Rattle.problems.specs.declared.draft.File.TheVariants.{Rotating, Unallotted}
@@ -24,13 +24,12 @@ is_unallotted None = false
 is_unallotted (Some (Rotating registers)) = false
 is_unallotted (Some Unallotted) = true
 
--- when the values of unallotted files live
-abbrev pub unallotted_lives : SolutionData → List Lifetime
-unallotted_lives s =
-    map (λ (p : ℕ × Lifetime). p.1) (filter (λ (p : ℕ × Lifetime). is_unallotted (slice_get s.problem.draft.files.items p.0))
-    (zip (files_of s.problem.draft) (lives_of_solution s)))
+-- when the values of unallotted files live, where each value's file is told
+abbrev pub unallotted_in : List File → List ℕ → List Lifetime → List Lifetime
+unallotted_in kinds files lives =
+    map (λ (p : ℕ × Lifetime). p.1) (filter (λ (p : ℕ × Lifetime). is_unallotted (slice_get kinds p.0)) (zip files lives))
 
 -- how often the body of a loop is repeated so that each instance that lives has a name of its own: the most copies of a value of an
 -- unallotted file, and 1 where there is none
 abbrev pub unroll_of : SolutionData → ℕ
-unroll_of s = max 1 (greatest_of (map (copies_of s.ii) (unallotted_lives s)))
+unroll_of s = max 1 (greatest_of (map (copies_of s.ii) (unallotted_in s.problem.draft.files.items (files_of s.problem.draft) (lives_of_solution s))))

@@ -121,4 +121,12 @@ impl<'a> Solution<'a> {
     {
         self.lives[value]
     }
+
+    /// When each value lives in iteration 0, in cycles.
+    pub(crate) fn lives(&self) -> &[Lifetime]
+        ensures value { result.now ≡ lives_of_solution self.now }
+        ensures well_formed { IsLawfulSolution self.now }
+    {
+        self.lives.as_slice()
+    }
 }
