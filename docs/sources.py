@@ -82,9 +82,10 @@ class Sources:
         self.types, self.clauses, self.paths, self.lost = {}, [], {}, set()
         self.crates = set(os.listdir(root))
         for crate in sorted(self.crates):
-            for path in files(f"{root}/{crate}/src", ".rt"):
-                if not re.search(r"/tests(\.rt|/)", path):
-                    self.read_code(crate, path)
+            # (a type's functions may stand in another file than the type)
+            code = [self.read_code(crate, it) for it in files(f"{root}/{crate}/src", ".rt") if not re.search(r"/tests(\.rt|/)", it)]
+            for it in code:
+                self.read_contracts(*it)
             for path in files(f"{root}/{crate}/specs", ".antt"):
                 self.read_specs(crate, path)
 
@@ -130,7 +131,7 @@ class Sources:
         plain = "\n".join(re.sub(r'"(?:\\.|[^"\\])*"', '""', re.sub(r"(^|\s)//.*", r"\1", it)) for it in lines)
         self.read_types(crate, module, path, lines, plain)
         self.read_models(module, plain)
-        self.read_contracts(crate, module, path, plain)
+        return crate, module, path, plain
 
     def read_types(self, crate, module, path, lines, plain):
         for number, line in enumerate(plain.split("\n"), 1):

@@ -143,6 +143,15 @@ fn numbers_of(alloc: Global, solution: &Solution) -> Result<Vec<usize>, OutOfMem
     Ok(numbers)
 }
 
+/// How many instances of each value live at once.
+fn copies_of(alloc: Global, solution: &Solution) -> Result<Vec<u64>, OutOfMemory> {
+    let mut copies = Vec::new(alloc);
+    for value in 0..solution.problem().draft().values.len() {
+        copies.push(solution.copies(value))?;
+    }
+    Ok(copies)
+}
+
 /// What a problem is to come to.
 #[derive(Clone, Copy)]
 struct Expected<'a> {

@@ -4,7 +4,7 @@
 //! the reader needs it `offset` cycles after its own. Instance `i` of a value with the number `n` stands in the register `n - i`, modulo the registers of its file. Operations are placed
 //! by falling height, each at the first free slot from the earliest time that those placed before it allow.
 
-use super::{Expected, Lists, kind, problem_of, solves};
+use super::{Expected, Lists, copies_of, kind, numbers_of, problem_of, solves};
 use machine_data::OutOfMemory;
 use problems::{File, Kind, Problem};
 use solutions::{Cause, Outcome, solve};
@@ -65,6 +65,32 @@ fn fir(rt: HostRuntime) -> Result<(), Fail> {
         numbers: &[0, 1, 0, 1, 1, 3],
     };
     solves(&rt, alloc, &problem, &expected)
+}
+
+/// The same, with values that are allotted to no registers: the second sum lives for five cycles, so three of its instances live at
+/// once at an interval of 2, and a kernel without rotating registers has to be unrolled three times. In the even cycles the second pair and three
+/// sums live, in the odd ones the first pair, the first sum and two second ones: five.
+#[test]
+fn fir_without_registers(rt: HostRuntime) -> Result<(), Fail> {
+    let alloc = rt.alloc();
+    let lists = Lists {
+        files: &[File::Unallotted],
+        ..FIR
+    };
+    let problem = problem_of(alloc, fir_kinds(alloc)?, &lists, 20)?;
+    let Outcome::Met(solution) = solve(alloc, &problem)? else {
+        panic!(rt; "no interval is found");
+    };
+    assert_eq!(rt; solution.ii(), 2);
+    assert_eq!(rt; numbers_of(alloc, &solution)?.as_slice(), [0; 6].as_slice());
+    assert_eq!(rt;
+        copies_of(alloc, &solution)?.as_slice(),
+        [1, 1, 1, 1, 1, 3].as_slice()
+    );
+    assert_eq!(rt; solution.unroll(), 3);
+    assert_eq!(rt; solution.problem().draft().files.len(), 1);
+    assert_eq!(rt; solution.max_live(0), 5);
+    Ok(())
 }
 
 /// A second-order filter (transposed form) with saturating adds. Values, by their makers: the sample, b0 x, the result, b1 x, a1 y, a partial sum, the first state, b2 x, a2 y,
