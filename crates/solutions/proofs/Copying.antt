@@ -1,18 +1,23 @@
 -- How many instances live at once.
-use Rattle.std.proofs.Common.{◌≡◌, ℕ, ◌+◌, ◌<◌, max, true, false, List, [], ◌∷◌, ◌++◌, length, get_or, map, drop, Some, refl, sym, ap, ◌∙◌, arith}
+use Rattle.std.proofs.Common.{◌≡◌, ℕ, ◌+◌, ◌<◌, max, true, false, List, [], ◌∷◌, ◌++◌, length, get_or, map, take, drop, Some, refl, sym, ap, ◌∙◌, arith}
 use Rattle.std.specs.Prelude.{slice_get, slice_index}
-use Rattle.std.specs.List.{range_with_len}
-use Rattle.std.proofs.lemmas.List.{drop_more}
+use Rattle.std.specs.List.{All, range_with_len}
+use Rattle.std.proofs.lemmas.List.{drop_more, length-map}
 use Rattle.std.proofs.lemmas.List.FromFn.{map-range_with_len_more}
+use Rattle.problems.specs.declared.draft.Draft.{Draft}
 use Rattle.problems.specs.declared.draft.File.{File}
+use Rattle.problems.specs.declared.draft.Value.{Value}
+use Rattle.problems.specs.Problems.{ProblemData}
 use Rattle.registers.specs.declared.lifetime.Lifetime.{Lifetime}
+use Rattle.registers.specs.Crowds.{crowd_in}
 use Rattle.registers.specs.Residues.{IsLifeSpan}
 use Rattle.registers.specs.Values.{greatest_of}
-use Rattle.solutions.specs.Copies.{copies_of, is_unallotted, unallotted_in}
-use Rattle.solutions.specs.Solutions.{SolutionData, IsLawfulSolution, lives_of_solution, schedule_of}
-use Rattle.solutions.proofs.Lives.{are-spans}
+use Rattle.registers.proofs.allotted.Filled.{take-front}
+use Rattle.solutions.specs.Copies.{copies_of, is_unallotted, max_live_of, unallotted_in}
+use Rattle.solutions.specs.Files.{in_file}
+use Rattle.solutions.specs.Solutions.{SolutionData, IsLawfulSolution, files_of, lives_of_solution, schedule_of}
+use Rattle.solutions.proofs.Lives.{are-spans, length-files, length-lives}
 use Rattle.solutions.proofs.Rightness.{at-place}
-use Rattle.std.specs.List.{All}
 
 pub spans-of : (s : SolutionData) → IsLawfulSolution s → All IsLifeSpan (lives_of_solution s)
 spans-of s is = are-spans s.problem (schedule_of s) (record { is_problem = is.is_problem; is_schedule = is.is_schedule; same = refl })
@@ -57,3 +62,24 @@ pub unroll-no : (ii : ℕ) (kinds : List File) (files : List ℕ) (lives : List 
     → max greatest (greatest_of (map (copies_of ii) (unallotted_in kinds (drop (k + 1) files) (drop (k + 1) lives)))) ≡ all
 unroll-no ii kinds files lives k d greatest all lt long miss before =
     ap (λ (ls : List Lifetime). max greatest (greatest_of (map (copies_of ii) ls))) (sym (drop-no kinds files lives k d lt long miss)) ∙ before
+
+-- the file of each value, as it is read off
+
+pub read-files : (problem : ProblemData) (draft : Draft) (read : ProblemData) (values : List Value) (files : List ℕ) → read ≡ problem → draft ≡ read.draft → values ≡ draft.values.items
+    → files ≡ map (λ (v : Value). v.file) values → files ≡ files_of problem.draft
+read-files problem draft read values files a b c d =
+    d ∙ ap (map (λ (v : Value). v.file)) (c ∙ ap (λ (x : Draft). x.values.items) (b ∙ ap (λ (p : ProblemData). p.draft) a))
+
+pub front-is : (files rest : List ℕ) (values : List Value) → files ≡ map (λ (v : Value). v.file) values → take (length values) (files ++ rest) ≡ files
+front-is files rest values is = take-front files rest (length values) (sym (ap length is ∙ length-map values _))
+
+pub as-many : (s : SolutionData) (files : List ℕ) (lives : List Lifetime) → files ≡ files_of s.problem.draft → lives ≡ lives_of_solution s → length lives ≡ length files
+as-many s files lives a b = ap length b ∙ length-lives s.problem.draft (schedule_of s) ∙ sym (length-files s.problem.draft) ∙ ap length (sym a)
+
+abbrev crowds : ℕ → List ℕ → ℕ → List Lifetime → ℕ
+crowds ii files file lives = greatest_of (map (λ row. crowd_in ii row (in_file files file lives) (length (in_file files file lives))) (range_with_len 0 ii))
+
+pub max_live-is : (s : SolutionData) (ii : ℕ) (files : List ℕ) (file : ℕ) (lives : List Lifetime) → ii ≡ s.ii → files ≡ files_of s.problem.draft → lives ≡ lives_of_solution s
+    → greatest_of (map (λ row. crowd_in ii row (in_file files file lives) (length (in_file files file lives))) (range_with_len 0 ii)) ≡ max_live_of s file
+max_live-is s ii files file lives a b c =
+    ap (λ n. crowds n files file lives) a ∙ ap (λ fs. crowds s.ii fs file lives) b ∙ ap (λ (ls : List Lifetime). crowds s.ii (files_of s.problem.draft) file ls) c

@@ -1,8 +1,7 @@
 -- Numbers that are written file by file.
-use Rattle.std.proofs.Common.{◌≡◌, ◌≢◌, ◌⊎◌, ℕ, ◌+◌, ◌<◌, ◌≤◌, List, length, get_or, Some, refl, sym, ap, ◌∙◌, subst, inl, inr, arith}
+use Rattle.std.proofs.Common.{◌≡◌, ◌≢◌, ◌⊎◌, ℕ, ◌+◌, ◌<◌, ◌≤◌, List, length, get_or, Some, sym, ap, ◌∙◌, subst, inl, inr, arith}
 use Rattle.std.specs.Prelude.{◌==◌, count_by, slice_get, slice_index}
-use Rattle.std.specs.List.{All}
-use Rattle.std.proofs.lemmas.Bool.{cases_eq, cases_lt}
+use Rattle.std.proofs.lemmas.Bool.{cases_eq}
 use Rattle.std.proofs.lemmas.Option.{slice_get-get_or}
 use Rattle.problems.specs.declared.draft.File.{File}
 use Rattle.problems.specs.declared.draft.File.TheVariants.{Rotating, Unallotted}
@@ -10,8 +9,8 @@ use Rattle.registers.specs.declared.lifetime.Lifetime.{Lifetime}
 use Rattle.registers.specs.Allotments.{AreLeast}
 use Rattle.registers.specs.Numberless.{HasNoneAt}
 use Rattle.registers.proofs.allotted.Least.{place-within}
-use Rattle.solutions.specs.Files.{in_file, place_in}
-use Rattle.solutions.specs.inner.Filling.{AreFilled, IsFilled, IsLeftOut, Lacks, LacksFirst}
+use Rattle.solutions.specs.Files.{in_file}
+use Rattle.solutions.specs.inner.Filling.{AreFilled, IsFilled, Lacks, LacksFirst}
 use Rattle.solutions.proofs.Filing.{same_in_file, length-in_file}
 
 -- the numbers of the first so many files are the least ones

@@ -9,16 +9,14 @@ use Rattle.modulo.specs.Problems.{ProblemData as SchedulingData}
 use Rattle.modulo.specs.Schedules.{ScheduleData, IsSchedule, stages_of}
 use Rattle.modulo.proofs.lawfulness.Stages.{stages-are_few}
 use Rattle.problems.specs.declared.draft.Draft.{Draft}
-use Rattle.problems.specs.declared.draft.Value.{Value}
 use Rattle.problems.specs.Drafts.{plain_values}
 use Rattle.problems.specs.Problems.{ProblemData, IsProblem}
-use Rattle.registers.specs.declared.lifetime.Lifetime.{Lifetime}
 use Rattle.registers.specs.declared.value.Value.{Value as PlainValue}
 use Rattle.registers.specs.declared.value.Read.{Read}
 use Rattle.registers.specs.Residues.{IsLifeSpan}
 use Rattle.registers.specs.Values.{AreReadInTime, AreValues, greatest_of, landing_of, lives_from, lives_of}
 use Rattle.registers.proofs.lives.Spans.{lives-are_spans}
-use Rattle.solutions.specs.Solutions.{end_at, files_of, last_operation, last_value, lives_at}
+use Rattle.solutions.specs.Solutions.{end_at, files_of, last_operation, lives_at}
 use Rattle.problems.proofs.keeping.InTime.{reads-in_time}
 use Rattle.problems.proofs.keeping.Sizes.{values-values}
 

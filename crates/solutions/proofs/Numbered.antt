@@ -1,5 +1,5 @@
 -- The numbers that are written give a solution, or a cause.
-use Rattle.std.proofs.Common.{◌≡◌, ℕ, List, length, Option, Some, refl, sym, ap, ◌∙◌, subst, arith}
+use Rattle.std.proofs.Common.{◌≡◌, ℕ, List, length, Option, Some, refl, sym, ap, subst, arith}
 use Rattle.std.specs.Prelude.{slice_get, slice_index}
 use Rattle.modulo.specs.Schedules.{ScheduleData, IsSchedule}
 use Rattle.problems.specs.declared.draft.File.{File}

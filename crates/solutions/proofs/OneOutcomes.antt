@@ -1,5 +1,5 @@
 -- A problem has one outcome.
-use Rattle.std.proofs.Common.{◌≡◌, ℕ, suc, zero, ◌<◌, ◌≤◌, List, [], ◌∷◌, ◌++◌, length, take, Some, refl, sym, ap, ◌∙◌, subst, inl, inr, arith}
+use Rattle.std.proofs.Common.{◌≡◌, ℕ, suc, zero, ◌<◌, List, [], ◌∷◌, ◌++◌, length, take, Some, refl, sym, ap, ◌∙◌, subst, inl, inr, arith}
 use Rattle.std.specs.Prelude.{slice_get, slice_index}
 use Rattle.std.proofs.lemmas.Bool.{cases_order}
 use Rattle.modulo.specs.declared.outcome.attempts.Failure.TheVariants as failure
@@ -15,7 +15,7 @@ use Rattle.problems.specs.declared.draft.File.TheVariants.{Rotating, Unallotted}
 use Rattle.problems.specs.Drafts.{IsWellFormed}
 use Rattle.problems.specs.Problems.{ProblemData, IsProblem}
 use Rattle.registers.specs.declared.lifetime.Lifetime.{Lifetime}
-use Rattle.registers.specs.Allotments.{AreLeast, HaveNone, IsLawfulAllotment}
+use Rattle.registers.specs.Allotments.{AreLeast, IsLawfulAllotment}
 use Rattle.registers.specs.Numberless.{HasNoneAt}
 use Rattle.registers.proofs.allotted.Filled.{none-of}
 use Rattle.registers.proofs.allotted.Least.{least-is_one, least-or_none, take-twice}
@@ -81,7 +81,7 @@ same-numbers draft schedule ns ms is a b = same-list ns ms (a.numbers_are.each �
         = least-is_one schedule.ii registers lives (in_file files file ns) (in_file files file ms) (a.files file registers e) (b.files file registers e) in
         let at : slice_get ns k ≡ slice_get ms k
         = sym (at_place files file k ns (a.numbers_are.each ∙ sym lf) (omega arith) refl) ∙ ap (λ xs. slice_get xs (place_in files file k)) one
-            ∙ at_place files file k ms (b.numbers_are.each ∙ sym lf) (omega arith) refl in
+        ∙ at_place files file k ms (b.numbers_are.each ∙ sym lf) (omega arith) refl in
         same-index ns ms k at
     of-kind k Unallotted there e = a.numbers_are.zero k there e ∙ sym (b.numbers_are.zero k there e)
 

@@ -1,5 +1,5 @@
 -- What is found is lawful, and lawful solutions are runs.
-use Rattle.std.proofs.Common.{◌≡◌, ℕ, ℤ, suc, zero, ◌+◌, ◌<◌, ◌≤◌, max, List, [], ◌∷◌, length, get_or, map, zip, Option, Some, None, refl, sym, ap, ◌∙◌, subst, inl, inr, ◌⊎◌, arith}
+use Rattle.std.proofs.Common.{◌≡◌, ℕ, ℤ, suc, zero, ◌<◌, ◌≤◌, List, [], ◌∷◌, length, get_or, map, zip, Option, Some, None, refl, sym, ap, ◌∙◌, subst, inl, inr, ◌⊎◌, arith}
 use Rattle.std.specs.Prelude.{slice_get, slice_index}
 use Rattle.std.specs.List.{All, slice_index_or}
 use Rattle.std.proofs.lemmas.List.{length-map}
@@ -16,7 +16,7 @@ use Rattle.registers.specs.declared.lifetime.Lifetime.{Lifetime}
 use Rattle.registers.specs.declared.value.Value.{Value as PlainValue}
 use Rattle.registers.specs.Lifetimes.{IsLiveIn}
 use Rattle.registers.specs.Physical.{physical}
-use Rattle.registers.specs.Values.{greatest_of, landing_of, lives_of}
+use Rattle.registers.specs.Values.{greatest_of, landing_of}
 use Rattle.registers.proofs.allotted.Least.{least-is_lawful}
 use Rattle.solutions.specs.Files.{in_file, place_in as place}
 use Rattle.solutions.specs.Outcomes.{Gives}

@@ -1,5 +1,5 @@
 -- A problem's intervals in turn.
-use Rattle.std.proofs.Common.{◌≡◌, ℕ, ◌+◌, ◌≤◌, sym, ◌∙◌, subst, arith}
+use Rattle.std.proofs.Common.{◌≡◌, ℕ, ◌+◌, ◌≤◌, sym, subst, arith}
 use Rattle.settings.specs.Searches.{IsLeastGiven, IsNoneGiven}
 use Rattle.settings.proofs.Searches as search
 use Rattle.problems.specs.Problems.{ProblemData, IsProblem}

@@ -1,5 +1,5 @@
 -- What a problem gives: its least interval that has a solution.
-use Rattle.std.specs.Prelude.{◌≡◌, ℕ, ◌+◌, ◌<◌, ◌≤◌, List, length, Some, slice_get, slice_index}
+use Rattle.std.specs.Prelude.{◌≡◌, ℕ, ◌+◌, ◌<◌, List, length, Some, slice_get, slice_index}
 use Rattle.modulo.specs.declared.outcome.attempts.Failure.{Failure}
 use Rattle.modulo.specs.declared.outcome.attempts.Failure.TheVariants as failure
 use Rattle.modulo.specs.declared.outcome.attempts.Try.TheVariants as try

@@ -1,5 +1,5 @@
 -- The run of a solution.
-use Rattle.std.specs.Prelude.{ℕ, List, map, Option, Some, None, slice_get}
+use Rattle.std.specs.Prelude.{ℕ, map, Option, Some, None, slice_get}
 use Rattle.std.specs.List.{zip}
 use Rattle.instances.specs.Runs.{Home, Rotates, RunData, IsRun}
 use Rattle.instances.specs.Runs as runs

@@ -9,9 +9,7 @@ mod solving;
 mod values;
 
 pub use judging::broken::Broken;
-pub use laws::{
-    broken_is_unlawful, gives_is_lawful, lawful_solutions_are_runs, one_outcome,
-};
+pub use laws::{broken_is_unlawful, gives_is_lawful, lawful_solutions_are_runs, one_outcome};
 pub use solution::Solution;
 pub use solving::outcome::{Cause, Outcome};
 pub use solving::solve::solve;

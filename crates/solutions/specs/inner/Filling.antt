@@ -1,10 +1,9 @@
 -- Numbers of values, written file by file.
-use Rattle.std.specs.Prelude.{◌≡◌, ℕ, ◌<◌, List, length, Option, Some, None, slice_get, slice_index}
+use Rattle.std.specs.Prelude.{◌≡◌, ℕ, ◌<◌, List, length, Some, slice_get, slice_index}
 use Rattle.problems.specs.declared.draft.File.{File}
 use Rattle.problems.specs.declared.draft.File.TheVariants.{Rotating, Unallotted}
 use Rattle.registers.specs.declared.lifetime.Lifetime.{Lifetime}
-use Rattle.registers.specs.Allotments.{AreLeast, IsLawfulAllotment}
-use Rattle.registers.specs.Meetings.{IsFirstMeeting}
+use Rattle.registers.specs.Allotments.{AreLeast}
 use Rattle.registers.specs.Numberless.{HasNoneAt}
 use Rattle.solutions.specs.Files.{in_file, place_in}
 

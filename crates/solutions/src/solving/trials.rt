@@ -61,7 +61,11 @@ impl<'a> Trials<'a> {
     }
 
     /// What the problem gives at an interval.
-    pub(crate) fn try_interval(&mut self, alloc: Global, ii: u64) -> Result<Outcome<'a>, OutOfMemory>
+    pub(crate) fn try_interval(
+        &mut self,
+        alloc: Global,
+        ii: u64,
+    ) -> Result<Outcome<'a>, OutOfMemory>
         requires from_first { first_of self.old ≤ ii }
         requires to_last { ii ≤ last_of self.old }
         ensures same { self.new ≡ self.old }
@@ -115,7 +119,14 @@ fn numbered<'a>(
     let ii = schedule.ii();
     let lives = lives_at(alloc, problem, values, &schedule)?;
     let mut numbers = vec![in alloc; 0; values.len()]?;
-    let found = fill_numbers(alloc, ii, kinds, files, lives.as_slice(), numbers.as_mut_slice())?;
+    let found = fill_numbers(
+        alloc,
+        ii,
+        kinds,
+        files,
+        lives.as_slice(),
+        numbers.as_mut_slice(),
+    )?;
     match found {
         Some((file, value)) => Ok(Outcome::Failed(Cause::Registers(file, value))),
         None => {

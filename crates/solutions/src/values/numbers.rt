@@ -45,13 +45,7 @@ fn fill_file(
     let mut held = [Lifetime::default(); MAX_VALUES];
     let mut least = [0; MAX_VALUES];
     let count = gather(files, file, lives, &mut held);
-    match fill_least(
-        alloc,
-        ii,
-        registers,
-        &held[..count],
-        &mut least[..count],
-    )? {
+    match fill_least(alloc, ii, registers, &held[..count], &mut least[..count])? {
         Some(place) => Ok(Some(value_at(files, file, place))),
         None => {
             spread(files, file, &least[..count], numbers);

@@ -1,13 +1,12 @@
-use Rattle.std.proofs.Common.{◌≡◌, ℕ, List, length, map, sym, ap, ◌∙◌, subst, arith}
+use Rattle.std.proofs.Common.{◌≡◌, List, length, map, sym, ap, ◌∙◌, subst, arith}
 use Rattle.std.specs.Prelude.{slice_get, slice_index}
 use Rattle.std.specs.List.{All}
 use Rattle.problems.specs.declared.draft.Draft.{Draft}
 use Rattle.problems.specs.declared.draft.File.{File}
 use Rattle.problems.specs.declared.draft.Value.{Value}
-use Rattle.registers.specs.declared.lifetime.Lifetime.{Lifetime}
 use Rattle.registers.specs.Residues.{IsLifeSpan}
 use Rattle.solutions.specs.inner.Judging.{AreApart, MeetsFirst}
-use Rattle.solutions.specs.Solutions.{SolutionData, IsLawfulSolution, IsNumberIn, files_of, lives_at}
+use Rattle.solutions.specs.Solutions.{IsLawfulSolution, IsNumberIn, files_of, lives_at}
 use Rattle.solutions.proofs.Lives.{IsOf, are-spans, length-files, length-lives}
 use Rattle.solutions.proofs.Numbered.{lawful-from, moved, solution_of}
 use Rattle.solutions.proofs.judging.check.in_registers.Goals as goal

@@ -1,8 +1,7 @@
-use Rattle.std.proofs.Common.{◌≡◌, ◌<◌, ℕ, List, Some, length, take, refl, sym, ap, ◌∙◌, subst, arith}
+use Rattle.std.proofs.Common.{◌≡◌, ◌<◌, List, Some, length, take, refl, sym, ap, ◌∙◌, subst, arith}
 use Rattle.std.specs.Prelude.{slice_index}
 use Rattle.std.specs.List.{All}
 use Rattle.problems.specs.declared.draft.File.{File}
-use Rattle.problems.specs.declared.draft.File.TheVariants.{Rotating}
 use Rattle.registers.specs.declared.lifetime.Lifetime.{Lifetime}
 use Rattle.registers.specs.Meetings.{IsFirstMeeting}
 use Rattle.registers.specs.Residues.{IsLifeSpan}

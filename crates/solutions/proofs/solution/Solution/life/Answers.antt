@@ -1,7 +1,7 @@
 use Rattle.std.proofs.Common.{◌≡◌, ◌<◌, length, Some, rules, refl, sym, ap, ◌∙◌, subst, arith}
 use Rattle.std.specs.Prelude.{slice_get}
 use Rattle.std.proofs.lemmas.Option.{slice_get_read}
-use Rattle.solutions.specs.Solutions.{SolutionData, lives_of_solution, schedule_of}
+use Rattle.solutions.specs.Solutions.{SolutionData, lives_of_solution}
 use Rattle.solutions.proofs.Lives.{length-lives}
 use Rattle.solutions.proofs.solution.Solution.life.Goals as goal
 

@@ -1,13 +1,11 @@
-use Rattle.std.proofs.Common.{◌≡◌, ◌++◌, ℕ, List, length, take, drop, sym, ap, ◌∙◌, subst, arith}
+use Rattle.std.proofs.Common.{◌≡◌, length, drop, sym, ap, ◌∙◌, subst, arith}
 use Rattle.std.specs.List.{All}
 use Rattle.problems.specs.declared.draft.Draft.{Draft}
-use Rattle.problems.specs.declared.draft.File.{File}
-use Rattle.registers.specs.declared.lifetime.Lifetime.{Lifetime}
 use Rattle.registers.specs.Residues.{IsLifeSpan}
 use Rattle.registers.proofs.allotted.Filled.{take-front}
 use Rattle.solutions.specs.inner.Filling.{AreFilled, LacksFirst}
 use Rattle.solutions.specs.Outcomes.{Gives}
-use Rattle.solutions.specs.Solutions.{SolutionData, IsLawfulSolution, files_of, lives_at}
+use Rattle.solutions.specs.Solutions.{IsLawfulSolution, files_of, lives_at}
 use Rattle.solutions.proofs.Lives.{IsOf, are-spans, length-files, length-lives, length-plain}
 use Rattle.solutions.proofs.Numbered.{gives-from, lacks-from, moved, solution_of}
 use Rattle.solutions.proofs.Rightness.{gives-is_lawful}

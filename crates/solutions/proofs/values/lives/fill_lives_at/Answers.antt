@@ -19,7 +19,7 @@ fill_lives-requires-clause-values c =
 pub returns : goal.returns
 returns c =
     let same = lives-of_parts c.args.problem.now.draft c.args.schedule.now c.ii-ii.result c.end_at-end.result c.args.times.now c.args.values.now c.as_slice-reads.result.now
-        c.ii-ii.ensures.value c.requires.times c.requires.values (let e = c.draft-draft.ensures.value in let r = c.as_slice-reads.ensures.value in cc) c.end_at-end.ensures in
+    c.ii-ii.ensures.value c.requires.times c.requires.values (let e = c.draft-draft.ensures.value in let r = c.as_slice-reads.ensures.value in cc) c.end_at-end.ensures in
     let room = c.requires.room in
     let auto = c.fill_lives.auto.lives in
     sym (take_all _ c.fill_lives.new.lives (omega arith)) ∙ c.fill_lives.ensures.exact ∙ same

@@ -1,5 +1,4 @@
-use Rattle.std.proofs.Common.{◌≡◌, ℕ, List, Option, Some, take, sym, ap, ◌∙◌, subst}
-use Rattle.std.specs.Prelude.{MatchOption}
+use Rattle.std.proofs.Common.{List, take, sym, subst}
 use Rattle.std.specs.List.{All}
 use Rattle.problems.specs.declared.draft.File.{File}
 use Rattle.registers.specs.declared.lifetime.Lifetime.{Lifetime}

@@ -11,7 +11,7 @@ loop-file-preserved c =
     let b = c.fill_file.auto.numbers in
     let filled = rw c.in-Ok-None.field-0-is at c.in-Ok-None.ensures.filled in
     let more = file-more c.args.ii c.args.kinds.now c.args.files.now c.args.lives.now at.numbers c.fill_file.new.numbers at.file _ c.in-Ok-None.ensures.unallotted
-        (omega arith) (omega arith) t (c.in-Ok-None.ensures.others c.in-Ok-None.field-0-is) filled at.invariant.filled at.invariant.zeros in
+    (omega arith) (omega arith) t (c.in-Ok-None.ensures.others c.in-Ok-None.field-0-is) filled at.invariant.filled at.invariant.zeros in
     record { filled = more.filled; zeros = more.zeros }
 
 pub returns : goal.returns

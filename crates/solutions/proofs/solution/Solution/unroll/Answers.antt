@@ -1,0 +1,17 @@
+use Rattle.std.proofs.Common.{◌≡◌, length, sym, ap, ◌∙◌, subst}
+use Rattle.std.specs.List.{All}
+use Rattle.registers.specs.Residues.{IsLifeSpan}
+use Rattle.solutions.specs.Solutions.{files_of}
+use Rattle.solutions.proofs.Copying.{as-many, front-is, read-files, spans-of}
+use Rattle.solutions.proofs.solution.Solution.unroll.Goals as goal
+
+pub unroll_in-requires-clause-lives : goal.unroll_in-requires-clause-lives
+unroll_in-requires-clause-lives c = subst (All IsLifeSpan) (sym c.lives.ensures.value) (spans-of c.args.self.now c.ii-ii.ensures.well_formed)
+
+pub unroll_in-requires-clause-each : goal.unroll_in-requires-clause-each
+unroll_in-requires-clause-each c =
+    let files : c.fill_files.new.files ≡ files_of c.args.self.now.problem.draft
+    = read-files c.args.self.now.problem c.draft-draft.result.now c.problem.result.now c.as_slice-values.result.now c.fill_files.new.files
+    c.problem.ensures.value c.draft-draft.ensures.value c.as_slice-values.ensures.value c.fill_files.ensures in
+    as-many c.args.self.now c.fill_files.new.files c.lives.result.now files c.lives.ensures.value
+    ∙ ap length (sym (front-is c.fill_files.new.files _ c.as_slice-values.result.now c.fill_files.ensures))
