@@ -3,7 +3,7 @@
 use super::unnamed;
 use candidates::{Choice, first_success};
 use ims::Prepared;
-use kernel::Kernel;
+use kernel::Operation;
 use loops::{Operand, read_loops};
 use machine::read_machine;
 use machine_data::{Alternatives, OutOfMemory};
@@ -138,29 +138,37 @@ fn problem_of(alloc: Global, prepared: &Prepared) -> Result<Problem, Fail> {
     Ok(Problem::new(alloc, draft, &settings)?)
 }
 
-/// The times, alternatives and registers of a kernel's operations are those of a solution.
-fn same_kernel(rt: &impl Abort, kernel: &Kernel, solution: &Solution) {
-    let parts = kernel.parts();
-    let draft = solution.problem().draft();
+/// The times and alternatives of a kernel's operations are those of a solution.
+fn same_places(rt: &impl Abort, ii: u64, operations: &[Operation], solution: &Solution) {
     let count = solution.problem().scheduling().operations();
-    assert_eq!(rt; parts.operations.as_slice().len(), count);
+    assert_eq!(rt; operations.len(), count);
     for op in 0..count {
-        let operation = &parts.operations.as_slice()[op];
+        let operation = &operations[op];
+        let begin = u64::from(operation.stage).wrapping_mul(ii);
         assert_eq!(rt;
             solution.time(op),
-            u64::from(operation.stage) * parts.ii + u64::from(operation.row)
+            begin.wrapping_add(u64::from(operation.row))
         );
         assert_eq!(rt;
             solution.alternative(op),
             usize::from(operation.alternative)
         );
     }
-    for value in 0..draft.values.len() {
-        let maker = draft.values[value].maker;
-        assert!(rt; maker < parts.operations.as_slice().len());
-        let operation = &parts.operations.as_slice()[maker];
-        let number = (solution.number(value) as u64 + u64::from(operation.stage)) % parts.registers;
-        assert_eq!(rt; operation.destination.map(u64::from), Some(number));
+}
+
+/// The destinations of a kernel's operations are the registers of a solution, as they are named in the operations' stages.
+fn same_registers(rt: &impl Abort, registers: u64, operations: &[Operation], solution: &Solution) {
+    assert!(rt; 0 < registers);
+    let values = solution.problem().draft().values.as_slice();
+    for number in 0..values.len() {
+        let maker = values[number].maker;
+        assert!(rt; maker < operations.len());
+        let operation = &operations[maker];
+        let name = (solution.number(number) as u64).wrapping_add(u64::from(operation.stage));
+        assert_eq!(rt;
+            operation.destination.map(u64::from),
+            Some(name % registers)
+        );
     }
 }
 
@@ -176,7 +184,10 @@ fn agrees(rt: &impl Abort, alloc: Global, machine: &str, text: &str) -> Result<b
         (Choice::Met(ii, kernel), Outcome::Met(solution)) => {
             assert_eq!(rt; solution.ii(), ii);
             assert_eq!(rt; solution.stages(), kernel.parts().stages);
-            same_kernel(rt, &kernel, &solution);
+            let parts = kernel.parts();
+            let operations = parts.operations.as_slice();
+            same_places(rt, parts.ii, operations, &solution);
+            same_registers(rt, parts.registers, operations, &solution);
         }
         (Choice::Failed(cause), Outcome::Failed(other)) => {
             assert_eq!(rt; word_of(other), cause.word());
