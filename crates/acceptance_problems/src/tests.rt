@@ -1,8 +1,8 @@
 //! Problems and what solving them comes to.
 
+mod as_loops;
 mod backends;
 mod judged;
-mod loops;
 
 use machine_data::OutOfMemory;
 use problems::{Draft, File, Hold, Kind, Names, Order, Problem, Value};
