@@ -1,8 +1,6 @@
 //! Problems and what solving them comes to.
 
-mod as_loops;
 mod backends;
-mod judged;
 
 use machine_data::OutOfMemory;
 use problems::{Draft, File, Hold, Kind, Names, Order, Problem, Value};

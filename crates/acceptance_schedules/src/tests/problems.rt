@@ -2,7 +2,7 @@
 
 use graph::{Edge, Edges, given};
 use machine::{Alternatives, Opcode, read_machine};
-use modulo::{Breach, Culprit, Failure, Problem, Schedule, Try, attempt, attempt_on, culprit};
+use modulo::{Culprit, Failure, Problem, Schedule, Try, attempt, attempt_on, culprit};
 use mrt::{MaskTable, ModuloTable, OwnerTable};
 use std::alloc::Global;
 use std::process::Abort;
@@ -171,62 +171,5 @@ fn lists_for_the_ring(rt: HostRuntime) -> Result<(), Fail> {
     assert!(&rt; !is_schedule(alloc, &problem, &[(0, 0), (1, 1), (5, 0)])?);
     // the last sum is a cycle too late for the first one of two iterations later
     assert!(&rt; !is_schedule(alloc, &problem, &[(0, 0), (2, 1), (7, 0)])?);
-    Ok(())
-}
-
-/// What a list breaks first, of the ring at 4.
-fn breach(
-    alloc: Global,
-    problem: &Problem,
-    places: &[(u64, usize)],
-) -> Result<Option<Breach>, Fail> {
-    Ok(Schedule::judge(alloc, problem, 4, places)?.err())
-}
-
-/// The time of an operation is looked at before its alternative, and an operation before the next one.
-#[test]
-fn numbers_that_the_ring_has_not_got(rt: HostRuntime) -> Result<(), Fail> {
-    let alloc = rt.alloc();
-    let problem = ring(&rt, alloc)?;
-    let short = breach(alloc, &problem, &[(1_048_576, 0), (2, 1)])?;
-    assert_eq!(&rt; short, Some(Breach::Count));
-    let time = breach(alloc, &problem, &[(0, 0), (1_048_576, 2), (5, 1)])?;
-    assert_eq!(&rt; time, Some(Breach::Time(1)));
-    let alternative = breach(alloc, &problem, &[(0, 0), (2, 2), (u64::MAX, 0)])?;
-    assert_eq!(&rt; alternative, Some(Breach::Alternative(1)));
-    Ok(())
-}
-
-#[test]
-fn what_lists_for_the_ring_break_first(rt: HostRuntime) -> Result<(), Fail> {
-    let alloc = rt.alloc();
-    let problem = ring(&rt, alloc)?;
-    assert_eq!(&rt; breach(alloc, &problem, &[(0, 0), (2, 1), (5, 0)])?, None);
-    // the product and the last sum take u at residue 2; the product would be too early besides
-    let slot = Breach::Slot {
-        earlier: 1,
-        later: 2,
-        unit: 0,
-        residue: 2,
-    };
-    assert_eq!(&rt;
-        breach(alloc, &problem, &[(3, 0), (2, 0), (6, 0)])?,
-        Some(slot)
-    );
-    // the product is a cycle too early, and the last sum too
-    let first = Breach::Edge(edge(0, 1, 0, 2), 1);
-    assert_eq!(&rt;
-        breach(alloc, &problem, &[(0, 0), (1, 1), (3, 0)])?,
-        Some(first)
-    );
-    // a first sum of two iterations later comes at 0 + 2 * 4, and the sum that it takes is there at 10 + 2
-    let back = Breach::Edge(edge(2, 0, 2, 2), 4);
-    assert_eq!(&rt;
-        breach(alloc, &problem, &[(0, 0), (2, 1), (10, 0)])?,
-        Some(back)
-    );
-    // all is kept, but cycle 256 begins stage 64
-    let late = breach(alloc, &problem, &[(254, 0), (256, 1), (259, 0)])?;
-    assert_eq!(&rt; late, Some(Breach::Stage(1)));
     Ok(())
 }
