@@ -133,7 +133,7 @@ const BIQUAD: Lists = Lists {
 /// ResMII: four adds on one adder, 4. RecMII: the result, a1 y, the first state and the next result are 2 cycles apart each: 6. Heights at 6: 11 for the
 /// load, 8 for b0 x, 6 for the result and b1 x, 4 for a1 y, the partial sum, b2 x and a2 y, 2 for the states, 1 for the store. The load is issued in 0; b0 x in 3; the result in 5; b1 x in 3 on the other
 /// multiplier; a1 y in 7; the partial sum would be in 5, where the adder's row is taken: 6; b2 x in 4; a2 y in 7 on the other multiplier; the states
-/// in 9, and in 10 as row 9 mod 6 is taken; the store in 7.
+/// in 9, and in 10, since the adder is taken by then in 9; the store in 7.
 ///
 /// The states land in 11 and 12, live from 6 on, and are read one iteration later, in 5 + 6 and 6 + 6. Registers: b0 x, the result and a1 y live where the sample does not, in
 /// 0; b1 x beside b0 x and the partial sum beside a1 y in 1; the first state beside both 2; b2 x 3; a2 y beside these in 9 and 10 4; the second state 5.
@@ -360,7 +360,7 @@ fn eight(alloc: Global, late: u64) -> Result<Problem, Fail> {
 }
 
 /// ResMII: six multiplies and shifts on two slots, 3. RecMII: the last multiply-accumulate and the shift, which the next one waits for: 3 - 1 + 2, so MII is 4. The load is issued in 0, the multiplies in 3, 5, 7 and 9, each
-/// as soon as its accumulator lands, and alternately on the two slots as the rows come round; the last one would be in 11, where both slots are taken in row 3: 12. The shift is in 14, the store in 16.
+/// as soon as its accumulator lands, and alternately on the two slots as the rows come round; the last one would be in 11, but both slots are taken there, so it is in 12. The shift is in 14, the store in 16.
 ///
 /// The sample lives from 3 to 7 + 8, two iterations on, the result from 4 to 9 + 8. Registers: four samples live beside the pointer, in 3 to 0: 4. The first product meets samples in 2, 1, 0 and the
 /// next pointer in 3: 4; the next one samples in 1, 0, -1, and the pointer in 3: 2; the next samples in -1, 0, 1, the pointer in 2, the first product in 3: 4; the next samples in 0, -1, -2, the pointer in 2 and 1: 3; the last samples in 0 and below, the pointer in 1: 2. The
