@@ -1,19 +1,11 @@
-//! Rows: a line, the texts of its files, and what has to come of them.
+//! A line, the texts of its files, and what has to come of them where files cannot be read, outputs fail or texts are cut.
 
 ghost use Rattle.std.specs.Prelude.{◌≡◌};
 
-mod bounds;
-mod documents;
-mod explanations;
 mod failing_devices;
 mod given;
-mod graphs;
-mod listings;
-mod options;
-mod plain;
-mod runs;
 
-use modsched::{Command, FaultyInput, FaultyOutput, Usage, engine, parse_line};
+use modsched::{Command, FaultyInput, FaultyOutput, engine, parse_line};
 use std::alloc::{AllocError, Global};
 use std::process::Abort;
 use std::str;
@@ -30,7 +22,7 @@ struct Case<'a> {
     room: usize,
 }
 
-/// More bytes than any row writes.
+/// More bytes than any of these lines writes.
 const ALL: usize = 65_536;
 
 /// How many bytes an input gives a read, and an output takes a write, at most: neither is done in one.
@@ -56,7 +48,7 @@ fn input(text: Option<&str>) -> FaultyInput<'_>
     }
 }
 
-/// A status and two outputs as one text, so that a row that fails is shown whole.
+/// A status and two outputs as one text, so that a test that fails shows all of it.
 fn ending(alloc: Global, status: u8, out: &str, line: &str) -> Result<String, AllocError> {
     format!(in alloc; "status {status}\n{out}standard error:\n{line}")
 }
@@ -80,7 +72,7 @@ fn came<R: Threads + Sync>(
     Ok(ending(alloc, status.number(), out, line.as_str())?)
 }
 
-/// The row exits with this status, writes this, and has this line on standard error.
+/// The line exits with this status, writes this, and has this on standard error.
 fn ends(
     rt: &(impl Abort + AllocGlobal + Threads + Sync),
     row: &Case<'_>,
@@ -94,32 +86,4 @@ fn ends(
     let wanted = ending(alloc, status, out, line)?;
     assert_eq!(rt; got.as_str(), wanted.as_str());
     Ok(())
-}
-
-/// The line of these words is refused, with some text.
-fn refuses(rt: &(impl Abort + AllocGlobal + Threads + Sync), words: &[&str]) {
-    match parse_line(rt.alloc(), words) {
-        Err(Usage::Refused(text)) => assert!(rt; !text.is_empty()),
-        _ => panic!(rt; "taken"),
-    }
-}
-
-/// What a running sum of 100 iterations writes, with this last line: past the cells that are written for `a`, the sum stays.
-fn many_sums(alloc: Global, last: &str) -> Result<String, AllocError> {
-    let mut text = String::from_str(alloc, "loop acc trip 100\nb[0] 1\nb[1] 3\n")?;
-    for cell in 2..100 {
-        text.push_str(format!(in alloc; "b[{cell}] 6\n")?.as_str())?;
-    }
-    text.push_str(last)?;
-    Ok(text)
-}
-
-/// A loop of so many statements, each of which gives 1.
-fn statements(alloc: Global, count: usize) -> Result<String, AllocError> {
-    let mut text = String::from_str(alloc, "loop x\n")?;
-    for number in 0..count {
-        text.push_str(format!(in alloc; "v{number} = mov 1\n")?.as_str())?;
-    }
-    text.push_str("end\n")?;
-    Ok(text)
 }
