@@ -1,6 +1,7 @@
 //! Problems and what solving them comes to.
 
 mod backends;
+mod judged;
 
 use machine_data::OutOfMemory;
 use problems::{Draft, File, Hold, Kind, Names, Order, Problem, Value};
