@@ -4,7 +4,7 @@ use Rattle.std.specs.List.{All, slice_get, slice_range}
 use Rattle.std.specs.Option.{option_map, IfSome}
 use Rattle.std.proofs.lemmas.Bool.{cases_eq, cases_lt}
 use Rattle.std.proofs.lemmas.Option.{none-some, same_Some, slice_get-get_or, slice_get_within}
-use Rattle.std.proofs.lemmas.List.{map_push, map-set, get_or-set_other, length-take-le, take_more, get_or-map, get_or-take, get_or_default, length_push, take_rest, drop_at, get_or-replicate, get_or_past, length-replicate}
+use Rattle.std.proofs.lemmas.List.{map_push, map-set, get_or-set_other, length-take-le, take_more, get_or-map, get_or-take, take_rest, drop_at, get_or-replicate, get_or_past, length-replicate}
 use Rattle.std.proofs.lemmas.Grind.{get_or-set_at}
 use Rattle.std.proofs.lemmas.List.Elements.{All-push, All-head, All-tail, All-weaker, All-map, All-nil, All-take, All-drop}
 use Rattle.machine_data.specs.declared.alternative.Row.{Row}

@@ -1,4 +1,4 @@
-use Rattle.std.proofs.Common.{refl, replicate}
+use Rattle.std.proofs.Common.{replicate}
 use Rattle.mrt.proofs.slots.Masking.{IsBitTable-of}
 use Rattle.mrt.proofs.bits.BitTable.over.Goals as goal
 

@@ -1,4 +1,4 @@
-use Rattle.std.proofs.Common.{◌≡◌, ◌*◌, ◌≤◌, length, replicate, arith, refl}
+use Rattle.std.proofs.Common.{◌≡◌, ◌*◌, ◌≤◌, length, replicate, arith}
 use Rattle.mrt.specs.declared.owner.TheConstants.{FREE}
 use Rattle.mrt.proofs.slots.Owning.{IsOwnerTable-of}
 use Rattle.mrt.proofs.owner.OwnerTable.over.Goals as goal

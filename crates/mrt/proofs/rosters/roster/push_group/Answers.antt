@@ -1,4 +1,4 @@
-use Rattle.std.proofs.Common.{get_or, List, length, ◌<◌}
+use Rattle.std.proofs.Common.{List}
 use Rattle.mrt.specs.declared.rosters.roster.Group.{Group}
 use Rattle.mrt.proofs.placements.Rostering.{group_of-pushed, group_of-shared}
 use Rattle.mrt.proofs.rosters.roster.push_group.Goals as goal
