@@ -1,6 +1,6 @@
 //! A modulo reservation table of bits, beside the list of placements.
 
-ghost use Rattle.std.specs.Prelude.{◌≡◌, ◌↔◌, ◌+◌, ◌%◌, ◌^◌, ◌<◌, ◌≤◌, ℕ, length, IsTrue};
+ghost use Rattle.std.specs.Prelude.{◌≡◌, ◌↔◌, ◌+◌, ◌%◌, ◌^◌, ◌<◌, ◌≤◌, ℕ, length, replicate, None, IsTrue, IfOk};
 ghost use Rattle.mrt.specs.Placements.{alternatives_of, IsFree, IsFirstFree, IsFirstSlot};
 
 use crate::memory::refill;
@@ -49,6 +49,21 @@ impl<L: Search> Model for BitTable<L> {
 }
 
 impl<L: Search> BitTable<L> {
+    /// The table of some operations, of which none is placed.
+    fn over(alloc: Global, roster: Roster) -> Result<BitTable<L>, OutOfMemory>
+        requires { roster.placed ≡ replicate (length roster.operations) None }
+        ensures { IfOk result (λ table. table ≡ roster) }
+    {
+        let (width, count) = L::sizes(roster.ii());
+        let words = vec![in alloc; 0; count]?;
+        Ok(BitTable {
+            roster,
+            width,
+            words,
+            layout: PhantomData,
+        })
+    }
+
     /// Whether an operation can be issued by one of its alternatives at the times with a residue.
     fn is_free(&self, op: usize, alternative: usize, base: usize) -> bool
         requires there { op < length self.now.operations }
@@ -146,14 +161,17 @@ impl<L: Search> ModuloTable for BitTable<L> {
         ii: u64,
     ) -> Result<BitTable<L>, OutOfMemory> {
         let roster = Roster::new(alloc, alternatives, ii as usize)?;
-        let (width, count) = L::sizes(ii as usize);
-        let words = vec![in alloc; 0; count]?;
-        Ok(BitTable {
-            roster,
-            width,
-            words,
-            layout: PhantomData,
-        })
+        BitTable::over(alloc, roster)
+    }
+
+    fn of_kinds(
+        alloc: Global,
+        alternatives: &[Alternatives],
+        kinds: &[usize],
+        ii: u64,
+    ) -> Result<BitTable<L>, OutOfMemory> {
+        let roster = Roster::of_kinds(alloc, alternatives, kinds, ii as usize)?;
+        BitTable::over(alloc, roster)
     }
 
     fn at(self, ii: u64) -> Result<BitTable<L>, OutOfMemory> {

@@ -1,6 +1,6 @@
 //! A modulo reservation table as a row of owners for each residue.
 
-ghost use Rattle.std.specs.Prelude.{◌≡◌, ◌↔◌, ◌+◌, ◌*◌, ◌%◌, ◌<◌, ◌≤◌, ℕ, length, Some, None, IsTrue, if◌then◌else◌};
+ghost use Rattle.std.specs.Prelude.{◌≡◌, ◌↔◌, ◌+◌, ◌*◌, ◌%◌, ◌^◌, ◌<◌, ◌≤◌, ℕ, length, replicate, Some, None, IsTrue, IfOk, if◌then◌else◌};
 ghost use Rattle.std.specs.List.{All};
 ghost use Rattle.machine_data.specs.Alternative.{residue_of};
 ghost use Rattle.mrt.specs.Placements.{alternatives_of, IsFree};
@@ -42,6 +42,21 @@ impl Model for OwnerTable {
 }
 
 impl OwnerTable {
+    /// The table of some operations, of which none is placed.
+    fn over(alloc: Global, roster: Roster) -> Result<OwnerTable, OutOfMemory>
+        requires empty { roster.placed ≡ replicate (length roster.operations) None }
+        requires short { length roster.operations < 2 ^ 64 }
+        ensures { IfOk result (λ table. table ≡ roster) }
+    {
+        let units = roster.units();
+        let owners = vec![in alloc; FREE; roster.ii() * units]?;
+        Ok(OwnerTable {
+            roster,
+            units,
+            owners,
+        })
+    }
+
     /// Whether an operation can be issued by one of its alternatives at the times with a residue.
     fn is_free(&self, op: usize, alternative: usize, base: usize) -> bool
         requires there { op < length self.now.operations }
@@ -70,13 +85,17 @@ impl ModuloTable for OwnerTable {
         ii: u64,
     ) -> Result<OwnerTable, OutOfMemory> {
         let roster = Roster::new(alloc, alternatives, ii as usize)?;
-        let units = roster.units();
-        let owners = vec![in alloc; FREE; ii as usize * units]?;
-        Ok(OwnerTable {
-            roster,
-            units,
-            owners,
-        })
+        OwnerTable::over(alloc, roster)
+    }
+
+    fn of_kinds(
+        alloc: Global,
+        alternatives: &[Alternatives],
+        kinds: &[usize],
+        ii: u64,
+    ) -> Result<OwnerTable, OutOfMemory> {
+        let roster = Roster::of_kinds(alloc, alternatives, kinds, ii as usize)?;
+        OwnerTable::over(alloc, roster)
     }
 
     fn at(self, ii: u64) -> Result<OwnerTable, OutOfMemory> {

@@ -1,6 +1,7 @@
 //! What a modulo reservation table does, however it is kept.
 
-ghost use Rattle.std.specs.Prelude.{◌≡◌, ◌+◌, ◌^◌, ◌<◌, ◌≤◌, ℕ, length, replicate, Some, None, IsSome, IfOk, slice_set, slice_get};
+ghost use Rattle.std.specs.Prelude.{◌≡◌, ◌+◌, ◌^◌, ◌<◌, ◌≤◌, ℕ, [], length, map, replicate, Some, None, IsSome, IfOk, slice_set, slice_get, slice_index_or};
+ghost use Rattle.std.specs.List.{All};
 ghost use Rattle.machine_data.specs.declared.alternative.Row.{Row};
 ghost use Rattle.mrt.specs.Placements.{OperationAlternatives, Placements, placement_of, alternatives_of, rows_of, IsFree, IsFirstFree, IsFirstSlot, IsHolder};
 
@@ -9,8 +10,8 @@ use std::alloc::Global;
 
 /// A modulo reservation table for some operations at one initiation interval. Contracts see the set
 /// of its placements, each an operation with the time of its issue and the alternative by which it is
-/// issued, and nothing of how the set is kept. Times are in cycles. Only [`ModuloTable::make`] and
-/// [`ModuloTable::at`] take memory.
+/// issued, and nothing of how the set is kept. Times are in cycles. Only [`ModuloTable::make`],
+/// [`ModuloTable::of_kinds`] and [`ModuloTable::at`] take memory.
 pub trait ModuloTable: Drop {
     /// The set of placements: for each operation its placement, where it has one.
     ghost placed: { Self → Placements };
@@ -28,6 +29,22 @@ pub trait ModuloTable: Drop {
         requires few { ii ≤ 16384 }
         ensures empty { IfOk result (λ table. placed table ≡ replicate (length alternatives.now) None) }
         ensures operations { IfOk result (λ table. operations table ≡ alternatives.now) }
+        ensures interval { IfOk result (λ table. interval table ≡ ii) };
+
+    /// A table of operations that are told by their kinds, at an initiation interval, with nothing placed: `alternatives`
+    /// has those of each kind, and `kinds` the kind of each operation, by its number, from 0. It is the table that
+    /// [`ModuloTable::make`] gives for the alternatives of each operation, but which operations share them is not sought.
+    fn of_kinds(
+        alloc: Global,
+        alternatives: &[Alternatives],
+        kinds: &[usize],
+        ii: u64,
+    ) -> Result<Self, OutOfMemory>
+        requires some { 0 < ii }
+        requires few { ii ≤ 16384 }
+        requires kinds { All (λ kind. kind < length alternatives.now) kinds.now }
+        ensures empty { IfOk result (λ table. placed table ≡ replicate (length kinds.now) None) }
+        ensures operations { IfOk result (λ table. operations table ≡ map (λ kind. slice_index_or alternatives.now kind []) kinds.now) }
         ensures interval { IfOk result (λ table. interval table ≡ ii) };
 
     /// A table of the same operations at another initiation interval, with nothing placed. It uses the memory

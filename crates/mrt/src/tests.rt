@@ -263,6 +263,36 @@ fn worked_calls<T: ModuloTable>(rt: &impl Abort, alloc: Global) -> Result<(), Ou
     tells_the_holder::<T>(rt, alloc)
 }
 
+/// Of two kinds one has another unit to spare, and the third kind has no operation.
+fn three_kinds(alloc: Global) -> Result<Vec<Alternatives>, OutOfMemory>
+    ensures { IfOk result (λ v. vec_len v ≡ 3) }
+{
+    let mut kinds = Vec::new(alloc);
+    kinds.push(one(alloc, one_row(alloc, 0, 0)?)?)?;
+    kinds.push(two(alloc, one_row(alloc, 0, 0)?, one_row(alloc, 1, 0)?)?)?;
+    kinds.push(one(alloc, one_row(alloc, 2, 0)?)?)?;
+    Ok(kinds)
+}
+
+/// Operations that are told by their kinds get the slots of their kinds.
+fn takes_kinds<T: ModuloTable>(rt: &impl Abort, alloc: Global) -> Result<(), OutOfMemory> {
+    let kinds = three_kinds(alloc)?;
+    let mut table = T::of_kinds(alloc, &kinds, &[1, 0, 1, 1], 2)?;
+    let mut held = [false; 4];
+    assert_eq!(rt; turn(&mut table, &mut held, 0, 0), Some((0, 0)));
+    assert_eq!(rt; turn(&mut table, &mut held, 1, 0), Some((1, 0)));
+    assert_eq!(rt; turn(&mut table, &mut held, 2, 0), Some((0, 1)));
+    assert_eq!(rt; turn(&mut table, &mut held, 3, 0), Some((1, 1)));
+    Ok(())
+}
+
+#[test]
+fn kinds(rt: HostRuntime) -> Result<(), Fail> {
+    takes_kinds::<OwnerTable>(&rt, rt.alloc())?;
+    takes_kinds::<MaskTable>(&rt, rt.alloc())?;
+    Ok(takes_kinds::<TimelineTable>(&rt, rt.alloc())?)
+}
+
 #[test]
 fn owners(rt: HostRuntime) -> Result<(), Fail> {
     Ok(worked_calls::<OwnerTable>(&rt, rt.alloc())?)

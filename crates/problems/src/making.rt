@@ -2,4 +2,4 @@
 
 mod edges;
 pub(crate) mod scheduling;
-mod tables;
+pub(crate) mod tables;

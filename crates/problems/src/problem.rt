@@ -1,12 +1,15 @@
 //! Scheduling problems.
 
-ghost use Rattle.std.specs.Prelude.{◌≡◌};
+ghost use Rattle.std.specs.Prelude.{◌≡◌, map};
+ghost use Rattle.problems.specs.Drafts.{alternatives_of};
 ghost use Rattle.problems.specs.Problems.{IsProblem, AnswersDraft};
 
 use crate::checking::first::first_fault;
 use crate::draft::Draft;
 use crate::fault::Refusal;
 use crate::making::scheduling::scheduling_of;
+use crate::making::tables::tables_of;
+use machine_data::Alternatives;
 use settings::Settings;
 use std::alloc::Global;
 use std::marker::Model;
@@ -15,17 +18,21 @@ use std::marker::Model;
 #[derive(Drop)]
 pub struct Problem {
     draft: Draft,
+    /// The alternatives of each kind, which its operations share.
+    alternatives: Vec<Alternatives>,
     scheduling: modulo::Problem,
 }
 
 impl Model for Problem {
+    ghost use Rattle.std.specs.Prelude.{◌≡◌, map};
+    ghost use Rattle.problems.specs.Drafts.{alternatives_of};
     ghost use Rattle.problems.specs.Problems.{ProblemData, IsProblem};
 
     ghost Value = { ProblemData };
 
     ghost view = { λ p. record { draft = p.draft; scheduling = p.scheduling } };
 
-    ghost invariant = { λ p. IsProblem (record { draft = p.draft; scheduling = p.scheduling }) };
+    ghost invariant = { λ p. IsProblem (record { draft = p.draft; scheduling = p.scheduling }) × (p.alternatives.items ≡ map alternatives_of p.draft.kinds.items) };
 }
 
 impl Problem {
@@ -40,8 +47,20 @@ impl Problem {
         if let Some(fault) = first_fault(alloc, &draft)? {
             return Err(Refusal::Fault(fault));
         }
-        let scheduling = scheduling_of(alloc, &draft, settings.ratio(), settings.ceiling())?;
-        Ok(Problem { draft, scheduling })
+        let alternatives = tables_of(alloc, draft.units, draft.kinds.as_slice())?;
+        let tables = alternatives.as_slice();
+        let scheduling = scheduling_of(
+            alloc,
+            &draft,
+            tables,
+            settings.ratio(),
+            settings.ceiling(),
+        )?;
+        Ok(Problem {
+            draft,
+            alternatives,
+            scheduling,
+        })
     }
 
     /// The draft.
@@ -50,6 +69,14 @@ impl Problem {
         ensures well_formed { IsProblem self.now }
     {
         &self.draft
+    }
+
+    /// The alternatives of each kind, by its number.
+    pub fn alternatives(&self) -> &[Alternatives]
+        ensures value { result.now ≡ map alternatives_of self.now.draft.kinds.items }
+        ensures well_formed { IsProblem self.now }
+    {
+        self.alternatives.as_slice()
     }
 
     /// What is scheduled: the operations, each with the latency and the alternatives of its kind, and the edges that the

@@ -1,10 +1,11 @@
 -- What is kept of operations and their placements, as they change.
 use Rattle.std.proofs.Common.{zero, suc, ◌≡◌, ℕ, ◌+◌, ◌-◌, ◌<◌, inl, inr, List, [], ◌∷◌, ◌++◌, length, get_or, set, map, replicate, take, drop, Option, Some, None, refl, sym, ap, ◌∙◌, subst, arith, length-set, length-append}
 use Rattle.std.specs.List.{All, slice_get, slice_range}
-use Rattle.std.specs.Option.{option_map}
+use Rattle.std.specs.Option.{option_map, IfSome}
 use Rattle.std.proofs.lemmas.Bool.{cases_eq, cases_lt}
 use Rattle.std.proofs.lemmas.Option.{none-some, same_Some, slice_get-get_or, slice_get_within}
-use Rattle.std.proofs.lemmas.List.{map_push, map-set, take_more, get_or-map, get_or-take, get_or_default, length_push, take_rest, drop_at, get_or-replicate, get_or_past, length-replicate}
+use Rattle.std.proofs.lemmas.List.{map_push, map-set, get_or-set_other, length-take-le, take_more, get_or-map, get_or-take, take_rest, drop_at, get_or-replicate, get_or_past, length-replicate}
+use Rattle.std.proofs.lemmas.Grind.{get_or-set_at}
 use Rattle.std.proofs.lemmas.List.Elements.{All-push, All-head, All-tail, All-weaker, All-map, All-nil, All-take, All-drop}
 use Rattle.machine_data.specs.declared.alternative.Row.{Row}
 use Rattle.mrt.specs.declared.rosters.kinds.Kind.{Kind}
@@ -76,26 +77,55 @@ group_of-pushed alternatives more whole groups group e all from to =
     map_push (group_of whole) groups group ∙ ap (λ xs. xs ++ group_of whole group ∷ []) others ∙ ap (λ x. map (group_of alternatives) groups ++ x ∷ []) own
 
 -- one operation more, which has the alternatives of an earlier one
-pub group_of-shared : (alternatives : List (List Row)) (groups : List Group) (operations : OperationAlternatives) (k e : ℕ) (group : Group)
-    → map (group_of alternatives) groups ≡ take k operations → length groups ≡ k → k < length operations → e < k → group ≡ get_or groups e group
-    → get_or operations e [] ≡ get_or operations k [] → map (group_of alternatives) (groups ++ group ∷ []) ≡ take (k + 1) operations
-group_of-shared alternatives groups operations k e group so_far long lt before is same =
+pub group_of-shared : (alternatives more : List (List Row)) (groups : List Group) (e : ℕ) (group : Group) → e < length groups → group ≡ get_or groups e group
+    → get_or (map (group_of alternatives) groups) e [] ≡ more → map (group_of alternatives) (groups ++ group ∷ []) ≡ map (group_of alternatives) groups ++ more ∷ []
+group_of-shared alternatives more groups e group there is same =
     let f = group_of alternatives in
-    let there : e < length groups = omega arith in
-    let own : f group ≡ get_or operations k [] =
-    ap f is ∙ sym (get_or-map f groups e group (f group) there) ∙ ap (λ xs. get_or xs e (f group)) so_far ∙ get_or-take k operations e (f group) before
-    ∙ get_or_default operations e (f group) [] (omega arith) ∙ same in
-    map_push f groups group ∙ ap (λ xs. xs ++ f group ∷ []) so_far ∙ ap (λ x. take k operations ++ x ∷ []) own ∙ sym (take_more operations k [] lt)
+    let own : f group ≡ more = ap f is ∙ sym (get_or-map f groups e group [] there) ∙ same in
+    map_push f groups group ∙ ap (λ x. map f groups ++ x ∷ []) own
 
 pub IsGroup-shared : (count : ℕ) (groups : List Group) (e : ℕ) (group : Group) → All (IsGroup count) groups → e < length groups → group ≡ get_or groups e group
     → All (IsGroup count) (groups ++ group ∷ [])
 IsGroup-shared count groups e group all there is = All-push (IsGroup count) groups group all (subst (IsGroup count) (sym is) (all e group there))
 
--- kinds of operations below the length of a list, which gets longer
-pub below-longer : {X : Type 0} (kinds : List Kind) (xs : List X) (x : X) → All (λ (k : Kind). k.operation < length xs) kinds
-    → All (λ (k : Kind). k.operation < length (xs ++ x ∷ [])) kinds
-below-longer kinds xs x all =
-    All-weaker (λ (k : Kind). k.operation < length xs) (λ (k : Kind). k.operation < length (xs ++ x ∷ [])) (λ k lt. omega (arith, length_push xs x)) kinds all
+-- kinds of operations below a number are below the next
+pub below-more : (k : ℕ) (kinds : List Kind) → All (λ (one : Kind). one.operation < k) kinds → All (λ (one : Kind). one.operation < k + 1) kinds
+below-more k kinds all = All-weaker (λ (one : Kind). one.operation < k) (λ (one : Kind). one.operation < k + 1) (λ one lt. omega arith) kinds all
+
+-- what holds of the value, where there is one
+pub IfSome-each : (P : ℕ → Type 0) (found : Option ℕ) → ((e : ℕ) → found ≡ Some e → P e) → IfSome found P
+IfSome-each P None each = tt
+IfSome-each P (Some e) each = each e refl
+
+module _ (alternatives : OperationAlternatives) (kinds : List ℕ) (k : ℕ) (within : k < length kinds) where
+  -- the alternatives of an earlier operation, which has the kind
+  pub kind_earlier : (kind e : ℕ) → e < k → get_or kinds e kind ≡ kind
+      → get_or (map (λ one. get_or alternatives one []) (take k kinds)) e [] ≡ get_or alternatives kind []
+  kind_earlier kind e before is =
+      let f : ℕ → List (List Row) = λ one. get_or alternatives one [] in
+      let there : e < length (take k kinds) = omega (arith, length-take-le k kinds) in
+      get_or-map f (take k kinds) e kind [] there ∙ ap f (get_or-take k kinds e kind before ∙ is)
+
+  -- one operation more, of this kind
+  pub kinds_more : (kind : ℕ) → get_or kinds k kind ≡ kind
+      → map (λ one. get_or alternatives one []) (take k kinds) ++ get_or alternatives kind [] ∷ [] ≡ map (λ one. get_or alternatives one []) (take (k + 1) kinds)
+  kinds_more kind is =
+      let f : ℕ → List (List Row) = λ one. get_or alternatives one [] in
+      sym (ap (map f) (take_more kinds k kind within) ∙ map_push f (take k kinds) (get_or kinds k kind) ∙ ap (λ one. map f (take k kinds) ++ f one ∷ []) is)
+
+-- for each kind the latest operation that has it, where this one is of a kind
+pub latest-more : (kinds : List ℕ) (latest : List (Option ℕ)) (k n kind : ℕ) → get_or kinds k kind ≡ kind → n ≡ k → kind < length latest
+    → ((one e : ℕ) → get_or latest one None ≡ Some e → (e < k) × (get_or kinds e one ≡ one))
+    → (one e : ℕ) → get_or (set latest kind (Some n)) one None ≡ Some e → (e < k + 1) × (get_or kinds e one ≡ one)
+latest-more kinds latest k n kind is here there so_far one e found =
+    elim (cases_eq one kind) [
+      | inl same ↦
+          let own : k ≡ e = sym here ∙ same_Some n e (sym (get_or-set_at latest kind one (Some n) None same there) ∙ found) in
+          (omega (arith, own), subst (λ m. get_or kinds m one ≡ one) own (subst (λ m. get_or kinds k m ≡ m) (sym same) is))
+      | inr other ↦
+          let before = so_far one e (sym (get_or-set_other latest kind one (Some n) None other) ∙ found) in
+          (omega (arith, before.0), before.1)
+    ]
 
 -- a write of one placement
 pub table_of-set : (ii : ℕ) (alternatives : List (List Row)) (groups : List Group) (issues : List (Option Issue)) (op : ℕ) (v : Option Issue)

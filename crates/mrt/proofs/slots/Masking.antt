@@ -1,5 +1,5 @@
 -- One bit of a word, and tables of bits.
-use Rattle.std.proofs.Common.{◌≡◌, ◌≢◌, ℕ, ◌-◌, ◌*◌, ◌^◌, ◌<◌, inl, inr, Bool, true, false, not, cond, eqb, bit_and, bit_or, length, set, replicate, Option, Some, None, MatchOption, sym, ap, ◌∙◌, arith, eq-eqb, length-set, w64}
+use Rattle.std.proofs.Common.{◌≡◌, ◌≢◌, ℕ, ◌-◌, ◌*◌, ◌^◌, ◌<◌, inl, inr, Bool, true, false, not, cond, eqb, bit_and, bit_or, length, set, replicate, Option, Some, None, MatchOption, refl, sym, ap, ◌∙◌, subst, arith, eq-eqb, length-set, w64}
 use Rattle.std.specs.Int.{bit_at, bit_not}
 use Rattle.std.proofs.lemmas.Bool.{cases_eq, ne_eqb, true≢false}
 use Rattle.std.proofs.lemmas.Nat.Bits.{bit_at-lt, bit_at_or, bit_at_and, bit_at_not, bit_at-pow_same, bit_at-pow_other, and_pow}
@@ -77,6 +77,13 @@ IsBitTable-new ii n operations held whole clear = record {
     owed = λ unit residue u r h. absurd (true≢false (sym h ∙ clear unit residue u r));
   };
 }
+
+-- the same of operations that a table has, of which none is placed
+pub IsBitTable-of : (table : Table) (held : ℕ → ℕ → Bool) → table.placed ≡ replicate (length table.operations) None
+    → ((unit residue : ℕ) → unit < 64 → residue < table.interval → held unit residue ≡ false) → IsBitTable table held
+IsBitTable-of table held empty clear =
+    let with = λ (ps : Placements). let t : Table = record { interval = table.interval; operations = table.operations; placed = ps } in IsBitTable t held in
+    subst with (sym empty) (IsBitTable-new table.interval (length table.operations) table.operations held refl clear)
 
 module _ (table : Table) (held held' : ℕ → ℕ → Bool) (op : ℕ) (at : Placement) (kept : IsBitTable table held) where
   pub IsBitTable-placed : op < length table.operations → placement_of table.placed op ≡ None → IsFree table.interval table.operations table.placed op at.time at.alternative

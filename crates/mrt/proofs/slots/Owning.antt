@@ -1,5 +1,5 @@
 -- Owners in rows of units.
-use Rattle.std.proofs.Common.{◌≡◌, ◌≢◌, ℕ, ◌+◌, ◌*◌, ◌/◌, ◌%◌, ◌<◌, ◌≤◌, inl, inr, Bool, true, false, ◌&&◌, ◌||◌, cond, not, eqb, List, length, get_or, set, take, replicate, Option, Some, None, refl, sym, ap, ◌∙◌, arith, eq-eqb, length-set}
+use Rattle.std.proofs.Common.{◌≡◌, ◌≢◌, ℕ, ◌+◌, ◌*◌, ◌/◌, ◌%◌, ◌<◌, ◌≤◌, inl, inr, Bool, true, false, ◌&&◌, ◌||◌, cond, not, eqb, List, length, get_or, set, take, replicate, Option, Some, None, refl, sym, ap, ◌∙◌, subst, arith, eq-eqb, length-set}
 use Rattle.std.specs.List.{All}
 use Rattle.std.proofs.lemmas.Bool.{cases_eq, ne_eqb, eqb-false, not-true, and_from}
 use Rattle.std.proofs.Math.Nat.{mul_comm}
@@ -133,6 +133,13 @@ IsOwnerTable-new ii units n operations whole short few covered = record {
     owed = λ unit residue u r ne. absurd (ne (get_or-replicate (ii * units) (residue * units + unit) FREE 0 (place_below ii units unit residue u r)));
   };
 }
+
+-- the same of operations that a table has, of which none is placed
+pub IsOwnerTable-of : (table : Table) (units : ℕ) → table.placed ≡ replicate (length table.operations) None → length table.operations ≤ FREE → units ≤ 64
+    → ((op alternative : ℕ) → All (λ r. r.unit < units) (rows_of table.operations op alternative)) → IsOwnerTable table units (replicate (table.interval * units) FREE)
+IsOwnerTable-of table units empty short few covered =
+    let with = λ (ps : Placements). let t : Table = record { interval = table.interval; operations = table.operations; placed = ps } in IsOwnerTable t units (replicate (table.interval * units) FREE) in
+    subst with (sym empty) (IsOwnerTable-new table.interval units (length table.operations) table.operations refl short few covered)
 
 module _ (table : Table) (units : ℕ) (owners owners' : List ℕ) (op : ℕ) (at : Placement) (kept : IsOwnerTable table units owners) (long : length owners' ≡ length owners) where
   pub IsOwnerTable-placed : op < length table.operations → placement_of table.placed op ≡ None → IsFree table.interval table.operations table.placed op at.time at.alternative

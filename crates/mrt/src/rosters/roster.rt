@@ -1,9 +1,10 @@
 //! Operations with their alternatives at one initiation interval, and their placements.
 
-ghost use Rattle.std.specs.Prelude.{◌≡◌, ◌++◌, ◌%◌, ◌^◌, ◌<◌, ◌≤◌, ℕ, length, replicate, Some, None, IfOk, IfSome, MatchOption, true, false, option_map, slice_set};
+ghost use Rattle.std.specs.Prelude.{◌≡◌, ◌+◌, ◌++◌, ◌∷◌, [], ◌%◌, ◌^◌, ◌<◌, ◌≤◌, ℕ, length, map, replicate, Some, None, IfOk, IfSome, MatchOption, true, false, option_map, slice_set, slice_index_or};
 ghost use Rattle.std.specs.List.{All};
 ghost use Rattle.machine_data.specs.Alternative.{IsAlternative, collides};
 ghost use Rattle.mrt.specs.Placements.{placement_of, alternatives_of, rows_of};
+ghost use Rattle.mrt.specs.inner.Rosters.{IsGroup, group_of};
 ghost use Rattle.mrt.specs.inner.Slots.{IsSlot, rows_in, HasUnits};
 ghost use Rattle.mrt.specs.Taken.{takes, Takes};
 
@@ -67,19 +68,55 @@ impl Roster {
     {
         let mut choices = Choices::new(alloc, ii)?;
         let mut groups = Vec::with_capacity(alloc, operations.len())?;
-        let issues = vec![in alloc; None; operations.len()]?;
         let mut kinds: SmallVec<Kind, 16> = SmallVec::new(alloc);
         for operation in operations {
             let alternatives = operation.as_slice();
-            let group = match of_kind(operations, kinds.as_slice(), alternatives) {
-                Some(kind) => groups[kind.operation],
+            let earlier = match of_kind(operations, kinds.as_slice(), alternatives) {
+                Some(kind) => Some(kind.operation),
                 None => {
                     kinds.push(Kind::new(groups.len(), alternatives))?;
-                    added(&mut choices, alternatives)?
+                    None
                 }
             };
-            groups.push(group)?;
+            push_group(&mut choices, &mut groups, alternatives, earlier)?;
         }
+        Roster::unplaced(alloc, choices, groups)
+    }
+
+    /// Operations of these kinds, with nothing placed; `alternatives` has those of each kind. The operations of a kind
+    /// share one group of them, and a kind that no operation has takes no room.
+    pub(crate) fn of_kinds(
+        alloc: Global,
+        alternatives: &[Alternatives],
+        kinds: &[usize],
+        ii: usize,
+    ) -> Result<Roster, OutOfMemory>
+        requires some { 0 < ii }
+        requires few { ii ≤ 16384 }
+        requires kinds { All (λ kind. kind < length alternatives.now) kinds.now }
+        ensures short { length kinds.now < 2 ^ 64 }
+        ensures value { IfOk result
+            (λ r. r ≡ record { interval = ii; operations = map (λ kind. slice_index_or alternatives.now kind []) kinds.now; placed = replicate (length kinds.now) None }) }
+    {
+        let mut choices = Choices::new(alloc, ii)?;
+        let mut groups = Vec::with_capacity(alloc, kinds.len())?;
+        let mut latest = vec![in alloc; None; alternatives.len()]?;
+        for kind in kinds {
+            let earlier = latest[*kind];
+            latest[*kind] = Some(groups.len());
+            let own = alternatives[*kind].as_slice();
+            push_group(&mut choices, &mut groups, own, earlier)?;
+        }
+        Roster::unplaced(alloc, choices, groups)
+    }
+
+    /// Operations that have these groups of alternatives, with nothing placed.
+    fn unplaced(alloc: Global, choices: Choices, groups: Vec<Group>) -> Result<Roster, OutOfMemory>
+        requires { All (IsGroup (length choices.alternatives)) groups.items }
+        ensures { IfOk result
+            (λ r. r ≡ record { interval = choices.interval; operations = map (group_of choices.alternatives) groups.items; placed = replicate (length groups.items) None }) }
+    {
+        let issues = vec![in alloc; None; groups.len()]?;
         Ok(Roster {
             choices,
             groups,
@@ -255,6 +292,30 @@ fn takes(slots: &[Slot], ii: usize, base: usize, unit: u8, residue: usize) -> bo
         }
     }
     false
+}
+
+/// Adds the group of one operation more: that of an earlier operation, where one has the same alternatives, and else one
+/// of its own.
+fn push_group(
+    choices: &mut Choices,
+    groups: &mut Vec<Group>,
+    alternatives: &[Alternative],
+    earlier: Option<usize>,
+) -> Result<(), OutOfMemory>
+    requires well_formed { All IsAlternative alternatives.now }
+    requires each_group { All (IsGroup (length choices.old.alternatives)) groups.old.items }
+    requires earlier { IfSome earlier (λ e. (e < length groups.old.items) × (slice_index_or (map (group_of choices.old.alternatives) groups.old.items) e [] ≡ alternatives.now)) }
+    ensures interval { choices.new.interval ≡ choices.old.interval }
+    ensures each_group { IfOk result (λ _. All (IsGroup (length choices.new.alternatives)) groups.new.items) }
+    ensures count { IfOk result (λ _. length groups.new.items ≡ length groups.old.items + 1) }
+    ensures pushed { IfOk result (λ _. map (group_of choices.new.alternatives) groups.new.items ≡ map (group_of choices.old.alternatives) groups.old.items ++ alternatives.now ∷ []) }
+{
+    let group = match earlier {
+        Some(operation) => groups[operation],
+        None => added(choices, alternatives)?,
+    };
+    groups.push(group)?;
+    Ok(())
 }
 
 /// The group of some alternatives, which are added.

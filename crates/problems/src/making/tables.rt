@@ -51,7 +51,11 @@ fn alternatives_of(alloc: Global, units: usize, kind: &Kind) -> Result<Alternati
 }
 
 /// The alternatives of each kind.
-fn tables_of(alloc: Global, units: usize, kinds: &[Kind]) -> Result<Vec<Alternatives>, OutOfMemory>
+pub(crate) fn tables_of(
+    alloc: Global,
+    units: usize,
+    kinds: &[Kind],
+) -> Result<Vec<Alternatives>, OutOfMemory>
     requires few { units ≤ 64 }
     requires kinds { All (IsKind units) kinds.now }
     ensures { IfOk result (λ tables. tables.items ≡ map alternatives_of kinds.now) }
@@ -63,12 +67,16 @@ fn tables_of(alloc: Global, units: usize, kinds: &[Kind]) -> Result<Vec<Alternat
     Ok(tables)
 }
 
-/// The alternatives of each operation, in memory that the operations of a kind share.
-pub(crate) fn operations_of(alloc: Global, draft: &Draft) -> Result<Vec<Alternatives>, OutOfMemory>
-    requires { IsWellFormed draft.now }
+/// The alternatives of each operation, in memory that it shares with its kind; `tables` has those of each kind.
+pub(crate) fn operations_of(
+    alloc: Global,
+    draft: &Draft,
+    tables: &[Alternatives],
+) -> Result<Vec<Alternatives>, OutOfMemory>
+    requires well_formed { IsWellFormed draft.now }
+    requires tables { tables.now ≡ map alternatives_of draft.now.kinds.items }
     ensures { IfOk result (λ made. made.items ≡ operations_of draft.now) }
 {
-    let tables = tables_of(alloc, draft.units, draft.kinds.as_slice())?;
     let mut operations = Vec::with_capacity(alloc, draft.operations.len())?;
     for kind in draft.operations.as_slice() {
         operations.push(tables[*kind].copied(alloc)?)?;

@@ -1,6 +1,6 @@
 //! Intervals of one problem, tried one after another.
 
-ghost use Rattle.std.specs.Prelude.{◌≡◌, ◌≤◌, length, replicate, None, IfOk};
+ghost use Rattle.std.specs.Prelude.{◌≡◌, ◌<◌, ◌≤◌, length, replicate, None, IfOk};
 ghost use Rattle.modulo.specs.Problems.{budget_of};
 ghost use Rattle.problems.specs.Drafts.{plain_values};
 ghost use Rattle.solutions.specs.inner.Trying.{GivesOrFails};
@@ -95,9 +95,22 @@ impl<'a> Trials<'a> {
         prove!(self.problem.scheduling().mii() >= 1);
         match self.table.take() {
             Some(table) => table.at(ii),
-            None => DefaultTable::make(alloc, self.problem.scheduling().alternatives(), ii),
+            None => empty_table(alloc, self.problem, ii),
         }
     }
+}
+
+/// The table of a problem at an interval, with nothing placed.
+fn empty_table(alloc: Global, problem: &Problem, ii: u64) -> Result<DefaultTable, OutOfMemory>
+    requires some { 0 < ii }
+    requires few { ii ≤ 16384 }
+    ensures operations { IfOk result (λ table. table.operations ≡ problem.now.scheduling.operations) }
+    ensures empty { IfOk result (λ table. table.placed ≡ replicate (length problem.now.scheduling.operations) None) }
+    ensures interval { IfOk result (λ table. table.interval ≡ ii) }
+{
+    let draft = problem.draft();
+    let kinds = draft.operations.as_slice();
+    DefaultTable::of_kinds(alloc, problem.alternatives(), kinds, ii)
 }
 
 /// The solution of a schedule and the least numbers, where each value has one. `values` are those of the problem, as registers

@@ -10,6 +10,6 @@ invariant-loop-operation l = record {
   groups : map (group_of l.choices.alternatives) l.groups.items ≡ take l.operation-index l.operations;
   each_group : All (IsGroup (length l.choices.alternatives)) l.groups.items;
   count : length l.groups.items ≡ l.operation-index;
-  kinds : All (λ (kind : Kind). kind.operation < length l.groups.items) l.kinds.items;
+  kinds : All (λ (kind : Kind). kind.operation < l.operation-index) l.kinds.items;
   each_kind : All (IsKind l.operations) l.kinds.items;
 }
