@@ -1,3 +1,4 @@
 pub mod Cuts
+pub mod Labels
 pub mod Places
 pub mod Signs

@@ -1,5 +1,5 @@
 -- Words against their places, from left to right.
-use Rattle.std.proofs.Common.{◌≡◌, ℕ, List, [], ◌∷◌, Option, Some, None, refl}
+use Rattle.std.proofs.Common.{◌≡◌, ℕ, List, ◌∷◌, Option, Some, None, refl}
 use Rattle.problem_lines.specs.Fits.{misfit}
 use Rattle.problem_lines.specs.Lines.{places_fault}
 use Rattle.problem_lines.specs.Words.{Placed, behind}

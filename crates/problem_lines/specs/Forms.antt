@@ -1,5 +1,5 @@
 -- What a line of a problem text says.
-use Rattle.std.specs.Prelude.{ℕ, ◌+◌, Bool, if◌then◌else◌, List, [], ◌∷◌, length, Option, Some, None}
+use Rattle.std.specs.Prelude.{◌+◌, Bool, if◌then◌else◌, List, length, Option, Some, None}
 use Rattle.std.specs.List.{list_any, before_first, after_first}
 use Rattle.problem_lines.specs.Names.{is_at}
 use Rattle.problem_lines.specs.Words.{Placed}

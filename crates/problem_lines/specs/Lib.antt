@@ -5,6 +5,7 @@ pub mod Lines
 pub mod Names
 pub mod Numbers
 pub mod Parsed
+pub mod Promises
 pub mod Seen
 pub mod Texts
 pub mod Words

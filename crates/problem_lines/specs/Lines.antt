@@ -2,7 +2,7 @@
 --
 -- Behind each keyword the places are listed from left to right; what is read of the words is said beside them. A line of words that
 -- do not fit their places has the fault of the first that does not.
-use Rattle.std.specs.Prelude.{ℕ, codes, nat_le, Bool, true, false, if◌then◌else◌, List, [], ◌∷◌, ◌++◌, drop, length, map, Option, Some, None, Result, Ok, Err}
+use Rattle.std.specs.Prelude.{ℕ, codes, nat_le, Bool, true, false, if◌then◌else◌, List, [], ◌∷◌, drop, length, map, Option, Some, None, Result, Ok, Err}
 use Rattle.std.specs.Option.{option_or}
 use Rattle.machine_data.specs.Opcodes.{same_word}
 use Rattle.problem_lines.specs.Fits.{fault_on, misfit, surplus}

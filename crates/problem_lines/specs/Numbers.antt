@@ -1,5 +1,5 @@
 -- Numbers where they stand in a line.
-use Rattle.std.specs.Prelude.{ℕ, pos, ◌-◌, ◌^◌, min, List, length, unwrap_or}
+use Rattle.std.specs.Prelude.{◌-◌, ◌^◌, min, length, unwrap_or}
 use Rattle.std.specs.Str.Parse.{digits_value}
 use Rattle.loop_lines.specs.Forms.{int_of}
 use Rattle.problem_lines.specs.Words.{Placed}

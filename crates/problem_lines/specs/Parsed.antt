@@ -1,5 +1,5 @@
 -- The forms that are read, beside what they stand for.
-use Rattle.std.specs.Prelude.{ℕ, List, Option, Some, None, option_map, Result, Ok, Err}
+use Rattle.std.specs.Prelude.{Option, option_map, Result, Ok, Err}
 use Rattle.problem_lines.specs.Forms as spec
 use Rattle.problem_lines.specs.declared.fault.LineFault.{LineFault}
 use Rattle.problem_lines.specs.declared.form.Form.{Form}

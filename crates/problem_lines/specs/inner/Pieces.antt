@@ -1,5 +1,5 @@
 -- Words before they are judged.
-use Rattle.std.specs.Prelude.{ℕ, List, Option, Some, None, Result, Ok, Err}
+use Rattle.std.specs.Prelude.{Option, Some, None, Result, Ok, Err}
 use Rattle.problem_lines.specs.Words.{Placed}
 use Rattle.problem_lines.specs.declared.fault.LineFault.{LineFault}
 use Rattle.problem_lines.specs.declared.piece.Piece.{Piece}

@@ -1,4 +1,4 @@
-use Rattle.std.proofs.Common.{◌==◌, arith, sym, eq-eqb}
+use Rattle.std.proofs.Common.{arith, sym, eq-eqb}
 use Rattle.std.proofs.lemmas.List.Sums.{position_or_len_is}
 use Rattle.problem_lines.specs.Names.{is_at}
 use Rattle.problem_lines.proofs.names.count_unit.Goals as goal

@@ -1,4 +1,4 @@
-use Rattle.std.proofs.Common.{◌≡◌, ◌<◌, ◌∙◌, ap, sym, arith, not, length}
+use Rattle.std.proofs.Common.{◌≡◌, ◌<◌, arith, not, length}
 use Rattle.std.proofs.lemmas.List.Sums.{prefix_len-le-length}
 use Rattle.loop_lines.specs.Words.{stops_word}
 use Rattle.problem_lines.proofs.Cuts.{word_taken}
