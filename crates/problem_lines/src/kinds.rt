@@ -8,7 +8,6 @@ ghost use Rattle.problem_lines.specs.inner.Cursors.{are_holds, holds_fault};
 ghost use Rattle.problem_lines.specs.inner.Pieces.{fault_seen, placed};
 ghost use Rattle.problem_lines.specs.Forms.{hold_of};
 
-
 use crate::fault::{Expected, LineFault};
 use crate::keyword::is_text;
 use crate::left::Left;

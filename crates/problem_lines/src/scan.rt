@@ -67,8 +67,11 @@ pub(crate) fn first_word(rest: &[u8], column: usize) -> Option<(Piece<'_>, &[u8]
         return None;
     }
     let (bytes, after) = text.split_at(count);
-    Some((Piece {
-        bytes,
-        column: start,
-    }, after))
+    Some((
+        Piece {
+            bytes,
+            column: start,
+        },
+        after,
+    ))
 }
