@@ -135,15 +135,21 @@ unless_fault (Some fault) form = Err fault
 abbrev pub keyword_line : first.Keyword → LeftWords → Result Form LineFault
 keyword_line keyword left = unless_fault (places_fault (end_fault keyword) left.after (places keyword left.words) left.words) (says keyword left.words)
 
-abbrev pub some_form : Result Form LineFault → Result (Option Form) LineFault
-some_form (Ok form) = Ok (Some form)
-some_form (Err fault) = Err fault
+-- a line that says something, with the column and the width of its keyword
+pub record LineForm : Type 0 where
+  pub column : ℕ
+  pub width : ℕ
+  pub form : Form
 
-abbrev pub word_line : Option first.Keyword → Placed → List Placed → Result (Option Form) LineFault
+abbrev pub with_keyword : Placed → Result Form LineFault → Result (Option LineForm) LineFault
+with_keyword w (Ok form) = Ok (Some (record { column = w.column; width = length w.bytes; form = form }))
+with_keyword w (Err fault) = Err fault
+
+abbrev pub word_line : Option first.Keyword → Placed → List Placed → Result (Option LineForm) LineFault
 word_line None w ws = Err (fault_on Keyword w)
-word_line (Some keyword) w ws = some_form (keyword_line keyword (record { words = ws; after = behind w }))
+word_line (Some keyword) w ws = with_keyword w (keyword_line keyword (record { words = ws; after = behind w }))
 
 -- a line, which says nothing where it has no words
-abbrev pub line_form : List Placed → Result (Option Form) LineFault
+abbrev pub line_form : List Placed → Result (Option LineForm) LineFault
 line_form [] = Ok None
 line_form (w ∷ ws) = word_line (keyword_named w.bytes) w ws

@@ -4,7 +4,9 @@ use Rattle.problem_lines.specs.Forms as spec
 use Rattle.problem_lines.specs.declared.fault.LineFault.{LineFault}
 use Rattle.problem_lines.specs.declared.form.Form.{Form}
 use Rattle.problem_lines.specs.declared.form.Form.TheVariants as forms
+use Rattle.problem_lines.specs.Lines.{LineForm}
 use Rattle.problem_lines.specs.Seen.{word_seen}
+use Rattle.problem_lines.specs.declared.form.Line.{Line}
 
 abbrev pub form_seen : Form → spec.Form
 form_seen (forms.Machine name) = spec.MachineLine (word_seen name)
@@ -23,7 +25,10 @@ abbrev pub behind_seen : Result Form LineFault → Result spec.Form LineFault
 behind_seen (Ok form) = Ok (form_seen form)
 behind_seen (Err fault) = Err fault
 
+abbrev pub line_seen : Line → LineForm
+line_seen line = record { column = line.column; width = line.width; form = form_seen line.form }
+
 -- a line
-abbrev pub seen : Result (Option Form) LineFault → Result (Option spec.Form) LineFault
-seen (Ok form) = Ok (option_map form_seen form)
+abbrev pub seen : Result (Option Line) LineFault → Result (Option LineForm) LineFault
+seen (Ok line) = Ok (option_map line_seen line)
 seen (Err fault) = Err fault

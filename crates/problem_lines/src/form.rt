@@ -40,8 +40,22 @@ pub enum Form<'a> {
     End,
 }
 
+/// A line that says something.
+#[derive(Drop)]
+pub struct Line<'a> {
+    /// The column of its keyword's first byte, from 1.
+    pub column: usize,
+    /// How many bytes its keyword has.
+    pub width: usize,
+    /// What it says.
+    pub form: Form<'a>,
+}
+
 /// What a line says, or its first fault by its words alone. `None` where it has no words.
-pub fn form_of(line: &[u8]) -> Result<Option<Form<'_>>, LineFault>
+///
+/// # Errors
+/// The words have none of the forms.
+pub fn line_of(line: &[u8]) -> Result<Option<Line<'_>>, LineFault>
     ensures { seen result ≡ line_form (placed_words line.now) }
 {
     let mut left = Left::new(line);
@@ -56,7 +70,11 @@ pub fn form_of(line: &[u8]) -> Result<Option<Form<'_>>, LineFault>
         });
     };
     let form = form_behind(keyword, &mut left)?;
-    Ok(Some(form))
+    Ok(Some(Line {
+        column: word.column,
+        width: word.bytes.len(),
+        form,
+    }))
 }
 
 /// What a line says behind its keyword.

@@ -18,7 +18,7 @@ mod tests;
 mod word;
 
 pub use fault::{Expected, LineFault};
-pub use form::{Form, form_of};
+pub use form::{Form, Line, line_of};
 pub use kinds::{Alternatives, HoldWord, Holds};
 pub use laws::{names_are_labels, words_are_words};
 pub use lists::UnitNames;

@@ -1,7 +1,8 @@
 //! A line of each form and a fault of each sort, worked by hand.
 
 use crate::{
-    Alternatives, Expected, Form, HoldWord, LineFault, Number, Storage, UnitNames, Word, form_of,
+    Alternatives, Expected, Form, HoldWord, Line, LineFault, Number, Storage, UnitNames, Word,
+    line_of,
 };
 use std::fmt::Write;
 use std::process::Abort;
@@ -56,7 +57,7 @@ fn are_alternatives(mut alternatives: Alternatives<'_>) -> bool {
 
 /// A line says what is wanted.
 fn says(line: &[u8]) -> bool {
-    let Ok(Some(form)) = form_of(line) else {
+    let Ok(Some(line)) = line_of(line) else {
         return false;
     };
     let seven = |column| Number {
@@ -64,7 +65,7 @@ fn says(line: &[u8]) -> bool {
         column,
         width: 2,
     };
-    match form {
+    match line.form {
         Form::Machine(name) => is_at(name, "m{1}", 11),
         Form::Units(names) => are_units(names, &[("alu", 7), ("mem", 11)]),
         Form::File(name, Storage::Rotating(registers)) => {
@@ -117,7 +118,7 @@ fn each_form(rt: HostRuntime) {
     ] {
         assert!(rt; says(line));
     }
-    assert!(rt; matches!(form_of(b" \t# op a k"), Ok(None)));
+    assert!(rt; matches!(line_of(b" \t# op a k"), Ok(None)));
 }
 
 /// A line has this fault: what is expected at a column, in place of a word of so many bytes.
@@ -127,7 +128,7 @@ fn has_fault(line: &[u8], what: Expected, column: usize, width: usize) -> bool {
         width,
         what,
     };
-    matches!(form_of(line), Err(fault) if fault == wanted)
+    matches!(line_of(line), Err(fault) if fault == wanted)
 }
 
 #[test]
@@ -148,7 +149,16 @@ fn names_and_numbers_at_fault(rt: HostRuntime) {
     ] {
         assert!(rt; has_fault(line, what, column, width));
     }
-    assert!(rt; matches!(form_of(&long[..72]), Ok(Some(Form::Problem(_)))));
+    assert!(rt;
+        matches!(
+            line_of(&long[..72]),
+            Ok(Some(Line {
+                column: 1,
+                width: 7,
+                form: Form::Problem(_)
+            }))
+        )
+    );
 }
 
 #[test]
@@ -173,7 +183,7 @@ fn other_words_at_fault(rt: HostRuntime) {
 #[test]
 fn faults_are_told(rt: HostRuntime) -> Result<(), Fail> {
     let mut told = String::new(rt.alloc());
-    if let Err(fault) = form_of(b"units a|") {
+    if let Err(fault) = line_of(b"units a|") {
         write!(told, "{fault}")?;
     }
     assert_eq!(rt;
