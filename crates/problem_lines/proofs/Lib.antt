@@ -1,0 +1,4 @@
+pub mod Cuts
+pub mod Labels
+pub mod Places
+pub mod Signs

@@ -1,0 +1,12 @@
+pub mod Fits
+pub mod Forms
+pub mod Keywords
+pub mod Lines
+pub mod Names
+pub mod Numbers
+pub mod Parsed
+pub mod Promises
+pub mod Seen
+pub mod Texts
+pub mod Words
+pub mod inner

@@ -1,0 +1,97 @@
+//! What is wrong with a line by its words alone.
+
+use std::fmt;
+
+/// What has to stand where another word stands, or where the line ends.
+#[derive(Clone, Copy, Debug, PartialEq, Eq)]
+pub enum Expected {
+    /// The first word of a line.
+    Keyword,
+    /// A name of 1 to 64 bytes of printable ASCII, none of them `#`.
+    Name,
+    /// Such a name without `@` and `|`.
+    UnitName,
+    /// Digits.
+    Number,
+    /// Digits, or `-` and digits.
+    Integer,
+    /// `UNIT` or `UNIT@NUM`.
+    Hold,
+    /// `latency`
+    Latency,
+    /// `rotating` or `unallotted`
+    Storage,
+    /// `|`
+    Bar,
+    /// `of`
+    Of,
+    /// `lands`
+    Lands,
+    /// `in`
+    In,
+    /// `distance`
+    Distance,
+    /// `offset`
+    Offset,
+    /// `delay`
+    Delay,
+    /// No word: this one is behind the end of the form.
+    Nothing,
+}
+
+impl fmt::Display for Expected {
+    ghost use Rattle.std.specs.Prelude.{Some};
+    ghost use Rattle.problem_lines.specs.Texts.{expected_text};
+
+    ghost output = { λ what. Some (expected_text what) };
+
+    fn fmt<W: fmt::Write>(&self, f: &mut fmt::Formatter<W>) -> fmt::Result {
+        f.write_str(match self {
+            Expected::Keyword => {
+                "expected machine, units, file, kind, problem, op, value, read, edge or end"
+            }
+            Expected::Name => "expected a name of 1 to 64 printable characters",
+            Expected::UnitName => "expected a name of 1 to 64 printable characters without @ and |",
+            Expected::Number => "expected a number",
+            Expected::Integer => "expected an integer",
+            Expected::Hold => "expected UNIT or UNIT@NUMBER",
+            Expected::Latency => "expected latency",
+            Expected::Storage => "expected rotating or unallotted",
+            Expected::Bar => "expected |",
+            Expected::Of => "expected of",
+            Expected::Lands => "expected lands",
+            Expected::In => "expected in",
+            Expected::Distance => "expected distance",
+            Expected::Offset => "expected offset",
+            Expected::Delay => "expected delay",
+            Expected::Nothing => "nothing may follow here",
+        })
+    }
+}
+
+/// The first fault of a line by its words alone.
+#[derive(Clone, Copy, Debug, PartialEq, Eq)]
+pub struct LineFault {
+    /// The column, from 1, of the first byte of the word at fault. Where a word is missing, the column behind the
+    /// last byte of the line's last word.
+    pub column: usize,
+    /// How many bytes the word at fault has: 0 where a word is missing.
+    pub width: usize,
+    /// What has to stand there.
+    pub what: Expected,
+}
+
+impl fmt::Display for LineFault {
+    ghost use Rattle.std.specs.Prelude.{Some};
+    ghost use Rattle.problem_lines.specs.Texts.{fault_text};
+
+    ghost output = { λ fault. Some (fault_text fault) };
+
+    fn fmt<W: fmt::Write>(&self, f: &mut fmt::Formatter<W>) -> fmt::Result {
+        let column = self.column;
+        let what = self.what;
+        write!(f, "column {column}: {what}")
+    }
+}
+
+impl std::error::Error for LineFault {}

@@ -1,0 +1,56 @@
+//! The first words of lines.
+
+ghost use Rattle.std.specs.Prelude.{◌≡◌};
+ghost use Rattle.machine_data.specs.Opcodes.{same_word};
+ghost use Rattle.problem_lines.specs.Keywords.{keyword_named};
+
+/// What a line is about, by its first word.
+#[derive(Clone, Copy, Debug, PartialEq, Eq)]
+pub enum Keyword {
+    Machine,
+    Units,
+    File,
+    Kind,
+    Problem,
+    Op,
+    Value,
+    Read,
+    Edge,
+    End,
+}
+
+/// The bytes are those of this text.
+pub(crate) fn is_text(bytes: &[u8], text: &str) -> bool
+    ensures { result ≡ same_word bytes.now text.now }
+{
+    bytes == text.as_bytes()
+}
+
+/// The keyword that a word is.
+pub(crate) fn keyword_of(word: &[u8]) -> Option<Keyword>
+    ensures { result ≡ keyword_named word.now }
+{
+    if is_text(word, "machine") {
+        Some(Keyword::Machine)
+    } else if is_text(word, "units") {
+        Some(Keyword::Units)
+    } else if is_text(word, "file") {
+        Some(Keyword::File)
+    } else if is_text(word, "kind") {
+        Some(Keyword::Kind)
+    } else if is_text(word, "problem") {
+        Some(Keyword::Problem)
+    } else if is_text(word, "op") {
+        Some(Keyword::Op)
+    } else if is_text(word, "value") {
+        Some(Keyword::Value)
+    } else if is_text(word, "read") {
+        Some(Keyword::Read)
+    } else if is_text(word, "edge") {
+        Some(Keyword::Edge)
+    } else if is_text(word, "end") {
+        Some(Keyword::End)
+    } else {
+        None
+    }
+}

@@ -1,0 +1,26 @@
+//! One line of a text of scheduling problems: its words, and the form that they have or the first fault of
+//! them alone. It serves the reader of such texts.
+#![tactic(auto)]
+
+mod fault;
+mod form;
+mod keyword;
+mod kinds;
+mod laws;
+mod left;
+mod lists;
+mod names;
+mod number;
+mod piece;
+mod scan;
+#[cfg(test)]
+mod tests;
+mod word;
+
+pub use fault::{Expected, LineFault};
+pub use form::{Form, Line, line_of};
+pub use kinds::{Alternatives, HoldWord, Holds};
+pub use laws::{names_are_labels, words_are_words};
+pub use lists::UnitNames;
+pub use number::{Integer, Number, Storage};
+pub use word::Word;
