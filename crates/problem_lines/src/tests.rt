@@ -75,7 +75,7 @@ fn says(line: &[u8]) -> bool {
         Form::Kind(name, latency, alternatives) => {
             is_at(name, "k", 6) && latency.value == 2 && are_alternatives(alternatives)
         }
-        Form::Problem(name) => is_at(name, "p", 9),
+        Form::Problem(name) => is_at(name, "p", 9) && name.label().as_str() == "p",
         Form::Op(name, kind) => is_at(name, "a", 4) && is_at(kind, "k", 6),
         Form::Value(name, maker, lands, file, out) => {
             is_at(name, "v", 7)
