@@ -8,7 +8,7 @@ use Rattle.graph.specs.Units.{first_lacking}
 use Rattle.workers.specs.Files.{AnswersFile, AnswersIn, AnswersOn}
 use Rattle.file_faults.specs.declared.fault.FileFault.{FileFault}
 use Rattle.file_faults.specs.declared.fault.FileFault.TheVariants as file
-use Rattle.workers.proofs.Answering.{on_ok}
+use Rattle.file_faults.proofs.Answering.{on_ok}
 use Rattle.modsched.specs.Outcomes.{OutcomeIn, OutcomeOf, OutcomeOn, Written, NoTable as NoTableFor}
 use Rattle.modsched.specs.inner.Refusals.{HasOneMemory, IsRefusal, PrintoutAnswer}
 use Rattle.endings.specs.Statuses.{refusal_of_file}

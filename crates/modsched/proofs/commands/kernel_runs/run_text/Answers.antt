@@ -6,7 +6,7 @@ use Rattle.ims.specs.Problems.{ProblemData}
 use Rattle.candidates.specs.declared.listings.Row as row
 use Rattle.candidates.specs.Texts.{counts_line}
 use Rattle.workers.specs.Files.{PreparesAndLists}
-use Rattle.workers.proofs.Answering.{lists_of, right_of}
+use Rattle.workers.proofs.Listed.{lists_of, right_of}
 use Rattle.modsched.specs.Schedule.{are_met}
 use Rattle.modsched.specs.Run.{IsRunText, choice_lines}
 use Rattle.modsched.specs.inner.Runnable.{IsRunnable}
