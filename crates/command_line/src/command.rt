@@ -18,9 +18,9 @@ pub struct Command {
 /// What is done with loops.
 #[derive(Debug, Drop)]
 pub enum Work {
-    /// Run each loop plainly, so many times, and tell what it changed. No machine is read.
+    /// Run each plainly, with this trip count, and tell what it changed. No machine is read.
     Plain(Trip),
-    /// Tell what they are on a machine.
+    /// Tell something of them on a machine.
     OnMachine {
         /// The path of the machine's file.
         machine: String,
@@ -38,11 +38,11 @@ pub enum Task {
     Edges,
     /// The dependences of each loop, as graphs for Graphviz.
     Dot,
-    /// The kernels that are searched for so, or what follows from them.
+    /// What comes of a search for kernels with these settings.
     Search(Settings, Search),
 }
 
-/// What is told of a search for the kernel of each loop.
+/// What is told where a kernel is searched for, for each loop.
 #[derive(Debug, Drop)]
 pub enum Search {
     /// The listing.
@@ -51,7 +51,7 @@ pub enum Search {
     Json,
     /// Why each loop has its interval.
     Explain,
-    /// What each kernel changes, where it is run so many times.
+    /// What the run of each kernel changes, with this trip count.
     Run(Trip),
 }
 

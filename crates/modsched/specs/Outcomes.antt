@@ -7,7 +7,7 @@ pub record Written : Type 0 where
   pub text : List ℕ
   pub all_met : Bool
 
--- what a subcommand does with its texts: it writes, or it refuses them
+-- what a subcommand does with its texts: it writes, or it refuses them; or memory ran out, which says nothing of them
 abbrev pub Outcome : Type 0
 Outcome = Result Written FileFault
 

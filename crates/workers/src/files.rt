@@ -63,7 +63,7 @@ pub fn pipeline_file<R: Threads + Sync, G: Gate + Sync>(
     }
 }
 
-/// What loops give on a machine, as [`pipeline`] tells it of their texts. Some 1,024 loops are the most that a text can have.
+/// What loops give on a machine: what [`pipeline`] tells of their texts. There are at most 1,024, which is the most that a text has.
 ///
 /// # Errors
 /// The first loop with an opcode that the machine has no table for; and [`FileFault::Memory`], where the calling thread was

@@ -13,6 +13,15 @@ fn read(alloc: Global, words: &[&str]) -> Result<(String, String, Task), Fail> {
     }
 }
 
+/// The paths and the settings of a line whose command looks for kernels, and what is told of them.
+fn searched(alloc: Global, words: &[&str]) -> Result<(String, String, Settings, Search), Fail> {
+    let (machine, loops, task) = read(alloc, words)?;
+    match task {
+        Task::Search(settings, search) => Ok((machine, loops, settings, search)),
+        _ => Err(Fail::from("a command that looks for no kernels")),
+    }
+}
+
 #[test]
 fn reads_the_paths(rt: HostRuntime) -> Result<(), Fail> {
     let lines: [(&[&str], &str, &str); 6] = [
@@ -110,15 +119,11 @@ fn reads_the_settings(rt: HostRuntime) -> Result<(), Fail> {
         ),
     ];
     for (words, numbers) in lines {
-        let (machine, loops, task) = read(rt.alloc(), words)?;
+        let (machine, loops, settings, search) = searched(rt.alloc(), words)?;
         assert_eq!(rt; machine.as_str(), "m");
         assert_eq!(rt; loops.as_str(), "l");
-        match task {
-            Task::Search(settings, Search::Schedule) => {
-                assert_eq!(rt; numbers_of(settings), numbers);
-            }
-            other => panic!(rt; "{other:?}"),
-        }
+        assert_eq!(rt; numbers_of(settings), numbers);
+        assert!(rt; matches!(search, Search::Schedule), "{search:?}");
     }
     Ok(())
 }
@@ -136,14 +141,12 @@ fn numbers_of(settings: Settings) -> [u64; 4] {
 #[test]
 fn reads_the_settings_of_a_run(rt: HostRuntime) -> Result<(), Fail> {
     let words = ["run", "m", "--ratio", "2", "l", "--trip", "100"];
-    let (machine, loops, task) = read(rt.alloc(), &words)?;
+    let (machine, loops, settings, search) = searched(rt.alloc(), &words)?;
     assert_eq!(rt; machine.as_str(), "m");
     assert_eq!(rt; loops.as_str(), "l");
-    match task {
-        Task::Search(settings, Search::Run(trip)) => {
-            assert_eq!(rt; trip.count(), 100);
-            assert_eq!(rt; numbers_of(settings), [2, 32, 4, 4]);
-        }
+    assert_eq!(rt; numbers_of(settings), [2, 32, 4, 4]);
+    match search {
+        Search::Run(trip) => assert_eq!(rt; trip.count(), 100),
         other => panic!(rt; "{other:?}"),
     }
     Ok(())
@@ -152,30 +155,22 @@ fn reads_the_settings_of_a_run(rt: HostRuntime) -> Result<(), Fail> {
 #[test]
 fn reads_the_settings_of_a_document(rt: HostRuntime) -> Result<(), Fail> {
     let words = ["json", "--ratio", "2", "m", "l", "--ceiling", "9"];
-    let (machine, loops, task) = read(rt.alloc(), &words)?;
+    let (machine, loops, settings, search) = searched(rt.alloc(), &words)?;
     assert_eq!(rt; machine.as_str(), "m");
     assert_eq!(rt; loops.as_str(), "l");
-    match task {
-        Task::Search(settings, Search::Json) => {
-            assert_eq!(rt; numbers_of(settings), [2, 9, 4, 4]);
-        }
-        other => panic!(rt; "{other:?}"),
-    }
+    assert_eq!(rt; numbers_of(settings), [2, 9, 4, 4]);
+    assert!(rt; matches!(search, Search::Json), "{search:?}");
     Ok(())
 }
 
 #[test]
 fn reads_the_settings_of_an_explanation(rt: HostRuntime) -> Result<(), Fail> {
     let words = ["explain", "m", "--ceiling", "9", "l"];
-    let (machine, loops, task) = read(rt.alloc(), &words)?;
+    let (machine, loops, settings, search) = searched(rt.alloc(), &words)?;
     assert_eq!(rt; machine.as_str(), "m");
     assert_eq!(rt; loops.as_str(), "l");
-    match task {
-        Task::Search(settings, Search::Explain) => {
-            assert_eq!(rt; numbers_of(settings), [6, 9, 4, 4]);
-        }
-        other => panic!(rt; "{other:?}"),
-    }
+    assert_eq!(rt; numbers_of(settings), [6, 9, 4, 4]);
+    assert!(rt; matches!(search, Search::Explain), "{search:?}");
     Ok(())
 }
 
