@@ -19,7 +19,7 @@ use Rattle.modsched.specs.Outcomes.{Outcome}
 use Rattle.modsched.specs.Devices.{most_read}
 use Rattle.modsched.specs.Engine.{Brings, WorkBrings}
 use Rattle.modsched.specs.inner.Refusals.{IsRefusal}
-use Rattle.endings.specs.Statuses.{loops_status, refusal_of_file, refusal_of_loops, refusal_of_machine, status_number}
+use Rattle.endings.specs.Statuses.{loops_status, refusal_of_file, refusal_of_machine, status_number}
 use Rattle.endings.specs.declared.status.Status.{Status}
 use Rattle.endings.specs.declared.status.Status.TheVariants.{Done, Unmet, MachineUnread, LoopsUnread, Machine, Loops, NoTable, Unwritten, OutOfMemory}
 
