@@ -8,19 +8,18 @@ use Rattle.command_line.specs.declared.line.Usage.{Usage}
 use Rattle.command_line.specs.declared.line.Usage.TheVariants.{Help, Refused, Memory}
 use Rattle.clap.proofs.OnLiterals.{clap_on_literals}
 use Rattle.clap.specs.declared.error.kind.ErrorKind.TheVariants.{OutOfMemory}
-use Rattle.command_line.specs.Lines.{IsRead, IsRequest, IsToldBy, Means, MeansNamed, SaysTrip, SaysNumber, SaySettings, program_line, schedule_line, run_line, json_line, explain_line, bounds_line, edges_line, dot_line, plain_line}
+use Rattle.command_line.specs.Lines.{IsRead, IsRequest, IsTaskGiven, IsToldBy, IsWorkGiven, Means, SaysNumber, SaySettings, program_line, search_line, run_line, plain_line}
 use Rattle.settings.specs.Settings.{AreSettings, SettingsData}
 use Rattle.clap.specs.declared.builder.command.Command.TheViews.{out-Command}
-use Rattle.std.specs.Prelude.{nat_eq}
 use Rattle.command_line.specs.inner.Made.{IsAdded}
-use Rattle.std.specs.Cmp.Lexicographic.{pointwise}
 use Rattle.std.proofs.lemmas.Bool.{and_parts}
-use Rattle.std.proofs.lemmas.Cmp.{nat_list_eq_equiv}
-use Rattle.command_line.specs.declared.line.Command.{Command}
-use Rattle.command_line.specs.declared.line.Command.TheVariants.{Bounds, Edges, Dot, Plain, Schedule, Json, Explain, Run}
+use Rattle.command_line.specs.declared.command.Command.{Command}
+use Rattle.command_line.specs.declared.command.Task.{Task}
+use Rattle.command_line.specs.declared.command.Work.{Work}
+use Rattle.command_line.specs.declared.command.Work.TheVariants.{Plain, OnMachine}
 
 pub program_is_free : is_simple_and_free program_line ≡ true
-unfolding program_line schedule_line run_line json_line explain_line bounds_line edges_line dot_line plain_line clap_on_literals
+unfolding program_line search_line run_line plain_line clap_on_literals
 program_is_free = refl
 
 -- of which this is a part, so that it is not computed again
@@ -70,23 +69,12 @@ say-one given ratio ceiling workers cut settings r c w u h =
       cut_few = subst (λ (n : ℕ). n ≤ 256) same_cut h.4.cut_few;
     }
 
--- names that are compared and found different differ
-differ : (a b : List ℕ) → pointwise nat_eq a b ≡ false → a ≡ b → ⊥
-differ a b is_other e =
-    let is_same : pointwise nat_eq a b ≡ true = subst (λ (t : List ℕ). pointwise nat_eq a t ≡ true) e (nat_list_eq_equiv.refl a) in absurd (cc)
-
--- no command of `plain` is meant where the path is missing, or where no trip count is said
-pub plain-none : (rows : List Row) → (first_of (codes "loops") rows ≡ None) ⊎ ((trip : ℕ) → ¬ SaysTrip (first_of (codes "trip") rows) trip)
-    → (c : Command) → MeansNamed c (codes "plain") rows → ⊥
-plain-none rows missing (Bounds machine loops) h = differ _ _ refl h.0
-plain-none rows missing (Edges machine loops) h = differ _ _ refl h.0
-plain-none rows missing (Dot machine loops) h = differ _ _ refl h.0
-plain-none rows (inl none) (Plain loops trip) h = let there = h.1.0 in absurd (cc)
-plain-none rows (inr none) (Plain loops trip) h = none trip h.1.1
-plain-none rows missing (Schedule machine loops settings) h = differ _ _ refl h.0
-plain-none rows missing (Json machine loops settings) h = differ _ _ refl h.0
-plain-none rows missing (Explain machine loops settings) h = differ _ _ refl h.0
-plain-none rows missing (Run machine loops trip settings) h = differ _ _ refl h.0
+-- no work is given by a subcommand but `plain`, where the path of the machine is missing or no task is given
+pub work-none : (rows : List Row) (name : Text) → (name ≡ codes "plain" → ⊥) → (first_of (codes "machine") rows ≡ None) ⊎ ((t : Task) → ¬ IsTaskGiven t name rows)
+    → (w : Work) → IsWorkGiven w name rows → ⊥
+work-none rows name other missing (Plain trip) h = other h.0
+work-none rows name other (inl none) (OnMachine machine task) h = let there = h.0 in absurd (cc)
+work-none rows name other (inr none) (OnMachine machine task) h = none task h.1
 
 -- what was found, said of equal matches
 pub Means-at : (found : Option Command) (c : Command) (s t : Option (Text × List Row)) → found ≡ Some c

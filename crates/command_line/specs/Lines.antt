@@ -5,8 +5,13 @@ use Rattle.clap.specs.Words.{App, IsAmong, Kinds, Row, Rule, Text, first_of, new
 use Rattle.clap.specs.declared.builder.value_parser.ValueParser.TheVariants.{Unsigned}
 use Rattle.clap.specs.declared.error.kind.ErrorKind.{ErrorKind}
 use Rattle.clap.specs.declared.error.kind.ErrorKind.TheVariants as kind
-use Rattle.command_line.specs.declared.line.Command.{Command}
-use Rattle.command_line.specs.declared.line.Command.TheVariants.{Bounds, Edges, Dot, Plain, Schedule, Json, Explain, Run}
+use Rattle.command_line.specs.declared.command.Command.{Command}
+use Rattle.command_line.specs.declared.command.Work.{Work}
+use Rattle.command_line.specs.declared.command.Work.TheVariants.{Plain, OnMachine}
+use Rattle.command_line.specs.declared.command.Task.{Task}
+use Rattle.command_line.specs.declared.command.Task.TheVariants as task
+use Rattle.command_line.specs.declared.command.Search.{Search}
+use Rattle.command_line.specs.declared.command.Search.TheVariants.{Schedule, Json, Explain, Run}
 use Rattle.command_line.specs.declared.line.Usage.{Usage}
 use Rattle.command_line.specs.declared.line.Usage.TheVariants.{Help, Refused, Memory}
 use Rattle.settings.specs.Settings.{AreSettings, SettingsData}
@@ -18,16 +23,6 @@ path_rule id = record (new_rule id) { value_names = 1; required = true }
 -- a subcommand with the paths of both files: `NAME MACHINE LOOPS`
 abbrev pub with_paths : Text → App
 with_paths name = with_rule (with_rule (new_app name) (path_rule (codes "machine"))) (path_rule (codes "loops"))
-
--- `bounds MACHINE LOOPS`, `edges MACHINE LOOPS` and `dot MACHINE LOOPS`
-unfoldable pub bounds_line : App
-bounds_line = with_paths (codes "bounds")
-
-unfoldable pub edges_line : App
-edges_line = with_paths (codes "edges")
-
-unfoldable pub dot_line : App
-dot_line = with_paths (codes "dot")
 
 -- `--trip N`, which has to be given: a number from 0 to 100,000
 abbrev pub trip_rule : Rule
@@ -67,15 +62,9 @@ cut_rule = number_rule (codes "cut") (codes "4") 1 256
 abbrev pub with_search : App → App
 with_search app = with_rule (with_rule (with_rule (with_rule app ratio_rule) ceiling_rule) workers_rule) cut_rule
 
--- `schedule MACHINE LOOPS`, `json MACHINE LOOPS` and `explain MACHINE LOOPS`, and the four
-unfoldable pub schedule_line : App
-schedule_line = with_search (with_paths (codes "schedule"))
-
-unfoldable pub json_line : App
-json_line = with_search (with_paths (codes "json"))
-
-unfoldable pub explain_line : App
-explain_line = with_search (with_paths (codes "explain"))
+-- a subcommand that looks for kernels: `NAME MACHINE LOOPS`, and the four
+unfoldable pub search_line : Text → App
+search_line name = with_search (with_paths name)
 
 -- `run MACHINE LOOPS --trip N`, and the four
 unfoldable pub run_line : App
@@ -97,38 +86,28 @@ bare_line =
 -- a line with the subcommands that look for kernels
 abbrev pub with_kernels : App → App
 with_kernels app =
-    with_subcommand (with_subcommand (with_subcommand (with_subcommand app schedule_line.top) run_line.top) json_line.top) explain_line.top
+    with_subcommand (with_subcommand (with_subcommand (with_subcommand app (search_line (codes "schedule")).top) run_line.top) (search_line (codes "json")).top) (search_line (codes "explain")).top
 
 -- a line with those that look for none
 abbrev pub with_reports : App → App
 with_reports app =
-    with_subcommand (with_subcommand (with_subcommand (with_subcommand app bounds_line.top) edges_line.top) dot_line.top) plain_line.top
+    with_subcommand (with_subcommand (with_subcommand (with_subcommand app (with_paths (codes "bounds")).top) (with_paths (codes "edges")).top) (with_paths (codes "dot")).top) plain_line.top
 
 -- the program's line, with all of its subcommands
 unfoldable pub program_line : App
 program_line = with_reports (with_kernels bare_line)
 
 -- the path of the machine's file, where a command reads one
+abbrev pub machine_of_work : Work → Option Text
+machine_of_work (Plain trip) = None
+machine_of_work (OnMachine machine task) = Some (string_bytes machine)
+
 abbrev pub machine_path : Command → Option Text
-machine_path (Bounds machine loops) = Some (string_bytes machine)
-machine_path (Edges machine loops) = Some (string_bytes machine)
-machine_path (Dot machine loops) = Some (string_bytes machine)
-machine_path (Plain loops trip) = None
-machine_path (Schedule machine loops settings) = Some (string_bytes machine)
-machine_path (Json machine loops settings) = Some (string_bytes machine)
-machine_path (Explain machine loops settings) = Some (string_bytes machine)
-machine_path (Run machine loops trip settings) = Some (string_bytes machine)
+machine_path command = machine_of_work command.work
 
 -- the path of the loops' file
 abbrev pub loops_path : Command → Text
-loops_path (Bounds machine loops) = string_bytes loops
-loops_path (Edges machine loops) = string_bytes loops
-loops_path (Dot machine loops) = string_bytes loops
-loops_path (Plain loops trip) = string_bytes loops
-loops_path (Schedule machine loops settings) = string_bytes loops
-loops_path (Json machine loops settings) = string_bytes loops
-loops_path (Explain machine loops settings) = string_bytes loops
-loops_path (Run machine loops trip settings) = string_bytes loops
+loops_path command = string_bytes command.loops
 
 -- a word is a number in decimal digits, with or without a plus before them
 abbrev pub Says : Text → ℕ → Type 0
@@ -151,41 +130,28 @@ SaySettings settings given = SaysNumber (first_of (codes "ratio") given) setting
     × SaysNumber (first_of (codes "cut") given) settings.cut
     × AreSettings settings
 
--- a subcommand was given these paths
-abbrev pub HasPaths : Text → Text → List Row → Type 0
-HasPaths machine loops given =
-    (first_of (codes "machine") given ≡ Some machine) × (first_of (codes "loops") given ≡ Some loops)
+-- the subcommand of this name tells that of the kernels, and was given what it needs
+abbrev pub IsSearchGiven : Search → Text → List Row → Type 0
+IsSearchGiven Schedule name given = name ≡ codes "schedule"
+IsSearchGiven Json name given = name ≡ codes "json"
+IsSearchGiven Explain name given = name ≡ codes "explain"
+IsSearchGiven (Run trip) name given = (name ≡ codes "run") × SaysTrip (first_of (codes "trip") given) trip
 
--- the name of a command's subcommand
-abbrev pub name_of : Command → Text
-name_of (Bounds machine loops) = codes "bounds"
-name_of (Edges machine loops) = codes "edges"
-name_of (Dot machine loops) = codes "dot"
-name_of (Plain loops trip) = codes "plain"
-name_of (Schedule machine loops settings) = codes "schedule"
-name_of (Json machine loops settings) = codes "json"
-name_of (Explain machine loops settings) = codes "explain"
-name_of (Run machine loops trip settings) = codes "run"
+-- .. tells that of the loops on a machine: where it looks for kernels, by the settings that it was given
+abbrev pub IsTaskGiven : Task → Text → List Row → Type 0
+IsTaskGiven task.Bounds name given = name ≡ codes "bounds"
+IsTaskGiven task.Edges name given = name ≡ codes "edges"
+IsTaskGiven task.Dot name given = name ≡ codes "dot"
+IsTaskGiven (task.Search settings search) name given = SaySettings settings given × IsSearchGiven search name given
 
--- a command has what its subcommand was given
-abbrev pub HasGiven : Command → List Row → Type 0
-HasGiven (Bounds machine loops) given = HasPaths (string_bytes machine) (string_bytes loops) given
-HasGiven (Edges machine loops) given = HasPaths (string_bytes machine) (string_bytes loops) given
-HasGiven (Dot machine loops) given = HasPaths (string_bytes machine) (string_bytes loops) given
-HasGiven (Plain loops trip) given =
-    (first_of (codes "loops") given ≡ Some (string_bytes loops)) × SaysTrip (first_of (codes "trip") given) trip
-HasGiven (Schedule machine loops settings) given =
-    HasPaths (string_bytes machine) (string_bytes loops) given × SaySettings settings given
-HasGiven (Json machine loops settings) given =
-    HasPaths (string_bytes machine) (string_bytes loops) given × SaySettings settings given
-HasGiven (Explain machine loops settings) given =
-    HasPaths (string_bytes machine) (string_bytes loops) given × SaySettings settings given
-HasGiven (Run machine loops trip settings) given =
-    HasPaths (string_bytes machine) (string_bytes loops) given × SaysTrip (first_of (codes "trip") given) trip × SaySettings settings given
+-- .. does that with the loops: `plain` runs them by itself, and the others were given a machine
+abbrev pub IsWorkGiven : Work → Text → List Row → Type 0
+IsWorkGiven (Plain trip) name given = (name ≡ codes "plain") × SaysTrip (first_of (codes "trip") given) trip
+IsWorkGiven (OnMachine machine task) name given = (first_of (codes "machine") given ≡ Some (string_bytes machine)) × IsTaskGiven task name given
 
 -- a command is of a subcommand of this name, and has what that was given
 abbrev pub MeansNamed : Command → Text → List Row → Type 0
-MeansNamed command name given = (name ≡ name_of command) × HasGiven command given
+MeansNamed command name given = (first_of (codes "loops") given ≡ Some (string_bytes command.loops)) × IsWorkGiven command.work name given
 
 abbrev pub Means : Command → Option (Text × List Row) → Type 0
 Means command None = ⊥

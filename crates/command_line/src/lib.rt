@@ -1,10 +1,12 @@
 //! The program's command line: the commands, their words, and the help.
 #![tactic(auto)]
 
+mod command;
 mod help;
 mod line;
 mod trip;
 
-pub use line::{Command, Usage, parse_line};
+pub use command::{Command, Search, Task, Work};
+pub use line::{Usage, parse_line};
 pub use settings::Settings;
 pub use trip::{TRIP_LIMIT, Trip};

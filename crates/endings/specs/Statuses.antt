@@ -1,7 +1,5 @@
 -- The numbers by which a run of the program exits, and the lines that tell of a fault.
 use Rattle.std.specs.Prelude.{ℕ, codes, List, [], ◌++◌}
-use Rattle.graph_text.specs.declared.fault.TextFault.{TextFault}
-use Rattle.graph_text.specs.declared.fault.TextFault.TheVariants as text
 use Rattle.loops.specs.Faults.{loop_fault_text}
 use Rattle.loops.specs.LoopFault.{LoopFault}
 use Rattle.loops.specs.LoopFaultKind.{LoopFaultKind}
@@ -78,11 +76,6 @@ refusal_of_file (file.Machine f) = refusal_of_machine f
 refusal_of_file (file.Loops f) = refusal_of_loops f
 refusal_of_file (file.NoTable name opcode) = NoTable name opcode
 refusal_of_file file.Memory = OutOfMemory
-
--- the status of loops that have no text on a machine
-abbrev pub refusal_of_text : TextFault → Status
-refusal_of_text (text.NoTable name opcode) = NoTable name opcode
-refusal_of_text text.Memory = OutOfMemory
 
 -- a refused machine text
 abbrev pub machine_line : MachineFault → List ℕ

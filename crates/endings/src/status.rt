@@ -1,14 +1,11 @@
 //! How a run of the program ends.
 
 ghost use Rattle.std.specs.Prelude.{◌≡◌, ◌<◌, ◌↔◌, IsSome, IfSome};
-ghost use Rattle.endings.specs.Statuses.{status_number, refusal_of_file, refusal_of_machine, refusal_of_loops, refusal_of_text};
-ghost use Rattle.endings.specs.declared.status.Status.TheVariants.{OutOfMemory};
+ghost use Rattle.endings.specs.Statuses.{status_number, refusal_of_file, refusal_of_machine, refusal_of_loops};
 
 use file_faults::FileFault;
-use graph_text::TextFault;
 use loops::{LoopFault, LoopFaultKind};
 use machine::{MachineFault, Name, Opcode};
-use std::alloc::AllocError;
 use std::fmt;
 use std::marker::Model;
 
@@ -105,28 +102,6 @@ impl From<FileFault> for Status {
             FileFault::NoTable(name, opcode) => Status::NoTable { name, opcode },
             FileFault::Memory => Status::OutOfMemory,
         }
-    }
-}
-
-/// Loops that have no text on a machine end as their fault says; for want of memory alone, in
-/// `OutOfMemory`.
-impl From<TextFault> for Status {
-    ghost from_gives = { λ fault status. status ≡ refusal_of_text fault };
-
-    fn from(fault: TextFault) -> Status {
-        match fault {
-            TextFault::NoTable(name, opcode) => Status::NoTable { name, opcode },
-            TextFault::Memory => Status::OutOfMemory,
-        }
-    }
-}
-
-/// A refused allocation ends in `OutOfMemory`.
-impl From<AllocError> for Status {
-    ghost from_gives = { λ _ status. status ≡ OutOfMemory };
-
-    fn from(_e: AllocError) -> Status {
-        Status::OutOfMemory
     }
 }
 

@@ -8,6 +8,8 @@ use Rattle.loops.specs.LoopFault.{LoopFault}
 use Rattle.loops.specs.LoopFaultKind.{LoopFaultKind}
 use Rattle.loops.specs.LoopFaultKind.TheVariants as kind
 use Rattle.loops.specs.Faults.{loop_fault_text}
+use Rattle.graph_text.specs.declared.fault.TextFault.{TextFault}
+use Rattle.graph_text.specs.declared.fault.TextFault.TheVariants as text
 use Rattle.file_faults.specs.declared.fault.FileFault.{FileFault}
 use Rattle.file_faults.specs.declared.fault.FileFault.TheVariants.{Machine, Loops, NoTable, Memory}
 
@@ -22,6 +24,11 @@ of_kind kind fault = Loops fault
 
 abbrev pub of_loops : LoopFault → FileFault
 of_loops fault = of_kind fault.kind fault
+
+-- and one of loops that have no text on a machine
+abbrev pub of_text : TextFault → FileFault
+of_text (text.NoTable name opcode) = NoTable name opcode
+of_text text.Memory = Memory
 
 -- what is told of a fault
 abbrev pub told_of : FileFault → List ℕ

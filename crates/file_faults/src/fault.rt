@@ -2,8 +2,9 @@
 
 ghost use Rattle.std.specs.Prelude.{◌≡◌};
 ghost use Rattle.file_faults.specs.declared.fault.FileFault.TheVariants.{Memory};
-ghost use Rattle.file_faults.specs.Faults.{of_loops, of_machine};
+ghost use Rattle.file_faults.specs.Faults.{of_loops, of_machine, of_text};
 
+use graph_text::TextFault;
 use loops::{LoopFault, LoopFaultKind};
 use machine::{MachineFault, Name, Opcode};
 use std::alloc::{AllocError, AllocFailed};
@@ -61,6 +62,17 @@ impl From<LoopFault> for FileFault {
         match fault.kind {
             LoopFaultKind::Memory => FileFault::Memory,
             _ => FileFault::Loops(fault),
+        }
+    }
+}
+
+impl From<TextFault> for FileFault {
+    ghost from_gives = { λ fault e. e ≡ of_text fault };
+
+    fn from(fault: TextFault) -> FileFault {
+        match fault {
+            TextFault::NoTable(name, opcode) => FileFault::NoTable(name, opcode),
+            TextFault::Memory => FileFault::Memory,
         }
     }
 }

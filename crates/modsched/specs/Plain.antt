@@ -1,14 +1,13 @@
--- What `plain` writes, and when it refuses.
-use Rattle.std.specs.Prelude.{ℕ, ℤ, pos, ◌+◌, ◌-ℤ◌, decimal, codes, Bool, true, not, if◌then◌else◌, List, [], ◌++◌, length, map, Result, Ok, Err}
+-- What `plain` writes.
+use Rattle.std.specs.Prelude.{◌≡◌, ℕ, ℤ, pos, ◌+◌, ◌-ℤ◌, decimal, codes, Bool, true, not, if◌then◌else◌, List, [], ◌++◌, length, map}
 use Rattle.std.specs.List.{enumerate_from, filter, flat_map, range_with_len, zip}
 use Rattle.std.specs.Fmt.{signed_decimal}
 use Rattle.std.specs.Ordering.{int_eq}
-use Rattle.loops.specs.LoopFault.{LoopFault}
 use Rattle.loops.specs.Array.{Array}
 use Rattle.loops.specs.Loops.{LoopData}
 use Rattle.loops.specs.Run.{MemoryData, cell_of, opening_of, plain}
 use Rattle.loops.specs.Text.{value_name}
-use Rattle.modsched.specs.Outcomes.{Outcome, Written, RefusedLoops, last_line}
+use Rattle.modsched.specs.Outcomes.{Written, last_line}
 
 -- lines, each with a line feed
 
@@ -71,7 +70,6 @@ plain_lines trip loop = run_lines loop (opening_of loop trip) (plain loop (openi
 abbrev pub plain_text : ℕ → List LoopData → List ℕ
 plain_text trip loops = flat_map (plain_lines trip) loops ++ last_line (length loops)
 
--- what `plain` does with what its text means
-abbrev pub plain_outcome : ℕ → Result (List LoopData) LoopFault → Outcome
-plain_outcome trip (Err fault) = RefusedLoops fault
-plain_outcome trip (Ok loops) = Written (plain_text trip loops) true
+-- and that text is written
+abbrev pub IsPlainText : ℕ → List LoopData → Written → Type 0
+IsPlainText trip loops written = (written.all_met ≡ true) × (written.text ≡ plain_text trip loops)

@@ -1,5 +1,5 @@
 -- What `run` writes.
-use Rattle.std.specs.Prelude.{◌≡◌, ◌≤◌, ℕ, Bool, List, ◌++◌}
+use Rattle.std.specs.Prelude.{◌≡◌, ◌≤◌, ℕ, List, ◌++◌}
 use Rattle.std.specs.List.{flat_map, zip}
 use Rattle.machine.specs.Machines.{MachineData}
 use Rattle.loops.specs.Loops.{LoopData}
@@ -13,6 +13,7 @@ use Rattle.candidates.specs.declared.listings.Row.{Row}
 use Rattle.candidates.specs.Listings.{ListingData}
 use Rattle.candidates.specs.Promises.{IsRight, Lists}
 use Rattle.candidates.specs.Texts.{row_text, counts_line}
+use Rattle.modsched.specs.Outcomes.{Written}
 use Rattle.modsched.specs.Plain.{plain_lines, run_lines}
 use Rattle.modsched.specs.Schedule.{are_met}
 
@@ -31,12 +32,12 @@ told_lines trip ceiling loops rows = flat_map (λ (pair : LoopData × Row). choi
 
 -- the lines of all loops, by the listing of one thread, each kernel of which is right, and then `loops A met B failed F`; with whether
 -- every loop has a kernel
-pub record IsRunText (trip ratio ceiling : ℕ) (machine : MachineData) (loops : List LoopData) (text : List ℕ) (all_met : Bool) : Type 0 where
+pub record IsRunText (trip ratio ceiling : ℕ) (machine : MachineData) (loops : List LoopData) (written : Written) : Type 0 where
   pub listing : ListingData
   pub lists : Lists machine loops ratio ceiling listing
   pub right : IsRight machine loops listing
-  pub is_text : text ≡ told_lines trip listing.ceiling loops listing.rows ++ counts_line listing.rows
-  pub met : all_met ≡ are_met listing.rows
+  pub is_text : written.text ≡ told_lines trip listing.ceiling loops listing.rows ++ counts_line listing.rows
+  pub met : written.all_met ≡ are_met listing.rows
 
 -- the lines of the run of a kernel that runs as its loop are those of the loop's plain run
 abbrev pub KernelsTellPlainLines : Type 0

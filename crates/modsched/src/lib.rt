@@ -6,7 +6,7 @@ mod laws;
 mod output;
 mod subcommand;
 
-pub use command_line::{Command, TRIP_LIMIT, Trip, Usage, parse_line};
+pub use command_line::{Command, Search, TRIP_LIMIT, Task, Trip, Usage, Work, parse_line};
 pub use devices::{
     Bytes, Fault, FaultyInput, FaultyOutput, FileInput, Input, Output, ReadTextError,
     StandardOutput, TEXT_LIMIT, TakenBytes, read_text, write_text,

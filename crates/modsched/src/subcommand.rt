@@ -4,12 +4,14 @@ ghost use Rattle.std.specs.Prelude.{◌≡◌, ◌+◌, ◌-◌, ◌^◌, ◌<�
 ghost use Rattle.modsched.specs.Devices.{most_read};
 ghost use Rattle.modsched.specs.Engine.{Does, Ends, machine_for, reads_machine};
 ghost use Rattle.endings.specs.Writing.{CountsFault};
-ghost use Rattle.endings.specs.Statuses.{HasAnswered, HasWritten, IsComplete, status_number};
+ghost use Rattle.endings.specs.Statuses.{HasAnswered, HasWritten, IsComplete, refusal_of_file, status_number};
+ghost use Rattle.modsched.specs.inner.Refusals.{IsRefusal};
 
-use crate::output::printout::printout_of;
-use command_line::Command;
+use crate::commands::printout_of;
+use command_line::{Command, Work};
 use devices::{Input, Output, ReadTextError, read_text};
 use endings::{Status, finish};
+use file_faults::FileFault;
 use std::alloc::Global;
 use std::thread::Threads;
 
@@ -70,8 +72,8 @@ pub fn engine<R: Threads + Sync, M: Input, L: Input, O: Output>(
         Err(ReadTextError::Memory) => return Status::OutOfMemory,
     };
     match printout_of(rt, alloc, command, machine.as_slice(), loops.as_slice()) {
-        Ok(printout) => finish(output, printout.text.as_slice(), printout.all_met),
-        Err(status) => status,
+        Ok(printout) => finish(output, printout.text(), printout.all_met()),
+        Err(fault) => refused(fault),
     }
 }
 
@@ -89,14 +91,16 @@ fn machine_text<M: Input>(
     ensures fault { IsErrOf result ReadTextError.Fault ↔ (M.failed input.new ≡ M.failed input.old + 1) }
     ensures memory { IsErrOf result ReadTextError.Memory → M.failed input.new ≡ M.failed input.old }
 {
-    match command {
-        Command::Plain { .. } => Ok(Vec::new(alloc)),
-        Command::Bounds { .. }
-        | Command::Edges { .. }
-        | Command::Dot { .. }
-        | Command::Schedule { .. }
-        | Command::Json { .. }
-        | Command::Explain { .. }
-        | Command::Run { .. } => read_text(alloc, input),
+    match &command.work {
+        Work::Plain(_) => Ok(Vec::new(alloc)),
+        Work::OnMachine { .. } => read_text(alloc, input),
     }
+}
+
+/// The status of a refusal.
+fn refused(fault: FileFault) -> Status
+    ensures status { result ≡ refusal_of_file fault }
+    ensures kind { IsRefusal result }
+{
+    Status::from(fault)
 }

@@ -8,7 +8,7 @@ ghost use Rattle.graph.specs.Units.{first_without_table, first_lacking, lacking_
 ghost use Rattle.ims.specs.Problems.{IsProblemOf};
 ghost use Rattle.candidates.specs.Choices.{IsChoice};
 ghost use Rattle.candidates.specs.Promises.{IsRight};
-ghost use Rattle.workers.specs.Files.{AnswersFile, AnswersIn, AnswersOn, HaveCeiling, ListsFile, ListsProblems, Prepares, PreparesAndLists};
+ghost use Rattle.workers.specs.Files.{AnswersFile, AnswersOn, HaveCeiling, ListsFile, ListsProblems, Prepares, PreparesAndLists};
 
 use candidates::{Listing, Pieces, Settings, prepare};
 use file_faults::FileFault;
@@ -37,10 +37,9 @@ pub fn pipeline<R: Threads + Sync, G: Gate + Sync>(
 ) -> Result<(Vec<Prepared>, Listing), FileFault>
     ensures exact { AnswersFile (PreparesAndLists settings.now.ratio settings.now.ceiling) (machine_of machine.now) (loops_in loops.now) result }
 {
-    match read_machine(alloc, machine) {
-        Ok(machine) => pipeline_on(rt, alloc, &machine, loops, settings, gate),
-        Err(fault) => Err(FileFault::from(fault)),
-    }
+    let machine = read_machine(alloc, machine)?;
+    let loops = read_loops(alloc, loops)?;
+    pipeline_on(rt, alloc, &machine, loops, settings, gate)
 }
 
 /// The listing that two texts give, as [`pipeline`] tells it.
@@ -64,25 +63,12 @@ pub fn pipeline_file<R: Threads + Sync, G: Gate + Sync>(
     }
 }
 
-/// What the loops' text gives on a machine.
-fn pipeline_on<R: Threads + Sync, G: Gate + Sync>(
-    rt: &R,
-    alloc: Global,
-    machine: &Machine,
-    loops: &[u8],
-    settings: &Settings,
-    gate: &G,
-) -> Result<(Vec<Prepared>, Listing), FileFault>
-    ensures exact { AnswersIn (PreparesAndLists settings.now.ratio settings.now.ceiling machine.now) machine.now (loops_in loops.now) result }
-{
-    match read_loops(alloc, loops) {
-        Ok(loops) => pipeline_of(rt, alloc, machine, loops, settings, gate),
-        Err(fault) => Err(FileFault::from(fault)),
-    }
-}
-
-/// What loops give on a machine.
-fn pipeline_of<R: Threads + Sync, G: Gate + Sync>(
+/// What loops give on a machine: what [`pipeline`] tells of their texts. There are at most 1,024, which is the most that a text has.
+///
+/// # Errors
+/// The first loop with an opcode that the machine has no table for; and [`FileFault::Memory`], where the calling thread was
+/// refused memory.
+pub fn pipeline_on<R: Threads + Sync, G: Gate + Sync>(
     rt: &R,
     alloc: Global,
     machine: &Machine,

@@ -3,7 +3,7 @@
 ghost use Rattle.std.specs.Prelude.{◌≡◌, codes, false, IfOk};
 ghost use Rattle.clap.specs.Words.{app_of, new_app, rule_of};
 ghost use Rattle.clap.specs.declared.builder.command.Command.TheViews.{out-Command};
-ghost use Rattle.command_line.specs.Lines.{program_line, bare_line, with_kernels, with_reports, bounds_line, plain_line, edges_line, dot_line, schedule_line, json_line, explain_line, run_line, with_paths, with_search, path_rule, trip_rule, option_rule, ratio_rule, ceiling_rule, workers_rule, cut_rule};
+ghost use Rattle.command_line.specs.Lines.{program_line, bare_line, with_kernels, with_reports, plain_line, search_line, run_line, with_paths, with_search, path_rule, trip_rule, option_rule, ratio_rule, ceiling_rule, workers_rule, cut_rule};
 ghost use Rattle.command_line.specs.inner.Made.{IsAdded};
 
 use crate::help;
@@ -41,19 +41,29 @@ fn bare_program<'a>(alloc: Global) -> Result<Command<'a>, AllocError>
 fn with_kernels<'a>(alloc: Global, command: Command<'a>) -> Result<Command<'a>, AllocError>
     ensures { IfOk result (λ c. app_of c ≡ with_kernels (app_of command.entry)) }
 {
-    let command = add(command, schedule(alloc))?;
+    use help::{EXPLAIN_ABOUT, EXPLAIN_LONG_ABOUT, JSON_ABOUT, JSON_LONG_ABOUT};
+    use help::{SCHEDULE_ABOUT, SCHEDULE_LONG_ABOUT};
+    let made = search(alloc, "schedule", SCHEDULE_ABOUT, SCHEDULE_LONG_ABOUT);
+    let command = add(command, made)?;
     let command = add(command, run(alloc))?;
-    let command = add(command, json(alloc))?;
-    add(command, explain(alloc))
+    let made = search(alloc, "json", JSON_ABOUT, JSON_LONG_ABOUT);
+    let command = add(command, made)?;
+    let made = search(alloc, "explain", EXPLAIN_ABOUT, EXPLAIN_LONG_ABOUT);
+    add(command, made)
 }
 
 // A line with those that look for none.
 fn with_reports<'a>(alloc: Global, command: Command<'a>) -> Result<Command<'a>, AllocError>
     ensures { IfOk result (λ c. app_of c ≡ with_reports (app_of command.entry)) }
 {
-    let command = add(command, bounds(alloc))?;
-    let command = add(command, edges(alloc))?;
-    let command = add(command, dot(alloc))?;
+    use help::{BOUNDS_ABOUT, BOUNDS_LONG_ABOUT, DOT_ABOUT, DOT_LONG_ABOUT};
+    use help::{EDGES_ABOUT, EDGES_LONG_ABOUT};
+    let made = over_files(alloc, "bounds", BOUNDS_ABOUT, BOUNDS_LONG_ABOUT);
+    let command = add(command, made)?;
+    let made = over_files(alloc, "edges", EDGES_ABOUT, EDGES_LONG_ABOUT);
+    let command = add(command, made)?;
+    let made = over_files(alloc, "dot", DOT_ABOUT, DOT_LONG_ABOUT);
+    let command = add(command, made)?;
     add(command, plain(alloc))
 }
 
@@ -94,17 +104,17 @@ fn over_files<'a>(
         .arg(loops(alloc))
 }
 
-// The subcommand `schedule`.
-fn schedule<'a>(alloc: Global) -> Result<Command<'a>, AllocError>
-    ensures app { IfOk result (λ c. app_of c ≡ schedule_line) }
+// A subcommand that looks for kernels.
+fn search<'a>(
+    alloc: Global,
+    name: &'a str,
+    about: &'a str,
+    long_about: &'a str,
+) -> Result<Command<'a>, AllocError>
+    ensures app { IfOk result (λ c. app_of c ≡ search_line name.entry.now) }
     ensures local { IfOk result (λ c. (out-Command c).has_globals ≡ false) }
 {
-    let command = over_files(
-        alloc,
-        "schedule",
-        help::SCHEDULE_ABOUT,
-        help::SCHEDULE_LONG_ABOUT,
-    )?;
+    let command = over_files(alloc, name, about, long_about)?;
     with_search(alloc, command)
 }
 
@@ -115,53 +125,6 @@ fn run<'a>(alloc: Global) -> Result<Command<'a>, AllocError>
 {
     let command = over_files(alloc, "run", help::RUN_ABOUT, help::RUN_LONG_ABOUT)?;
     with_search(alloc, command.arg(trip(alloc))?)
-}
-
-// The subcommand `json`.
-fn json<'a>(alloc: Global) -> Result<Command<'a>, AllocError>
-    ensures app { IfOk result (λ c. app_of c ≡ json_line) }
-    ensures local { IfOk result (λ c. (out-Command c).has_globals ≡ false) }
-{
-    let command = over_files(alloc, "json", help::JSON_ABOUT, help::JSON_LONG_ABOUT)?;
-    with_search(alloc, command)
-}
-
-// The subcommand `explain`.
-fn explain<'a>(alloc: Global) -> Result<Command<'a>, AllocError>
-    ensures app { IfOk result (λ c. app_of c ≡ explain_line) }
-    ensures local { IfOk result (λ c. (out-Command c).has_globals ≡ false) }
-{
-    let command = over_files(
-        alloc,
-        "explain",
-        help::EXPLAIN_ABOUT,
-        help::EXPLAIN_LONG_ABOUT,
-    )?;
-    with_search(alloc, command)
-}
-
-// The subcommand `bounds`.
-fn bounds<'a>(alloc: Global) -> Result<Command<'a>, AllocError>
-    ensures app { IfOk result (λ c. app_of c ≡ bounds_line) }
-    ensures local { IfOk result (λ c. (out-Command c).has_globals ≡ false) }
-{
-    over_files(alloc, "bounds", help::BOUNDS_ABOUT, help::BOUNDS_LONG_ABOUT)
-}
-
-// The subcommand `edges`.
-fn edges<'a>(alloc: Global) -> Result<Command<'a>, AllocError>
-    ensures app { IfOk result (λ c. app_of c ≡ edges_line) }
-    ensures local { IfOk result (λ c. (out-Command c).has_globals ≡ false) }
-{
-    over_files(alloc, "edges", help::EDGES_ABOUT, help::EDGES_LONG_ABOUT)
-}
-
-// The subcommand `dot`.
-fn dot<'a>(alloc: Global) -> Result<Command<'a>, AllocError>
-    ensures app { IfOk result (λ c. app_of c ≡ dot_line) }
-    ensures local { IfOk result (λ c. (out-Command c).has_globals ≡ false) }
-{
-    over_files(alloc, "dot", help::DOT_ABOUT, help::DOT_LONG_ABOUT)
 }
 
 // The subcommand `plain`.

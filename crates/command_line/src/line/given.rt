@@ -1,11 +1,11 @@
 //! What the subcommand of a line was given, as a command.
 
-ghost use Rattle.std.specs.Prelude.{◌<◌, ◌^◌, ℕ, List, codes, IfOk, IfSome, IfNone, string_bytes};
+ghost use Rattle.std.specs.Prelude.{◌≡◌, ◌<◌, ◌^◌, ℕ, codes, IfOk, IfSome, IfNone};
 ghost use Rattle.clap.specs.Words.{first_of, found_of, rows_of, subcommand_rows_of};
-ghost use Rattle.command_line.specs.Lines.{Says, SaysTrip, SaysNumber, SaySettings, HasPaths, Means, MeansNamed};
+ghost use Rattle.command_line.specs.Lines.{Says, SaysTrip, SaysNumber, SaySettings, Means, MeansNamed, IsWorkGiven, IsTaskGiven, IsSearchGiven};
 ghost use Rattle.settings.specs.Settings.{SettingsData};
 
-use super::Command;
+use crate::command::{Command, Search, Task, Work};
 use crate::trip::Trip;
 use clap::ArgMatches;
 use settings::Settings;
@@ -19,167 +19,83 @@ pub(super) fn command_of(
     ensures meant { IfOk result (λ found. IfSome found (λ c. Means c (subcommand_rows_of matches.now))) }
     ensures none { IfOk result (λ found. IfNone found ((c : Command) → ¬ Means c (subcommand_rows_of matches.now))) }
 {
-    if let Some(values) = matches.subcommand_matches("schedule") {
-        return schedule_given(alloc, values);
-    }
-    if let Some(values) = matches.subcommand_matches("run") {
-        return run_given(alloc, values);
-    }
-    if let Some(values) = matches.subcommand_matches("json") {
-        return json_given(alloc, values);
-    }
-    if let Some(values) = matches.subcommand_matches("explain") {
-        return explain_given(alloc, values);
-    }
-    if let Some(values) = matches.subcommand_matches("bounds") {
-        return bounds_given(alloc, values);
-    }
-    if let Some(values) = matches.subcommand_matches("edges") {
-        return edges_given(alloc, values);
-    }
-    if let Some(values) = matches.subcommand_matches("dot") {
-        return dot_given(alloc, values);
-    }
-    match matches.subcommand_matches("plain") {
-        Some(values) => plain_given(alloc, values),
+    match matches.subcommand() {
+        Some((name, values)) => named(alloc, name, values),
         None => Ok(None),
     }
 }
 
-// The command of the values of `schedule`.
-fn schedule_given(alloc: Global, values: &ArgMatches<'_>) -> Result<Option<Command>, AllocError>
-    ensures meant { IfOk result (λ found. IfSome found (λ c. MeansNamed c (codes "schedule") (rows_of (found_of values.now)))) }
-    ensures none { IfOk result (λ found. IfNone found ((c : Command) → ¬ MeansNamed c (codes "schedule") (rows_of (found_of values.now)))) }
+// The command of the subcommand of this name.
+fn named(alloc: Global, name: &str, values: &ArgMatches<'_>) -> Result<Option<Command>, AllocError>
+    ensures meant { IfOk result (λ found. IfSome found (λ c. MeansNamed c name.now (rows_of (found_of values.now)))) }
+    ensures none { IfOk result (λ found. IfNone found ((c : Command) → ¬ MeansNamed c name.now (rows_of (found_of values.now)))) }
 {
-    let Some(settings) = settings_given(values) else {
+    let Some(work) = work_given(alloc, name, values)? else {
         return Ok(None);
     };
-    match paths_given(alloc, values)? {
-        Some((machine, loops)) => Ok(Some(Command::Schedule {
-            machine,
-            loops,
-            settings,
-        })),
-        None => Ok(None),
-    }
-}
-
-// The command of the values of `run`.
-fn run_given(alloc: Global, values: &ArgMatches<'_>) -> Result<Option<Command>, AllocError>
-    ensures meant { IfOk result (λ found. IfSome found (λ c. MeansNamed c (codes "run") (rows_of (found_of values.now)))) }
-    ensures none { IfOk result (λ found. IfNone found ((c : Command) → ¬ MeansNamed c (codes "run") (rows_of (found_of values.now)))) }
-{
-    let (Some(trip), Some(settings)) = (trip_given(values), settings_given(values)) else {
-        return Ok(None);
-    };
-    match paths_given(alloc, values)? {
-        Some((machine, loops)) => Ok(Some(Command::Run {
-            machine,
-            loops,
-            trip,
-            settings,
-        })),
-        None => Ok(None),
-    }
-}
-
-// The command of the values of `json`.
-fn json_given(alloc: Global, values: &ArgMatches<'_>) -> Result<Option<Command>, AllocError>
-    ensures meant { IfOk result (λ found. IfSome found (λ c. MeansNamed c (codes "json") (rows_of (found_of values.now)))) }
-    ensures none { IfOk result (λ found. IfNone found ((c : Command) → ¬ MeansNamed c (codes "json") (rows_of (found_of values.now)))) }
-{
-    let Some(settings) = settings_given(values) else {
-        return Ok(None);
-    };
-    match paths_given(alloc, values)? {
-        Some((machine, loops)) => Ok(Some(Command::Json {
-            machine,
-            loops,
-            settings,
-        })),
-        None => Ok(None),
-    }
-}
-
-// The command of the values of `explain`.
-fn explain_given(alloc: Global, values: &ArgMatches<'_>) -> Result<Option<Command>, AllocError>
-    ensures meant { IfOk result (λ found. IfSome found (λ c. MeansNamed c (codes "explain") (rows_of (found_of values.now)))) }
-    ensures none { IfOk result (λ found. IfNone found ((c : Command) → ¬ MeansNamed c (codes "explain") (rows_of (found_of values.now)))) }
-{
-    let Some(settings) = settings_given(values) else {
-        return Ok(None);
-    };
-    match paths_given(alloc, values)? {
-        Some((machine, loops)) => Ok(Some(Command::Explain {
-            machine,
-            loops,
-            settings,
-        })),
-        None => Ok(None),
-    }
-}
-
-// The command of the values of `bounds`.
-fn bounds_given(alloc: Global, values: &ArgMatches<'_>) -> Result<Option<Command>, AllocError>
-    ensures meant { IfOk result (λ found. IfSome found (λ c. MeansNamed c (codes "bounds") (rows_of (found_of values.now)))) }
-    ensures none { IfOk result (λ found. IfNone found ((c : Command) → ¬ MeansNamed c (codes "bounds") (rows_of (found_of values.now)))) }
-{
-    match paths_given(alloc, values)? {
-        Some((machine, loops)) => Ok(Some(Command::Bounds { machine, loops })),
-        None => Ok(None),
-    }
-}
-
-// The command of the values of `edges`.
-fn edges_given(alloc: Global, values: &ArgMatches<'_>) -> Result<Option<Command>, AllocError>
-    ensures meant { IfOk result (λ found. IfSome found (λ c. MeansNamed c (codes "edges") (rows_of (found_of values.now)))) }
-    ensures none { IfOk result (λ found. IfNone found ((c : Command) → ¬ MeansNamed c (codes "edges") (rows_of (found_of values.now)))) }
-{
-    match paths_given(alloc, values)? {
-        Some((machine, loops)) => Ok(Some(Command::Edges { machine, loops })),
-        None => Ok(None),
-    }
-}
-
-// The command of the values of `dot`.
-fn dot_given(alloc: Global, values: &ArgMatches<'_>) -> Result<Option<Command>, AllocError>
-    ensures meant { IfOk result (λ found. IfSome found (λ c. MeansNamed c (codes "dot") (rows_of (found_of values.now)))) }
-    ensures none { IfOk result (λ found. IfNone found ((c : Command) → ¬ MeansNamed c (codes "dot") (rows_of (found_of values.now)))) }
-{
-    match paths_given(alloc, values)? {
-        Some((machine, loops)) => Ok(Some(Command::Dot { machine, loops })),
-        None => Ok(None),
-    }
-}
-
-// The command of the values of `plain`.
-fn plain_given(alloc: Global, values: &ArgMatches<'_>) -> Result<Option<Command>, AllocError>
-    ensures meant { IfOk result (λ found. IfSome found (λ c. MeansNamed c (codes "plain") (rows_of (found_of values.now)))) }
-    ensures none { IfOk result (λ found. IfNone found ((c : Command) → ¬ MeansNamed c (codes "plain") (rows_of (found_of values.now)))) }
-{
-    match (values.get_str("loops"), trip_given(values)) {
-        (Some(loops), Some(trip)) => Ok(Some(Command::Plain {
+    match values.get_str("loops") {
+        Some(loops) => Ok(Some(Command {
             loops: String::from_str(alloc, loops)?,
-            trip,
+            work,
+        })),
+        None => Ok(None),
+    }
+}
+
+// What is done with the loops by the subcommand of this name.
+fn work_given(
+    alloc: Global,
+    name: &str,
+    values: &ArgMatches<'_>,
+) -> Result<Option<Work>, AllocError>
+    ensures meant { IfOk result (λ found. IfSome found (λ w. IsWorkGiven w name.now (rows_of (found_of values.now)))) }
+    ensures none { IfOk result (λ found. IfNone found ((w : Work) → ¬ IsWorkGiven w name.now (rows_of (found_of values.now)))) }
+{
+    if name == "plain" {
+        return match trip_given(values) {
+            Some(trip) => Ok(Some(Work::Plain(trip))),
+            None => Ok(None),
+        };
+    }
+    match (values.get_str("machine"), task_given(name, values)) {
+        (Some(machine), Some(task)) => Ok(Some(Work::OnMachine {
+            machine: String::from_str(alloc, machine)?,
+            task,
         })),
         _ => Ok(None),
     }
 }
 
-// The paths of the machine's file and of the loops' file.
-fn paths_given(
-    alloc: Global,
-    values: &ArgMatches<'_>,
-) -> Result<Option<(String, String)>, AllocError>
-    ensures given { IfOk result (λ found. IfSome found (λ p. HasPaths (string_bytes p.0) (string_bytes p.1) (rows_of (found_of values.now)))) }
-    ensures none { IfOk result (λ found. IfNone found ((machine loops : List ℕ) → ¬ HasPaths machine loops (rows_of (found_of values.now)))) }
+// What is told of the loops on a machine by the subcommand of this name.
+fn task_given(name: &str, values: &ArgMatches<'_>) -> Option<Task>
+    ensures meant { IfSome result (λ t. IsTaskGiven t name.now (rows_of (found_of values.now))) }
+    ensures none { IfNone result ((t : Task) → ¬ IsTaskGiven t name.now (rows_of (found_of values.now))) }
 {
-    match (values.get_str("machine"), values.get_str("loops")) {
-        (Some(machine), Some(loops)) => Ok(Some((
-            String::from_str(alloc, machine)?,
-            String::from_str(alloc, loops)?,
-        ))),
-        _ => Ok(None),
+    match name {
+        "bounds" => Some(Task::Bounds),
+        "edges" => Some(Task::Edges),
+        "dot" => Some(Task::Dot),
+        _ => match (settings_given(values), search_given(name, values)) {
+            (Some(settings), Some(search)) => Some(Task::Search(settings, search)),
+            _ => None,
+        },
+    }
+}
+
+// What is told of the kernels by the subcommand of this name.
+fn search_given(name: &str, values: &ArgMatches<'_>) -> Option<Search>
+    ensures meant { IfSome result (λ s. IsSearchGiven s name.now (rows_of (found_of values.now))) }
+    ensures none { IfNone result ((s : Search) → ¬ IsSearchGiven s name.now (rows_of (found_of values.now))) }
+{
+    match name {
+        "schedule" => Some(Search::Schedule),
+        "json" => Some(Search::Json),
+        "explain" => Some(Search::Explain),
+        "run" => match trip_given(values) {
+            Some(trip) => Some(Search::Run(trip)),
+            None => None,
+        },
+        _ => None,
     }
 }
 

@@ -1,7 +1,26 @@
-use super::{Command, Usage, parse_line};
+use super::{Usage, parse_line};
+use crate::command::{Command, Search, Task, Work};
 use settings::Settings;
 use std::alloc::Global;
 use std::test::Fail;
+
+/// The paths and the task of a line whose command reads a machine.
+fn read(alloc: Global, words: &[&str]) -> Result<(String, String, Task), Fail> {
+    let Command { loops, work } = parse_line(alloc, words)?;
+    match work {
+        Work::OnMachine { machine, task } => Ok((machine, loops, task)),
+        Work::Plain(_) => Err(Fail::from("a command that reads no machine")),
+    }
+}
+
+/// The paths and the settings of a line whose command looks for kernels, and what is told of them.
+fn searched(alloc: Global, words: &[&str]) -> Result<(String, String, Settings, Search), Fail> {
+    let (machine, loops, task) = read(alloc, words)?;
+    match task {
+        Task::Search(settings, search) => Ok((machine, loops, settings, search)),
+        _ => Err(Fail::from("a command that looks for no kernels")),
+    }
+}
 
 #[test]
 fn reads_the_paths(rt: HostRuntime) -> Result<(), Fail> {
@@ -14,33 +33,24 @@ fn reads_the_paths(rt: HostRuntime) -> Result<(), Fail> {
         (&["bounds", "bounds", "help"], "bounds", "help"),
     ];
     for (words, first, second) in lines {
-        match parse_line(rt.alloc(), words)? {
-            Command::Bounds { machine, loops } => {
-                assert_eq!(rt; machine.as_str(), first);
-                assert_eq!(rt; loops.as_str(), second);
-            }
-            other => panic!(rt; "{other:?}"),
-        }
+        let (machine, loops, task) = read(rt.alloc(), words)?;
+        assert_eq!(rt; machine.as_str(), first);
+        assert_eq!(rt; loops.as_str(), second);
+        assert!(rt; matches!(task, Task::Bounds), "{task:?}");
     }
     Ok(())
 }
 
 #[test]
 fn reads_the_paths_of_graphs(rt: HostRuntime) -> Result<(), Fail> {
-    match parse_line(rt.alloc(), &["edges", "m.toml", "l.txt"])? {
-        Command::Edges { machine, loops } => {
-            assert_eq!(rt; machine.as_str(), "m.toml");
-            assert_eq!(rt; loops.as_str(), "l.txt");
-        }
-        other => panic!(rt; "{other:?}"),
-    }
-    match parse_line(rt.alloc(), &["dot", "m.toml", "l.txt"])? {
-        Command::Dot { machine, loops } => {
-            assert_eq!(rt; machine.as_str(), "m.toml");
-            assert_eq!(rt; loops.as_str(), "l.txt");
-        }
-        other => panic!(rt; "{other:?}"),
-    }
+    let (machine, loops, task) = read(rt.alloc(), &["edges", "m.toml", "l.txt"])?;
+    assert_eq!(rt; machine.as_str(), "m.toml");
+    assert_eq!(rt; loops.as_str(), "l.txt");
+    assert!(rt; matches!(task, Task::Edges), "{task:?}");
+    let (machine, loops, task) = read(rt.alloc(), &["dot", "m.toml", "l.txt"])?;
+    assert_eq!(rt; machine.as_str(), "m.toml");
+    assert_eq!(rt; loops.as_str(), "l.txt");
+    assert!(rt; matches!(task, Task::Dot), "{task:?}");
     Ok(())
 }
 
@@ -57,11 +67,10 @@ fn reads_the_trip_count(rt: HostRuntime) -> Result<(), Fail> {
         (&["plain", "plain", "--trip", "64"], "plain", 64),
     ];
     for (words, path, count) in lines {
-        match parse_line(rt.alloc(), words)? {
-            Command::Plain { loops, trip } => {
-                assert_eq!(rt; loops.as_str(), path);
-                assert_eq!(rt; trip.count(), count);
-            }
+        let Command { loops, work } = parse_line(rt.alloc(), words)?;
+        assert_eq!(rt; loops.as_str(), path);
+        match work {
+            Work::Plain(trip) => assert_eq!(rt; trip.count(), count),
             other => panic!(rt; "{other:?}"),
         }
     }
@@ -110,18 +119,11 @@ fn reads_the_settings(rt: HostRuntime) -> Result<(), Fail> {
         ),
     ];
     for (words, numbers) in lines {
-        match parse_line(rt.alloc(), words)? {
-            Command::Schedule {
-                machine,
-                loops,
-                settings,
-            } => {
-                assert_eq!(rt; machine.as_str(), "m");
-                assert_eq!(rt; loops.as_str(), "l");
-                assert_eq!(rt; numbers_of(settings), numbers);
-            }
-            other => panic!(rt; "{other:?}"),
-        }
+        let (machine, loops, settings, search) = searched(rt.alloc(), words)?;
+        assert_eq!(rt; machine.as_str(), "m");
+        assert_eq!(rt; loops.as_str(), "l");
+        assert_eq!(rt; numbers_of(settings), numbers);
+        assert!(rt; matches!(search, Search::Schedule), "{search:?}");
     }
     Ok(())
 }
@@ -139,18 +141,12 @@ fn numbers_of(settings: Settings) -> [u64; 4] {
 #[test]
 fn reads_the_settings_of_a_run(rt: HostRuntime) -> Result<(), Fail> {
     let words = ["run", "m", "--ratio", "2", "l", "--trip", "100"];
-    match parse_line(rt.alloc(), &words)? {
-        Command::Run {
-            machine,
-            loops,
-            trip,
-            settings,
-        } => {
-            assert_eq!(rt; machine.as_str(), "m");
-            assert_eq!(rt; loops.as_str(), "l");
-            assert_eq!(rt; trip.count(), 100);
-            assert_eq!(rt; numbers_of(settings), [2, 32, 4, 4]);
-        }
+    let (machine, loops, settings, search) = searched(rt.alloc(), &words)?;
+    assert_eq!(rt; machine.as_str(), "m");
+    assert_eq!(rt; loops.as_str(), "l");
+    assert_eq!(rt; numbers_of(settings), [2, 32, 4, 4]);
+    match search {
+        Search::Run(trip) => assert_eq!(rt; trip.count(), 100),
         other => panic!(rt; "{other:?}"),
     }
     Ok(())
@@ -159,36 +155,22 @@ fn reads_the_settings_of_a_run(rt: HostRuntime) -> Result<(), Fail> {
 #[test]
 fn reads_the_settings_of_a_document(rt: HostRuntime) -> Result<(), Fail> {
     let words = ["json", "--ratio", "2", "m", "l", "--ceiling", "9"];
-    match parse_line(rt.alloc(), &words)? {
-        Command::Json {
-            machine,
-            loops,
-            settings,
-        } => {
-            assert_eq!(rt; machine.as_str(), "m");
-            assert_eq!(rt; loops.as_str(), "l");
-            assert_eq!(rt; numbers_of(settings), [2, 9, 4, 4]);
-        }
-        other => panic!(rt; "{other:?}"),
-    }
+    let (machine, loops, settings, search) = searched(rt.alloc(), &words)?;
+    assert_eq!(rt; machine.as_str(), "m");
+    assert_eq!(rt; loops.as_str(), "l");
+    assert_eq!(rt; numbers_of(settings), [2, 9, 4, 4]);
+    assert!(rt; matches!(search, Search::Json), "{search:?}");
     Ok(())
 }
 
 #[test]
 fn reads_the_settings_of_an_explanation(rt: HostRuntime) -> Result<(), Fail> {
     let words = ["explain", "m", "--ceiling", "9", "l"];
-    match parse_line(rt.alloc(), &words)? {
-        Command::Explain {
-            machine,
-            loops,
-            settings,
-        } => {
-            assert_eq!(rt; machine.as_str(), "m");
-            assert_eq!(rt; loops.as_str(), "l");
-            assert_eq!(rt; numbers_of(settings), [6, 9, 4, 4]);
-        }
-        other => panic!(rt; "{other:?}"),
-    }
+    let (machine, loops, settings, search) = searched(rt.alloc(), &words)?;
+    assert_eq!(rt; machine.as_str(), "m");
+    assert_eq!(rt; loops.as_str(), "l");
+    assert_eq!(rt; numbers_of(settings), [6, 9, 4, 4]);
+    assert!(rt; matches!(search, Search::Explain), "{search:?}");
     Ok(())
 }
 

@@ -1,30 +1,26 @@
 //! What `bounds` writes.
 
-ghost use Rattle.std.specs.Prelude.{IfErr};
-ghost use Rattle.machine.specs.MachineText.{machine_of};
-ghost use Rattle.loops.specs.Meaning.{loops_in};
-ghost use Rattle.modsched.specs.Bounds.{Bounds};
-ghost use Rattle.modsched.specs.inner.Refusals.{PrintoutAnswer, HasOneMemory};
+ghost use Rattle.graph.specs.Units.{first_lacking};
+ghost use Rattle.file_faults.specs.Answers.{AnswersOn};
+ghost use Rattle.modsched.specs.Bounds.{IsBoundsText};
 
 use crate::output::lines::push_last;
 use crate::output::printout::Printout;
-use endings::Status;
+use file_faults::FileFault;
 use graph_text::bounds_lines;
-use loops::read_loops;
-use machine::read_machine;
+use loops::Loop;
+use machine::Machine;
 use std::alloc::Global;
 
-/// What `bounds` writes for a machine text and a loop text, or the status of its refusal.
-pub(crate) fn bounds_text(alloc: Global, machine: &[u8], loops: &[u8]) -> Result<Printout, Status>
-    ensures exact { PrintoutAnswer (Bounds (machine_of machine.now) (loops_in loops.now)) result }
-    ensures memory { IfErr result HasOneMemory }
+/// What `bounds` writes.
+pub(crate) fn bounds_text(
+    alloc: Global,
+    machine: &Machine,
+    loops: &[Loop],
+) -> Result<Printout, FileFault>
+    ensures { AnswersOn (IsBoundsText machine.now loops.now) (first_lacking machine.now loops.now) result }
 {
-    let machine = read_machine(alloc, machine)?;
-    let loops = read_loops(alloc, loops)?;
-    let mut text = bounds_lines(alloc, &machine, loops.as_slice())?;
+    let mut text = bounds_lines(alloc, machine, loops)?;
     push_last(&mut text, loops.len() as u64)?;
-    Ok(Printout {
-        text,
-        all_met: true,
-    })
+    Ok(Printout::new(text, true))
 }

@@ -1,35 +1,26 @@
 //! What `explain` writes.
 
-ghost use Rattle.std.specs.Prelude.{IfErr};
-ghost use Rattle.machine.specs.MachineText.{machine_of};
-ghost use Rattle.loops.specs.Meaning.{loops_in};
+ghost use Rattle.graph.specs.Units.{first_lacking};
+ghost use Rattle.file_faults.specs.Answers.{AnswersOn};
 ghost use Rattle.modsched.specs.Explain.{IsExplainText};
-ghost use Rattle.modsched.specs.Outcomes.{OutcomeOf};
-ghost use Rattle.modsched.specs.inner.Refusals.{PrintoutAnswer, HasOneMemory};
 
 use crate::output::printout::Printout;
-use endings::Status;
 use explain::explain_lines;
-use loops::read_loops;
-use machine::read_machine;
+use file_faults::FileFault;
+use loops::Loop;
+use machine::Machine;
 use settings::Settings;
 use std::alloc::Global;
 
-/// What `explain` writes for a machine text and a loop text, or the status of its refusal.
+/// What `explain` writes.
 pub(crate) fn explain_text(
     alloc: Global,
-    machine: &[u8],
-    loops: &[u8],
+    machine: &Machine,
+    loops: Vec<Loop>,
     settings: &Settings,
-) -> Result<Printout, Status>
-    ensures exact { PrintoutAnswer (OutcomeOf (IsExplainText settings.now.ratio settings.now.ceiling) (machine_of machine.now) (loops_in loops.now)) result }
-    ensures memory { IfErr result HasOneMemory }
+) -> Result<Printout, FileFault>
+    ensures { AnswersOn (IsExplainText settings.now.ratio settings.now.ceiling machine.now loops.items) (first_lacking machine.now loops.items) result }
 {
-    let machine = read_machine(alloc, machine)?;
-    let loops = read_loops(alloc, loops)?;
-    let explained = explain_lines(alloc, &machine, loops, settings)?;
-    Ok(Printout {
-        text: explained.text,
-        all_met: explained.all_met,
-    })
+    let explained = explain_lines(alloc, machine, loops, settings)?;
+    Ok(Printout::new(explained.text, explained.all_met))
 }

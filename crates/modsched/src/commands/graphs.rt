@@ -1,45 +1,37 @@
 //! What `edges` and `dot` write.
 
-ghost use Rattle.std.specs.Prelude.{IfErr};
-ghost use Rattle.machine.specs.MachineText.{machine_of};
-ghost use Rattle.loops.specs.Meaning.{loops_in};
+ghost use Rattle.graph.specs.Units.{first_lacking};
+ghost use Rattle.file_faults.specs.Answers.{AnswersOn};
 ghost use Rattle.modsched.specs.Graphs.{IsDotText, IsEdgesText};
-ghost use Rattle.modsched.specs.Outcomes.{OutcomeOf};
-ghost use Rattle.modsched.specs.inner.Refusals.{PrintoutAnswer, HasOneMemory};
 
 use crate::output::lines::push_last;
 use crate::output::printout::Printout;
-use endings::Status;
+use file_faults::FileFault;
 use graph_text::{dot_graphs, edges_lines};
-use loops::read_loops;
-use machine::read_machine;
+use loops::Loop;
+use machine::Machine;
 use std::alloc::Global;
 
-/// What `edges` writes for a machine text and a loop text, or the status of its refusal.
-pub(crate) fn edges_text(alloc: Global, machine: &[u8], loops: &[u8]) -> Result<Printout, Status>
-    ensures exact { PrintoutAnswer (OutcomeOf IsEdgesText (machine_of machine.now) (loops_in loops.now)) result }
-    ensures memory { IfErr result HasOneMemory }
+/// What `edges` writes.
+pub(crate) fn edges_text(
+    alloc: Global,
+    machine: &Machine,
+    loops: &[Loop],
+) -> Result<Printout, FileFault>
+    ensures { AnswersOn (IsEdgesText machine.now loops.now) (first_lacking machine.now loops.now) result }
 {
-    let machine = read_machine(alloc, machine)?;
-    let loops = read_loops(alloc, loops)?;
-    let mut text = edges_lines(alloc, &machine, loops.as_slice())?;
+    let mut text = edges_lines(alloc, machine, loops)?;
     push_last(&mut text, loops.len() as u64)?;
-    Ok(Printout {
-        text,
-        all_met: true,
-    })
+    Ok(Printout::new(text, true))
 }
 
-/// What `dot` writes for a machine text and a loop text, or the status of its refusal.
-pub(crate) fn dot_text(alloc: Global, machine: &[u8], loops: &[u8]) -> Result<Printout, Status>
-    ensures exact { PrintoutAnswer (OutcomeOf IsDotText (machine_of machine.now) (loops_in loops.now)) result }
-    ensures memory { IfErr result HasOneMemory }
+/// What `dot` writes.
+pub(crate) fn dot_text(
+    alloc: Global,
+    machine: &Machine,
+    loops: &[Loop],
+) -> Result<Printout, FileFault>
+    ensures { AnswersOn (IsDotText machine.now loops.now) (first_lacking machine.now loops.now) result }
 {
-    let machine = read_machine(alloc, machine)?;
-    let loops = read_loops(alloc, loops)?;
-    let text = dot_graphs(alloc, &machine, loops.as_slice())?;
-    Ok(Printout {
-        text,
-        all_met: true,
-    })
+    Ok(Printout::new(dot_graphs(alloc, machine, loops)?, true))
 }

@@ -1,15 +1,13 @@
 //! What `run` writes.
 
-ghost use Rattle.std.specs.Prelude.{◌≡◌, ◌≤◌, ◌++◌, IfErr, OnOk};
+ghost use Rattle.std.specs.Prelude.{◌≡◌, ◌≤◌, ◌++◌, OnOk, vec_len};
 ghost use Rattle.std.specs.List.{AllZip, flat_map, zip};
-ghost use Rattle.machine.specs.MachineText.{machine_of};
-ghost use Rattle.loops.specs.Meaning.{loops_in};
+ghost use Rattle.graph.specs.Units.{first_lacking};
+ghost use Rattle.file_faults.specs.Answers.{AnswersOn};
 ghost use Rattle.ims.specs.Problems.{ProblemData};
 ghost use Rattle.candidates.specs.declared.listings.Row as row;
 ghost use Rattle.candidates.specs.Listings.{IsRow};
 ghost use Rattle.candidates.specs.Texts.{counts_line, row_text};
-ghost use Rattle.modsched.specs.Outcomes.{OutcomeOf};
-ghost use Rattle.modsched.specs.inner.Refusals.{PrintoutAnswer, HasOneMemory};
 ghost use Rattle.modsched.specs.inner.Runnable.{HasSizesOf, IsRunnable};
 ghost use Rattle.modsched.specs.Run.{IsRunText, choice_lines, kernel_lines};
 
@@ -18,35 +16,33 @@ use crate::output::printout::Printout;
 use crate::output::run_lines::{push_run, within_limits};
 use candidates::{Choice, Listing, Row, write_last, write_row};
 use command_line::Trip;
-use endings::Status;
+use file_faults::FileFault;
 use ims::Prepared;
 use kernel::{Kernel, simulate};
 use loops::{Loop, opening};
+use machine::Machine;
 use settings::Settings;
 use std::alloc::{AllocError, Global};
 use std::thread::Threads;
-use workers::{OpenGate, pipeline};
+use workers::{OpenGate, pipeline_on};
 
-/// What `run` writes for a machine text and a loop text, or the status of its refusal.
+/// What `run` writes.
 pub(crate) fn run_text<R: Threads + Sync>(
     rt: &R,
     alloc: Global,
-    machine: &[u8],
-    loops: &[u8],
+    machine: &Machine,
+    loops: Vec<Loop>,
     trip: Trip,
     settings: &Settings,
-) -> Result<Printout, Status>
-    ensures exact { PrintoutAnswer (OutcomeOf (IsRunText trip settings.now.ratio settings.now.ceiling) (machine_of machine.now) (loops_in loops.now)) result }
-    ensures memory { IfErr result HasOneMemory }
+) -> Result<Printout, FileFault>
+    requires few { vec_len loops ≤ 1024 }
+    ensures { AnswersOn (IsRunText trip settings.now.ratio settings.now.ceiling machine.now loops.items) (first_lacking machine.now loops.items) result }
 {
-    let (prepared, listing) = pipeline(rt, alloc, machine, loops, settings, &OpenGate)?;
+    let (prepared, listing) = pipeline_on(rt, alloc, machine, loops, settings, &OpenGate)?;
     let mut text = Vec::new(alloc);
     push_rows(alloc, &mut text, prepared.as_slice(), &listing, trip)?;
     push_counts(alloc, &mut text, listing.rows())?;
-    Ok(Printout {
-        text,
-        all_met: are_met(listing.rows()),
-    })
+    Ok(Printout::new(text, are_met(listing.rows())))
 }
 
 /// Appends what is told of each loop, in order.

@@ -1,32 +1,26 @@
 //! What `plain` writes.
 
-ghost use Rattle.std.specs.Prelude.{◌≡◌, ◌++◌, IfErr, OnOk};
+ghost use Rattle.std.specs.Prelude.{◌≡◌, ◌++◌, OnOk, None};
 ghost use Rattle.std.specs.List.{flat_map};
-ghost use Rattle.loops.specs.Meaning.{loops_in};
-ghost use Rattle.modsched.specs.Plain.{plain_lines, plain_outcome};
-ghost use Rattle.modsched.specs.inner.Refusals.{PrintoutAnswer, HasOneMemory};
+ghost use Rattle.file_faults.specs.Answers.{AnswersOn};
+ghost use Rattle.modsched.specs.Plain.{IsPlainText, plain_lines};
 
 use crate::output::lines::push_last;
 use crate::output::printout::Printout;
 use crate::output::run_lines::{push_run, within_limits};
 use command_line::Trip;
-use endings::Status;
-use loops::{Loop, opening, read_loops, run_from};
+use file_faults::FileFault;
+use loops::{Loop, opening, run_from};
 use std::alloc::{AllocError, Global};
 
-/// What `plain` writes for a loop text, or the status of its refusal.
-pub(crate) fn plain_text(alloc: Global, loops: &[u8], trip: Trip) -> Result<Printout, Status>
-    ensures exact { PrintoutAnswer (λ outcome. outcome ≡ plain_outcome trip (loops_in loops.now)) result }
-    ensures memory { IfErr result HasOneMemory }
+/// What `plain` writes.
+pub(crate) fn plain_text(alloc: Global, loops: &[Loop], trip: Trip) -> Result<Printout, FileFault>
+    ensures { AnswersOn (IsPlainText trip loops.now) None result }
 {
-    let loops = read_loops(alloc, loops)?;
     let mut text = Vec::new(alloc);
-    push_loops(alloc, &mut text, loops.as_slice(), trip)?;
+    push_loops(alloc, &mut text, loops, trip)?;
     push_last(&mut text, loops.len() as u64)?;
-    Ok(Printout {
-        text,
-        all_met: true,
-    })
+    Ok(Printout::new(text, true))
 }
 
 /// Appends the lines of all loops, in order.

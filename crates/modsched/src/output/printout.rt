@@ -1,49 +1,44 @@
-//! What commands write.
+//! What a command writes.
 
-ghost use Rattle.std.specs.Prelude.{IfErr};
-ghost use Rattle.modsched.specs.Engine.{Brings};
-ghost use Rattle.modsched.specs.inner.Refusals.{PrintoutAnswer, HasOneMemory};
+ghost use Rattle.std.specs.Prelude.{◌≡◌};
 
-use crate::commands::bounds::bounds_text;
-use crate::commands::explaining::explain_text;
-use crate::commands::graphs::{dot_text, edges_text};
-use crate::commands::json::json_text;
-use crate::commands::kernel_runs::run_text;
-use crate::commands::plain::plain_text;
-use crate::commands::schedule::schedule_text;
-use command_line::Command;
-use endings::Status;
-use std::alloc::Global;
-use std::thread::Threads;
+use std::marker::Model;
 
 /// What a command writes, whole.
 #[derive(Drop)]
 pub(crate) struct Printout {
-    pub(crate) text: Vec<u8>,
-    /// Whether every loop is met. A command that looks for no kernels leaves none unmet.
-    pub(crate) all_met: bool,
+    text: Vec<u8>,
+    all_met: bool,
 }
 
-/// What a command writes for the bytes of its texts, or the status of its refusal. A command that reads
-/// no machine pays no heed to the machine's bytes.
-pub(crate) fn printout_of<R: Threads + Sync>(
-    rt: &R,
-    alloc: Global,
-    command: &Command,
-    machine: &[u8],
-    loops: &[u8],
-) -> Result<Printout, Status>
-    ensures exact { PrintoutAnswer (Brings command.now machine.now loops.now) result }
-    ensures memory { IfErr result HasOneMemory }
-{
-    match command {
-        Command::Bounds { .. } => bounds_text(alloc, machine, loops),
-        Command::Edges { .. } => edges_text(alloc, machine, loops),
-        Command::Dot { .. } => dot_text(alloc, machine, loops),
-        Command::Plain { trip, .. } => plain_text(alloc, loops, *trip),
-        Command::Schedule { settings, .. } => schedule_text(rt, alloc, machine, loops, settings),
-        Command::Json { settings, .. } => json_text(rt, alloc, machine, loops, settings),
-        Command::Explain { settings, .. } => explain_text(alloc, machine, loops, settings),
-        Command::Run { trip, settings, .. } => run_text(rt, alloc, machine, loops, *trip, settings),
+impl Model for Printout {
+    ghost use Rattle.modsched.specs.Outcomes.{Written};
+
+    ghost Value = { Written };
+
+    ghost view = { λ p. record { text = p.text.items; all_met = p.all_met } };
+}
+
+impl Printout {
+    /// This text, with whether every loop is met. A command that looks for no kernels leaves none unmet.
+    pub(crate) fn new(text: Vec<u8>, all_met: bool) -> Printout
+        ensures text { result.text ≡ text.items }
+        ensures all_met { result.all_met ≡ all_met }
+    {
+        Printout { text, all_met }
+    }
+
+    /// Its text.
+    pub(crate) fn text(&self) -> &[u8]
+        ensures { result.now ≡ self.now.text }
+    {
+        self.text.as_slice()
+    }
+
+    /// Whether every loop is met.
+    pub(crate) fn all_met(&self) -> bool
+        ensures { result ≡ self.now.all_met }
+    {
+        self.all_met
     }
 }

@@ -1,5 +1,5 @@
 use Rattle.std.proofs.Common.{length, ap, arith}
-use Rattle.workers.proofs.Answering.{choices_long}
+use Rattle.workers.proofs.Listed.{choices_long}
 use Rattle.workers.proofs.files.list.Goals as goal
 
 pub of-requires-clause-each : goal.of-requires-clause-each

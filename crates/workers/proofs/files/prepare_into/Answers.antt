@@ -4,7 +4,7 @@ use Rattle.loops.specs.Loops.{LoopData}
 use Rattle.graph.specs.Units.{first_lacking}
 use Rattle.workers.specs.Files.{AnswersOn, Prepares}
 use Rattle.std.specs.Prelude.{Ok}
-use Rattle.workers.proofs.Answering.{on_none}
+use Rattle.file_faults.proofs.Answering.{on_none}
 use Rattle.workers.proofs.Preparing.{readied_all, readied_on}
 use Rattle.workers.proofs.files.prepare_into.Goals as goal
 

@@ -5,7 +5,7 @@ use Rattle.command_line.proofs.line.form.with_reports.Goals as goal
 
 pub returns : goal.returns
 returns c =
-    let one = adds_subcommand _ _ _ _ _ c.in_ok-command.ensures c.bounds.ensures.local refl c.bounds.ensures.app in
-    let two = adds_subcommand _ _ _ _ _ c.in_ok-command-2.ensures c.edges.ensures.local one c.edges.ensures.app in
-    let three = adds_subcommand _ _ _ _ _ c.in_ok-command-3.ensures c.dot.ensures.local two c.dot.ensures.app in
+    let one = adds_subcommand _ _ _ _ _ c.in_ok-command.ensures c.over_files-made.ensures.local refl c.over_files-made.ensures.app in
+    let two = adds_subcommand _ _ _ _ _ c.in_ok-command-2.ensures c.over_files-made-2.ensures.local one c.over_files-made-2.ensures.app in
+    let three = adds_subcommand _ _ _ _ _ c.in_ok-command-3.ensures c.over_files-made-3.ensures.local two c.over_files-made-3.ensures.app in
     IfOk-weaker c.add-4.result _ _ (λ r h. adds_subcommand _ _ _ _ _ h c.plain.ensures.local three c.plain.ensures.app) c.add-4.ensures

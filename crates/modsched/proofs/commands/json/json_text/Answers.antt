@@ -1,34 +1,25 @@
 use Rattle.std.proofs.Common.{◌∙◌, ℕ, ap, Vec}
 use Rattle.std.specs.Global.{Global}
-use Rattle.machine.specs.MachineText.{machine_of}
-use Rattle.loops.specs.Meaning.{loops_in}
-use Rattle.candidates.proofs.Promised.{listings-are_right}
-use Rattle.workers.specs.Files.{ListsFile}
+use Rattle.graph.specs.Units.{first_lacking}
+use Rattle.file_faults.proofs.Answering.{on_more}
+use Rattle.workers.specs.Files.{PreparesAndLists}
+use Rattle.workers.proofs.Listed.{lists_of, right_of}
 use Rattle.modsched.specs.Schedule.{IsListingDocument, are_met}
-use Rattle.modsched.proofs.Files.{file_memory, file_refused, written}
-use Rattle.modsched.proofs.Refusing.{told}
 use Rattle.modsched.proofs.commands.json.json_text.Goals as goal
 
-pub returns-in_err-listing-clause-exact : goal.returns-in_err-listing-clause-exact
-returns-in_err-listing-clause-exact g c =
+pub returns : goal.returns
+returns g c =
     let r = c.args.settings.now.ratio in
     let k = c.args.settings.now.ceiling in
-    file_refused (ListsFile r k) (IsListingDocument r k) (machine_of c.args.machine.now) (loops_in c.args.loops.now) _ c.from_residual.result
-    c.from_residual.ensures.1 c.in_err-listing.ensures.exact
-
-pub returns-in_err-listing-clause-memory : goal.returns-in_err-listing-clause-memory
-returns-in_err-listing-clause-memory g c = told _ _ c.from_residual.result c.from_residual.ensures.1 (file_memory _)
-
-pub returns-clause-exact : goal.returns-clause-exact
-returns-clause-exact g c =
-    let r = c.args.settings.now.ratio in
-    let k = c.args.settings.now.ceiling in
+    let m = c.args.machine.now in
+    let ls = c.args.loops.items in
+    let prepared = c.in_ok-listing.field-0-0 in
     let listing = c.in_ok-listing.listing in
-    written (ListsFile r k) (IsListingDocument r k) (machine_of c.args.machine.now) (loops_in c.args.loops.now) listing c.into_bytes.result.items c.are_met.result
-    (λ m ls lists. record {
+    on_more (PreparesAndLists r k m ls) (IsListingDocument r k m ls) (first_lacking m ls) (prepared, listing) c.new.result
+    (λ f. record {
       listing = listing;
-      lists = lists;
-      right = listings-are_right m ls r k listing lists;
-      is_text = ap (λ (v : Vec ℕ Global). v.items) c.into_bytes.ensures.value ∙ c.in_ok-text.ensures.text;
-      met = c.are_met.ensures ∙ ap are_met c.rows.ensures.value;
+      lists = lists_of m r k ls prepared.items listing f.0 f.1;
+      right = right_of m r k ls prepared.items listing f.0 f.1;
+      is_text = c.new.ensures.text ∙ ap (λ (v : Vec ℕ Global). v.items) c.into_bytes-text.ensures.value ∙ c.in_ok-document_text.ensures.text;
+      met = c.new.ensures.all_met ∙ c.are_met.ensures ∙ ap are_met c.rows.ensures.value;
     }) c.in_ok-listing.ensures.exact

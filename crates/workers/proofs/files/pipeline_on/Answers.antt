@@ -1,8 +1,9 @@
 use Rattle.std.proofs.Common.{length, ap, sym, subst, arith}
 use Rattle.graph.specs.Units.{first_lacking}
 use Rattle.workers.specs.Files.{HaveCeiling, Prepares}
-use Rattle.workers.proofs.Answering.{on_ok, prepared_ceilings, prepared_long}
-use Rattle.workers.proofs.files.pipeline_of.Goals as goal
+use Rattle.file_faults.proofs.Answering.{on_ok}
+use Rattle.workers.proofs.Listed.{prepared_ceilings, prepared_long}
+use Rattle.workers.proofs.files.pipeline_on.Goals as goal
 
 pub list-requires-clause-few : goal.list-requires-clause-few
 list-requires-clause-few g c =
