@@ -1,12 +1,11 @@
 -- What a call does for its caller.
-use Rattle.std.specs.Prelude.{◌≡◌, ◌≢◌, ◌⊎◌, ℕ, ◌<◌, ◌≤◌, nat_lt, nat_le, ◌&&◌, if◌then◌else◌, List, length, slice_index, Result, Ok, Err, Some, None}
+use Rattle.std.specs.Prelude.{◌≡◌, ◌≢◌, ◌⊎◌, ℕ, ◌<◌, ◌≤◌, nat_lt, if◌then◌else◌, List, length, slice_index, Result, Ok, Err, Some}
 use Rattle.problems.specs.declared.draft.Draft.{Draft}
 use Rattle.problems.specs.declared.fault.Fault.{Fault as AnyFault}
 use Rattle.problems.specs.declared.fault.Refusal.{Refusal}
 use Rattle.problems.specs.declared.fault.Refusal.TheVariants.{Fault, Memory}
 use Rattle.problems.specs.Faults.{first_fault_of}
 use Rattle.problems.specs.Problems.{ProblemData, IsProblemOf}
-use Rattle.solutions.specs.declared.solving.outcome.Cause.{Cause}
 use Rattle.solutions.specs.declared.solving.outcome.Outcome.{Outcome}
 use Rattle.solutions.specs.declared.solving.outcome.Outcome.TheVariants.{Met, Failed}
 use Rattle.solutions.specs.Outcomes.{IsSolved}

@@ -17,6 +17,7 @@ pub use answer::{Answer, FaultNumbers};
 use answer::{failed_answer, fault_answer, met_answer, misfit_answer, nothing};
 use drafting::draft_of;
 pub use given::{Hold, Kind, Order, Problem, Read, Value};
+use machine_data::limits::{MAX_CEILING, MAX_RATIO};
 use problems::Refusal;
 use settings::Settings;
 use solutions::{Outcome, Solution, solve};
@@ -75,10 +76,10 @@ fn misfit_of(
 ) -> u64
     ensures { result ≡ misfit_of problem.now ratio ceiling times alternatives numbers }
 {
-    if ratio < 1 || ratio > 64 {
+    if ratio < 1 || ratio > MAX_RATIO {
         return 1;
     }
-    if ceiling > 255 {
+    if ceiling > MAX_CEILING {
         return 2;
     }
     if times < problem.operations.len() {

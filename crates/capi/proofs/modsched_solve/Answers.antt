@@ -1,4 +1,4 @@
-use Rattle.std.proofs.Common.{◌≡◌, sym, ◌∙◌}
+use Rattle.std.proofs.Common.{sym, ◌∙◌}
 use Rattle.capi.proofs.Ending.{told, faulty}
 use Rattle.capi.proofs.modsched_solve.Goals as goal
 
