@@ -176,7 +176,7 @@ class Sources:
                     head = text
             return head
 
-        for found in re.finditer(r"(?m)^( *)(pub |pub\(crate\) )?(?:const )?fn (\w+)", plain):
+        for found in re.finditer(r"(?m)^( *)(pub |pub\(crate\) )?(?:const |extern \S+ )?fn (\w+)", plain):
             owner, is_public = self.owner(crate, module, owner_at(found.start()), found[2])
             clauses = "\n".join(text for _, text in contract(plain, found.end()))
             signature = re.split(r"\b(?:requires|ensures)\b", plain[found.end() : found.end() + 2000])[0]

@@ -1,0 +1,200 @@
+"""The proved scheduler for Python, over libmodsched.so. Problems are built by names; docs/LIBRARY.md says what statuses mean.
+
+    taps = Problem()
+    taps.unit("port"); taps.file("ring", 16)
+    taps.kind("load", 3, [[("port", 0)]])
+    taps.operation("first", "load")
+    taps.value("x", "first", 3, "ring")
+    schedule = Library("out/libmodsched.so").solve(taps)
+"""
+from __future__ import annotations
+
+import ctypes
+from dataclasses import dataclass, field
+from typing import Sequence
+
+u32, u64, size = ctypes.c_uint32, ctypes.c_uint64, ctypes.c_size_t
+
+
+class _Hold(ctypes.Structure):
+    _fields_ = [("unit", u32), ("offset", u32)]
+
+
+class _Alternative(ctypes.Structure):
+    _fields_ = [("holds", ctypes.POINTER(_Hold)), ("count", size)]
+
+
+class _Kind(ctypes.Structure):
+    _fields_ = [("latency", u64), ("alternatives", ctypes.POINTER(_Alternative)), ("count", size)]
+
+
+class _Value(ctypes.Structure):
+    _fields_ = [("maker", u32), ("lands", u32), ("out", u32), ("file", u32)]
+
+
+class _Read(ctypes.Structure):
+    _fields_ = [("value", u32), ("reader", u32), ("distance", u32), ("offset", u32)]
+
+
+class _Order(ctypes.Structure):
+    _fields_ = [("first", u32), ("to", u32), ("delay", ctypes.c_int32), ("distance", u32)]
+
+
+class _Problem(ctypes.Structure):
+    _fields_ = [("units", u64)] + [
+        pair
+        for name, item in [("files", u32), ("kinds", _Kind), ("operations", u32), ("values", _Value), ("reads", _Read), ("orders", _Order)]
+        for pair in [(name, ctypes.POINTER(item)), (f"{name}_count", size)]
+    ]
+
+
+class _Fault(ctypes.Structure):
+    _fields_ = [(name, u64) for name in ("kind", "part", "first", "second", "third")]
+
+
+class _Answer(ctypes.Structure):
+    _fields_ = [(name, u64) for name in ("interval", "stages", "mii", "resources", "recurrences", "cause", "file", "value", "misfit")]
+    _fields_ += [("fault", _Fault)]
+
+
+class NoInterval(Exception):
+    """No interval that was tried gives a schedule: the last one, its cause ("table", "budget", "stages" or "registers"), and for
+    registers the names of the file and of its first value that has none."""
+
+    def __init__(self, interval: int, cause: str, file: str | None, value: str | None):
+        super().__init__(f"no interval up to {interval} works: {cause}" + (f", {value} in {file}" if file else ""))
+        self.interval, self.cause, self.file, self.value = interval, cause, file, value
+
+
+class AtFault(Exception):
+    """The problem is at fault: the number of the kind of fault, that of the part, and up to three numbers, as in modsched.h."""
+
+    def __init__(self, kind: int, part: int, numbers: tuple[int, int, int]):
+        super().__init__(f"fault {kind} of the problem, part {part}, at {numbers}")
+        self.kind, self.part, self.numbers = kind, part, numbers
+
+
+@dataclass(frozen=True)
+class Schedule:
+    """A schedule: the interval in cycles, how many stages, the bounds by units and by recurrences, of each operation the issue time in
+    cycles and the alternative, from 0, and of each value its number, 0 for values that are allotted to no registers."""
+
+    interval: int
+    stages: int
+    resources: int
+    recurrences: int
+    times: dict[str, int]
+    alternatives: dict[str, int]
+    numbers: dict[str, int]
+
+
+def _number(names: Sequence[str], name: str) -> int:
+    if name not in names:
+        raise KeyError(name)
+    return names.index(name)
+
+
+def _array(item: type, items: list) -> ctypes.Array:
+    """An array with a valid pointer also where it has no items."""
+    return (item * max(len(items), 1))(*items)
+
+
+@dataclass
+class Problem:
+    """A scheduling problem. Each method adds a part; names are known from the call that adds them on, and operations are added in
+    the order of their iteration."""
+
+    units: list[str] = field(default_factory=list)
+    files: dict[str, int] = field(default_factory=dict)
+    kinds: dict[str, tuple[int, list[list[tuple[int, int]]]]] = field(default_factory=dict)
+    operations: dict[str, int] = field(default_factory=dict)
+    values: dict[str, tuple[int, int, int, int]] = field(default_factory=dict)
+    reads: list[tuple[int, int, int, int]] = field(default_factory=list)
+    orders: list[tuple[int, int, int, int]] = field(default_factory=list)
+
+    @staticmethod
+    def _new(names, name: str) -> None:
+        if name in names:
+            raise ValueError(f"{name} is there already")
+
+    def unit(self, name: str) -> None:
+        """A unit."""
+        self._new(self.units, name)
+        self.units.append(name)
+
+    def file(self, name: str, registers: int = 0) -> None:
+        """A register file with so many rotating registers, or 0 where its values are allotted to none."""
+        self._new(self.files, name)
+        self.files[name] = registers
+
+    def kind(self, name: str, latency: int, alternatives: Sequence[Sequence[tuple[str, int]]]) -> None:
+        """A kind of operations: its latency in cycles, and its alternatives, each of units with offsets in cycles."""
+        self._new(self.kinds, name)
+        self.kinds[name] = (latency, [[(_number(self.units, unit), at) for unit, at in holds] for holds in alternatives])
+
+    def operation(self, name: str, kind: str) -> None:
+        """An operation of a kind."""
+        self._new(self.operations, name)
+        self.operations[name] = _number(list(self.kinds), kind)
+
+    def value(self, name: str, maker: str, lands: int, file: str, out: bool = False) -> None:
+        """A value that an operation makes, so many cycles after its issue, and whether it is live at the end."""
+        self._new(self.values, name)
+        self.values[name] = (_number(list(self.operations), maker), lands, int(out), _number(list(self.files), file))
+
+    def read(self, value: str, reader: str, distance: int = 0, offset: int = 0) -> None:
+        """An operation reads the value of so many iterations ago, so many cycles after its own issue."""
+        self.reads.append((_number(list(self.values), value), _number(list(self.operations), reader), distance, offset))
+
+    def order(self, first: str, to: str, delay: int, distance: int = 0) -> None:
+        """t(to) + interval * distance >= t(first) + delay."""
+        names = list(self.operations)
+        self.orders.append((_number(names, first), _number(names, to), delay, distance))
+
+    def _given(self) -> _Problem:
+        def kind(latency: int, alternatives: list[list[tuple[int, int]]]) -> _Kind:
+            rows = [_Alternative(_array(_Hold, [_Hold(*it) for it in holds]), len(holds)) for holds in alternatives]
+            return _Kind(latency, _array(_Alternative, rows), len(rows))
+
+        parts = [
+            (u32, list(self.files.values())),
+            (_Kind, [kind(*it) for it in self.kinds.values()]),
+            (u32, list(self.operations.values())),
+            (_Value, [_Value(*it) for it in self.values.values()]),
+            (_Read, [_Read(*it) for it in self.reads]),
+            (_Order, [_Order(*it) for it in self.orders]),
+        ]
+        return _Problem(len(self.units), *(it for item, items in parts for it in (_array(item, items), len(items))))
+
+
+class Library:
+    """The library at a path."""
+
+    def __init__(self, path: str):
+        self._solve = ctypes.CDLL(path).modsched_solve
+        array = [ctypes.POINTER(u64), size]
+        self._solve.argtypes = [ctypes.POINTER(_Problem), u64, u64, *array, *array, *array, ctypes.POINTER(_Answer)]
+        self._solve.restype = u32
+
+    def solve(self, problem: Problem, ratio: int = 6, ceiling: int = 64) -> Schedule:
+        """The schedule of the least interval that works. Raises NoInterval, AtFault, ValueError for a setting that is out of its
+        range, or MemoryError."""
+        operations, values = len(problem.operations), len(problem.values)
+        times, choices, numbers = ((u64 * max(it, 1))() for it in (operations, operations, values))
+        answer, given = _Answer(), problem._given()
+        status = self._solve(given, ratio, ceiling, times, operations, choices, operations, numbers, values, answer)
+        if status == 0:
+            return Schedule(
+                answer.interval, answer.stages, answer.resources, answer.recurrences, dict(zip(problem.operations, times)),
+                dict(zip(problem.operations, choices)), dict(zip(problem.values, numbers)),
+            )
+        if status == 1:
+            cause = ("table", "budget", "stages", "registers")[answer.cause - 1]
+            named = (list(problem.files)[answer.file], list(problem.values)[answer.value]) if answer.cause == 4 else (None, None)
+            raise NoInterval(answer.interval, cause, *named)
+        if status == 2:
+            raise ValueError("the ratio is not 1 to 64" if answer.misfit == 1 else "the ceiling is not 0 to 255")
+        if status == 5:
+            fault = answer.fault
+            raise AtFault(fault.kind, fault.part, (fault.first, fault.second, fault.third))
+        raise MemoryError

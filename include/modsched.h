@@ -1,0 +1,157 @@
+/* modsched.h - the proved scheduler for C and C++: a problem in arrays of numbers is solved into the caller's arrays.
+ *
+ * Types and sizes are those of 64-bit machines. All numbers count from 0 unless something else is said. Times, offsets, latencies
+ * and delays are in cycles; a distance is in iterations.
+ *
+ * Arrays. An array is a pointer and a length. No pointer may be null: an array without items needs a valid, aligned pointer too,
+ * for example to an item that is not part of it. What is written (times, alternatives, numbers and the answer) must not overlap
+ * one another, nor anything that is read. The library keeps no pointer when a call returns.
+ *
+ * Threads. There is no state and nothing to set up: any number of threads may call at once, each with arrays of its own to write.
+ * Memory is taken from malloc, and is free again when a call returns. No call from a signal handler, nor from the forked child of
+ * a process with threads.
+ */
+#ifndef MODSCHED_H
+#define MODSCHED_H
+
+#include <stddef.h>
+#include <stdint.h>
+
+#ifdef __cplusplus
+extern "C" {
+#endif
+
+/* An operation holds a unit in the cycle `offset` (0 to 63) after its issue. */
+struct modsched_hold {
+    uint32_t unit;
+    uint32_t offset;
+};
+
+/* An alternative: 1 to 16 different holds. */
+struct modsched_alternative {
+    const struct modsched_hold *holds;
+    size_t count;
+};
+
+/* A kind of operations. */
+struct modsched_kind {
+    uint64_t latency; /* from the issue to the landing of what is made, 1 to 64 */
+    const struct modsched_alternative *alternatives;
+    size_t alternatives_count; /* 1 to 16 */
+};
+
+/* A value that each iteration makes. An operation may make none, one or several. */
+struct modsched_value {
+    uint32_t maker; /* the operation that makes it */
+    uint32_t lands; /* how many cycles after its issue, 0 to 64 */
+    uint32_t out;   /* not 0 where it is live at the end */
+    uint32_t file;  /* its register file */
+};
+
+/* An operation reads a value that was made `distance` (0 to 16) iterations ago, `offset` (0 to 63) cycles after its own issue.
+ * What is read at distance 0 is made by an operation with a lower number. */
+struct modsched_read {
+    uint32_t value;
+    uint32_t reader;
+    uint32_t distance;
+    uint32_t offset;
+};
+
+/* t(to) + interval * distance >= t(from) + delay. The delay is -64 to 64, the distance 0 to 255; at distance 0 `from` is below `to`. */
+struct modsched_order {
+    uint32_t from;
+    uint32_t to;
+    int32_t delay;
+    uint32_t distance;
+};
+
+/* A scheduling problem. */
+struct modsched_problem {
+    uint64_t units; /* how many, 1 to 64 */
+    const uint32_t *files; /* of each register file its rotating registers, 1 to 256, or 0: its values are allotted to none */
+    size_t files_count;    /* 0 to 8 */
+    const struct modsched_kind *kinds;
+    size_t kinds_count; /* 1 to 256 */
+    const uint32_t *operations; /* the kind of each operation, in the order of the iteration */
+    size_t operations_count;    /* 1 to 128 */
+    const struct modsched_value *values;
+    size_t values_count; /* 0 to 256 */
+    const struct modsched_read *reads;
+    size_t reads_count; /* 0 to 2,048 */
+    const struct modsched_order *orders;
+    size_t orders_count; /* 0 to 16,384 */
+};
+
+/* What is wrong with a problem: the first thing that is. Counts come first, then the parts in the order of the struct. */
+struct modsched_fault {
+    uint64_t kind; /* 0 for none, else one of these, with what `first`, `second` and `third` then are:
+        1 a count is out of range: the count (its part is `part`)
+        2, 3 about names, which this interface does not have
+        4 the registers of a file are not 1 to 256: file
+        5 the latency of a kind is not 1 to 64: kind
+        6 the alternatives of a kind are not 1 to 16: kind
+        7 the holds of an alternative are not 1 to 16: kind, alternative
+        8 no such unit: kind, alternative, hold
+        9 the offset of a hold is above 63: kind, alternative, hold
+        10 a hold is the same as one before it: kind, alternative, hold
+        11 no such kind: operation
+        12 no such operation to make it: value
+        13 it lands more than 64 cycles after the issue: value
+        14 no such register file: value
+        15 no such value: read
+        16 no such operation to read it: read
+        17 the distance is above 16: read
+        18 the offset is above 63: read
+        19 at distance 0 the maker does not come before the reader: read
+        20 no such operation to come first: order
+        21 no such operation to wait: order
+        22 the delay is not -64 to 64: order
+        23 the distance is above 255: order
+        24 at distance 0 the first operation does not come before the second: order */
+    uint64_t part; /* with kind 1: 1 units, 2 files, 3 kinds, 4 operations, 5 values, 6 reads, 7 orders */
+    uint64_t first;
+    uint64_t second;
+    uint64_t third;
+};
+
+/* What a call tells beside the schedule. What does not belong to its status is 0. */
+struct modsched_answer {
+    uint64_t interval; /* status 0: the initiation interval, 1 or more; status 1: the last one that was tried */
+    uint64_t stages;   /* status 0: how many stages the schedule has, 1 to 64 */
+    uint64_t mii;      /* status 0 and 1: the least interval that is tried, the greater one of the next two */
+    uint64_t resources;   /* status 0 and 1: the bound by the units */
+    uint64_t recurrences; /* status 0 and 1: the bound by the recurrences */
+    uint64_t cause; /* status 1: why the last interval gives no schedule: 1 all alternatives of an operation collide with themselves,
+                       2 the placements of the budget are used up, 3 an operation is in stage 64 or later, 4 no register is left */
+    uint64_t file;  /* cause 4: the register file */
+    uint64_t value; /* cause 4: its first value that has no register */
+    uint64_t misfit; /* status 2: 1 the ratio, 2 the ceiling, 3 too few times, 4 too few alternatives, 5 too few numbers */
+    struct modsched_fault fault; /* status 5 */
+};
+
+/* What modsched_solve gives. */
+enum {
+    MODSCHED_SOLVED = 0,      /* the schedule is written */
+    MODSCHED_NO_INTERVAL = 1, /* no interval that was tried gives a schedule */
+    MODSCHED_MISFIT = 2,      /* a setting is out of its range, or an array is too short; this is tested first */
+    MODSCHED_FAULT = 5,       /* the problem is at fault */
+    MODSCHED_MEMORY = 7       /* memory ran out, which says nothing of the problem */
+};
+
+/* Solves a problem. Intervals are tried from the answer's mii on, at most `ceiling` (0 to 255) above it, each with at most `ratio`
+ * (1 to 64) placements for each operation; 6 and 64 are fair choices. The schedule is that of the least interval that gives one.
+ *
+ * With status 0, of each operation the issue time in its iteration (less than 64 intervals) is in `times` and the number of the
+ * alternative in `alternatives`; both need room for as many items as there are operations. Of each value of a rotating file its
+ * number is in `numbers`, which needs room for as many items as there are values: the instance of iteration i stands in the register
+ * (number - i) modulo the registers of the file. The numbers of values of other files are 0. What is behind these items stays as it
+ * was, and with any other status all of the three arrays do. The answer is written with each status. */
+uint32_t modsched_solve(const struct modsched_problem *problem, uint64_t ratio, uint64_t ceiling, uint64_t *times,
+                        size_t times_count, uint64_t *alternatives, size_t alternatives_count, uint64_t *numbers,
+                        size_t numbers_count, struct modsched_answer *answer);
+
+#ifdef __cplusplus
+}
+#endif
+
+#endif
