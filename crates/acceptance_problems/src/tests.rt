@@ -1,5 +1,6 @@
 //! Problems and what solving them comes to.
 
+mod as_loops;
 mod backends;
 mod judged;
 
