@@ -1,10 +1,11 @@
-/* modsched.h - the proved scheduler for C and C++: a problem in arrays of numbers is solved into the caller's arrays.
+/* modsched.h - the proved scheduler for C and C++: a problem in arrays of numbers is solved into the caller's arrays,
+ * and schedules that the caller gives are checked.
  *
  * Types and sizes are those of 64-bit machines. All numbers count from 0 unless something else is said. Times, offsets, latencies
  * and delays are in cycles; a distance is in iterations.
  *
  * Arrays. An array is a pointer and a length. No pointer may be null: an array without items needs a valid, aligned pointer too,
- * for example to an item that is not part of it. What is written (times, alternatives, numbers and the answer) must not overlap
+ * for example to an item that is not part of it. What is written (times, alternatives, numbers and the answer, or the verdict) must not overlap
  * one another, nor anything that is read. The library keeps no pointer when a call returns.
  *
  * Threads. There is no state and nothing to set up: any number of threads may call at once, each with arrays of its own to write.
@@ -149,6 +150,53 @@ enum {
 uint32_t modsched_solve(const struct modsched_problem *problem, uint64_t ratio, uint64_t ceiling, uint64_t *times,
                         size_t times_count, uint64_t *alternatives, size_t alternatives_count, uint64_t *numbers,
                         size_t numbers_count, struct modsched_answer *answer);
+
+/* What a check tells. What does not belong to its status and kind is 0. */
+struct modsched_verdict {
+    uint64_t kind; /* status 1: what is broken first, in this order:
+        1 the interval is not 1 to 16,384
+        2 there is not one number for each value
+        3 the number of `value` is not below the registers of its file, or not 0 where the file has none
+        4 there is not one time for each operation
+        5 the time of `operation` is above 1,048,575
+        6 `operation` has no such alternative
+        7 `operation` takes a slot that `earlier` has, or itself: `unit` and `residue`, its cycle modulo the interval
+        8 an edge is not kept: t(to) + interval * distance is `early` cycles below t(from) + delay
+        9 `operation` is in stage 64 or later
+        10 instances of the values `other` and `value`, or two of one, stand in one register of `file` in `cycle` */
+    uint64_t stages; /* status 0: how many, 1 to 64 */
+    uint64_t operation;
+    uint64_t earlier;
+    uint64_t unit;
+    uint64_t residue;
+    uint64_t from;
+    uint64_t to;
+    uint64_t distance;
+    int64_t delay;
+    uint64_t early;
+    uint64_t value;
+    uint64_t other;
+    uint64_t file;
+    uint64_t register_number;
+    uint64_t cycle;  /* from the beginning of iteration 0 */
+    uint64_t misfit; /* status 2: 1, there are not as many times as alternatives */
+    struct modsched_fault fault; /* status 5 */
+};
+
+/* What modsched_check gives. */
+enum {
+    MODSCHED_LAWFUL = 0,        /* the schedule is lawful */
+    MODSCHED_BROKEN = 1,        /* it is not: the verdict says what is broken first */
+    MODSCHED_CHECK_MISFIT = 2,  /* there are not as many times as alternatives; this is tested first */
+    MODSCHED_CHECK_FAULT = 5,   /* the problem is at fault */
+    MODSCHED_CHECK_MEMORY = 7   /* memory ran out, which says nothing of the schedule */
+};
+
+/* Checks a schedule of a problem, from wherever it comes: an interval, and times, alternatives and numbers as modsched_solve writes
+ * them, one for each operation or value. They may be any numbers. The verdict is written with each status. */
+uint32_t modsched_check(const struct modsched_problem *problem, uint64_t interval, const uint64_t *times, size_t times_count,
+                        const uint64_t *alternatives, size_t alternatives_count, const uint64_t *numbers, size_t numbers_count,
+                        struct modsched_verdict *verdict);
 
 #ifdef __cplusplus
 }

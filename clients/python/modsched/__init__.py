@@ -57,6 +57,21 @@ class _Answer(ctypes.Structure):
     _fields_ += [("fault", _Fault)]
 
 
+class _Verdict(ctypes.Structure):
+    _fields_ = [
+        (name, ctypes.c_int64 if name == "delay" else u64)
+        for name in "kind stages operation earlier unit residue first to distance delay early value other file register cycle misfit".split()
+    ] + [("fault", _Fault)]
+
+
+class Broken(Exception):
+    """A schedule is not lawful: the number of the kind of break, from 1, and its numbers by the names of modsched.h."""
+
+    def __init__(self, kind: int, numbers: dict[str, int]):
+        super().__init__(f"the schedule is broken, kind {kind}, at {numbers}")
+        self.kind, self.numbers = kind, numbers
+
+
 class NoInterval(Exception):
     """No interval that was tried gives a schedule: the last one, its cause ("table", "budget", "stages" or "registers"), and for
     registers the names of the file and of its first value that has none."""
@@ -171,10 +186,27 @@ class Library:
     """The library at a path."""
 
     def __init__(self, path: str):
-        self._solve = ctypes.CDLL(path).modsched_solve
+        library = ctypes.CDLL(path)
+        self._solve, self._check = library.modsched_solve, library.modsched_check
         array = [ctypes.POINTER(u64), size]
         self._solve.argtypes = [ctypes.POINTER(_Problem), u64, u64, *array, *array, *array, ctypes.POINTER(_Answer)]
-        self._solve.restype = u32
+        self._check.argtypes = [ctypes.POINTER(_Problem), u64, *array, *array, *array, ctypes.POINTER(_Verdict)]
+        self._solve.restype = self._check.restype = u32
+
+    def check(self, problem: Problem, schedule: Schedule) -> int:
+        """How many stages a lawful schedule has. Raises Broken, AtFault or MemoryError."""
+        lists = [[of[name] for name in names] for of, names in (
+            (schedule.times, problem.operations), (schedule.alternatives, problem.operations), (schedule.numbers, problem.values))]
+        verdict, given = _Verdict(), problem._given()
+        status = self._check(given, schedule.interval, *(it for xs in lists for it in (_array(u64, xs), len(xs))), verdict)
+        if status == 0:
+            return verdict.stages
+        if status == 1:
+            raise Broken(verdict.kind, {name: getattr(verdict, name) for name, _ in _Verdict._fields_[2:-2]})
+        if status == 5:
+            fault = verdict.fault
+            raise AtFault(fault.kind, fault.part, (fault.first, fault.second, fault.third))
+        raise MemoryError
 
     def solve(self, problem: Problem, ratio: int = 6, ceiling: int = 64) -> Schedule:
         """The schedule of the least interval that works. Raises NoInterval, AtFault, ValueError for a setting that is out of its

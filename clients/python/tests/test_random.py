@@ -1,4 +1,4 @@
-"""Random problems: what the library gives is what plain Python comes to by the letter of the definitions (plain_problems.py).
+"""Random problems: what the library gives, and how it judges, is what plain Python comes to by the letter of the definitions (plain_problems.py).
 
 MODSCHED_ROUNDS tells how many problems (200), MODSCHED_SEED from which seed on (1). A difference is told with its seed."""
 import os
@@ -90,6 +90,34 @@ class Random(unittest.TestCase):
             # (a kind of outcome that never comes would be tested by nothing)
             self.assertLess(rounds // 4, met)
             self.assertLessEqual({"table", "budget", "registers"}, causes)
+
+
+    def test_judgements(self):
+        """A lawful schedule of which one number is another: both judge it alike."""
+        first, rounds = int(os.environ.get("MODSCHED_SEED", 1)), int(os.environ.get("MODSCHED_ROUNDS", 200))
+        lawful = broken = 0
+        for seed in range(first, first + rounds):
+            chance = random.Random(seed)
+            problem = any_problem(chance)
+            found = plain.solve(problem)
+            if not isinstance(found, plain.Solution):
+                continue
+            lists = [list(it) for it in found[1:]]
+            changed = chance.choice([it for it in lists if it])
+            at = chance.randrange(len(changed))
+            changed[at] = max(0, changed[at] + chance.choice([-2, -1, 1, 2, found.ii]))
+            ii, given = chance.choice([found.ii, found.ii, found.ii + 1]), named(problem)
+            wanted = plain.is_lawful(problem, plain.Solution(ii, *lists))
+            schedule = modsched.Schedule(ii, 0, 0, 0, *[dict(zip(names, it)) for names, it in zip((given.operations, given.operations, given.values), lists)])
+            try:
+                LIBRARY.check(given, schedule)
+                judged = True
+            except modsched.Broken:
+                judged = False
+            self.assertEqual(judged, wanted, f"seed {seed}: {schedule} of {problem}")
+            lawful, broken = lawful + wanted, broken + (not wanted)
+        if rounds >= 200:
+            self.assertLess(rounds // 20, min(lawful, broken))
 
 
 if __name__ == "__main__":

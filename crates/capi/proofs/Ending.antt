@@ -1,6 +1,7 @@
 -- What a problem that is given comes to.
 use Rattle.std.proofs.Common.{◌≡◌, ℕ, subst, inl, inr, refl}
-use Rattle.std.specs.Prelude.{Result, Ok, Err}
+use Rattle.std.specs.Prelude.{Result, Ok, Err, List, length}
+use Rattle.std.specs.List.{zip}
 use Rattle.problems.specs.declared.draft.Draft.{Draft}
 use Rattle.problems.specs.declared.fault.Fault.{Fault as AnyFault}
 use Rattle.problems.specs.declared.fault.Refusal.{Refusal}
@@ -14,6 +15,9 @@ use Rattle.capi.specs.declared.given.Problem.{Problem as GivenProblem}
 use Rattle.capi.specs.Answers.{fault_answer}
 use Rattle.capi.specs.Calls.{AnswersSolve, Arrays, EndsBy, IsAtFault, IsGiven, Tells, misfit_in}
 use Rattle.capi.specs.Given.{IsDraftOf}
+use Rattle.capi.specs.declared.verdict.Verdict.{Verdict}
+use Rattle.capi.specs.Verdicts.{faulty_verdict}
+use Rattle.capi.specs.Checks.{AnswersCheck, IsJudged}
 
 pub ends_by : (given : GivenProblem) (draft : Draft) (ratio ceiling r c : ℕ) (result : Result ProblemData Refusal) → IsDraftOf given draft
     → r ≡ ratio → c ≡ ceiling → AnswersDraft draft r c result → EndsBy given ratio ceiling result
@@ -36,3 +40,13 @@ pub faulty : (given : GivenProblem) (ratio ceiling : ℕ) (arrays : Arrays) (ans
     → IsAtFault given fault → answer ≡ fault_answer fault → AnswersSolve given ratio ceiling arrays arrays answer 5
 faulty given ratio ceiling arrays answer fault fits is same =
     inr (fits, inr (inl (record { is_status = refl; fault = fault; is_fault = is; is_answer = same; same = refl })))
+
+pub is_checked : (given : GivenProblem) (ii : ℕ) (times alternatives numbers : List ℕ) (verdict : Verdict) (status : ℕ) (problem : ProblemData)
+    → length times ≡ length alternatives → IsGiven given 1 0 problem → IsJudged problem ii (zip times alternatives) numbers verdict status
+    → AnswersCheck given ii times alternatives numbers verdict status
+is_checked given ii times alternatives numbers verdict status problem same is judged = inr (same, inl (record { problem = problem; is_given = is; is_judged = judged }))
+
+pub faulty_check : (given : GivenProblem) (ii : ℕ) (times alternatives numbers : List ℕ) (verdict : Verdict) (fault : AnyFault)
+    → length times ≡ length alternatives → IsAtFault given fault → verdict ≡ faulty_verdict fault → AnswersCheck given ii times alternatives numbers verdict 5
+faulty_check given ii times alternatives numbers verdict fault same is told =
+    inr (same, inr (inl (record { is_status = refl; fault = fault; is_fault = is; is_verdict = told })))

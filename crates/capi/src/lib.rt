@@ -1,4 +1,4 @@
-//! The proved scheduler as a static library for C: a problem in arrays of numbers is solved into the caller's arrays.
+//! The proved scheduler as a static library for C: a problem in arrays of numbers is solved into the caller's arrays, and schedules that callers give are checked.
 #![tactic(auto)]
 
 ghost use Rattle.std.specs.Prelude.{◌≡◌, ◌≤◌, length, IfOk, MatchResult};
@@ -10,11 +10,14 @@ ghost use Rattle.capi.specs.Given.{IsDraftOf};
 ghost use Rattle.capi.specs.Calls.{AnswersSolve, EndsBy, Arrays, IsWritten, misfit_of, Tells};
 
 mod answer;
+mod checking;
 mod drafting;
 mod given;
+mod verdict;
 
 pub use answer::{Answer, FaultNumbers};
 use answer::{failed_answer, fault_answer, met_answer, misfit_answer, nothing};
+pub use checking::modsched_check;
 use drafting::draft_of;
 pub use given::{Hold, Kind, Order, Problem, Read, Value};
 use machine_data::limits::{MAX_CEILING, MAX_RATIO};
@@ -22,6 +25,7 @@ use problems::Refusal;
 use settings::Settings;
 use solutions::{Outcome, Solution, solve};
 use std::alloc::Global;
+pub use verdict::Verdict;
 
 /// Solves a problem, with at most `ratio` placements for each operation and interval, 1 to 64, and at most `ceiling`
 /// intervals above the least one, 0 to 255. Where there is a solution, it writes the issue time of each operation, in
