@@ -87,17 +87,22 @@ class Browser:
         method, told = message.get("method", ""), message.get("params", {})
         if method == "Page.loadEventFired":
             self.loaded = True
-        elif method in ("Runtime.consoleAPICalled", "Runtime.exceptionThrown", "Log.entryAdded"):
+        elif method == "Runtime.consoleAPICalled":
+            self.console.append(" ".join(str(it.get("value", it.get("description"))) for it in told["args"]))
+        elif method in ("Runtime.exceptionThrown", "Log.entryAdded"):
             self.console.append(json.dumps(told)[:600])
         elif method == "Network.requestWillBeSent":
             self.asked.append(told["request"]["url"])
 
     def open(self, path: str, fragment: str = "") -> None:
-        """Opens a file and waits until it is loaded."""
-        self.loaded, self.console, self.asked = False, [], []
-        self.call("Page.navigate", url="about:blank")
+        """Opens a file anew and waits until it is loaded."""
+        self._load("about:blank")
+        self.console, self.asked = [], []
+        self._load(f"file://{os.path.abspath(path)}{fragment}")
+
+    def _load(self, url: str) -> None:
         self.loaded = False
-        self.call("Page.navigate", url=f"file://{os.path.abspath(path)}{fragment}")
+        self.call("Page.navigate", url=url)
         end = time.monotonic() + 60
         while not self.loaded:
             self._note(self._message(end))
