@@ -137,9 +137,10 @@ class Lines:
     def __init__(self, command: str, text: str):
         self.command, self.at = command, 0
         self.lines = text.split("\n")
-        if self.lines.pop() != "":
+        if self.lines[-1] != "":
             self.at = len(self.lines) - 1
             raise self.misfit("the last line has no line feed")
+        self.lines.pop()
 
     @property
     def line(self) -> str:

@@ -52,7 +52,7 @@ def document_of(program: str, machine: str, loops: str, options: list[str]) -> d
         edges, explained, listing = pool.map(lambda words: printed(program, words), commands)
     try:
         return join(read_edges(edges), read_explain(explained), json.loads(listing))
-    except (json.JSONDecodeError, KeyError, TypeError, IndexError) as fault:
+    except (json.JSONDecodeError, KeyError, TypeError, IndexError, AttributeError) as fault:
         raise Mismatch("json", f"not the document of docs/FORMATS.md: {fault!r}") from fault
 
 
