@@ -6,6 +6,8 @@ from typing import Any, Iterator
 
 from browser import Browser
 
+# Of a greater interval, rows of the kernel without operations are drawn as one.
+GREAT = 96
 # What the sections that are drawn tell, by their elements. Tables that wait for a click are opened first.
 FACTS = """(async () => {
   const texts = (root, of) => [...root.querySelectorAll(of)].map(it => it.textContent);
@@ -114,6 +116,8 @@ def seen_of_kernel(loop: dict[str, Any], it: dict[str, Any]) -> Iterator[str]:
         "values": [[names[v["operation"]], *map(str, (v["first"], v["last"], v["last"] - v["first"] + 1, v["register"]))] for v in values],
     }
     shown = it | {key: sorted(it[key]) for key in ("issued", "ghosts")} | {"slots": sorted(slot[:3] for slot in it["slots"])}
+    if kernel["ii"] > GREAT:
+        del wanted["live"], wanted["most"]
     yield from wrong_with(wanted, shown)
     for row, unit, place, text, classes in it["slots"]:
         operation = operations[place]
