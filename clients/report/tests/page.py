@@ -24,6 +24,11 @@ FACTS = """(async () => {
       units: all("kernel", "thead th").map(it => it.textContent), live: all("kernel", "td.live").map(it => it.textContent),
       most: all("kernel", "td.most").map(it => it.closest("tr").dataset.row),
       issued: all("iteration", "g[data-op]").map(it => +it.dataset.op), ghosts: all("iteration", "[data-ghost]").map(it => [+it.dataset.ghost, +it.dataset.op]),
+      issues: all("iteration", "g[data-op] rect.box").map(it => [+it.closest("g").dataset.op, it.x.baseVal.value, it.classList[1]]),
+      laters: all("iteration", "[data-ghost]").map(it => [+it.dataset.ghost, +it.dataset.op, it.x.baseVal.value]),
+      columns: all("registers", "[data-live]").map(it => [it.x.baseVal.value, it.width.baseVal.value]),
+      folds: all("registers", "g[data-value]").map(it => [it.dataset.value, it.getBBox()]).map(([name, box]) => [name, box.x, box.width, box.y]),
+      heights: all("graph", "g[data-op] rect").map(it => [+it.closest("g").dataset.op, it.y.baseVal.value]),
       iteration: cells(chart("iteration") && chart("iteration").querySelector("details table")), levels: all("registers", "[data-live]").map(it => +it.dataset.live),
       bars: all("registers", "g[data-value]").map(it => [it.dataset.value, it.getAttribute("aria-label")]),
       values: cells(chart("registers") && chart("registers").querySelector("details table")), registers: chart("registers") ? texts(chart("registers"), "h3")[0] : "",
@@ -128,9 +133,55 @@ def seen_of_kernel(loop: dict[str, Any], it: dict[str, Any]) -> Iterator[str]:
     folds = [names[v["operation"]] for v in values for _ in range(v["first"] // kernel["ii"], v["last"] // kernel["ii"] + 1)]
     if sorted(folds) != sorted(name for name, _ in it["bars"]):
         yield f"bars of live ranges: {[name for name, _ in it['bars']]}"
+    yield from seen_of_places(loop, it)
     interval = "every cycle" if kernel["ii"] == 1 else f"every {kernel['ii']} cycles"
     if interval not in it["summary"] or str(kernel["ii"]) not in it["facts"] or kernel["held_by"] not in it["facts"]:
         yield f"summary: {it['summary']} {it['facts']}"
+
+
+def is_near(one: float, other: float) -> bool:
+    """Whether two places are the same, but for rounding and a border's width."""
+    return abs(one - other) < 1.5
+
+
+def seen_of_places(loop: dict[str, Any], it: dict[str, Any]) -> Iterator[str]:
+    """Where the marks stand: operations by their times, the next iterations one and two intervals later, live ranges by their rows, each in
+    a row of its register in which no other is at the time, and operations of the graph from top to bottom by time."""
+    kernel, operations = loop["kernel"], loop["operations"]
+    times, ii = [operation["time"] for operation in operations], kernel["ii"]
+    at = {place: x for place, x, _ in it["issues"]}
+    zero = min(x for place, x in at.items() if times[place] == min(times))
+    shifts = [x - at[place] for later, place, x in it["laters"] if later == 1]
+    cell = shifts[0] / ii
+    if not all(is_near(x, zero + (times[place] - min(times)) * cell) for place, x in at.items()) or cell <= 0:
+        yield f"places of operations: {it['issues']}"
+    if not all(is_near(x, at[place] + later * ii * cell) for later, place, x in it["laters"]):
+        yield f"places of later iterations: {it['laters']}"
+    if any(colour != f"c{operations[place]['stage'] % 8}" for place, _, colour in it["issues"]):
+        yield f"colours of stages: {it['issues']}"
+    if any(one[1] >= other[1] for one in it["heights"] for other in it["heights"] if times[one[0]] < times[other[0]]):
+        yield f"rows of the graph: {it['heights']}"
+    yield from seen_of_folds(loop, it)
+
+
+def seen_of_folds(loop: dict[str, Any], it: dict[str, Any]) -> Iterator[str]:
+    """The bars of the live ranges: each value in the rows in which it lives, once for each turn that it lives in, and in no other's place."""
+    kernel, ii = loop["kernel"], loop["kernel"]["ii"]
+    wanted = []
+    for value in kernel["values"]:
+        for fold in range(value["first"] // ii, value["last"] // ii + 1):
+            first, last = max(value["first"] - fold * ii, 0), min(value["last"] - fold * ii, ii - 1)
+            left, (right, width) = it["columns"][first][0], it["columns"][last]
+            register = (value["register"] + fold) % kernel["registers"]
+            wanted.append((register, first, last, loop["operations"][value["operation"]]["name"], left, right + width))
+    lanes = sorted({lane for *_, lane in it["folds"]})
+    seen = sorted((lanes.index(lane), x, name, x + width) for name, x, width, lane in it["folds"])
+    registers = sorted({register for register, *_ in wanted})
+    for (lane, x, name, end), (register, _, _, its_name, left, right) in zip(seen, sorted(wanted)):
+        if (registers[lane], name) != (register, its_name) or not is_near(x, left) or not is_near(end, right):
+            yield f"the bar of {name} in lane {lane}: {x} to {end}, and not r{register}, {left} to {right}"
+    if any(one[0] == other[0] and other[1] < one[3] - 0.5 for one, other in zip(seen, seen[1:])):
+        yield f"bars that overlap: {seen}"
 
 
 def wrong_of(browser: Browser, path: str, document: dict[str, Any]) -> list[str]:
