@@ -122,6 +122,10 @@ class Browser:
             self.call("Input.dispatchKeyEvent", type="keyDown", **told, **({"text": "\r"} if key == "Enter" else {}))
             self.call("Input.dispatchKeyEvent", type="keyUp", **told)
 
+    def point(self, x: float, y: float) -> None:
+        """Moves the pointer to a place of the window."""
+        self.call("Input.dispatchMouseEvent", type="mouseMoved", x=x, y=y)
+
     def size(self, width: int, height: int) -> None:
         """The size of the window, in pixels."""
         self.call("Emulation.setDeviceMetricsOverride", width=width, height=height, deviceScaleFactor=1, mobile=False)
