@@ -12,6 +12,7 @@ GREAT = 96
 FACTS = """(async () => {
   const texts = (root, of) => [...root.querySelectorAll(of)].map(it => it.textContent);
   const cells = table => table ? [...table.querySelectorAll("tbody tr")].map(row => texts(row, "td")) : null;
+  while (document.querySelector("main").getAttribute("aria-busy") === "true") await new Promise(done => setTimeout(done, 20));
   for (const it of document.querySelectorAll("main details")) it.open = true;
   await new Promise(done => setTimeout(done, 60));
   return [...document.querySelectorAll("main section")].map(section => {
