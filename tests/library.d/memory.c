@@ -1,5 +1,6 @@
-/* Each growth of memory is refused in turn, alone and with all that come after it: then the status is 7, nothing is written but an empty answer,
- * and nothing is left behind. The program is linked so that the library's malloc, realloc and free are those below. */
+/* Each growth of memory is refused in turn, with all that come after it, and alone. The status is 7, nothing is written but an empty answer, and
+ * nothing is left behind. (Where a growth is refused alone, the library may do with less, and go on to what is right.) The program is linked so that
+ * the library's malloc, realloc and free are those below. */
 #include "worked.h"
 
 #include <stdlib.h>
@@ -18,13 +19,13 @@ void __wrap_free(void *block);
 }
 #endif
 
-static long calls, held;      /* so many growths were asked for, and so many blocks are held */
-static long refused;          /* the growth that is refused, from 1, or 0 for none */
-static int is_last = 1;       /* whether those after it are granted again */
+static long calls, held; /* so many growths were asked for, and so many blocks are held */
+static long refused;     /* the growth that is refused, from 1, or 0 for none */
+static int is_alone;     /* whether those after it are granted */
 
 static int is_refused(void) {
     calls++;
-    return refused && (is_last ? calls == refused : calls >= refused);
+    return refused && (is_alone ? calls == refused : calls >= refused);
 }
 
 void *__wrap_malloc(size_t size) {
@@ -77,10 +78,13 @@ static void refuse_each(const struct worked *it, int (*is_right)(const struct wo
     expect_of(held == 0, it->name, "nothing is left behind");
     needed = calls;
     expect_of(needed > 0, it->name, "memory is asked for");
-    for (is_last = 0; is_last < 2; is_last++) {
+    for (is_alone = 0; is_alone < 2; is_alone++) {
         for (at = 1; at <= needed; at++) {
+            int is_well;
             refused = at, calls = 0, held = 0;
-            expect_of(is_told(it), it->name, is_last ? "a growth is refused" : "all growths from one on are refused");
+            is_well = is_told(it);
+            if (!is_well && is_alone) calls = 0, is_well = is_right(it);
+            expect_of(is_well, it->name, is_alone ? "a growth is refused" : "all growths from one on are refused");
             expect_of(held == 0, it->name, "nothing is left behind where memory runs out");
         }
     }

@@ -28,11 +28,11 @@ static const struct modsched_alternative ON_FIRST[] = {{ITEMS(FIRST)}}, ON_SECON
 static const struct modsched_alternative ON_EITHER[] = {{ITEMS(FIRST)}, {ITEMS(SECOND)}};
 
 /* Rotating files, and one whose values are allotted to no registers. */
-static const uint32_t ONE[] = {1}, TWO[] = {2}, THREE[] = {3}, FOUR[] = {4}, FIVE[] = {5}, SIX[] = {6}, SIXTEEN[] = {16};
+static const uint32_t ONE[] = {1}, TWO[] = {2}, THREE[] = {3}, FOUR[] = {4}, FIVE[] = {5}, SIX[] = {6}, EIGHT[] = {8}, NINE[] = {9}, SIXTEEN[] = {16};
 static const uint32_t ONE_AND_NONE[] = {1, 0};
 
 /* Operations: one, two or three of a kind, or each of a kind of its own. */
-static const uint32_t ALIKE[] = {0, 0, 0}, APART[] = {0, 1};
+static const uint32_t ALIKE[] = {0, 0, 0}, APART[] = {0, 1}, ALL_APART[] = {0, 1, 2};
 
 /* Two taps of a filter: four loads (3 cycles, on two ports) and two multiply-accumulates (2 cycles, on one multiplier), which read their
  * accumulator one cycle after their issue.
@@ -134,6 +134,32 @@ static const struct modsched_value FORCE_VALUES[] = {{0, 2, 0, 0}};
 static const struct modsched_read FORCE_READS[] = {{0, 1, 0, 0}};
 #define FORCE_LISTS ITEMS(FORCE_KINDS), ITEMS(FORCE_OPERATIONS), ITEMS(FORCE_VALUES), ITEMS(FORCE_READS), NO_ORDERS
 
+/* Three operations on one unit, which x holds in the cycle of its issue, y two cycles later, and m in the first two cycles.
+ *
+ * The unit asks for 4. At 4, x and y are placed in 0, and take the cycles 0 and 2. No two neighbouring ones are left for m, which is placed in 0 by
+ * force, so that x goes; for x 3 is left. These are four placements, one more than there are operations. */
+static const struct modsched_hold LATER[] = {{0, 2}};
+static const struct modsched_alternative ON_LATER[] = {{ITEMS(LATER)}};
+static const struct modsched_kind ROOMLESS_KINDS[] = {{2, ITEMS(ON_FIRST)}, {2, ITEMS(ON_LATER)}, {1, ITEMS(ON_BUSY)}};
+#define ROOMLESS_LISTS ITEMS(ROOMLESS_KINDS), ITEMS(ALL_APART), NO_VALUES, NO_READS, NO_ORDERS
+
+/* An operation a that holds the unit once, and b and c (3 cycles), which hold it in two cycles, 2 apart.
+ *
+ * The unit asks for 5. At 5, c is placed first, in 0, and takes the cycles 0 and 2; a takes 1. For b none of the pairs 0 and 2, 1 and 3, 2 and 4, 3 and 0,
+ * 4 and 1 is left: it is placed in 0 by force, and c goes. Nor is a pair left for c now. It was in 0 before, so it is placed in 1 by force, and a
+ * goes, for which 4 is left. */
+static const struct modsched_alternative ON_TWICE[] = {{ITEMS(TWICE)}};
+static const struct modsched_kind PUSHED_KINDS[] = {{1, ITEMS(ON_FIRST)}, {1, ITEMS(ON_TWICE)}, {3, ITEMS(ON_TWICE)}};
+
+/* A value (1 cycle) that is live at the end and that nothing reads, and an operation of 4 cycles that is issued 5 cycles after its maker.
+ *
+ * At 1 they are issued in 0 and in 5, in the sixth stage, which ends in 6. The second operation lands in 9, and up to then the value has to last: it
+ * lives from 1 to 9, so nine of its instances live at once. */
+static const struct modsched_kind LASTING_KINDS[] = {{1, ITEMS(ON_FIRST)}, {4, ITEMS(ON_SECOND)}};
+static const struct modsched_value LASTING_VALUES[] = {{0, 1, 1, 0}};
+static const struct modsched_order LASTING_ORDERS[] = {{0, 1, 5, 0}};
+#define LASTING_LISTS ITEMS(LASTING_KINDS), ITEMS(APART), ITEMS(LASTING_VALUES), NO_READS, ITEMS(LASTING_ORDERS)
+
 /* Two operations on units of their own, the second 64 cycles after the first.
  *
  * At 1 the second is in stage 64, which is one too many; at 2 it is in stage 32. */
@@ -166,6 +192,11 @@ const struct worked WORKED[] = {
     {"force", {1, ITEMS(TWO), FORCE_LISTS}, 2, 0, 4, 1, 4, 2, {3, 6, 0}, {0, 0, 0}, {0}, 0, 0, 0},
     {"force, three placements", {1, ITEMS(TWO), FORCE_LISTS}, 1, 0, 4, 1, 4, 0, NOTHING, MODSCHED_CAUSE_BUDGET, 0, 0},
     {"force, three placements at 5", {1, ITEMS(TWO), FORCE_LISTS}, 1, 1, 4, 1, 5, 1, {0, 2, 3}, {0, 0, 0}, {0}, 0, 0, 0},
+    {"no room", {1, NO_FILES, ROOMLESS_LISTS}, 2, 0, 4, 1, 4, 1, {3, 0, 0}, {0, 0, 0}, {0}, 0, 0, 0},
+    {"no room, three placements", {1, NO_FILES, ROOMLESS_LISTS}, 1, 0, 4, 1, 4, 0, NOTHING, MODSCHED_CAUSE_BUDGET, 0, 0},
+    {"pushed on", {1, NO_FILES, ITEMS(PUSHED_KINDS), ITEMS(ALL_APART), NO_VALUES, NO_READS, NO_ORDERS}, 2, 0, 5, 1, 5, 1, {4, 0, 1}, {0, 0, 0}, {0}, 0, 0, 0},
+    {"live at the end", {2, ITEMS(NINE), LASTING_LISTS}, 6, 0, 1, 1, 1, 6, {0, 5}, {0, 0}, {0}, 0, 0, 0},
+    {"live at the end, few registers", {2, ITEMS(EIGHT), LASTING_LISTS}, 6, 0, 1, 1, 1, 0, NOTHING, MODSCHED_CAUSE_REGISTERS, 0, 0},
     {"far apart, at 1", {2, NO_FILES, FAR_LISTS}, 6, 0, 1, 1, 1, 0, NOTHING, MODSCHED_CAUSE_STAGES, 0, 0},
     {"far apart", {2, NO_FILES, FAR_LISTS}, 6, 1, 1, 1, 2, 33, {0, 64}, {0, 0}, {0}, 0, 0, 0},
 };
