@@ -1,0 +1,165 @@
+"""Reads LLVM IR with llvmlite into the plain data of `ir`."""
+from __future__ import annotations
+
+import ctypes
+import re
+
+import llvmlite.binding as binding
+
+from . import llvm
+from .ir import Address, Argument, Block, Constant, Function, Global, Instruction, Value
+
+IGNORED = ("llvm.dbg.", "llvm.lifetime.", "llvm.assume", "llvm.experimental.noalias.scope.decl")
+MEMORY = ("load", "store")
+
+
+class Unread(Exception):
+    """Something of the IR that this front end does not know."""
+
+
+def _reference(value: binding.ValueRef) -> int:
+    return ctypes.cast(value._ptr, ctypes.c_void_p).value
+
+
+class _FunctionReader:
+    """Reads one function of a module."""
+
+    def __init__(self, module: binding.ModuleRef, function: binding.ValueRef):
+        self.layout = llvm.layout_of(ctypes.cast(module._ptr, ctypes.c_void_p))
+        self.function = function
+        self.values: dict[int, Value] = {}
+        self.blocks: dict[int, Block] = {}
+        self.unnamed = 0
+
+    def read(self) -> Function:
+        arguments = [self._argument(it) for it in self.function.arguments]
+        made = [self._block(it) for it in self.function.blocks]
+        instructions = [(block, one) for block, its in made for one in its]
+        for block, (one, reference) in instructions:
+            self.values[reference] = one
+            block.instructions.append(one)
+        for _, (one, reference) in instructions:
+            self._fill(one, reference)
+        for block, _ in made:
+            block.instructions = [it for it in block.instructions if not it.opcode.startswith(IGNORED)]
+        return Function(self.function.name, arguments, [block for block, _ in made])
+
+    def _name(self, reference: int) -> str:
+        name = llvm.name_of(reference)
+        if not name:
+            self.unnamed += 1
+            name = f"{self.unnamed}."  # (no name that clang gives ends in a dot)
+        return f"%{name}"
+
+    def _argument(self, given: binding.ValueRef) -> Argument:
+        reference = _reference(given)
+        it = Argument(self._name(reference), str(given.type), b"noalias" in given.attributes)
+        self.values[reference] = it
+        return it
+
+    def _block(self, given: binding.ValueRef) -> tuple[Block, list[tuple[Instruction, int]]]:
+        block = Block(self._name(_reference(given)))
+        self.blocks[_reference(given)] = block
+        found = []
+        for it in given.instructions:
+            reference = _reference(it)
+            name = "" if str(it.type) == "void" else self._name(reference)
+            found.append((Instruction(name, str(it.type), it.opcode), reference))
+        return block, found
+
+    def _fill(self, one: Instruction, reference: int) -> None:
+        """Gives an instruction all but its name, type and opcode."""
+        one.line, one.file = llvm.line_of(reference), llvm.file_of(reference)
+        count = llvm.operand_count(reference)
+        operands = [llvm.operand(reference, it) for it in range(count)]
+        if one.opcode == "phi":
+            one.blocks = [self.blocks[llvm.incoming_block(reference, it)] for it in range(count)]
+        elif one.opcode in ("br", "switch"):
+            one.blocks = [self.blocks[llvm.successor(reference, it)] for it in range(llvm.successor_count(reference))]
+            operands = operands[:1] if len(one.blocks) > 1 else []
+        elif one.opcode == "call":
+            one.opcode = _callee(reference)
+            operands = operands[:-1]
+        elif one.opcode in ("icmp", "fcmp"):
+            names = llvm.INTEGER_PREDICATES if one.opcode == "icmp" else llvm.FLOAT_PREDICATES
+            one.predicate = names[(llvm.integer_predicate if one.opcode == "icmp" else llvm.float_predicate)(reference)]
+        elif one.opcode == "getelementptr":
+            one.address = self._address(reference, operands)
+        elif one.opcode in MEMORY:
+            place = llvm.type_of(reference) if one.opcode == "load" else llvm.type_of(operands[0])
+            one.size = llvm.stored_size(self.layout, place)
+            one.is_volatile = bool(llvm.is_volatile(reference) or llvm.ordering(reference))
+        elif one.opcode == "alloca":
+            one.size = llvm.allocated_size(self.layout, llvm.alloca_type(reference))
+        one.operands = [] if one.opcode.startswith(IGNORED) else [self._value(it) for it in operands]
+
+    def _address(self, reference: int, operands: list[int]) -> Address:
+        """What a getelementptr adds, index by index."""
+        address, of = Address(), llvm.source_type(reference)
+        for place, index in enumerate(operands[1:], 1):
+            is_number = llvm.value_kind(index) == llvm.INTEGER
+            if place > 1 and llvm.type_kind(of) == llvm.STRUCT:
+                member = llvm.whole_number(index)
+                address.offset += llvm.member_offset(self.layout, of, member)
+                of = llvm.member_type(of, member)
+                continue
+            if place > 1:
+                of = llvm.element_type(of)
+            size = llvm.allocated_size(self.layout, of)
+            if is_number:
+                address.offset += size * llvm.whole_number(index)
+            else:
+                address.scaled.append((place, size))
+        return address
+
+    def _value(self, reference: int) -> Value:
+        """The value of an operand."""
+        if reference not in self.values:
+            self.values[reference] = self._constant(reference)
+        return self.values[reference]
+
+    def _constant(self, reference: int) -> Value:
+        kind, of = llvm.value_kind(reference), llvm.printed_type(llvm.type_of(reference))
+        if kind == llvm.INTEGER:
+            number = llvm.whole_number(reference)
+            return Constant(str(number), of, number)
+        if kind == llvm.FLOAT:
+            number = llvm.constant_float(reference)
+            return Constant(str(number), of, number)
+        if kind in (llvm.UNDEFINED, llvm.POISON, llvm.NULL):
+            return Constant("0", of, 0.0 if of in ("float", "double") else 0)
+        if kind in (llvm.VARIABLE, llvm.FUNCTION):
+            size = llvm.allocated_size(self.layout, llvm.variable_type(reference)) if kind == llvm.VARIABLE else 0
+            return Global(f"@{llvm.name_of(reference)}", of, size)
+        if kind == llvm.EXPRESSION and llvm.constant_opcode(reference) in llvm.OPCODES:
+            return self._expression(reference, of)
+        raise Unread(f"the operand {llvm.printed(reference)}")
+
+    def _expression(self, reference: int, of: str) -> Instruction:
+        """A constant that is told as an instruction, in no block."""
+        operands = [llvm.operand(reference, it) for it in range(llvm.operand_count(reference))]
+        one = Instruction(llvm.printed(reference), of, llvm.OPCODES[llvm.constant_opcode(reference)])
+        if one.opcode == "getelementptr":
+            one.address = self._address(reference, operands)
+        one.operands = [self._value(it) for it in operands]
+        return one
+
+
+def _callee(reference: int) -> str:
+    """The name of what is called; that of an intrinsic without its types."""
+    name = llvm.name_of(llvm.called(reference)) or "a pointer"
+    return re.sub(r"(\.[ipfv]\d+\w*)+$", "", name) if name.startswith("llvm.") else f"call {name}"
+
+
+def read_functions(text: str) -> list[tuple[str, Function | Unread]]:
+    """The functions of a module that have bodies, in order; in place of one that is not known in full, why."""
+    module = binding.parse_assembly(text)
+    module.verify()
+    found: list[tuple[str, Function | Unread]] = []
+    for it in module.functions:
+        if not it.is_declaration:
+            try:
+                found.append((it.name, _FunctionReader(module, it).read()))
+            except Unread as unread:
+                found.append((it.name, unread))
+    return found
