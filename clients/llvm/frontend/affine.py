@@ -89,6 +89,8 @@ class Inductions:
             return self.of(value.operands[0])
         if value.opcode in ("add", "sub", "mul", "shl"):
             return self._computed(value) or self._fixed(value)
+        if value.opcode == "or":
+            return self._joined(value) or self._fixed(value)
         return self._fixed(value)
 
     def _fixed(self, value: Instruction) -> Affine | None:
@@ -122,6 +124,20 @@ class Inductions:
             return None
         moves, stays = (one, two) if one.step != Linear() else (two, one)
         return Affine(moves.start.times(stays.start), moves.step.times(stays.start))
+
+    def _joined(self, value: Instruction) -> Affine | None:
+        """An or whose operands have no common bits is a sum: clang writes i | 1 where i is even."""
+        one, two = map(self.of, value.operands)
+        if one is None or not isinstance(value.operands[1], Constant) or not one.start.is_constant or not one.step.is_constant:
+            return None
+        bits = two.start.constant
+        return Affine(one.start.plus(two.start), one.step) if 0 <= bits < _power_in(one.start.constant, one.step.constant) else None
+
+
+def _power_in(one: int, two: int) -> int:
+    """The greatest power of two, up to 2^32, that two numbers are multiples of."""
+    both = one | two | 1 << 32
+    return both & -both
 
 
 @dataclass(frozen=True)

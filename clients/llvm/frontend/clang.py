@@ -6,7 +6,8 @@ import shutil
 import subprocess
 
 # Loops stay as they are written: nothing is vectorized, unrolled, or made a call of memcpy or the like.
-FLAGS = ["-O2", "-gline-tables-only", "-fno-vectorize", "-fno-slp-vectorize", "-fno-unroll-loops", "-fno-builtin", "-fno-discard-value-names"]
+FLAGS = ["-O2", "-gline-tables-only", "-fno-vectorize", "-fno-slp-vectorize", "-fno-unroll-loops", "-fno-discard-value-names"]
+FLAGS += [f"-fno-builtin-{it}" for it in ("memcpy", "memmove", "memset", "memcmp", "bcmp", "strlen")]
 
 
 class NoClang(Exception):

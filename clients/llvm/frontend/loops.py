@@ -60,13 +60,13 @@ def _natural_loops(function: Function) -> dict[Block, set[Block]]:
     for header in function.blocks:
         others = _reached(entry, header)
         ends = [it for it in before.get(header, []) if it not in others]
-        inside, waiting = {header}, ends
+        inside, waiting = {header}, list(ends)
         while waiting:
             block = waiting.pop()
             if block not in inside:
                 inside.add(block)
                 waiting += before.get(block, [])
-        if ends or header in header.successors:
+        if ends:
             loops[header] = inside
     return loops
 
