@@ -2,7 +2,7 @@
 
 /* Filters. */
 
-/* run: n=T x=n+8 h=8 y=n | loads 3 stores 1 orders 0 */
+/* run: n=T x=2*n h=8 y=n | loads 3 stores 1 orders 0 */
 void fir3(const int16_t *restrict x, const int16_t *restrict h, int32_t *restrict y, int n) {
     int32_t a = h[0], b = h[1], c = h[2];
     for (int i = 0; i < n; i++)

@@ -52,7 +52,7 @@ void mean_rows(uint8_t *a, const uint8_t *b, int n) {
 
 struct pixel { uint8_t r, g, b, a; };
 
-/* run: n=T x=n | loads 2 stores 1 orders 1 */
+/* run: n=T x=4*n | loads 2 stores 1 orders 1 */
 void dim(struct pixel *x, int n) {
     for (int i = 0; i < n; i++)
         x[i].g = (uint8_t)(x[i].g * x[i].a >> 8);

@@ -37,10 +37,10 @@ int best_sum(const int32_t *x, int n) {
 }
 
 /* where the greatest number stands */
-/* run: n=T x=n | loads 1 stores 0 orders 0 */
+/* run: n=T+1 x=n | loads 1 stores 0 orders 0 */
 int peak(const int32_t *x, int n) {
     int best = x[0], at = 0;
-    for (int i = 0; i < n; i++)
+    for (int i = 1; i < n; i++)
         if (x[i] > best)
             best = x[i], at = i;
     return at;

@@ -174,7 +174,7 @@ class Selection:
         if not self.loop.has(value):
             return Input(value)
         if is_address and self.machine.folds_affine and self.inductions.of(value) is not None:
-            return self._folded(operation, value, lambda it: self._moving(operation, it))
+            return self._moving(operation, value)
         if value.opcode != "phi" and self.machine.is_free(value):
             return self._folded(operation, value, lambda it: self._operand(operation, it, offset, is_address))
         if is_address and self._is_indexed(value):

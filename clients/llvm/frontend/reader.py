@@ -153,7 +153,7 @@ def _callee(reference: int) -> str:
 
 def read_functions(text: str) -> list[tuple[str, Function | Unread]]:
     """The functions of a module that have bodies, in order; in place of one that is not known in full, why."""
-    module = binding.parse_assembly(text)
+    module = binding.parse_assembly(text, binding.create_context())  # (in a context of its own, names of types are as they stand)
     module.verify()
     found: list[tuple[str, Function | Unread]] = []
     for it in module.functions:

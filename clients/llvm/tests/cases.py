@@ -2,7 +2,7 @@
 
     /* run: n=T x=n+7 y=n | loads 3 stores 1 orders 0 */
 
-stands before a function. For T iterations its argument n is T, and x points to n + 7 elements of random bytes. `x=&y+3` points to the fourth element of what
+stands before a function. For T iterations its argument n is T, and x points to n + 7 elements of random bytes (of a struct, to so many bytes). `x=&y+3` points to the fourth element of what
 y points to, `x=n:small` to numbers from 0 to 15, and floating-point numbers are multiples of 1/4. Behind the bar stand the loads, stores and orders of the
 function's innermost loops, as they are counted by hand from the C; or `left out: REASON`. A function without such a comment is a part of another's.
 """
@@ -54,7 +54,8 @@ def cases_of(path: str) -> list[Case]:
 
 
 def _element(argument: Argument) -> str:
-    return argument.type.removesuffix("*")
+    """The type of what a pointer points to; a struct counts as bytes."""
+    return "i8" if argument.type.startswith("%") else argument.type.removesuffix("*")
 
 
 def _content(count: int, of: str, fill: str, chance: random.Random) -> bytes:
