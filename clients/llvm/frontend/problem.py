@@ -32,6 +32,11 @@ def _word(operation: Operation) -> str:
     return {"getelementptr": "address", "br": "branch"}.get(operation.root.opcode, operation.root.opcode.removeprefix("llvm."))
 
 
+def _place(operation: Operation) -> tuple[str, int]:
+    """The file and the line of an operation: those of the last of its instructions that has a line."""
+    return next(((it.file, it.line) for it in reversed(operation.instructions) if it.line), ("", 0))
+
+
 class _Names:
     """Names that are all different, of at most 64 bytes, without blanks or other bytes that a text of problems does not take."""
 
@@ -62,7 +67,7 @@ class _Writer:
         self.values = {it.root: values.new(it.root.name) for it in self.operations if it.root.name}
 
     def _name(self, operation: Operation) -> str:
-        line, file = next(((it.line, it.file) for it in reversed(operation.instructions) if it.line), (0, ""))
+        file, line = _place(operation)
         return f"{os.path.basename(file)}:{line}:{_word(operation)}" if line else f"{self.loop.function.name}:{_word(operation)}"
 
     def problem(self, name: str) -> dict[str, Any]:
@@ -79,8 +84,11 @@ class _Writer:
         return found
 
     def _operation(self, it: Operation) -> dict[str, Any]:
-        line = next((one.line for one in reversed(it.instructions) if one.line), 0)
-        found = {"name": self.names[it.root], "kind": it.kind.name, "line": line, "instructions": [self._instruction(it, one) for one in it.instructions]}
+        file, line = _place(it)
+        found = {
+            "name": self.names[it.root], "kind": it.kind.name, "file": file, "line": line,
+            "instructions": [self._instruction(it, one) for one in it.instructions],
+        }
         if it.guard is not None:
             operand, wanted = it.guard
             found["guard"] = {"operand": self._operand(operand, self.loop.guards[it.memory].condition), "wanted": wanted}
