@@ -53,7 +53,7 @@ void doubling(int32_t *y, int n) {
 }
 
 /* an echo in a ring of 8 numbers: where it is read and written is not known to be apart */
-/* run: n=T x=n ring=8 y=n | loads 2 stores 2 orders 2 */
+/* run: n=T x=n ring=8 y=n | loads 2 stores 2 orders 2 open 2 */
 void echo(const int32_t *restrict x, int32_t *restrict ring, int32_t *restrict y, int n) {
     for (int i = 0; i < n; i++) {
         int32_t s = x[i] + (ring[i & 7] >> 1);

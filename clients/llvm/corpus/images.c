@@ -44,7 +44,7 @@ void threshold(const uint8_t *restrict x, uint8_t *restrict y, int limit, int n)
 }
 
 /* two rows into one, in place: the second row may overlap the first */
-/* run: n=T a=n+4 b=&a+3 | loads 2 stores 1 orders 3 */
+/* run: n=T a=n+4 b=&a+3 | loads 2 stores 1 orders 3 open 2 */
 void mean_rows(uint8_t *a, const uint8_t *b, int n) {
     for (int i = 0; i < n; i++)
         a[i] = (uint8_t)((a[i] + b[i] + 1) >> 1);

@@ -22,7 +22,7 @@ int64_t column(const int32_t *m, long width, int n) {
 }
 
 /* the step of the store is not known, so that one may overlap the next */
-/* run: n=T width=3 m=3*T+3 | loads 1 stores 1 orders 2 */
+/* run: n=T width=3 m=3*T+3 | loads 1 stores 1 orders 2 open 1 */
 void scale_column(int32_t *m, long width, int n) {
     for (int i = 0; i < n; i++)
         m[i * width] = m[i * width] * 3 + 1;

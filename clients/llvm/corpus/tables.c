@@ -5,14 +5,14 @@
 uint8_t SQUARES[16] = {0, 1, 4, 9, 16, 25, 36, 49, 64, 81, 100, 121, 144, 169, 196, 225};
 int32_t STATE[256];
 
-/* run: n=T x=n bins=256 | loads 2 stores 1 orders 2 */
+/* run: n=T x=n bins=256 | loads 2 stores 1 orders 2 open 2 */
 void histogram(const uint8_t *restrict x, int32_t *bins, int n) {
     for (int i = 0; i < n; i++)
         bins[x[i]]++;
 }
 
 /* the same where nobody says that the bins are not a part of what is counted */
-/* run: n=T x=n bins=256 | loads 2 stores 1 orders 4 */
+/* run: n=T x=n bins=256 | loads 2 stores 1 orders 4 open 4 */
 void histogram_open(const uint8_t *x, int32_t *bins, int n) {
     for (int i = 0; i < n; i++)
         bins[x[i]]++;

@@ -1,10 +1,11 @@
 """The corpus: C files with comments that say how each function is run and what is expected of its loops.
 
-    /* run: n=T x=n+7 y=n | loads 3 stores 1 orders 0 */
+    /* run: n=T x=n+7 y=n | loads 3 stores 1 orders 2 open 1 */
 
 stands before a function. For T iterations its argument n is T, and x points to n + 7 elements of random bytes (of a struct, to so many bytes). `x=&y+3` points to the fourth element of what
 y points to, `x=n:small` to numbers from 0 to 15, and floating-point numbers are multiples of 1/4. Behind the bar stand the loads, stores and orders of the
-function's innermost loops, as they are counted by hand from the C; or `left out: REASON`. A function without such a comment is a part of another's.
+function's innermost loop, as they are counted by hand, and how many of the orders are open: those of accesses of which it is not known whether and when they
+meet. `left out: REASON` is what is expected of a loop that gives no problem.
 """
 from __future__ import annotations
 
@@ -25,12 +26,13 @@ _CASE = re.compile(r"/\* (?:run: ([^|]*?))?(?: ?\| )?(loads[^*]*?|left out: [^*]
 
 @dataclass(frozen=True)
 class Case:
-    """A function of the corpus. `counts`: loads, stores and orders, or None where it is left out; `reason` is then why."""
+    """A function of the corpus. `counts`: loads, stores and orders, or None where it is left out; `reason` is then why. `open` of the orders are open."""
 
     file: str
     name: str
     arguments: dict[str, str]
     counts: tuple[int, int, int] | None
+    open: int
     reason: str
 
 
@@ -45,9 +47,12 @@ def cases_of(path: str) -> list[Case]:
         text = it.read()
     found = []
     for run, expected, name in _CASE.findall(text):
-        counts = re.fullmatch(r"loads (\d+) stores (\d+) orders (\d+)", expected)
+        counts = re.fullmatch(r"loads (\d+) stores (\d+) orders (\d+)(?: open (\d+))?", expected)
         arguments = dict(it.split("=", 1) for it in run.split())
-        found.append(Case(path, name, arguments, tuple(map(int, counts.groups())) if counts else None, expected.removeprefix("left out: ")))
+        if counts:
+            found.append(Case(path, name, arguments, tuple(map(int, counts.groups()[:3])), int(counts[4] or 0), ""))
+        else:
+            found.append(Case(path, name, arguments, None, 0, expected.removeprefix("left out: ")))
     if text.count("/* run:") + text.count("/* left out:") != len(found):
         raise ValueError(f"{path}: a comment of a case is not read")
     return found

@@ -1,15 +1,11 @@
 """The whole way from C to overlapped kernels: each loop of the corpus, scheduled and run cycle by cycle, leaves what the compiled function leaves."""
 from __future__ import annotations
 
-import os
-import sys
-import tempfile
 import unittest
 
-import common
+import common  # (it says where the others are)
 import cases
 from common import MACHINES
-from frontend import clang, loops, problem
 from memory import Memory
 from overlapped import Overlapped
 from sequential import Run
