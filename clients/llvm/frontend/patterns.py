@@ -52,10 +52,7 @@ class Match:
 
 def parse(text: str) -> Term:
     """The term of a text. Raises BadTerm."""
-    words = re.findall(r"[\w.*]+|[(),:]", text.replace(" ", ""))
-    if "".join(words) != text.replace(" ", ""):
-        raise BadTerm(text)
-    term, rest = _term(words, text)
+    term, rest = _term(re.findall(r"[\w.*]+|\S", text), text)
     if rest or term.name:
         raise BadTerm(text)
     return term
