@@ -4,8 +4,10 @@ from __future__ import annotations
 import argparse
 import collections
 import os
+import resource
 import sys
 import time
+from dataclasses import dataclass
 from typing import Any, Callable, Iterator
 
 HERE = os.path.dirname(os.path.realpath(__file__))
@@ -22,7 +24,7 @@ def arguments() -> argparse.Namespace:
     parser = argparse.ArgumentParser(
         prog="table.py",
         description="Prints for each loop of the C files its operations, MII, interval and stages on each machine, and how many loops are left out for each"
-        " reason, as Markdown. Standard error tells how long clang and the library took.",
+        " reason, as Markdown. Standard error tells how many processor seconds clang and the library took.",
     )
     parser.add_argument("--machine", action="append", metavar="FILE.toml", help="a machine, once or more often (machines/four.toml and eight.toml)")
     parser.add_argument("--library", default=os.path.join(solving.ROOT, "out", "libmodsched.so"), metavar="FILE", help="the library (out/libmodsched.so)")
@@ -59,27 +61,51 @@ def reasons(documents: list[dict[str, Any]], names: list[str]) -> Iterator[str]:
         yield f"| {reason} | {' | '.join(str(its[reason]) for its in counts)} |"
 
 
-def table(files: list[str], machines: list[str], solve: Solver) -> tuple[list[str], float, float]:
-    """The lines of the tables, and how many seconds clang and the solver took."""
-    targets = [read_machine(it) for it in machines]
-    lines = ["| place | loop |" + "".join(f" {it.name}: operations | MII | interval | stages |" for it in targets), "|---|---|" + "---|" * 4 * len(targets)]
+def heads(names: list[str]) -> Iterator[str]:
+    """The head of the table of loops."""
+    yield "| place | loop |" + "".join(f" {it}: operations | MII | interval | stages |" for it in names)
+    yield "|---|---|" + "---|" * 4 * len(names)
+
+
+@dataclass
+class Times:
+    """Processor seconds of clang and of the solver."""
+
+    clang: float = 0
+    solver: float = 0
+
+    def compile(self, path: str) -> str:
+        """The IR of a C file."""
+        start = resource.getrusage(resource.RUSAGE_CHILDREN)
+        text = clang.to_ir(path)
+        end = resource.getrusage(resource.RUSAGE_CHILDREN)
+        self.clang += end.ru_utime + end.ru_stime - start.ru_utime - start.ru_stime
+        return text
+
+    def solve(self, solve: Solver, document: dict[str, Any]) -> dict[str, Any]:
+        """The solutions of a document."""
+        start = time.process_time()
+        found = solve(document)
+        self.solver += time.process_time() - start
+        return found
+
+
+def table(files: list[str], machines: list[str], solve: Solver) -> tuple[list[str], Times]:
+    """The lines of the tables, and how long clang and the solver took."""
+    targets, times = [read_machine(it) for it in machines], Times()
+    names = [it.name for it in targets]
+    lines = list(heads(names))
     left_out: list[list[dict[str, Any]]] = [[] for _ in targets]
-    compiling = solving_time = 0.0
     read = 0
     for path in files:
-        start = time.perf_counter()
-        text = clang.to_ir(path)
-        compiling += time.perf_counter() - start
+        text = times.compile(path)
         documents = [problem.document(it, *problem.problems_of(reader.read_functions(text), it, path)) for it in targets]
-        start = time.perf_counter()
-        solutions = [solve(it) for it in documents]
-        solving_time += time.perf_counter() - start
-        lines += rows(documents, solutions)
+        lines += rows(documents, [times.solve(solve, it) for it in documents])
         read += len(documents[0]["problems"]) + len(documents[0]["left_out"])
         for its, document in zip(left_out, documents):
             its += document["left_out"]
-    given = [f"{read - len(its)} on {it.name}" for it, its in zip(targets, left_out)]
-    return [*lines, "", *reasons(left_out, [it.name for it in targets]), "", f"Of {read} innermost loops, {' and '.join(given)} give a problem."], compiling, solving_time
+    given = " and ".join(f"{read - len(its)} on {name}" for name, its in zip(names, left_out))
+    return [*lines, "", *reasons(left_out, names), "", f"Of {read} innermost loops, {given} give a problem."], times
 
 
 def main() -> int:
@@ -87,12 +113,12 @@ def main() -> int:
     given = arguments()
     try:
         library = solving.modsched.Library(given.library)
-        lines, compiling, solving_time = table(given.files, given.machine or MACHINES, lambda it: solving.solved(library, it))
+        lines, times = table(given.files, given.machine or MACHINES, lambda it: solving.solved(library, it))
     except (OSError, clang.NoClang) as bad:
         print(f"table.py: {bad}", file=sys.stderr)
         return 2
     print("\n".join(lines))
-    print(f"clang took {compiling:.2f} s, the library {solving_time:.2f} s", file=sys.stderr)
+    print(f"clang took {times.clang:.2f} s, the library {times.solver:.2f} s", file=sys.stderr)
     return 0
 
 

@@ -153,13 +153,19 @@ def _callee(reference: int) -> str:
 
 def read_functions(text: str) -> list[tuple[str, Function | Unread]]:
     """The functions of a module that have bodies, in order; in place of one that is not known in full, why."""
-    module = binding.parse_assembly(text, binding.create_context())  # (in a context of its own, names of types are as they stand)
-    module.verify()
-    found: list[tuple[str, Function | Unread]] = []
-    for it in module.functions:
-        if not it.is_declaration:
-            try:
-                found.append((it.name, _FunctionReader(module, it).read()))
-            except Unread as unread:
-                found.append((it.name, unread))
-    return found
+    context = binding.create_context()  # (in a context of its own, the names of types are as they stand in the text)
+    module = binding.parse_assembly(text, context)
+    try:
+        module.verify()
+        return [(it.name, _read(module, it)) for it in module.functions if not it.is_declaration]
+    finally:
+        # (a module has to go before its context does)
+        module.close()
+        context.close()
+
+
+def _read(module: binding.ModuleRef, function: binding.ValueRef) -> Function | Unread:
+    try:
+        return _FunctionReader(module, function).read()
+    except Unread as unread:
+        return unread
