@@ -1,6 +1,7 @@
 """Problems of problems.json for the plain Python solver, which shares no code with modsched."""
 from __future__ import annotations
 
+import json
 import os
 import sys
 from typing import Any
@@ -59,3 +60,8 @@ def solved(document: dict[str, Any]) -> dict[str, Any]:
     """What solutions.json has for a problems.json."""
     every = [solution(document["machine"], it) for it in document["problems"]]
     return {"machine": document["machine"]["name"], "solutions": [it for it in every if "interval" in it], "unsolved": [it for it in every if "reason" in it]}
+
+
+if __name__ == "__main__":
+    with open(sys.argv[1], encoding="utf-8") as given:
+        print(json.dumps(solved(json.load(given)), indent=1))

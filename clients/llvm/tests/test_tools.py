@@ -132,6 +132,34 @@ class Shown(unittest.TestCase):
         ])
 
 
+class Readme(unittest.TestCase):
+    def test_session(self):
+        """README's session prints what stands there. Without the library, plain Python solves in place of solve.py."""
+        with open(os.path.join(common.solving.ROOT, "README.md"), encoding="utf-8") as it:
+            section = it.read().split("\n## From C\n")[1].split("\n## ")[0]
+        lines = [it[4:] for it in section.split("\n") if it.startswith("    ")]
+        room = os.path.join(common.ROOM, "readme")
+        os.mkdir(room)
+        os.symlink(os.path.join(common.solving.ROOT, "clients"), os.path.join(room, "clients"))
+        printed = []
+        for line in (it for it in lines if it.startswith("$ ")):
+            printed += [line, *self.said(line[2:], room)]
+        self.assertEqual(printed, lines)
+
+    def said(self, command: str, room: str) -> list[str]:
+        """The lines that a command of the session prints."""
+        if " clients/llvm/solve.py " in command:
+            words = command.replace(" clients/llvm/solve.py", f" clients/llvm/solve.py --library {common.LIBRARY}")
+            if not common.HAS_LIBRARY:
+                words = "python3 clients/llvm/tests/plain.py problems.json > solutions.json"
+        else:
+            words = command
+        words = words.replace("python3 ", f"{sys.executable} -B ", 1)
+        done = subprocess.run(words, shell=True, cwd=room, stdout=subprocess.PIPE, stderr=subprocess.STDOUT, text=True, stdin=subprocess.DEVNULL)
+        self.assertEqual(done.returncode, 0, done.stdout)
+        return done.stdout.split("\n")[:-1]
+
+
 class Tables(unittest.TestCase):
     def test_page(self):
         """The tables of docs/CLIENTS.md are those that table.py prints of the corpus."""
