@@ -35,11 +35,12 @@ class Runs(unittest.TestCase):
                 for it in given:
                     self.assertTrue(common.is_lawful(document["machine"], it, by_name[it["name"]]), it["name"])
                 for trip in cases.TRIPS:
-                    self.check_run(case, functions[case.name], document["machine"], given, by_name, trip)
+                    iterations = self.check_run(case, functions[case.name], document["machine"], given, by_name, trip)
+                    self.assertIn(trip, iterations, f"{case.name} is not run for {trip} iterations")
         return ran
 
-    def check_run(self, case, function, machine, given, solutions, trip) -> None:
-        """One call: with each loop overlapped, and compiled."""
+    def check_run(self, case, function, machine, given, solutions, trip) -> list[int]:
+        """One call: with each loop overlapped, and compiled. How many iterations each loop had when it was run last."""
         overlapped = [(it["source"]["header"], Overlapped(machine, it, solutions[it["name"]])) for it in given]
         headers = {it.name: it for it in function.blocks}
         memory, call = Memory(), cases.Call(case, function, trip)
@@ -51,7 +52,7 @@ class Runs(unittest.TestCase):
         wanted, pieces = call.native(library, returned)
         self.assertEqual(cases.shown(found, returned), cases.shown(wanted, returned), f"{case.name} returns another number, with {trip} iterations")
         self.assertEqual([bytes(it) for _, it in memory.pieces[: len(pieces)]], pieces, f"{case.name} leaves another memory, with {trip} iterations")
-        self.assertIn(trip, [it.iterations for _, it in overlapped], f"{case.name} is not run for {trip} iterations")
+        return [it.iterations for _, it in overlapped]
 
 
 if __name__ == "__main__":
