@@ -33,12 +33,12 @@ def main() -> int:
         return 2
     try:
         target = machine.read_machine(given.machine)
-        problems, left_out = [], []
+        problems, left_out, names = [], [], problem.Names()
         for path in given.files:
-            found, left = problem.problems_of(reader.read_functions(clang.to_ir(path)), target, path)
+            found, left = problem.problems_of(reader.read_functions(clang.to_ir(path)), target, path, names)
             problems += found
             left_out += left
-    except (clang.NoClang, machine.BadMachine, OSError) as bad:
+    except (clang.NoClang, machine.BadMachine, reader.Unread, OSError) as bad:
         print(f"problems.py: {bad}", file=sys.stderr)
         return 2
     for it in left_out:

@@ -16,7 +16,7 @@ def arguments() -> argparse.Namespace:
     parser = argparse.ArgumentParser(
         prog="solve.py",
         description="Solves the problems of problems.json with libmodsched.so (./library makes it), and writes solutions.json. A line on standard error tells of"
-        " each problem that has no solution, and why; the status is then 1.",
+        " each problem that has no solution, and why: the status is then 1.",
     )
     parser.add_argument("--library", default=os.path.join(solving.ROOT, "out", "libmodsched.so"), metavar="FILE", help="the library (out/libmodsched.so)")
     parser.add_argument("--ratio", type=int, default=6, help="placements for each operation in an attempt, 1 to 64 (6)")
@@ -35,7 +35,14 @@ def main() -> int:
     except (OSError, ValueError) as bad:
         print(f"solve.py: {bad}", file=sys.stderr)
         return 2
-    found = solving.solved(library, document, given.ratio, given.ceiling)
+    try:
+        found = solving.solved(library, document, given.ratio, given.ceiling)
+    except (KeyError, TypeError) as bad:
+        print(f"solve.py: {given.problems} is no problems.json: {bad}", file=sys.stderr)
+        return 2
+    except ValueError as bad:
+        print(f"solve.py: {bad}", file=sys.stderr)
+        return 2
     for it in found["unsolved"]:
         print(f"{it['name']} has no solution: {it['reason']}", file=sys.stderr)
     print(json.dumps(found, indent=1))

@@ -92,14 +92,14 @@ class Times:
 
 def table(files: list[str], machines: list[str], solve: Solver) -> tuple[list[str], Times]:
     """The lines of the tables, and how long clang and the solver took."""
-    targets, times = [read_machine(it) for it in machines], Times()
+    targets, times, names_of = [read_machine(it) for it in machines], Times(), [problem.Names() for _ in machines]
     names = [it.name for it in targets]
     lines = list(heads(names))
     left_out: list[list[dict[str, Any]]] = [[] for _ in targets]
     read = 0
     for path in files:
         text = times.compile(path)
-        documents = [problem.document(it, *problem.problems_of(reader.read_functions(text), it, path)) for it in targets]
+        documents = [problem.document(it, *problem.problems_of(reader.read_functions(text), it, path, given)) for it, given in zip(targets, names_of)]
         lines += rows(documents, [times.solve(solve, it) for it in documents])
         read += len(documents[0]["problems"]) + len(documents[0]["left_out"])
         for its, document in zip(left_out, documents):

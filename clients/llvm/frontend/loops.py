@@ -94,8 +94,10 @@ def _refuse_instructions(blocks: list[Block]) -> None:
     for one in (one for block in blocks for one in block.instructions):
         if one.opcode.startswith("call "):
             raise LeftOut(f"it calls {one.opcode[5:]}")
-        if one.is_volatile:
+        if one.is_volatile or one.opcode in ("fence", "atomicrmw", "cmpxchg"):
             raise LeftOut("it has a volatile or atomic access")
+        if one.opcode in ("alloca", "va_arg"):
+            raise LeftOut(f"it has {one.opcode}")
         if "<" in one.type or any("<" in it.type for it in one.operands):
             raise LeftOut("it has vectors")
 

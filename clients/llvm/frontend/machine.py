@@ -65,6 +65,14 @@ def _checked(value: Any, of: type, what: str) -> Any:
     return value
 
 
+def _named(name: Any, what: str, without: str = "#") -> str:
+    """A name as texts of problems take it."""
+    text = _checked(name, str, what)
+    if not 0 < len(text) <= 64 or any(not "!" <= it <= "~" or it in without for it in text):
+        raise BadMachine(f"{what}: {text!r} is no name of 1 to 64 bytes without blanks and {without}")
+    return text
+
+
 def _hold(text: Any, units: list[str], what: str) -> tuple[str, int]:
     unit, _, offset = _checked(text, str, what).partition("@")
     if unit not in units or not (offset or "0").isdigit():
@@ -80,7 +88,7 @@ def _terms(table: dict, key: str, what: str) -> tuple[Term, ...]:
 
 
 def _kind(name: str, table: Any, units: list[str], files: dict[str, int]) -> Kind:
-    what = f"kinds.{name}"
+    what = f"kinds.{_named(name, 'kinds')}"
     unknown = set(_checked(table, dict, what)) - {"of", "latency", "alternatives", "file", "offsets"}
     if unknown:
         raise BadMachine(f"{what}: {min(unknown)} is no key of a kind")
@@ -95,7 +103,7 @@ def _kind(name: str, table: Any, units: list[str], files: dict[str, int]) -> Kin
 def _files(table: dict) -> dict[str, int]:
     found = {}
     for name, registers in _checked(table.get("files"), dict, "files").items():
-        found[name] = 0 if registers == "unallotted" else _checked(registers, int, f"files.{name}")
+        found[_named(name, "files")] = 0 if registers == "unallotted" else _checked(registers, int, f"files.{name}")
     if not found:
         raise BadMachine("there is no file")
     return found
@@ -110,11 +118,11 @@ def machine_of(text: str) -> Machine:
     unknown = set(table) - {"name", "units", "files", "kinds", "counter", "addresses", "free", "lacks"}
     if unknown:
         raise BadMachine(f"{min(unknown)} is no key of a machine")
-    units, files = _checked(table.get("units"), list, "units"), _files(table)
+    units, files = [_named(it, "units", "#@|") for it in _checked(table.get("units"), list, "units")], _files(table)
     kinds = {name: _kind(name, it, units, files) for name, it in _checked(table.get("kinds"), dict, "kinds").items()}
     addresses = _checked(table.get("addresses", {}), dict, "addresses")
     return Machine(
-        _checked(table.get("name"), str, "name"), units, files, kinds, bool(table.get("counter", False)), bool(addresses.get("affine", False)),
+        _named(table.get("name"), "name"), units, files, kinds, bool(table.get("counter", False)), bool(addresses.get("affine", False)),
         _checked(addresses.get("scales", []), list, "addresses.scales"), list(_terms(table, "free", "machine")), list(_terms(table, "lacks", "machine")),
     )
 

@@ -5,10 +5,10 @@ from dataclasses import dataclass, field
 from typing import Callable
 
 from .affine import Exit, Inductions
-from .ir import Constant, Instruction, Value, incoming
+from .ir import Instruction, Value, incoming
 from .loops import Guard, LeftOut, Loop
 from .machine import Kind, Machine
-from .patterns import Match
+from .patterns import Match, type_of
 from .reader import MEMORY
 
 MOST_DISTANCE = 16  # iterations between a value and a read of it, the most that modsched takes
@@ -81,6 +81,7 @@ class Selection:
     def __init__(self, loop: Loop, inductions: Inductions, ending: Exit, machine: Machine):
         self.loop, self.inductions, self.ending, self.machine = loop, inductions, ending, machine
         self.users = loop.function.users()
+        self._body = set(loop.body)
         self.copied: list[Instruction] = []
         while not self._is_chosen():
             pass
@@ -129,17 +130,11 @@ class Selection:
             memory = [it for it in found.instructions if it.opcode in MEMORY]
             if len(memory) <= 1 and self._is_in_time(root, memory, found):
                 return self._built(kind, found)
-        raise LeftOut(f"the machine has nothing for {root.opcode} of {root.type if root.type != 'void' else 'nothing'}")
+        raise LeftOut(f"the machine has nothing for {root.opcode}" + (f" of {type_of(root)}" if type_of(root) != "void" else ""))
 
     def _is_inner(self, one: Instruction) -> bool:
         """Whether an instruction may be part of another's operation: nobody else uses it."""
         return one in self._body and len(self.users.get(one, [])) == 1
-
-    @property
-    def _body(self) -> set[Instruction]:
-        if not hasattr(self, "_body_set"):
-            self._body_set = set(self.loop.body)
-        return self._body_set
 
     def _is_in_time(self, root: Instruction, memory: list[Instruction], found: Match) -> bool:
         """Whether all that is read is there where the load stands, which is where the operation stands."""
@@ -224,8 +219,3 @@ class Selection:
     def _copy(self, phi: Instruction) -> None:
         self.copied.append(phi)
         raise _Again
-
-
-def is_number(value: Value) -> bool:
-    """Whether an input is a constant."""
-    return isinstance(value, Constant)

@@ -86,13 +86,13 @@ def match(term: Term, root: Instruction, is_inner: Callable[[Instruction], bool]
     return _match(term, root, lambda it: it is root or is_inner(it))
 
 
-def _type_of(one: Instruction) -> str:
+def type_of(one: Instruction) -> str:
     """The type that a term names: of a store, that of what is stored, and of a comparison that of what is compared."""
     return one.operands[0].type if one.opcode in ("store", "icmp", "fcmp") else one.type
 
 
 def _match(term: Term, one: Value, is_part: Callable[[Instruction], bool]) -> Match | None:
-    if not isinstance(one, Instruction) or one.opcode != term.opcode or not is_part(one) or term.type not in ("", _type_of(one)):
+    if not isinstance(one, Instruction) or one.opcode != term.opcode or not is_part(one) or term.type not in ("", type_of(one)):
         return None
     if term.operands is None:
         return Match((one,), tuple((chr(ord("a") + place), one, place) for place in range(len(one.operands))))

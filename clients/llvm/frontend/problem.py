@@ -1,6 +1,7 @@
 """Scheduling problems of loops, as they stand in problems.json (docs/CLIENTS.md)."""
 from __future__ import annotations
 
+import math
 import os
 from typing import Any
 
@@ -37,13 +38,14 @@ def _place(operation: Operation) -> tuple[str, int]:
     return next(((it.file, it.line) for it in reversed(operation.instructions) if it.line), ("", 0))
 
 
-class _Names:
+class Names:
     """Names that are all different, of at most 64 bytes, without blanks or other bytes that a text of problems does not take."""
 
     def __init__(self):
         self.given: set[str] = set()
 
     def new(self, wanted: str) -> str:
+        """A name that is not given yet: the wanted one, or one like it."""
         plain = "".join(it if "!" <= it <= "~" and it != "#" else "_" for it in wanted)
         name, number = plain[:MOST_BYTES], 2
         while name in self.given:
@@ -62,7 +64,7 @@ class _Writer:
         self.ending = affine.exit_of(loop, self.inductions)
         self.selection = Selection(loop, self.inductions, self.ending, machine)
         self.operations = self.selection.ordered()
-        names, values = _Names(), _Names()
+        names, values = Names(), Names()
         self.names = {it.root: names.new(self._name(it)) for it in self.operations}
         self.values = {it.root: values.new(it.root.name) for it in self.operations if it.root.name}
 
@@ -70,12 +72,12 @@ class _Writer:
         file, line = _place(operation)
         return f"{os.path.basename(file)}:{line}:{_word(operation)}" if line else f"{self.loop.function.name}:{_word(operation)}"
 
-    def problem(self, name: str) -> dict[str, Any]:
+    def problem(self) -> dict[str, Any]:
         """The problem, within the limits of modsched. Raises LeftOut."""
         file, line = loops.line_of(self.loop.header, self.loop.blocks)
         source = {"file": file, "line": line, "function": self.loop.function.name, "header": self.loop.header.name}
         found = {
-            "name": name, "source": source, "operations": [self._operation(it) for it in self.operations], "values": self._values(),
+            "source": source, "operations": [self._operation(it) for it in self.operations], "values": self._values(),
             "reads": self._reads(), "edges": self._edges(), "preloads": self._preloads(), "outs": self._outs(),
         }
         for part, most in MOST.items():
@@ -144,26 +146,31 @@ class _Writer:
 
 def _input(value: Value) -> dict[str, Any]:
     if isinstance(value, Constant):
-        return {"constant": value.number, "type": value.type}
+        number = value.number
+        # (JSON has no infinite numbers, nor what is no number)
+        return {"constant": number if math.isfinite(number) else str(number), "type": value.type}
     return {"input": value.name, "type": value.type}
 
 
-def problem_of(function: Function, header: Block, blocks: list[Block], machine: Machine, name: str) -> dict[str, Any]:
-    """The problem of a loop. Raises LeftOut."""
-    return _Writer(loops.loop_of(function, header, blocks), machine).problem(name)
+def problem_of(function: Function, header: Block, blocks: list[Block], machine: Machine) -> dict[str, Any]:
+    """The problem of a loop, but for its name. Raises LeftOut."""
+    return _Writer(loops.loop_of(function, header, blocks), machine).problem()
 
 
-def problems_of(functions: list[tuple[str, Function | Exception]], machine: Machine, file: str) -> tuple[list[dict], list[dict]]:
-    """The problems of the innermost loops of a file's functions, and what is left out, each with file, line, function and reason."""
+def problems_of(functions: list[tuple[str, Function | Exception]], machine: Machine, file: str, names: Names | None = None) -> tuple[list[dict], list[dict]]:
+    """The problems of the innermost loops of a file's functions, and what is left out, each with file, line, function and reason. `names` are those that
+    problems of other files have got."""
     problems, left_out = [], []
+    names = names or Names()
     for name, function in functions:
         if isinstance(function, Exception):
             left_out.append({"file": file, "line": 0, "function": name, "reason": f"it has {function}"})
             continue
-        for number, (header, blocks) in enumerate(loops.innermost(function), 1):
+        for header, blocks in loops.innermost(function):
             at, line = loops.line_of(header, blocks)
             try:
-                problems.append(problem_of(function, header, blocks, machine, name if number == 1 else f"{name}.{number}"))
+                found = problem_of(function, header, blocks, machine)
+                problems.append({"name": names.new(name), **found})
             except LeftOut as reason:
                 left_out.append({"file": at or file, "line": line, "function": name, "reason": str(reason)})
     return problems, left_out

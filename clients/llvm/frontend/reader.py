@@ -24,14 +24,16 @@ def _reference(value: binding.ValueRef) -> int:
 class _FunctionReader:
     """Reads one function of a module."""
 
-    def __init__(self, module: binding.ModuleRef, function: binding.ValueRef):
+    def __init__(self, module: binding.ModuleRef, function: binding.ValueRef, computing: set[str]):
         self.layout = llvm.layout_of(ctypes.cast(module._ptr, ctypes.c_void_p))
+        self.computing = computing
         self.function = function
         self.values: dict[int, Value] = {}
         self.blocks: dict[int, Block] = {}
         self.unnamed = 0
 
     def read(self) -> Function:
+        """The function. Raises Unread."""
         arguments = [self._argument(it) for it in self.function.arguments]
         made = [self._block(it) for it in self.function.blocks]
         instructions = [(block, one) for block, its in made for one in its]
@@ -78,7 +80,7 @@ class _FunctionReader:
             one.blocks = [self.blocks[llvm.successor(reference, it)] for it in range(llvm.successor_count(reference))]
             operands = operands[:1] if len(one.blocks) > 1 else []
         elif one.opcode == "call":
-            one.opcode = _callee(reference)
+            one.opcode = self._callee(reference)
             operands = operands[:-1]
         elif one.opcode in ("icmp", "fcmp"):
             names = llvm.INTEGER_PREDICATES if one.opcode == "icmp" else llvm.FLOAT_PREDICATES
@@ -120,10 +122,10 @@ class _FunctionReader:
 
     def _constant(self, reference: int) -> Value:
         kind, of = llvm.value_kind(reference), llvm.printed_type(llvm.type_of(reference))
-        if kind == llvm.INTEGER:
+        if kind == llvm.INTEGER and int(of[1:]) <= 64:
             number = llvm.whole_number(reference)
             return Constant(str(number), of, number)
-        if kind == llvm.FLOAT:
+        if kind == llvm.FLOAT and of in ("float", "double"):
             number = llvm.constant_float(reference)
             return Constant(str(number), of, number)
         if kind in (llvm.UNDEFINED, llvm.POISON, llvm.NULL):
@@ -145,27 +147,37 @@ class _FunctionReader:
         return one
 
 
-def _callee(reference: int) -> str:
-    """The name of what is called; that of an intrinsic without its types."""
-    name = llvm.name_of(llvm.called(reference)) or "a pointer"
-    return re.sub(r"(\.[ipfv]\d+\w*)+$", "", name) if name.startswith("llvm.") else f"call {name}"
+    def _callee(self, reference: int) -> str:
+        """The opcode of a call: `call` and a name, or of an intrinsic that only computes its name without types."""
+        name = llvm.name_of(llvm.called(reference)) or "a pointer"
+        plain = re.sub(r"(\.[ipfv]\d+\w*)+$", "", name)
+        return plain if name in self.computing or name.startswith(IGNORED) else f"call {plain if name.startswith('llvm.') else name}"
+
+
+def _computing(module: binding.ModuleRef) -> set[str]:
+    """The intrinsics of a module that neither read nor write memory, nor do anything else than to compute."""
+    return {it.name for it in module.functions if it.name.startswith("llvm.") and any(b"readnone" in words.split() for words in it.attributes)}
 
 
 def read_functions(text: str) -> list[tuple[str, Function | Unread]]:
-    """The functions of a module that have bodies, in order; in place of one that is not known in full, why."""
+    """The functions of a module that have bodies, in order; in place of one that is not known in full, why. Raises Unread where LLVM does not read the text."""
     context = binding.create_context()  # (in a context of its own, the names of types are as they stand in the text)
-    module = binding.parse_assembly(text, context)
+    try:
+        module = binding.parse_assembly(text, context)
+    except RuntimeError as bad:
+        raise Unread(f"what LLVM does not read: {bad}") from bad
     try:
         module.verify()
-        return [(it.name, _read(module, it)) for it in module.functions if not it.is_declaration]
+        computing = _computing(module)
+        return [(it.name, _read(module, it, computing)) for it in module.functions if not it.is_declaration]
     finally:
         # (a module has to go before its context does)
         module.close()
         context.close()
 
 
-def _read(module: binding.ModuleRef, function: binding.ValueRef) -> Function | Unread:
+def _read(module: binding.ModuleRef, function: binding.ValueRef, computing: set[str]) -> Function | Unread:
     try:
-        return _FunctionReader(module, function).read()
+        return _FunctionReader(module, function, computing).read()
     except Unread as unread:
         return unread

@@ -65,7 +65,8 @@ WHOLE: dict[str, Callable[..., int]] = {
     "and": lambda of, a, b: a & b,
     "or": lambda of, a, b: a | b,
     "xor": lambda of, a, b: a ^ b,
-    "shl": lambda of, a, b: a << b,
+    # (a shift by more than there are bits gives anything, and may be done where nobody needs it)
+    "shl": lambda of, a, b: a << min(b, 64),
     "lshr": lambda of, a, b: a >> b,
     "ashr": lambda of, a, b: signed(a, of) >> b,
     "udiv": lambda of, a, b: a // b,

@@ -108,6 +108,7 @@ class Machines(unittest.TestCase):
             ('name = "small"', "", "name is not"), ('["a", "b"]', "3", "units is not"), ('["a"]', '["c"]', "c is no unit"), ('"a@2"', '"a@x"', "a@x is no unit"),
             ('"sub"', '"sub("', "is no term"), ("latency = 2", "", "kinds.multiply.latency"), ('file = "p"', 'file = "q"', "no file q"),
             ('"unallotted"', '"many"', "files.p"), ("latency = 3", "delay = 3", "delay is no key"), ("files =", "file =", "file is no key"),
+            ('"mul:i64"]', '"mul:i64"]\nof = []', "overwrite"), ('["a", "b"]', '["a", "b@1"]', "b@1' is no name"), ("r = 8", '"r s" = 8', "r s' is no name"),
             ("units =", "units", "Expected"), ("r = 8", "r = true", "files.r"),
         ]
         for old, new, said in changes:

@@ -45,15 +45,24 @@ class Reading(unittest.TestCase):
         self.assertIsInstance(function(text), reader.Unread)
 
     def test_calls(self):
-        """An intrinsic has its name without types; what is only told to the compiler is dropped."""
+        """An intrinsic that computes has its name without types, one that does more is a call, and what is only told to the compiler is dropped."""
         text = (
             "declare void @llvm.assume(i1)\ndeclare i16 @llvm.fshl.i16(i16, i16, i16)\ndeclare i16 @g(i16)\n"
-            "define i16 @f(i16 %x, i1 %c) {\n call void @llvm.assume(i1 %c)\n %a = call i16 @llvm.fshl.i16(i16 %x, i16 %x, i16 3)\n"
-            " %b = call i16 @g(i16 %a)\n ret i16 %b\n}\n"
+            "declare void @llvm.memset.p0i8.i64(i8*, i8, i64, i1)\n"
+            "define i16 @f(i16 %x, i1 %c, i8* %p) {\n call void @llvm.assume(i1 %c)\n %a = call i16 @llvm.fshl.i16(i16 %x, i16 %x, i16 3)\n"
+            " call void @llvm.memset.p0i8.i64(i8* %p, i8 0, i64 4, i1 false)\n %b = call i16 @g(i16 %a)\n ret i16 %b\n}\n"
         )
         found = next(it for name, it in reader.read_functions(text) if name == "f").blocks[0].instructions
-        self.assertEqual([it.opcode for it in found], ["llvm.fshl", "call g", "ret"])
+        self.assertEqual([it.opcode for it in found], ["llvm.fshl", "call llvm.memset", "call g", "ret"])
         self.assertEqual(len(found[0].operands), 3)
+
+    def test_wide_numbers(self):
+        """A constant of more than 64 bits is not read, rather than cut off."""
+        text = "define i128 @f(i128 %x) {\n %y = add i128 %x, 36893488147419103233\n ret i128 %y\n}\n"
+        self.assertIsInstance(function(text), reader.Unread)
+
+    def test_no_text(self):
+        self.assertRaises(reader.Unread, reader.read_functions, "define i32 @f( {")
 
 
 NEST = """
@@ -126,6 +135,8 @@ class Loops(unittest.TestCase):
         self.assertEqual(self.left_out(text.replace("br label %latch", "br i1 %t, label %latch, label %after")), "it is left in the middle of an iteration")
         self.assertEqual(self.left_out(text.replace("br i1 %s, label %head, label %after", "br label %head")), "it never ends")
         self.assertEqual(self.left_out(text.replace("store i32", "store volatile i32")), "it has a volatile or atomic access")
+        self.assertEqual(self.left_out(text.replace("store i32", "fence seq_cst\n  store i32")), "it has a volatile or atomic access")
+        self.assertEqual(self.left_out(text.replace("store i32 %y, i32* %p", "call void @g()") + "declare void @g()"), "it calls g")
         self.assertEqual(self.left_out(text.replace("icmp slt i32 %i1, %n", "icmp slt i32 %z, %n")), "its trip count is not known before it starts")
         self.assertEqual(self.left_out(text.replace("add i32 %i, 1", "add i32 %i, 0")), "its trip count is not known before it starts")
         self.assertEqual(self.left_out(text.replace("%y = add", "%y = sdiv")), "it divides under a condition")

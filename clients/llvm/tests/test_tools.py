@@ -60,6 +60,19 @@ class Problems(unittest.TestCase):
             "small.c:4:load", "small.c:4:add", "small.c:3:add", "small.c:3:icmp", "small.c:3:branch",
         ])
 
+    def test_names(self):
+        """Functions of one name in two files, and one of 70 bytes: all problems have names of their own, of 64 bytes at most."""
+        long = "g" * 70
+        one, other = written("one.c", SMALL), written("other.c", SMALL.replace("f(", f"{long}(") + SMALL.replace("g(", "h("))
+        found = json.loads(run("problems.py", one, other).stdout)
+        self.assertEqual([it["name"] for it in found["problems"]], ["f", "g" * 64, "f.2"])
+
+    def test_no_branch(self):
+        """A machine without a counter and without branches has nothing for the end of a loop."""
+        machine = 'name = "m"\nunits = ["u"]\nfiles = { r = 8 }\n[kinds.all]\nof = ["load", "add", "icmp", "getelementptr"]\nlatency = 1\nalternatives = [["u"]]\n'
+        done = run("problems.py", "--machine", written("none.toml", machine), written("small.c", SMALL))
+        self.assertIn("small.c:3: f is left out: the machine has nothing for br\n", done.stderr)
+
     def test_refused(self):
         done = run("problems.py", written("broken.c", "int f( {\n"))
         self.assertEqual((done.returncode, done.stdout), (2, ""))
