@@ -15,7 +15,7 @@ class BadMachine(Exception):
 
 @dataclass(frozen=True)
 class Kind:
-    """A kind of operations. `offsets`: how many cycles after the issue an operand is read, by its leaf; `guard` is the condition of a guarded one."""
+    """A kind of operations. `offsets`: how many cycles after the issue an operand is read, by its leaf; `guard` is the condition of a store."""
 
     name: str
     terms: tuple[Term, ...]
@@ -96,8 +96,12 @@ def _kind(name: str, table: Any, units: list[str], files: dict[str, int]) -> Kin
     file = table.get("file", next(iter(files)))
     if file not in files:
         raise BadMachine(f"{what}: there is no file {file}")
+    latency = _checked(table.get("latency"), int, f"{what}.latency")
     offsets = _checked(table.get("offsets", {}), dict, f"{what}.offsets")
-    return Kind(name, _terms(table, "of", what), _checked(table.get("latency"), int, f"{what}.latency"), alternatives, file, offsets)
+    for leaf, offset in offsets.items():
+        if not 0 <= _checked(offset, int, f"{what}.offsets.{leaf}") < latency:
+            raise BadMachine(f"{what}.offsets.{leaf} is not from 0 to below the latency")
+    return Kind(name, _terms(table, "of", what), latency, alternatives, file, offsets)
 
 
 def _files(table: dict) -> dict[str, int]:

@@ -150,19 +150,21 @@ class Selection:
         for one in found.instructions:
             for place, operand in enumerate(one.operands):
                 if (one, place) in leaves:
-                    offset = kind.offsets.get(leaves[one, place], 0)
                     is_address = one.opcode in MEMORY and place == len(one.operands) - 1
+                    offset = 0 if is_address else kind.offsets.get(leaves[one, place], 0)
                     operation.operands[one, place] = self._operand(operation, operand, offset, is_address)
                 else:
                     operation.operands[one, place] = Earlier(operand)
             operation.instructions.append(one)
             guard = self.loop.guards.get(one)
             if guard is not None:
-                operation.guard = self._guard(operation, guard)
+                operation.guard = self._guard(operation, one, guard)
         return operation
 
-    def _guard(self, operation: Operation, guard: Guard) -> tuple[Operand, bool]:
-        return self._operand(operation, guard.condition, operation.kind.offsets.get("guard", 0), False), guard.wanted
+    def _guard(self, operation: Operation, one: Instruction, guard: Guard) -> tuple[Operand, bool]:
+        """The guard of a load, which looks at memory at its issue, or of a store, which has time."""
+        offset = operation.kind.offsets.get("guard", 0) if one.opcode == "store" else 0
+        return self._operand(operation, guard.condition, offset, False), guard.wanted
 
     def _operand(self, operation: Operation, value: Value, offset: int, is_address: bool) -> Operand:
         """Where an operation has an operand from. What is folded into it is made part of it."""

@@ -109,7 +109,7 @@ class Machines(unittest.TestCase):
             ('"sub"', '"sub("', "is no term"), ("latency = 2", "", "kinds.multiply.latency"), ('file = "p"', 'file = "q"', "no file q"),
             ('"unallotted"', '"many"', "files.p"), ("latency = 3", "delay = 3", "delay is no key"), ("files =", "file =", "file is no key"),
             ('"mul:i64"]', '"mul:i64"]\nof = []', "overwrite"), ('["a", "b"]', '["a", "b@1"]', "b@1' is no name"), ("r = 8", '"r s" = 8', "r s' is no name"),
-            ("units =", "units", "Expected"), ("r = 8", "r = true", "files.r"),
+            ("c = 1", "c = 3", "offsets.c is not from 0"), ("units =", "units", "Expected"), ("r = 8", "r = true", "files.r"),
         ]
         for old, new, said in changes:
             with self.subTest(new):
