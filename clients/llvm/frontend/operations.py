@@ -209,7 +209,8 @@ class Selection:
                 self._copy(phis[0])
             phis.append(value)
             value = self.copies[value] if value in self.copies else incoming(value, self.loop.latch)
-        if phis and (not self.loop.has(value) and value not in self.tail or value.opcode != "copy" and self.machine.is_free(value)):
+        is_made = value in self.tail or self.loop.has(value) and not self.machine.is_free(value)
+        if phis and not is_made:
             self._copy(phis[-1])
         if len(phis) > MOST_DISTANCE:
             raise LeftOut(f"it reads a value of {len(phis)} iterations ago")
