@@ -19,6 +19,7 @@ def arguments() -> argparse.Namespace:
     )
     parser.add_argument("--machine", default=os.path.join(HERE, "machines", "four.toml"), metavar="FILE.toml", help="the machine (machines/four.toml)")
     parser.add_argument("--text", action="store_true", help="write lines of scheduling problems in place of JSON")
+    parser.add_argument("--flag", action="append", default=[], metavar="FLAG", help="a flag for clang, as --flag=-Iinclude; may be given several times")
     parser.add_argument("files", nargs="+", metavar="LOOPS.c", help="a C file")
     return parser.parse_args()
 
@@ -35,7 +36,7 @@ def main() -> int:
         target = machine.read_machine(given.machine)
         problems, left_out, names = [], [], problem.Names()
         for path in given.files:
-            found, left = problem.problems_of(reader.read_functions(clang.to_ir(path)), target, path, names)
+            found, left = problem.problems_of(reader.read_functions(clang.to_ir(path, given.flag)), target, path, names)
             problems += found
             left_out += left
     except (clang.NoClang, machine.BadMachine, reader.Unread, OSError) as bad:

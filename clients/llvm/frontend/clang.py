@@ -4,6 +4,7 @@ from __future__ import annotations
 import os
 import shutil
 import subprocess
+from typing import Sequence
 
 # Loops stay as they are written: nothing is vectorized, unrolled, or made a call of memcpy or the like.
 FLAGS = ["-O2", "-gline-tables-only", "-fno-vectorize", "-fno-slp-vectorize", "-fno-unroll-loops", "-fno-discard-value-names"]
@@ -31,9 +32,9 @@ def run(arguments: list[str]) -> str:
     return done.stdout
 
 
-def to_ir(path: str) -> str:
-    """The LLVM IR of a C file, as text."""
-    return run([*FLAGS, "-S", "-emit-llvm", "-o", "-", path])
+def to_ir(path: str, flags: Sequence[str] = ()) -> str:
+    """The LLVM IR of a C file, as text, compiled with some more flags."""
+    return run([*FLAGS, *flags, "-S", "-emit-llvm", "-o", "-", path])
 
 
 def to_library(path: str, library: str) -> None:

@@ -67,6 +67,11 @@ class Problems(unittest.TestCase):
         found = json.loads(run("problems.py", one, other).stdout)
         self.assertEqual([it["name"] for it in found["problems"]], ["f", "g" * 64, "f.2"])
 
+    def test_flags(self):
+        """A flag for clang: f gets another name."""
+        found = json.loads(run("problems.py", "--flag=-Df=sum", written("small.c", SMALL)).stdout)
+        self.assertEqual(found["problems"][0]["name"], "sum")
+
     def test_no_branch(self):
         """A machine without a counter and without branches has nothing for the end of a loop."""
         machine = 'name = "m"\nunits = ["u"]\nfiles = { r = 8 }\n[kinds.all]\nof = ["load", "add", "icmp", "getelementptr"]\nlatency = 1\nalternatives = [["u"]]\n'
