@@ -42,9 +42,18 @@ def is_lawful(machine: dict[str, Any], problem: dict[str, Any], solution: dict[s
     return plain_problems.is_lawful(plain_problem(machine, problem), _numbers(problem, solution))
 
 
+def _goes_forward(it: plain_problems.Problem) -> bool:
+    """Whether within an iteration all reads and orders go forward."""
+    reads = all(distance or it.values[value][0] < reader for value, reader, distance, _ in it.reads)
+    return reads and all(distance or one < other for one, other, _, distance in it.orders)
+
+
 def solution(machine: dict[str, Any], problem: dict[str, Any]) -> dict[str, Any]:
     """The solution of a problem, or why there is none, as solutions.json has it."""
     it = plain_problem(machine, problem)
+    if not _goes_forward(it):
+        # (it would have no interval, and the plain solver looks for one without end)
+        return {"name": problem["name"], "reason": "the problem is at fault: an iteration goes back"}
     found = plain_problems.solve(it)
     if not isinstance(found, plain_problems.Solution):
         return {"name": problem["name"], "reason": f"no interval up to {found[0]} works: {found[1]}"}
