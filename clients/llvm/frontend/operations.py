@@ -220,5 +220,7 @@ class Selection:
         return value, len(phis)
 
     def _copy(self, phi: Instruction) -> None:
+        """Has all chosen anew, with a copy for a phi that has none yet."""
+        assert phi not in self.copied, phi
         self.copied.append(phi)
         raise _Again
