@@ -6,6 +6,7 @@ import unittest
 
 import common  # (it says where the others are)
 import cases
+import plain
 from frontend import problem, reader, text
 from frontend.machine import machine_of
 
@@ -221,7 +222,44 @@ FORMS = [
 ]
 
 
+def read_back(lines: list[str]) -> list[plain.plain_problems.Problem]:
+    """The problems of a text, by docs/FORMATS.md alone."""
+    units, files, kinds, problems = [], {}, {}, []
+    for words in (it.split() for it in lines if it):
+        if words[0] == "units":
+            units = words[1:]
+        elif words[0] == "file":
+            files[words[1]] = int(words[3]) if words[2] == "rotating" else None
+        elif words[0] == "kind":
+            alternatives = [it.split() for it in " ".join(words[5:]).split("|")]
+            holds = [[(units.index(hold.partition("@")[0]), int(hold.partition("@")[2] or 0)) for hold in it] for it in alternatives]
+            kinds[words[1]] = (int(words[3]), holds)
+        elif words[0] == "problem":
+            operations, values, its = {}, {}, ([], [], [], [])
+        elif words[0] == "op":
+            operations[words[1]] = len(operations)
+            its[0].append(list(kinds).index(words[2]))
+        elif words[0] == "value":
+            values[words[1]] = len(values)
+            its[1].append((operations[words[3]], int(words[5]), list(files).index(words[7]), words[8:] == ["out"]))
+        elif words[0] == "read":
+            its[2].append((values[words[2]], operations[words[1]], int(words[4]), int(words[6])))
+        elif words[0] == "edge":
+            its[3].append((operations[words[1]], operations[words[2]], int(words[4]), int(words[6])))
+        elif words[0] == "end":
+            problems.append(plain.plain_problems.Problem(len(units), list(files.values()), list(kinds.values()), *its, 6, 64))
+    return problems
+
+
 class Texts(unittest.TestCase):
+    def test_read_back(self):
+        """The text says the same problems as JSON does."""
+        for path in cases.corpus_files():
+            for machine in common.MACHINES:
+                document = common.document(path, machine)
+                wanted = [plain.plain_problem(document["machine"], it) for it in document["problems"]]
+                self.assertEqual(read_back(text.text_of(document).split("\n")), wanted)
+
     def test_forms(self):
         """Each line of the corpus has one of the forms of docs/FORMATS.md, and names what stands before it."""
         form = re.compile("|".join(f"(?:{it})" for it in FORMS))
