@@ -6,7 +6,7 @@ import unittest
 import common  # (it says where the others are)
 from frontend import affine, loops, orders, reader
 
-# `{0}` are the instructions of an iteration i, in which %i counts from 0 in steps of 1
+# `{0}` are the instructions of an iteration i, in which %i and %j, of 32 bits, count from 0 in steps of 1
 LOOP = """
 @table = global [64 x i32] zeroinitializer
 @other = global [64 x i32] zeroinitializer
@@ -15,8 +15,10 @@ entry:
   br label %loop
 loop:
   %i = phi i64 [ 0, %entry ], [ %next, %loop ]
+  %j = phi i32 [ 0, %entry ], [ %jnext, %loop ]
   {0}
   %next = add i64 %i, 1
+  %jnext = add i32 %j, 1
   %last = icmp eq i64 %next, %n
   br i1 %last, label %after, label %loop
 after:
@@ -108,8 +110,8 @@ class Distances(unittest.TestCase):
 
     def test_unknown_index(self):
         """p[q[i]]: nothing is known."""
-        lines = access("j", "i64", "%l", "i", "load").replace("i64* %l", "i64* null")
-        lines += "%xp = getelementptr i32, i32* %p, i64 %j\nstore i32 1, i32* %xp\n"
+        lines = access("at", "i64", "%l", "i", "load").replace("i64* %l", "i64* null")
+        lines += "%xp = getelementptr i32, i32* %p, i64 %at\nstore i32 1, i32* %xp\n"
         # (q is not known to be apart from p)
         self.assertEqual(orders_of(lines), [(0, 1, -1, 0), (1, 0, 2, 1)])
 
@@ -123,6 +125,8 @@ class Distances(unittest.TestCase):
     def test_narrow_index(self):
         """An index of 32 bits may wrap around, so that nothing is known of it."""
         lines = "%t = trunc i64 %i to i32\n%s = add i32 %t, 4\n%w = zext i32 %s to i64\n%xp = getelementptr i32, i32* %p, i64 %i\n%yp = getelementptr i32, i32* %p, i64 %w\n"
+        self.assertEqual(len(orders_of(lines + "%x = load i32, i32* %xp\nstore i32 1, i32* %yp\n")), 2)
+        lines = "%s = add i32 %j, 4\n%xp = getelementptr i32, i32* %p, i32 %j\n%yp = getelementptr i32, i32* %p, i32 %s\n"
         self.assertEqual(len(orders_of(lines + "%x = load i32, i32* %xp\nstore i32 1, i32* %yp\n")), 2)
 
 
@@ -147,8 +151,7 @@ class Bases(unittest.TestCase):
 class Steps(unittest.TestCase):
     def test_inductions(self):
         loop, inductions = analysed("%x = add i64 %i, 5")
-        phi = loop.header.phis[0]
-        self.assertEqual(inductions.steps, {phi: affine.Linear(1)})
+        self.assertEqual(inductions.steps, {phi: affine.Linear(1) for phi in loop.header.phis})
         self.assertEqual(inductions.of(loop.body[0]), affine.Affine(affine.Linear(5), affine.Linear(1)))
 
     def test_exit(self):

@@ -165,6 +165,23 @@ class ByHand(unittest.TestCase):
         lines = LOAD + "%t = add i32 %x, 1\n%o = add i64 %i, 1\n%op = getelementptr i32, i32* %p, i64 %o\nstore i32 %t, i32* %op"
         self.assertEqual(lines_of("", lines)[-1], "edge f:store f:load delay 2 distance 1")
 
+    def test_place(self):
+        """A load that is extended behind a store of the same place is before it all the same."""
+        lines = "%qp = getelementptr i16, i16* %q, i64 %i\n%a = load i16, i16* %qp\nstore i16 7, i16* %qp\n%b = sext i16 %a to i32\n" + STORE.format("%b")
+        self.assertEqual(lines_of("", lines), [
+            "op f:memory memory", "op f:store store", "op f:store.2 store", "value %b of f:memory lands 3 in r",
+            "read f:store.2 %b distance 0 offset 0", "edge f:memory f:store delay -1 distance 0",
+        ])
+
+    def test_in_time(self):
+        """A load and a sum at once only where the other number is there when the load is done."""
+        machine = MACHINE + '[kinds.load_add]\nof = ["add:i32(load:i32(a),b)"]\nlatency = 4\nalternatives = [["m"]]\n'
+        before = "%y = sub i32 %k, 3\n" + LOAD + "%t = add i32 %x, %y\n" + STORE.format("%t")
+        after = LOAD + "%y = sub i32 %k, 3\n%t = add i32 %x, %y\n" + STORE.format("%t")
+        found = [[it for it in lines_of("", lines, machine=machine) if it.startswith("op")] for lines in (before, after)]
+        self.assertEqual(found[0], ["op f:sub add", "op f:load_add load_add", "op f:store store"])
+        self.assertEqual(found[1], ["op f:load memory", "op f:sub add", "op f:add add", "op f:store store"])
+
     def test_guard(self):
         """A store under a condition reads it, a cycle after its issue."""
         given = """
