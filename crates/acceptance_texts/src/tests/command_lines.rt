@@ -1,5 +1,4 @@
-use super::{Usage, parse_line};
-use crate::command::{Command, Search, Task, Work};
+use command_line::{Command, Search, Task, Usage, Work, parse_line};
 use settings::Settings;
 use std::alloc::Global;
 use std::test::Fail;

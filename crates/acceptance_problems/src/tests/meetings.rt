@@ -3,7 +3,7 @@
 ghost use Rattle.std.specs.Prelude.{◌≡◌, ◌≤◌, ◌<◌};
 ghost use Rattle.registers.specs.Residues.{IsLifeSpan};
 
-use crate::{Lifetime, Meeting, are_lawful, first_meeting};
+use registers::{Lifetime, Meeting, are_lawful, first_meeting};
 
 /// A lifetime of whatever operation.
 fn life(first: u64, last: u64) -> Lifetime

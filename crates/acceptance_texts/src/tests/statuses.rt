@@ -1,4 +1,4 @@
-use super::Status;
+use endings::Status;
 use loops::{LoopFault, LoopFaultKind};
 use machine::{Key, MachineFault, Name, Opcode};
 use std::alloc::{AllocError, Global};

@@ -1,5 +1,5 @@
-use super::document_text;
 use candidates::Listing;
+use listing_json::document_text;
 use std::test::Fail;
 
 #[test]

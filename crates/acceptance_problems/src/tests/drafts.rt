@@ -1,6 +1,6 @@
 //! A small problem, and drafts with one fault each.
 
-use crate::{
+use problems::{
     Draft, Fault, File, Hold, Kind, Label, Names, Order, Part, Problem, Value, first_fault,
 };
 use registers::Read;

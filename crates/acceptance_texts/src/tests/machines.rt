@@ -1,6 +1,6 @@
 //! The worked machines, and a text for each fault.
 
-use super::{Key, Machine, MachineFault, Name, Opcode, OpcodeTable, Row, read_machine};
+use machine::{Key, Machine, MachineFault, Name, Opcode, OpcodeTable, Row, read_machine};
 use std::alloc::Global;
 use std::test::Fail;
 
