@@ -221,8 +221,8 @@ impl<L: Search> ModuloTable for BitTable<L> {
         self.roster.place(
             op,
             Issue {
-                time,
-                base,
+                time: time as u32,
+                base: base as u32,
                 alternative,
             },
         );
@@ -232,7 +232,8 @@ impl<L: Search> ModuloTable for BitTable<L> {
         if let Some(issue) = self.roster.issue(op) {
             let ii = self.roster.ii();
             let slots = self.roster.slots(op, issue.alternative);
-            mark::<L>(&mut self.words, self.width, slots, ii, issue.base, false);
+            let base = issue.base as usize;
+            mark::<L>(&mut self.words, self.width, slots, ii, base, false);
             self.roster.remove(op);
         }
     }

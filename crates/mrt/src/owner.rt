@@ -146,8 +146,8 @@ impl ModuloTable for OwnerTable {
         self.roster.place(
             op,
             Issue {
-                time,
-                base,
+                time: time as u32,
+                base: base as u32,
                 alternative,
             },
         );
@@ -157,7 +157,8 @@ impl ModuloTable for OwnerTable {
         if let Some(issue) = self.roster.issue(op) {
             let ii = self.roster.ii();
             let slots = self.roster.slots(op, issue.alternative);
-            mark(&mut self.owners, slots, ii, self.units, issue.base, FREE);
+            let base = issue.base as usize;
+            mark(&mut self.owners, slots, ii, self.units, base, FREE);
             self.roster.remove(op);
         }
     }

@@ -26,9 +26,9 @@ struct Group {
 /// When an operation is issued, and by which of its alternatives.
 #[derive(Clone, Copy)]
 pub(crate) struct Issue {
-    pub(crate) time: u64,
+    pub(crate) time: u32,
     /// The time modulo the interval.
-    pub(crate) base: usize,
+    pub(crate) base: u32,
     pub(crate) alternative: usize,
 }
 
@@ -241,7 +241,8 @@ impl Roster {
             return false;
         }
         let slots = self.slots(op, issue.alternative);
-        takes(slots, self.ii(), issue.base, slot.row.unit, residue)
+        let base = issue.base as usize;
+        takes(slots, self.ii(), base, slot.row.unit, residue)
     }
 
     /// An operation that takes the slot of a unit at a residue, if there is one.
@@ -319,6 +320,7 @@ fn push_group(
 }
 
 /// The group of some alternatives, which are added.
+#[inline(never)]
 fn added(choices: &mut Choices, alternatives: &[Alternative]) -> Result<Group, OutOfMemory>
     requires { All IsAlternative alternatives.now }
     ensures interval { choices.new.interval ≡ choices.old.interval }
