@@ -1,0 +1,5 @@
+pub mod Loops
+pub mod Places
+pub mod Meant
+pub mod Shown
+pub mod Carrying

@@ -1,0 +1,9 @@
+pub use Rattle.solutions.specs.Outcomes
+pub mod Names
+pub mod Registers
+pub mod Heads
+pub mod Operations
+pub mod Values
+pub mod Files
+pub mod Texts
+pub mod Promises
