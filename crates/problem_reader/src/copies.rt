@@ -1,0 +1,98 @@
+//! Copies of what a text has, for drafts.
+
+ghost use Rattle.std.specs.Prelude.{◌≡◌, map, IfOk, Vec};
+ghost use Rattle.std.specs.Global.{Global};
+ghost use Rattle.problems.specs.declared.draft.Hold.{Hold};
+ghost use Rattle.problem_tables.specs.Data.{kind_seen};
+ghost use Rattle.problem_tables.specs.Seen.{machine_seen, problem_seen};
+ghost use Rattle.problem_reader.specs.Files.{IsDraftOf};
+
+use machine_data::OutOfMemory;
+use problem_tables::{TextMachine, TextProblem};
+use problems::{Draft, Hold, Kind, Label, Names};
+use std::alloc::Global;
+
+/// The same names once more.
+fn labels_of(alloc: Global, labels: &[Label]) -> Result<Vec<Label>, OutOfMemory>
+    ensures { IfOk result (λ copies. copies.items ≡ labels.now) }
+{
+    let mut copies = Vec::with_capacity(alloc, labels.len())?;
+    for label in labels {
+        copies.push(label.copied())?;
+    }
+    Ok(copies)
+}
+
+/// The same alternatives once more.
+fn alternatives_of(alloc: Global, alternatives: &[Vec<Hold>]) -> Result<Vec<Vec<Hold>>, OutOfMemory>
+    ensures { IfOk result (λ copies. map (λ (rows : Vec Hold Global). rows.items) copies.items ≡ map (λ (rows : Vec Hold Global). rows.items) alternatives.now) }
+{
+    let mut copies = Vec::with_capacity(alloc, alternatives.len())?;
+    for rows in alternatives {
+        copies.push(Vec::from_slice(alloc, rows.as_slice())?)?;
+    }
+    Ok(copies)
+}
+
+/// The same kind once more.
+fn kind_of(alloc: Global, kind: &Kind) -> Result<Kind, OutOfMemory>
+    ensures { IfOk result (λ copy. kind_seen copy ≡ kind_seen kind.now) }
+{
+    let alternatives = alternatives_of(alloc, kind.alternatives.as_slice())?;
+    Ok(Kind {
+        latency: kind.latency,
+        alternatives,
+    })
+}
+
+/// The same kinds once more.
+fn kinds_of(alloc: Global, kinds: &[Kind]) -> Result<Vec<Kind>, OutOfMemory>
+    ensures { IfOk result (λ copies. map kind_seen copies.items ≡ map kind_seen kinds.now) }
+{
+    let mut copies = Vec::with_capacity(alloc, kinds.len())?;
+    for kind in kinds {
+        copies.push(kind_of(alloc, kind)?)?;
+    }
+    Ok(copies)
+}
+
+/// The names of a problem and its machine.
+fn names_of(
+    alloc: Global,
+    machine: &TextMachine,
+    problem: &TextProblem,
+) -> Result<Names, OutOfMemory>
+    ensures units { IfOk result (λ names. names.units.items ≡ machine.now.units.items) }
+    ensures files { IfOk result (λ names. names.files.items ≡ machine.now.file_names.items) }
+    ensures kinds { IfOk result (λ names. names.kinds.items ≡ machine.now.kind_names.items) }
+    ensures operations { IfOk result (λ names. names.operations.items ≡ problem.now.operation_names.items) }
+    ensures values { IfOk result (λ names. names.values.items ≡ problem.now.value_names.items) }
+{
+    Ok(Names {
+        units: labels_of(alloc, machine.units.as_slice())?,
+        files: labels_of(alloc, machine.file_names.as_slice())?,
+        kinds: labels_of(alloc, machine.kind_names.as_slice())?,
+        operations: labels_of(alloc, problem.operation_names.as_slice())?,
+        values: labels_of(alloc, problem.value_names.as_slice())?,
+    })
+}
+
+/// The draft of a problem on its machine.
+pub(crate) fn draft_of(
+    alloc: Global,
+    machine: &TextMachine,
+    problem: &TextProblem,
+) -> Result<Draft, OutOfMemory>
+    ensures { IfOk result (IsDraftOf (machine_seen machine.now) (problem_seen problem.now)) }
+{
+    Ok(Draft {
+        units: machine.units.len(),
+        files: Vec::from_slice(alloc, machine.files.as_slice())?,
+        kinds: kinds_of(alloc, machine.kinds.as_slice())?,
+        operations: Vec::from_slice(alloc, problem.operations.as_slice())?,
+        values: Vec::from_slice(alloc, problem.values.as_slice())?,
+        reads: Vec::from_slice(alloc, problem.reads.as_slice())?,
+        orders: Vec::from_slice(alloc, problem.orders.as_slice())?,
+        names: names_of(alloc, machine, problem)?,
+    })
+}

@@ -1,0 +1,4 @@
+pub mod Firsts
+pub mod Holding
+pub mod Naming
+pub mod Taking

@@ -1,0 +1,7 @@
+pub mod Data
+pub mod Faults
+pub mod Names
+pub mod Seen
+pub mod Tables
+pub mod Texts
+pub mod inner

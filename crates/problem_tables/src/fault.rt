@@ -1,0 +1,128 @@
+//! What is wrong with a line of a text of scheduling problems.
+
+ghost use Rattle.std.specs.Prelude.{◌≡◌};
+ghost use Rattle.problem_tables.specs.declared.fault.Refusal.TheVariants.{Memory};
+
+use problem_lines::Expected;
+use std::alloc::{AllocError, AllocFailed};
+use std::fmt;
+
+/// What there may be too many of, or what a name stands for.
+#[derive(Clone, Copy, Debug, PartialEq, Eq)]
+pub enum Part {
+    Problems,
+    Units,
+    Files,
+    Kinds,
+    Alternatives,
+    Holds,
+    Operations,
+    Values,
+    Reads,
+    Edges,
+}
+
+impl fmt::Display for Part {
+    ghost use Rattle.std.specs.Prelude.{Some};
+    ghost use Rattle.problem_tables.specs.Texts.{part_text};
+
+    ghost output = { λ part. Some (part_text part) };
+
+    fn fmt<W: fmt::Write>(&self, f: &mut fmt::Formatter<W>) -> fmt::Result {
+        f.write_str(match self {
+            Part::Problems => "problem",
+            Part::Units => "unit",
+            Part::Files => "file",
+            Part::Kinds => "kind",
+            Part::Alternatives => "alternative",
+            Part::Holds => "hold",
+            Part::Operations => "operation",
+            Part::Values => "value",
+            Part::Reads => "read",
+            Part::Edges => "edge",
+        })
+    }
+}
+
+/// What is wrong with a line, or with a whole text.
+#[derive(Clone, Copy, Debug, PartialEq, Eq)]
+pub enum Wrong {
+    /// The text has more than 16,777,216 bytes.
+    TextSize,
+    /// The word has none of the forms: this has to stand in its place.
+    Form(Expected),
+    /// The line may not stand here.
+    Place,
+    /// There is one more of a part than there may be; or at an `end`, none of an operation.
+    Count(Part),
+    /// The number is out of its range.
+    Range,
+    /// The name is declared already, or the hold is there already.
+    Repeated,
+    /// No line before declares the name as such.
+    Unknown(Part),
+    /// Within an iteration the first operation does not come before the second.
+    Backward,
+    /// The text ends inside a problem.
+    NoEnd,
+    /// Memory ran out. This says nothing of the text.
+    Memory,
+}
+
+impl fmt::Display for Wrong {
+    ghost use Rattle.std.specs.Prelude.{Some};
+    ghost use Rattle.problem_tables.specs.Texts.{wrong_text};
+
+    ghost output = { λ wrong. Some (wrong_text wrong) };
+
+    fn fmt<W: fmt::Write>(&self, f: &mut fmt::Formatter<W>) -> fmt::Result {
+        match *self {
+            Wrong::TextSize => f.write_str("more than 16777216 bytes"),
+            Wrong::Form(expected) => write!(f, "{expected}"),
+            Wrong::Place => f.write_str("this line may not stand here"),
+            Wrong::Count(part) => write!(f, "number of {part}s out of range"),
+            Wrong::Range => f.write_str("number out of range"),
+            Wrong::Repeated => f.write_str("there already"),
+            Wrong::Unknown(part) => write!(f, "unknown {part}"),
+            Wrong::Backward => f.write_str("goes backward within an iteration"),
+            Wrong::NoEnd => f.write_str("the text ends inside a problem"),
+            Wrong::Memory => f.write_str("out of memory"),
+        }
+    }
+}
+
+/// A fault of a line: where, and what.
+#[derive(Clone, Copy, Debug, PartialEq, Eq)]
+pub struct Told {
+    /// The column of the first byte of the word at fault, from 1.
+    pub column: usize,
+    /// How many bytes the word at fault has.
+    pub width: usize,
+    /// What is wrong.
+    pub what: Wrong,
+}
+
+/// Why a line is not taken in.
+#[derive(Clone, Copy, Debug, PartialEq, Eq)]
+pub enum Refusal {
+    /// This is its first fault.
+    Fault(Told),
+    /// Memory ran out. This says nothing of the line.
+    Memory,
+}
+
+impl From<AllocError> for Refusal {
+    ghost from_gives = { λ _ refusal. refusal ≡ Memory };
+
+    fn from(_error: AllocError) -> Refusal {
+        Refusal::Memory
+    }
+}
+
+impl<T: Drop> From<AllocFailed<T>> for Refusal {
+    ghost from_gives = { λ _ refusal. refusal ≡ Memory };
+
+    fn from(_error: AllocFailed<T>) -> Refusal {
+        Refusal::Memory
+    }
+}
