@@ -1,4 +1,3 @@
-pub use Rattle.solutions.specs.Outcomes
 pub mod Names
 pub mod Registers
 pub mod Heads
@@ -6,4 +5,5 @@ pub mod Operations
 pub mod Values
 pub mod Files
 pub mod Texts
+pub mod Outcomes
 pub mod Promises

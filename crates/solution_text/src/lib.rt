@@ -9,6 +9,7 @@ mod laws;
 mod named;
 mod names;
 mod operations;
+mod outcomes;
 mod solved;
 #[cfg(test)]
 mod tests;
@@ -18,4 +19,5 @@ mod values;
 pub use failures::push_failed;
 pub use laws::names_are_those_of_runs;
 pub use named::Register;
+pub use outcomes::push_outcome;
 pub use solved::push_solution;

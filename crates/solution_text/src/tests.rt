@@ -6,12 +6,12 @@
 //! cycle 2 on, and it is read, and lives to the end of the second stage, at 4. `p` lives from 1 to 2 + 2 * 2 = 6. With `x` in
 //! register 0, `y_j` would meet `x_j` in register 0 and `x_(j+1)` in the last one, so it stands in register 1.
 
-use crate::{push_failed, push_solution};
+use crate::{push_failed, push_outcome};
 use modulo::Culprit;
 use problems::{Draft, File, Hold, Kind, Label, Names, Problem, Value};
 use registers::Read;
 use settings::Settings;
-use solutions::{Cause, Outcome, solve};
+use solutions::{Cause, solve};
 use std::alloc::{AllocError, Global};
 use std::process::Abort;
 use std::test::Fail;
@@ -101,10 +101,17 @@ fn names(alloc: Global, named: bool) -> Result<Names, Fail> {
     })
 }
 
-/// The problem with so many registers, of which so many intervals above the least one are tried.
-fn problem(alloc: Global, registers: usize, ceiling: u64, named: bool) -> Result<Problem, Fail> {
+/// The problem with so many registers, of which so many intervals above the least one are tried, and whose first operation holds
+/// these units.
+fn problem_holding(
+    alloc: Global,
+    first: &[Hold],
+    registers: usize,
+    ceiling: u64,
+    named: bool,
+) -> Result<Problem, Fail> {
     let mut kinds = Vec::new(alloc);
-    kinds.push(kind(alloc, 2, &[HOLDS_U])?)?;
+    kinds.push(kind(alloc, 2, &[first])?)?;
     kinds.push(kind(alloc, 1, &[HOLDS_U, HOLDS_V])?)?;
     let draft = Draft {
         units: 2,
@@ -120,6 +127,11 @@ fn problem(alloc: Global, registers: usize, ceiling: u64, named: bool) -> Result
     Ok(Problem::new(alloc, draft, &settings)?)
 }
 
+/// The problem whose first operation holds `u` at its issue.
+fn problem(alloc: Global, registers: usize, ceiling: u64, named: bool) -> Result<Problem, Fail> {
+    problem_holding(alloc, HOLDS_U, registers, ceiling, named)
+}
+
 /// The text of what the problem gives is this one.
 fn is_solved(
     rt: &impl Abort,
@@ -129,10 +141,8 @@ fn is_solved(
     expected: &[u8],
 ) -> Result<(), Fail> {
     let mut text = Vec::new(alloc);
-    match solve(alloc, problem)? {
-        Outcome::Met(solution) => push_solution(&mut text, "sum", notes, &solution)?,
-        Outcome::Failed(cause) => push_failed(&mut text, "sum", notes, problem, cause, None)?,
-    }
+    let outcome = solve(alloc, problem)?;
+    push_outcome(alloc, &mut text, "sum", notes, problem, &outcome)?;
     assert!(rt; text.as_slice() == expected);
     Ok(())
 }
@@ -182,6 +192,17 @@ fn no_register_is_left(rt: HostRuntime) -> Result<(), Fail> {
     let problem = problem(rt.alloc(), 2, 0, true)?;
     let expected = b"# sum ops 2 res 2 rec 1 mii 2
 # failed sum at 2: registers of r: y
+";
+    is_solved(&rt, rt.alloc(), &problem, b"", expected)
+}
+
+/// `u` is held three times, so the interval is 3 at least; at 3 the two cycles of `x` are one.
+#[test]
+fn an_operation_collides_with_itself(rt: HostRuntime) -> Result<(), Fail> {
+    let holds = [Hold { unit: 0, offset: 0 }, Hold { unit: 0, offset: 3 }];
+    let problem = problem_holding(rt.alloc(), &holds, 4, 0, true)?;
+    let expected = b"# sum ops 2 res 3 rec 1 mii 3
+# failed sum at 3: table: x
 ";
     is_solved(&rt, rt.alloc(), &problem, b"", expected)
 }
