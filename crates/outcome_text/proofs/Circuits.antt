@@ -1,0 +1,41 @@
+-- The circuit that the recurrence-constrained bound is due to, and its sums.
+use Rattle.std.proofs.Common.{◌≡◌, ℕ, ◌+◌, ◌-◌, ◌<◌, ◌≤◌, pos, ◌+ℤ◌, List, [], ◌∷◌, length, get_or, take, ap, ◌∙◌, inl, inr, arith}
+use Rattle.std.proofs.lemmas.Int.{ints}
+use Rattle.std.proofs.lemmas.List.{take_more}
+use Rattle.graph.specs.Dependences.{EdgeData}
+use Rattle.graph.specs.Walks.{FitsCircuits, delay_of, distance_of}
+use Rattle.graph.proofs.walks.Circuits.{delay_of-append, distance_of-append}
+use Rattle.circuits.specs.Circuits.{IsCircuitAbove}
+use Rattle.circuits.proofs.Rounds.{once-short}
+use Rattle.modulo.specs.Problems.{ProblemData as SchedulingData, IsProblem}
+use Rattle.outcome_text.specs.Notes.{IsCircuitOf}
+
+pub delay-more : (xs : List EdgeData) (i : ℕ) (d : EdgeData) → i < length xs → delay_of (take (i + 1) xs) ≡ (delay_of (take i xs) +ℤ (get_or xs i d).delay)
+delay-more xs i d h =
+    let e : delay_of (take (i + 1) xs) ≡ (delay_of (take i xs) +ℤ ((get_or xs i d).delay +ℤ pos 0))
+    = ap delay_of (take_more xs i d h) ∙ delay_of-append (take i xs) (get_or xs i d ∷ []) in
+    omega (arith, ints)
+
+pub distance-more : (xs : List EdgeData) (i : ℕ) (d : EdgeData) → i < length xs → distance_of (take (i + 1) xs) ≡ distance_of (take i xs) + (get_or xs i d).distance
+distance-more xs i d h =
+    let e : distance_of (take (i + 1) xs) ≡ distance_of (take i xs) + ((get_or xs i d).distance + 0)
+    = ap distance_of (take_more xs i d h) ∙ distance_of-append (take i xs) (get_or xs i d ∷ []) in
+    omega arith
+
+-- a walk that does not fit one cycle less than the bound
+pub is-circuit : (p : SchedulingData) (walk : List EdgeData) → 1 < p.recurrences → IsCircuitAbove p.graph.edges (p.recurrences - 1) walk → IsCircuitOf p walk
+is-circuit p [] more above = let e = above.exceeds in absurd (omega (arith, ints))
+is-circuit p (e ∷ walk) more above = (more, above)
+
+pub is-short : (p : SchedulingData) (walk : List EdgeData) → IsProblem p → IsCircuitAbove p.graph.edges (p.recurrences - 1) walk → length walk ≤ 128
+is-short p walk is above =
+    let short : length walk ≤ length p.graph.latencies = once-short p.graph is.graph above.start above.start walk above.closed above.once in
+    let few : length p.graph.latencies ≤ 128 = is.graph.few in
+    omega arith
+
+-- some circuit does not fit one cycle less than a bound above 1
+pub not-fits : (p : SchedulingData) → IsProblem p → 1 < p.recurrences → FitsCircuits p.graph.edges (p.recurrences - 1) → ⊥
+not-fits p is more fits = elim is.recurrence_bound.least [
+  | inl one ↦ omega arith
+  | inr longer ↦ (let h = fits longer.start longer.walk longer.closed in let e = longer.exceeds in omega (arith, ints))
+]

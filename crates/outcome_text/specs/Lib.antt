@@ -1,0 +1,3 @@
+pub use Rattle.solution_text.specs.Outcomes
+pub mod Notes
+pub mod Answers

@@ -1,0 +1,50 @@
+//! The sums of a circuit.
+
+ghost use Rattle.std.specs.Prelude.{◌≡◌, ◌≤◌, ◌+◌, pos, ◌+ℤ◌, ◌-ℤ◌, ◌≤ℤ◌, length};
+ghost use Rattle.graph.specs.Walks.{delay_of, distance_of};
+
+use graph::Edge;
+
+/// The sums of the delays and distances of edges.
+#[derive(Clone, Copy)]
+pub(crate) struct Sums {
+    /// In cycles.
+    pub(crate) delay: i64,
+    /// In iterations.
+    pub(crate) distance: u64,
+}
+
+impl Sums {
+    /// The sums with one edge more.
+    fn with(self, edge: Edge) -> Sums
+        requires early { self.delay ≤ℤ pos 16384 }
+        requires late { (pos 0 -ℤ pos 16384) ≤ℤ self.delay }
+        requires near { self.distance ≤ 32768 }
+        ensures delay { result.delay ≡ (self.delay +ℤ edge.delay) }
+        ensures distance { result.distance ≡ self.distance + edge.distance }
+        ensures high { result.delay ≤ℤ (self.delay +ℤ pos 128) }
+        ensures low { (self.delay -ℤ pos 128) ≤ℤ result.delay }
+        ensures near { result.distance ≤ self.distance + 255 }
+    {
+        Sums {
+            delay: self.delay + i64::from(edge.delay),
+            distance: self.distance + u64::from(edge.distance),
+        }
+    }
+}
+
+/// The sums of the delays and distances of edges.
+pub(crate) fn sums_of(edges: &[Edge]) -> Sums
+    requires few { length edges.now ≤ 128 }
+    ensures delay { result.delay ≡ delay_of edges.now }
+    ensures distance { result.distance ≡ distance_of edges.now }
+{
+    let mut sums = Sums {
+        delay: 0,
+        distance: 0,
+    };
+    for edge in edges {
+        sums = sums.with(*edge);
+    }
+    sums
+}

@@ -1,0 +1,115 @@
+//! The line of the units that the resource-constrained lower bound is due to.
+
+ghost use Rattle.std.specs.Prelude.{◌≡◌, ℕ, ◌≤◌, ◌<◌, ◌==◌, ◌++◌, List, length, count_by, IfOk, OnOk};
+ghost use Rattle.std.specs.List.{All};
+ghost use Rattle.machine_data.specs.declared.alternative.Row.{Row};
+ghost use Rattle.machine_data.specs.Alternative.{AreAlternatives};
+ghost use Rattle.graph.specs.Units.{chosen_rows, use_of};
+ghost use Rattle.unit_uses.specs.Choices.{rows_at};
+ghost use Rattle.outcome_text.specs.Notes.{AreFullest, full_line, units_with};
+
+use crate::listed::push_listed;
+use machine_data::{Alternatives, OutOfMemory, Row};
+use problems::{Draft, Problem};
+use std::alloc::{AllocError, Global};
+use unit_uses::unit_choices_of;
+use writing::Text;
+
+/// The rows of the alternative that an operation takes by these choices, none where there is no such alternative.
+fn rows_at<'a>(operations: &'a [Alternatives], choices: &[u8], number: usize) -> &'a [Row]
+    requires there { number < length operations.now }
+    requires chosen { number < length choices.now }
+    ensures value { result.now ≡ rows_at operations.now choices.now number }
+    ensures few { length result.now ≤ 16 }
+{
+    let choice = usize::from(choices[number]);
+    match operations[number].as_slice().get(choice) {
+        Some(alternative) => alternative.rows(),
+        None => &[],
+    }
+}
+
+/// How many of the rows use a unit.
+fn rows_with(rows: &[Row], unit: usize) -> u64
+    ensures value { result ≡ use_of rows.now unit }
+    ensures few { result ≤ length rows.now }
+{
+    rows.iter()
+        .filter(|row| usize::from(row.unit) == unit)
+        .count() as u64
+}
+
+/// How many of the rows of all choices use a unit.
+fn use_of(operations: &[Alternatives], choices: &[u8], unit: usize) -> u64
+    requires each { length choices.now ≡ length operations.now }
+    requires few { length operations.now ≤ 128 }
+    ensures { result ≡ use_of (chosen_rows operations.now choices.now) unit }
+{
+    let mut uses = 0;
+    for number in 0..operations.len() {
+        uses += rows_with(rows_at(operations, choices, number), unit);
+    }
+    uses
+}
+
+/// Of so many units, in order, those that just so many of the rows of all choices use.
+fn units_with(
+    alloc: Global,
+    units: usize,
+    operations: &[Alternatives],
+    choices: &[u8],
+    uses: u64,
+) -> Result<Vec<usize>, AllocError>
+    requires each { length choices.now ≡ length operations.now }
+    requires few { length operations.now ≤ 128 }
+    ensures { IfOk result (λ full. full.items ≡ units_with units (chosen_rows operations.now choices.now) uses) }
+{
+    let mut full = Vec::new(alloc);
+    for unit in 0..units {
+        if use_of(operations, choices, unit) == uses {
+            full.push(unit)?;
+        }
+    }
+    Ok(full)
+}
+
+/// The units that the resource-constrained bound is due to.
+fn fullest_of(alloc: Global, problem: &Problem) -> Result<Vec<usize>, OutOfMemory>
+    ensures { IfOk result (λ units. AreFullest problem.now units.items) }
+{
+    let scheduling = problem.scheduling();
+    prove!(scheduling.operations() <= 128);
+    let operations = scheduling.alternatives();
+    let choices = unit_choices_of(alloc, operations)?;
+    let units = problem.draft().units;
+    units_with(
+        alloc,
+        units,
+        operations,
+        choices.as_slice(),
+        scheduling.resources(),
+    )
+}
+
+/// Appends the line of full units; nothing where there are none.
+fn push_full_line(text: &mut Vec<u8>, draft: &Draft, units: &[usize]) -> Result<(), AllocError>
+    ensures ok { OnOk result (text.new.items ≡ text.old.items ++ full_line draft.now units.now) }
+{
+    if units.is_empty() {
+        return Ok(());
+    }
+    push_listed(text, "# full", draft.names.units.as_slice(), units)?;
+    text.push_piece("\n")
+}
+
+/// Appends the line of the units that the resource-constrained bound is due to.
+pub(crate) fn push_fullest(
+    alloc: Global,
+    text: &mut Vec<u8>,
+    problem: &Problem,
+) -> Result<(), OutOfMemory>
+    ensures ok { OnOk result ((units : List ℕ) × AreFullest problem.now units × (text.new.items ≡ text.old.items ++ full_line problem.now.draft units)) }
+{
+    let units = fullest_of(alloc, problem)?;
+    push_full_line(text, problem.draft(), units.as_slice())
+}
