@@ -2,15 +2,15 @@
 use Rattle.std.proofs.Common.{◌≡◌, ℕ, ◌+◌, ◌<◌, ◌≤◌, Bool, true, false, List, [], ◌∷◌, ◌++◌, length, map, Option, Some, None, Result, Ok, Err, refl, sym, ◌∙◌, ap, subst, arith, not}
 use Rattle.std.proofs.lemmas.Bool.Decides.{nat_tests}
 use Rattle.std.specs.Bool.{nat_lt}
-use Rattle.std.specs.Option.{option_or, is_some, is_none}
+use Rattle.std.specs.Option.{is_some}
 use Rattle.loop_lines.specs.Words.{lines_of}
 use Rattle.problem_lines.specs.SolutionForms.{SolutionForm, SolutionBegins, OpTime, ValueNumber, SolutionEnds}
 use Rattle.problem_lines.specs.SolutionLines.{SolutionLineForm, solution_line_form}
 use Rattle.problem_lines.specs.Words.{Placed, placed_words}
 use Rattle.problem_lines.specs.declared.fault.LineFault.{LineFault}
-use Rattle.solution_reader.specs.Data.{SolutionData, has_name, op_names, value_names, solution_names}
+use Rattle.solution_reader.specs.Data.{has_name, op_names, value_names, solution_names}
 use Rattle.solution_reader.specs.Faults.{first_of, unless, on_line, on_word, one_more, stands, meaning_fault, line_fault}
-use Rattle.solution_reader.specs.Meaning.{at_line, form_fault, end_fault, size_fault, judged, text_line, lines_from, forms_of, lines_in, solutions_or, solutions_in_text, AnswersFault}
+use Rattle.solution_reader.specs.Meaning.{at_line, end_fault, size_fault, judged, text_line, lines_from, forms_of, solutions_or, solutions_in_text, AnswersFault}
 use Rattle.solution_reader.specs.Sofar.{TextLine, head_in, ops_in, values_in, solutions_in}
 use Rattle.solution_reader.specs.declared.fault.Part.{Part}
 use Rattle.solution_reader.specs.declared.fault.Part.TheVariants as part

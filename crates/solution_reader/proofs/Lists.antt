@@ -1,5 +1,5 @@
 -- Names of rows.
-use Rattle.std.proofs.Common.{◌≡◌, ℕ, List, [], ◌∷◌, ◌++◌, length, map, Option, Some, None, refl, sym, ◌∙◌, ap}
+use Rattle.std.proofs.Common.{◌≡◌, ℕ, List, [], ◌∷◌, ◌++◌, length, map, Option, Some, None, sym, ◌∙◌, ap}
 use Rattle.std.proofs.lemmas.List.{append-nil, map-append, length-map}
 use Rattle.std.specs.Option.{option_map, option_to_list}
 use Rattle.solution_reader.specs.Data.{HeadData, OpData, ValueData, SolutionData, solution_names}

@@ -3,10 +3,10 @@ use Rattle.std.proofs.Common.{◌≡◌, ℕ, Bool, true, false, List, [], ◌�
 use Rattle.std.proofs.lemmas.List.{append-nil}
 use Rattle.std.proofs.lemmas.List.Elements.{filter_map-append}
 use Rattle.std.specs.List.{filter_map}
-use Rattle.std.specs.Option.{option_or, option_to_list, is_some, is_none}
+use Rattle.std.specs.Option.{is_some, is_none}
 use Rattle.problem_lines.specs.SolutionForms.{SolutionForm, SolutionBegins, OpTime, ValueNumber, SolutionEnds}
 use Rattle.problem_lines.specs.SolutionLines.{SolutionLineForm}
-use Rattle.solution_reader.specs.Data.{HeadData, OpData, ValueData, SolutionData, op_names, value_names, solution_names}
+use Rattle.solution_reader.specs.Data.{HeadData, OpData, ValueData, op_names, value_names, solution_names}
 use Rattle.solution_reader.specs.Faults.{first_of, unless, on_line, one_more, stands, meaning_fault, line_fault}
 use Rattle.solution_reader.specs.Sofar.{TextLine, begins, since, head_behind, head_from, head_in, op_told, value_told, ops_in, values_in, solution_with, ended_by, solutions_from, solutions_in}
 use Rattle.solution_reader.specs.declared.fault.Part.TheVariants as part

@@ -1,5 +1,5 @@
 -- What each of some names is told, at its number.
-use Rattle.std.proofs.Common.{◌≡◌, ℕ, ◌<◌, ◌≤◌, min, List, [], ◌∷◌, length, get_or, map, Option, Some, None, option_map, refl, sym, ◌∙◌, ap, subst, arith}
+use Rattle.std.proofs.Common.{◌≡◌, ℕ, ◌<◌, min, List, length, get_or, map, Option, None, option_map, sym, ◌∙◌, ap, subst, arith}
 use Rattle.std.proofs.lemmas.List.{get_or-map, length-map}
 use Rattle.std.proofs.lemmas.Slice.Zip.{get_or-zip, length-zip}
 use Rattle.std.specs.List.{zip}

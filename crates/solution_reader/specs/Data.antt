@@ -1,7 +1,6 @@
 -- What is read of a text: its solutions, with the names that their lines tell.
 use Rattle.std.specs.Prelude.{ℕ, Bool, List, map, Option}
 use Rattle.std.specs.List.{list_any, position}
-use Rattle.std.specs.Prelude.{find}
 use Rattle.machine_data.specs.Opcodes.{same_word}
 use Rattle.problem_lines.specs.Words.{Placed}
 

@@ -1,5 +1,5 @@
 -- A solution of a text by the names of a problem: the lists of times, alternatives and numbers that it gives, in the problem's order.
-use Rattle.std.specs.Prelude.{◌≡◌, ℕ, ◌+◌, nat_lt, not, Bool, true, false, if◌then◌else◌, List, [], ◌∷◌, length, map, find, Option, Some, None, option_map, Result, Ok, Err, slice_get, Vec}
+use Rattle.std.specs.Prelude.{ℕ, ◌+◌, nat_lt, not, Bool, if◌then◌else◌, List, [], ◌∷◌, length, map, find, Option, Some, None, option_map, Result, Ok, Err, slice_get, Vec}
 use Rattle.std.specs.Global.{Global}
 use Rattle.std.specs.List.{zip, slice_index_or}
 use Rattle.machine_data.specs.Opcodes.{same_word}

@@ -4,7 +4,7 @@ use Rattle.problem_lines.specs.SolutionForms.{SolutionForm, SolutionBegins, OpTi
 use Rattle.problem_lines.specs.SolutionLines.{SolutionLineForm}
 use Rattle.solution_reader.specs.Data.{HeadData, OpData, ValueData, SolutionData, op_names, value_names, solution_names}
 use Rattle.solution_reader.specs.Faults.{first_of, unless, on_line, one_more}
-use Rattle.solution_reader.specs.Sofar.{TextLine, head_behind, head_in, ops_in, values_in, op_told, value_told, solutions_in, solution_with}
+use Rattle.solution_reader.specs.Sofar.{TextLine, head_in, ops_in, values_in, solutions_in, solution_with}
 use Rattle.solution_reader.specs.declared.fault.Part.TheVariants as part
 use Rattle.solution_reader.specs.declared.fault.Told.{Told}
 use Rattle.solution_reader.specs.declared.fault.Wrong.{Wrong}

@@ -1,4 +1,4 @@
-use Rattle.std.proofs.Common.{◌≡◌, ◌≤◌, List, [], length, subst, sym, arith, Result}
+use Rattle.std.proofs.Common.{List, [], subst, sym, Result}
 use Rattle.solution_reader.specs.Data.{SolutionData}
 use Rattle.solution_reader.specs.Meaning.{forms_of, lines_from, solutions_in_text, AnswersFault, AnswersText}
 use Rattle.solution_reader.specs.declared.fault.SolutionFault.{SolutionFault}

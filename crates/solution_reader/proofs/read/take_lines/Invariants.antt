@@ -1,4 +1,4 @@
-use Rattle.std.proofs.Common.{ℕ, ◌+◌, ◌≤◌, List, length}
+use Rattle.std.proofs.Common.{◌+◌, ◌≤◌, List, length}
 use Rattle.solution_reader.specs.Meaning.{forms_of}
 use Rattle.solution_reader.specs.Sofar.{TextLine}
 use Rattle.solution_reader.specs.inner.Reading.{GoesOn}

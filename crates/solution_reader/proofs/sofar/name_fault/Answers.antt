@@ -1,4 +1,4 @@
-use Rattle.std.proofs.Common.{◌≡◌, ◌∙◌, sym, ap, true, length, Some, None, ℕ, List}
+use Rattle.std.proofs.Common.{◌≡◌, ◌∙◌, sym, ap, true, length, Some, None}
 use Rattle.solution_reader.specs.Data.{has_name}
 use Rattle.solution_reader.specs.Faults.{room_at}
 use Rattle.solution_reader.specs.declared.fault.Told.{Told}
