@@ -2,7 +2,7 @@
 use Rattle.std.specs.Prelude.{ℕ, codes, ◌||◌, Bool, false, if◌then◌else◌, List, [], ◌∷◌, length, Option, Some, None, is_some}
 use Rattle.machine_data.specs.Opcodes.{same_word}
 use Rattle.loop_lines.specs.Forms.{int_of, is_number}
-use Rattle.problem_lines.specs.Keywords.{keyword_named}
+use Rattle.problem_lines.specs.Keywords.{keyword_named, solution_keyword_named}
 use Rattle.problem_lines.specs.Names.{is_name, is_unit_name, is_hold}
 use Rattle.problem_lines.specs.Words.{Placed}
 use Rattle.problem_lines.specs.declared.fault.Expected.{Expected}
@@ -26,6 +26,11 @@ fits expected.In word = same_word word (codes "in")
 fits expected.Distance word = same_word word (codes "distance")
 fits expected.Offset word = same_word word (codes "offset")
 fits expected.Delay word = same_word word (codes "delay")
+fits expected.SolutionKeyword word = is_some (solution_keyword_named word)
+fits expected.Ii word = same_word word (codes "ii")
+fits expected.Time word = same_word word (codes "time")
+fits expected.By word = same_word word (codes "by")
+fits expected.NumberWord word = same_word word (codes "number")
 fits expected.Nothing word = false
 
 -- a word that stands where something else has to stand

@@ -7,6 +7,9 @@ pub mod Numbers
 pub mod Parsed
 pub mod Promises
 pub mod Seen
+pub mod SolutionForms
+pub mod SolutionLines
+pub mod SolutionParsed
 pub mod Texts
 pub mod Words
 pub mod inner

@@ -20,6 +20,11 @@ expected_text expected.In = codes "expected in"
 expected_text expected.Distance = codes "expected distance"
 expected_text expected.Offset = codes "expected offset"
 expected_text expected.Delay = codes "expected delay"
+expected_text expected.SolutionKeyword = codes "expected solution, op, value or end"
+expected_text expected.Ii = codes "expected ii"
+expected_text expected.Time = codes "expected time"
+expected_text expected.By = codes "expected by"
+expected_text expected.NumberWord = codes "expected number"
 expected_text expected.Nothing = codes "nothing may follow here"
 
 abbrev pub fault_text : LineFault → List ℕ

@@ -5,7 +5,7 @@ use std::fmt;
 /// What has to stand where another word stands, or where the line ends.
 #[derive(Clone, Copy, Debug, PartialEq, Eq)]
 pub enum Expected {
-    /// The first word of a line.
+    /// The first word of a line of a problem text.
     Keyword,
     /// A name of 1 to 64 bytes of printable ASCII, none of them `#`.
     Name,
@@ -35,6 +35,16 @@ pub enum Expected {
     Offset,
     /// `delay`
     Delay,
+    /// The first word of a line of a text of solutions.
+    SolutionKeyword,
+    /// `ii`
+    Ii,
+    /// `time`
+    Time,
+    /// `by`
+    By,
+    /// `number`
+    NumberWord,
     /// No word: this one is behind the end of the form.
     Nothing,
 }
@@ -64,6 +74,11 @@ impl fmt::Display for Expected {
             Expected::Distance => "expected distance",
             Expected::Offset => "expected offset",
             Expected::Delay => "expected delay",
+            Expected::SolutionKeyword => "expected solution, op, value or end",
+            Expected::Ii => "expected ii",
+            Expected::Time => "expected time",
+            Expected::By => "expected by",
+            Expected::NumberWord => "expected number",
             Expected::Nothing => "nothing may follow here",
         })
     }

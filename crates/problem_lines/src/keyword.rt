@@ -2,7 +2,7 @@
 
 ghost use Rattle.std.specs.Prelude.{◌≡◌};
 ghost use Rattle.machine_data.specs.Opcodes.{same_word};
-ghost use Rattle.problem_lines.specs.Keywords.{keyword_named};
+ghost use Rattle.problem_lines.specs.Keywords.{keyword_named, solution_keyword_named};
 
 /// What a line is about, by its first word.
 #[derive(Clone, Copy, Debug, PartialEq, Eq)]
@@ -16,6 +16,15 @@ pub enum Keyword {
     Value,
     Read,
     Edge,
+    End,
+}
+
+/// What a line of a text of solutions is about, by its first word.
+#[derive(Clone, Copy, Debug, PartialEq, Eq)]
+pub enum SolutionKeyword {
+    Solution,
+    Op,
+    Value,
     End,
 }
 
@@ -50,6 +59,23 @@ pub(crate) fn keyword_of(word: &[u8]) -> Option<Keyword>
         Some(Keyword::Edge)
     } else if is_text(word, "end") {
         Some(Keyword::End)
+    } else {
+        None
+    }
+}
+
+/// The keyword of a text of solutions that a word is.
+pub(crate) fn solution_keyword_of(word: &[u8]) -> Option<SolutionKeyword>
+    ensures { result ≡ solution_keyword_named word.now }
+{
+    if is_text(word, "solution") {
+        Some(SolutionKeyword::Solution)
+    } else if is_text(word, "op") {
+        Some(SolutionKeyword::Op)
+    } else if is_text(word, "value") {
+        Some(SolutionKeyword::Value)
+    } else if is_text(word, "end") {
+        Some(SolutionKeyword::End)
     } else {
         None
     }

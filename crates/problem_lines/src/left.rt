@@ -11,7 +11,7 @@ ghost use Rattle.problem_lines.specs.inner.Cursors.{starts_bar};
 ghost use Rattle.problem_lines.specs.inner.Pieces.{fault_seen, placed};
 
 use crate::fault::{Expected, LineFault};
-use crate::keyword::{is_text, keyword_of};
+use crate::keyword::{is_text, keyword_of, solution_keyword_of};
 use crate::names::{is_hold, is_name, is_unit_name};
 use crate::number::{Integer, Number, digits_of, int_of, integer_in, number_in};
 use crate::piece::Piece;
@@ -58,6 +58,11 @@ fn fits(what: Expected, word: &[u8]) -> bool
         Expected::Distance => is_text(word, "distance"),
         Expected::Offset => is_text(word, "offset"),
         Expected::Delay => is_text(word, "delay"),
+        Expected::SolutionKeyword => solution_keyword_of(word).is_some(),
+        Expected::Ii => is_text(word, "ii"),
+        Expected::Time => is_text(word, "time"),
+        Expected::By => is_text(word, "by"),
+        Expected::NumberWord => is_text(word, "number"),
         Expected::Nothing => false,
     }
 }

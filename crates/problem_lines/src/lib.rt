@@ -1,5 +1,5 @@
-//! One line of a text of scheduling problems: its words, and the form that they have or the first fault of
-//! them alone. It serves the reader of such texts.
+//! One line of a text of scheduling problems, or of a text of their solutions: its words, and the form that they
+//! have or the first fault of them alone. It serves the readers of such texts.
 #![tactic(auto)]
 
 mod fault;
@@ -13,6 +13,7 @@ mod names;
 mod number;
 mod piece;
 mod scan;
+mod solution_form;
 #[cfg(test)]
 mod tests;
 mod word;
@@ -23,4 +24,5 @@ pub use kinds::{Alternatives, HoldWord, Holds};
 pub use laws::{names_are_labels, words_are_words};
 pub use lists::UnitNames;
 pub use number::{Integer, Number, Storage};
+pub use solution_form::{SolutionForm, SolutionLine, solution_line_of};
 pub use word::Word;

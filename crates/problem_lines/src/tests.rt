@@ -1,8 +1,8 @@
 //! A line of each form and a fault of each sort, worked by hand.
 
 use crate::{
-    Alternatives, Expected, Form, HoldWord, Line, LineFault, Number, Storage, UnitNames, Word,
-    line_of,
+    Alternatives, Expected, Form, HoldWord, Line, LineFault, Number, SolutionForm, Storage,
+    UnitNames, Word, line_of, solution_line_of,
 };
 use std::fmt::Write;
 use std::process::Abort;
@@ -191,4 +191,65 @@ fn faults_are_told(rt: HostRuntime) -> Result<(), Fail> {
         "column 7: expected a name of 1 to 64 printable characters without @ and |"
     );
     Ok(())
+}
+
+/// A line of a text of solutions says what is wanted.
+fn says_of_solutions(line: &[u8]) -> bool {
+    let Ok(Some(line)) = solution_line_of(line) else {
+        return false;
+    };
+    let seven = |column| Number {
+        value: 7,
+        column,
+        width: 2,
+    };
+    match line.form {
+        SolutionForm::Solution(name, ii) => is_at(name, "p{1}", 10) && ii == seven(18),
+        SolutionForm::Op(name, time, alternative) => {
+            is_at(name, "a", 5) && time == seven(12) && alternative.value == u64::MAX
+        }
+        SolutionForm::Value(name, number) => is_at(name, "v", 7) && number == seven(16),
+        SolutionForm::End => line.column == 2 && line.width == 3,
+    }
+}
+
+#[test]
+fn each_form_of_solutions(rt: HostRuntime) {
+    for line in [
+        &b"solution p{1} ii 07 # stages 2"[..],
+        b" op a time 07 by 18446744073709551616 # row 1",
+        b"value v number 07\r",
+        b"\tend#",
+    ] {
+        assert!(rt; says_of_solutions(line));
+    }
+    assert!(rt; matches!(solution_line_of(b"\t # circuit a b"), Ok(None)));
+}
+
+/// A line of a text of solutions has this fault.
+fn has_solution_fault(line: &[u8], what: Expected, column: usize, width: usize) -> bool {
+    let wanted = LineFault {
+        column,
+        width,
+        what,
+    };
+    matches!(solution_line_of(line), Err(fault) if fault == wanted)
+}
+
+#[test]
+fn lines_of_solutions_at_fault(rt: HostRuntime) {
+    for (line, what, column, width) in [
+        (&b" problem p"[..], Expected::SolutionKeyword, 2, 7),
+        (b"solution", Expected::Name, 9, 0),
+        (b"solution p at 3", Expected::Ii, 12, 2),
+        (b"solution p ii -3", Expected::Number, 15, 2),
+        (b"solution p ii 3 4", Expected::Nothing, 17, 1),
+        (b"op a", Expected::Time, 5, 0),
+        (b"op a time 3", Expected::By, 12, 0),
+        (b"op a time 3 by x", Expected::Number, 16, 1),
+        (b"value v 3", Expected::NumberWord, 9, 1),
+        (b"end 3", Expected::Nothing, 5, 1),
+    ] {
+        assert!(rt; has_solution_fault(line, what, column, width));
+    }
 }

@@ -1,0 +1,8 @@
+pub mod Among
+pub mod Each
+pub mod First
+pub mod Lines
+pub mod Lists
+pub mod Names
+pub mod Steps
+pub mod Told

@@ -1,0 +1,10 @@
+pub use Rattle.loop_lines.specs.Words
+pub use Rattle.problem_lines.specs.SolutionLines
+pub use Rattle.problems.specs.Drafts
+pub mod Data
+pub mod Faults
+pub mod Meaning
+pub mod Resolved
+pub mod Sofar
+pub mod Texts
+pub mod inner

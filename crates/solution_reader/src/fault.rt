@@ -1,0 +1,174 @@
+//! Why a text of solutions is refused.
+
+ghost use Rattle.std.specs.Prelude.{◌≡◌};
+ghost use Rattle.solution_reader.specs.Meaning.{at_line};
+ghost use Rattle.solution_reader.specs.Texts.{owner_text};
+ghost use Rattle.solution_reader.specs.declared.fault.Refusal.TheVariants.{Memory};
+
+use problem_lines::Expected;
+use std::alloc::AllocError;
+use std::fmt;
+
+/// What there may be too many of, or what a name has to be of.
+#[derive(Clone, Copy, Debug, PartialEq, Eq)]
+pub enum Part {
+    Solutions,
+    Operations,
+    Values,
+}
+
+impl Part {
+    /// What a name of this part has to be that of.
+    fn owner(self) -> &'static str
+        ensures { result.now ≡ owner_text self }
+    {
+        match self {
+            Part::Solutions => "problem",
+            Part::Operations => "operation",
+            Part::Values => "value",
+        }
+    }
+}
+
+impl fmt::Display for Part {
+    ghost use Rattle.std.specs.Prelude.{Some};
+    ghost use Rattle.solution_reader.specs.Texts.{part_text};
+
+    ghost output = { λ part. Some (part_text part) };
+
+    fn fmt<W: fmt::Write>(&self, f: &mut fmt::Formatter<W>) -> fmt::Result {
+        f.write_str(match self {
+            Part::Solutions => "solution",
+            Part::Operations => "operation",
+            Part::Values => "value",
+        })
+    }
+}
+
+/// What is wrong with a line, or with a whole text.
+#[derive(Clone, Copy, Debug, PartialEq, Eq)]
+pub enum Wrong {
+    /// The text has more than 16,777,216 bytes.
+    TextSize,
+    /// The word has none of the forms: this has to stand in its place.
+    Form(Expected),
+    /// The line may not stand here.
+    Place,
+    /// There is one more of a part than there may be.
+    Count(Part),
+    /// The text has a solution of this name already, or the solution a line of it.
+    Repeated,
+    /// No problem, or no operation or value of the problem, has this name.
+    Unknown(Part),
+    /// The text ends inside a solution.
+    NoEnd,
+    /// Memory ran out. This says nothing of the text.
+    Memory,
+}
+
+impl fmt::Display for Wrong {
+    ghost use Rattle.std.specs.Prelude.{Some};
+    ghost use Rattle.solution_reader.specs.Texts.{wrong_text};
+
+    ghost output = { λ wrong. Some (wrong_text wrong) };
+
+    fn fmt<W: fmt::Write>(&self, f: &mut fmt::Formatter<W>) -> fmt::Result {
+        match *self {
+            Wrong::TextSize => f.write_str("more than 16777216 bytes"),
+            Wrong::Form(expected) => write!(f, "{expected}"),
+            Wrong::Place => f.write_str("this line may not stand here"),
+            Wrong::Count(part) => write!(f, "number of {part}s out of range"),
+            Wrong::Repeated => f.write_str("there already"),
+            Wrong::Unknown(part) => {
+                let owner = part.owner();
+                write!(f, "unknown {owner}")
+            }
+            Wrong::NoEnd => f.write_str("the text ends inside a solution"),
+            Wrong::Memory => f.write_str("out of memory"),
+        }
+    }
+}
+
+/// A fault of a line: where, and what.
+#[derive(Clone, Copy)]
+pub(crate) struct Told {
+    /// The column of the first byte of the word at fault, from 1.
+    pub(crate) column: usize,
+    /// How many bytes the word at fault has.
+    pub(crate) width: usize,
+    /// What is wrong.
+    pub(crate) what: Wrong,
+}
+
+/// Why a line is not taken in.
+#[derive(Clone, Copy)]
+pub(crate) enum Refusal {
+    /// This is its first fault.
+    Fault(Told),
+    /// Memory ran out. This says nothing of the line.
+    Memory,
+}
+
+impl From<AllocError> for Refusal {
+    ghost from_gives = { λ _ refusal. refusal ≡ Memory };
+
+    fn from(_error: AllocError) -> Refusal {
+        Refusal::Memory
+    }
+}
+
+/// The first line at fault and its first fault.
+#[derive(Clone, Copy, Debug, PartialEq, Eq)]
+pub struct SolutionFault {
+    /// The line's number, from 1; 0 for a text that is too long and for want of memory.
+    pub line: usize,
+    /// The column of the first byte of the word at fault, from 1; where a word is missing, and behind the last line,
+    /// the column where it would stand. 0 where the line is 0.
+    pub column: usize,
+    /// How many bytes the word at fault has: 0 where none is there.
+    pub width: usize,
+    /// What is wrong.
+    pub what: Wrong,
+}
+
+impl SolutionFault {
+    /// Memory ran out.
+    pub(crate) const MEMORY: SolutionFault = SolutionFault {
+        line: 0,
+        column: 0,
+        width: 0,
+        what: Wrong::Memory,
+    };
+
+    /// A fault of this line.
+    pub(crate) fn at(line: usize, told: Told) -> SolutionFault
+        ensures { result ≡ at_line line told }
+    {
+        SolutionFault {
+            line,
+            column: told.column,
+            width: told.width,
+            what: told.what,
+        }
+    }
+}
+
+/// Prints `LINE:COLUMN: ` and what is wrong; of line 0 what is wrong alone.
+impl fmt::Display for SolutionFault {
+    ghost use Rattle.std.specs.Prelude.{Some};
+    ghost use Rattle.solution_reader.specs.Texts.{fault_text};
+
+    ghost output = { λ fault. Some (fault_text fault) };
+
+    fn fmt<W: fmt::Write>(&self, f: &mut fmt::Formatter<W>) -> fmt::Result {
+        let what = self.what;
+        if self.line == 0 {
+            return write!(f, "{what}");
+        }
+        let line = self.line;
+        let column = self.column;
+        write!(f, "{line}:{column}: {what}")
+    }
+}
+
+impl std::error::Error for SolutionFault {}

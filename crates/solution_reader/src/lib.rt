@@ -1,0 +1,20 @@
+//! The reader of texts of solutions of scheduling problems, and each solution by the names of its problem.
+#![tactic(auto)]
+
+mod begun;
+mod fault;
+mod file;
+mod numbers;
+mod ops;
+mod read;
+mod resolve;
+mod rows;
+mod sofar;
+mod spot;
+#[cfg(test)]
+mod tests;
+mod values;
+
+pub use fault::{Part, SolutionFault, Wrong};
+pub use file::SolutionFile;
+pub use read::read_solutions;
