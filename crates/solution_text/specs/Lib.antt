@@ -6,4 +6,5 @@ pub mod Operations
 pub mod Values
 pub mod Files
 pub mod Texts
+pub mod Verdicts
 pub mod Promises
