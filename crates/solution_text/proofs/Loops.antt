@@ -23,6 +23,6 @@ pub listed-more : {X : Type 0} (f : X → List ℕ) (old before new : List ℕ) 
 listed-more {X} f old before new xs i d within b n =
     n ∙ ap (λ t. t ++ f (get_or xs i d)) b ∙ flat_map_more f old (take i xs) (get_or xs i d) ∙ ap (λ (ys : List X). old ++ flat_map f ys) (sym (take_more xs i d within))
 
--- one more piece behind those before it
+-- one more piece after those before it
 pub behind : (old before mid more new : List ℕ) → mid ≡ old ++ before → new ≡ mid ++ more → new ≡ old ++ (before ++ more)
 behind old before mid more new a b = b ∙ ap (λ t. t ++ more) a ∙ append_assoc old before more

@@ -6,4 +6,5 @@ pub mod Values
 pub mod Files
 pub mod Texts
 pub mod Outcomes
+pub mod Verdicts
 pub mod Promises

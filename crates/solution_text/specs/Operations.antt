@@ -45,12 +45,12 @@ write_text s op value = if (value_of (run_of s) value).maker == op then spaced_r
 abbrev pub writes_text : SolutionData → ℕ → List ℕ
 writes_text s op = flat_map (write_text s op) (range_with_len 0 (length s.problem.draft.values.items))
 
--- a text behind its head, and nothing where there is none
+-- a text after its head, and nothing where there is none
 abbrev pub headed : List ℕ → List ℕ → List ℕ
 headed head [] = []
 headed head (byte ∷ bytes) = head ++ byte ∷ bytes
 
--- how the registers that are written begin, behind those that are read
+-- how the registers that are written begin, after those that are read
 abbrev pub writes_head : List ℕ → List ℕ
 writes_head [] = codes "; writes"
 writes_head (byte ∷ bytes) = codes ", writes"

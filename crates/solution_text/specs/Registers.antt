@@ -9,7 +9,7 @@ use Rattle.writing.specs.Words.{told}
 use Rattle.solution_text.specs.declared.named.Register.{Register}
 use Rattle.solution_text.specs.Names.{file_name}
 
--- the register that is so many behind a home's number, counted round its file; none where the values are allotted to none
+-- the register that is so many after a home's number, counted round its file; none where the values are allotted to none
 abbrev pub register_behind : Home → ℕ → Option Register
 register_behind (Rotates file registers number) above = Some (record { file = file; number = (number + above) % registers })
 register_behind Unallotted above = None
@@ -30,7 +30,7 @@ opening_of s value iterations = register_behind (home_of (run_of s) value) itera
 abbrev pub register_text : Draft → Register → List ℕ
 register_text draft register = file_name draft register.file ++ told (codes ".") register.number
 
--- the same behind a blank, nothing where there is none
+-- the same after a blank, nothing where there is none
 abbrev pub spaced_register : Draft → Option Register → List ℕ
 spaced_register draft None = []
 spaced_register draft (Some register) = codes " " ++ register_text draft register

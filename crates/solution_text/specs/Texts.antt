@@ -31,7 +31,7 @@ solution_lines name s =
 abbrev pub solution_text : List ℕ → List ℕ → SolutionData → List ℕ
 solution_text name notes s = head_text name notes s.problem ++ solution_lines name s
 
--- an operation behind a blank
+-- an operation after a blank
 abbrev pub named : Draft → ℕ → List ℕ
 named draft op = codes " " ++ op_name draft op
 
@@ -41,7 +41,7 @@ culprit_text draft (Blocked op) = named draft op
 culprit_text draft (Unplaced ops) = flat_map (named draft) ops.items
 culprit_text draft (Late op time) = named draft op ++ told (codes " at ") time
 
--- the same behind a colon, nothing where it isn't known
+-- the same after a colon, nothing where it isn't known
 abbrev pub evidence_text : Draft → Option Culprit → List ℕ
 evidence_text draft None = []
 evidence_text draft (Some culprit) = codes ":" ++ culprit_text draft culprit

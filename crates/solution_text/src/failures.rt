@@ -14,7 +14,7 @@ use solutions::Cause;
 use std::alloc::AllocError;
 use writing::{Text, push_both, push_told};
 
-/// Appends an operation behind a blank.
+/// Appends a blank, then an operation.
 fn push_named(text: &mut Vec<u8>, draft: &Draft, op: usize) -> Result<(), AllocError>
     ensures ok { OnOk result (text.new.items ≡ text.old.items ++ named draft.now op) }
 {
@@ -22,7 +22,7 @@ fn push_named(text: &mut Vec<u8>, draft: &Draft, op: usize) -> Result<(), AllocE
     push_name(text, draft.names.operations.as_slice(), op)
 }
 
-/// Appends operations, each behind a blank.
+/// Appends operations, each after a blank.
 fn push_all_named(text: &mut Vec<u8>, draft: &Draft, ops: &[usize]) -> Result<(), AllocError>
     ensures ok { OnOk result (text.new.items ≡ text.old.items ++ flat_map (named draft.now) ops.now) }
 {

@@ -1,5 +1,5 @@
-//! Solutions of scheduling problems as text: the lines that a check reads again, and behind `#` what people want to know of
-//! them.
+//! Solutions of scheduling problems as text: the lines that a check reads again, and after `#` what people want to know of
+//! them; and what a check says of them.
 #![tactic(auto)]
 
 mod failures;
@@ -15,9 +15,11 @@ mod solved;
 mod tests;
 mod uses;
 mod values;
+mod verdicts;
 
 pub use failures::push_failed;
 pub use laws::names_are_those_of_runs;
 pub use named::Register;
 pub use outcomes::push_outcome;
 pub use solved::push_solution;
+pub use verdicts::{Missing, push_broken, push_missing, push_ok};

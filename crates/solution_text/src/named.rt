@@ -20,7 +20,7 @@ pub struct Register {
     pub number: usize,
 }
 
-/// The register that is so many behind the number of a value, counted round its file; none of a value of an unallotted file.
+/// The register that is so many after the number of a value, counted round its file; none of a value of an unallotted file.
 pub(crate) fn register_behind(solution: &Solution, value: usize, above: u64) -> Option<Register>
     requires there { value < length solution.now.problem.draft.values.items }
     requires few { above ≤ 4096 }
@@ -49,7 +49,7 @@ pub(crate) fn push_register(
     push_told(text, ".", register.number as u64)
 }
 
-/// Appends a register behind a blank, where there is one.
+/// Appends a blank, then a register, where there is one.
 pub(crate) fn push_spaced(
     text: &mut Vec<u8>,
     draft: &Draft,

@@ -26,7 +26,7 @@ fn push_placed(text: &mut Vec<u8>, solution: &Solution, op: usize) -> Result<(),
     push_told(text, " by ", solution.alternative(op) as u64)
 }
 
-/// Appends a unit that an operation holds behind a blank, and how many cycles after its issue.
+/// Appends a blank, then a unit that an operation holds, and how many cycles after its issue.
 fn push_hold(text: &mut Vec<u8>, draft: &Draft, row: Row) -> Result<(), AllocError>
     ensures ok { OnOk result (text.new.items ≡ text.old.items ++ hold_text draft.now row) }
 {
@@ -38,7 +38,7 @@ fn push_hold(text: &mut Vec<u8>, draft: &Draft, row: Row) -> Result<(), AllocErr
     push_told(text, "@", u64::from(row.offset))
 }
 
-/// Appends the units that an operation holds, each behind a blank.
+/// Appends the units that an operation holds, each after a blank.
 fn push_holds(text: &mut Vec<u8>, draft: &Draft, rows: &[Row]) -> Result<(), AllocError>
     ensures ok { OnOk result (text.new.items ≡ text.old.items ++ flat_map (hold_text draft.now) rows.now) }
 {

@@ -6,12 +6,13 @@
 //! cycle 2 on, and it is read, and lives to the end of the second stage, at 4. `p` lives from 1 to 2 + 2 * 2 = 6. With `x` in
 //! register 0, `y_j` would meet `x_j` in register 0 and `x_(j+1)` in the last one, so it stands in register 1.
 
-use crate::{push_failed, push_outcome};
-use modulo::Culprit;
+use crate::{Missing, push_broken, push_failed, push_missing, push_ok, push_outcome};
+use graph::Edge;
+use modulo::{Breach, Culprit};
 use problems::{Draft, File, Hold, Kind, Label, Names, Problem, Value};
 use registers::Read;
 use settings::Settings;
-use solutions::{Cause, solve};
+use solutions::{Broken, Cause, Outcome, solve};
 use std::alloc::{AllocError, Global};
 use std::process::Abort;
 use std::test::Fail;
@@ -233,6 +234,142 @@ fn causes(rt: HostRuntime) -> Result<(), Fail> {
 # failed c at 7: stages: x at 450
 # d ops 2 res 2 rec 1 mii 2
 # failed d at 7: stages
+";
+    assert!(rt; text.as_slice() == &expected[..]);
+    Ok(())
+}
+
+#[test]
+fn a_solution_is_one(rt: HostRuntime) -> Result<(), Fail> {
+    let problem = problem(rt.alloc(), 4, 32, true)?;
+    let mut text = Vec::from_slice(rt.alloc(), b"# ")?;
+    match solve(rt.alloc(), &problem)? {
+        Outcome::Met(solution) => push_ok(&mut text, "sum", &solution)?,
+        Outcome::Failed(_) => return Err("a solution".into()),
+    }
+    assert!(rt; text.as_slice() == &b"# sum ok ii 2 stages 2\n"[..]);
+    Ok(())
+}
+
+/// One of each kind, and those whose texts differ by their numbers twice.
+const BROKEN: &[Broken] = &[
+    Broken::Interval,
+    Broken::Numbers,
+    Broken::Number(2),
+    Broken::Schedule(Breach::Count),
+    Broken::Schedule(Breach::Time(1)),
+    Broken::Schedule(Breach::Alternative(0)),
+    Broken::Schedule(Breach::Slot {
+        earlier: 0,
+        later: 1,
+        unit: 1,
+        residue: 6,
+    }),
+    Broken::Schedule(Breach::Slot {
+        earlier: 1,
+        later: 1,
+        unit: 0,
+        residue: 0,
+    }),
+    Broken::Schedule(Breach::Edge(
+        Edge {
+            from: 0,
+            to: 1,
+            distance: 2,
+            delay: -3,
+        },
+        5,
+    )),
+    Broken::Schedule(Breach::Edge(
+        Edge {
+            from: 1,
+            to: 0,
+            distance: 0,
+            delay: 64,
+        },
+        1,
+    )),
+    Broken::Schedule(Breach::Stage(1)),
+    Broken::Registers {
+        file: 0,
+        earlier: 0,
+        later: 1,
+        register: 3,
+        cycle: 12,
+    },
+    Broken::Registers {
+        file: 1,
+        earlier: 2,
+        later: 2,
+        register: 0,
+        cycle: 7,
+    },
+];
+
+/// Appends the lines of all that, for an interval that is one too long.
+fn push_all_broken(text: &mut Vec<u8>, draft: &Draft) -> Result<(), AllocError> {
+    for broken in BROKEN {
+        push_broken(text, "sum", draft, 16385, *broken)?;
+    }
+    Ok(())
+}
+
+#[test]
+fn what_is_broken(rt: HostRuntime) -> Result<(), Fail> {
+    let problem = problem(rt.alloc(), 4, 32, true)?;
+    let mut text = Vec::new(rt.alloc());
+    push_all_broken(&mut text, problem.draft())?;
+    let expected = b"sum broken: interval 16385 is not 1 to 16384
+sum broken: not one number for each value
+sum broken: the number of p is out of range
+sum broken: not one time for each operation
+sum broken: the time of y is out of range
+sum broken: x has no such alternative
+sum broken: x and y both hold v in row 6
+sum broken: y holds u twice in row 0
+sum broken: x to y with delay -3 and distance 2: 5 cycles too early
+sum broken: y to x with delay 64 and distance 0: 1 cycle too early
+sum broken: y is in stage 64 or later
+sum broken: x and y are both in r.3 in cycle 12
+sum broken: p meets a later instance of itself in m.0 in cycle 7
+";
+    assert!(rt; text.as_slice() == &expected[..]);
+    Ok(())
+}
+
+#[test]
+fn what_is_broken_without_names(rt: HostRuntime) -> Result<(), Fail> {
+    let problem = problem(rt.alloc(), 4, 32, false)?;
+    let mut text = Vec::new(rt.alloc());
+    push_all_broken(&mut text, problem.draft())?;
+    let expected = b"sum broken: interval 16385 is not 1 to 16384
+sum broken: not one number for each value
+sum broken: the number of 2 is out of range
+sum broken: not one time for each operation
+sum broken: the time of 1 is out of range
+sum broken: 0 has no such alternative
+sum broken: 0 and 1 both hold 1 in row 6
+sum broken: 1 holds 0 twice in row 0
+sum broken: 0 to 1 with delay -3 and distance 2: 5 cycles too early
+sum broken: 1 to 0 with delay 64 and distance 0: 1 cycle too early
+sum broken: 1 is in stage 64 or later
+sum broken: 0 and 1 are both in 0.3 in cycle 12
+sum broken: 2 meets a later instance of itself in 1.0 in cycle 7
+";
+    assert!(rt; text.as_slice() == &expected[..]);
+    Ok(())
+}
+
+#[test]
+fn what_is_missing(rt: HostRuntime) -> Result<(), Fail> {
+    let problem = problem(rt.alloc(), 4, 32, true)?;
+    let mut text = Vec::new(rt.alloc());
+    push_missing(&mut text, "a", problem.draft(), Missing::Solution)?;
+    push_missing(&mut text, "b", problem.draft(), Missing::Time(1))?;
+    push_missing(&mut text, "c", problem.draft(), Missing::Number(2))?;
+    let expected = b"a broken: no solution
+b broken: no time of y
+c broken: no number of p
 ";
     assert!(rt; text.as_slice() == &expected[..]);
     Ok(())

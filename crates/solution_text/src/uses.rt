@@ -87,7 +87,7 @@ fn push_write_registers(
     Ok(())
 }
 
-/// Takes back a head that nothing stands behind: it begins at `start` and ends at `end`.
+/// Takes back a head that nothing follows: it begins at `start` and ends at `end`.
 fn without_empty(text: &mut Vec<u8>, start: usize, end: usize)
     ensures { text.new.items ≡ (if length text.old.items == end then take start text.old.items else text.old.items) }
 {
@@ -96,7 +96,7 @@ fn without_empty(text: &mut Vec<u8>, start: usize, end: usize)
     }
 }
 
-/// Appends the registers that an operation of this stage reads, behind their head, where there are any.
+/// Appends the registers that an operation of this stage reads, after their head, where there are any.
 fn push_reads(
     text: &mut Vec<u8>,
     solution: &Solution,
@@ -115,7 +115,7 @@ fn push_reads(
     Ok(())
 }
 
-/// Appends the registers that an operation of this stage writes, behind a head, where there are any.
+/// Appends the registers that an operation of this stage writes, after a head, where there are any.
 fn push_writes(
     text: &mut Vec<u8>,
     solution: &Solution,
@@ -135,7 +135,7 @@ fn push_writes(
     Ok(())
 }
 
-/// How the registers that are written begin, behind those that are read, if there are any.
+/// How the registers that are written begin, after those that are read, if there are any.
 fn writes_head(some_read: bool) -> &'static str
     ensures { result.now ≡ (if some_read then codes ", writes" else codes "; writes") }
 {

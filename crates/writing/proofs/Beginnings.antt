@@ -1,4 +1,4 @@
--- What is left of texts that pieces were pushed behind, one after another.
+-- What is left of texts after which pieces were pushed, one after another.
 use Rattle.std.proofs.Common.{◌≡◌, ℕ, List, [], ◌++◌, refl, sym, ap, ◌∙◌, append_assoc}
 use Rattle.std.proofs.lemmas.List.{append-nil}
 use Rattle.writing.specs.Texts.{HasPart}
@@ -25,6 +25,6 @@ later_part old first second mid new whole h = record {
   is_text = h.is_text ∙ ap (λ t. t ++ h.part) whole ∙ append_assoc old first h.part;
 }
 
--- two pieces, one behind the other
+-- two pieces, one after the other
 pub two_pushed : (old first second mid new : List ℕ) → mid ≡ old ++ first → new ≡ mid ++ second → new ≡ old ++ (first ++ second)
 two_pushed old first second mid new a b = b ∙ ap (λ t. t ++ second) a ∙ append_assoc old first second

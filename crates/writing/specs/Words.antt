@@ -2,7 +2,7 @@
 use Rattle.std.specs.Prelude.{ℕ, zero, suc, ℤ, pos, negsuc, decimal, codes, List, ◌∷◌, ◌++◌}
 use Rattle.std.specs.Fmt.{signed_decimal}
 
--- a word, and a number behind it
+-- a word, then a number
 abbrev pub told : List ℕ → ℕ → List ℕ
 told word number = word ++ decimal number
 
@@ -15,7 +15,7 @@ abbrev pub with_sign : ℤ → List ℕ
 with_sign (pos n) = codes "+" ++ decimal n
 with_sign (negsuc n) = codes "-" ++ decimal (suc n)
 
--- a name, and behind an `@` a number above 0
+-- a name, and after an `@` a number above 0
 abbrev pub at : List ℕ → ℕ → List ℕ
 at name zero = name
 at name (suc d) = name ++ 64 ∷ decimal (suc d)
@@ -24,6 +24,6 @@ at name (suc d) = name ++ 64 ∷ decimal (suc d)
 abbrev pub ended : List ℕ → List ℕ
 ended piece = piece ++ codes "\n"
 
--- a word and a number behind it, ` met M failed F`, with a line feed
+-- a word, then a number, ` met M failed F`, with a line feed
 abbrev pub last_line : List ℕ → ℕ → ℕ → ℕ → List ℕ
 last_line word all met failed = ((told word all ++ told (codes " met ") met) ++ told (codes " failed ") failed) ++ codes "\n"

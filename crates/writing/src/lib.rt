@@ -1,4 +1,4 @@
-//! The parts of lines that texts are made of: words, numbers behind words, and last lines, each pushed behind a text.
+//! The parts of lines that texts are made of: words, numbers after words, and last lines, each pushed after a text.
 #![tactic(auto, using(crate::proofs::Beginnings::front_part, crate::proofs::Beginnings::later_part, crate::proofs::Beginnings::no_part))]
 
 mod lines;

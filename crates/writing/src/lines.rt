@@ -11,7 +11,7 @@ use std::alloc::AllocError;
 /// Pushes a piece and a line feed.
 ///
 /// # Errors
-/// [`AllocError`] where memory ran out. The text has the beginning of both behind it, or nothing of them.
+/// [`AllocError`] where memory ran out. The text has the beginning of both after it, or nothing of them.
 pub fn push_line<T: Text>(text: &mut T, piece: &str) -> Result<(), AllocError>
     ensures ok { OnOk result (T.bytes text.new ≡ T.bytes text.old ++ ended piece.now) }
     ensures err { OnErr result (HasPart (T.bytes text.old) (ended piece.now) (T.bytes text.new)) }
@@ -19,11 +19,11 @@ pub fn push_line<T: Text>(text: &mut T, piece: &str) -> Result<(), AllocError>
     push_both(text, piece, "\n")
 }
 
-/// Pushes the line that a text of many things ends with: how many there are, behind a word, how many are met and how many
+/// Pushes the line that a text of many things ends with: how many there are, after a word, how many are met and how many
 /// have failed.
 ///
 /// # Errors
-/// [`AllocError`] where memory ran out. The text has the beginning of the line behind it, or nothing of it.
+/// [`AllocError`] where memory ran out. The text has the beginning of the line after it, or nothing of it.
 pub fn push_last<T: Text>(
     text: &mut T,
     word: &str,

@@ -12,7 +12,7 @@ use std::alloc::AllocError;
 /// Pushes two pieces.
 ///
 /// # Errors
-/// [`AllocError`] where memory ran out. The text has the beginning of both behind it, or nothing of them.
+/// [`AllocError`] where memory ran out. The text has the beginning of both after it, or nothing of them.
 pub fn push_both<T: Text>(text: &mut T, first: &str, second: &str) -> Result<(), AllocError>
     ensures ok { OnOk result (T.bytes text.new ≡ T.bytes text.old ++ (first.now ++ second.now)) }
     ensures err { OnErr result (HasPart (T.bytes text.old) (first.now ++ second.now) (T.bytes text.new)) }
@@ -33,7 +33,7 @@ pub fn push_number<T: Text>(text: &mut T, number: u64) -> Result<(), AllocError>
     text.push_piece(digits.format(number))
 }
 
-/// Pushes a number in decimal digits, behind a `-` where it is negative.
+/// Pushes a number in decimal digits, after a `-` where it is negative.
 ///
 /// # Errors
 /// [`AllocError`] where memory ran out. The text is what it was.
@@ -45,10 +45,10 @@ pub fn push_integer<T: Text>(text: &mut T, number: i64) -> Result<(), AllocError
     text.push_piece(digits.format(number))
 }
 
-/// Pushes a word and a number behind it.
+/// Pushes a word, then a number.
 ///
 /// # Errors
-/// [`AllocError`] where memory ran out. The text has the beginning of both behind it, or nothing of them.
+/// [`AllocError`] where memory ran out. The text has the beginning of both after it, or nothing of them.
 pub fn push_told<T: Text>(text: &mut T, word: &str, number: u64) -> Result<(), AllocError>
     ensures ok { OnOk result (T.bytes text.new ≡ T.bytes text.old ++ told word.now number) }
     ensures err { OnErr result (HasPart (T.bytes text.old) (told word.now number) (T.bytes text.new)) }
@@ -57,10 +57,10 @@ pub fn push_told<T: Text>(text: &mut T, word: &str, number: u64) -> Result<(), A
     push_number(text, number)
 }
 
-/// Pushes a word and a number behind it that may be negative.
+/// Pushes a word, then a number that may be negative.
 ///
 /// # Errors
-/// [`AllocError`] where memory ran out. The text has the beginning of both behind it, or nothing of them.
+/// [`AllocError`] where memory ran out. The text has the beginning of both after it, or nothing of them.
 pub fn push_signed<T: Text>(text: &mut T, word: &str, number: i64) -> Result<(), AllocError>
     ensures ok { OnOk result (T.bytes text.new ≡ T.bytes text.old ++ told_signed word.now number) }
     ensures err { OnErr result (HasPart (T.bytes text.old) (told_signed word.now number) (T.bytes text.new)) }
@@ -69,10 +69,10 @@ pub fn push_signed<T: Text>(text: &mut T, word: &str, number: i64) -> Result<(),
     push_integer(text, number)
 }
 
-/// Pushes a number behind its sign, also where it isn't negative.
+/// Pushes a number after its sign, also where it isn't negative.
 ///
 /// # Errors
-/// [`AllocError`] where memory ran out. The text has the beginning of both behind it, or nothing of them.
+/// [`AllocError`] where memory ran out. The text has the beginning of both after it, or nothing of them.
 pub fn push_with_sign<T: Text>(text: &mut T, number: i64) -> Result<(), AllocError>
     ensures ok { OnOk result (T.bytes text.new ≡ T.bytes text.old ++ with_sign number) }
     ensures err { OnErr result (HasPart (T.bytes text.old) (with_sign number) (T.bytes text.new)) }
@@ -81,10 +81,10 @@ pub fn push_with_sign<T: Text>(text: &mut T, number: i64) -> Result<(), AllocErr
     push_told(text, sign, number.unsigned_abs())
 }
 
-/// Pushes a name and, where the number isn't 0, an `@` and the number behind it.
+/// Pushes a name and, where the number isn't 0, an `@`, then the number.
 ///
 /// # Errors
-/// [`AllocError`] where memory ran out. The text has the beginning of all behind it, or nothing of it.
+/// [`AllocError`] where memory ran out. The text has the beginning of all after it, or nothing of it.
 pub fn push_at<T: Text>(text: &mut T, name: &str, number: u64) -> Result<(), AllocError>
     ensures ok { OnOk result (T.bytes text.new ≡ T.bytes text.old ++ at name.now number) }
     ensures err { OnErr result (HasPart (T.bytes text.old) (at name.now number) (T.bytes text.new)) }

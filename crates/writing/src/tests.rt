@@ -4,7 +4,7 @@ use crate::{
 };
 use std::alloc::AllocError;
 
-/// Each call once behind `a`, onto one text.
+/// Each call once after `a`, onto one text.
 fn push_all<T: Text>(text: &mut T) -> Result<(), AllocError> {
     text.push_piece("a")?;
     push_both(text, "b", " c")?;

@@ -1,4 +1,4 @@
-//! Texts that pieces are pushed behind.
+//! Texts that grow by pieces at their end.
 
 ghost use Rattle.std.specs.Prelude.{◌≡◌, ℕ, List, ◌++◌, OnOk, OnErr};
 
@@ -9,7 +9,7 @@ pub trait Text {
     /// The bytes of the text.
     ghost bytes: { Self → List ℕ };
 
-    /// Pushes a piece behind the text.
+    /// Pushes a piece after the text.
     ///
     /// # Errors
     /// [`AllocError`] where memory ran out. The text is what it was.

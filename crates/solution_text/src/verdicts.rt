@@ -1,0 +1,279 @@
+//! What a check says of a problem, in one line: that a solution is one, what it breaks first, or what it lacks.
+
+ghost use Rattle.std.specs.Prelude.{◌≡◌, ◌++◌, codes, OnOk};
+ghost use Rattle.writing.specs.Words.{told, told_signed};
+ghost use Rattle.solution_text.specs.Names.{op_name, value_name};
+ghost use Rattle.solution_text.specs.Verdicts.{breach_text, broken_line, broken_text, early_text, edge_text, holders_text, meeting_text, missing_text, ok_line, registers_text};
+
+use crate::named::{Register, push_register};
+use crate::names::{push_op_name, push_unit_name, push_value_name};
+use graph::Edge;
+use modulo::Breach;
+use problems::Draft;
+use solutions::{Broken, Solution};
+use std::alloc::AllocError;
+use writing::{Text, push_both, push_signed, push_told};
+
+/// What a text of solutions lacks of a problem's solution. Numbers count from 0.
+#[derive(Clone, Copy, Debug, PartialEq, Eq)]
+pub enum Missing {
+    /// It has no solution of the problem.
+    Solution,
+    /// The solution has no time of this operation.
+    Time(usize),
+    /// The solution has no number of this value.
+    Number(usize),
+}
+
+/// Appends what one or two operations hold at once.
+fn push_holders(
+    text: &mut Vec<u8>,
+    draft: &Draft,
+    earlier: usize,
+    later: usize,
+    unit: usize,
+) -> Result<(), AllocError>
+    ensures ok { OnOk result (text.new.items ≡ text.old.items ++ holders_text draft.now earlier later unit) }
+{
+    if earlier == later {
+        push_op_name(text, draft, later)?;
+        text.push_piece(" holds ")?;
+        push_unit_name(text, draft, unit)?;
+        return text.push_piece(" twice");
+    }
+    push_op_name(text, draft, earlier)?;
+    text.push_piece(" and ")?;
+    push_op_name(text, draft, later)?;
+    text.push_piece(" both hold ")?;
+    push_unit_name(text, draft, unit)
+}
+
+/// Appends the delay of an edge.
+fn push_delay(text: &mut Vec<u8>, delay: i8) -> Result<(), AllocError>
+    ensures ok { OnOk result (text.new.items ≡ text.old.items ++ told_signed (codes " with delay ") delay) }
+{
+    push_signed(text, " with delay ", i64::from(delay))
+}
+
+/// Appends an edge.
+fn push_edge(text: &mut Vec<u8>, draft: &Draft, edge: Edge) -> Result<(), AllocError>
+    ensures ok { OnOk result (text.new.items ≡ text.old.items ++ edge_text draft.now edge) }
+{
+    push_op_name(text, draft, usize::from(edge.from))?;
+    text.push_piece(" to ")?;
+    push_op_name(text, draft, usize::from(edge.to))?;
+    push_delay(text, edge.delay)?;
+    push_told(text, " and distance ", u64::from(edge.distance))
+}
+
+/// Appends by how many cycles an operation is too early.
+fn push_early(text: &mut Vec<u8>, cycles: u64) -> Result<(), AllocError>
+    ensures ok { OnOk result (text.new.items ≡ text.old.items ++ early_text cycles) }
+{
+    push_told(text, ": ", cycles)?;
+    if cycles == 1 {
+        return text.push_piece(" cycle too early");
+    }
+    text.push_piece(" cycles too early")
+}
+
+/// Appends that the time of an operation is out of range.
+fn push_time(text: &mut Vec<u8>, draft: &Draft, op: usize) -> Result<(), AllocError>
+    ensures ok { OnOk result (text.new.items ≡ text.old.items ++ ((codes "the time of " ++ op_name draft.now op) ++ codes " is out of range")) }
+{
+    text.push_piece("the time of ")?;
+    push_op_name(text, draft, op)?;
+    text.push_piece(" is out of range")
+}
+
+/// Appends an operation, then what is wrong with it.
+fn push_wrong(text: &mut Vec<u8>, draft: &Draft, op: usize, wrong: &str) -> Result<(), AllocError>
+    ensures ok { OnOk result (text.new.items ≡ text.old.items ++ (op_name draft.now op ++ wrong.now)) }
+{
+    push_op_name(text, draft, op)?;
+    text.push_piece(wrong)
+}
+
+/// Appends what places break, where they are no schedule.
+fn push_breach(text: &mut Vec<u8>, draft: &Draft, breach: Breach) -> Result<(), AllocError>
+    ensures ok { OnOk result (text.new.items ≡ text.old.items ++ breach_text draft.now breach) }
+{
+    match breach {
+        Breach::Count => text.push_piece("not one time for each operation"),
+        Breach::Time(op) => push_time(text, draft, op),
+        Breach::Alternative(op) => push_wrong(text, draft, op, " has no such alternative"),
+        Breach::Slot {
+            earlier,
+            later,
+            unit,
+            residue,
+        } => {
+            push_holders(text, draft, earlier, later, unit)?;
+            push_told(text, " in row ", residue)
+        }
+        Breach::Edge(edge, early) => {
+            push_edge(text, draft, edge)?;
+            push_early(text, early)
+        }
+        Breach::Stage(op) => push_wrong(text, draft, op, " is in stage 64 or later"),
+    }
+}
+
+/// Appends the two values that meet, or the one that meets itself.
+fn push_meeting(
+    text: &mut Vec<u8>,
+    draft: &Draft,
+    earlier: usize,
+    later: usize,
+) -> Result<(), AllocError>
+    ensures ok { OnOk result (text.new.items ≡ text.old.items ++ meeting_text draft.now earlier later) }
+{
+    if earlier == later {
+        push_value_name(text, draft, later)?;
+        return text.push_piece(" meets a later instance of itself");
+    }
+    push_value_name(text, draft, earlier)?;
+    text.push_piece(" and ")?;
+    push_value_name(text, draft, later)?;
+    text.push_piece(" are both")
+}
+
+/// Appends which values meet, where and when.
+fn push_registers(
+    text: &mut Vec<u8>,
+    draft: &Draft,
+    earlier: usize,
+    later: usize,
+    register: Register,
+    cycle: u64,
+) -> Result<(), AllocError>
+    ensures ok { OnOk result (text.new.items ≡ text.old.items ++ registers_text draft.now earlier later register cycle) }
+{
+    push_meeting(text, draft, earlier, later)?;
+    text.push_piece(" in ")?;
+    push_register(text, draft, register)?;
+    push_told(text, " in cycle ", cycle)
+}
+
+/// Appends that the interval is out of range.
+fn push_interval(text: &mut Vec<u8>, ii: u64) -> Result<(), AllocError>
+    ensures ok { OnOk result (text.new.items ≡ text.old.items ++ (told (codes "interval ") ii ++ codes " is not 1 to 16384")) }
+{
+    push_told(text, "interval ", ii)?;
+    text.push_piece(" is not 1 to 16384")
+}
+
+/// Appends that the number of a value is out of range.
+fn push_wrong_number(text: &mut Vec<u8>, draft: &Draft, value: usize) -> Result<(), AllocError>
+    ensures ok { OnOk result (text.new.items ≡ text.old.items ++ ((codes "the number of " ++ value_name draft.now value) ++ codes " is out of range")) }
+{
+    text.push_piece("the number of ")?;
+    push_value_name(text, draft, value)?;
+    text.push_piece(" is out of range")
+}
+
+/// Appends what is broken.
+fn push_what(text: &mut Vec<u8>, draft: &Draft, ii: u64, broken: Broken) -> Result<(), AllocError>
+    ensures ok { OnOk result (text.new.items ≡ text.old.items ++ broken_text draft.now ii broken) }
+{
+    match broken {
+        Broken::Interval => push_interval(text, ii),
+        Broken::Numbers => text.push_piece("not one number for each value"),
+        Broken::Number(value) => push_wrong_number(text, draft, value),
+        Broken::Schedule(breach) => push_breach(text, draft, breach),
+        Broken::Registers {
+            file,
+            earlier,
+            later,
+            register,
+            cycle,
+        } => {
+            let number = register;
+            push_registers(
+                text,
+                draft,
+                earlier,
+                later,
+                Register { file, number },
+                cycle,
+            )
+        }
+    }
+}
+
+/// Appends that an operation has no time.
+fn push_no_time(text: &mut Vec<u8>, draft: &Draft, op: usize) -> Result<(), AllocError>
+    ensures ok { OnOk result (text.new.items ≡ text.old.items ++ (codes "no time of " ++ op_name draft.now op)) }
+{
+    text.push_piece("no time of ")?;
+    push_op_name(text, draft, op)
+}
+
+/// Appends that a value has no number.
+fn push_no_number(text: &mut Vec<u8>, draft: &Draft, value: usize) -> Result<(), AllocError>
+    ensures ok { OnOk result (text.new.items ≡ text.old.items ++ (codes "no number of " ++ value_name draft.now value)) }
+{
+    text.push_piece("no number of ")?;
+    push_value_name(text, draft, value)
+}
+
+/// Appends what is missing.
+fn push_lacking(text: &mut Vec<u8>, draft: &Draft, missing: Missing) -> Result<(), AllocError>
+    ensures ok { OnOk result (text.new.items ≡ text.old.items ++ missing_text draft.now missing) }
+{
+    match missing {
+        Missing::Solution => text.push_piece("no solution"),
+        Missing::Time(op) => push_no_time(text, draft, op),
+        Missing::Number(value) => push_no_number(text, draft, value),
+    }
+}
+
+/// Appends the line of a problem whose solution is one: its interval in cycles, and its stages.
+///
+/// # Errors
+/// [`AllocError`] where memory ran out. The text is left with a part of the line.
+pub fn push_ok(text: &mut Vec<u8>, name: &str, solution: &Solution) -> Result<(), AllocError>
+    ensures ok { OnOk result (text.new.items ≡ text.old.items ++ ok_line name.now solution.now) }
+{
+    text.push_piece(name)?;
+    push_told(text, " ok ii ", solution.ii())?;
+    push_told(text, " stages ", solution.stages())?;
+    text.push_piece("\n")
+}
+
+/// Appends the line of a problem for which lists are no solution at an interval, with what they break first. A part of the
+/// problem that has no name is told by its number.
+///
+/// # Errors
+/// [`AllocError`] where memory ran out. The text is left with a part of the line.
+pub fn push_broken(
+    text: &mut Vec<u8>,
+    name: &str,
+    draft: &Draft,
+    ii: u64,
+    broken: Broken,
+) -> Result<(), AllocError>
+    ensures ok { OnOk result (text.new.items ≡ text.old.items ++ broken_line name.now (broken_text draft.now ii broken)) }
+{
+    push_both(text, name, " broken: ")?;
+    push_what(text, draft, ii, broken)?;
+    text.push_piece("\n")
+}
+
+/// Appends the line of a problem whose solution is not there, or not whole, with what is missing. A part of the problem that
+/// has no name is told by its number.
+///
+/// # Errors
+/// [`AllocError`] where memory ran out. The text is left with a part of the line.
+pub fn push_missing(
+    text: &mut Vec<u8>,
+    name: &str,
+    draft: &Draft,
+    missing: Missing,
+) -> Result<(), AllocError>
+    ensures ok { OnOk result (text.new.items ≡ text.old.items ++ broken_line name.now (missing_text draft.now missing)) }
+{
+    push_both(text, name, " broken: ")?;
+    push_lacking(text, draft, missing)?;
+    text.push_piece("\n")
+}
