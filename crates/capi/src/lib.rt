@@ -13,6 +13,9 @@ mod answer;
 mod checking;
 mod drafting;
 mod given;
+mod tasks;
+mod telling;
+mod texts;
 mod verdict;
 
 pub use answer::{Answer, FaultNumbers};
@@ -25,6 +28,11 @@ use problems::Refusal;
 use settings::Settings;
 use solutions::{Outcome, Solution, solve};
 use std::alloc::Global;
+pub use telling::Told;
+pub use texts::{
+    modsched_bounds, modsched_dot, modsched_edges, modsched_explain, modsched_json, modsched_plain,
+    modsched_run, modsched_schedule,
+};
 pub use verdict::Verdict;
 
 /// Solves a problem, with at most `ratio` placements for each operation and interval, 1 to 64, and at most `ceiling`
