@@ -1,6 +1,5 @@
 //! What calls with texts print, by the calling thread alone.
 
-ghost use Rattle.std.specs.Prelude.{◌≡◌};
 ghost use Rattle.machine.specs.MachineText.{machine_of};
 ghost use Rattle.loops.specs.Meaning.{loops_in};
 ghost use Rattle.file_faults.specs.Answers.{AnswersAlone, AnswersFile};

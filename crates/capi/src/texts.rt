@@ -175,7 +175,7 @@ pub extern "C" fn modsched_dot(
 }
 
 /// Which setting is out of its range, and 0 where none is.
-fn search_misfit(ratio: u64, ceiling: u64) -> u64
+pub(crate) fn search_misfit(ratio: u64, ceiling: u64) -> u64
     ensures { result ≡ search_misfit ratio ceiling }
 {
     if ratio < 1 || ratio > MAX_RATIO {
