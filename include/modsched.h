@@ -83,36 +83,57 @@ struct modsched_problem {
     size_t orders_count; /* 0 to 16,384 */
 };
 
+/* Kinds of faults of a problem, with what `first`, `second` and `third` of struct modsched_fault then are. (2 and 3 are about names,
+ * which this interface does not have.) */
+enum {
+    MODSCHED_FAULT_COUNT = 1,            /* a count is out of range: the count (its part is `part`) */
+    MODSCHED_FAULT_REGISTERS = 4,        /* the registers of a file are not 1 to 256: file */
+    MODSCHED_FAULT_LATENCY = 5,          /* the latency of a kind is not 1 to 64: kind */
+    MODSCHED_FAULT_ALTERNATIVES = 6,     /* the alternatives of a kind are not 1 to 16: kind */
+    MODSCHED_FAULT_HOLDS = 7,            /* the holds of an alternative are not 1 to 16: kind, alternative */
+    MODSCHED_FAULT_UNIT = 8,             /* no such unit: kind, alternative, hold */
+    MODSCHED_FAULT_HOLD_OFFSET = 9,      /* the offset of a hold is above 63: kind, alternative, hold */
+    MODSCHED_FAULT_REPEATED_HOLD = 10,   /* a hold is the same as one before it: kind, alternative, hold */
+    MODSCHED_FAULT_KIND = 11,            /* no such kind: operation */
+    MODSCHED_FAULT_MAKER = 12,           /* no such operation to make it: value */
+    MODSCHED_FAULT_LANDS = 13,           /* it lands more than 64 cycles after the issue: value */
+    MODSCHED_FAULT_FILE = 14,            /* no such register file: value */
+    MODSCHED_FAULT_VALUE = 15,           /* no such value: read */
+    MODSCHED_FAULT_READER = 16,          /* no such operation to read it: read */
+    MODSCHED_FAULT_READ_DISTANCE = 17,   /* the distance is above 16: read */
+    MODSCHED_FAULT_READ_OFFSET = 18,     /* the offset is above 63: read */
+    MODSCHED_FAULT_READ_BACKWARD = 19,   /* at distance 0 the maker does not come before the reader: read */
+    MODSCHED_FAULT_FROM = 20,            /* no such operation to come first: order */
+    MODSCHED_FAULT_TO = 21,              /* no such operation to wait: order */
+    MODSCHED_FAULT_DELAY = 22,           /* the delay is not -64 to 64: order */
+    MODSCHED_FAULT_ORDER_DISTANCE = 23,  /* the distance is above 255: order */
+    MODSCHED_FAULT_ORDER_BACKWARD = 24   /* at distance 0 the first operation does not come before the second: order */
+};
+
 /* What is wrong with a problem: the first thing that is. Counts come first, then the parts in the order of the struct. */
 struct modsched_fault {
-    uint64_t kind; /* 0 for none, else one of these, with what `first`, `second` and `third` then are:
-        1 a count is out of range: the count (its part is `part`)
-        2, 3 about names, which this interface does not have
-        4 the registers of a file are not 1 to 256: file
-        5 the latency of a kind is not 1 to 64: kind
-        6 the alternatives of a kind are not 1 to 16: kind
-        7 the holds of an alternative are not 1 to 16: kind, alternative
-        8 no such unit: kind, alternative, hold
-        9 the offset of a hold is above 63: kind, alternative, hold
-        10 a hold is the same as one before it: kind, alternative, hold
-        11 no such kind: operation
-        12 no such operation to make it: value
-        13 it lands more than 64 cycles after the issue: value
-        14 no such register file: value
-        15 no such value: read
-        16 no such operation to read it: read
-        17 the distance is above 16: read
-        18 the offset is above 63: read
-        19 at distance 0 the maker does not come before the reader: read
-        20 no such operation to come first: order
-        21 no such operation to wait: order
-        22 the delay is not -64 to 64: order
-        23 the distance is above 255: order
-        24 at distance 0 the first operation does not come before the second: order */
-    uint64_t part; /* with kind 1: 1 units, 2 files, 3 kinds, 4 operations, 5 values, 6 reads, 7 orders */
+    uint64_t kind; /* 0 for none */
+    uint64_t part; /* with MODSCHED_FAULT_COUNT: 1 units, 2 files, 3 kinds, 4 operations, 5 values, 6 reads, 7 orders */
     uint64_t first;
     uint64_t second;
     uint64_t third;
+};
+
+/* Why an interval gives no schedule. */
+enum {
+    MODSCHED_CAUSE_TABLE = 1,    /* all alternatives of an operation collide with themselves */
+    MODSCHED_CAUSE_BUDGET = 2,   /* the placements of the budget are used up */
+    MODSCHED_CAUSE_STAGES = 3,   /* an operation is in stage 64 or later */
+    MODSCHED_CAUSE_REGISTERS = 4 /* no register is left */
+};
+
+/* Which argument of modsched_solve does not fit. */
+enum {
+    MODSCHED_MISFIT_RATIO = 1,
+    MODSCHED_MISFIT_CEILING = 2,
+    MODSCHED_MISFIT_TIMES = 3,        /* there are fewer than operations */
+    MODSCHED_MISFIT_ALTERNATIVES = 4, /* there are fewer than operations */
+    MODSCHED_MISFIT_NUMBERS = 5       /* there are fewer than values */
 };
 
 /* What a call tells beside the schedule. What does not belong to its status is 0. */
@@ -122,11 +143,10 @@ struct modsched_answer {
     uint64_t mii;      /* status 0 and 1: the least interval that is tried, the greater one of the next two */
     uint64_t resources;   /* status 0 and 1: the bound by the units */
     uint64_t recurrences; /* status 0 and 1: the bound by the recurrences */
-    uint64_t cause; /* status 1: why the last interval gives no schedule: 1 all alternatives of an operation collide with themselves,
-                       2 the placements of the budget are used up, 3 an operation is in stage 64 or later, 4 no register is left */
-    uint64_t file;  /* cause 4: the register file */
-    uint64_t value; /* cause 4: its first value that has no register */
-    uint64_t misfit; /* status 2: 1 the ratio, 2 the ceiling, 3 too few times, 4 too few alternatives, 5 too few numbers */
+    uint64_t cause;  /* status 1: why the last interval gives no schedule, MODSCHED_CAUSE_.. */
+    uint64_t file;   /* MODSCHED_CAUSE_REGISTERS: the register file */
+    uint64_t value;  /* MODSCHED_CAUSE_REGISTERS: its first value that has no register */
+    uint64_t misfit; /* status 2: MODSCHED_MISFIT_.. */
     struct modsched_fault fault; /* status 5 */
 };
 
@@ -151,19 +171,23 @@ uint32_t modsched_solve(const struct modsched_problem *problem, uint64_t ratio, 
                         size_t times_count, uint64_t *alternatives, size_t alternatives_count, uint64_t *numbers,
                         size_t numbers_count, struct modsched_answer *answer);
 
+/* What a schedule breaks, in this order: where it breaks several, the first is told. `residue` is a cycle modulo the interval. */
+enum {
+    MODSCHED_BREAK_INTERVAL = 1,     /* the interval is not 1 to 16,384 */
+    MODSCHED_BREAK_NUMBER_COUNT = 2, /* there is not one number for each value */
+    MODSCHED_BREAK_NUMBER = 3,       /* the number of `value` is not below the registers of its file, or not 0 where the file has none */
+    MODSCHED_BREAK_TIME_COUNT = 4,   /* there is not one time for each operation */
+    MODSCHED_BREAK_TIME = 5,         /* the time of `operation` is above 1,048,575 */
+    MODSCHED_BREAK_ALTERNATIVE = 6,  /* `operation` has no such alternative */
+    MODSCHED_BREAK_SLOT = 7,         /* `operation` takes a slot, `unit` at `residue`, that `earlier` has; both may be the same one */
+    MODSCHED_BREAK_EDGE = 8,         /* t(to) + interval * distance is `early` cycles below t(from) + delay */
+    MODSCHED_BREAK_STAGE = 9,        /* `operation` is in stage 64 or later */
+    MODSCHED_BREAK_REGISTER = 10     /* instances of the values `other` and `value`, or two of one, stand in one register of `file` in `cycle` */
+};
+
 /* What a check tells. What does not belong to its status and kind is 0. */
 struct modsched_verdict {
-    uint64_t kind; /* status 1: what is broken first, in this order:
-        1 the interval is not 1 to 16,384
-        2 there is not one number for each value
-        3 the number of `value` is not below the registers of its file, or not 0 where the file has none
-        4 there is not one time for each operation
-        5 the time of `operation` is above 1,048,575
-        6 `operation` has no such alternative
-        7 `operation` takes a slot that `earlier` has, or itself: `unit` and `residue`, its cycle modulo the interval
-        8 an edge is not kept: t(to) + interval * distance is `early` cycles below t(from) + delay
-        9 `operation` is in stage 64 or later
-        10 instances of the values `other` and `value`, or two of one, stand in one register of `file` in `cycle` */
+    uint64_t kind;   /* status 1: what is broken first, MODSCHED_BREAK_.. */
     uint64_t stages; /* status 0: how many, 1 to 64 */
     uint64_t operation;
     uint64_t earlier;

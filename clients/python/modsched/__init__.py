@@ -2,17 +2,24 @@
 prints of the texts of a machine and of loops is had by `schedule`, `json`, `explain`, `run`, `plain`, `bounds`, `edges` and `dot` of a Library.
 
     taps = Problem()
-    taps.unit("port"); taps.file("ring", 16)
+    taps.unit("port")
+    taps.file("ring", 16)
     taps.kind("load", 3, [[("port", 0)]])
     taps.operation("first", "load")
     taps.value("x", "first", 3, "ring")
-    schedule = Library("out/libmodsched.so").solve(taps)
+    library = Library("out/libmodsched.so")
+    schedule = library.solve(taps)
+    stages = library.check(taps, schedule)
 """
 from __future__ import annotations
 
 import ctypes
 from dataclasses import dataclass, field
-from typing import NamedTuple, Sequence
+from typing import Any, Collection, Mapping, NamedTuple, Sequence
+
+from .words import break_in_words, fault_in_words
+
+__all__ = ["AtFault", "Broken", "Library", "NoInterval", "Printed", "Problem", "Refused", "Schedule"]
 
 u32, u64, size = ctypes.c_uint32, ctypes.c_uint64, ctypes.c_size_t
 
@@ -41,12 +48,13 @@ class _Order(ctypes.Structure):
     _fields_ = [("first", u32), ("to", u32), ("delay", ctypes.c_int32), ("distance", u32)]
 
 
+_PARTS: list[tuple[str, Any]] = [
+    ("files", u32), ("kinds", _Kind), ("operations", u32), ("values", _Value), ("reads", _Read), ("orders", _Order),
+]
+
+
 class _Problem(ctypes.Structure):
-    _fields_ = [("units", u64)] + [
-        pair
-        for name, item in [("files", u32), ("kinds", _Kind), ("operations", u32), ("values", _Value), ("reads", _Read), ("orders", _Order)]
-        for pair in [(name, ctypes.POINTER(item)), (f"{name}_count", size)]
-    ]
+    _fields_ = [("units", u64), *(pair for name, item in _PARTS for pair in [(name, ctypes.POINTER(item)), (f"{name}_count", size)])]
 
 
 class _Fault(ctypes.Structure):
@@ -54,15 +62,21 @@ class _Fault(ctypes.Structure):
 
 
 class _Answer(ctypes.Structure):
-    _fields_ = [(name, u64) for name in ("interval", "stages", "mii", "resources", "recurrences", "cause", "file", "value", "misfit")]
-    _fields_ += [("fault", _Fault)]
+    _fields_ = [
+        *((name, u64) for name in ("interval", "stages", "mii", "resources", "recurrences", "cause", "file", "value", "misfit")),
+        ("fault", _Fault),
+    ]
+
+
+# What a verdict tells of a break. (`from` is no name in Python.)
+_BROKEN = "operation earlier unit residue first to distance delay early value other file register_number cycle".split()
 
 
 class _Verdict(ctypes.Structure):
     _fields_ = [
-        (name, ctypes.c_int64 if name == "delay" else u64)
-        for name in "kind stages operation earlier unit residue first to distance delay early value other file register cycle misfit".split()
-    ] + [("fault", _Fault)]
+        *((name, ctypes.c_int64 if name == "delay" else u64) for name in ("kind", "stages", *_BROKEN, "misfit")),
+        ("fault", _Fault),
+    ]
 
 
 class _Told(ctypes.Structure):
@@ -86,10 +100,11 @@ class Refused(Exception):
 
 
 class Broken(Exception):
-    """A schedule is not lawful: the number of the kind of break, from 1, and its numbers by the names of modsched.h."""
+    """A schedule is not lawful: what is broken first, in words; the number of its kind, from 1, and its numbers by the names of modsched.h, but `first` for
+    `from`."""
 
-    def __init__(self, kind: int, numbers: dict[str, int]):
-        super().__init__(f"the schedule is broken, kind {kind}, at {numbers}")
+    def __init__(self, words: str, kind: int, numbers: Mapping[str, int]):
+        super().__init__(words)
         self.kind, self.numbers = kind, numbers
 
 
@@ -103,10 +118,11 @@ class NoInterval(Exception):
 
 
 class AtFault(Exception):
-    """The problem is at fault: the number of the kind of fault, that of the part, and up to three numbers, as in modsched.h."""
+    """The problem is at fault: what is wrong first, in words; the number of the kind of fault, that of the part, and up to three numbers, as in
+    modsched.h."""
 
-    def __init__(self, kind: int, part: int, numbers: tuple[int, int, int]):
-        super().__init__(f"fault {kind} of the problem, part {part}, at {numbers}")
+    def __init__(self, words: str, kind: int, part: int, numbers: tuple[int, int, int]):
+        super().__init__(words)
         self.kind, self.part, self.numbers = kind, part, numbers
 
 
@@ -130,9 +146,19 @@ def _number(names: Sequence[str], name: str) -> int:
     return names.index(name)
 
 
-def _array(item: type, items: list) -> ctypes.Array:
+def _array(item: Any, items: Sequence[Any]) -> Any:
     """An array with a valid pointer also where it has no items."""
     return (item * max(len(items), 1))(*items)
+
+
+def _unsigned(number: int, bits: int = 32) -> int:
+    """The number, or the greatest of so many bits, which is above each limit, where it has not got so many. (ctypes would drop the bits above.)"""
+    return number if 0 <= number < 1 << bits else (1 << bits) - 1
+
+
+def _signed(number: int) -> int:
+    """The number, or one of 32 bits that is below or above each limit."""
+    return max(-(1 << 31), min(number, (1 << 31) - 1))
 
 
 @dataclass
@@ -149,7 +175,7 @@ class Problem:
     orders: list[tuple[int, int, int, int]] = field(default_factory=list)
 
     @staticmethod
-    def _new(names, name: str) -> None:
+    def _new(names: Collection[str], name: str) -> None:
         if name in names:
             raise ValueError(f"{name} is there already")
 
@@ -187,29 +213,40 @@ class Problem:
         names = list(self.operations)
         self.orders.append((_number(names, first), _number(names, to), delay, distance))
 
-    def _given(self) -> _Problem:
-        def kind(latency: int, alternatives: list[list[tuple[int, int]]]) -> _Kind:
-            rows = [_Alternative(_array(_Hold, [_Hold(*it) for it in holds]), len(holds)) for holds in alternatives]
-            return _Kind(latency, _array(_Alternative, rows), len(rows))
+    def _names(self) -> dict[str, list[str]]:
+        """The names of each sort, by their numbers."""
+        return {"unit": self.units, "file": [*self.files], "kind": [*self.kinds], "operation": [*self.operations], "value": [*self.values]}
 
-        parts = [
-            (u32, list(self.files.values())),
+    def _given(self) -> _Problem:
+        def alternative(holds: list[tuple[int, int]]) -> _Alternative:
+            return _Alternative(_array(_Hold, [_Hold(*map(_unsigned, it)) for it in holds]), len(holds))
+
+        def kind(latency: int, alternatives: list[list[tuple[int, int]]]) -> _Kind:
+            return _Kind(_unsigned(latency, 64), _array(_Alternative, [*map(alternative, alternatives)]), len(alternatives))
+
+        parts: list[tuple[Any, list[Any]]] = [
+            (u32, [*map(_unsigned, self.files.values())]),
             (_Kind, [kind(*it) for it in self.kinds.values()]),
-            (u32, list(self.operations.values())),
-            (_Value, [_Value(*it) for it in self.values.values()]),
-            (_Read, [_Read(*it) for it in self.reads]),
-            (_Order, [_Order(*it) for it in self.orders]),
+            (u32, [*map(_unsigned, self.operations.values())]),
+            (_Value, [_Value(*map(_unsigned, it)) for it in self.values.values()]),
+            (_Read, [_Read(*map(_unsigned, it)) for it in self.reads]),
+            (_Order, [_Order(_unsigned(first), _unsigned(to), _signed(delay), _unsigned(distance)) for first, to, delay, distance in self.orders]),
         ]
         return _Problem(len(self.units), *(it for item, items in parts for it in (_array(item, items), len(items))))
 
 
-class Library:
-    """The library at a path."""
+def _at_fault(problem: Problem, fault: _Fault) -> AtFault:
+    numbers = (fault.first, fault.second, fault.third)
+    return AtFault(fault_in_words(problem._names(), fault.kind, fault.part, numbers), fault.kind, fault.part, numbers)
 
-    def __init__(self, path: str):
+
+class Library:
+    """The library at a path, or of this name where the system finds it. Any number of threads may call it at once."""
+
+    def __init__(self, path: str = "libmodsched.so.0"):
         library = ctypes.CDLL(path)
         self._solve, self._check = library.modsched_solve, library.modsched_check
-        array = [ctypes.POINTER(u64), size]
+        array: list[Any] = [ctypes.POINTER(u64), size]
         self._solve.argtypes = [ctypes.POINTER(_Problem), u64, u64, *array, *array, *array, ctypes.POINTER(_Answer)]
         self._check.argtypes = [ctypes.POINTER(_Problem), u64, *array, *array, *array, ctypes.POINTER(_Verdict)]
         self._solve.restype = self._check.restype = u32
@@ -274,27 +311,35 @@ class Library:
         return self._printed("dot", (machine, loops))
 
     def check(self, problem: Problem, schedule: Schedule) -> int:
-        """How many stages a lawful schedule has. Raises Broken, AtFault or MemoryError."""
-        lists = [[of[name] for name in names] for of, names in (
-            (schedule.times, problem.operations), (schedule.alternatives, problem.operations), (schedule.numbers, problem.values))]
+        """How many stages a lawful schedule has, from wherever it comes; of it the interval, times, alternatives and numbers are looked at. Raises Broken,
+        AtFault, MemoryError, or KeyError where the schedule lacks an operation or a value."""
+        def numbers_of(names: Collection[str], told: Mapping[str, int]) -> list[Any]:
+            return [_array(u64, [_unsigned(told[name], 64) for name in names]), len(names)]
+
         verdict, given = _Verdict(), problem._given()
-        status = self._check(given, schedule.interval, *(it for xs in lists for it in (_array(u64, xs), len(xs))), verdict)
+        arrays = [
+            *numbers_of(problem.operations, schedule.times),
+            *numbers_of(problem.operations, schedule.alternatives),
+            *numbers_of(problem.values, schedule.numbers),
+        ]
+        status = self._check(given, _unsigned(schedule.interval, 64), *arrays, verdict)
         if status == 0:
-            return verdict.stages
+            return int(verdict.stages)
         if status == 1:
-            raise Broken(verdict.kind, {name: getattr(verdict, name) for name, _ in _Verdict._fields_[2:-2]})
+            numbers = {name: getattr(verdict, name) for name in _BROKEN}
+            raise Broken(break_in_words(problem._names(), verdict.kind, numbers), verdict.kind, numbers)
         if status == 5:
-            fault = verdict.fault
-            raise AtFault(fault.kind, fault.part, (fault.first, fault.second, fault.third))
+            raise _at_fault(problem, verdict.fault)
         raise MemoryError
 
     def solve(self, problem: Problem, ratio: int = 6, ceiling: int = 64) -> Schedule:
-        """The schedule of the least interval that works. Raises NoInterval, AtFault, ValueError for a setting that is out of its
-        range, or MemoryError."""
+        """The schedule of the least interval that works, from the greater bound to `ceiling` (0 to 255) above it, each tried with at most `ratio` (1 to 64)
+        placements for each operation. Raises NoInterval, AtFault, ValueError for a setting that is out of its range, or MemoryError."""
         operations, values = len(problem.operations), len(problem.values)
         times, choices, numbers = ((u64 * max(it, 1))() for it in (operations, operations, values))
         answer, given = _Answer(), problem._given()
-        status = self._solve(given, ratio, ceiling, times, operations, choices, operations, numbers, values, answer)
+        settings = _unsigned(ratio, 64), _unsigned(ceiling, 64)
+        status = self._solve(given, *settings, times, operations, choices, operations, numbers, values, answer)
         if status == 0:
             return Schedule(
                 answer.interval, answer.stages, answer.resources, answer.recurrences, dict(zip(problem.operations, times)),
@@ -307,6 +352,5 @@ class Library:
         if status == 2:
             raise ValueError("the ratio is not 1 to 64" if answer.misfit == 1 else "the ceiling is not 0 to 255")
         if status == 5:
-            fault = answer.fault
-            raise AtFault(fault.kind, fault.part, (fault.first, fault.second, fault.third))
+            raise _at_fault(problem, answer.fault)
         raise MemoryError

@@ -2,7 +2,9 @@
 
 mod as_loops;
 mod backends;
+mod drafts;
 mod judged;
+mod meetings;
 
 use machine_data::OutOfMemory;
 use problems::{Draft, File, Hold, Kind, Names, Order, Problem, Value};

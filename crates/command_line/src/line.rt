@@ -7,8 +7,6 @@ ghost use Rattle.command_line.specs.declared.line.Usage.TheVariants.{Memory};
 
 mod form;
 mod given;
-#[cfg(test)]
-mod tests;
 
 use crate::command::Command;
 use clap::error::ErrorKind;

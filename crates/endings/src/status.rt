@@ -146,6 +146,3 @@ impl fmt::Display for Line<'_> {
         }
     }
 }
-
-#[cfg(test)]
-mod tests;

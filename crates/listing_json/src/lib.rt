@@ -3,8 +3,6 @@
 
 mod document;
 mod kernels;
-#[cfg(test)]
-mod tests;
 mod told;
 
 pub use document::document_text;

@@ -4,8 +4,6 @@
 
 mod fault;
 mod read;
-#[cfg(test)]
-mod tests;
 
 pub use fault::{Key, MachineFault};
 pub use machine_data::{

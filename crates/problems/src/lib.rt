@@ -9,8 +9,6 @@ mod label;
 mod laws;
 mod making;
 mod problem;
-#[cfg(test)]
-mod tests;
 
 pub use checking::first::first_fault;
 pub use draft::{Draft, File, Hold, Kind, Names, Order, Value};

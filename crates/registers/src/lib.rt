@@ -7,8 +7,6 @@ mod laws;
 mod lifetime;
 mod meeting;
 mod numbers;
-#[cfg(test)]
-mod tests;
 mod value;
 mod values;
 

@@ -1,0 +1,156 @@
+"""The innermost loops of a function, those that can be scheduled and why others can't."""
+from __future__ import annotations
+
+from dataclasses import dataclass, field
+
+from .ir import Block, Function, Instruction, Value, incoming
+from .reader import MEMORY
+
+
+class LeftOut(Exception):
+    """Why a loop gives no problem."""
+
+
+@dataclass(frozen=True)
+class Guard:
+    """An instruction is only to be done where a condition is as told."""
+
+    condition: Value
+    wanted: bool
+
+
+@dataclass(eq=False, repr=False)
+class Loop:
+    """An innermost loop of one iteration's instructions, in order, without branches, and with selects in place of inner phis."""
+
+    function: Function
+    header: Block
+    blocks: list[Block]
+    before: Block  # from where it is entered
+    after: Block  # where it leaves to
+    latch: Block  # the block that ends an iteration
+    body: list[Instruction] = field(default_factory=list)
+    guards: dict[Instruction, Guard] = field(default_factory=dict)
+
+    def __post_init__(self):
+        self._inside = {one for block in self.blocks for one in block.instructions}
+
+    def has(self, value: Value) -> bool:
+        """Whether a value is made in the loop."""
+        return value in self._inside
+
+
+def _reached(start: Block, without: Block | None) -> set[Block]:
+    found, waiting = set(), [start]
+    while waiting:
+        block = waiting.pop()
+        if block is not without and block not in found:
+            found.add(block)
+            waiting += block.successors
+    return found
+
+
+def _natural_loops(function: Function) -> dict[Block, set[Block]]:
+    """Of each header the blocks of its loop: those that come to an edge back to it without passing it."""
+    entry, loops = function.blocks[0], {}
+    before: dict[Block, list[Block]] = {}
+    for block in function.blocks:
+        for to in block.successors:
+            before.setdefault(to, []).append(block)
+    for header in function.blocks:
+        others = _reached(entry, header)
+        ends = [it for it in before.get(header, []) if it not in others]
+        inside, waiting = {header}, list(ends)
+        while waiting:
+            block = waiting.pop()
+            if block not in inside:
+                inside.add(block)
+                waiting += before.get(block, [])
+        if ends:
+            loops[header] = inside
+    return loops
+
+
+def innermost(function: Function) -> list[tuple[Block, list[Block]]]:
+    """The headers and blocks of the loops that have no loop inside, in the order of the function."""
+    loops = _natural_loops(function)
+    found = []
+    for header, inside in loops.items():
+        if not any(other is not header and other in inside for other in loops):
+            found.append((header, [it for it in function.blocks if it in inside]))
+    return found
+
+
+def line_of(header: Block, blocks: list[Block]) -> tuple[str, int]:
+    """The file and the line of a loop: those of the branch that ends it, which has the line of its `for` or `while`, else of the first instruction with a line."""
+    ends = [it.last for it in blocks if header in it.successors]
+    for one in [*ends, *(one for block in blocks for one in block.instructions)]:
+        if one.line:
+            return one.file, one.line
+    return "", 0
+
+
+def _refuse_instructions(blocks: list[Block]) -> None:
+    for one in (one for block in blocks for one in block.instructions):
+        if one.opcode.startswith("call "):
+            raise LeftOut(f"it calls {one.opcode[5:]}")
+        if one.is_volatile or one.opcode in ("fence", "atomicrmw", "cmpxchg"):
+            raise LeftOut("it has a volatile or atomic access")
+        if one.opcode in ("alloca", "va_arg"):
+            raise LeftOut(f"it has {one.opcode}")
+        if "<" in one.type or any("<" in it.type for it in one.operands):
+            raise LeftOut("it has vectors")
+
+
+def _latch_of(header: Block, blocks: list[Block]) -> Block:
+    leaving = [it for it in blocks if any(to not in blocks for to in it.successors)]
+    latches = [it for it in blocks if header in it.successors]
+    if len(latches) != 1:
+        raise LeftOut(f"it has {len(latches)} edges back")
+    if not leaving:
+        raise LeftOut("it never ends")
+    if leaving != latches:
+        raise LeftOut("it is left in the middle of an iteration")
+    return latches[0]
+
+
+def _conditional(header: Block, blocks: list[Block], latch: Block) -> Block | None:
+    """The block that is done under a condition, in a loop of a header, such a block and a latch."""
+    if len(blocks) == 1:
+        return None
+    inner = [it for it in blocks if it not in (header, latch)]
+    if len(inner) == 1 and header.last.opcode == "br" and set(header.successors) == {inner[0], latch} and inner[0].successors == [latch]:
+        return inner[0]
+    raise LeftOut(f"an iteration has {len(blocks)} blocks")
+
+
+def _convert(loop: Loop, inner: Block) -> None:
+    """The conditional block becomes guards of its loads and stores, and phis behind it become selects."""
+    test = loop.header.last
+    wanted = loop.header.successors[0] is inner
+    for one in inner.instructions:
+        if one.opcode in ("sdiv", "udiv", "srem", "urem"):
+            raise LeftOut("it divides under a condition")
+        if one.opcode in MEMORY:
+            loop.guards[one] = Guard(test.operands[0], wanted)
+    for phi in loop.latch.phis:
+        inside, outside = incoming(phi, inner), incoming(phi, loop.header)
+        phi.opcode, phi.blocks = "select", []
+        phi.operands = [test.operands[0], *((inside, outside) if wanted else (outside, inside))]
+
+
+def loop_of(function: Function, header: Block, blocks: list[Block]) -> Loop:
+    """The loop of a header and its blocks; what it changes in the function is the two-block form, which becomes one. Raises LeftOut."""
+    latch = _latch_of(header, blocks)
+    inner = _conditional(header, blocks, latch)
+    _refuse_instructions(blocks)
+    entries = [it for it in function.blocks if header in it.successors and it not in blocks]
+    if len(entries) != 1:
+        raise LeftOut(f"it is entered from {len(entries)} blocks")
+    after = next(it for it in latch.successors if it not in blocks)
+    loop = Loop(function, header, blocks, entries[0], after, latch)
+    if inner is not None:
+        _convert(loop, inner)
+    ordered = [header] if inner is None else [header, inner, latch]
+    loop.body = [one for block in ordered for one in block.instructions if one.opcode not in ("phi", "br")]
+    return loop

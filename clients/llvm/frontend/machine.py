@@ -1,0 +1,137 @@
+"""Machine files: what a machine issues, read from TOML (docs/CLIENTS.md, "The machine file")."""
+from __future__ import annotations
+
+import tomllib
+from dataclasses import dataclass, field
+from typing import Any, Callable
+
+from .ir import Instruction
+from .patterns import BadTerm, Match, Term, match, parse
+
+
+class BadMachine(Exception):
+    """What is wrong with a machine file."""
+
+
+@dataclass(frozen=True)
+class Kind:
+    """A kind of operations. `offsets`: how many cycles after the issue an operand is read, by its leaf; `guard` is the condition of a store."""
+
+    name: str
+    terms: tuple[Term, ...]
+    latency: int
+    alternatives: tuple[tuple[tuple[str, int], ...], ...]
+    file: str
+    offsets: dict[str, int]
+
+
+@dataclass
+class Machine:
+    """A machine. The files are numbers of rotating registers, or 0 for one whose values are allotted to none."""
+
+    name: str
+    units: list[str]
+    files: dict[str, int]
+    kinds: dict[str, Kind]
+    has_counter: bool
+    folds_affine: bool
+    scales: list[int]
+    free: list[Term] = field(default_factory=list)
+    lacks: list[Term] = field(default_factory=list)
+
+    def __post_init__(self):
+        pairs = [(term, kind) for kind in self.kinds.values() for term in kind.terms]
+        # what is more particular comes first: more instructions, then more types
+        self._terms = sorted(pairs, key=lambda it: (-it[0].instructions, -it[0].types))
+
+    def matches(self, one: Instruction, is_inner: Callable[[Instruction], bool]) -> list[tuple[Kind, Match]]:
+        """The kinds that an instruction can be issued as, with what they take along, the most particular first."""
+        if any(match(term, one, lambda it: False) for term in self.lacks):
+            return []
+        found = [(kind, match(term, one, is_inner)) for term, kind in self._terms]
+        default = self.kinds.get("default")
+        if default is not None and not one.opcode.startswith("llvm."):
+            found.append((default, match(Term(one.opcode, "", None), one, is_inner)))
+        return [(kind, it) for kind, it in found if it is not None]
+
+    def is_free(self, one: Instruction) -> bool:
+        """Whether an instruction costs nothing: whoever reads its result reads its operand."""
+        return any(match(term, one, lambda it: False) for term in self.free)
+
+
+def _checked(value: Any, of: type, what: str) -> Any:
+    if not isinstance(value, of) or isinstance(value, bool) and of is int:
+        raise BadMachine(f"{what} is not of the type {of.__name__}")
+    return value
+
+
+def _named(name: Any, what: str, without: str = "#") -> str:
+    """A name as texts of problems take it."""
+    text = _checked(name, str, what)
+    if not 0 < len(text) <= 64 or any(not "!" <= it <= "~" or it in without for it in text):
+        raise BadMachine(f"{what}: {text!r} is no name of 1 to 64 bytes without blanks and {without}")
+    return text
+
+
+def _hold(text: Any, units: list[str], what: str) -> tuple[str, int]:
+    unit, _, offset = _checked(text, str, what).partition("@")
+    if unit not in units or not (offset or "0").isdigit():
+        raise BadMachine(f"{what}: {text} is no unit, nor one with an offset")
+    return unit, int(offset or 0)
+
+
+def _terms(table: dict, key: str, what: str) -> tuple[Term, ...]:
+    try:
+        return tuple(parse(_checked(it, str, f"{what}.{key}")) for it in table.get(key, []))
+    except BadTerm as bad:
+        raise BadMachine(f"{what}.{key}: {bad} is no term") from bad
+
+
+def _kind(name: str, table: Any, units: list[str], files: dict[str, int]) -> Kind:
+    what = f"kinds.{_named(name, 'kinds')}"
+    unknown = set(_checked(table, dict, what)) - {"of", "latency", "alternatives", "file", "offsets"}
+    if unknown:
+        raise BadMachine(f"{what}: {min(unknown)} is no key of a kind")
+    alternatives = tuple(tuple(_hold(it, units, what) for it in holds) for holds in _checked(table.get("alternatives"), list, f"{what}.alternatives"))
+    file = table.get("file", next(iter(files)))
+    if file not in files:
+        raise BadMachine(f"{what}: there is no file {file}")
+    latency = _checked(table.get("latency"), int, f"{what}.latency")
+    offsets = _checked(table.get("offsets", {}), dict, f"{what}.offsets")
+    for leaf, offset in offsets.items():
+        if not 0 <= _checked(offset, int, f"{what}.offsets.{leaf}") < latency:
+            raise BadMachine(f"{what}.offsets.{leaf} is not from 0 to below the latency")
+    return Kind(name, _terms(table, "of", what), latency, alternatives, file, offsets)
+
+
+def _files(table: dict) -> dict[str, int]:
+    found = {}
+    for name, registers in _checked(table.get("files"), dict, "files").items():
+        found[_named(name, "files")] = 0 if registers == "unallotted" else _checked(registers, int, f"files.{name}")
+    if not found:
+        raise BadMachine("there is no file")
+    return found
+
+
+def machine_of(text: str) -> Machine:
+    """The machine that a text describes. Raises BadMachine."""
+    try:
+        table = tomllib.loads(text)
+    except tomllib.TOMLDecodeError as bad:
+        raise BadMachine(str(bad)) from bad
+    unknown = set(table) - {"name", "units", "files", "kinds", "counter", "addresses", "free", "lacks"}
+    if unknown:
+        raise BadMachine(f"{min(unknown)} is no key of a machine")
+    units, files = [_named(it, "units", "#@|") for it in _checked(table.get("units"), list, "units")], _files(table)
+    kinds = {name: _kind(name, it, units, files) for name, it in _checked(table.get("kinds"), dict, "kinds").items()}
+    addresses = _checked(table.get("addresses", {}), dict, "addresses")
+    return Machine(
+        _named(table.get("name"), "name"), units, files, kinds, bool(table.get("counter", False)), bool(addresses.get("affine", False)),
+        _checked(addresses.get("scales", []), list, "addresses.scales"), list(_terms(table, "free", "machine")), list(_terms(table, "lacks", "machine")),
+    )
+
+
+def read_machine(path: str) -> Machine:
+    """The machine of a file. Raises BadMachine, or OSError."""
+    with open(path, encoding="utf-8") as it:
+        return machine_of(it.read())

@@ -1,0 +1,77 @@
+"""Prints kernels row by row with the lines of C beside them: see --help."""
+from __future__ import annotations
+
+import argparse
+import json
+import os
+import sys
+from typing import Any, Iterator
+
+
+def arguments() -> argparse.Namespace:
+    """The arguments of the command line."""
+    parser = argparse.ArgumentParser(
+        prog="show.py",
+        description="Prints the kernel of each solved loop of the C files, row by row: the operations that are issued in the row, each with its stage, the"
+        " unit that it takes first, and its line of C.",
+    )
+    parser.add_argument("problems", metavar="problems.json")
+    parser.add_argument("solutions", metavar="solutions.json")
+    parser.add_argument("files", nargs="+", metavar="LOOPS.c", help="a C file that the problems are of")
+    return parser.parse_args()
+
+
+def _unit(machine: dict[str, Any], kind: str, alternative: int) -> str:
+    """The unit that an alternative takes first."""
+    holds = next(it for it in machine["kinds"] if it["name"] == kind)["alternatives"][alternative]
+    return min(holds, key=lambda it: it["offset"])["unit"]
+
+
+def _line(texts: dict[str, list[str]], operation: dict[str, Any]) -> str:
+    text = texts.get(os.path.basename(operation["file"]), [])
+    return text[operation["line"] - 1].strip() if 0 < operation["line"] <= len(text) else ""
+
+
+def kernel_lines(machine: dict[str, Any], problem: dict[str, Any], solution: dict[str, Any], texts: dict[str, list[str]]) -> Iterator[str]:
+    """The lines of a kernel. Behind an operation of an iteration some turns ago stands how many, as ?N."""
+    interval, times, units = solution["interval"], solution["times"], machine["units"]
+    source = problem["source"]
+    yield f"loop {problem['name']} at {os.path.basename(source['file'])}:{source['line']}, interval {interval}, stages {solution['stages']}"
+    rows: list[list[tuple[int, str, str, str]]] = [[] for _ in range(interval)]
+    for it in problem["operations"]:
+        stage, row = divmod(times[it["name"]], interval)
+        unit = _unit(machine, it["kind"], solution["alternatives"][it["name"]])
+        rows[row].append((units.index(unit), unit, f"{it['name']} ?{stage}", _line(texts, it)))
+    wide = max(len(name) for row in rows for _, _, name, _ in row)
+    for number, row in enumerate(rows):
+        for place, (_, unit, name, line) in enumerate(sorted(row)):
+            yield f"{f'{number}:' if place == 0 else '':5}{unit:4}{name:{wide}}  {line}".rstrip()
+        if not row:
+            yield f"{number}:"
+
+
+def main() -> int:
+    """Runs the command."""
+    given = arguments()
+    try:
+        with open(given.problems, encoding="utf-8") as one, open(given.solutions, encoding="utf-8") as other:
+            document, solutions = json.load(one), json.load(other)
+        texts = {}
+        for path in given.files:
+            with open(path, encoding="utf-8") as it:
+                texts[os.path.basename(path)] = it.read().split("\n")
+    except (OSError, ValueError) as bad:
+        print(f"show.py: {bad}", file=sys.stderr)
+        return 2
+    found = {it["name"]: it for it in solutions["solutions"]}
+    shown = [it for it in document["problems"] if it["name"] in found and os.path.basename(it["source"]["file"]) in texts]
+    for number, problem in enumerate(shown):
+        if number:
+            print()
+        for line in kernel_lines(document["machine"], problem, found[problem["name"]], texts):
+            print(line)
+    return 0
+
+
+if __name__ == "__main__":
+    sys.exit(main())

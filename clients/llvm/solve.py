@@ -1,0 +1,53 @@
+"""Solves scheduling problems with the library: see --help."""
+from __future__ import annotations
+
+import argparse
+import json
+import os
+import sys
+
+HERE = os.path.dirname(os.path.realpath(__file__))
+sys.path.insert(0, HERE)
+from frontend import solving  # noqa: E402
+
+
+def arguments() -> argparse.Namespace:
+    """The arguments of the command line."""
+    parser = argparse.ArgumentParser(
+        prog="solve.py",
+        description="Solves the problems of problems.json with libmodsched.so (./library makes it), and writes solutions.json. A line on standard error tells of"
+        " each problem that has no solution, and why: the status is then 1.",
+    )
+    parser.add_argument("--library", default=os.path.join(solving.ROOT, "out", "libmodsched.so"), metavar="FILE", help="the library (out/libmodsched.so)")
+    parser.add_argument("--ratio", type=int, default=6, help="placements for each operation in an attempt, 1 to 64 (6)")
+    parser.add_argument("--ceiling", type=int, default=64, help="how many intervals above the least one are tried, 0 to 255 (64)")
+    parser.add_argument("problems", metavar="problems.json")
+    return parser.parse_args()
+
+
+def main() -> int:
+    """Runs the command."""
+    given = arguments()
+    try:
+        library = solving.modsched.Library(given.library)
+        with open(given.problems, encoding="utf-8") as it:
+            document = json.load(it)
+    except (OSError, ValueError) as bad:
+        print(f"solve.py: {bad}", file=sys.stderr)
+        return 2
+    try:
+        found = solving.solved(library, document, given.ratio, given.ceiling)
+    except (KeyError, TypeError) as bad:
+        print(f"solve.py: {given.problems} is no problems.json: {bad}", file=sys.stderr)
+        return 2
+    except ValueError as bad:
+        print(f"solve.py: {bad}", file=sys.stderr)
+        return 2
+    for it in found["unsolved"]:
+        print(f"{it['name']} has no solution: {it['reason']}", file=sys.stderr)
+    print(json.dumps(found, indent=1))
+    return 1 if found["unsolved"] else 0
+
+
+if __name__ == "__main__":
+    sys.exit(main())

@@ -1,0 +1,126 @@
+"""Prints a table of what becomes of the loops of C files on several machines: see --help."""
+from __future__ import annotations
+
+import argparse
+import collections
+import os
+import resource
+import sys
+import time
+from dataclasses import dataclass
+from typing import Any, Callable, Iterator
+
+HERE = os.path.dirname(os.path.realpath(__file__))
+sys.path.insert(0, HERE)
+from frontend import clang, problem, reader, solving  # noqa: E402
+from frontend.machine import read_machine  # noqa: E402
+
+MACHINES = [os.path.join(HERE, "machines", f"{it}.toml") for it in ("four", "eight")]
+Solver = Callable[[dict[str, Any]], dict[str, Any]]
+
+
+def arguments() -> argparse.Namespace:
+    """The arguments of the command line."""
+    parser = argparse.ArgumentParser(
+        prog="table.py",
+        description="Prints for each loop of the C files its operations, MII, interval and stages on each machine, and how many loops are left out for each"
+        " reason, as Markdown. Standard error tells how many processor seconds clang and the library took.",
+    )
+    parser.add_argument("--machine", action="append", metavar="FILE.toml", help="a machine, once or more often (machines/four.toml and eight.toml)")
+    parser.add_argument("--library", default=os.path.join(solving.ROOT, "out", "libmodsched.so"), metavar="FILE", help="the library (out/libmodsched.so)")
+    parser.add_argument("files", nargs="+", metavar="LOOPS.c", help="a C file")
+    return parser.parse_args()
+
+
+def _cells(given: dict[str, Any] | None, solution: dict[str, Any] | None) -> list[str]:
+    """The cells of a loop on a machine."""
+    if given is None:
+        return ["", "", "", ""]
+    if solution is None:
+        return [str(len(given["operations"])), "", "none", ""]
+    mii = max(solution["resources"], solution["recurrences"])
+    return [str(len(given["operations"])), str(mii), str(solution["interval"]), str(solution["stages"])]
+
+
+def rows(documents: list[dict[str, Any]], solutions: list[dict[str, Any]]) -> Iterator[str]:
+    """The rows of the loops, of documents and solutions for one file on several machines."""
+    by_name = [{it["name"]: it for it in its["problems"]} for its in documents]
+    solved = [{it["name"]: it for it in its["solutions"]} for its in solutions]
+    for name in dict.fromkeys(name for its in by_name for name in its):
+        source = next(its[name] for its in by_name if name in its)["source"]
+        cells = [cell for its, of in zip(by_name, solved) for cell in _cells(its.get(name), of.get(name))]
+        yield f"| `{os.path.basename(source['file'])}:{source['line']}` | `{name}` | {' | '.join(cells)} |"
+
+
+def reasons(documents: list[dict[str, Any]], names: list[str]) -> Iterator[str]:
+    """The table of reasons why loops are left out, of documents of all files, machine by machine."""
+    counts = [collections.Counter(it["reason"] for it in its) for its in documents]
+    yield f"| left out | {' | '.join(names)} |"
+    yield "|---|" + "---|" * len(names)
+    for reason in sorted({reason for its in counts for reason in its}):
+        yield f"| {reason} | {' | '.join(str(its[reason]) for its in counts)} |"
+
+
+def heads(names: list[str]) -> Iterator[str]:
+    """The head of the table of loops."""
+    yield "| place | loop |" + "".join(f" {it}: operations | MII | interval | stages |" for it in names)
+    yield "|---|---|" + "---|" * 4 * len(names)
+
+
+@dataclass
+class Times:
+    """Processor seconds of clang and of the solver."""
+
+    clang: float = 0
+    solver: float = 0
+
+    def compile(self, path: str) -> str:
+        """The IR of a C file."""
+        start = resource.getrusage(resource.RUSAGE_CHILDREN)
+        text = clang.to_ir(path)
+        end = resource.getrusage(resource.RUSAGE_CHILDREN)
+        self.clang += end.ru_utime + end.ru_stime - start.ru_utime - start.ru_stime
+        return text
+
+    def solve(self, solve: Solver, document: dict[str, Any]) -> dict[str, Any]:
+        """The solutions of a document."""
+        start = time.process_time()
+        found = solve(document)
+        self.solver += time.process_time() - start
+        return found
+
+
+def table(files: list[str], machines: list[str], solve: Solver) -> tuple[list[str], Times]:
+    """The lines of the tables, and how long clang and the solver took."""
+    targets, times, names_of = [read_machine(it) for it in machines], Times(), [problem.Names() for _ in machines]
+    names = [it.name for it in targets]
+    lines = list(heads(names))
+    left_out: list[list[dict[str, Any]]] = [[] for _ in targets]
+    read = 0
+    for path in files:
+        text = times.compile(path)
+        documents = [problem.document(it, *problem.problems_of(reader.read_functions(text), it, path, given)) for it, given in zip(targets, names_of)]
+        lines += rows(documents, [times.solve(solve, it) for it in documents])
+        read += len(documents[0]["problems"]) + len(documents[0]["left_out"])
+        for its, document in zip(left_out, documents):
+            its += document["left_out"]
+    given = " and ".join(f"{read - len(its)} on {name}" for name, its in zip(names, left_out))
+    return [*lines, "", *reasons(left_out, names), "", f"Of {read} innermost loops, {given} give a problem."], times
+
+
+def main() -> int:
+    """Runs the command."""
+    given = arguments()
+    try:
+        library = solving.modsched.Library(given.library)
+        lines, times = table(given.files, given.machine or MACHINES, lambda it: solving.solved(library, it))
+    except (OSError, clang.NoClang) as bad:
+        print(f"table.py: {bad}", file=sys.stderr)
+        return 2
+    print("\n".join(lines))
+    print(f"clang took {times.clang:.2f} s, the library {times.solver:.2f} s", file=sys.stderr)
+    return 0
+
+
+if __name__ == "__main__":
+    sys.exit(main())

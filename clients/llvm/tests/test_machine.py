@@ -1,0 +1,126 @@
+"""Terms and machine files."""
+from __future__ import annotations
+
+import os
+import unittest
+
+import common  # (it says where the others are)
+from frontend import patterns, reader
+from frontend.ir import Instruction
+from frontend.machine import BadMachine, machine_of
+
+LINES = """
+define i32 @f(i32 %a, i32 %b, i16 %s, i16* %p) {
+  %product = mul i32 %a, %b
+  %sum = add i32 %b, %product
+  %wide = sext i16 %s to i32
+  %least = call i32 @llvm.smin.i32(i32 %sum, i32 %wide)
+  %is = icmp slt i16 %s, 3
+  store i16 %s, i16* %p
+  ret i32 %least
+}
+declare i32 @llvm.smin.i32(i32, i32)
+"""
+GIVEN = {it.name or it.opcode: it for it in reader.read_functions(LINES)[0][1].blocks[0].instructions}
+
+MACHINE = """
+name = "small"
+units = ["a", "b"]
+files = { r = 8, p = "unallotted" }
+[kinds.add]
+of = ["add", "sub"]
+latency = 1
+alternatives = [["a"], ["b", "a@2"]]
+[kinds.mac]
+of = ["add:i32(mul(a,b),c)"]
+latency = 3
+alternatives = [["b"]]
+offsets = { c = 1 }
+[kinds.multiply]
+of = ["mul", "mul:i64"]
+latency = 2
+alternatives = [["b"]]
+file = "p"
+"""
+
+
+def leaves(term: str, name: str, is_inner: bool = True) -> dict[str, str] | None:
+    """What stands at the leaves of a match, or None where there is none."""
+    found = patterns.match(patterns.parse(term), GIVEN[name], lambda it: is_inner)
+    return None if found is None else {leaf: one.operands[place].name for leaf, one, place in found.leaves}
+
+
+class Terms(unittest.TestCase):
+    def test_one_instruction(self):
+        self.assertEqual(leaves("mul", "%product"), {"a": "%a", "b": "%b"})
+        self.assertEqual(leaves("mul:i32", "%product"), {"a": "%a", "b": "%b"})
+        self.assertIsNone(leaves("mul:i64", "%product"))
+        self.assertIsNone(leaves("add", "%product"))
+        self.assertEqual(leaves("llvm.smin:i32", "%least"), {"a": "%sum", "b": "%wide"})
+
+    def test_types(self):
+        """A comparison has the type of what it compares, a store that of what it stores, a leaf that of what is there."""
+        self.assertIsNotNone(leaves("icmp:i16", "%is"))
+        self.assertIsNone(leaves("icmp:i1", "%is"))
+        self.assertEqual(leaves("store:i16", "store"), {"a": "%s", "b": "%p"})
+        self.assertEqual(leaves("sext:i32(a:i16)", "%wide"), {"a": "%s"})
+        self.assertIsNone(leaves("sext:i32(a:i8)", "%wide"))
+
+    def test_several_instructions(self):
+        """The product is the second operand of the sum: an addition may be turned around."""
+        self.assertEqual(leaves("add(mul(a,b),c)", "%sum"), {"a": "%a", "b": "%b", "c": "%b"})
+        self.assertEqual(leaves("add:i32(x,mul:i32(a,b))", "%sum"), {"x": "%b", "a": "%a", "b": "%b"})
+        self.assertIsNone(leaves("sub(mul(a,b),c)", "%sum"))
+        self.assertIsNone(leaves("add(mul(a,b),c)", "%sum", is_inner=False), "somebody else needs the product")
+
+    def test_bad_terms(self):
+        for text in ("", "a", "add(", "add(a", "add(a,b))", "add:(a)", "add a b", "a(b)", "add(a;b)", "add(a b)"):
+            with self.subTest(text):
+                self.assertRaises(patterns.BadTerm, patterns.parse, text)
+
+
+class Machines(unittest.TestCase):
+    def test_matches(self):
+        """The most particular kind comes first, and others remain."""
+        machine = machine_of(MACHINE)
+        found = [(kind.name, [it.name for it in match.instructions]) for kind, match in machine.matches(GIVEN["%sum"], lambda it: True)]
+        self.assertEqual(found, [("mac", ["%product", "%sum"]), ("add", ["%sum"])])
+        self.assertEqual([kind.name for kind, _ in machine.matches(GIVEN["%sum"], lambda it: False)], ["add"])
+        self.assertEqual(machine.matches(GIVEN["%least"], lambda it: False), [])
+
+    def test_parts(self):
+        machine = machine_of(MACHINE)
+        self.assertEqual(machine.files, {"r": 8, "p": 0})
+        self.assertEqual(machine.kinds["add"].alternatives, ((("a", 0),), (("b", 0), ("a", 2))))
+        self.assertEqual((machine.kinds["add"].file, machine.kinds["multiply"].file), ("r", "p"))
+        self.assertEqual((machine.has_counter, machine.folds_affine, machine.scales), (False, False, []))
+
+    def test_default_and_lacks(self):
+        """The default is for what is not named, but for intrinsics and what the machine lacks."""
+        text = 'lacks = ["icmp"]\n' + MACHINE + '[kinds.default]\nlatency = 1\nalternatives = [["a"]]\n'
+        machine = machine_of(text)
+        self.assertEqual([it.name for it, _ in machine.matches(GIVEN["%wide"], lambda it: False)], ["default"])
+        self.assertEqual(machine.matches(GIVEN["%is"], lambda it: False), [])
+        self.assertEqual(machine.matches(GIVEN["%least"], lambda it: False), [])
+
+    def test_faults(self):
+        changes = [
+            ('name = "small"', "", "name is not"), ('["a", "b"]', "3", "units is not"), ('["a"]', '["c"]', "c is no unit"), ('"a@2"', '"a@x"', "a@x is no unit"),
+            ('"sub"', '"sub("', "is no term"), ("latency = 2", "", "kinds.multiply.latency"), ('file = "p"', 'file = "q"', "no file q"),
+            ('"unallotted"', '"many"', "files.p"), ("latency = 3", "delay = 3", "delay is no key"), ("files =", "file =", "file is no key"),
+            ('"mul:i64"]', '"mul:i64"]\nof = []', "overwrite"), ('["a", "b"]', '["a", "b@1"]', "b@1' is no name"), ("r = 8", '"r s" = 8', "r s' is no name"),
+            ("c = 1", "c = 3", "offsets.c is not from 0"), ("units =", "units", "Expected"), ("r = 8", "r = true", "files.r"),
+        ]
+        for old, new, said in changes:
+            with self.subTest(new):
+                self.assertIn(old, MACHINE)
+                with self.assertRaisesRegex(BadMachine, said):
+                    machine_of(MACHINE.replace(old, new, 1))
+
+    def test_given_machines(self):
+        for name in common.MACHINES:
+            self.assertEqual(common.machine(name).name, name)
+
+
+if __name__ == "__main__":
+    unittest.main()

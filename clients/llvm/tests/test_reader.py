@@ -1,0 +1,146 @@
+"""How LLVM IR is read, and which loops can be scheduled, on IR written by hand."""
+from __future__ import annotations
+
+import unittest
+
+import common  # (it says where the others are)
+from frontend import affine, loops, reader
+
+TYPES = """
+%pair = type { i8, i32, [4 x i16] }
+@table = global [3 x %pair] zeroinitializer
+define float @f(%pair* noalias %p, i64 %i, i32 %j, float %x) {
+  %1 = getelementptr %pair, %pair* %p, i64 %i, i32 2, i64 3
+  %m = load volatile i16, i16* %1
+  %2 = load i32, i32* getelementptr inbounds ([3 x %pair], [3 x %pair]* @table, i64 0, i64 2, i32 1)
+  %c = fcmp olt float %x, 2.5
+  %u = add i32 %2, undef
+  ret float %x
+}
+"""
+
+
+def function(text: str):
+    """The first function of a module."""
+    return reader.read_functions(text)[0][1]
+
+
+class Reading(unittest.TestCase):
+    def test_values(self):
+        read = function(TYPES)
+        address, load, other, compare, add, last = read.blocks[0].instructions
+        self.assertEqual([(it.name, it.is_apart) for it in read.arguments], [("%p", True), ("%i", False), ("%j", False), ("%x", False)])
+        # a pair has 16 bytes: 1 and 3 of padding, 4, 8; the numbers begin at byte 8
+        self.assertEqual((address.address.offset, address.address.scaled), (8 + 3 * 2, [(1, 16)]))
+        self.assertTrue(load.is_volatile)
+        self.assertEqual((load.size, other.size), (2, 4))
+        constant = other.operands[0]
+        self.assertEqual((constant.opcode, constant.address.offset, constant.operands[0].name, constant.operands[0].size), ("getelementptr", 36, "@table", 48))
+        self.assertEqual((compare.predicate, compare.operands[1].number), ("olt", 2.5))
+        self.assertEqual(add.operands[1].number, 0)
+        self.assertEqual(last.operands, [read.arguments[3]])
+
+    def test_unknown_operand(self):
+        text = "define <2 x i32> @f(<2 x i32> %x) {\n %y = add <2 x i32> %x, <i32 1, i32 2>\n ret <2 x i32> %y\n}\n"
+        self.assertIsInstance(function(text), reader.Unread)
+
+    def test_calls(self):
+        """An intrinsic that computes has its name without types, one that does more is a call, and what is only told to the compiler is dropped."""
+        text = (
+            "declare void @llvm.assume(i1)\ndeclare i16 @llvm.fshl.i16(i16, i16, i16)\ndeclare i16 @g(i16)\n"
+            "declare void @llvm.memset.p0i8.i64(i8*, i8, i64, i1)\n"
+            "define i16 @f(i16 %x, i1 %c, i8* %p) {\n call void @llvm.assume(i1 %c)\n %a = call i16 @llvm.fshl.i16(i16 %x, i16 %x, i16 3)\n"
+            " call void @llvm.memset.p0i8.i64(i8* %p, i8 0, i64 4, i1 false)\n %b = call i16 @g(i16 %a)\n ret i16 %b\n}\n"
+        )
+        found = next(it for name, it in reader.read_functions(text) if name == "f").blocks[0].instructions
+        self.assertEqual([it.opcode for it in found], ["llvm.fshl", "call llvm.memset", "call g", "ret"])
+        self.assertEqual(len(found[0].operands), 3)
+
+    def test_wide_numbers(self):
+        """A constant of more than 64 bits is not read, rather than cut off."""
+        text = "define i128 @f(i128 %x) {\n %y = add i128 %x, 36893488147419103233\n ret i128 %y\n}\n"
+        self.assertIsInstance(function(text), reader.Unread)
+
+    def test_no_text(self):
+        self.assertRaises(reader.Unread, reader.read_functions, "define i32 @f( {")
+
+
+NEST = """
+define void @f(i32 %n, i1 %c) {
+entry:
+  br label %outer
+outer:
+  %i = phi i32 [ 0, %entry ], [ %i1, %end ]
+  br label %inner
+inner:
+  %j = phi i32 [ 0, %outer ], [ %j1, %inner ]
+  %j1 = add i32 %j, 1
+  %t = icmp slt i32 %j1, %n
+  br i1 %t, label %inner, label %end
+end:
+  %i1 = add i32 %i, 1
+  %s = icmp slt i32 %i1, %n
+  br i1 %s, label %outer, label %after
+after:
+  ret void
+}
+"""
+CONDITION = """
+define void @f(i32 %n, i32* %p, i32 %x) {
+entry:
+  br label %head
+head:
+  %i = phi i32 [ 0, %entry ], [ %i1, %latch ]
+  %t = icmp eq i32 %i, 3
+  br i1 %t, label %BRANCHES
+then:
+  %y = add i32 %i, %x
+  store i32 %y, i32* %p
+  br label %latch
+latch:
+  %z = phi i32 [ %y, %then ], [ 7, %head ]
+  %i1 = add i32 %i, 1
+  %s = icmp slt i32 %i1, %n
+  br i1 %s, label %head, label %after
+after:
+  ret void
+}
+"""
+
+
+class Loops(unittest.TestCase):
+    def test_nest(self):
+        read = function(NEST)
+        self.assertEqual([(header.name, [it.name for it in blocks]) for header, blocks in loops.innermost(read)], [("%inner", ["%inner"])])
+
+    def test_condition(self):
+        """The store is guarded, and the phi is a select that has the value of the conditional block where the condition is as wanted."""
+        for branches, wanted, places in (("then, label %latch", True, [1, 2]), ("latch, label %then", False, [2, 1])):
+            read = function(CONDITION.replace("BRANCHES", branches))
+            loop = loops.loop_of(read, *loops.innermost(read)[0])
+            self.assertEqual([it.opcode for it in loop.body], ["icmp", "add", "store", "select", "add", "icmp"])
+            store, select = loop.body[2], loop.body[3]
+            self.assertEqual((loop.guards[store].condition.name, loop.guards[store].wanted), ("%t", wanted))
+            self.assertEqual([select.operands[it].name for it in (0, *places)], ["%t", "%y", "7"])
+
+    def left_out(self, text: str) -> str:
+        read = function(text)
+        with self.assertRaises(loops.LeftOut) as it:
+            loop = loops.loop_of(read, *loops.innermost(read)[0])
+            affine.exit_of(loop, affine.Inductions(loop))
+        return str(it.exception)
+
+    def test_left_out(self):
+        text = CONDITION.replace("BRANCHES", "then, label %latch")
+        self.assertEqual(self.left_out(text.replace("br label %latch", "br i1 %t, label %latch, label %after")), "it is left in the middle of an iteration")
+        self.assertEqual(self.left_out(text.replace("br i1 %s, label %head, label %after", "br label %head")), "it never ends")
+        self.assertEqual(self.left_out(text.replace("store i32", "store volatile i32")), "it has a volatile or atomic access")
+        self.assertEqual(self.left_out(text.replace("store i32", "fence seq_cst\n  store i32")), "it has a volatile or atomic access")
+        self.assertEqual(self.left_out(text.replace("store i32 %y, i32* %p", "call void @g()") + "declare void @g()"), "it calls g")
+        self.assertEqual(self.left_out(text.replace("icmp slt i32 %i1, %n", "icmp slt i32 %z, %n")), "its trip count is not known before it starts")
+        self.assertEqual(self.left_out(text.replace("add i32 %i, 1", "add i32 %i, 0")), "its trip count is not known before it starts")
+        self.assertEqual(self.left_out(text.replace("%y = add", "%y = sdiv")), "it divides under a condition")
+
+
+if __name__ == "__main__":
+    unittest.main()

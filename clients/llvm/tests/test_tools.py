@@ -1,0 +1,195 @@
+"""The commands of the client: what they print, and their statuses."""
+from __future__ import annotations
+
+import json
+import os
+import subprocess
+import sys
+import unittest
+
+import common  # (it says where the others are)
+import cases
+import plain
+import show
+import table
+
+SMALL = """int f(const int *x, int n) {
+    int s = 0;
+    for (int i = 0; i < n; i++)
+        s += x[i];
+    return s;
+}
+int g(const char *x) {
+    int n = 0;
+    while (x[n])
+        n++;
+    return n;
+}
+"""
+
+
+def run(*words: str, clang: str | None = None) -> subprocess.CompletedProcess:
+    """Runs a command of the client."""
+    environment = dict(os.environ) if clang is None else {**os.environ, "PATH": clang, "CLANG": ""}
+    command = [sys.executable, os.path.join(common.CLIENT, words[0]), *words[1:]]
+    return subprocess.run(command, capture_output=True, text=True, env=environment, cwd=common.ROOM, stdin=subprocess.DEVNULL)
+
+
+def written(name: str, text: str) -> str:
+    """A file with a text."""
+    with open(os.path.join(common.ROOM, name), "w", encoding="utf-8") as it:
+        it.write(text)
+    return name
+
+
+class Problems(unittest.TestCase):
+    def test_text(self):
+        """The load of x[i], and the sum, which is used after the loop."""
+        done = run("problems.py", "--text", written("small.c", SMALL))
+        self.assertEqual((done.returncode, done.stderr), (0, "small.c:9: g is left out: its trip count is not known before it starts\n"))
+        operations = [it for it in done.stdout.split("\n") if it.startswith(("op", "problem", "edge", "end"))]
+        self.assertEqual(operations, ["problem f", "op small.c:4:load load", "op small.c:4:add default", "end"])
+
+    def test_json(self):
+        done = run("problems.py", "--machine", os.path.join(common.CLIENT, "machines", "eight.toml"), written("small.c", SMALL))
+        found = json.loads(done.stdout)
+        self.assertEqual((found["machine"]["name"], len(found["machine"]["units"])), ("eight", 8))
+        self.assertEqual(found["left_out"], [{"file": "small.c", "line": 9, "function": "g", "reason": "its trip count is not known before it starts"}])
+        # the counter is an add of 64 bits, a comparison and a branch
+        self.assertEqual([it["name"] for it in found["problems"][0]["operations"]], [
+            "small.c:4:load", "small.c:4:add", "small.c:3:add", "small.c:3:icmp", "small.c:3:branch",
+        ])
+
+    def test_names(self):
+        """Functions of one name in two files, and one of 70 bytes: all problems have names of their own, of 64 bytes at most."""
+        long = "g" * 70
+        one, other = written("one.c", SMALL), written("other.c", SMALL.replace("f(", f"{long}(") + SMALL.replace("g(", "h("))
+        found = json.loads(run("problems.py", one, other).stdout)
+        self.assertEqual([it["name"] for it in found["problems"]], ["f", "g" * 64, "f.2"])
+
+    def test_flags(self):
+        """A flag for clang: f gets another name."""
+        found = json.loads(run("problems.py", "--flag=-Df=sum", written("small.c", SMALL)).stdout)
+        self.assertEqual(found["problems"][0]["name"], "sum")
+
+    def test_no_branch(self):
+        """A machine without a counter and without branches has nothing for the end of a loop."""
+        machine = 'name = "m"\nunits = ["u"]\nfiles = { r = 8 }\n[kinds.all]\nof = ["load", "add", "icmp", "getelementptr"]\nlatency = 1\nalternatives = [["u"]]\n'
+        done = run("problems.py", "--machine", written("none.toml", machine), written("small.c", SMALL))
+        self.assertIn("small.c:3: f is left out: the machine has nothing for br\n", done.stderr)
+
+    def test_refused(self):
+        done = run("problems.py", written("broken.c", "int f( {\n"))
+        self.assertEqual((done.returncode, done.stdout), (2, ""))
+        self.assertIn("clang refuses broken.c", done.stderr)
+        done = run("problems.py", "--machine", written("bad.toml", "name = 3\n"), written("small.c", SMALL))
+        self.assertEqual((done.returncode, done.stderr), (2, "problems.py: units is not of the type list\n"))
+        done = run("problems.py", "small.c", clang="/nowhere")
+        self.assertEqual((done.returncode, done.stderr), (2, "problems.py: clang is not on the path\n"))
+
+
+class Solutions(unittest.TestCase):
+    def test_no_library(self):
+        done = run("solve.py", "--library", "nothing.so", written("p.json", "{}"))
+        self.assertEqual((done.returncode, done.stdout), (2, ""))
+        self.assertIn("nothing.so", done.stderr)
+
+    @unittest.skipUnless(common.HAS_LIBRARY, "./library has not made out/libmodsched.so")
+    def test_solved(self):
+        """A load each cycle, and a sum that waits one: interval 1. The sum is issued 3 cycles behind its load."""
+        written("p.json", run("problems.py", written("small.c", SMALL)).stdout)
+        done = run("solve.py", "--library", common.LIBRARY, "p.json")
+        found = json.loads(done.stdout)
+        self.assertEqual((done.returncode, found["machine"], found["unsolved"]), (0, "four", []))
+        solution = found["solutions"][0]
+        self.assertEqual((solution["name"], solution["interval"], solution["stages"], solution["times"]), ("f", 1, 4, {"small.c:4:load": 0, "small.c:4:add": 3}))
+
+    @unittest.skipUnless(common.HAS_LIBRARY, "./library has not made out/libmodsched.so")
+    def test_unsolved(self):
+        """One register is not enough for a value that lives while the next one is made."""
+        given = json.loads(run("problems.py", written("small.c", SMALL)).stdout)
+        given["machine"]["files"][0]["rotating"] = 1
+        written("few.json", json.dumps(given))
+        done = run("solve.py", "--library", common.LIBRARY, "--ceiling", "0", "few.json")
+        self.assertEqual(done.returncode, 1)
+        self.assertIn("f has no solution: no interval up to 1 works: registers", done.stderr)
+        self.assertEqual(json.loads(done.stdout)["solutions"], [])
+
+    @unittest.skipUnless(common.HAS_LIBRARY, "./library has not made out/libmodsched.so")
+    def test_as_plain(self):
+        """The library and plain Python come to the same solutions of the corpus."""
+        for path in cases.corpus_files():
+            for machine in common.MACHINES:
+                document, found = common.solved(path, machine)
+                self.assertEqual(found, plain.solved(document), path)
+
+
+class Shown(unittest.TestCase):
+    def test_kernel(self):
+        """Interval 2: the load in cycle 0, the sum in cycle 5 = 2 * 2 + 1, a copy in cycle 2 = 1 * 2 + 0."""
+        machine = {
+            "units": ["m", "x"],
+            "kinds": [
+                {"name": "load", "alternatives": [[{"unit": "m", "offset": 0}]]},
+                {"name": "add", "alternatives": [[{"unit": "m", "offset": 0}], [{"unit": "m", "offset": 4}, {"unit": "x", "offset": 0}]]},
+            ],
+        }
+        operations = [{"name": "a.c:2:load", "kind": "load"}, {"name": "a.c:2:add", "kind": "add"}, {"name": "f:copy", "kind": "add"}]
+        places = [("src/a.c", 2), ("src/a.c", 2), ("", 0)]
+        problem = {
+            "name": "f", "source": {"file": "src/a.c", "line": 1}, "operations": [{**it, "file": file, "line": line} for it, (file, line) in zip(operations, places)],
+        }
+        solution = {
+            "interval": 2, "stages": 3, "times": {"a.c:2:load": 0, "a.c:2:add": 5, "f:copy": 2}, "alternatives": {"a.c:2:load": 0, "a.c:2:add": 1, "f:copy": 1},
+        }
+        self.assertEqual(list(show.kernel_lines(machine, problem, solution, {"a.c": ["for (;;)", "    s += x[i];"]})), [
+            "loop f at a.c:1, interval 2, stages 3",
+            "0:   m   a.c:2:load ?0  s += x[i];",
+            "     x   f:copy ?1",
+            "1:   x   a.c:2:add ?2   s += x[i];",
+        ])
+
+
+class Readme(unittest.TestCase):
+    def test_session(self):
+        """README's session prints what stands there. Without the library, plain Python solves in place of solve.py."""
+        with open(os.path.join(common.solving.ROOT, "README.md"), encoding="utf-8") as it:
+            section = it.read().split("\n## From C\n")[1].split("\n## ")[0]
+        lines = [it[4:] for it in section.split("\n") if it.startswith("    ")]
+        room = os.path.join(common.ROOM, "readme")
+        os.mkdir(room)
+        os.symlink(os.path.join(common.solving.ROOT, "clients"), os.path.join(room, "clients"))
+        printed = []
+        for line in (it for it in lines if it.startswith("$ ")):
+            printed += [line, *self.said(line[2:], room)]
+        self.assertEqual(printed, lines)
+
+    def said(self, command: str, room: str) -> list[str]:
+        """The lines that a command of the session prints."""
+        if " clients/llvm/solve.py " in command:
+            words = command.replace(" clients/llvm/solve.py", f" clients/llvm/solve.py --library {common.LIBRARY}")
+            if not common.HAS_LIBRARY:
+                words = "python3 clients/llvm/tests/plain.py problems.json > solutions.json"
+        else:
+            words = command
+        words = words.replace("python3 ", f"{sys.executable} -B ", 1)
+        done = subprocess.run(words, shell=True, cwd=room, stdout=subprocess.PIPE, stderr=subprocess.STDOUT, text=True, stdin=subprocess.DEVNULL)
+        self.assertEqual(done.returncode, 0, done.stdout)
+        return done.stdout.split("\n")[:-1]
+
+
+class Tables(unittest.TestCase):
+    def test_page(self):
+        """The tables of docs/CLIENTS.md are those that table.py prints of the corpus."""
+        solve = (lambda it: common.solving.solved(common.solving.modsched.Library(common.LIBRARY), it)) if common.HAS_LIBRARY else plain.solved
+        lines, times = table.table(cases.corpus_files(), table.MACHINES, solve)
+        with open(os.path.join(common.solving.ROOT, "docs", "CLIENTS.md"), encoding="utf-8") as it:
+            page = it.read()
+        self.assertTrue("\n".join(lines) in page, "docs/CLIENTS.md has other tables than clients/llvm/table.py prints")
+        print(f"llvm: clang took {times.clang:.2f} s for the corpus, {'the library' if common.HAS_LIBRARY else 'plain Python'} {times.solver:.2f} s to solve it")
+        if common.HAS_LIBRARY:
+            self.assertLess(times.solver, times.clang)
+
+
+if __name__ == "__main__":
+    unittest.main()

@@ -1,0 +1,98 @@
+#!/usr/bin/env python3
+"""Makes one HTML page that shows the schedules of a file of loops: kernels, iterations, registers, dependences.
+
+It runs `modsched edges`, `explain` and `json` on the two files and joins what they print into one JSON document, which stands in the page
+between its fixed head and its fixed tail. README.md beside this script has the document's format."""
+from __future__ import annotations
+
+import argparse
+import json
+import os
+import subprocess
+import sys
+from concurrent.futures import ThreadPoolExecutor
+from typing import Any
+
+from document import Mismatch, join, text_of
+from lines import Misfit, read_edges, read_explain
+
+HERE = os.path.dirname(os.path.realpath(__file__))
+
+
+class Refused(Exception):
+    """The program answered with a status that tells of no output: the status, and what it wrote to standard error."""
+
+    def __init__(self, status: int, said: str):
+        super().__init__(said.strip() or f"modsched ends with status {status}")
+        self.status = status
+
+
+def program_beside() -> str:
+    """The program: what MODSCHED names, else ./modsched or bin/modsched above this folder, else that of the path."""
+    root = os.path.dirname(os.path.dirname(HERE))
+    for path in (os.environ.get("MODSCHED"), f"{root}/bin/modsched", f"{root}/modsched"):
+        if path and os.path.isfile(path):
+            return path
+    return "modsched"
+
+
+def printed(program: str, words: list[str]) -> str:
+    """What the program prints. Its status 1 tells that some loop has no kernel, and is well."""
+    ran = subprocess.run([program, *words], stdin=subprocess.DEVNULL, capture_output=True, text=True, encoding="utf-8")
+    if ran.returncode not in (0, 1):
+        raise Refused(ran.returncode, ran.stderr)
+    return ran.stdout
+
+
+def document_of(program: str, machine: str, loops: str, options: list[str]) -> dict[str, Any]:
+    """The document for a machine and loops; the options are those of `explain`."""
+    files = [machine, loops]
+    commands = [["edges", *files], ["explain", *files, *options], ["json", *files, *options]]
+    with ThreadPoolExecutor(len(commands)) as pool:
+        edges, explained, listing = pool.map(lambda words: printed(program, words), commands)
+    try:
+        return join(read_edges(edges), read_explain(explained), json.loads(listing))
+    except (json.JSONDecodeError, KeyError, TypeError, IndexError, AttributeError) as fault:
+        raise Mismatch("json", f"not the document of docs/FORMATS.md: {fault!r}") from fault
+
+
+def page_of(document: str) -> str:
+    """The page around the line of a document."""
+    with open(f"{HERE}/head.html", encoding="utf-8") as head, open(f"{HERE}/tail.html", encoding="utf-8") as tail:
+        return head.read() + document + tail.read()
+
+
+def parsed(words: list[str] | None) -> argparse.Namespace:
+    """The command line."""
+    parser = argparse.ArgumentParser(prog="report.py", description=(__doc__ or "").split("\n\n")[0])
+    parser.add_argument("--modsched", metavar="PATH", default=program_beside(), help="the program (else MODSCHED, or the one of this folder)")
+    parser.add_argument("--json", action="store_true", help="write the document alone")
+    parser.add_argument("--ratio", metavar="R", help="passed on to explain and json")
+    parser.add_argument("--ceiling", metavar="C", help="passed on to explain and json")
+    parser.add_argument("machine", metavar="MACHINE")
+    parser.add_argument("loops", metavar="LOOPS")
+    return parser.parse_args(words)
+
+
+def main(words: list[str] | None = None) -> int:
+    """Writes the page, or one line to standard error. The status is the program's where that refuses a file, and 8 where its output
+    is not as the documents say."""
+    given = parsed(words)
+    options = [word for name in ("ratio", "ceiling") if getattr(given, name) for word in (f"--{name}", getattr(given, name))]
+    try:
+        document = text_of(document_of(given.modsched, given.machine, given.loops, options))
+    except (Misfit, Mismatch) as fault:
+        print(f"report: {fault}", file=sys.stderr)
+        return 8
+    except Refused as fault:
+        print(fault, file=sys.stderr)
+        return fault.status
+    except OSError as fault:
+        print(f"report: {given.modsched} does not run: {fault.strerror}", file=sys.stderr)
+        return 2
+    sys.stdout.buffer.write((document if given.json else page_of(document)).encode())
+    return 0
+
+
+if __name__ == "__main__":
+    sys.exit(main())

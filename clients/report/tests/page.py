@@ -1,0 +1,201 @@
+"""What a page shows of its document, seen in a browser: each check answers what is wrong, and nothing where all is well."""
+from __future__ import annotations
+
+import json
+from typing import Any, Iterator
+
+from browser import Browser
+
+# Of a greater interval, rows of the kernel without operations are drawn as one.
+GREAT = 96
+# What the sections that are drawn tell, by their elements. Tables that wait for a click are opened first.
+FACTS = """(async () => {
+  const texts = (root, of) => [...root.querySelectorAll(of)].map(it => it.textContent);
+  const cells = table => table ? [...table.querySelectorAll("tbody tr")].map(row => texts(row, "td")) : null;
+  while (document.querySelector("main").getAttribute("aria-busy") === "true") await new Promise(done => setTimeout(done, 20));
+  for (const it of document.querySelectorAll("main details")) it.open = true;
+  await new Promise(done => setTimeout(done, 60));
+  return [...document.querySelectorAll("main section")].map(section => {
+    const chart = kind => section.querySelector(`[data-chart=${kind}]`), part = name => section.querySelector(`[data-part=${name}] table`);
+    const all = (kind, of) => chart(kind) ? [...chart(kind).querySelectorAll(of)] : [];
+    const marks = [...section.querySelectorAll("[data-op][tabindex]")];
+    return {
+      name: section.dataset.loop, summary: section.querySelector(".summary").textContent, facts: texts(section, ".facts b"),
+      slots: all("kernel", "td[data-op]").map(it => [+it.closest("tr").dataset.row, it.dataset.unit, +it.dataset.op, it.textContent, it.className]),
+      units: all("kernel", "thead th").map(it => it.textContent), live: all("kernel", "td.live").map(it => it.textContent),
+      most: all("kernel", "td.most").map(it => it.closest("tr").dataset.row),
+      issued: all("iteration", "g[data-op]").map(it => +it.dataset.op), ghosts: all("iteration", "[data-ghost]").map(it => [+it.dataset.ghost, +it.dataset.op]),
+      issues: all("iteration", "g[data-op] rect.box").map(it => [+it.closest("g").dataset.op, it.x.baseVal.value, it.classList[1]]),
+      laters: all("iteration", "[data-ghost]").map(it => [+it.dataset.ghost, +it.dataset.op, it.x.baseVal.value]),
+      columns: all("registers", "[data-live]").map(it => [it.x.baseVal.value, it.width.baseVal.value]),
+      folds: all("registers", "g[data-value]").map(it => [it.dataset.value, it.getBBox()]).map(([name, box]) => [name, box.x, box.width, box.y]),
+      heights: all("graph", "g[data-op] rect").map(it => [+it.closest("g").dataset.op, it.y.baseVal.value]),
+      iteration: cells(chart("iteration") && chart("iteration").querySelector("details table")), levels: all("registers", "[data-live]").map(it => +it.dataset.live),
+      bars: all("registers", "g[data-value]").map(it => [it.dataset.value, it.getAttribute("aria-label")]),
+      values: cells(chart("registers") && chart("registers").querySelector("details table")), registers: chart("registers") ? texts(chart("registers"), "h3")[0] : "",
+      nodes: all("graph", "g[data-op]").map(it => +it.dataset.op), edges: all("graph", "path.edge").map(it => +it.dataset.edge),
+      later: all("graph", "path.edge.later").map(it => +it.dataset.edge), critical: all("graph", "path.edge.crit").map(it => +it.dataset.edge),
+      labels: all("graph", "text.sum").map(it => [+it.dataset.edge, it.textContent]), graph: texts(chart("graph"), "figcaption p")[0],
+      dependences: cells(chart("graph").querySelector("details table")), tried: cells(part("tried")), uses: cells(part("units")), circuit: cells(part("circuit")),
+      sums: part("circuit") ? texts(part("circuit"), "tfoot td") : null,
+      mute: marks.filter(it => !it.getAttribute("aria-label")).length, stops: marks.filter(it => it.tabIndex === 0).length, charts: section.querySelectorAll("figure").length,
+      nameless: [...section.querySelectorAll("figure, figure svg[role]")].filter(it => !it.getAttribute("aria-label") && !document.getElementById(it.getAttribute("aria-labelledby"))).length,
+      wide: section.scrollWidth > section.clientWidth + 1,
+    };
+  });
+})()"""
+
+
+def wrong_with(wanted: dict[str, Any], seen: dict[str, Any]) -> Iterator[str]:
+    """What differs, by what it is."""
+    for what, it in wanted.items():
+        if seen[what] != it:
+            yield f"{what}: {json.dumps(seen[what])[:200]} and not {json.dumps(it)[:200]}"
+
+
+def seen_of_all(loop: dict[str, Any], it: dict[str, Any]) -> Iterator[str]:
+    """What each loop shows, with a kernel or without."""
+    operations, edges, circuit = loop["operations"], loop["edges"], loop["circuit"]
+    names = [operation["name"] for operation in operations]
+    places = range(len(edges))
+    numbers = [[it["delay"], it["distance"]] for it in edges]
+    rows = [[f"{e['from']} {names[e['from']]}", f"{e['to']} {names[e['to']]}", e["kind"], *map(str, n)] for e, n in zip(edges, numbers)]
+    of_circuit = circuit["edges"] if circuit else []
+    labels = [[at, ("" if e["kind"] == "value" else f"{e['kind']} ") + f"{e['delay']}" + (f" @{e['distance']}" if e["distance"] else "")] for at, e in enumerate(edges)]
+    wanted = {
+        "nodes": list(range(len(names))),
+        "edges": list(places),
+        "later": [at for at in places if edges[at]["distance"]],
+        "critical": sorted(of_circuit),
+        "labels": labels,
+        "dependences": rows,
+        "circuit": [rows[at] for at in of_circuit] if circuit else None,
+        "sums": ["sum", "", f"needs {circuit['needs']}", str(circuit["delay"]), str(circuit["distance"])] if circuit else None,
+        "mute": 0,
+        "nameless": 0,
+        "wide": False,
+        "stops": it["charts"] - (0 if loop.get("kernel", {}).get("values", True) else 1),
+    }
+    shown = it | {key: sorted(it[key]) for key in ("nodes", "edges", "later", "critical", "labels")}
+    yield from wrong_with(wanted, shown)
+    for number in (loop["mii"], loop["resources"], loop["recurrences"], len(names)):
+        if str(number) not in it["facts"]:
+            yield f"facts: {number} is not there"
+    if circuit and f"= {circuit['delay']}" not in it["graph"] and f" {circuit['delay']} " not in it["graph"]:
+        yield f"the circuit's sum is not told: {it['graph']}"
+    yield from seen_of_tables(loop, it, names)
+
+
+def seen_of_tables(loop: dict[str, Any], it: dict[str, Any], names: list[str]) -> Iterator[str]:
+    """The tables of tried intervals and of units."""
+    if [row[:2] for row in it["tried"]] != [[str(tried["interval"]), tried["outcome"]] for tried in loop["tried"]]:
+        yield f"tried: {it['tried']}"
+    for tried, row in zip(loop["tried"], it["tried"]):
+        told = [names[place] for place in tried.get("operations", [])][:7] + [str(tried[key]) for key in ("stages", "time", "first", "last") if key in tried]
+        if not all(word in row[2] for word in told):
+            yield f"evidence: {row} lacks one of {told}"
+    for unit, row in zip(loop["units"], it["uses"]):
+        users = " ".join(names[user["operation"]] + (f"*{user['uses']}" if user["uses"] > 1 else "") for user in unit["users"])
+        if [row[0], row[1], row[-1]] != [unit["name"], f"{unit['uses']}{' full' * unit['full']}", users]:
+            yield f"units: {row}"
+    if len(it["uses"]) < len(loop["units"]):
+        yield "units: some are not there"
+
+
+def seen_of_kernel(loop: dict[str, Any], it: dict[str, Any]) -> Iterator[str]:
+    """What a loop with a kernel shows besides."""
+    kernel, operations = loop["kernel"], loop["operations"]
+    names, count = [operation["name"] for operation in operations], len(operations)
+    slots = [[slot["row"], kernel["units"][slot["unit"]], slot["operation"]] for slot in kernel["slots"]]
+    keys = ("latency", "height", "time", "stage", "row", "alternative")
+    most = [str(row) for row, live in enumerate(kernel["live"]) if live == kernel["max_live"] > 0]
+    values = kernel["values"]
+    wanted = {
+        "slots": sorted(slots),
+        "units": ["row", *kernel["units"], "live"],
+        "live": [str(live) for live in kernel["live"]],
+        "most": most,
+        "issued": list(range(count)),
+        "ghosts": [[later, place] for later in (1, 2) for place in range(count)],
+        "iteration": [[str(place), o["name"], o["opcode"], *(str(o[key]) for key in keys)] for place, o in enumerate(operations)],
+        "levels": kernel["live"],
+        "values": [[names[v["operation"]], *map(str, (v["first"], v["last"], v["last"] - v["first"] + 1, v["register"]))] for v in values],
+    }
+    shown = it | {key: sorted(it[key]) for key in ("issued", "ghosts")} | {"slots": sorted(slot[:3] for slot in it["slots"])}
+    if kernel["ii"] > GREAT:
+        del wanted["live"], wanted["most"]
+    yield from wrong_with(wanted, shown)
+    for row, unit, place, text, classes in it["slots"]:
+        operation = operations[place]
+        if text != f"{operation['name']}{operation['stage']}" or ("held" in classes.split()) != (operation["row"] != row):
+            yield f"the slot of {unit} in row {row}: {text} {classes}"
+    if f"MaxLive {kernel['max_live']} of {kernel['registers']}" not in it["registers"]:
+        yield f"registers: {it['registers']}"
+    folds = [names[v["operation"]] for v in values for _ in range(v["first"] // kernel["ii"], v["last"] // kernel["ii"] + 1)]
+    if sorted(folds) != sorted(name for name, _ in it["bars"]):
+        yield f"bars of live ranges: {[name for name, _ in it['bars']]}"
+    yield from seen_of_places(loop, it)
+    interval = "every cycle" if kernel["ii"] == 1 else f"every {kernel['ii']} cycles"
+    if interval not in it["summary"] or str(kernel["ii"]) not in it["facts"] or kernel["held_by"] not in it["facts"]:
+        yield f"summary: {it['summary']} {it['facts']}"
+
+
+def is_near(one: float, other: float) -> bool:
+    """Whether two places are the same, but for rounding and a border's width."""
+    return abs(one - other) < 1.5
+
+
+def seen_of_places(loop: dict[str, Any], it: dict[str, Any]) -> Iterator[str]:
+    """Where the marks stand: operations by their times, the next iterations one and two intervals later, live ranges by their rows, each in
+    a row of its register in which no other is at the time, and operations of the graph from top to bottom by time."""
+    kernel, operations = loop["kernel"], loop["operations"]
+    times, ii = [operation["time"] for operation in operations], kernel["ii"]
+    at = {place: x for place, x, _ in it["issues"]}
+    zero = min(x for place, x in at.items() if times[place] == min(times))
+    shifts = [x - at[place] for later, place, x in it["laters"] if later == 1]
+    cell = shifts[0] / ii
+    if not all(is_near(x, zero + (times[place] - min(times)) * cell) for place, x in at.items()) or cell <= 0:
+        yield f"places of operations: {it['issues']}"
+    if not all(is_near(x, at[place] + later * ii * cell) for later, place, x in it["laters"]):
+        yield f"places of later iterations: {it['laters']}"
+    if any(colour != f"c{operations[place]['stage'] % 8}" for place, _, colour in it["issues"]):
+        yield f"colours of stages: {it['issues']}"
+    if any(one[1] >= other[1] for one in it["heights"] for other in it["heights"] if times[one[0]] < times[other[0]]):
+        yield f"rows of the graph: {it['heights']}"
+    yield from seen_of_folds(loop, it)
+
+
+def seen_of_folds(loop: dict[str, Any], it: dict[str, Any]) -> Iterator[str]:
+    """The bars of the live ranges: each value in the rows in which it lives, once for each turn that it lives in, and in no other's place."""
+    kernel, ii = loop["kernel"], loop["kernel"]["ii"]
+    wanted = []
+    for value in kernel["values"]:
+        for fold in range(value["first"] // ii, value["last"] // ii + 1):
+            first, last = max(value["first"] - fold * ii, 0), min(value["last"] - fold * ii, ii - 1)
+            left, (right, width) = it["columns"][first][0], it["columns"][last]
+            register = (value["register"] + fold) % kernel["registers"]
+            wanted.append((register, first, last, loop["operations"][value["operation"]]["name"], left, right + width))
+    lanes = sorted({lane for *_, lane in it["folds"]})
+    seen = sorted((lanes.index(lane), x, name, x + width) for name, x, width, lane in it["folds"])
+    registers = sorted({register for register, *_ in wanted})
+    for (lane, x, name, end), (register, _, _, its_name, left, right) in zip(seen, sorted(wanted)):
+        if (registers[lane], name) != (register, its_name) or not is_near(x, left) or not is_near(end, right):
+            yield f"the bar of {name} in lane {lane}: {x} to {end}, and not r{register}, {left} to {right}"
+    if any(one[0] == other[0] and other[1] < one[3] - 0.5 for one, other in zip(seen, seen[1:])):
+        yield f"bars that overlap: {seen}"
+
+
+def wrong_of(browser: Browser, path: str, document: dict[str, Any]) -> list[str]:
+    """What is wrong with the page at this path, which has to show all of the document."""
+    browser.open(path, "#all")
+    seen = browser.value(FACTS)
+    wrong = [f"console: {it}" for it in browser.console] + [f"asks for {it}" for it in browser.asked if not it.startswith(("file:", "data:"))]
+    if [it["name"] for it in seen] != [loop["name"] for loop in document["loops"]]:
+        return [*wrong, f"loops: {[it['name'] for it in seen]}"]
+    for loop, it in zip(document["loops"], seen):
+        wrong += [f"{loop['name']}: {why}" for why in seen_of_all(loop, it)]
+        if "kernel" in loop:
+            wrong += [f"{loop['name']}: {why}" for why in seen_of_kernel(loop, it)]
+        elif str(loop["failed_to"]) not in it["summary"] or loop["cause"] not in it["facts"]:
+            wrong.append(f"{loop['name']}: {it['summary']}")
+    return wrong

@@ -1,0 +1,6 @@
+pub mod Loops
+pub mod Places
+pub mod Meant
+pub mod Shown
+pub mod Evidence
+pub mod Carrying

@@ -1,0 +1,9 @@
+pub mod Names
+pub mod Registers
+pub mod Heads
+pub mod Operations
+pub mod Values
+pub mod Files
+pub mod Texts
+pub mod Outcomes
+pub mod Promises

@@ -1,0 +1,34 @@
+//! The lines that the text of a problem begins with.
+
+ghost use Rattle.std.specs.Prelude.{◌≡◌, ◌++◌, OnOk};
+ghost use Rattle.solution_text.specs.Heads.{bounds_line, head_text};
+
+use problems::Problem;
+use std::alloc::AllocError;
+use writing::{Text, push_both, push_told};
+
+/// Appends the line of a problem and its bounds.
+fn push_bounds(text: &mut Vec<u8>, name: &str, problem: &Problem) -> Result<(), AllocError>
+    ensures ok { OnOk result (text.new.items ≡ text.old.items ++ bounds_line name.now problem.now) }
+{
+    let scheduling = problem.scheduling();
+    push_both(text, "# ", name)?;
+    push_told(text, " ops ", scheduling.operations() as u64)?;
+    push_told(text, " res ", scheduling.resources())?;
+    push_told(text, " rec ", scheduling.recurrences())?;
+    push_told(text, " mii ", scheduling.mii())?;
+    text.push_piece("\n")
+}
+
+/// Appends this line, and other lines on the problem.
+pub(crate) fn push_head(
+    text: &mut Vec<u8>,
+    name: &str,
+    notes: &[u8],
+    problem: &Problem,
+) -> Result<(), AllocError>
+    ensures ok { OnOk result (text.new.items ≡ text.old.items ++ head_text name.now notes.now problem.now) }
+{
+    push_bounds(text, name, problem)?;
+    text.extend_from_slice(notes)
+}

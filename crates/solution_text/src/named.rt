@@ -1,0 +1,67 @@
+//! Registers, as the operations of a solution name them.
+
+ghost use Rattle.std.specs.Prelude.{◌≡◌, ◌++◌, ◌<◌, ◌≤◌, length, OnOk};
+ghost use Rattle.instances.specs.Runs.{home_of};
+ghost use Rattle.solutions.specs.Runs.{run_of};
+ghost use Rattle.solution_text.specs.Registers.{register_behind, register_text, spaced_register};
+
+use crate::names::push_name;
+use problems::{Draft, File};
+use solutions::Solution;
+use std::alloc::AllocError;
+use writing::{Text, push_told};
+
+/// A register of a rotating file.
+#[derive(Clone, Copy, Debug, PartialEq, Eq)]
+pub struct Register {
+    /// The number of the file, from 0.
+    pub file: usize,
+    /// The register's number in the file, from 0, as an operation names it.
+    pub number: usize,
+}
+
+/// The register that is so many behind the number of a value, counted round its file; none of a value of an unallotted file.
+pub(crate) fn register_behind(solution: &Solution, value: usize, above: u64) -> Option<Register>
+    requires there { value < length solution.now.problem.draft.values.items }
+    requires few { above ≤ 4096 }
+    ensures { result ≡ register_behind (home_of (run_of solution.now) value) above }
+{
+    let draft = solution.problem().draft();
+    let file = draft.values[value].file;
+    match draft.files[file] {
+        File::Rotating(registers) => Some(Register {
+            file,
+            number: (solution.number(value) + above as usize) % registers,
+        }),
+        File::Unallotted => None,
+    }
+}
+
+/// Appends a register by its file and its number.
+pub(crate) fn push_register(
+    text: &mut Vec<u8>,
+    draft: &Draft,
+    register: Register,
+) -> Result<(), AllocError>
+    ensures ok { OnOk result (text.new.items ≡ text.old.items ++ register_text draft.now register) }
+{
+    push_name(text, draft.names.files.as_slice(), register.file)?;
+    push_told(text, ".", register.number as u64)
+}
+
+/// Appends a register behind a blank, where there is one.
+pub(crate) fn push_spaced(
+    text: &mut Vec<u8>,
+    draft: &Draft,
+    register: Option<Register>,
+) -> Result<(), AllocError>
+    ensures ok { OnOk result (text.new.items ≡ text.old.items ++ spaced_register draft.now register) }
+{
+    match register {
+        Some(register) => {
+            text.push_piece(" ")?;
+            push_register(text, draft, register)
+        }
+        None => Ok(()),
+    }
+}

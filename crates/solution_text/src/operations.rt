@@ -1,0 +1,97 @@
+//! The lines of the operations of a solution.
+
+ghost use Rattle.std.specs.Prelude.{◌≡◌, ◌++◌, ◌<◌, length, OnOk};
+ghost use Rattle.std.specs.List.{flat_map};
+ghost use Rattle.modulo.specs.Schedules.{stage_of};
+ghost use Rattle.solutions.specs.Solutions.{schedule_of};
+ghost use Rattle.solution_text.specs.Operations.{hold_text, op_line, op_lines, placed_text, slot_text};
+
+use crate::names::push_name;
+use crate::uses::push_uses;
+use machine_data::Row;
+use problems::Draft;
+use solutions::Solution;
+use std::alloc::AllocError;
+use writing::{Text, push_told};
+
+/// Appends when an operation is issued in iteration 0, and by which of its alternatives.
+fn push_placed(text: &mut Vec<u8>, solution: &Solution, op: usize) -> Result<(), AllocError>
+    requires { op < length solution.now.problem.scheduling.operations }
+    ensures ok { OnOk result (text.new.items ≡ text.old.items ++ placed_text solution.now op) }
+{
+    let draft = solution.problem().draft();
+    text.push_piece("op ")?;
+    push_name(text, draft.names.operations.as_slice(), op)?;
+    push_told(text, " time ", solution.time(op))?;
+    push_told(text, " by ", solution.alternative(op) as u64)
+}
+
+/// Appends a unit that an operation holds behind a blank, and how many cycles after its issue.
+fn push_hold(text: &mut Vec<u8>, draft: &Draft, row: Row) -> Result<(), AllocError>
+    ensures ok { OnOk result (text.new.items ≡ text.old.items ++ hold_text draft.now row) }
+{
+    text.push_piece(" ")?;
+    push_name(text, draft.names.units.as_slice(), usize::from(row.unit))?;
+    if row.offset == 0 {
+        return Ok(());
+    }
+    push_told(text, "@", u64::from(row.offset))
+}
+
+/// Appends the units that an operation holds, each behind a blank.
+fn push_holds(text: &mut Vec<u8>, draft: &Draft, rows: &[Row]) -> Result<(), AllocError>
+    ensures ok { OnOk result (text.new.items ≡ text.old.items ++ flat_map (hold_text draft.now) rows.now) }
+{
+    for row in rows {
+        push_hold(text, draft, *row)?;
+    }
+    Ok(())
+}
+
+/// Appends the row and the stage of an operation, and the units that it holds.
+fn push_slot(text: &mut Vec<u8>, solution: &Solution, op: usize) -> Result<(), AllocError>
+    requires { op < length solution.now.problem.scheduling.operations }
+    ensures ok { OnOk result (text.new.items ≡ text.old.items ++ slot_text solution.now op) }
+{
+    let problem = solution.problem();
+    push_told(text, " # row ", solution.time(op) % solution.ii())?;
+    push_told(text, " stage ", stage_of(solution, op))?;
+    text.push_piece(":")?;
+    let alternatives = problem.scheduling().alternatives()[op].as_slice();
+    push_holds(
+        text,
+        problem.draft(),
+        alternatives[solution.alternative(op)].rows(),
+    )
+}
+
+/// The stage of an operation.
+fn stage_of(solution: &Solution, op: usize) -> u64
+    requires { op < length solution.now.problem.scheduling.operations }
+    ensures value { result ≡ stage_of (schedule_of solution.now) op }
+    ensures few { result < 64 }
+{
+    solution.time(op) / solution.ii()
+}
+
+/// Appends the line of an operation.
+#[tactic(auto, unfolding(crate::specs::Operations::op_line))]
+fn push_op(text: &mut Vec<u8>, solution: &Solution, op: usize) -> Result<(), AllocError>
+    requires { op < length solution.now.problem.scheduling.operations }
+    ensures ok { OnOk result (text.new.items ≡ text.old.items ++ op_line solution.now op) }
+{
+    push_placed(text, solution, op)?;
+    push_slot(text, solution, op)?;
+    push_uses(text, solution, op, stage_of(solution, op))?;
+    text.push_piece("\n")
+}
+
+/// Appends the lines of all operations, in order.
+pub(crate) fn push_ops(text: &mut Vec<u8>, solution: &Solution) -> Result<(), AllocError>
+    ensures ok { OnOk result (text.new.items ≡ text.old.items ++ op_lines solution.now) }
+{
+    for op in 0..solution.problem().scheduling().operations() {
+        push_op(text, solution, op)?;
+    }
+    Ok(())
+}

@@ -1,0 +1,14 @@
+//! The parts of lines that texts are made of: words, numbers behind words, and last lines, each pushed behind a text.
+#![tactic(auto, using(crate::proofs::Beginnings::front_part, crate::proofs::Beginnings::later_part, crate::proofs::Beginnings::no_part))]
+
+mod lines;
+mod parts;
+#[cfg(test)]
+mod tests;
+mod text;
+
+pub use lines::{push_last, push_line};
+pub use parts::{
+    push_at, push_both, push_integer, push_number, push_signed, push_told, push_with_sign,
+};
+pub use text::Text;

@@ -1,0 +1,37 @@
+//! Texts that pieces are pushed behind.
+
+ghost use Rattle.std.specs.Prelude.{◌≡◌, ℕ, List, ◌++◌, OnOk, OnErr};
+
+use std::alloc::AllocError;
+
+/// A text that grows. Contracts see its bytes.
+pub trait Text {
+    /// The bytes of the text.
+    ghost bytes: { Self → List ℕ };
+
+    /// Pushes a piece behind the text.
+    ///
+    /// # Errors
+    /// [`AllocError`] where memory ran out. The text is what it was.
+    fn push_piece(&mut self, piece: &str) -> Result<(), AllocError>
+        ensures ok { OnOk result (bytes self.new ≡ bytes self.old ++ piece.now) }
+        ensures err { OnErr result (bytes self.new ≡ bytes self.old) };
+}
+
+impl Text for String {
+    ghost use Rattle.std.specs.Prelude.{string_bytes};
+
+    ghost bytes = { λ s. string_bytes s };
+
+    fn push_piece(&mut self, piece: &str) -> Result<(), AllocError> {
+        self.push_str(piece)
+    }
+}
+
+impl Text for Vec<u8> {
+    ghost bytes = { λ v. v.items };
+
+    fn push_piece(&mut self, piece: &str) -> Result<(), AllocError> {
+        self.extend_from_slice(piece.as_bytes())
+    }
+}
