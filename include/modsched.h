@@ -1,5 +1,5 @@
 /* modsched.h - the proved scheduler for C and C++: a problem in arrays of numbers is solved into the caller's arrays,
- * and schedules that the caller gives are checked.
+ * schedules that the caller gives are checked, and what the program prints of texts is written into the caller's room.
  *
  * Types and sizes are those of 64-bit machines. All numbers count from 0 unless something else is said. Times, offsets, latencies
  * and delays are in cycles; a distance is in iterations.
@@ -221,6 +221,70 @@ enum {
 uint32_t modsched_check(const struct modsched_problem *problem, uint64_t interval, const uint64_t *times, size_t times_count,
                         const uint64_t *alternatives, size_t alternatives_count, const uint64_t *numbers, size_t numbers_count,
                         struct modsched_verdict *verdict);
+
+/* Texts. The calls below take the texts of a machine and of loops, as the program's files have them, and write what a command of the
+ * program prints of them, byte for byte. A text is a pointer and a length, at most 1,048,576 bytes; it needs no zero byte behind it.
+ *
+ * `out` is written from its beginning on, with as many bytes as there are and as `room` has; what is behind them stays as it was, and no
+ * zero byte is added. told->bytes is how many bytes there are in all. So one call with a room of 0 tells how much room is needed, and a second
+ * one has all of it written; or, where the room was enough, one call does. The room must not overlap the texts or told.
+ *
+ * With MODSCHED_PRINTED and MODSCHED_UNMET these bytes are what the command prints. With MODSCHED_MACHINE_REFUSED and
+ * MODSCHED_LOOPS_REFUSED they are the line that the program tells of the refusal, such as `loops: line 3: syntax`, without its name and
+ * the line feed. With the other two there are none, and the room stays as it was. */
+
+/* What a call with texts tells beside them. What does not belong to its status is 0. */
+struct modsched_told {
+    uint64_t bytes;  /* how many bytes there are in all, of which the first are in the room */
+    uint64_t line;   /* MODSCHED_LOOPS_REFUSED: the line at fault, from 1; 0 where the fault is of no one line, as an opcode without a table */
+    uint64_t misfit; /* MODSCHED_OUTSIDE: 1 the ratio, 2 the ceiling, 3 the trip count */
+};
+
+/* What a call with texts gives. */
+enum {
+    MODSCHED_PRINTED = 0,         /* the text is there, and each loop that a kernel was searched for has one */
+    MODSCHED_UNMET = 1,           /* the text is there, and some loop has no kernel */
+    MODSCHED_OUTSIDE = 2,         /* a number is out of its range; this is tested first, in the order ratio, ceiling, trip count */
+    MODSCHED_MACHINE_REFUSED = 4, /* the machine's text is refused */
+    MODSCHED_LOOPS_REFUSED = 5,   /* the loops' text is refused, or the machine has no table for an opcode of a loop */
+    MODSCHED_OUT_OF_MEMORY = 7    /* memory ran out, which says nothing of the texts */
+};
+
+/* `modsched schedule`: the listing. Each loop gets the kernel of its least interval that works, or the cause why none does. Intervals are
+ * tried from the least one on, at most `ceiling` (0 to 255) above it, each with at most `ratio` (1 to 64) placements for each operation; the
+ * program takes 6 and 32 where it is not told others. The calling thread alone searches; what is found is what the program finds with any number of workers. */
+uint32_t modsched_schedule(const uint8_t *machine, size_t machine_length, const uint8_t *loops, size_t loops_length, uint64_t ratio,
+                           uint64_t ceiling, uint8_t *out, size_t room, struct modsched_told *told);
+
+/* `modsched json`: the same listing as one JSON document. */
+uint32_t modsched_json(const uint8_t *machine, size_t machine_length, const uint8_t *loops, size_t loops_length, uint64_t ratio,
+                       uint64_t ceiling, uint8_t *out, size_t room, struct modsched_told *told);
+
+/* `modsched explain`: why each loop has its interval: what its bounds come from, what keeps each interval that was tried from a kernel, and
+ * when each value of the kernel lives. */
+uint32_t modsched_explain(const uint8_t *machine, size_t machine_length, const uint8_t *loops, size_t loops_length, uint64_t ratio,
+                          uint64_t ceiling, uint8_t *out, size_t room, struct modsched_told *told);
+
+/* `modsched run`: what the kernel of each loop leaves after `trip` iterations, 0 to 100,000, or the line of a loop that has none. */
+uint32_t modsched_run(const uint8_t *machine, size_t machine_length, const uint8_t *loops, size_t loops_length, uint64_t trip,
+                      uint64_t ratio, uint64_t ceiling, uint8_t *out, size_t room, struct modsched_told *told);
+
+/* `modsched plain`: what each loop leaves after `trip` iterations, 0 to 100,000, one after another. It reads no machine. Where a loop has a
+ * kernel, this is what modsched_run tells of it. */
+uint32_t modsched_plain(const uint8_t *loops, size_t loops_length, uint64_t trip, uint8_t *out, size_t room, struct modsched_told *told);
+
+/* `modsched bounds`: the lower bounds of the interval of each loop, by its units and by its recurrences. No kernel is searched for, so the
+ * status is never MODSCHED_UNMET, nor MODSCHED_OUTSIDE; likewise with the next two. */
+uint32_t modsched_bounds(const uint8_t *machine, size_t machine_length, const uint8_t *loops, size_t loops_length, uint8_t *out,
+                         size_t room, struct modsched_told *told);
+
+/* `modsched edges`: each dependence of each loop, and the height of each operation. */
+uint32_t modsched_edges(const uint8_t *machine, size_t machine_length, const uint8_t *loops, size_t loops_length, uint8_t *out,
+                        size_t room, struct modsched_told *told);
+
+/* `modsched dot`: the dependences of each loop as a graph for Graphviz. */
+uint32_t modsched_dot(const uint8_t *machine, size_t machine_length, const uint8_t *loops, size_t loops_length, uint8_t *out, size_t room,
+                      struct modsched_told *told);
 
 #ifdef __cplusplus
 }

@@ -1,4 +1,5 @@
-"""The proved scheduler for Python, over libmodsched.so. Problems are built by names; docs/LIBRARY.md says what statuses mean.
+"""The proved scheduler for Python, over libmodsched.so. Problems are built by names; docs/LIBRARY.md says what statuses mean. What the program
+prints of the texts of a machine and of loops is had by `schedule`, `json`, `explain`, `run`, `plain`, `bounds`, `edges` and `dot` of a Library.
 
     taps = Problem()
     taps.unit("port")
@@ -14,11 +15,11 @@ from __future__ import annotations
 
 import ctypes
 from dataclasses import dataclass, field
-from typing import Any, Collection, Mapping, Sequence
+from typing import Any, Collection, Mapping, NamedTuple, Sequence
 
 from .words import break_in_words, fault_in_words
 
-__all__ = ["AtFault", "Broken", "Library", "NoInterval", "Problem", "Schedule"]
+__all__ = ["AtFault", "Broken", "Library", "NoInterval", "Printed", "Problem", "Refused", "Schedule"]
 
 u32, u64, size = ctypes.c_uint32, ctypes.c_uint64, ctypes.c_size_t
 
@@ -76,6 +77,26 @@ class _Verdict(ctypes.Structure):
         *((name, ctypes.c_int64 if name == "delay" else u64) for name in ("kind", "stages", *_BROKEN, "misfit")),
         ("fault", _Fault),
     ]
+
+
+class _Told(ctypes.Structure):
+    _fields_ = [(name, u64) for name in ("bytes", "line", "misfit")]
+
+
+class Printed(NamedTuple):
+    """What a command prints, and whether each loop that a kernel was searched for has one."""
+
+    text: str
+    all_met: bool
+
+
+class Refused(Exception):
+    """A text is refused, as the program says it: whether it is the machine's, and the line at fault of the loops' text, from 1, or 0 where the
+    fault is of no one line."""
+
+    def __init__(self, told: str, of_machine: bool, line: int):
+        super().__init__(told)
+        self.of_machine, self.line = of_machine, line
 
 
 class Broken(Exception):
@@ -229,6 +250,65 @@ class Library:
         self._solve.argtypes = [ctypes.POINTER(_Problem), u64, u64, *array, *array, *array, ctypes.POINTER(_Answer)]
         self._check.argtypes = [ctypes.POINTER(_Problem), u64, *array, *array, *array, ctypes.POINTER(_Verdict)]
         self._solve.restype = self._check.restype = u32
+        text, out = [ctypes.c_char_p, size], [ctypes.c_char_p, size, ctypes.POINTER(_Told)]
+        self._texts = {name: getattr(library, f"modsched_{name}") for name in "schedule json explain run plain bounds edges dot".split()}
+        for name, call in self._texts.items():
+            numbers = {"run": 3, "plain": 1, "bounds": 0, "edges": 0, "dot": 0}.get(name, 2)
+            call.argtypes, call.restype = [*text * (1 if name == "plain" else 2), *[u64] * numbers, *out], u32
+
+    def _printed(self, name: str, texts: Sequence[str | bytes], *numbers: int) -> Printed:
+        given = [it.encode() if isinstance(it, str) else it for it in texts]
+        words = [it for text in given for it in (text, len(text))] + list(numbers)
+        if any(not 0 <= it < 1 << 64 for it in numbers):
+            raise ValueError(f"{numbers} are not all from 0 to 2 ** 64 - 1")
+        told, room = _Told(), ctypes.create_string_buffer(1 << 16)
+        status = self._texts[name](*words, room, len(room), told)
+        if told.bytes > len(room):
+            room = ctypes.create_string_buffer(told.bytes)
+            status = self._texts[name](*words, room, len(room), told)
+        handed = room.raw[: told.bytes].decode()
+        if status in (0, 1):
+            return Printed(handed, status == 0)
+        if status == 2:
+            outside = ("the ratio is not 1 to 64", "the ceiling is not 0 to 255", "the trip count is not 0 to 100000")
+            raise ValueError(outside[told.misfit - 1])
+        if status in (4, 5):
+            raise Refused(handed, status == 4, told.line)
+        raise MemoryError
+
+    def schedule(self, machine: str | bytes, loops: str | bytes, ratio: int = 6, ceiling: int = 32) -> Printed:
+        """The listing of the loops on the machine: of each loop the kernel of its least interval that works, or why none does. At most `ratio`
+        placements are made for each operation and interval, 1 to 64, at most `ceiling` intervals above the least one, 0 to 255. Raises
+        Refused, ValueError for a number that is out of its range, or MemoryError."""
+        return self._printed("schedule", (machine, loops), ratio, ceiling)
+
+    def json(self, machine: str | bytes, loops: str | bytes, ratio: int = 6, ceiling: int = 32) -> Printed:
+        """The same listing as one JSON document. Raises as `schedule`."""
+        return self._printed("json", (machine, loops), ratio, ceiling)
+
+    def explain(self, machine: str | bytes, loops: str | bytes, ratio: int = 6, ceiling: int = 32) -> Printed:
+        """Why each loop has its interval. Raises as `schedule`."""
+        return self._printed("explain", (machine, loops), ratio, ceiling)
+
+    def run(self, machine: str | bytes, loops: str | bytes, trip: int, ratio: int = 6, ceiling: int = 32) -> Printed:
+        """What the kernel of each loop leaves after so many iterations, 0 to 100,000. Raises as `schedule`."""
+        return self._printed("run", (machine, loops), trip, ratio, ceiling)
+
+    def plain(self, loops: str | bytes, trip: int) -> Printed:
+        """What each loop leaves after so many iterations, 0 to 100,000, one after another. Raises as `schedule`."""
+        return self._printed("plain", (loops,), trip)
+
+    def bounds(self, machine: str | bytes, loops: str | bytes) -> Printed:
+        """The lower bounds of the interval of each loop. Raises Refused or MemoryError."""
+        return self._printed("bounds", (machine, loops))
+
+    def edges(self, machine: str | bytes, loops: str | bytes) -> Printed:
+        """The dependences of each loop, and the height of each operation. Raises Refused or MemoryError."""
+        return self._printed("edges", (machine, loops))
+
+    def dot(self, machine: str | bytes, loops: str | bytes) -> Printed:
+        """The dependences of each loop as a graph for Graphviz. Raises Refused or MemoryError."""
+        return self._printed("dot", (machine, loops))
 
     def check(self, problem: Problem, schedule: Schedule) -> int:
         """How many stages a lawful schedule has, from wherever it comes; of it the interval, times, alternatives and numbers are looked at. Raises Broken,

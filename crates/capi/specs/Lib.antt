@@ -4,3 +4,4 @@ pub mod Answers
 pub mod Calls
 pub mod Verdicts
 pub mod Checks
+pub mod Texts

@@ -1,6 +1,5 @@
 -- What a check tells in numbers.
-use Rattle.std.specs.Prelude.{ℕ, ℤ, pos}
-use Rattle.graph.specs.declared.dependence.edge.Edge.{Edge as EdgeNumbers}
+use Rattle.std.specs.Prelude.{pos}
 use Rattle.modulo.specs.declared.schedules.breach.Breach.{Breach}
 use Rattle.modulo.specs.declared.schedules.breach.Breach.TheVariants.{Count, Time, Alternative, Slot, Edge, Stage}
 use Rattle.modulo.specs.Schedules.{stages_of}

@@ -1,4 +1,5 @@
-//! The proved scheduler as a static library for C: a problem in arrays of numbers is solved into the caller's arrays, and schedules that callers give are checked.
+//! The proved scheduler as a static library for C: a problem in arrays of numbers is solved into the caller's arrays, schedules that callers give are
+//! checked, and what the program prints of texts is written into the caller's room.
 #![tactic(auto)]
 
 ghost use Rattle.std.specs.Prelude.{◌≡◌, ◌≤◌, length, IfOk, MatchResult};
@@ -13,6 +14,9 @@ mod answer;
 mod checking;
 mod drafting;
 mod given;
+mod tasks;
+mod telling;
+mod texts;
 mod verdict;
 
 pub use answer::{Answer, FaultNumbers};
@@ -20,11 +24,16 @@ use answer::{failed_answer, fault_answer, met_answer, misfit_answer, nothing};
 pub use checking::modsched_check;
 use drafting::draft_of;
 pub use given::{Hold, Kind, Order, Problem, Read, Value};
-use machine_data::limits::{MAX_CEILING, MAX_RATIO};
 use problems::Refusal;
 use settings::Settings;
 use solutions::{Outcome, Solution, solve};
 use std::alloc::Global;
+pub use telling::Told;
+use texts::search_misfit;
+pub use texts::{
+    modsched_bounds, modsched_dot, modsched_edges, modsched_explain, modsched_json, modsched_plain,
+    modsched_run, modsched_schedule,
+};
 pub use verdict::Verdict;
 
 /// Solves a problem, with at most `ratio` placements for each operation and interval, 1 to 64, and at most `ceiling`
@@ -80,11 +89,9 @@ fn misfit_of(
 ) -> u64
     ensures { result ≡ misfit_of problem.now ratio ceiling times alternatives numbers }
 {
-    if ratio < 1 || ratio > MAX_RATIO {
-        return 1;
-    }
-    if ceiling > MAX_CEILING {
-        return 2;
+    let misfit = search_misfit(ratio, ceiling);
+    if misfit != 0 {
+        return misfit;
     }
     if times < problem.operations.len() {
         return 3;

@@ -15,7 +15,7 @@ use Rattle.command_line.specs.declared.command.Work.{Work}
 use Rattle.command_line.specs.declared.command.Work.TheVariants.{Plain, OnMachine}
 use Rattle.file_faults.specs.declared.fault.FileFault.{FileFault}
 use Rattle.file_faults.specs.declared.fault.FileFault.TheVariants as file
-use Rattle.modsched.specs.Outcomes.{Outcome}
+use Rattle.printouts.specs.Outcomes.{Outcome}
 use Rattle.modsched.specs.Devices.{most_read}
 use Rattle.modsched.specs.Engine.{Brings, WorkBrings}
 use Rattle.modsched.specs.inner.Refusals.{IsRefusal}

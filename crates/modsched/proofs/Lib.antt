@@ -1,5 +1,1 @@
 pub mod Ending
-pub mod KernelLines
-pub mod PlainLines
-pub mod Runnable
-pub mod Shapes

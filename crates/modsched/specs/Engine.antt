@@ -12,13 +12,13 @@ use Rattle.machine.specs.MachineText.{machine_of}
 use Rattle.machine.specs.Machines.{MachineData}
 use Rattle.loops.specs.Loops.{LoopData}
 use Rattle.loops.specs.Meaning.{loops_in}
-use Rattle.modsched.specs.Bounds.{IsBoundsText}
-use Rattle.modsched.specs.Explain.{IsExplainText}
-use Rattle.modsched.specs.Graphs.{IsDotText, IsEdgesText}
-use Rattle.modsched.specs.Outcomes.{Outcome, Written}
-use Rattle.modsched.specs.Plain.{IsPlainText}
-use Rattle.modsched.specs.Run.{IsRunText}
-use Rattle.modsched.specs.Schedule.{IsListingText, IsListingDocument}
+use Rattle.printouts.specs.Bounds.{IsBoundsText}
+use Rattle.printouts.specs.Explain.{IsExplainText}
+use Rattle.printouts.specs.Graphs.{IsDotText, IsEdgesText}
+use Rattle.printouts.specs.Outcomes.{Outcome, Written}
+use Rattle.printouts.specs.Plain.{IsPlainText}
+use Rattle.printouts.specs.Run.{IsRunText}
+use Rattle.printouts.specs.Schedule.{IsListingText, IsListingDocument}
 use Rattle.endings.specs.Statuses.{refusal_of_file}
 use Rattle.endings.specs.Writing.{EndsWritten}
 use Rattle.endings.specs.declared.status.Status.{Status}

@@ -2,8 +2,6 @@
 #![tactic(auto)]
 
 mod commands;
-mod laws;
-mod output;
 mod subcommand;
 
 pub use command_line::{Command, Search, TRIP_LIMIT, Task, Trip, Usage, Work, parse_line};
@@ -12,7 +10,7 @@ pub use devices::{
     StandardOutput, TEXT_LIMIT, TakenBytes, read_text, write_text,
 };
 pub use endings::{Line, Status, Told, exit_number, finish, show};
-pub use laws::kernels_tell_plain_lines;
+pub use printouts::kernels_tell_plain_lines;
 pub use settings::{OutOfRange, Settings};
 pub use subcommand::engine;
 

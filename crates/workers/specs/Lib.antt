@@ -6,10 +6,10 @@ pub use Rattle.candidates.specs.Promises
 pub use Rattle.ims.specs.Problems
 pub use Rattle.loops.specs.Meaning
 pub use Rattle.machine.specs.MachineText
+pub use Rattle.one_thread.specs.Files
 pub use Rattle.reports.specs.Entries
 pub use Rattle.reports.specs.Gathered
 pub use Rattle.reports.specs.declared.entry.Entry
 pub use Rattle.reports.specs.declared.entry.Found
 pub use Rattle.shared_work.specs.Settled
 pub use Rattle.shared_work.specs.Worked
-pub mod Files

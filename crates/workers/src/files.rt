@@ -1,22 +1,21 @@
 //! From the texts of a machine and of loops to their listing.
 
-ghost use Rattle.std.specs.Prelude.{◌≡◌, ◌≤◌, [], None, length, vec_capacity, vec_len, IfOk};
+ghost use Rattle.std.specs.Prelude.{◌≡◌, ◌≤◌, length, vec_len, IfOk};
 ghost use Rattle.std.specs.List.{All, AllZip};
 ghost use Rattle.machine.specs.MachineText.{machine_of};
 ghost use Rattle.loops.specs.Meaning.{loops_in};
-ghost use Rattle.graph.specs.Units.{first_without_table, first_lacking, lacking_or};
-ghost use Rattle.ims.specs.Problems.{IsProblemOf};
+ghost use Rattle.graph.specs.Units.{first_lacking};
 ghost use Rattle.candidates.specs.Choices.{IsChoice};
 ghost use Rattle.candidates.specs.Promises.{IsRight};
-ghost use Rattle.workers.specs.Files.{AnswersFile, AnswersOn, HaveCeiling, ListsFile, ListsProblems, Prepares, PreparesAndLists};
+ghost use Rattle.one_thread.specs.Files.{AnswersFile, AnswersOn, HaveCeiling, ListsFile, ListsProblems, PreparesAndLists};
 
-use candidates::{Listing, Pieces, Settings, prepare};
+use candidates::{Listing, Pieces, Settings};
 use file_faults::FileFault;
 use gathering::{Chosen, gather};
-use graph::GraphFault;
 use ims::Prepared;
 use loops::{Loop, read_loops};
 use machine::{Machine, OutOfMemory, read_machine};
+use one_thread::{list_choices, prepare_all};
 use shared_work::{Gate, run_workers};
 use std::alloc::Global;
 use std::thread::Threads;
@@ -102,12 +101,7 @@ fn list<R: Threads + Sync, G: Gate + Sync>(
 {
     let pieces = Pieces::of(loops.len(), settings.ceiling(), settings.cut());
     let chosen = choose_by_workers(rt, alloc, loops, &pieces, settings.workers(), gate)?;
-    Listing::of(
-        alloc,
-        settings.ceiling() as u8,
-        loops,
-        chosen.into_choices(),
-    )
+    list_choices(alloc, loops, chosen, settings)
 }
 
 /// The choice of each loop, by at most so many workers, 1 to 64, and no more than there are pieces. The
@@ -133,59 +127,5 @@ pub fn choose_by_workers<R: Threads + Sync, G: Gate + Sync>(
     match run_workers(rt, alloc, loops, pieces, workers, gate) {
         Ok(reports) => gather(alloc, loops, reports),
         Err(_) => gather(alloc, loops, Vec::new(alloc)),
-    }
-}
-
-/// All loops prepared, or the fault of the first that has an opcode without a table.
-fn prepare_all(
-    alloc: Global,
-    machine: &Machine,
-    loops: Vec<Loop>,
-    settings: &Settings,
-) -> Result<Vec<Prepared>, FileFault>
-    ensures exact { AnswersOn (Prepares settings.now.ratio settings.now.ceiling machine.now loops.items) (first_lacking machine.now loops.items) result }
-{
-    match Vec::with_capacity(alloc, loops.len()) {
-        Ok(prepared) => prepare_into(alloc, machine, loops, settings, prepared),
-        Err(fault) => Err(FileFault::from(fault)),
-    }
-}
-
-/// All loops prepared, in room that is there.
-fn prepare_into(
-    alloc: Global,
-    machine: &Machine,
-    loops: Vec<Loop>,
-    settings: &Settings,
-    mut prepared: Vec<Prepared>,
-) -> Result<Vec<Prepared>, FileFault>
-    requires room { vec_len loops ≤ vec_capacity prepared }
-    requires empty { prepared.items ≡ [] }
-    ensures exact { AnswersOn (Prepares settings.now.ratio settings.now.ceiling machine.now loops.items) (first_lacking machine.now loops.items) result }
-{
-    let mut loops = loops.into_iter();
-    while let Some(innermost) = loops.next() {
-        match prepare_one(alloc, machine, innermost, settings) {
-            Ok(one) => prepared.push_reserved(one),
-            Err(fault) => return Err(fault),
-        }
-    }
-    Ok(prepared)
-}
-
-/// A loop prepared, or its fault.
-fn prepare_one(
-    alloc: Global,
-    machine: &Machine,
-    innermost: Loop,
-    settings: &Settings,
-) -> Result<Prepared, FileFault>
-    ensures exact { AnswersOn (IsProblemOf machine.now innermost settings.now.ratio settings.now.ceiling) (lacking_or innermost.name (first_without_table machine.now innermost) None) result }
-{
-    let name = innermost.name().copied();
-    match prepare(alloc, machine, innermost, settings) {
-        Ok(prepared) => Ok(prepared),
-        Err(GraphFault::NoTable(opcode)) => Err(FileFault::NoTable(name, opcode)),
-        Err(GraphFault::Memory) => Err(FileFault::Memory),
     }
 }

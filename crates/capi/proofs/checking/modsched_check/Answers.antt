@@ -1,4 +1,3 @@
-use Rattle.std.proofs.Common.{sym, ◌∙◌, arith}
 use Rattle.capi.proofs.Ending.{is_checked, faulty_check}
 use Rattle.capi.proofs.checking.modsched_check.Goals as goal
 

@@ -1,9 +1,9 @@
 use Rattle.machine.specs.MachineText.{machine_of}
 use Rattle.loops.specs.Meaning.{loops_in}
 use Rattle.candidates.specs.Promises.{IsRight}
-use Rattle.workers.specs.Files.{PreparesAndLists}
+use Rattle.one_thread.specs.Files.{PreparesAndLists}
 use Rattle.file_faults.proofs.Answering.{file_ok}
-use Rattle.workers.proofs.Listed.{right_of}
+use Rattle.one_thread.proofs.Listed.{right_of}
 use Rattle.workers.proofs.files.pipeline_file.Goals as goal
 
 pub returns-in-Ok-clause-right : goal.returns-in-Ok-clause-right

@@ -1,0 +1,11 @@
+use Rattle.machine.specs.MachineText.{machine_of}
+use Rattle.loops.specs.Meaning.{loops_in}
+use Rattle.file_faults.specs.Answers.{AnswersFile}
+use Rattle.printouts.specs.Bounds.{IsBoundsText}
+use Rattle.capi.proofs.Texting.{brought}
+use Rattle.capi.proofs.texts.modsched_bounds.Goals as goal
+
+pub returns : goal.returns
+returns c =
+    brought (AnswersFile IsBoundsText (machine_of c.args.machine.now) (loops_in c.args.loops.now))
+    c.bounded.result c.args.room.now c.tell.new.room c.tell.new.told c.tell.result c.bounded.ensures tt c.tell.ensures

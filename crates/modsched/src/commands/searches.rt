@@ -1,0 +1,63 @@
+//! What the searches for kernels write, where workers in threads search.
+
+ghost use Rattle.std.specs.Prelude.{◌≤◌, vec_len};
+ghost use Rattle.graph.specs.Units.{first_lacking};
+ghost use Rattle.file_faults.specs.Answers.{AnswersOn};
+ghost use Rattle.printouts.specs.Run.{IsRunText};
+ghost use Rattle.printouts.specs.Schedule.{IsListingDocument, IsListingText};
+
+use command_line::Trip;
+use file_faults::FileFault;
+use loops::Loop;
+use machine::Machine;
+use printouts::{Printout, document_printout, listing_printout, run_printout};
+use settings::Settings;
+use std::alloc::Global;
+use std::thread::Threads;
+use workers::{OpenGate, pipeline_on};
+
+/// What `schedule` writes.
+pub(crate) fn schedule_text<R: Threads + Sync>(
+    rt: &R,
+    alloc: Global,
+    machine: &Machine,
+    loops: Vec<Loop>,
+    settings: &Settings,
+) -> Result<Printout, FileFault>
+    requires few { vec_len loops ≤ 1024 }
+    ensures { AnswersOn (IsListingText settings.now.ratio settings.now.ceiling machine.now loops.items) (first_lacking machine.now loops.items) result }
+{
+    let (_, listing) = pipeline_on(rt, alloc, machine, loops, settings, &OpenGate)?;
+    Ok(listing_printout(alloc, &listing)?)
+}
+
+/// What `json` writes.
+pub(crate) fn json_text<R: Threads + Sync>(
+    rt: &R,
+    alloc: Global,
+    machine: &Machine,
+    loops: Vec<Loop>,
+    settings: &Settings,
+) -> Result<Printout, FileFault>
+    requires few { vec_len loops ≤ 1024 }
+    ensures { AnswersOn (IsListingDocument settings.now.ratio settings.now.ceiling machine.now loops.items) (first_lacking machine.now loops.items) result }
+{
+    let (_, listing) = pipeline_on(rt, alloc, machine, loops, settings, &OpenGate)?;
+    Ok(document_printout(alloc, &listing)?)
+}
+
+/// What `run` writes.
+pub(crate) fn run_text<R: Threads + Sync>(
+    rt: &R,
+    alloc: Global,
+    machine: &Machine,
+    loops: Vec<Loop>,
+    trip: Trip,
+    settings: &Settings,
+) -> Result<Printout, FileFault>
+    requires few { vec_len loops ≤ 1024 }
+    ensures { AnswersOn (IsRunText trip settings.now.ratio settings.now.ceiling machine.now loops.items) (first_lacking machine.now loops.items) result }
+{
+    let (prepared, listing) = pipeline_on(rt, alloc, machine, loops, settings, &OpenGate)?;
+    Ok(run_printout(alloc, prepared.as_slice(), &listing, trip)?)
+}

@@ -1,0 +1,5 @@
+pub mod KernelLines
+pub mod PlainLines
+pub mod Runnable
+pub mod Shapes
+pub mod Told

@@ -1,0 +1,10 @@
+use Rattle.std.proofs.Common.{◌≡◌, ◌++◌, take}
+use Rattle.std.specs.List.{flat_map, zip}
+use Rattle.ims.specs.Problems.{ProblemData}
+use Rattle.candidates.specs.declared.listings.Row as row
+use Rattle.printouts.specs.Run.{choice_lines}
+use Rattle.printouts.proofs.commands.kernel_runs.push_rows.Given as goal
+
+abbrev pub invariant-loop-index : goal.invariant-loop-index
+invariant-loop-index l =
+    l.text.items ≡ l.initial.text.items ++ flat_map (λ (pair : ProblemData × row.Row). choice_lines l.fn.trip l.fn.listing.ceiling pair.0.loop pair.1 pair.1.choice) (take l.index (zip l.fn.prepared l.fn.listing.rows))

@@ -1,0 +1,10 @@
+-- What `bounds` writes.
+use Rattle.std.specs.Prelude.{◌≡◌, ℕ, true, List, ◌++◌, length}
+use Rattle.machine.specs.Machines.{MachineData}
+use Rattle.loops.specs.Loops.{LoopData}
+pub use Rattle.graph_text.specs.Bounds.{AreBounds, IsLines, bounds_line}
+use Rattle.printouts.specs.Outcomes.{Written, last_line}
+
+-- a line for each loop, and then `loops A`. No loop is unmet, since none is scheduled
+abbrev pub IsBoundsText : MachineData → List LoopData → Written → Type 0
+IsBoundsText machine loops written = (written.all_met ≡ true) × ((lines : List ℕ) × IsLines machine loops lines × (written.text ≡ lines ++ last_line (length loops)))

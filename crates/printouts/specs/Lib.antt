@@ -1,0 +1,8 @@
+pub mod Bounds
+pub mod Explain
+pub mod Graphs
+pub mod Outcomes
+pub mod Plain
+pub mod Run
+pub mod Schedule
+pub mod inner

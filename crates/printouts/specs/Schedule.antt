@@ -1,0 +1,31 @@
+-- What `schedule` and `json` write.
+use Rattle.std.specs.Prelude.{◌≡◌, ℕ, Bool, List}
+use Rattle.std.specs.List.{list_all}
+use Rattle.machine.specs.Machines.{MachineData}
+use Rattle.loops.specs.Loops.{LoopData}
+use Rattle.candidates.specs.declared.listings.Row.{Row}
+use Rattle.candidates.specs.Listings.{ListingData, is_met}
+use Rattle.candidates.specs.Promises.{IsRight, Lists}
+use Rattle.candidates.specs.Texts.{listing_text_of}
+use Rattle.listing_json.specs.Documents.{document_text}
+use Rattle.printouts.specs.Outcomes.{Written}
+
+-- every loop has a kernel
+abbrev pub are_met : List Row → Bool
+are_met rows = list_all (λ (row : Row). is_met row.choice) rows
+
+-- the text of the listing of one thread, each kernel of which is right, with whether every loop has a kernel
+pub record IsListingText (ratio ceiling : ℕ) (machine : MachineData) (loops : List LoopData) (written : Written) : Type 0 where
+  pub listing : ListingData
+  pub lists : Lists machine loops ratio ceiling listing
+  pub right : IsRight machine loops listing
+  pub is_text : written.text ≡ listing_text_of listing
+  pub met : written.all_met ≡ are_met listing.rows
+
+-- its document
+pub record IsListingDocument (ratio ceiling : ℕ) (machine : MachineData) (loops : List LoopData) (written : Written) : Type 0 where
+  pub listing : ListingData
+  pub lists : Lists machine loops ratio ceiling listing
+  pub right : IsRight machine loops listing
+  pub is_text : written.text ≡ document_text listing
+  pub met : written.all_met ≡ are_met listing.rows

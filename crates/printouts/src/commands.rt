@@ -1,0 +1,9 @@
+//! What each command prints.
+
+pub(crate) mod alone;
+pub(crate) mod bounds;
+pub(crate) mod explaining;
+pub(crate) mod graphs;
+pub(crate) mod kernel_runs;
+pub(crate) mod listings;
+pub(crate) mod plain;

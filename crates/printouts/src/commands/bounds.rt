@@ -1,0 +1,22 @@
+//! What `bounds` writes.
+
+ghost use Rattle.graph.specs.Units.{first_lacking};
+ghost use Rattle.file_faults.specs.Answers.{AnswersOn};
+ghost use Rattle.printouts.specs.Bounds.{IsBoundsText};
+
+use crate::output::lines::push_last;
+use crate::output::printout::Printout;
+use file_faults::FileFault;
+use graph_text::bounds_lines;
+use loops::Loop;
+use machine::Machine;
+use std::alloc::Global;
+
+/// What `bounds` writes.
+pub fn bounds_text(alloc: Global, machine: &Machine, loops: &[Loop]) -> Result<Printout, FileFault>
+    ensures { AnswersOn (IsBoundsText machine.now loops.now) (first_lacking machine.now loops.now) result }
+{
+    let mut text = bounds_lines(alloc, machine, loops)?;
+    push_last(&mut text, loops.len() as u64)?;
+    Ok(Printout::new(text, true))
+}

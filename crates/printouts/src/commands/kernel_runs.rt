@@ -1,0 +1,124 @@
+//! What `run` writes.
+
+ghost use Rattle.std.specs.Prelude.{◌≡◌, ◌≤◌, ◌++◌, IfOk, OnOk, map};
+ghost use Rattle.std.specs.List.{AllZip, flat_map, zip};
+ghost use Rattle.ims.specs.Problems.{ProblemData};
+ghost use Rattle.candidates.specs.declared.listings.Row as row;
+ghost use Rattle.candidates.specs.Listings.{IsRow};
+ghost use Rattle.candidates.specs.Texts.{counts_line, row_text};
+ghost use Rattle.one_thread.specs.Files.{ListsProblems};
+ghost use Rattle.printouts.specs.inner.Runnable.{HasSizesOf, IsRunnable};
+ghost use Rattle.printouts.specs.Run.{choice_lines, kernel_lines, told_lines};
+ghost use Rattle.printouts.specs.Schedule.{are_met};
+
+use crate::commands::listings::are_met;
+use crate::output::printout::Printout;
+use crate::output::run_lines::{push_run, within_limits};
+use candidates::{Choice, Listing, Row, write_last, write_row};
+use command_line::Trip;
+use ims::Prepared;
+use kernel::{Kernel, simulate};
+use loops::{Loop, opening};
+use std::alloc::{AllocError, Global};
+
+/// What `run` writes of prepared loops with their listing.
+///
+/// # Errors
+/// Memory was refused.
+pub fn run_printout(
+    alloc: Global,
+    prepared: &[Prepared],
+    listing: &Listing,
+    trip: Trip,
+) -> Result<Printout, AllocError>
+    requires { ListsProblems listing.now.ceiling prepared.now listing.now }
+    ensures text { IfOk result (λ w. w.text ≡ told_lines trip listing.now.ceiling (map (λ (p : ProblemData). p.loop) prepared.now) listing.now.rows ++ counts_line listing.now.rows) }
+    ensures met { IfOk result (λ w. w.all_met ≡ are_met listing.now.rows) }
+{
+    let mut text = Vec::new(alloc);
+    push_rows(alloc, &mut text, prepared, listing, trip)?;
+    push_counts(alloc, &mut text, listing.rows())?;
+    Ok(Printout::new(text, are_met(listing.rows())))
+}
+
+/// Appends what is told of each loop, in order.
+fn push_rows(
+    alloc: Global,
+    text: &mut Vec<u8>,
+    prepared: &[Prepared],
+    listing: &Listing,
+    trip: Trip,
+) -> Result<(), AllocError>
+    requires { AllZip (λ (p : ProblemData) (r : row.Row). IsRunnable p.loop r.choice) prepared.now listing.now.rows }
+    ensures { OnOk result (text.new.items ≡ text.old.items ++ flat_map (λ (pair : ProblemData × row.Row). choice_lines trip listing.now.ceiling pair.0.loop pair.1 pair.1.choice) (zip prepared.now listing.now.rows)) }
+{
+    let rows = listing.rows();
+    for index in 0..rows.len() {
+        let innermost = prepared[index].innermost();
+        push_row(
+            alloc,
+            text,
+            innermost,
+            listing.ceiling(),
+            &rows[index],
+            trip,
+        )?;
+    }
+    Ok(())
+}
+
+/// Appends what is told of a loop.
+fn push_row(
+    alloc: Global,
+    text: &mut Vec<u8>,
+    innermost: &Loop,
+    ceiling: u64,
+    row: &Row,
+    trip: Trip,
+) -> Result<(), AllocError>
+    requires ceiling { ceiling ≤ 255 }
+    requires row { IsRow row.now }
+    requires runs { IsRunnable innermost.now row.now.choice }
+    ensures { OnOk result (text.new.items ≡ text.old.items ++ choice_lines trip ceiling innermost.now row.now row.now.choice) }
+{
+    match &row.choice {
+        Choice::Met(_, kernel) => push_kernel(alloc, text, innermost, kernel, trip),
+        Choice::Failed(_) => push_failed(alloc, text, ceiling, row),
+    }
+}
+
+/// Appends the lines of the run of a loop's kernel.
+fn push_kernel(
+    alloc: Global,
+    text: &mut Vec<u8>,
+    innermost: &Loop,
+    kernel: &Kernel,
+    trip: Trip,
+) -> Result<(), AllocError>
+    requires { HasSizesOf innermost.now kernel.now }
+    ensures { OnOk result (text.new.items ≡ text.old.items ++ kernel_lines trip innermost.now kernel.now) }
+{
+    let before = within_limits(opening(alloc, innermost, trip.count()))?;
+    let after = within_limits(simulate(alloc, kernel, trip.count(), &before))?;
+    push_run(text, innermost, &before, &after)
+}
+
+/// Appends the line of a loop without a kernel.
+fn push_failed(alloc: Global, text: &mut Vec<u8>, ceiling: u64, row: &Row) -> Result<(), AllocError>
+    requires ceiling { ceiling ≤ 255 }
+    requires row { IsRow row.now }
+    ensures { OnOk result (text.new.items ≡ text.old.items ++ row_text ceiling row.now) }
+{
+    let mut line = String::new(alloc);
+    write_row(&mut line, ceiling, row)?;
+    text.extend_from_slice(line.as_bytes())
+}
+
+/// Appends the last line, with how many loops have a kernel and how many have none.
+fn push_counts(alloc: Global, text: &mut Vec<u8>, rows: &[Row]) -> Result<(), AllocError>
+    ensures { OnOk result (text.new.items ≡ text.old.items ++ counts_line rows.now) }
+{
+    let mut line = String::new(alloc);
+    write_last(&mut line, rows)?;
+    text.extend_from_slice(line.as_bytes())
+}

@@ -1,0 +1,43 @@
+//! What `schedule` and `json` write of a listing.
+
+ghost use Rattle.std.specs.Prelude.{◌≡◌, IfOk};
+ghost use Rattle.candidates.specs.Texts.{listing_text_of};
+ghost use Rattle.listing_json.specs.Documents.{document_text};
+ghost use Rattle.printouts.specs.Schedule.{are_met};
+
+use crate::output::printout::Printout;
+use candidates::{Listing, Row, listing_text};
+use listing_json::document_text;
+use machine::OutOfMemory;
+use std::alloc::Global;
+
+/// What `schedule` writes of a listing.
+///
+/// # Errors
+/// Memory was refused.
+pub fn listing_printout(alloc: Global, listing: &Listing) -> Result<Printout, OutOfMemory>
+    ensures text { IfOk result (λ w. w.text ≡ listing_text_of listing.now) }
+    ensures met { IfOk result (λ w. w.all_met ≡ are_met listing.now.rows) }
+{
+    let text = listing_text(alloc, listing)?.into_bytes();
+    Ok(Printout::new(text, are_met(listing.rows())))
+}
+
+/// What `json` writes of a listing.
+///
+/// # Errors
+/// Memory was refused.
+pub fn document_printout(alloc: Global, listing: &Listing) -> Result<Printout, OutOfMemory>
+    ensures text { IfOk result (λ w. w.text ≡ document_text listing.now) }
+    ensures met { IfOk result (λ w. w.all_met ≡ are_met listing.now.rows) }
+{
+    let text = document_text(alloc, listing)?.into_bytes();
+    Ok(Printout::new(text, are_met(listing.rows())))
+}
+
+/// Whether every loop has a kernel.
+pub(crate) fn are_met(rows: &[Row]) -> bool
+    ensures { result ≡ are_met rows.now }
+{
+    rows.iter().all(|row| row.choice.is_met())
+}

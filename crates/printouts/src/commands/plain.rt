@@ -1,0 +1,54 @@
+//! What `plain` writes.
+
+ghost use Rattle.std.specs.Prelude.{◌≡◌, ◌++◌, OnOk, None};
+ghost use Rattle.std.specs.List.{flat_map};
+ghost use Rattle.file_faults.specs.Answers.{AnswersOn};
+ghost use Rattle.printouts.specs.Plain.{IsPlainText, plain_lines};
+
+use crate::output::lines::push_last;
+use crate::output::printout::Printout;
+use crate::output::run_lines::{push_run, within_limits};
+use command_line::Trip;
+use file_faults::FileFault;
+use loops::{Loop, opening, run_from};
+use std::alloc::{AllocError, Global};
+
+/// What `plain` writes.
+pub fn plain_text(alloc: Global, loops: &[Loop], trip: Trip) -> Result<Printout, FileFault>
+    ensures { AnswersOn (IsPlainText trip loops.now) None result }
+{
+    let mut text = Vec::new(alloc);
+    push_loops(alloc, &mut text, loops, trip)?;
+    push_last(&mut text, loops.len() as u64)?;
+    Ok(Printout::new(text, true))
+}
+
+/// Appends the lines of all loops, in order.
+fn push_loops(
+    alloc: Global,
+    text: &mut Vec<u8>,
+    loops: &[Loop],
+    trip: Trip,
+) -> Result<(), AllocError>
+    ensures { OnOk result (text.new.items ≡ text.old.items ++ flat_map (plain_lines trip) loops.now) }
+{
+    for innermost in loops {
+        push_plain(alloc, text, innermost, trip)?;
+    }
+    Ok(())
+}
+
+/// Appends the lines of the plain run of a loop.
+fn push_plain(
+    alloc: Global,
+    text: &mut Vec<u8>,
+    innermost: &Loop,
+    trip: Trip,
+) -> Result<(), AllocError>
+    ensures { OnOk result (text.new.items ≡ text.old.items ++ plain_lines trip innermost.now) }
+{
+    let before = within_limits(opening(alloc, innermost, trip.count()))?;
+    let copy = before.copied(alloc)?;
+    let after = within_limits(run_from(alloc, innermost, copy))?;
+    push_run(text, innermost, &before, &after)
+}

@@ -1,0 +1,16 @@
+//! What commands print, as texts over machines and loops that were read, by the choices of one thread.
+#![tactic(auto)]
+
+mod commands;
+mod laws;
+mod output;
+
+pub use commands::alone::{json_alone, run_alone, schedule_alone};
+pub use commands::bounds::bounds_text;
+pub use commands::explaining::explain_text;
+pub use commands::graphs::{dot_text, edges_text};
+pub use commands::kernel_runs::run_printout;
+pub use commands::listings::{document_printout, listing_printout};
+pub use commands::plain::plain_text;
+pub use laws::kernels_tell_plain_lines;
+pub use output::printout::Printout;

@@ -1,0 +1,93 @@
+//! The lines of the cells that a run changed. A long run writes millions of them, so that a line is made
+//! from its end to its begin in one buffer, and appended at once.
+
+ghost use Rattle.std.specs.Prelude.{◌≡◌, ◌+◌, ◌<◌, ◌≤◌, ◌++◌, codes, length, drop, OnOk};
+ghost use Rattle.std.specs.Fmt.{signed_decimal};
+ghost use Rattle.printouts.specs.Plain.{cell_line, cell_lines, line_if_changed};
+
+use itoa::write_digits;
+use loops::Memory;
+use std::alloc::AllocError;
+
+/// How many bytes the longest end of a cell's line has, from `[` on: two numbers of at most 20 bytes each,
+/// and four more.
+const TAIL: usize = 44;
+
+/// Appends the lines of the changed cells of the array of a number and a name, in ascending order.
+pub(crate) fn push_cells(
+    text: &mut Vec<u8>,
+    name: &str,
+    array: usize,
+    before: &Memory,
+    after: &Memory,
+) -> Result<(), AllocError>
+    requires trip { before.now.trip ≡ after.now.trip }
+    requires before { array < length before.now.arrays }
+    requires after { array < length after.now.arrays }
+    ensures { OnOk result (text.new.items ≡ text.old.items ++ cell_lines before.now after.now array name.now) }
+{
+    let kept = before.cells(array);
+    let values = after.cells(array);
+    for (index, value) in values.iter().enumerate() {
+        push_changed(text, name, index as i64 - 64, kept[index], *value)?;
+    }
+    Ok(())
+}
+
+/// Appends the line of a cell, where it has another value than before.
+fn push_changed(
+    text: &mut Vec<u8>,
+    name: &str,
+    cell: i64,
+    kept: i64,
+    value: i64,
+) -> Result<(), AllocError>
+    ensures { OnOk result (text.new.items ≡ text.old.items ++ line_if_changed name.now cell kept value) }
+{
+    if value == kept {
+        return Ok(());
+    }
+    push_cell(text, name, cell, value)
+}
+
+/// Appends the line of a cell.
+fn push_cell(text: &mut Vec<u8>, name: &str, cell: i64, value: i64) -> Result<(), AllocError>
+    ensures { OnOk result (text.new.items ≡ text.old.items ++ cell_line name.now cell value) }
+{
+    let mut tail = [0; TAIL];
+    let start = write_tail(cell, value, &mut tail);
+    text.extend_from_slice(name.as_bytes())?;
+    text.extend_from_slice(&tail[start..])
+}
+
+/// Writes the end of a cell's line, behind the array's name, at the end of a buffer, and returns where it
+/// starts.
+fn write_tail(cell: i64, value: i64, buffer: &mut [u8]) -> usize
+    requires { length buffer.old ≡ 44 }
+    ensures within { result ≤ 44 }
+    ensures written { drop result buffer.new ≡ codes "[" ++ (signed_decimal cell ++ (codes "] " ++ (signed_decimal value ++ codes "\n"))) }
+{
+    buffer[TAIL - 1] = b'\n';
+    let start = write_signed(value, buffer, TAIL - 1);
+    buffer[start - 1] = b' ';
+    buffer[start - 2] = b']';
+    let first = write_signed(cell, buffer, start - 2);
+    buffer[first - 1] = b'[';
+    first - 1
+}
+
+/// Writes a signed number in decimal digits so that it ends at `end`, and returns where it starts.
+fn write_signed(number: i64, buffer: &mut [u8], end: usize) -> usize
+    requires room { 20 ≤ end }
+    requires within { end ≤ length buffer.old }
+    ensures start { result + length (signed_decimal number) ≡ end }
+    ensures short { end ≤ result + 20 }
+    ensures written { drop result buffer.new ≡ signed_decimal number ++ drop end buffer.old }
+{
+    let start = write_digits(number.unsigned_abs(), buffer, end);
+    if number >= 0 {
+        return start;
+    }
+    buffer[start - 1] = b'-';
+    start - 1
+}

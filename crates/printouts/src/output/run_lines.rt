@@ -1,0 +1,97 @@
+//! The lines of a run.
+
+ghost use Rattle.std.specs.Prelude.{◌≡◌, ◌++◌, length, IfOk, OnOk, IsErrOf, Ok};
+ghost use Rattle.loops.specs.Run.{HasShapeOf};
+ghost use Rattle.printouts.specs.Plain.{run_line, out_line, array_lines, out_lines, run_lines};
+
+use crate::output::cell_lines::push_cells;
+use crate::output::lines::{push_number, push_signed};
+use loops::{Loop, Memory, RunFault, value_name};
+use std::alloc::AllocError;
+
+/// The answer of a run that only want of memory can refuse.
+pub(crate) fn within_limits(answer: Result<Memory, RunFault>) -> Result<Memory, AllocError>
+    requires trip { ¬ IsErrOf answer RunFault.Trip }
+    requires shape { ¬ IsErrOf answer RunFault.Shape }
+    ensures { IfOk result (λ memory. answer ≡ Ok memory) }
+{
+    match answer {
+        Ok(memory) => Ok(memory),
+        Err(fault) => match fault {
+            RunFault::Memory => Err(AllocError),
+            RunFault::Trip | RunFault::Shape => unreachable!(),
+        },
+    }
+}
+
+/// Appends the lines of a run of a loop from one memory to another.
+pub(crate) fn push_run(
+    text: &mut Vec<u8>,
+    innermost: &Loop,
+    before: &Memory,
+    after: &Memory,
+) -> Result<(), AllocError>
+    requires trip { before.now.trip ≡ after.now.trip }
+    requires before { HasShapeOf innermost.now before.now }
+    requires after { HasShapeOf innermost.now after.now }
+    ensures { OnOk result (text.new.items ≡ text.old.items ++ run_lines innermost.now before.now after.now) }
+{
+    push_head(text, innermost, after.trip())?;
+    push_arrays(text, innermost, before, after)?;
+    push_outs(text, innermost, after)
+}
+
+/// Appends the line that names a loop and its trip count.
+fn push_head(text: &mut Vec<u8>, innermost: &Loop, trip: u64) -> Result<(), AllocError>
+    ensures { OnOk result (text.new.items ≡ text.old.items ++ run_line innermost.now.name trip) }
+{
+    text.extend_from_slice(b"loop ")?;
+    text.extend_from_slice(innermost.name().as_str().as_bytes())?;
+    text.extend_from_slice(b" trip ")?;
+    push_number(text, trip)?;
+    text.extend_from_slice(b"\n")
+}
+
+/// Appends the lines of the changed cells of all arrays, in order.
+fn push_arrays(
+    text: &mut Vec<u8>,
+    innermost: &Loop,
+    before: &Memory,
+    after: &Memory,
+) -> Result<(), AllocError>
+    requires trip { before.now.trip ≡ after.now.trip }
+    requires before { length before.now.arrays ≡ length innermost.now.arrays }
+    requires after { length after.now.arrays ≡ length innermost.now.arrays }
+    ensures { OnOk result (text.new.items ≡ text.old.items ++ array_lines innermost.now before.now after.now) }
+{
+    let arrays = innermost.arrays();
+    for number in 0..arrays.len() {
+        let name = arrays[number].name.as_str();
+        push_cells(text, name, number, before, after)?;
+    }
+    Ok(())
+}
+
+/// Appends the lines of the values that are live at the end, in order.
+fn push_outs(text: &mut Vec<u8>, innermost: &Loop, after: &Memory) -> Result<(), AllocError>
+    requires { length after.now.outs ≡ length innermost.now.outs }
+    ensures { OnOk result (text.new.items ≡ text.old.items ++ out_lines innermost.now after.now) }
+{
+    let statements = innermost.outs();
+    for index in 0..statements.len() {
+        let name = value_name(innermost, statements[index]);
+        push_out(text, name, after.out(index))?;
+    }
+    Ok(())
+}
+
+/// Appends the line of a value that is live at the end.
+fn push_out(text: &mut Vec<u8>, name: &str, value: i64) -> Result<(), AllocError>
+    ensures { OnOk result (text.new.items ≡ text.old.items ++ out_line name.now value) }
+{
+    text.extend_from_slice(b"out ")?;
+    text.extend_from_slice(name.as_bytes())?;
+    text.extend_from_slice(b" ")?;
+    push_signed(text, value)?;
+    text.extend_from_slice(b"\n")
+}
