@@ -1,8 +1,8 @@
 #!/usr/bin/env python3
-"""Makes one HTML page that shows the schedules of a file of loops: kernels, iterations, registers, dependences.
+"""Makes one HTML page that shows the schedules of a file of loops, or of scheduling problems: kernels, iterations, registers, dependences.
 
-It runs `modsched edges`, `explain` and `json` on the two files and joins what they print into one JSON document, which stands in the page
-between its fixed head and its fixed tail. README.md beside this script has the document's format."""
+It runs `modsched edges`, `explain` and `json` on a machine and loops, or `modsched solve` on a text of problems, and joins what they print into one JSON
+document, which stands in the page between its fixed head and its fixed tail. README.md beside this script has the document's format."""
 from __future__ import annotations
 
 import argparse
@@ -15,6 +15,7 @@ from typing import Any
 
 from document import Mismatch, join, text_of
 from lines import Misfit, read_edges, read_explain
+from problem_document import join_problems
 
 HERE = os.path.dirname(os.path.realpath(__file__))
 
@@ -56,22 +57,49 @@ def document_of(program: str, machine: str, loops: str, options: list[str]) -> d
         raise Mismatch("json", f"not the document of docs/FORMATS.md: {fault!r}") from fault
 
 
+def document_of_problems(program: str, problems: str, options: list[str]) -> dict[str, Any]:
+    """The document for a text of problems; the options are those of `solve`."""
+    told = printed(program, ["solve", problems, *options])
+    with open(problems, "rb") as text:
+        return join_problems(text.read(), told)
+
+
 def page_of(document: str) -> str:
     """The page around the line of a document."""
     with open(f"{HERE}/head.html", encoding="utf-8") as head, open(f"{HERE}/tail.html", encoding="utf-8") as tail:
         return head.read() + document + tail.read()
 
 
+def written(path: str | None, text: bytes) -> int:
+    """Writes the page to a file, or to standard output. The status is 6, as that of the program, where the file can't be written."""
+    if path is None:
+        sys.stdout.buffer.write(text)
+        return 0
+    try:
+        with open(path, "wb") as to:
+            to.write(text)
+    except OSError as fault:
+        print(f"report: cannot write {path}: {fault.strerror}", file=sys.stderr)
+        return 6
+    return 0
+
+
 def parsed(words: list[str] | None) -> argparse.Namespace:
     """The command line."""
-    parser = argparse.ArgumentParser(prog="report.py", description=(__doc__ or "").split("\n\n")[0])
+    usage = "report.py [options] MACHINE LOOPS\n       report.py [options] --problems PROBLEMS"
+    parser = argparse.ArgumentParser(prog="report.py", usage=usage, description=(__doc__ or "").split("\n\n")[0])
     parser.add_argument("--modsched", metavar="PATH", default=program_beside(), help="the program (else MODSCHED, or the one of this folder)")
     parser.add_argument("--json", action="store_true", help="write the document alone")
-    parser.add_argument("--ratio", metavar="R", help="passed on to explain and json")
-    parser.add_argument("--ceiling", metavar="C", help="passed on to explain and json")
-    parser.add_argument("machine", metavar="MACHINE")
-    parser.add_argument("loops", metavar="LOOPS")
-    return parser.parse_args(words)
+    parser.add_argument("-o", dest="page", metavar="PAGE", help="write to this file, and not to standard output")
+    parser.add_argument("--ratio", metavar="R", help="passed on to explain and json, or to solve")
+    parser.add_argument("--ceiling", metavar="C", help="passed on to explain and json, or to solve")
+    parser.add_argument("--problems", metavar="PROBLEMS", help="a text of scheduling problems, in place of a machine and loops")
+    parser.add_argument("machine", metavar="MACHINE", nargs="?")
+    parser.add_argument("loops", metavar="LOOPS", nargs="?")
+    given = parser.parse_args(words)
+    if (given.machine, given.loops).count(None) != (0 if given.problems is None else 2):
+        parser.error("a machine and loops are needed, or --problems and a text of problems alone")
+    return given
 
 
 def main(words: list[str] | None = None) -> int:
@@ -80,7 +108,10 @@ def main(words: list[str] | None = None) -> int:
     given = parsed(words)
     options = [word for name in ("ratio", "ceiling") if getattr(given, name) for word in (f"--{name}", getattr(given, name))]
     try:
-        document = text_of(document_of(given.modsched, given.machine, given.loops, options))
+        if given.problems is not None:
+            document = text_of(document_of_problems(given.modsched, given.problems, options))
+        else:
+            document = text_of(document_of(given.modsched, given.machine, given.loops, options))
     except (Misfit, Mismatch) as fault:
         print(f"report: {fault}", file=sys.stderr)
         return 8
@@ -90,8 +121,7 @@ def main(words: list[str] | None = None) -> int:
     except OSError as fault:
         print(f"report: {given.modsched} does not run: {fault.strerror}", file=sys.stderr)
         return 2
-    sys.stdout.buffer.write((document if given.json else page_of(document)).encode())
-    return 0
+    return written(given.page, (document if given.json else page_of(document)).encode())
 
 
 if __name__ == "__main__":

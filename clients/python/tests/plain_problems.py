@@ -28,13 +28,17 @@ def edges_of(problem):
 # bounds
 
 
-def resource_bound(problem):
+def uses(problem):
     """The operations choose one after another, those with the fewest alternatives first: each the alternative that leaves the most used unit the least used."""
     every, used = alternatives_of(problem), [0] * problem.units
     for op in sorted(range(len(every)), key=lambda it: len(every[it])):
         after = [[n + sum(unit == u for unit, _ in rows) for u, n in enumerate(used)] for rows in every[op]]
         used = min(after, key=max)
-    return max([1, *used])
+    return used
+
+
+def resource_bound(problem):
+    return max(uses(problem))
 
 
 def longest(problem, ii):
@@ -58,10 +62,15 @@ def longest(problem, ii):
 
 
 def recurrence_bound(problem):
-    ii = 1
-    while longest(problem, ii) is None:
-        ii += 1
-    return ii
+    """The least interval at which no circuit is longer than 0: then none is at a longer one."""
+    least = 1
+    while longest(problem, least) is None:
+        least *= 2
+    short = least // 2
+    while short + 1 < least:
+        middle = (short + least) // 2
+        short, least = (middle, least) if longest(problem, middle) is None else (short, middle)
+    return least
 
 
 def heights(problem, ii):
@@ -82,11 +91,17 @@ def collides(rows, ii):
 
 def attempt(problem, ii):
     """The times and alternatives, or the cause."""
+    found = tried(problem, ii)
+    return found[0] if isinstance(found[0], str) else found
+
+
+def tried(problem, ii):
+    """The times and alternatives, or the cause and who is behind it: an operation, those that have no place, or one and its time."""
     every, edges, height = alternatives_of(problem), edges_of(problem), heights(problem, ii)
     count, placed, last = len(every), {}, {}
     usable = [[number for number, rows in enumerate(of) if not collides(rows, ii)] for of in every]
     if not all(usable):
-        return "table"
+        return "table", usable.index([])
     for _ in range(problem.ratio * count):
         waiting = [op for op in range(count) if op not in placed]
         if not waiting:
@@ -102,9 +117,10 @@ def attempt(problem, ii):
             del placed[it]
         placed[op], last[op] = (time, by), time
     if len(placed) < count:
-        return "budget"
-    if any(placed[op][0] // ii >= 64 for op in range(count)):
-        return "stages"
+        return "budget", [op for op in range(count) if op not in placed]
+    late = next((op for op in range(count) if placed[op][0] // ii >= 64), None)
+    if late is not None:
+        return "stages", late, placed[late][0]
     return [placed[op][0] for op in range(count)], [placed[op][1] for op in range(count)]
 
 
@@ -172,24 +188,52 @@ def solve(problem):
 
 
 def is_lawful(problem, solution):
+    _, times, choices, numbers = solution
+    count = len(problem.operations)
+    if len(numbers) != len(problem.values) or len(times) != count or len(choices) != count or min([0, *times, *choices, *numbers]) < 0:
+        return False
+    return first_broken(problem, solution) is None
+
+
+def first_broken(problem, solution):
+    """What lists of the right lengths break first, or None: a word and the numbers that belong to it."""
     ii, times, choices, numbers = solution
-    every, count = alternatives_of(problem), len(problem.operations)
-    if not 1 <= ii <= 16384 or len(numbers) != len(problem.values) or len(times) != count or len(choices) != count:
-        return False
-    for (_, _, file, _), number in zip(problem.values, numbers):
-        if not 0 <= number < (problem.files[file] or 1):
-            return False
-    if any(not 0 <= time < 64 * ii for time in times) or any(not 0 <= by < len(of) for by, of in zip(choices, every)):
-        return False
-    held = [slot for op in range(count) for slot in slots(every[op][choices[op]], times[op], ii)]
-    if len({*held}) < len(held):
-        return False
-    if any(times[other] + ii * distance < times[one] + delay for one, other, distance, delay in edges_of(problem)):
-        return False
+    if not 1 <= ii <= 16384:
+        return ("interval",)
+    for value, ((_, _, file, _), number) in enumerate(zip(problem.values, numbers)):
+        if number >= (problem.files[file] or 1):
+            return "number", value
+    return broken_schedule(problem, ii, times, choices) or broken_registers(problem, ii, times, numbers)
+
+
+def broken_schedule(problem, ii, times, choices):
+    every = alternatives_of(problem)
+    for op, of in enumerate(every):
+        if times[op] >= 64 * 16384:
+            return "time", op
+        if choices[op] >= len(of):
+            return "alternative", op
+    held = {}
+    for op, of in enumerate(every):
+        for slot in slots(of[choices[op]], times[op], ii):
+            if slot in held:
+                return "slot", held[slot], op, *slot
+            held[slot] = op
+    for one, other, distance, delay in edges_of(problem):
+        early = times[one] + delay - ii * distance - times[other]
+        if early > 0:
+            return "edge", one, other, distance, delay, early
+    return next((("stage", op) for op, time in enumerate(times) if time // ii >= 64), None)
+
+
+def broken_registers(problem, ii, times, numbers):
+    """Of the first file that is broken the first value that meets one before it or itself, the first one that it meets, the register, and a cycle."""
     found = lives(problem, ii, times)
     for file, registers in enumerate(problem.files):
         of = [it for it, value in enumerate(problem.values) if value[2] == file and registers is not None]
         for place, value in enumerate(of):
-            if any(meet(ii, registers, found[it], numbers[it], found[value], numbers[value], it == value) is not None for it in of[: place + 1]):
-                return False
-    return True
+            for it in of[: place + 1]:
+                cycle = meet(ii, registers, found[it], numbers[it], found[value], numbers[value], it == value)
+                if cycle is not None:
+                    return "registers", file, it, value, numbers[value], cycle
+    return None

@@ -2,7 +2,7 @@
 from __future__ import annotations
 
 import json
-from typing import Any, Iterator
+from typing import Any, Callable, Iterator
 
 from browser import Browser
 
@@ -37,6 +37,13 @@ FACTS = """(async () => {
       later: all("graph", "path.edge.later").map(it => +it.dataset.edge), critical: all("graph", "path.edge.crit").map(it => +it.dataset.edge),
       labels: all("graph", "text.sum").map(it => [+it.dataset.edge, it.textContent]), graph: texts(chart("graph"), "figcaption p")[0],
       dependences: cells(chart("graph").querySelector("details table")), tried: cells(part("tried")), uses: cells(part("units")), circuit: cells(part("circuit")),
+      files: [...section.querySelectorAll("[data-chart=registers]")].map(it => ({
+        title: texts(it, "h3")[0], values: cells(it.querySelector("details table")), levels: [...it.querySelectorAll("[data-live]")].map(level => +level.dataset.live),
+        columns: [...it.querySelectorAll("[data-live]")].map(level => [level.x.baseVal.value, level.width.baseVal.value]),
+        folds: [...it.querySelectorAll("g[data-value]")].map(bar => [bar.dataset.value, bar.getBBox()]).map(([name, box]) => [name, box.x, box.width, box.y]),
+        makers: [...it.querySelectorAll("g[data-value]")].map(bar => [bar.dataset.value, +bar.dataset.op]),
+      })),
+      tips: all("graph", "g[data-op]").map(it => [+it.dataset.op, it.getAttribute("aria-label")]), held: cells(part("files")),
       sums: part("circuit") ? texts(part("circuit"), "tfoot td") : null,
       mute: marks.filter(it => !it.getAttribute("aria-label")).length, stops: marks.filter(it => it.tabIndex === 0).length, charts: section.querySelectorAll("figure").length,
       nameless: [...section.querySelectorAll("figure, figure svg[role]")].filter(it => !it.getAttribute("aria-label") && !document.getElementById(it.getAttribute("aria-labelledby"))).length,
@@ -59,7 +66,8 @@ def seen_of_all(loop: dict[str, Any], it: dict[str, Any]) -> Iterator[str]:
     names = [operation["name"] for operation in operations]
     places = range(len(edges))
     numbers = [[it["delay"], it["distance"]] for it in edges]
-    rows = [[f"{e['from']} {names[e['from']]}", f"{e['to']} {names[e['to']]}", e["kind"], *map(str, n)] for e, n in zip(edges, numbers)]
+    kinds = [e["kind"] + (f" {loop['values'][e['value']]['name']}" if "value" in e else "") for e in edges]
+    rows = [[f"{e['from']} {names[e['from']]}", f"{e['to']} {names[e['to']]}", kind, *map(str, n)] for e, kind, n in zip(edges, kinds, numbers)]
     of_circuit = circuit["edges"] if circuit else []
     labels = [[at, ("" if e["kind"] == "value" else f"{e['kind']} ") + f"{e['delay']}" + (f" @{e['distance']}" if e["distance"] else "")] for at, e in enumerate(edges)]
     wanted = {
@@ -74,7 +82,7 @@ def seen_of_all(loop: dict[str, Any], it: dict[str, Any]) -> Iterator[str]:
         "mute": 0,
         "nameless": 0,
         "wide": False,
-        "stops": it["charts"] - (0 if loop.get("kernel", {}).get("values", True) else 1),
+        "stops": it["charts"] - (0 if "files" in loop or loop.get("kernel", {}).get("values", True) else 1),
     }
     shown = it | {key: sorted(it[key]) for key in ("nodes", "edges", "later", "critical", "labels")}
     yield from wrong_with(wanted, shown)
@@ -83,7 +91,6 @@ def seen_of_all(loop: dict[str, Any], it: dict[str, Any]) -> Iterator[str]:
             yield f"facts: {number} is not there"
     if circuit and f"= {circuit['delay']}" not in it["graph"] and f" {circuit['delay']} " not in it["graph"]:
         yield f"the circuit's sum is not told: {it['graph']}"
-    yield from seen_of_tables(loop, it, names)
 
 
 def seen_of_tables(loop: dict[str, Any], it: dict[str, Any], names: list[str]) -> Iterator[str]:
@@ -135,6 +142,8 @@ def seen_of_kernel(loop: dict[str, Any], it: dict[str, Any]) -> Iterator[str]:
     if sorted(folds) != sorted(name for name, _ in it["bars"]):
         yield f"bars of live ranges: {[name for name, _ in it['bars']]}"
     yield from seen_of_places(loop, it)
+    held = [(names[v["operation"]], v["first"], v["last"]) for v in values]
+    yield from seen_of_bars(kernel["ii"], held, lambda place, fold: (values[place]["register"] + fold) % kernel["registers"], it["columns"], it["folds"])
     interval = "every cycle" if kernel["ii"] == 1 else f"every {kernel['ii']} cycles"
     if interval not in it["summary"] or str(kernel["ii"]) not in it["facts"] or kernel["held_by"] not in it["facts"]:
         yield f"summary: {it['summary']} {it['facts']}"
@@ -146,8 +155,7 @@ def is_near(one: float, other: float) -> bool:
 
 
 def seen_of_places(loop: dict[str, Any], it: dict[str, Any]) -> Iterator[str]:
-    """Where the marks stand: operations by their times, the next iterations one and two intervals later, live ranges by their rows, each in
-    a row of its register in which no other is at the time, and operations of the graph from top to bottom by time."""
+    """Where the marks stand: operations by their times, the next iterations one and two intervals later, and operations of the graph from top to bottom by time."""
     kernel, operations = loop["kernel"], loop["operations"]
     times, ii = [operation["time"] for operation in operations], kernel["ii"]
     at = {place: x for place, x, _ in it["issues"]}
@@ -162,38 +170,45 @@ def seen_of_places(loop: dict[str, Any], it: dict[str, Any]) -> Iterator[str]:
         yield f"colours of stages: {it['issues']}"
     if any(one[1] >= other[1] for one in it["heights"] for other in it["heights"] if times[one[0]] < times[other[0]]):
         yield f"rows of the graph: {it['heights']}"
-    yield from seen_of_folds(loop, it)
 
 
-def seen_of_folds(loop: dict[str, Any], it: dict[str, Any]) -> Iterator[str]:
-    """The bars of the live ranges: each value in the rows in which it lives, once for each turn that it lives in, and in no other's place."""
-    kernel, ii = loop["kernel"], loop["kernel"]["ii"]
+def seen_of_bars(ii: int, values: list[tuple[str, int, int]], lane_of: Callable[[int, int], Any], columns: list[Any], folds: list[Any]) -> Iterator[str]:
+    """The bars of live ranges (name, first, last): each value in the rows in which it lives, once for each turn that it lives in, in the lane of its
+    register and in no other's place."""
     wanted = []
-    for value in kernel["values"]:
-        for fold in range(value["first"] // ii, value["last"] // ii + 1):
-            first, last = max(value["first"] - fold * ii, 0), min(value["last"] - fold * ii, ii - 1)
-            left, (right, width) = it["columns"][first][0], it["columns"][last]
-            register = (value["register"] + fold) % kernel["registers"]
-            wanted.append((register, first, last, loop["operations"][value["operation"]]["name"], left, right + width))
-    lanes = sorted({lane for *_, lane in it["folds"]})
-    seen = sorted((lanes.index(lane), x, name, x + width) for name, x, width, lane in it["folds"])
+    for place, (name, its_first, its_last) in enumerate(values):
+        for fold in range(its_first // ii, its_last // ii + 1):
+            first, last = max(its_first - fold * ii, 0), min(its_last - fold * ii, ii - 1)
+            left, (right, width) = columns[first][0], columns[last]
+            wanted.append((lane_of(place, fold), first, last, name, left, right + width))
+    lanes = sorted({lane for *_, lane in folds})
+    seen = sorted((lanes.index(lane), x, name, x + width) for name, x, width, lane in folds)
     registers = sorted({register for register, *_ in wanted})
+    if len(seen) != len(wanted) or len(lanes) != len(registers):
+        yield f"{len(seen)} bars in {len(lanes)} lanes, and not {len(wanted)} in {len(registers)}"
     for (lane, x, name, end), (register, _, _, its_name, left, right) in zip(seen, sorted(wanted)):
         if (registers[lane], name) != (register, its_name) or not is_near(x, left) or not is_near(end, right):
-            yield f"the bar of {name} in lane {lane}: {x} to {end}, and not r{register}, {left} to {right}"
+            yield f"the bar of {name} in lane {lane}: {x} to {end}, and not {register}, {left} to {right}"
     if any(one[0] == other[0] and other[1] < one[3] - 0.5 for one, other in zip(seen, seen[1:])):
         yield f"bars that overlap: {seen}"
 
 
-def wrong_of(browser: Browser, path: str, document: dict[str, Any]) -> list[str]:
-    """What is wrong with the page at this path, which has to show all of the document."""
+def facts_of(browser: Browser, path: str) -> tuple[list[dict[str, Any]], list[str]]:
+    """What all sections of the page at this path tell, and what is wrong with its console or its network."""
     browser.open(path, "#all")
     seen = browser.value(FACTS)
-    wrong = [f"console: {it}" for it in browser.console] + [f"asks for {it}" for it in browser.asked if not it.startswith(("file:", "data:"))]
+    asked = [f"asks for {it}" for it in browser.asked if not it.startswith(("file:", "data:"))]
+    return seen, [f"console: {it}" for it in browser.console] + asked
+
+
+def wrong_of(browser: Browser, path: str, document: dict[str, Any]) -> list[str]:
+    """What is wrong with the page at this path, which has to show all of the document."""
+    seen, wrong = facts_of(browser, path)
     if [it["name"] for it in seen] != [loop["name"] for loop in document["loops"]]:
         return [*wrong, f"loops: {[it['name'] for it in seen]}"]
     for loop, it in zip(document["loops"], seen):
-        wrong += [f"{loop['name']}: {why}" for why in seen_of_all(loop, it)]
+        names = [operation["name"] for operation in loop["operations"]]
+        wrong += [f"{loop['name']}: {why}" for why in [*seen_of_all(loop, it), *seen_of_tables(loop, it, names)]]
         if "kernel" in loop:
             wrong += [f"{loop['name']}: {why}" for why in seen_of_kernel(loop, it)]
         elif str(loop["failed_to"]) not in it["summary"] or loop["cause"] not in it["facts"]:

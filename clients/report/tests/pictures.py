@@ -1,7 +1,7 @@
 #!/usr/bin/env python3
-"""Makes the pictures in docs/pictures anew: a loop of the gallery, light, and another one, dark.
+"""Makes the pictures in docs/pictures anew: a loop of the gallery, light, another one, dark, and a scheduling problem; or those that are named.
 
-usage: clients/report/tests/pictures.py
+usage: clients/report/tests/pictures.py [NAME ..]
 
 Chromium has to be installed, and pngquant, which makes the files small. The program is the one that report.py takes."""
 from __future__ import annotations
@@ -10,17 +10,22 @@ import os
 import subprocess
 import sys
 import tempfile
+from typing import Any
 
 HERE = os.path.dirname(os.path.realpath(__file__))
 ROOT = os.path.dirname(os.path.dirname(os.path.dirname(HERE)))
-GALLERY = f"{ROOT}/examples/gallery"
+GALLERY, PROBLEMS = f"{ROOT}/examples/gallery", f"{ROOT}/examples/problems"
 sys.path[:0] = [HERE, os.path.dirname(HERE)]
 from browser import Browser, found  # noqa: E402
 from document import text_of  # noqa: E402
-from report import document_of, page_of, program_beside  # noqa: E402
+from report import document_of, document_of_problems, page_of, program_beside  # noqa: E402
 
-# The picture, the machine, the loop that is open, light or dark, and the height of the window; 0 is for the whole page.
-PICTURES = [("report", "small_dsp", "histogram", "light", 1188), ("report_dark", "clustered", "recurrence2", "dark", 0)]
+# The picture, the machine or the text of problems, what is open, light or dark, and the height of the window; 0 is for the whole page.
+PICTURES = [
+    ("report", "small_dsp.toml", "loop-histogram", "light", 1188),
+    ("report_dark", "clustered.toml", "loop-recurrence2", "dark", 0),
+    ("report_problems", "clustered.txt", "problem-complex_multiply", "light", 1440),
+]
 
 
 def all_loops(room: str) -> str:
@@ -34,18 +39,26 @@ def all_loops(room: str) -> str:
     return path
 
 
-def main() -> None:
-    """Makes each picture."""
+def document_for(what: str, room: str) -> dict[str, Any]:
+    """The document for a machine of the gallery with all loops, or for a text of problems."""
+    if what.endswith(".txt"):
+        return document_of_problems(program_beside(), f"{PROBLEMS}/{what}", [])
+    return document_of(program_beside(), f"{GALLERY}/machines/{what}", all_loops(room), [])
+
+
+def main(wanted: list[str]) -> None:
+    """Makes each picture, or those that are wanted."""
     browser = Browser(found() or sys.exit("pictures: there is no Chromium here"))
     try:
         with tempfile.TemporaryDirectory() as room:
-            for name, machine, loop, scheme, height in PICTURES:
-                made = document_of(program_beside(), f"{GALLERY}/machines/{machine}.toml", all_loops(room), [])
+            for name, what, opened, scheme, height in PICTURES:
+                if wanted and name not in wanted:
+                    continue
                 with open(f"{room}/page.html", "w", encoding="utf-8") as it:
-                    it.write(page_of(text_of(made)))
+                    it.write(page_of(text_of(document_for(what, room))))
                 browser.media(scheme)
                 browser.size(1400, height or 900)
-                browser.open(f"{room}/page.html", f"#loop-{loop}")
+                browser.open(f"{room}/page.html", f"#{opened}")
                 if not height:
                     browser.size(1400, browser.value("document.documentElement.scrollHeight"))
                 browser.picture(f"{room}/{name}.png")
@@ -56,4 +69,4 @@ def main() -> None:
 
 
 if __name__ == "__main__":
-    main()
+    main(sys.argv[1:])

@@ -4,6 +4,7 @@ ghost use Rattle.std.specs.Prelude.{◌≡◌};
 
 mod failing_devices;
 mod given;
+mod solving;
 
 use modsched::{Command, FaultyInput, FaultyOutput, engine, parse_line};
 use std::alloc::{AllocError, Global};
@@ -12,12 +13,12 @@ use std::str;
 use std::test::Fail;
 use std::thread::Threads;
 
-/// A line of words, and what its files hold; one that is `None` cannot be read.
+/// A line of words, and what the files hold that it reads first and last; one that is `None` cannot be read.
 #[derive(Clone, Copy)]
 struct Case<'a> {
     words: &'a [&'a str],
-    machine: Option<&'a str>,
-    loops: Option<&'a str>,
+    first: Option<&'a str>,
+    last: Option<&'a str>,
     /// How many bytes the output takes before it fails.
     room: usize,
 }
@@ -29,11 +30,11 @@ const ALL: usize = 65_536;
 const STRIDE: usize = 4096;
 
 /// A line over files that can be read.
-fn case_of<'a>(words: &'a [&'a str], machine: &'a str, loops: &'a str) -> Case<'a> {
+fn case_of<'a>(words: &'a [&'a str], first: &'a str, last: &'a str) -> Case<'a> {
     Case {
         words,
-        machine: Some(machine),
-        loops: Some(loops),
+        first: Some(first),
+        last: Some(last),
         room: ALL,
     }
 }
@@ -60,10 +61,10 @@ fn came<R: Threads + Sync>(
     command: &Command,
     row: &Case<'_>,
 ) -> Result<String, Fail> {
-    let mut machine = input(row.machine);
-    let mut loops = input(row.loops);
+    let mut first = input(row.first);
+    let mut last = input(row.last);
     let mut output = FaultyOutput::new(alloc, STRIDE, row.room, true)?;
-    let status = engine(rt, alloc, command, &mut machine, &mut loops, &mut output);
+    let status = engine(rt, alloc, command, &mut first, &mut last, &mut output);
     let line = match status.line() {
         Some(line) => format!(in alloc; "modsched: {line}\n")?,
         None => String::new(alloc),

@@ -3,4 +3,6 @@
 mod command_lines;
 mod documents;
 mod machines;
+mod standard_output;
 mod statuses;
+mod whole_texts;

@@ -9,8 +9,6 @@ ghost use Rattle.board.specs.Views.{DrawsUnlessDry, Looks, is_dry, with_posted};
 mod law;
 mod locked;
 mod rule;
-#[cfg(test)]
-mod tests;
 mod view;
 mod word;
 

@@ -1,8 +1,10 @@
-//! Callers of a board: a worker over any board, and in tests threads that share a board of words.
+//! Callers of a board: a worker over any board, and in tests each call of both boards, and threads that share a board of words.
 //!
-//! Nothing here waits: no function has a bound that would let it.
+//! Nothing here waits, but for the tests of the board that locks: no other function has a bound that would let it.
 #![tactic(auto)]
 
+#[cfg(test)]
+mod calls;
 #[cfg(test)]
 mod tests;
 mod worker;

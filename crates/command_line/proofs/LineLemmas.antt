@@ -1,5 +1,5 @@
 -- The line's arguments as `clap` sees them, and what its matches mean.
-use Rattle.std.proofs.Common.{◌≡◌, ◌⊎◌, ap, ℕ, List, Option, Some, None, Err, Ok, Result, IfOk, true, false, Bool, ◌||◌, ◌≤◌, ◌∙◌, codes, refl, sym, ap₂, subst, inl, inr, IfSome, IfNone}
+use Rattle.std.proofs.Common.{◌≡◌, ◌⊎◌, ap, ℕ, List, Option, Some, None, Err, Ok, Result, IfOk, true, false, Bool, ◌||◌, ◌≤◌, ◌∙◌, codes, refl, sym, ap₂, subst, inl, inr, IfSome, IfNone, arith, get_or}
 use Rattle.clap.specs.declared.builder.command.Command as clap
 use Rattle.clap.specs.declared.builder.arg.Arg.{Arg}
 use Rattle.clap.specs.Words.{AddsArg, App, HasKind, Kinds, Row, Rule, Text, app_of, rule_of, with_rule, with_subcommand, first_of, is_simple, is_simple_and_free, kind_of}
@@ -8,18 +8,25 @@ use Rattle.command_line.specs.declared.line.Usage.{Usage}
 use Rattle.command_line.specs.declared.line.Usage.TheVariants.{Help, Refused, Memory}
 use Rattle.clap.proofs.OnLiterals.{clap_on_literals}
 use Rattle.clap.specs.declared.error.kind.ErrorKind.TheVariants.{OutOfMemory}
-use Rattle.command_line.specs.Lines.{IsRead, IsRequest, IsTaskGiven, IsToldBy, IsWorkGiven, Means, SaysNumber, SaySettings, program_line, search_line, run_line, plain_line}
+use Rattle.command_line.specs.Lines.{IsRead, IsRequest, IsSearchGiven, IsTaskGiven, IsToldBy, IsWorkGiven, AreLoopsGiven, AreProblemsGiven, IsReportGiven, Means, MeansNamed, SaysNumber, SaySettings}
+use Rattle.command_line.specs.Lines.{program_line, search_line, run_line, plain_line, explain_line, either_line, solve_line, check_line}
 use Rattle.settings.specs.Settings.{AreSettings, SettingsData}
 use Rattle.clap.specs.declared.builder.command.Command.TheViews.{out-Command}
 use Rattle.command_line.specs.inner.Made.{IsAdded}
 use Rattle.std.proofs.lemmas.Bool.{and_parts}
 use Rattle.command_line.specs.declared.command.Command.{Command}
+use Rattle.command_line.specs.declared.command.Command.TheVariants as command
+use Rattle.command_line.specs.declared.command.Report.{Report}
+use Rattle.command_line.specs.declared.command.Report.TheVariants as report
+use Rattle.command_line.specs.declared.command.Search.{Search}
+use Rattle.command_line.specs.declared.command.Search.TheVariants.{Schedule, Json, Explain, Run}
 use Rattle.command_line.specs.declared.command.Task.{Task}
+use Rattle.command_line.specs.declared.command.Task.TheVariants as task
 use Rattle.command_line.specs.declared.command.Work.{Work}
 use Rattle.command_line.specs.declared.command.Work.TheVariants.{Plain, OnMachine}
 
 pub program_is_free : is_simple_and_free program_line ≡ true
-unfolding program_line search_line run_line plain_line clap_on_literals
+unfolding program_line search_line explain_line either_line run_line plain_line solve_line check_line clap_on_literals
 program_is_free = refl
 
 -- of which this is a part, so that it is not computed again
@@ -72,9 +79,79 @@ say-one given ratio ceiling workers cut settings r c w u h =
 -- no work is given by a subcommand but `plain`, where the path of the machine is missing or no task is given
 pub work-none : (rows : List Row) (name : Text) → (name ≡ codes "plain" → ⊥) → (first_of (codes "machine") rows ≡ None) ⊎ ((t : Task) → ¬ IsTaskGiven t name rows)
     → (w : Work) → IsWorkGiven w name rows → ⊥
-work-none rows name other missing (Plain trip) h = other h.0
+work-none rows name other missing (Plain trip workers) h = other h.0
 work-none rows name other (inl none) (OnMachine machine task) h = let there = h.0 in absurd (cc)
 work-none rows name other (inr none) (OnMachine machine task) h = none task h.1
+
+-- a name that is one word is no other, which has another letter at some place
+other-word : (place : ℕ) (name word other : Text) → (get_or word place 0 ≡ get_or other place 0 → ⊥) → name ≡ word → name ≡ other → ⊥
+other-word place name word other apart is same = apart (ap (λ (t : Text). get_or t place 0) (sym is ∙ same))
+
+-- it is neither of the subcommands that take problems
+abbrev IsOther : Text → Type 0
+IsOther name = (name ≡ codes "solve" → ⊥) × (name ≡ codes "check" → ⊥)
+
+-- what is done with loops is given by other subcommands
+other-search : (s : Search) (name : Text) (rows : List Row) → IsSearchGiven s name rows → IsOther name
+other-search Schedule name rows h = (other-word 1 name (codes "schedule") (codes "solve") (λ e. omega arith) h, other-word 0 name (codes "schedule") (codes "check") (λ e. omega arith) h)
+other-search Json name rows h = (other-word 0 name (codes "json") (codes "solve") (λ e. omega arith) h, other-word 0 name (codes "json") (codes "check") (λ e. omega arith) h)
+other-search Explain name rows h = (other-word 0 name (codes "explain") (codes "solve") (λ e. omega arith) h, other-word 0 name (codes "explain") (codes "check") (λ e. omega arith) h)
+other-search (Run trip) name rows h = (other-word 0 name (codes "run") (codes "solve") (λ e. omega arith) h.0, other-word 0 name (codes "run") (codes "check") (λ e. omega arith) h.0)
+
+other-task : (t : Task) (name : Text) (rows : List Row) → IsTaskGiven t name rows → IsOther name
+other-task task.Bounds name rows h = (other-word 0 name (codes "bounds") (codes "solve") (λ e. omega arith) h, other-word 0 name (codes "bounds") (codes "check") (λ e. omega arith) h)
+other-task task.Edges name rows h = (other-word 0 name (codes "edges") (codes "solve") (λ e. omega arith) h, other-word 0 name (codes "edges") (codes "check") (λ e. omega arith) h)
+other-task task.Dot name rows h = (other-word 0 name (codes "dot") (codes "solve") (λ e. omega arith) h, other-word 0 name (codes "dot") (codes "check") (λ e. omega arith) h)
+other-task (task.Search settings search) name rows h = other-search search name rows h.1
+
+other-work : (w : Work) (name : Text) (rows : List Row) → IsWorkGiven w name rows → IsOther name
+other-work (Plain trip workers) name rows h = (other-word 0 name (codes "plain") (codes "solve") (λ e. omega arith) h.0, other-word 0 name (codes "plain") (codes "check") (λ e. omega arith) h.0)
+other-work (OnMachine machine t) name rows h = other-task t name rows h.1
+
+other-report : (told : Report) (name : Text) (rows : List Row) → IsReportGiven told name rows → IsOther name
+other-report report.Edges name rows h = (other-word 0 name (codes "edges") (codes "solve") (λ e. omega arith) h, other-word 0 name (codes "edges") (codes "check") (λ e. omega arith) h)
+other-report report.Dot name rows h = (other-word 0 name (codes "dot") (codes "solve") (λ e. omega arith) h, other-word 0 name (codes "dot") (codes "check") (λ e. omega arith) h)
+other-report (report.Explain settings) name rows h = (other-word 0 name (codes "explain") (codes "solve") (λ e. omega arith) h.0, other-word 0 name (codes "explain") (codes "check") (λ e. omega arith) h.0)
+
+-- no command is given by `solve` where the path is missing, or the options say no settings
+pub solve-none : (rows : List Row) → (first_of (codes "problems") rows ≡ None) ⊎ ((s : SettingsData) → ¬ SaySettings s rows)
+    → (c : Command) → MeansNamed c (codes "solve") rows → ⊥
+solve-none rows missing (command.Loops loops work) h = (other-work work (codes "solve") rows h.1).0 refl
+solve-none rows (inl none) (command.Solve problems settings) h = let there = h.1 in absurd (cc)
+solve-none rows (inr none) (command.Solve problems settings) h = none settings h.2
+solve-none rows missing (command.Problems problems told) h = (other-report told (codes "solve") rows h.2).0 refl
+solve-none rows missing (command.Check problems solutions) h = other-word 0 (codes "solve") (codes "solve") (codes "check") (λ e. omega arith) refl h.0
+
+-- .. by `check` where a path is missing
+pub check-none : (rows : List Row) → (first_of (codes "problems") rows ≡ None) ⊎ (first_of (codes "solutions") rows ≡ None)
+    → (c : Command) → MeansNamed c (codes "check") rows → ⊥
+check-none rows missing (command.Loops loops work) h = (other-work work (codes "check") rows h.1).1 refl
+check-none rows missing (command.Solve problems settings) h = other-word 0 (codes "check") (codes "check") (codes "solve") (λ e. omega arith) refl h.0
+check-none rows missing (command.Problems problems told) h = (other-report told (codes "check") rows h.2).1 refl
+check-none rows (inl none) (command.Check problems solutions) h = let there = h.1 in absurd (cc)
+check-none rows (inr none) (command.Check problems solutions) h = let there = h.2 in absurd (cc)
+
+-- .. by another subcommand where what loops need is missing
+pub loops-none : (rows : List Row) (name : Text) → (name ≡ codes "solve" → ⊥) → (name ≡ codes "check" → ⊥)
+    → ((path : Text) (w : Work) → ¬ AreLoopsGiven path w name rows) → ((path : Text) (told : Report) → ¬ AreProblemsGiven path told name rows)
+    → (c : Command) → MeansNamed c name rows → ⊥
+loops-none rows name solve check none alone (command.Loops loops work) h = none _ work h
+loops-none rows name solve check none alone (command.Problems problems told) h = alone _ told h
+loops-none rows name solve check none alone (command.Solve problems settings) h = solve h.0
+loops-none rows name solve check none alone (command.Check problems solutions) h = check h.0
+
+-- .. where loops are given, or none, what needs the other is not meant
+pub no-problems : (rows : List Row) (name : Text) (loops : Text) → Some loops ≡ first_of (codes "loops") rows → (path : Text) (told : Report) → ¬ AreProblemsGiven path told name rows
+no-problems rows name loops is path told h = let there = h.1 in absurd (cc)
+
+pub no-loops : (rows : List Row) (name : Text) → first_of (codes "loops") rows ≡ None → (path : Text) (w : Work) → ¬ AreLoopsGiven path w name rows
+no-loops rows name is path w h = let there = h.0 in absurd (cc)
+
+-- a report is told of problems alone, where its path is given
+pub problems-none : (rows : List Row) (name : Text) → (first_of (codes "machine") rows ≡ None) ⊎ ((told : Report) → ¬ IsReportGiven told name rows)
+    → (path : Text) (told : Report) → ¬ AreProblemsGiven path told name rows
+problems-none rows name (inl none) path told h = let there = h.0 in absurd (cc)
+problems-none rows name (inr none) path told h = none told h.2
 
 -- what was found, said of equal matches
 pub Means-at : (found : Option Command) (c : Command) (s t : Option (Text × List Row)) → found ≡ Some c

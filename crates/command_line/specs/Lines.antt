@@ -6,6 +6,9 @@ use Rattle.clap.specs.declared.builder.value_parser.ValueParser.TheVariants.{Uns
 use Rattle.clap.specs.declared.error.kind.ErrorKind.{ErrorKind}
 use Rattle.clap.specs.declared.error.kind.ErrorKind.TheVariants as kind
 use Rattle.command_line.specs.declared.command.Command.{Command}
+use Rattle.command_line.specs.declared.command.Command.TheVariants as command
+use Rattle.command_line.specs.declared.command.Report.{Report}
+use Rattle.command_line.specs.declared.command.Report.TheVariants as report
 use Rattle.command_line.specs.declared.command.Work.{Work}
 use Rattle.command_line.specs.declared.command.Work.TheVariants.{Plain, OnMachine}
 use Rattle.command_line.specs.declared.command.Task.{Task}
@@ -24,6 +27,10 @@ path_rule id = record (new_rule id) { value_names = 1; required = true }
 abbrev pub with_paths : Text → App
 with_paths name = with_rule (with_rule (new_app name) (path_rule (codes "machine"))) (path_rule (codes "loops"))
 
+-- a subcommand with the paths of both files, or with that of problems alone: `NAME MACHINE LOOPS`, `NAME PROBLEMS`
+unfoldable pub either_line : Text → App
+either_line name = with_rule (with_rule (new_app name) (path_rule (codes "machine"))) (record (new_rule (codes "loops")) { value_names = 1 })
+
 -- `--trip N`, which has to be given: a number from 0 to 100,000
 abbrev pub trip_rule : Rule
 trip_rule = record (new_rule (codes "trip")) {
@@ -32,10 +39,6 @@ trip_rule = record (new_rule (codes "trip")) {
   required = true;
   parser = Some (Unsigned 0 100000);
 }
-
--- `plain LOOPS --trip N`
-unfoldable pub plain_line : App
-plain_line = with_rule (with_rule (new_app (codes "plain")) (path_rule (codes "loops"))) trip_rule
 
 -- an option that may be left out: its default stands for it then
 abbrev pub option_rule : Text → Text → Rule
@@ -58,13 +61,21 @@ workers_rule = number_rule (codes "workers") (codes "4") 1 64
 abbrev pub cut_rule : Rule
 cut_rule = number_rule (codes "cut") (codes "4") 1 256
 
--- a subcommand with the four options of a search for kernels
+-- `plain LOOPS --trip N`, and `--workers W`
+unfoldable pub plain_line : App
+plain_line = with_rule (with_rule (with_rule (new_app (codes "plain")) (path_rule (codes "loops"))) trip_rule) workers_rule
+
+-- a subcommand with the four options of a search
 abbrev pub with_search : App → App
 with_search app = with_rule (with_rule (with_rule (with_rule app ratio_rule) ceiling_rule) workers_rule) cut_rule
 
 -- a subcommand that looks for kernels: `NAME MACHINE LOOPS`, and the four
 unfoldable pub search_line : Text → App
 search_line name = with_search (with_paths name)
+
+-- `explain MACHINE LOOPS` and `explain PROBLEMS`, and the four
+unfoldable pub explain_line : App
+explain_line = with_search (either_line (codes "explain"))
 
 -- `run MACHINE LOOPS --trip N`, and the four
 unfoldable pub run_line : App
@@ -86,28 +97,47 @@ bare_line =
 -- a line with the subcommands that look for kernels
 abbrev pub with_kernels : App → App
 with_kernels app =
-    with_subcommand (with_subcommand (with_subcommand (with_subcommand app (search_line (codes "schedule")).top) run_line.top) (search_line (codes "json")).top) (search_line (codes "explain")).top
+    with_subcommand (with_subcommand (with_subcommand (with_subcommand app (search_line (codes "schedule")).top) run_line.top) (search_line (codes "json")).top) explain_line.top
 
 -- a line with those that look for none
 abbrev pub with_reports : App → App
 with_reports app =
-    with_subcommand (with_subcommand (with_subcommand (with_subcommand app (with_paths (codes "bounds")).top) (with_paths (codes "edges")).top) (with_paths (codes "dot")).top) plain_line.top
+    with_subcommand (with_subcommand (with_subcommand (with_subcommand app (with_paths (codes "bounds")).top) (either_line (codes "edges")).top) (either_line (codes "dot")).top) plain_line.top
+
+-- `solve PROBLEMS`, and the four
+unfoldable pub solve_line : App
+solve_line = with_search (with_rule (new_app (codes "solve")) (path_rule (codes "problems")))
+
+-- `check PROBLEMS SOLUTIONS`
+unfoldable pub check_line : App
+check_line = with_rule (with_rule (new_app (codes "check")) (path_rule (codes "problems"))) (path_rule (codes "solutions"))
+
+-- a line with those that take problems
+abbrev pub with_problems : App → App
+with_problems app = with_subcommand (with_subcommand app solve_line.top) check_line.top
 
 -- the program's line, with all of its subcommands
 unfoldable pub program_line : App
-program_line = with_reports (with_kernels bare_line)
+program_line = with_problems (with_reports (with_kernels bare_line))
 
--- the path of the machine's file, where a command reads one
+-- the path of the machine's file, where one is read
 abbrev pub machine_of_work : Work → Option Text
-machine_of_work (Plain trip) = None
+machine_of_work (Plain trip workers) = None
 machine_of_work (OnMachine machine task) = Some (string_bytes machine)
 
-abbrev pub machine_path : Command → Option Text
-machine_path command = machine_of_work command.work
+-- the path of the file that is read first, where a command reads two: the machine's, or the problems' of a check
+abbrev pub first_path : Command → Option Text
+first_path (command.Loops loops work) = machine_of_work work
+first_path (command.Solve problems settings) = None
+first_path (command.Problems problems told) = None
+first_path (command.Check problems solutions) = Some (string_bytes problems)
 
--- the path of the loops' file
-abbrev pub loops_path : Command → Text
-loops_path command = string_bytes command.loops
+-- the path of the file that is read last: the loops', the problems' where they are not checked, or the solutions' of a check
+abbrev pub last_path : Command → Text
+last_path (command.Loops loops work) = string_bytes loops
+last_path (command.Solve problems settings) = string_bytes problems
+last_path (command.Problems problems told) = string_bytes problems
+last_path (command.Check problems solutions) = string_bytes solutions
 
 -- a word is a number in decimal digits, with or without a plus before them
 abbrev pub Says : Text → ℕ → Type 0
@@ -121,6 +151,10 @@ SaysNumber (Some word) number = Says word number
 -- the word that an option was given is a trip count, from 0 to 100,000
 abbrev pub SaysTrip : Option Text → ℕ → Type 0
 SaysTrip word trip = SaysNumber word trip × (trip ≤ 100000)
+
+-- the word that an option was given is a number of workers, from 1 to 64
+abbrev pub SaysWorkers : Option Text → ℕ → Type 0
+SaysWorkers word workers = SaysNumber word workers × (1 ≤ workers) × (workers ≤ 64)
 
 -- the options say the four settings, all within their ranges
 abbrev pub SaySettings : SettingsData → List Row → Type 0
@@ -146,12 +180,37 @@ IsTaskGiven (task.Search settings search) name given = SaySettings settings give
 
 -- .. does that with the loops: `plain` runs them by itself, and the others were given a machine
 abbrev pub IsWorkGiven : Work → Text → List Row → Type 0
-IsWorkGiven (Plain trip) name given = (name ≡ codes "plain") × SaysTrip (first_of (codes "trip") given) trip
+IsWorkGiven (Plain trip workers) name given = (name ≡ codes "plain")
+    × SaysTrip (first_of (codes "trip") given) trip
+    × SaysWorkers (first_of (codes "workers") given) workers
 IsWorkGiven (OnMachine machine task) name given = (first_of (codes "machine") given ≡ Some (string_bytes machine)) × IsTaskGiven task name given
+
+-- .. was given the path of loops, and does that with them
+abbrev pub AreLoopsGiven : Text → Work → Text → List Row → Type 0
+AreLoopsGiven path work name given = (first_of (codes "loops") given ≡ Some path) × IsWorkGiven work name given
+
+-- .. tells that of problems, and was given what it needs
+abbrev pub IsReportGiven : Report → Text → List Row → Type 0
+IsReportGiven report.Edges name given = name ≡ codes "edges"
+IsReportGiven report.Dot name given = name ≡ codes "dot"
+IsReportGiven (report.Explain settings) name given = (name ≡ codes "explain") × SaySettings settings given
+
+-- .. was given one path alone, that of problems, and tells that of them
+abbrev pub AreProblemsGiven : Text → Report → Text → List Row → Type 0
+AreProblemsGiven path told name given = (first_of (codes "machine") given ≡ Some path)
+    × (first_of (codes "loops") given ≡ None)
+    × IsReportGiven told name given
 
 -- a command is of a subcommand of this name, and has what that was given
 abbrev pub MeansNamed : Command → Text → List Row → Type 0
-MeansNamed command name given = (first_of (codes "loops") given ≡ Some (string_bytes command.loops)) × IsWorkGiven command.work name given
+MeansNamed (command.Loops loops work) name given = AreLoopsGiven (string_bytes loops) work name given
+MeansNamed (command.Solve problems settings) name given = (name ≡ codes "solve")
+    × (first_of (codes "problems") given ≡ Some (string_bytes problems))
+    × SaySettings settings given
+MeansNamed (command.Problems problems told) name given = AreProblemsGiven (string_bytes problems) told name given
+MeansNamed (command.Check problems solutions) name given = (name ≡ codes "check")
+    × (first_of (codes "problems") given ≡ Some (string_bytes problems))
+    × (first_of (codes "solutions") given ≡ Some (string_bytes solutions))
 
 abbrev pub Means : Command → Option (Text × List Row) → Type 0
 Means command None = ⊥

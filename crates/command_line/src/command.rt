@@ -1,25 +1,54 @@
 //! Commands.
 
 ghost use Rattle.std.specs.Prelude.{◌≡◌, option_map};
-ghost use Rattle.command_line.specs.Lines.{loops_path, machine_path};
+ghost use Rattle.command_line.specs.Lines.{first_path, last_path, machine_of_work};
 
 use crate::trip::Trip;
 use settings::Settings;
 
 /// What the program is asked to do.
 #[derive(Debug, Drop)]
-pub struct Command {
-    /// The path of the loops' file.
-    pub loops: String,
-    /// What is done with the loops.
-    pub work: Work,
+pub enum Command {
+    /// Do this with the loops of a text.
+    Loops {
+        /// The path of the loops' file.
+        loops: String,
+        /// What is done with the loops.
+        work: Work,
+    },
+    /// Solve each problem of a text, with these settings.
+    Solve {
+        /// The path of the problems' file.
+        problems: String,
+        /// How hard it is tried, and by how many workers.
+        settings: Settings,
+    },
+    /// Tell something of each problem of a text.
+    Problems {
+        /// The path of the problems' file.
+        problems: String,
+        /// What is told.
+        told: Report,
+    },
+    /// Judge a text of solutions of the problems of a text.
+    Check {
+        /// The path of the problems' file.
+        problems: String,
+        /// The path of the solutions' file.
+        solutions: String,
+    },
 }
 
 /// What is done with loops.
 #[derive(Debug, Drop)]
 pub enum Work {
-    /// Run each plainly, with this trip count, and tell what it changed. No machine is read.
-    Plain(Trip),
+    /// Run each plainly, and tell what it changed. No machine is read.
+    Plain {
+        /// How many iterations each is run.
+        trip: Trip,
+        /// How many workers share the loops, 1 to 64.
+        workers: usize,
+    },
     /// Tell something of them on a machine.
     OnMachine {
         /// The path of the machine's file.
@@ -55,21 +84,48 @@ pub enum Search {
     Run(Trip),
 }
 
+/// What is told of scheduling problems.
+#[derive(Debug, Drop)]
+pub enum Report {
+    /// The operations of each problem and what they wait for.
+    Edges,
+    /// The same, as graphs for Graphviz.
+    Dot,
+    /// Why each problem has its interval, where a solution is searched for with these settings.
+    Explain(Settings),
+}
+
 impl Command {
-    /// The path of the machine's file, where the command reads one.
-    pub fn machine_path(&self) -> Option<&str>
-        ensures { option_map (λ path. path.now) result ≡ machine_path self.now }
+    /// The path of the file that is read first, where the command reads two: the machine's, or the problems' of a check.
+    pub fn first_path(&self) -> Option<&str>
+        ensures { option_map (λ path. path.now) result ≡ first_path self.now }
     {
-        match &self.work {
-            Work::Plain(_) => None,
-            Work::OnMachine { machine, .. } => Some(machine.as_str()),
+        match self {
+            Command::Loops { work, .. } => machine_of(work),
+            Command::Solve { .. } | Command::Problems { .. } => None,
+            Command::Check { problems, .. } => Some(problems.as_str()),
         }
     }
 
-    /// The path of the loops' file.
-    pub fn loops_path(&self) -> &str
-        ensures { result.now ≡ loops_path self.now }
+    /// The path of the file that is read last: the loops', the problems' where they are not checked, or the solutions' of a check.
+    pub fn last_path(&self) -> &str
+        ensures { result.now ≡ last_path self.now }
     {
-        self.loops.as_str()
+        match self {
+            Command::Loops { loops, .. } => loops.as_str(),
+            Command::Solve { problems, .. } => problems.as_str(),
+            Command::Problems { problems, .. } => problems.as_str(),
+            Command::Check { solutions, .. } => solutions.as_str(),
+        }
+    }
+}
+
+/// The path of the machine's file, where one is read.
+fn machine_of(work: &Work) -> Option<&str>
+    ensures { option_map (λ path. path.now) result ≡ machine_of_work work.now }
+{
+    match work {
+        Work::Plain { .. } => None,
+        Work::OnMachine { machine, .. } => Some(machine.as_str()),
     }
 }

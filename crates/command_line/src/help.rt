@@ -8,18 +8,26 @@ pub(crate) const LONG_ABOUT: &str =
 
 The machine is a TOML text: its functional units, the number of its rotating registers and, for each
 opcode, the latency and the reservation tables by which an operation may be issued. The loops are a
-text of their own, with one statement a line.";
+text of their own, with one statement a line.
+
+Where operations are not those of such loops, as in the back end of a compiler, a text of scheduling
+problems has machines of any sort, and on them operations with their values, reads and orders. `solve`
+finds a schedule and registers for each problem, and `check` judges solutions that others have made.";
 
 pub(crate) const LIMITS: &str =
-    "Limits: 1,048,576 bytes for each text; 1,024 loops of a file, each of 1 to 128 statements, with at
-most 32 arrays and 64 parameters; names of 1 to 16 bytes; 1 to 64 units; 1 to 256 registers; 1 to 8
-alternatives of an opcode, each of 1 to 16 rows; latencies of 1 to 64 cycles; trip counts of 0 to
-100,000.
+    "Limits: 1,048,576 bytes for each text of a machine or of loops; 1,024 loops of a file, each of 1 to 128
+statements, with at most 32 arrays and 64 parameters; names of 1 to 16 bytes; 1 to 64 units; 1 to 256
+registers; 1 to 8 alternatives of an opcode, each of 1 to 16 rows; latencies of 1 to 64 cycles;
+trip counts of 0 to 100,000. 16,777,216 bytes for each text of problems or of solutions; 4,096 problems,
+each of 1 to 128 operations, with at most 256 values, 2,048 reads and 16,384 edges; names of 1 to 64
+bytes; 64 units, 8 files and 256 kinds of a machine; 1 to 16 alternatives of a kind, each of 1 to 16
+holds.
 
-Exit status: 0 done; 1 done, but some loop has no kernel at any interval that was tried; 2 the line is
-refused; 3 a file can't be read; 4 the machine is refused; 5 the loops are refused, or an opcode has no
-reservation table; 6 the output can't be written; 7 out of memory. A fault is told in one line on the
-standard error.";
+Exit status: 0 done; 1 done, but some loop has no kernel at any interval that was tried, some problem is
+not solved, or some problem has no solution that holds; 2 the line is refused; 3 a file can't be read;
+4 the machine is refused, or the text of problems; 5 the loops are refused, or an opcode has no
+reservation table, or the text of solutions is refused; 6 the output can't be written; 7 out of memory.
+A fault is told in one line on the standard error.";
 
 pub(crate) const SCHEDULE_ABOUT: &str = "Find a kernel for each loop, and print the listing";
 
@@ -116,8 +124,11 @@ order of the file, its line of `modsched bounds`, and then
                                           each unit, and how many registers hold a value
   idle units N                            units that no operation takes, where there are any
 
-The causes are those of `modsched schedule`. The last line is that of the listing. Workers and cut change
-nothing here.";
+The causes are those of `modsched schedule`. The last line is that of the listing. A thread takes one loop
+after another, so the cut changes nothing here.
+
+With one path alone, that of scheduling problems, tells the same of each problem, up to what holds its interval,
+and then its solution, as `modsched solve` prints it.";
 
 pub(crate) const BOUNDS_ABOUT: &str = "Print lower bounds on each loop's initiation interval";
 
@@ -154,7 +165,11 @@ Q of an iteration is issued at least D - I * N cycles after P of the same iterat
 the value of P, of N iterations ago; `memory`, Q loads a cell that P stores to; `anti`, Q stores to a cell
 that P loads; or `output`, both store to one cell.
 
-The last line, loops A, has the number of loops.";
+The last line, loops A, has the number of loops.
+
+With one path alone, that of scheduling problems, prints for each problem a line `problem NAME ..` with the
+same bounds, `op` lines with the kind of an operation for its opcode, and `edge` lines whose KIND is `value V`,
+Q reads the value V of P, or `order`. The last line is problems P.";
 
 pub(crate) const DOT_ABOUT: &str = "Draw the dependences of each loop, as graphs for Graphviz";
 
@@ -163,7 +178,9 @@ pub(crate) const DOT_LONG_ABOUT: &str = "Draw the dependences of each loop, as g
 Prints a directed graph for each loop, in the order of the file, in the language of Graphviz: a node for
 each operation, and an edge for each dependence with its kind, its delay in cycles and, behind an `@`, its
 distance in iterations where that is not 0. Where a circuit of dependences asks for the bound by
-recurrences, one such circuit is bold. `modsched dot MACHINE LOOPS | dot -Tsvg -O` makes a picture of each.";
+recurrences, one such circuit is bold. `modsched dot MACHINE LOOPS | dot -Tsvg -O` makes a picture of each.
+
+With one path alone, that of scheduling problems, prints such a graph for each problem.";
 
 pub(crate) const PLAIN_ABOUT: &str =
     "Run each loop, one iteration after another, and tell what it changed";
@@ -180,9 +197,75 @@ No machine is read. Prints for each loop, in the order of the file:
 
 The last line, loops A, has the number of loops.";
 
+pub(crate) const SOLVE_ABOUT: &str = "Find a schedule and registers for each scheduling problem";
+
+pub(crate) const SOLVE_LONG_ABOUT: &str =
+    "Find a schedule and registers for each scheduling problem, and print the text of their solutions.
+
+The initiation interval is the number of cycles from the start of an iteration to the start of the
+next one. For each problem the intervals from its lower bound M on are tried by iterative modulo
+scheduling, and the first that gives a schedule whose values fit the rotating registers is taken. Prints
+for each problem, in the order of the file:
+
+  # NAME ops O res R rec C mii M        the number of operations, the bounds by units and by recurrences,
+                                        and the greater of them, in cycles
+  # circuit OP OP .. takes D cycles over N iterations
+                                        where C is above 1, operations that ask for it
+  # full UNIT UNIT ..                   the units that ask for R
+  solution NAME ii I # stages S         the interval, in cycles, and the number of stages
+  op NAME time T by N # ..              the operation is issued in cycle T of its iteration, by its alternative
+                                        N, from 0; then its row, its stage, its units and its registers
+  value NAME number K # ..              the value has the register number K of its rotating file; then when it
+                                        lives, in cycles
+  # value .., # initial .., # file .., # unroll ..
+                                        values of files that are not allotted, registers that hold a value
+                                        before the first turn, how many values each file holds at once, and
+                                        how often the body is repeated where registers don't rotate
+  end
+
+For a problem that is not solved these lines stand after the bounds and what asks for them:
+
+  # failed NAME at I: CAUSE             the last interval that was tried, and why it gives nothing: `table`,
+                                        `budget`, `stages` or `registers`, with what it is about
+
+The last line, # problems P met A failed B, has the numbers of problems, of those that are solved and of
+those that are not. Whatever follows a # is for people: `modsched check` reads the rest.
+
+A thread takes one problem after another, so the cut changes nothing here.";
+
+pub(crate) const CHECK_ABOUT: &str = "Judge solutions of scheduling problems";
+
+pub(crate) const CHECK_LONG_ABOUT: &str = "Judge solutions of scheduling problems.
+
+A solution gives for its problem an interval, for each operation a time and an alternative, and for each
+value of a rotating file a register number. It holds where no unit is taken twice in a cycle, each read and
+each order is kept, and no register loses a value that is still wanted. Prints a line for each problem, in
+the order of the file:
+
+  NAME ok ii I stages S     the solution of the problem NAME holds: its interval, in cycles, and its number
+                            of stages
+  NAME broken: WHAT         what is missing, as `no solution`, `no time of OP` or `no number of VALUE`; or
+                            what the solution breaks first: a number that is out of range, a unit that two
+                            operations hold in one row, a read or an order that comes too early and by how
+                            many cycles, or two values in one register, with a cycle
+
+The last line, # problems P met A failed B, has the numbers of problems, of those whose solution holds and
+of the others. A solution of a problem that is not in the file is a fault of the text of solutions.";
+
 pub(crate) const MACHINE: &str = "The file with the machine's text";
 
 pub(crate) const LOOPS: &str = "The file with the loops' text";
+
+pub(crate) const MACHINE_OR_PROBLEMS: &str =
+    "The file with the machine's text; or, where no other file is given, that with the text of scheduling
+problems";
+
+pub(crate) const SPARE_LOOPS: &str =
+    "The file with the loops' text; left out where scheduling problems are given";
+
+pub(crate) const PROBLEMS: &str = "The file with the text of scheduling problems";
+
+pub(crate) const SOLUTIONS: &str = "The file with the text of their solutions";
 
 pub(crate) const TRIP: &str = "How many iterations each loop is run, from 0 to 100000";
 
@@ -195,8 +278,8 @@ pub(crate) const CEILING: &str =
 a loop that has none at all takes longer";
 
 pub(crate) const WORKERS: &str =
-    "How many threads share the work, from 1 to 64. More may take less time, but not for `explain`, which has
-one thread. The output is the same with any number";
+    "How many threads share the work, from 1 to 64. More may take less time. The output is the same with any
+number";
 
 pub(crate) const CUT: &str =
     "How many intervals of a loop a thread takes at once, from 1 to 256. With fewer, more threads can share

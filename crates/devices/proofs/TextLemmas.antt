@@ -5,7 +5,7 @@ use Rattle.devices.specs.declared.text.ReadTextError.{ReadTextError}
 use Rattle.devices.specs.declared.text.ReadTextError.TheVariants.{Fault, Memory}
 use Rattle.std.proofs.Common.{IfSome, refl, ap, ap₂, sym, arith, append_assoc}
 use Rattle.std.proofs.lemmas.List.{take-append-drop, take-take, drop-take, drop-drop, length-drop, take_all, drop_all}
-use Rattle.devices.specs.Devices.{Reads, Writes, most_read, HoldsText}
+use Rattle.devices.specs.Devices.{Reads, Writes, HoldsText}
 
 -- a beginning is a shorter beginning and what follows there
 pub take-add : (n m : ℕ) (xs : List ℕ) → take (n + m) xs ≡ take n xs ++ take m (drop n xs)
@@ -68,29 +68,23 @@ ReadSoFar-read left now after buffer other n m fits kept r s = record {
       omega arith;
 }
 
-pub most_read_is : most_read ≡ 1048577
-unfolding most_read
-most_read_is = refl
-
 -- as much as is read at most is all that is read
-pub HoldsText-full : (left now : Option (List ℕ)) (buffer : List ℕ) (n : ℕ)
-    → ReadSoFar left now buffer n → n ≡ 1048577 → HoldsText left now buffer n
-HoldsText-full left now buffer n r e =
-    let same : n ≡ most_read = e ∙ sym most_read_is in
-    record {
-      text = λ bytes h. r.given bytes h ∙ ap (λ (k : ℕ). take k bytes) same;
-      rest = λ bytes h. r.known bytes h ∙ ap (λ (k : ℕ). Some (drop k bytes)) same;
-    }
+pub HoldsText-full : (most : ℕ) (left now : Option (List ℕ)) (buffer : List ℕ) (n : ℕ)
+    → ReadSoFar left now buffer n → n ≡ most → HoldsText most left now buffer n
+HoldsText-full most left now buffer n r same = record {
+  text = λ bytes h. r.given bytes h ∙ ap (λ (k : ℕ). take k bytes) same;
+  rest = λ bytes h. r.known bytes h ∙ ap (λ (k : ℕ). Some (drop k bytes)) same;
+}
 
 -- where a read with room gave nothing, all was read before
-pub HoldsText-end : (left now after : Option (List ℕ)) (buffer other : List ℕ) (n m : ℕ)
-    → n < 1048577 → n < length other → take n other ≡ take n buffer → ReadSoFar left now buffer n
-    → Reads now after (drop n other) m → m ≡ 0 → HoldsText left after other n
-HoldsText-end left now after buffer other n m below room kept r s e = record {
-  text = λ bytes h. kept ∙ r.given bytes h ∙ take_all n bytes (short bytes h) ∙ sym (take_all most_read bytes (less bytes h));
+pub HoldsText-end : (most : ℕ) (left now after : Option (List ℕ)) (buffer other : List ℕ) (n m : ℕ)
+    → n < most → n < length other → take n other ≡ take n buffer → ReadSoFar left now buffer n
+    → Reads now after (drop n other) m → m ≡ 0 → HoldsText most left after other n
+HoldsText-end most left now after buffer other n m below room kept r s e = record {
+  text = λ bytes h. kept ∙ r.given bytes h ∙ take_all n bytes (short bytes h) ∙ sym (take_all most bytes (less bytes h));
   rest = λ bytes h.
       s.known (drop n bytes) (r.known bytes h) ∙ ap (λ (k : ℕ). Some (drop k (drop n bytes))) e
-      ∙ ap (λ (xs : List ℕ). Some xs) (drop_all n bytes (short bytes h) ∙ sym (drop_all most_read bytes (less bytes h)));
+      ∙ ap (λ (xs : List ℕ). Some xs) (drop_all n bytes (short bytes h) ∙ sym (drop_all most bytes (less bytes h)));
 }
   where
     behind : 0 < length (drop n other)
@@ -102,8 +96,8 @@ HoldsText-end left now after buffer other n m below room kept r s e = record {
         let long : length (drop n bytes) ≡ length bytes - n = length-drop n bytes in
         omega arith
 
-    less : (bytes : List ℕ) → left ≡ Some bytes → length bytes ≤ most_read
-    less bytes h = let most : most_read ≡ 1048577 = most_read_is in let few : length bytes ≤ n = short bytes h in omega arith
+    less : (bytes : List ℕ) → left ≡ Some bytes → length bytes ≤ most
+    less bytes h = let few : length bytes ≤ n = short bytes h in omega arith
 
 -- what holds of each value that an option may have holds of the one that it has
 pub IfSome-from : (o : Option (List ℕ)) (P : List ℕ → Type 0) → ((x : List ℕ) → o ≡ Some x → P x) → IfSome o P

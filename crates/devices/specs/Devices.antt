@@ -22,10 +22,11 @@ pub record Writes (taken after : Option (List ℕ)) (bytes : List ℕ) (n : ℕ)
 unfoldable pub most_read : ℕ
 most_read = 1048577
 
--- the text that was read from an input stands at the front of a buffer, in n bytes, and what comes after it is left
-pub record HoldsText (left after : Option (List ℕ)) (buffer : List ℕ) (n : ℕ) : Type 0 where
-  pub text : (bytes : List ℕ) → left ≡ Some bytes → take n buffer ≡ take most_read bytes
-  pub rest : (bytes : List ℕ) → left ≡ Some bytes → after ≡ Some (drop most_read bytes)
+-- the text that was read from an input, of which so much is read at most, stands at the front of a buffer, in n bytes, and what comes
+-- after it is left
+pub record HoldsText (most : ℕ) (left after : Option (List ℕ)) (buffer : List ℕ) (n : ℕ) : Type 0 where
+  pub text : (bytes : List ℕ) → left ≡ Some bytes → take n buffer ≡ take most bytes
+  pub rest : (bytes : List ℕ) → left ≡ Some bytes → after ≡ Some (drop most bytes)
 
 -- how it is told why a text was not read
 abbrev pub told_of : ReadTextError → List ℕ

@@ -9,4 +9,4 @@ mod text;
 pub use device::{
     Bytes, Fault, FaultyInput, FaultyOutput, FileInput, Input, Output, StandardOutput, TakenBytes,
 };
-pub use text::{ReadTextError, TEXT_LIMIT, read_text, write_text};
+pub use text::{ReadTextError, TEXT_LIMIT, read_text, read_text_of, write_text};

@@ -13,10 +13,7 @@ use thiserror::Error;
 /// The greatest number of bytes of a text, 1,048,576: a longer one is refused.
 pub const TEXT_LIMIT: usize = 1_048_576;
 
-// as much of a text as is read: enough to see that it is too long
-const MOST_READ: usize = 1_048_577;
-
-// the first size of the buffer, in bytes
+// the greatest first size of the buffer, in bytes
 const FIRST_READ: usize = 65_536;
 
 /// Why a text was not read.
@@ -72,17 +69,18 @@ fn read_behind<I: Input>(input: &mut I, buffer: &mut [u8], filled: usize) -> Res
 }
 
 // Doubles a buffer that is full, up to what is read at most.
-fn make_room(buffer: &mut Vec<u8>, filled: usize) -> Result<(), AllocError>
+fn make_room(buffer: &mut Vec<u8>, filled: usize, most: usize) -> Result<(), AllocError>
     requires some { 0 < vec_len buffer.old }
     requires within { filled ≤ vec_len buffer.old }
-    requires below { filled < 1048577 }
-    requires bound { vec_len buffer.old ≤ 1048577 }
+    requires below { filled < most }
+    requires bound { vec_len buffer.old ≤ most }
+    requires fits { most ≤ 2 ^ 32 }
     ensures room { OnOk result (filled < vec_len buffer.new) }
-    ensures bound { vec_len buffer.new ≤ 1048577 }
+    ensures bound { vec_len buffer.new ≤ most }
     ensures kept { take filled buffer.new.items ≡ take filled buffer.old.items }
 {
     if filled == buffer.len() {
-        buffer.resize((2 * filled).min(MOST_READ), 0)?;
+        buffer.resize((2 * filled).min(most), 0)?;
     }
     Ok(())
 }
@@ -92,42 +90,45 @@ fn read_more<I: Input>(
     input: &mut I,
     buffer: &mut Vec<u8>,
     filled: usize,
+    most: usize,
 ) -> Result<usize, ReadTextError>
     requires fresh { I.failed input.old < 2 ^ 64 - 1 }
     requires some { 0 < vec_len buffer.old }
     requires within { filled ≤ vec_len buffer.old }
-    requires below { filled < 1048577 }
-    requires bound { vec_len buffer.old ≤ 1048577 }
+    requires below { filled < most }
+    requires bound { vec_len buffer.old ≤ most }
+    requires fits { most ≤ 2 ^ 32 }
     ensures reads { IfOk result (λ n. Reads (I.left input.old) (I.left input.new) (drop filled buffer.new.items) n) }
     ensures within { IfOk result (λ n. filled + n ≤ vec_len buffer.new) }
     ensures room { OnOk result (filled < vec_len buffer.new) }
     ensures kept { OnOk result (take filled buffer.new.items ≡ take filled buffer.old.items) }
-    ensures bound { OnOk result (vec_len buffer.new ≤ 1048577) }
+    ensures bound { OnOk result (vec_len buffer.new ≤ most) }
     ensures fine { OnOk result (I.failed input.new ≡ I.failed input.old) }
 
     ensures fault { IsErrOf result ReadTextError.Fault → I.failed input.new ≡ I.failed input.old + 1 }
     ensures memory { IsErrOf result ReadTextError.Memory → I.failed input.new ≡ I.failed input.old }
 {
-    make_room(buffer, filled)?;
+    make_room(buffer, filled, most)?;
     let n = read_behind(input, buffer, filled)?;
     Ok(n)
 }
 
 // Reads to the end of the input, or as much as is read at most, into a buffer that grows.
-fn fill<I: Input>(input: &mut I, buffer: &mut Vec<u8>) -> Result<usize, ReadTextError>
+fn fill<I: Input>(input: &mut I, buffer: &mut Vec<u8>, most: usize) -> Result<usize, ReadTextError>
     requires fresh { I.failed input.old < 2 ^ 64 - 1 }
     requires some { 0 < vec_len buffer.old }
-    requires bound { vec_len buffer.old ≤ 1048577 }
-    ensures read { IfOk result (λ n. HoldsText (I.left input.old) (I.left input.new) buffer.new.items n) }
-    ensures within { IfOk result (λ n. n ≤ 1048577) }
+    requires bound { vec_len buffer.old ≤ most }
+    requires fits { most ≤ 2 ^ 32 }
+    ensures read { IfOk result (λ n. HoldsText most (I.left input.old) (I.left input.new) buffer.new.items n) }
+    ensures within { IfOk result (λ n. n ≤ most) }
     ensures fine { OnOk result (I.failed input.new ≡ I.failed input.old) }
 
     ensures fault { IsErrOf result ReadTextError.Fault → I.failed input.new ≡ I.failed input.old + 1 }
     ensures memory { IsErrOf result ReadTextError.Memory → I.failed input.new ≡ I.failed input.old }
 {
     let mut filled = 0;
-    while filled < MOST_READ {
-        let n = read_more(input, buffer, filled)?;
+    while filled < most {
+        let n = read_more(input, buffer, filled, most)?;
         if n == 0 {
             break;
         }
@@ -148,8 +149,28 @@ pub fn read_text<I: Input>(alloc: Global, input: &mut I) -> Result<Vec<u8>, Read
     ensures fault { IsErrOf result ReadTextError.Fault ↔ (I.failed input.new ≡ I.failed input.old + 1) }
     ensures memory { IsErrOf result ReadTextError.Memory → I.failed input.new ≡ I.failed input.old }
 {
-    let mut buffer = vec![in alloc; 0u8; FIRST_READ]?;
-    let filled = fill(input, &mut buffer)?;
+    read_text_of(alloc, input, TEXT_LIMIT)
+}
+
+/// Reads an input to its end, or to one byte past so many, which are less than 2^32, whichever comes first. After a fault it makes
+/// no further call.
+pub fn read_text_of<I: Input>(
+    alloc: Global,
+    input: &mut I,
+    most: usize,
+) -> Result<Vec<u8>, ReadTextError>
+    requires fresh { I.failed input.old < 2 ^ 64 - 1 }
+    requires fits { most < 2 ^ 32 }
+    ensures text { IfOk result (λ text. IfSome (I.left input.old) (λ bytes. text.items ≡ take (most + 1) bytes)) }
+    ensures rest { OnOk result (IfSome (I.left input.old) (λ bytes. I.left input.new ≡ Some (drop (most + 1) bytes))) }
+    ensures bound { IfOk result (λ text. vec_len text ≤ most + 1) }
+    ensures fine { OnOk result (I.failed input.new ≡ I.failed input.old) }
+
+    ensures fault { IsErrOf result ReadTextError.Fault ↔ (I.failed input.new ≡ I.failed input.old + 1) }
+    ensures memory { IsErrOf result ReadTextError.Memory → I.failed input.new ≡ I.failed input.old }
+{
+    let mut buffer = vec![in alloc; 0u8; FIRST_READ.min(most + 1)]?;
+    let filled = fill(input, &mut buffer, most + 1)?;
     buffer.truncate(filled);
     Ok(buffer)
 }
@@ -172,6 +193,3 @@ pub fn write_text<O: Output>(output: &mut O, text: &[u8]) -> Result<(), Fault>
     }
     output.flush()
 }
-
-#[cfg(test)]
-mod tests;

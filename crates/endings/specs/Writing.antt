@@ -4,7 +4,7 @@ use Rattle.devices.specs.Devices.{TakesBeginning}
 use Rattle.endings.specs.declared.status.Status.{Status}
 use Rattle.endings.specs.declared.status.Status.TheVariants as status
 
--- a text was written whole, with the status of whether every loop is met; or the output failed and took a beginning of it
+-- a text was written whole, with the status of whether every loop or problem is met; or the output failed and took a beginning of it
 abbrev pub EndsWritten : List ℕ → Bool → Option (List ℕ) → Option (List ℕ) → Status → Type 0
 EndsWritten text all_met before after status.Done = (all_met ≡ true) × (after ≡ option_map (λ taken. taken ++ text) before)
 EndsWritten text all_met before after status.Unmet = (all_met ≡ false) × (after ≡ option_map (λ taken. taken ++ text) before)

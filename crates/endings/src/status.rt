@@ -1,11 +1,15 @@
 //! How a run of the program ends.
 
 ghost use Rattle.std.specs.Prelude.{◌≡◌, ◌<◌, ◌↔◌, IsSome, IfSome};
-ghost use Rattle.endings.specs.Statuses.{status_number, refusal_of_file, refusal_of_machine, refusal_of_loops};
+ghost use Rattle.endings.specs.Statuses.{status_number, problems_number, solutions_number, refusal_of_file, refusal_of_machine, refusal_of_loops};
+ghost use Rattle.endings.specs.Statuses.{refusal_of_problems, refusal_of_problem_text, refusal_of_solution_text};
 
 use file_faults::FileFault;
 use loops::{LoopFault, LoopFaultKind};
 use machine::{MachineFault, Name, Opcode};
+use problem_printouts::ProblemsFault;
+use problem_reader::{TextFault, Wrong as ProblemsWrong};
+use solution_reader::{SolutionFault, Wrong as SolutionsWrong};
 use std::fmt;
 use std::marker::Model;
 
@@ -15,18 +19,26 @@ use std::marker::Model;
 pub enum Status {
     /// The work is done and its output is written.
     Done,
-    /// The output is written, and it tells of a loop that is not met.
+    /// The output is written, and it tells of a loop or a problem that is not met.
     Unmet,
     /// The machine's file can't be read.
     MachineUnread,
     /// The loops' file can't be read.
     LoopsUnread,
+    /// The file of scheduling problems can't be read.
+    ProblemsUnread,
+    /// The file of solutions can't be read.
+    SolutionsUnread,
     /// The machine text is refused.
     Machine(MachineFault),
     /// The loop text is refused.
     Loops(LoopFault),
     /// The machine has no reservation table for an opcode of the loop with this name.
     NoTable { name: Name, opcode: Opcode },
+    /// The text of scheduling problems is refused.
+    Problems(TextFault),
+    /// The text of solutions is refused.
+    Solutions(SolutionFault),
     /// A write or the flush failed. What went out is a beginning of the output.
     Unwritten,
     /// Memory ran out.
@@ -42,6 +54,7 @@ impl Status {
             Status::Done => 0,
             Status::Unmet => 1,
             Status::MachineUnread | Status::LoopsUnread => 3,
+            Status::ProblemsUnread | Status::SolutionsUnread => 3,
             Status::Machine(MachineFault::Memory) => 7,
             Status::Machine(_) => 4,
             Status::Loops(fault) => match fault.kind {
@@ -49,6 +62,8 @@ impl Status {
                 _ => 5,
             },
             Status::NoTable { .. } => 5,
+            Status::Problems(fault) => problems_number(fault.what),
+            Status::Solutions(fault) => solutions_number(fault.what),
             Status::Unwritten => 6,
             Status::OutOfMemory => 7,
         }
@@ -64,6 +79,26 @@ impl Status {
             Status::Done | Status::Unmet => None,
             _ => Some(Line { status: self }),
         }
+    }
+}
+
+/// The number by which the process exits where the text of problems has this fault.
+fn problems_number(what: ProblemsWrong) -> u8
+    ensures { result ≡ problems_number what }
+{
+    match what {
+        ProblemsWrong::Memory => 7,
+        _ => 4,
+    }
+}
+
+/// The number by which the process exits where the text of solutions has this fault.
+fn solutions_number(what: SolutionsWrong) -> u8
+    ensures { result ≡ solutions_number what }
+{
+    match what {
+        SolutionsWrong::Memory => 7,
+        _ => 5,
     }
 }
 
@@ -105,6 +140,43 @@ impl From<FileFault> for Status {
     }
 }
 
+/// A text of problems that is refused for want of memory alone ends in `OutOfMemory`.
+impl From<TextFault> for Status {
+    ghost from_gives = { λ fault status. status ≡ refusal_of_problem_text fault };
+
+    fn from(fault: TextFault) -> Status {
+        match fault.what {
+            ProblemsWrong::Memory => Status::OutOfMemory,
+            _ => Status::Problems(fault),
+        }
+    }
+}
+
+/// A text of solutions that is refused for want of memory alone ends in `OutOfMemory`.
+impl From<SolutionFault> for Status {
+    ghost from_gives = { λ fault status. status ≡ refusal_of_solution_text fault };
+
+    fn from(fault: SolutionFault) -> Status {
+        match fault.what {
+            SolutionsWrong::Memory => Status::OutOfMemory,
+            _ => Status::Solutions(fault),
+        }
+    }
+}
+
+/// Texts of problems and solutions that have no answer end as their fault says; for want of memory alone, in `OutOfMemory`.
+impl From<ProblemsFault> for Status {
+    ghost from_gives = { λ fault status. status ≡ refusal_of_problems fault };
+
+    fn from(fault: ProblemsFault) -> Status {
+        match fault {
+            ProblemsFault::Problems(fault) => Status::from(fault),
+            ProblemsFault::Solutions(fault) => Status::from(fault),
+            ProblemsFault::Memory => Status::OutOfMemory,
+        }
+    }
+}
+
 /// The line for the standard error that tells of a fault. Contracts see the status.
 #[derive(Drop)]
 pub struct Line<'a> {
@@ -130,6 +202,8 @@ impl fmt::Display for Line<'_> {
             Status::Done | Status::Unmet => Ok(()),
             Status::MachineUnread => f.write_str("machine: cannot read"),
             Status::LoopsUnread => f.write_str("loops: cannot read"),
+            Status::ProblemsUnread => f.write_str("problems: cannot read"),
+            Status::SolutionsUnread => f.write_str("solutions: cannot read"),
             Status::Machine(MachineFault::Memory) | Status::OutOfMemory => {
                 f.write_str("out of memory")
             }
@@ -142,6 +216,14 @@ impl fmt::Display for Line<'_> {
                 let word = opcode.word();
                 write!(f, "loops: loop {name}: no table for {word}")
             }
+            Status::Problems(fault) => match fault.what {
+                ProblemsWrong::Memory => f.write_str("out of memory"),
+                _ => write!(f, "problems: {fault}"),
+            },
+            Status::Solutions(fault) => match fault.what {
+                SolutionsWrong::Memory => f.write_str("out of memory"),
+                _ => write!(f, "solutions: {fault}"),
+            },
             Status::Unwritten => f.write_str("cannot write"),
         }
     }

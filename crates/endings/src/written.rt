@@ -7,7 +7,7 @@ ghost use Rattle.endings.specs.Writing.{CountsFault, EndsWritten};
 use crate::status::Status;
 use devices::{Output, write_text};
 
-/// Writes a whole text and flushes it. Where that succeeds, the status is `Done` if every loop is met, and else `Unmet`. Where the
+/// Writes a whole text and flushes it. Where that succeeds, the status is `Done` if every loop or problem is met, and else `Unmet`. Where the
 /// output fails, it is `Unwritten`, and what the output took is a beginning of the text.
 pub fn finish<O: Output>(output: &mut O, text: &[u8], all_met: bool) -> Status
     requires { O.failed output.old < 2 ^ 64 - 1 }
@@ -23,7 +23,7 @@ pub fn finish<O: Output>(output: &mut O, text: &[u8], all_met: bool) -> Status
     }
 }
 
-/// Writes the help or the version that was asked for, as [`finish`] writes an output whose loops are all met.
+/// Writes the help or the version that was asked for, as [`finish`] writes an output where all is met.
 pub fn show<O: Output>(output: &mut O, text: &str) -> Status
     requires { O.failed output.old < 2 ^ 64 - 1 }
     ensures ends { EndsWritten text.now true (O.taken output.old) (O.taken output.new) result }

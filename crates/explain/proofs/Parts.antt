@@ -1,25 +1,27 @@
 -- What is told of loops, one after another.
 use Rattle.std.proofs.Common.{◌≡◌, ℕ, ◌+◌, Bool, cond, List, [], ◌∷◌, ◌++◌, length, Option, Some, None, refl, sym, ap, ◌∙◌, subst, append_assoc, arith}
-use Rattle.std.specs.Prelude.{Ok, Err, count_by}
+use Rattle.std.specs.Prelude.{Result, Ok, Err, count_by}
 use Rattle.std.proofs.lemmas.List.{append-nil}
 use Rattle.std.proofs.lemmas.List.Sums.{sum_by-append}
 use Rattle.machine_data.specs.Machines.{MachineData}
 use Rattle.machine_data.specs.declared.opcode.Opcode.{Opcode}
 use Rattle.iterations.specs.Loops.{LoopData}
 use Rattle.graph.specs.TablesAnswer.{TablesAnswer}
-use Rattle.graph.specs.declared.fault.GraphFault.TheVariants as graph_fault
-use Rattle.graph.specs.Units.{first_lacking, first_without_table, lacking_or}
+use Rattle.graph.specs.Units.{first_lacking, first_without_table, lacking_or, operations_of}
 use Rattle.graph_text.specs.declared.fault.TextFault.{TextFault}
+use Rattle.graph_text.specs.declared.fault.TextFault.TheVariants.{NoTable, Memory}
 use Rattle.graph_text.specs.declared.measuring.LowerBounds.{LowerBounds}
 use Rattle.graph_text.specs.Bounds.{bounds_line}
 use Rattle.graph_text.specs.Faults.{TextAnswers, lacking_in}
 use Rattle.graph_text.proofs.Lacking.{complete, first_lacking-append, refused_or}
 use Rattle.graph_text.proofs.Texts.{all_zip-push, behind, zipped-push}
-use Rattle.ims.specs.Problems.{ProblemData}
+use Rattle.unit_uses.specs.Choices.{AreUnitChoices}
+use Rattle.unit_uses.specs.UnitLines.{unit_lines_of}
+use Rattle.ims.specs.Problems.{ProblemData, IsProblemOf}
 use Rattle.candidates.specs.declared.choices.Choice.{Choice}
 use Rattle.candidates.specs.Listings.{is_met, is_failed}
 use Rattle.explain.specs.CircuitTexts.{IsCircuitText}
-use Rattle.explain.specs.Explanations.{ArePartsOf, IsExplained, IsPartOf, PartData, bounds_of}
+use Rattle.explain.specs.Explanations.{ArePartsOf, IsExplained, IsPartOf, IsTold, IsToldOn, PartData, bounds_of}
 use Rattle.explain.specs.Tries.{AreTries}
 
 -- the parts of what is told of a loop
@@ -40,8 +42,49 @@ pub prepared-ok : {A : Type 0} (missing : Option Opcode) (P : A → Type 0) (x :
 prepared-ok None P x a = (refl, a)
 prepared-ok (Some o) P x a = cc
 
-pub told-ok : {B : Type 0} (machine : MachineData) (loop : LoopData) (Q : B → Type 0) (y : B) → first_without_table machine loop ≡ None → Q y → TextAnswers (lacking_in machine loop) Q (Ok y)
-told-ok machine loop Q y none q = complete (lacking_in machine loop) Q y (ap (λ o. lacking_or loop.name o None) none) q
+-- what is told of a problem with the lines of its units
+pub told-on : (machine : MachineData) (loop : LoopData) (p : ProblemData) (choice : Choice) (units alternatives old new : List ℕ) → loop ≡ p.loop → lacking_in machine loop ≡ None
+    → AreUnitChoices (operations_of machine loop) alternatives → units ≡ unit_lines_of machine loop alternatives → ((part : List ℕ) × IsTold machine units p choice part × (new ≡ old ++ part))
+    → TextAnswers (lacking_in machine p.loop) (λ (c : Choice). (part : List ℕ) × IsToldOn machine p c part × (new ≡ old ++ part)) (Ok choice)
+told-on machine loop p choice units alternatives old new same none best lines told =
+    complete (lacking_in machine p.loop) (λ (c : Choice). (part : List ℕ) × IsToldOn machine p c part × (new ≡ old ++ part)) choice
+    (subst (λ (l : LoopData). lacking_in machine l ≡ None) same none) (
+      told.0,
+      record {
+        alternatives = alternatives;
+        are_best = subst (λ (l : LoopData). AreUnitChoices (operations_of machine l) alternatives) same best;
+        told = subst (λ (t : List ℕ). IsTold machine t p choice told.0) (lines ∙ ap (λ (l : LoopData). unit_lines_of machine l alternatives) same) told.1;
+      },
+      told.2,
+    )
+
+-- what is told of a problem is told of its loop
+pub part_of : (machine : MachineData) (ratio ceiling : ℕ) (loop : LoopData) (p : ProblemData) (choice : Choice) (text : List ℕ) → IsProblemOf machine loop ratio ceiling p
+    → IsToldOn machine p choice text → IsPartOf machine ratio ceiling loop choice text
+part_of machine ratio ceiling loop p choice text is told = record {
+  problem = p;
+  is_problem = is;
+  alternatives = told.alternatives;
+  are_best = subst (λ (l : LoopData). AreUnitChoices (operations_of machine l) told.alternatives) is.same_loop told.are_best;
+  told = subst (λ (l : LoopData). IsTold machine (unit_lines_of machine l told.alternatives) p choice text) is.same_loop told.told;
+}
+
+-- an answer that tells more
+told-more : {A : Type 0} (lacking : Option (List ℕ × Opcode)) (P Q : A → Type 0) (r : Result A TextFault) → ((x : A) → P x → Q x) → TextAnswers lacking P r → TextAnswers lacking Q r
+told-more lacking P Q (Err Memory) more a = tt
+told-more None P Q (Ok x) more a = more x a
+told-more None P Q (Err (NoTable name opcode)) more a = a
+told-more (Some l) P Q (Ok x) more a = a
+told-more (Some l) P Q (Err (NoTable name opcode)) more a = a
+
+pub part-answer : (machine : MachineData) (ratio ceiling : ℕ) (loop : LoopData) (p : ProblemData) (old new : List ℕ) (r : Result Choice TextFault) → IsProblemOf machine loop ratio ceiling p
+    → TextAnswers (lacking_in machine p.loop) (λ (c : Choice). (part : List ℕ) × IsToldOn machine p c part × (new ≡ old ++ part)) r
+    → TextAnswers (lacking_in machine loop) (λ (c : Choice). (part : List ℕ) × IsPartOf machine ratio ceiling loop c part × (new ≡ old ++ part)) r
+part-answer machine ratio ceiling loop p old new r is a =
+    let P = λ (c : Choice). (part : List ℕ) × IsToldOn machine p c part × (new ≡ old ++ part) in
+    told-more (lacking_in machine loop) P (λ (c : Choice). (part : List ℕ) × IsPartOf machine ratio ceiling loop c part × (new ≡ old ++ part)) r
+    (λ c t. (t.0, part_of machine ratio ceiling loop p c t.0 is t.1, t.2))
+    (subst (λ (l : LoopData). TextAnswers (lacking_in machine l) P r) is.same_loop a)
 
 count-push : {X : Type 0} (p : X → Bool) (xs : List X) (y : X) → count_by p (xs ++ y ∷ []) ≡ count_by p xs + count_by p (y ∷ [])
 count-push p xs y = sum_by-append (λ x. cond (p x) 1 0) xs (y ∷ [])

@@ -37,6 +37,12 @@ pub record IsTold (machine : MachineData) (units : List ℕ) (problem : ProblemD
   pub is_shown : IsShown machine problem choice shown
   pub is_text : text ≡ explanation ++ shown
 
+-- that, with the lines of the units by the choices of the problem's resource-constrained bound
+pub record IsToldOn (machine : MachineData) (problem : ProblemData) (choice : Choice) (text : List ℕ) : Type 0 where
+  pub alternatives : List ℕ
+  pub are_best : AreUnitChoices (operations_of machine problem.loop) alternatives
+  pub told : IsTold machine (unit_lines_of machine problem.loop alternatives) problem choice text
+
 -- the problem of a loop on a machine, and the choices of the resource-constrained bound, with that
 pub record IsPartOf (machine : MachineData) (ratio ceiling : ℕ) (loop : LoopData) (choice : Choice) (text : List ℕ) : Type 0 where
   pub problem : ProblemData

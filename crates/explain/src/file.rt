@@ -6,7 +6,7 @@ ghost use Rattle.graph.specs.Units.{first_lacking, operations_of};
 ghost use Rattle.graph_text.specs.Faults.{TextAnswers, lacking_in};
 ghost use Rattle.candidates.specs.Listings.{is_failed, is_met};
 ghost use Rattle.candidates.specs.declared.choices.Choice.{Choice};
-ghost use Rattle.explain.specs.Explanations.{ArePartsOf, IsExplanationOf, IsPartOf, IsTold, last_line};
+ghost use Rattle.explain.specs.Explanations.{ArePartsOf, IsExplanationOf, IsPartOf, IsTold, IsToldOn, last_line};
 ghost use Rattle.unit_uses.specs.Choices.{AreUnitChoices};
 ghost use Rattle.unit_uses.specs.UnitLines.{unit_lines_of};
 ghost use Rattle.explain.specs.declared.file.Tally.{Tally};
@@ -94,6 +94,28 @@ fn push_part(
     Ok(choice)
 }
 
+/// Appends what is told of a loop that is prepared for the machine: what [`push_explanation`](crate::push_explanation)
+/// writes, with the lines of the units that the loop uses, and the schedule and the registers of its kernel. The
+/// choice is that of the loop.
+///
+/// # Errors
+/// [`TextFault::NoTable`] for the first statement whose opcode the machine has no table for, and
+/// [`TextFault::Memory`] where memory ran out. The text is left with a part of that.
+pub fn push_prepared(
+    alloc: Global,
+    text: &mut Vec<u8>,
+    machine: &Machine,
+    prepared: &Prepared,
+) -> Result<Choice, TextFault>
+    ensures exact { TextAnswers (lacking_in machine.now prepared.now.loop) (λ (choice : Choice). (part : List ℕ) × IsToldOn machine.now prepared.now choice part × (text.new.items ≡ text.old.items ++ part)) result }
+{
+    let units = unit_lines(alloc, machine, prepared.innermost())?;
+    match push_part(alloc, text, machine, units.as_slice(), prepared) {
+        Ok(choice) => Ok(choice),
+        Err(_) => Err(TextFault::Memory),
+    }
+}
+
 /// Appends what is told of a loop.
 fn push_loop(
     alloc: Global,
@@ -105,12 +127,8 @@ fn push_loop(
     ensures exact { TextAnswers (lacking_in machine.now innermost) (λ (choice : Choice). (part : List ℕ) × IsPartOf machine.now settings.now.ratio settings.now.ceiling innermost choice part × (text.new.items ≡ text.old.items ++ part)) result }
 {
     let name = innermost.name().copied();
-    let units = unit_lines(alloc, machine, &innermost)?;
     match prepare(alloc, machine, innermost, settings) {
-        Ok(prepared) => match push_part(alloc, text, machine, units.as_slice(), &prepared) {
-            Ok(choice) => Ok(choice),
-            Err(_) => Err(TextFault::Memory),
-        },
+        Ok(prepared) => push_prepared(alloc, text, machine, &prepared),
         Err(GraphFault::NoTable(opcode)) => Err(TextFault::NoTable(name, opcode)),
         Err(GraphFault::Memory) => Err(TextFault::Memory),
     }
@@ -136,12 +154,15 @@ fn push_loops(
 }
 
 /// Appends the last line, with the number of loops, of those with a kernel and of those without.
-fn push_last(text: &mut Vec<u8>, loops: u64, tally: Tally) -> Result<(), AllocError>
-    ensures ok { OnOk result (text.new.items ≡ text.old.items ++ last_line loops tally.met tally.failed) }
+///
+/// # Errors
+/// Memory ran out. The text is left with a part of that.
+pub fn push_last(text: &mut Vec<u8>, loops: u64, met: u64, failed: u64) -> Result<(), AllocError>
+    ensures ok { OnOk result (text.new.items ≡ text.old.items ++ last_line loops met failed) }
 {
     push_told(text, b"loops ", loops)?;
-    push_told(text, b" met ", tally.met)?;
-    push_told(text, b" failed ", tally.failed)?;
+    push_told(text, b" met ", met)?;
+    push_told(text, b" failed ", failed)?;
     text.extend_from_slice(b"\n")
 }
 
@@ -163,7 +184,7 @@ pub fn explain_lines(
     let number = loops.len();
     let mut text = Vec::with_capacity(alloc, PART.saturating_mul(number))?;
     let tally = push_loops(alloc, &mut text, machine, loops, settings)?;
-    push_last(&mut text, number as u64, tally)?;
+    push_last(&mut text, number as u64, tally.met, tally.failed)?;
     Ok(Explained {
         text,
         all_met: tally.failed == 0,

@@ -8,7 +8,7 @@ mod laws;
 mod shown;
 mod single;
 
-pub use file::{Explained, explain_lines};
+pub use file::{Explained, explain_lines, push_last, push_prepared};
 pub use intervals::hold::Hold;
 pub use laws::circuits_need_bounds;
 pub use single::push_explanation;

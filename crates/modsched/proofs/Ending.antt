@@ -1,6 +1,6 @@
 -- How runs of subcommands end.
-use Rattle.std.proofs.Common.{◌≡◌, ℕ, ◌<◌, List, refl, sym, ap, ◌∙◌, arith, length, take, inl, inr}
-use Rattle.std.specs.Prelude.{Err, codes}
+use Rattle.std.proofs.Common.{◌≡◌, ℕ, ◌<◌, List, refl, sym, ap, subst, ◌∙◌, arith, length, take, inl, inr}
+use Rattle.std.specs.Prelude.{Result, Ok, Err, codes}
 use Rattle.std.proofs.lemmas.List.{take_all, length-take-le}
 use Rattle.std.proofs.lemmas.Bool.{cases_lt, lt-ltb}
 use Rattle.machine.specs.declared.fault.MachineFault.{MachineFault}
@@ -11,17 +11,37 @@ use Rattle.loops.specs.LoopFaultKind.{LoopFaultKind}
 use Rattle.loops.specs.LoopFaultKind.TheVariants as kinds
 use Rattle.loops.specs.Meaning.{loops_in}
 use Rattle.command_line.specs.declared.command.Command.{Command}
+use Rattle.command_line.specs.declared.command.Command.TheVariants as command
+use Rattle.command_line.specs.declared.command.Report.{Report}
+use Rattle.command_line.specs.declared.command.Report.TheVariants as report
 use Rattle.command_line.specs.declared.command.Work.{Work}
 use Rattle.command_line.specs.declared.command.Work.TheVariants.{Plain, OnMachine}
 use Rattle.file_faults.specs.declared.fault.FileFault.{FileFault}
 use Rattle.file_faults.specs.declared.fault.FileFault.TheVariants as file
+use Rattle.problem_tables.specs.declared.fault.Wrong.{Wrong as ProblemsWrong}
+use Rattle.problem_tables.specs.declared.fault.Wrong.TheVariants as problems_wrong
+use Rattle.problem_reader.specs.declared.fault.TextFault.{TextFault}
+use Rattle.problem_reader.specs.Files.{file_in_text, data_or}
+use Rattle.problem_reader.specs.Meaning.{forms_in}
+use Rattle.solution_reader.specs.declared.fault.Wrong.{Wrong as SolutionsWrong}
+use Rattle.solution_reader.specs.declared.fault.Wrong.TheVariants as solutions_wrong
+use Rattle.solution_reader.specs.declared.fault.SolutionFault.{SolutionFault}
+use Rattle.solution_reader.specs.Data.{SolutionData as TextSolution}
+use Rattle.solution_reader.specs.Meaning.{size_fault, solutions_in_text}
+use Rattle.problem_printouts.specs.Solving.{AnswersSolve}
+use Rattle.problem_printouts.specs.Judging.{AnswersCheck, IsFaultOf}
+use Rattle.problem_printouts.specs.declared.answers.Answers.{Answers}
+use Rattle.problem_printouts.specs.declared.fault.ProblemsFault.{ProblemsFault}
+use Rattle.problem_printouts.specs.declared.fault.ProblemsFault.TheVariants as problems
+use Rattle.settings.specs.Settings.{SettingsData}
 use Rattle.printouts.specs.Outcomes.{Outcome}
 use Rattle.modsched.specs.Devices.{most_read}
-use Rattle.modsched.specs.Engine.{Brings, WorkBrings}
+use Rattle.modsched.specs.Engine.{AnswersReport, Brings, Ending, WorkBrings, most_problems_read, most_read_by}
 use Rattle.modsched.specs.inner.Refusals.{IsRefusal}
-use Rattle.endings.specs.Statuses.{loops_status, refusal_of_file, refusal_of_machine, status_number}
+use Rattle.endings.specs.Statuses.{status_number, loops_status, problems_status, solutions_status, refusal_of_file, refusal_of_machine, refusal_of_problems}
 use Rattle.endings.specs.declared.status.Status.{Status}
-use Rattle.endings.specs.declared.status.Status.TheVariants.{Done, Unmet, MachineUnread, LoopsUnread, Machine, Loops, NoTable, Unwritten, OutOfMemory}
+use Rattle.endings.specs.declared.status.Status.TheVariants.{Done, Unmet, MachineUnread, LoopsUnread, ProblemsUnread, SolutionsUnread}
+use Rattle.endings.specs.declared.status.Status.TheVariants.{Machine, Loops, NoTable, Problems, Solutions, Unwritten, OutOfMemory}
 
 -- the status of each refusal is one
 machine_refusal : (f : MachineFault) → IsRefusal (refusal_of_machine f)
@@ -53,16 +73,47 @@ file_refusal (file.Loops f) = loops_refusal_at f.kind f refl
 file_refusal (file.NoTable name opcode) = tt
 file_refusal file.Memory = tt
 
+problems_refusal_at : (what : ProblemsWrong) (f : TextFault) → f.what ≡ what → IsRefusal (problems_status what f)
+problems_refusal_at problems_wrong.Memory f is = tt
+problems_refusal_at problems_wrong.TextSize f is = rw is refl
+problems_refusal_at (problems_wrong.Form expected) f is = rw is refl
+problems_refusal_at problems_wrong.Place f is = rw is refl
+problems_refusal_at (problems_wrong.Count part) f is = rw is refl
+problems_refusal_at problems_wrong.Range f is = rw is refl
+problems_refusal_at problems_wrong.Repeated f is = rw is refl
+problems_refusal_at (problems_wrong.Unknown part) f is = rw is refl
+problems_refusal_at problems_wrong.Backward f is = rw is refl
+problems_refusal_at problems_wrong.NoEnd f is = rw is refl
+
+solutions_refusal_at : (what : SolutionsWrong) (f : SolutionFault) → f.what ≡ what → IsRefusal (solutions_status what f)
+solutions_refusal_at solutions_wrong.Memory f is = tt
+solutions_refusal_at solutions_wrong.TextSize f is = rw is refl
+solutions_refusal_at (solutions_wrong.Form expected) f is = rw is refl
+solutions_refusal_at solutions_wrong.Place f is = rw is refl
+solutions_refusal_at (solutions_wrong.Count part) f is = rw is refl
+solutions_refusal_at solutions_wrong.Repeated f is = rw is refl
+solutions_refusal_at (solutions_wrong.Unknown part) f is = rw is refl
+solutions_refusal_at solutions_wrong.NoEnd f is = rw is refl
+
+pub problems_refusal : (fault : ProblemsFault) → IsRefusal (refusal_of_problems fault)
+problems_refusal (problems.Problems f) = problems_refusal_at f.what f refl
+problems_refusal (problems.Solutions f) = solutions_refusal_at f.what f refl
+problems_refusal problems.Memory = tt
+
 -- want of memory has one status among them
 pub refusal_memory : (status : Status) → IsRefusal status → status_number status ≡ 7 → status ≡ OutOfMemory
 refusal_memory (Machine f) is seven = absurd (omega (arith, is, seven))
 refusal_memory (Loops f) is seven = absurd (omega (arith, is, seven))
 refusal_memory (NoTable name opcode) is seven = absurd (omega (arith, seven))
+refusal_memory (Problems f) is seven = absurd (omega (arith, is, seven))
+refusal_memory (Solutions f) is seven = absurd (omega (arith, is, seven))
 refusal_memory OutOfMemory is seven = refl
 refusal_memory Done is seven = absurd is
 refusal_memory Unmet is seven = absurd is
 refusal_memory MachineUnread is seven = absurd is
 refusal_memory LoopsUnread is seven = absurd is
+refusal_memory ProblemsUnread is seven = absurd is
+refusal_memory SolutionsUnread is seven = absurd is
 refusal_memory Unwritten is seven = absurd is
 
 machine_too_long : (text : List ℕ) → 1048576 < length text → machine_of text ≡ Err (machine_fault.Limit (codes "text"))
@@ -91,11 +142,90 @@ loops_in-take bytes = elim (cases_lt most_read (length bytes)) [
   | inr h ↦ ap loops_in (take_all most_read bytes h)
 ]
 
-brings-take : (work : Work) (machine loops : List ℕ) (outcome : Outcome) → WorkBrings work (take most_read machine) (take most_read loops) outcome → WorkBrings work machine loops outcome
-brings-take (Plain trip) machine loops outcome h = rw (loops_in-take loops) at h
-brings-take (OnMachine path task) machine loops outcome h = rw (machine_of-take machine, loops_in-take loops) at h
+problems_too_long : (text : List ℕ) → 16777216 < length text → forms_in text ≡ Err (record { line = 0; column = 0; width = 0; what = problems_wrong.TextSize })
+unfolding forms_in
+problems_too_long text h = rw (lt-ltb 16777216 (length text) h) refl
+
+solutions_too_long : (text : List ℕ) → 16777216 < length text → solutions_in_text text ≡ Err size_fault
+unfolding solutions_in_text
+solutions_too_long text h = rw (lt-ltb 16777216 (length text) h) refl
+
+taken_problems_too_long : (text : List ℕ) → most_problems_read < length text → (16777216 < length (take most_problems_read text)) × (16777216 < length text)
+unfolding most_problems_read
+taken_problems_too_long text h =
+    let e : length (take 16777217 text) ≡ 16777217 = length-take-le 16777217 text (omega arith) in (omega (arith, e), omega arith)
+
+forms_in-take : (bytes : List ℕ) → forms_in (take most_problems_read bytes) ≡ forms_in bytes
+forms_in-take bytes = elim (cases_lt most_problems_read (length bytes)) [
+  | inl h ↦
+      let long = taken_problems_too_long bytes h in
+      problems_too_long (take most_problems_read bytes) long.0 ∙ sym (problems_too_long bytes long.1)
+  | inr h ↦ ap forms_in (take_all most_problems_read bytes h)
+]
+
+file_in_text-take : (bytes : List ℕ) → file_in_text (take most_problems_read bytes) ≡ file_in_text bytes
+file_in_text-take bytes = ap data_or (forms_in-take bytes)
+
+solutions_in_text-take : (bytes : List ℕ) → solutions_in_text (take most_problems_read bytes) ≡ solutions_in_text bytes
+solutions_in_text-take bytes = elim (cases_lt most_problems_read (length bytes)) [
+  | inl h ↦
+      let long = taken_problems_too_long bytes h in
+      solutions_too_long (take most_problems_read bytes) long.0 ∙ sym (solutions_too_long bytes long.1)
+  | inr h ↦ ap solutions_in_text (take_all most_problems_read bytes h)
+]
+
+work_brings-take : (work : Work) (machine loops : List ℕ) (outcome : Outcome) → WorkBrings work (take most_read machine) (take most_read loops) outcome → WorkBrings work machine loops outcome
+work_brings-take (Plain trip workers) machine loops outcome h = rw (loops_in-take loops) at h
+work_brings-take (OnMachine path task) machine loops outcome h = rw (machine_of-take machine, loops_in-take loops) at h
+
+solve-take : (settings : SettingsData) (text : List ℕ) (outcome : Result Answers ProblemsFault)
+    → AnswersSolve settings (take most_problems_read text) outcome → AnswersSolve settings text outcome
+solve-take settings text (Ok told) h = rw (forms_in-take text) at h
+solve-take settings text (Err (problems.Problems fault)) h = rw (forms_in-take text) at h
+solve-take settings text (Err (problems.Solutions fault)) h = h
+solve-take settings text (Err problems.Memory) h = h
+
+report-take : (told : Report) (text : List ℕ) (outcome : Result Answers ProblemsFault)
+    → AnswersReport told (take most_problems_read text) outcome → AnswersReport told text outcome
+report-take report.Edges text (Ok told) h = rw (forms_in-take text) at h
+report-take report.Edges text (Err (problems.Problems fault)) h = rw (forms_in-take text) at h
+report-take report.Edges text (Err (problems.Solutions fault)) h = h
+report-take report.Edges text (Err problems.Memory) h = h
+report-take report.Dot text (Ok told) h = rw (forms_in-take text) at h
+report-take report.Dot text (Err (problems.Problems fault)) h = rw (forms_in-take text) at h
+report-take report.Dot text (Err (problems.Solutions fault)) h = h
+report-take report.Dot text (Err problems.Memory) h = h
+report-take (report.Explain settings) text (Ok told) h = rw (forms_in-take text) at h
+report-take (report.Explain settings) text (Err (problems.Problems fault)) h = rw (forms_in-take text) at h
+report-take (report.Explain settings) text (Err (problems.Solutions fault)) h = h
+report-take (report.Explain settings) text (Err problems.Memory) h = h
+
+check-take : (first last : List ℕ) (outcome : Result Answers ProblemsFault)
+    → AnswersCheck (take most_problems_read first) (take most_problems_read last) outcome → AnswersCheck first last outcome
+check-take first last (Ok told) h = record {
+  file = h.file;
+  list = h.list;
+  is_file = sym (file_in_text-take first) ∙ h.is_file;
+  is_list = sym (solutions_in_text-take last) ∙ h.is_list;
+  all_known = h.all_known;
+  is_text = h.is_text;
+}
+check-take first last (Err (problems.Problems fault)) h = rw (forms_in-take first) at h
+check-take first last (Err (problems.Solutions fault)) h = record {
+  file = h.file;
+  is_file = sym (file_in_text-take first) ∙ h.is_file;
+  is_fault = subst (λ (r : Result (List TextSolution) SolutionFault). IsFaultOf h.file r fault) (solutions_in_text-take last) h.is_fault;
+  of_text = h.of_text;
+}
+check-take first last (Err problems.Memory) h = h
+
+brings-take : (c : Command) (first last : List ℕ) (ending : Ending) → Brings c (take (most_read_by c) first) (take (most_read_by c) last) ending → Brings c first last ending
+brings-take (command.Loops path work) first last ending h = (h.0, work_brings-take work first last h.0 h.1, h.2)
+brings-take (command.Solve path settings) first last ending h = (h.0, solve-take settings last h.0 h.1, h.2)
+brings-take (command.Problems path told) first last ending h = (h.0, report-take told last h.0 h.1, h.2)
+brings-take (command.Check path other) first last ending h = (h.0, check-take first last h.0 h.1, h.2)
 
 -- what was read of texts brings about what the whole texts do
-pub brings-read : (command : Command) (machine loops machine_read loops_read : List ℕ) (outcome : Outcome)
-    → machine_read ≡ take most_read machine → loops_read ≡ take most_read loops → Brings command machine_read loops_read outcome → Brings command machine loops outcome
-brings-read command machine loops machine_read loops_read outcome m l h = brings-take command.work machine loops outcome (rw (m, l) at h)
+pub brings-read : (c : Command) (first last first_read last_read : List ℕ) (ending : Ending)
+    → first_read ≡ take (most_read_by c) first → last_read ≡ take (most_read_by c) last → Brings c first_read last_read ending → Brings c first last ending
+brings-read c first last first_read last_read ending f l h = brings-take c first last ending (rw (f, l) at h)

@@ -1,37 +1,72 @@
 //! What the commands write.
 
-ghost use Rattle.std.specs.Prelude.{◌≤◌, vec_len};
+ghost use Rattle.std.specs.Prelude.{◌≡◌, ◌≤◌, vec_len, IfErr};
 ghost use Rattle.graph.specs.Units.{first_lacking};
 ghost use Rattle.file_faults.specs.Answers.{AnswersOn};
-ghost use Rattle.modsched.specs.Engine.{Brings, IsSearchText, IsTaskText};
+ghost use Rattle.modsched.specs.Engine.{Brings, IsSearchText, IsTaskText, WorkBrings, loops_ending};
+ghost use Rattle.modsched.specs.inner.Refusals.{IsRefusal};
 
+mod answering;
 mod searches;
 
+use answering::{check_text, report_text, solve_text};
 use command_line::{Command, Search, Task, Work};
+use endings::Status;
 use file_faults::FileFault;
 use loops::{Loop, read_loops};
 use machine::{Machine, read_machine};
-use printouts::{Printout, bounds_text, dot_text, edges_text, explain_text, plain_text};
+use printouts::{Printout, bounds_text, dot_text, edges_text};
 use searches::{json_text, run_text, schedule_text};
 use settings::Settings;
+use side_by_side::{explain_text_on, plain_text_on};
 use std::alloc::Global;
 use std::thread::Threads;
 
-/// What a command writes for the bytes of its texts, each of which is read once. A command that reads no
-/// machine pays no heed to the machine's bytes.
+/// What a command writes for the bytes of its texts, each of which is read once, or the status of a refusal. A command that reads
+/// one text pays no heed to the first bytes.
 pub(crate) fn printout_of<R: Threads + Sync>(
     rt: &R,
     alloc: Global,
     command: &Command,
+    first: &[u8],
+    last: &[u8],
+) -> Result<Printout, Status>
+    ensures brings { Brings command.now first.now last.now result }
+    ensures kind { IfErr result IsRefusal }
+{
+    match command {
+        Command::Loops { work, .. } => loops_ending(work_text(rt, alloc, work, first, last)),
+        Command::Solve { settings, .. } => solve_text(rt, alloc, settings, last),
+        Command::Problems { told, .. } => report_text(alloc, told, last),
+        Command::Check { .. } => check_text(alloc, first, last),
+    }
+}
+
+/// What loops come to, with the status of a refusal.
+fn loops_ending(outcome: Result<Printout, FileFault>) -> Result<Printout, Status>
+    ensures ending { result ≡ loops_ending outcome }
+    ensures kind { IfErr result IsRefusal }
+{
+    match outcome {
+        Ok(printout) => Ok(printout),
+        Err(fault) => Err(Status::from(fault)),
+    }
+}
+
+/// What is written of the loops of a text, and for all but a plain run of the machine of a text.
+fn work_text<R: Threads + Sync>(
+    rt: &R,
+    alloc: Global,
+    work: &Work,
     machine: &[u8],
     loops: &[u8],
 ) -> Result<Printout, FileFault>
-    ensures { Brings command.now machine.now loops.now result }
+    ensures { WorkBrings work.now machine.now loops.now result }
 {
-    match &command.work {
-        Work::Plain(trip) => {
+    match work {
+        Work::Plain { trip, workers } => {
             let loops = read_loops(alloc, loops)?;
-            plain_text(alloc, loops.as_slice(), *trip)
+            plain_text_on(rt, alloc, loops.as_slice(), *trip, *workers)
         }
         Work::OnMachine { task, .. } => {
             let machine = read_machine(alloc, machine)?;
@@ -75,7 +110,7 @@ fn search_text<R: Threads + Sync>(
     match search {
         Search::Schedule => schedule_text(rt, alloc, machine, loops, settings),
         Search::Json => json_text(rt, alloc, machine, loops, settings),
-        Search::Explain => explain_text(alloc, machine, loops, settings),
+        Search::Explain => explain_text_on(rt, alloc, machine, loops, settings),
         Search::Run(trip) => run_text(rt, alloc, machine, loops, *trip, settings),
     }
 }

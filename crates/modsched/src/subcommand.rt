@@ -1,45 +1,45 @@
 //! The work of a command.
 
 ghost use Rattle.std.specs.Prelude.{◌≡◌, ◌+◌, ◌-◌, ◌^◌, ◌<◌, ◌↔◌, Some, take, drop, true, false, IfOk, IfSome, OnOk, IsErrOf};
-ghost use Rattle.modsched.specs.Devices.{most_read};
-ghost use Rattle.modsched.specs.Engine.{Does, Ends, machine_for, reads_machine};
+ghost use Rattle.modsched.specs.Engine.{Does, Ends, first_for, first_unread, last_unread, most_read_by, reads_first};
 ghost use Rattle.endings.specs.Writing.{CountsFault};
-ghost use Rattle.endings.specs.Statuses.{HasAnswered, HasWritten, IsComplete, refusal_of_file, status_number};
-ghost use Rattle.modsched.specs.inner.Refusals.{IsRefusal};
+ghost use Rattle.endings.specs.Statuses.{HasAnswered, HasWritten, IsComplete, status_number};
+
+mod texts;
 
 use crate::commands::printout_of;
-use command_line::{Command, Work};
-use devices::{Input, Output, ReadTextError, read_text};
+use command_line::Command;
+use devices::{Input, Output, ReadTextError};
 use endings::{Status, finish};
-use file_faults::FileFault;
 use std::alloc::Global;
 use std::thread::Threads;
+use texts::{first_text, last_text};
 
 /// Does the work of a command: reads the texts that it needs, makes the output whole, writes it and
-/// flushes it. Both texts are read before either is looked at, the machine's first; a command that needs
-/// no machine leaves the machine's input alone. After a fault no further call is made on that device, and
-/// after a refusal the output is left alone. Kernels are searched for by workers in threads of `rt`, which
-/// change nothing of what is written.
+/// flushes it. Where it needs two, both are read before either is looked at: first the machine's, or that of
+/// the problems whose solutions are judged. A command that needs one leaves the first input alone. After a
+/// fault no further call is made on that device, and after a refusal the output is left alone. Kernels are
+/// searched for, and problems solved, by workers in threads of `rt`, which change nothing of what is written.
 pub fn engine<R: Threads + Sync, M: Input, L: Input, O: Output>(
     rt: &R,
     alloc: Global,
     command: &Command,
-    machine_input: &mut M,
-    loops_input: &mut L,
+    first_input: &mut M,
+    last_input: &mut L,
     output: &mut O,
 ) -> Status
-    requires machine_fresh { M.failed machine_input.old < 2 ^ 64 - 1 }
-    requires loops_fresh { L.failed loops_input.old < 2 ^ 64 - 1 }
+    requires first_fresh { M.failed first_input.old < 2 ^ 64 - 1 }
+    requires last_fresh { L.failed last_input.old < 2 ^ 64 - 1 }
     requires output_fresh { O.failed output.old < 2 ^ 64 - 1 }
 
     // It reports an I/O error if and only if that device's error count rose.
-    ensures machine_unread { (result ≡ Status.MachineUnread) ↔ (M.failed machine_input.old < M.failed machine_input.new) }
-    ensures loops_unread { (result ≡ Status.LoopsUnread) ↔ (L.failed loops_input.old < L.failed loops_input.new) }
+    ensures first_unread { (result ≡ first_unread command.now) ↔ (M.failed first_input.old < M.failed first_input.new) }
+    ensures last_unread { (result ≡ last_unread command.now) ↔ (L.failed last_input.old < L.failed last_input.new) }
     ensures unwritten { (result ≡ Status.Unwritten) ↔ (O.failed output.old < O.failed output.new) }
 
     // It rose by one there, and else it stayed.
-    ensures machine_faults { CountsFault (result ≡ Status.MachineUnread) (M.failed machine_input.old) (M.failed machine_input.new) }
-    ensures loops_faults { CountsFault (result ≡ Status.LoopsUnread) (L.failed loops_input.old) (L.failed loops_input.new) }
+    ensures first_faults { CountsFault (result ≡ first_unread command.now) (M.failed first_input.old) (M.failed first_input.new) }
+    ensures last_faults { CountsFault (result ≡ last_unread command.now) (L.failed last_input.old) (L.failed last_input.new) }
     ensures output_faults { CountsFault (result ≡ Status.Unwritten) (O.failed output.old) (O.failed output.new) }
 
     // Want of memory has one status.
@@ -47,60 +47,55 @@ pub fn engine<R: Threads + Sync, M: Input, L: Input, O: Output>(
 
     // What was written is the text of the command for the bytes that its inputs had left, or a beginning of it where the output
     // failed; and nothing after a refusal. All of a whole text is handed on.
-    ensures exact { HasAnswered result → Does command.now (M.left machine_input.old) (L.left loops_input.old) (λ outcome. Ends outcome (O.taken output.old) (O.taken output.new) result) }
+    ensures exact { HasAnswered result → Does command.now (M.left first_input.old) (L.left last_input.old) (λ ending. Ends ending (O.taken output.old) (O.taken output.new) result) }
     ensures handed { IsComplete result → O.handed output.new ≡ O.taken output.new }
     ensures unused { ¬ HasWritten result → output.new ≡ output.old }
 
     // Each input that the command reads is read to its end, or to one byte past what a text may have. One that it does not read is left alone.
-    ensures machine_read { reads_machine command.now ≡ true → HasAnswered result → IfSome (M.left machine_input.old) (λ bytes. M.left machine_input.new ≡ Some (drop most_read bytes)) }
-    ensures loops_read { HasAnswered result → IfSome (L.left loops_input.old) (λ bytes. L.left loops_input.new ≡ Some (drop most_read bytes)) }
-    ensures untouched { reads_machine command.now ≡ false → machine_input.new ≡ machine_input.old }
+    ensures first_read { reads_first command.now ≡ true → HasAnswered result → IfSome (M.left first_input.old) (λ bytes. M.left first_input.new ≡ Some (drop (most_read_by command.now) bytes)) }
+    ensures last_read { HasAnswered result → IfSome (L.left last_input.old) (λ bytes. L.left last_input.new ≡ Some (drop (most_read_by command.now) bytes)) }
+    ensures untouched { reads_first command.now ≡ false → first_input.new ≡ first_input.old }
 
-    // The machine's input comes first: where it fails the loops' input is left alone, and where that fails the machine's was read.
-    ensures machine_first { result ≡ Status.MachineUnread → loops_input.new ≡ loops_input.old }
-    ensures loops_last { reads_machine command.now ≡ true → result ≡ Status.LoopsUnread
-        → IfSome (M.left machine_input.old) (λ bytes. M.left machine_input.new ≡ Some (drop most_read bytes)) }
+    // The first input comes first: where it fails the last one is left alone, and where that fails the first was read.
+    ensures first_first { result ≡ first_unread command.now → last_input.new ≡ last_input.old }
+    ensures last_last { reads_first command.now ≡ true → result ≡ last_unread command.now
+        → IfSome (M.left first_input.old) (λ bytes. M.left first_input.new ≡ Some (drop (most_read_by command.now) bytes)) }
 {
-    let machine = match machine_text(alloc, command, machine_input) {
-        Ok(machine) => machine,
-        Err(ReadTextError::Fault) => return Status::MachineUnread,
+    let first = match first_text(alloc, command, first_input) {
+        Ok(first) => first,
+        Err(ReadTextError::Fault) => return first_unread(command),
         Err(ReadTextError::Memory) => return Status::OutOfMemory,
     };
-    let loops = match read_text(alloc, loops_input) {
-        Ok(loops) => loops,
-        Err(ReadTextError::Fault) => return Status::LoopsUnread,
+    let last = match last_text(alloc, command, last_input) {
+        Ok(last) => last,
+        Err(ReadTextError::Fault) => return last_unread(command),
         Err(ReadTextError::Memory) => return Status::OutOfMemory,
     };
-    match printout_of(rt, alloc, command, machine.as_slice(), loops.as_slice()) {
+    match printout_of(rt, alloc, command, first.as_slice(), last.as_slice()) {
         Ok(printout) => finish(output, printout.text(), printout.all_met()),
-        Err(fault) => refused(fault),
+        Err(refusal) => refusal,
     }
 }
 
-/// The machine's text, which is empty where the command reads none.
-fn machine_text<M: Input>(
-    alloc: Global,
-    command: &Command,
-    input: &mut M,
-) -> Result<Vec<u8>, ReadTextError>
-    requires { M.failed input.old < 2 ^ 64 - 1 }
-    ensures text { IfOk result (λ text. IfSome (machine_for command.now (M.left input.old)) (λ bytes. text.items ≡ take most_read bytes)) }
-    ensures rest { reads_machine command.now ≡ true → OnOk result (IfSome (M.left input.old) (λ bytes. M.left input.new ≡ Some (drop most_read bytes))) }
-    ensures untouched { reads_machine command.now ≡ false → input.new ≡ input.old }
-    ensures fine { OnOk result (M.failed input.new ≡ M.failed input.old) }
-    ensures fault { IsErrOf result ReadTextError.Fault ↔ (M.failed input.new ≡ M.failed input.old + 1) }
-    ensures memory { IsErrOf result ReadTextError.Memory → M.failed input.new ≡ M.failed input.old }
+/// The status where the text that is read first can't be read.
+fn first_unread(command: &Command) -> Status
+    ensures { result ≡ first_unread command.now }
 {
-    match &command.work {
-        Work::Plain(_) => Ok(Vec::new(alloc)),
-        Work::OnMachine { .. } => read_text(alloc, input),
+    match command {
+        Command::Loops { .. } | Command::Solve { .. } | Command::Problems { .. } => {
+            Status::MachineUnread
+        }
+        Command::Check { .. } => Status::ProblemsUnread,
     }
 }
 
-/// The status of a refusal.
-fn refused(fault: FileFault) -> Status
-    ensures status { result ≡ refusal_of_file fault }
-    ensures kind { IsRefusal result }
+/// The status where the text that is read last can't be read.
+fn last_unread(command: &Command) -> Status
+    ensures { result ≡ last_unread command.now }
 {
-    Status::from(fault)
+    match command {
+        Command::Loops { .. } => Status::LoopsUnread,
+        Command::Solve { .. } | Command::Problems { .. } => Status::ProblemsUnread,
+        Command::Check { .. } => Status::SolutionsUnread,
+    }
 }

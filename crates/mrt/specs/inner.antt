@@ -7,4 +7,3 @@ pub mod OwnerTables
 pub mod Rosters
 pub mod Slots
 pub mod Times
-pub mod Turns

@@ -7,8 +7,6 @@ mod memory;
 mod owner;
 mod rosters;
 mod table;
-#[cfg(test)]
-mod tests;
 mod words;
 
 pub use bits::{DefaultTable, MaskTable, TimelineTable};

@@ -13,8 +13,12 @@ use problems::{Draft, Problem};
 use std::alloc::{AllocError, Global};
 use writing::{Text, push_signed, push_told};
 
-/// A circuit that the recurrence-constrained bound is due to, without edges just where the bound is 1.
-fn circuit_of(alloc: Global, scheduling: &modulo::Problem) -> Result<Vec<Edge>, OutOfMemory>
+/// A circuit that the recurrence-constrained bound is due to, without edges just where the bound is 1: it does not fit an interval
+/// that is one cycle shorter.
+///
+/// # Errors
+/// Memory ran out.
+pub fn circuit_of(alloc: Global, scheduling: &modulo::Problem) -> Result<Vec<Edge>, OutOfMemory>
     ensures exact { IfOk result (λ circuit. IsCircuitOf scheduling.now circuit.items) }
     ensures few { IfOk result (λ circuit. length circuit.items ≤ 128) }
 {

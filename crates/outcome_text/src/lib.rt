@@ -6,8 +6,9 @@ mod listed;
 mod notes;
 mod outcome;
 mod sums;
-#[cfg(test)]
-mod tests;
 mod units;
 
+pub use circuit::circuit_of;
 pub use outcome::push_outcome;
+pub use sums::{Sums, sums_of};
+pub use units::{rows_at, rows_with, use_of};

@@ -15,8 +15,8 @@ use std::alloc::{AllocError, Global};
 use unit_uses::unit_choices_of;
 use writing::Text;
 
-/// The rows of the alternative that an operation takes by these choices, none where there is no such alternative.
-fn rows_at<'a>(operations: &'a [Alternatives], choices: &[u8], number: usize) -> &'a [Row]
+/// The rows of the alternative that an operation takes by these choices, at most 16; none where there is no such alternative.
+pub fn rows_at<'a>(operations: &'a [Alternatives], choices: &[u8], number: usize) -> &'a [Row]
     requires there { number < length operations.now }
     requires chosen { number < length choices.now }
     ensures value { result.now ≡ rows_at operations.now choices.now number }
@@ -30,7 +30,7 @@ fn rows_at<'a>(operations: &'a [Alternatives], choices: &[u8], number: usize) ->
 }
 
 /// How many of the rows use a unit.
-fn rows_with(rows: &[Row], unit: usize) -> u64
+pub fn rows_with(rows: &[Row], unit: usize) -> u64
     ensures value { result ≡ use_of rows.now unit }
     ensures few { result ≤ length rows.now }
 {
@@ -39,8 +39,8 @@ fn rows_with(rows: &[Row], unit: usize) -> u64
         .count() as u64
 }
 
-/// How many of the rows of all choices use a unit.
-fn use_of(operations: &[Alternatives], choices: &[u8], unit: usize) -> u64
+/// How many of the rows of all choices use a unit; there are at most 128 operations.
+pub fn use_of(operations: &[Alternatives], choices: &[u8], unit: usize) -> u64
     requires each { length choices.now ≡ length operations.now }
     requires few { length operations.now ≤ 128 }
     ensures { result ≡ use_of (chosen_rows operations.now choices.now) unit }

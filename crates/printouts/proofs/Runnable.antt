@@ -32,7 +32,7 @@ stands_for problem ii kernel g =
       same_outs = ap (λ (k : Parts). length k.outs) g.has_kernel.is_kernel ∙ emitted-outs s a ∙ ap (λ (p : ProblemData). length p.loop.outs) g.is_schedule.2;
     }
 
-runnable : (problem : ProblemData) (choice : Choice) → IsChoice problem choice → IsRunnable problem.loop choice
+pub runnable : (problem : ProblemData) (choice : Choice) → IsChoice problem choice → IsRunnable problem.loop choice
 runnable problem (Met ii kernel) c = stands_for problem ii kernel c.is_given
 runnable problem (Failed cause) c = tt
 

@@ -14,8 +14,6 @@ mod number;
 mod piece;
 mod scan;
 mod solution_form;
-#[cfg(test)]
-mod tests;
 mod word;
 
 pub use fault::{Expected, LineFault};

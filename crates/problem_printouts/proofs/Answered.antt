@@ -1,14 +1,15 @@
 -- Answers, one after another.
 use Rattle.std.proofs.Common.{◌≡◌, ◌∙◌, ℕ, suc, ◌+◌, ◌-◌, ◌<◌, ◌≤◌, Bool, true, false, not, List, [], ◌∷◌, ◌++◌, length, take, refl, sym, ap, subst, arith, append-nil}
-use Rattle.std.specs.Prelude.{codes, cond, if◌then◌else◌}
+use Rattle.std.specs.Prelude.{codes, cond, if◌then◌else◌, IfOk, Result, Ok, Err}
 use Rattle.std.specs.List.{AllZip}
 use Rattle.std.proofs.lemmas.List.{take_all, take_more, flat_map_more, length-take}
 use Rattle.std.proofs.lemmas.List.Sums.{sum_by-cons}
-use Rattle.settings.specs.Settings.{SettingsData}
-use Rattle.writing.specs.Words.{last_line}
-use Rattle.problem_tables.specs.Data.{FileData}
-use Rattle.problem_reader.specs.Files.{nothing, problem_at}
-use Rattle.problem_printouts.specs.Solving.{Answer, IsAnswer, IsSolveText, failed_in, met_in, texts_of}
+use Rattle.writing.specs.Words.{last_line, told as words_told}
+use Rattle.problem_printouts.specs.Graphing.{count_line}
+use Rattle.problem_tables.specs.Data.{ProblemData as TextProblem}
+use Rattle.problem_reader.specs.Files.{nothing}
+use Rattle.std.specs.List.{slice_index_or}
+use Rattle.problem_printouts.specs.Told.{Answer, TellsEach, counts_after, failed_in, met_in, texts_of}
 use Rattle.problem_printouts.specs.declared.answers.Answers.{Answers}
 use Rattle.problem_printouts.specs.inner.Sofar.{AreAnswered, IsOneMore}
 
@@ -55,58 +56,95 @@ met-or-failed (answer ∷ answers) =
     let more = met-or-failed answers in
     omega (arith, met, failed, one, more)
 
--- the first problems
+module _ (is_answer : TextProblem → Answer → Type 0) (problems : List TextProblem) (old : List ℕ) where
+  -- the first so many problems are answered
+  abbrev pub IsSofar : ℕ → List ℕ → ℕ → Type 0
+  IsSofar number text met = AreAnswered is_answer (take number problems) old text met
 
-pub answered-none : (file : FileData) (settings : SettingsData) (old : List ℕ) → AreAnswered file settings old 0 old 0
-answered-none file settings old = record { answers = []; each = tt; is_text = sym (append-nil old); same_met = refl }
+  pub answered-none : IsSofar 0 old 0
+  answered-none = record { answers = []; each = tt; is_text = sym (append-nil old); same_met = refl }
 
-pub answered-more : (file : FileData) (settings : SettingsData) (old text more : List ℕ) (number met : ℕ) (is_met : Bool) → number < length file.problems
-    → AreAnswered file settings old number text met → IsOneMore file settings number text more is_met
-    → AreAnswered file settings old (number + 1) more (met + (if is_met then 1 else 0))
-answered-more file settings old text more number met is_met low so one = record {
-  answers = so.answers ++ one.answer ∷ [];
-  each = subst (λ l. AllZip (IsAnswer file settings) l (so.answers ++ one.answer ∷ [])) (sym (take_more file.problems number nothing low))
-      (zip-push (IsAnswer file settings) (take number file.problems) so.answers (problem_at file number) one.answer so.each one.is_answer);
-  is_text = one.is_text ∙ ap (λ t. t ++ one.answer.text) so.is_text ∙ flat_map_more (λ (a : Answer). a.text) old so.answers one.answer;
-  same_met = ap (λ n. n + (if is_met then 1 else 0)) so.same_met ∙ ap (λ b. met_in so.answers + (if b then 1 else 0)) one.same_met ∙ sym (met-push so.answers one.answer);
-}
+  pub answered-more : (text more : List ℕ) (number met : ℕ) (is_met : Bool) → number < length problems → IsSofar number text met
+      → IsOneMore (is_answer (slice_index_or problems number nothing)) text more is_met → IsSofar (number + 1) more (met + (if is_met then 1 else 0))
+  answered-more text more number met is_met low so one = record {
+    answers = so.answers ++ one.answer ∷ [];
+    each = subst (λ l. AllZip is_answer l (so.answers ++ one.answer ∷ [])) (sym (take_more problems number nothing low))
+        (zip-push is_answer (take number problems) so.answers (slice_index_or problems number nothing) one.answer so.each one.is);
+    is_text = one.is_text ∙ ap (λ t. t ++ one.answer.text) so.is_text ∙ flat_map_more (λ (a : Answer). a.text) old so.answers one.answer;
+    same_met = ap (λ n. n + (if is_met then 1 else 0)) so.same_met ∙ ap (λ b. met_in so.answers + (if b then 1 else 0)) one.same_met ∙ sym (met-push so.answers one.answer);
+  }
 
--- so many are met at most
-pub answered-few : (file : FileData) (settings : SettingsData) (old text : List ℕ) (number met : ℕ) → number ≤ length file.problems → AreAnswered file settings old number text met → met ≤ number
-answered-few file settings old text number met low so =
+  -- so many are met at most
+  pub answered-few : (text : List ℕ) (number met : ℕ) → number ≤ length problems → IsSofar number text met → met ≤ number
+  answered-few text number met low so =
+      let is = so.same_met in
+      let both = met-or-failed so.answers in
+      let long = zip-long is_answer (take number problems) so.answers so.each in
+      let size = length-take number problems in
+      omega (arith, is, both, long, size, low)
+
+  -- all problems
+  pub all-answered : (text : List ℕ) (number met : ℕ) → length problems ≤ number → IsSofar number text met → AreAnswered is_answer problems old text met
+  all-answered text number met high so = subst (λ l. AreAnswered is_answer l old text met) (take_all number problems high) so
+
+-- all are met at most
+pub few-met : (is_answer : TextProblem → Answer → Type 0) (problems : List TextProblem) (old text : List ℕ) (met : ℕ) → AreAnswered is_answer problems old text met → met ≤ length problems
+few-met is_answer problems old text met so =
     let is = so.same_met in
     let both = met-or-failed so.answers in
-    let long = zip-long (IsAnswer file settings) (take number file.problems) so.answers so.each in
-    let size = length-take number file.problems in
-    omega (arith, is, both, long, size, low)
+    let long = zip-long is_answer problems so.answers so.each in
+    omega (arith, is, both, long)
 
--- all problems
-
-pub all-answered : (file : FileData) (settings : SettingsData) (old text : List ℕ) (number met : ℕ) → length file.problems ≤ number → number ≤ length file.problems
-    → AreAnswered file settings old number text met → AreAnswered file settings old (length file.problems) text met
-all-answered file settings old text number met high low so =
-    let same : number ≡ length file.problems = omega (arith, high, low) in
-    subst (λ n. AreAnswered file settings old n text met) same so
-
-pub solved : (file : FileData) (settings : SettingsData) (text : List ℕ) (all met : ℕ) (told : Answers) → AreAnswered file settings [] (length file.problems) text met → all ≡ length file.problems
-    → told.text.items ≡ text ++ last_line (codes "# problems ") all met (all - met) → told.met ≡ met → told.failed ≡ all - met → IsSolveText file settings told
-solved file settings text all met told so is_all is_text is_met is_failed =
+-- what is told of all problems
+pub told-all : (last : List Answer → List ℕ) (is_answer : TextProblem → Answer → Type 0) (problems : List TextProblem) (text end : List ℕ) (all met : ℕ) (told : Answers) (so : AreAnswered is_answer problems [] text met)
+    → all ≡ length problems → end ≡ last so.answers → told.text.items ≡ text ++ end → told.met ≡ met → told.failed ≡ all - met → TellsEach last is_answer problems told
+told-all last is_answer problems text end all met told so is_all is_end is_text is_met is_failed =
     let answers = so.answers in
     let is = so.same_met in
-    let each : AllZip (IsAnswer file settings) file.problems answers = subst (λ l. AllZip (IsAnswer file settings) l answers) (take_all (length file.problems) file.problems (omega arith)) so.each in
     let both = met-or-failed answers in
-    let long = zip-long (IsAnswer file settings) file.problems answers each in
+    let long = zip-long is_answer problems answers so.each in
     let many : all ≡ length answers = is_all ∙ sym long in
     let failed : all - met ≡ failed_in answers = omega (arith, is, both, many) in
     record {
       answers = answers;
-      each = each;
+      each = so.each;
       are_told = record {
-        is_text = is_text ∙ ap (λ t. t ++ last_line (codes "# problems ") all met (all - met)) so.is_text
-            ∙ ap (λ n. texts_of answers ++ last_line (codes "# problems ") n met (all - met)) many
-            ∙ ap (λ n. texts_of answers ++ last_line (codes "# problems ") (length answers) n (all - met)) is
-            ∙ ap (λ n. texts_of answers ++ last_line (codes "# problems ") (length answers) (met_in answers) n) failed;
+        is_text = is_text ∙ ap (λ t. t ++ end) so.is_text ∙ ap (λ e. texts_of answers ++ e) is_end;
         same_met = is_met ∙ is;
         same_failed = is_failed ∙ failed;
       };
     }
+
+-- the last line of counts
+counts-end : (words : List ℕ) (is_answer : TextProblem → Answer → Type 0) (problems : List TextProblem) (text : List ℕ) (all met : ℕ) (so : AreAnswered is_answer problems [] text met) → all ≡ length problems
+    → last_line words all met (all - met) ≡ counts_after words so.answers
+counts-end words is_answer problems text all met so is_all =
+    let answers = so.answers in
+    let is = so.same_met in
+    let both = met-or-failed answers in
+    let long = zip-long is_answer problems answers so.each in
+    let many : all ≡ length answers = is_all ∙ sym long in
+    let failed : all - met ≡ failed_in answers = omega (arith, is, both, many) in
+    ap (λ n. last_line words n met (all - met)) many ∙ ap (λ n. last_line words (length answers) n (all - met)) is ∙ ap (λ n. last_line words (length answers) (met_in answers) n) failed
+
+-- .. if memory is enough for it
+pub told-ok : {E : Type 0} (words : List ℕ) (is_answer : TextProblem → Answer → Type 0) (problems : List TextProblem) (text : List ℕ) (all met : ℕ) → AreAnswered is_answer problems [] text met → all ≡ length problems
+    → (r : Result Answers E) → IfOk r (λ told. told.text.items ≡ text ++ last_line words all met (all - met)) → IfOk r (λ told. told.met ≡ met) → IfOk r (λ told. told.failed ≡ all - met)
+    → IfOk r (TellsEach (counts_after words) is_answer problems)
+told-ok words is_answer problems text all met so is_all (Ok told) is_text is_met is_failed =
+    told-all (counts_after words) is_answer problems text (last_line words all met (all - met)) all met told so is_all (counts-end words is_answer problems text all met so is_all) is_text is_met is_failed
+told-ok words is_answer problems text all met so is_all (Err e) is_text is_met is_failed = tt
+
+-- .. with how many there are
+pub counted-ok : {E : Type 0} (is_answer : TextProblem → Answer → Type 0) (problems : List TextProblem) (text : List ℕ) (all met : ℕ) → AreAnswered is_answer problems [] text met → all ≡ length problems
+    → (r : Result Answers E) → IfOk r (λ told. told.text.items ≡ text ++ (words_told (codes "problems ") all ++ codes "\n")) → IfOk r (λ told. told.met ≡ met) → IfOk r (λ told. told.failed ≡ all - met)
+    → IfOk r (TellsEach count_line is_answer problems)
+counted-ok is_answer problems text all met so is_all (Ok told) is_text is_met is_failed =
+    let many : all ≡ length so.answers = is_all ∙ sym (zip-long is_answer problems so.answers so.each) in
+    told-all count_line is_answer problems text (words_told (codes "problems ") all ++ codes "\n") all met told so is_all (ap (λ n. words_told (codes "problems ") n ++ codes "\n") many) is_text is_met is_failed
+counted-ok is_answer problems text all met so is_all (Err e) is_text is_met is_failed = tt
+
+-- what follows from what is said of an `Ok`
+pub if-ok : {A E : Type 0} (r : Result A E) {P Q : A → Type 0} → IfOk r P → ((a : A) → P a → Q a) → IfOk r Q
+if-ok (Ok a) p more = more a p
+if-ok (Err e) p more = tt

@@ -1,2 +1,5 @@
 pub mod Answered
-pub mod Making
+pub mod Answering
+pub mod Named
+pub mod Placed
+pub mod Strangers

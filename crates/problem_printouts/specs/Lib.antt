@@ -1,3 +1,8 @@
 pub mod Problems
+pub mod Faults
+pub mod Told
 pub mod Solving
+pub mod Judging
+pub mod Graphing
+pub mod Explaining
 pub mod inner

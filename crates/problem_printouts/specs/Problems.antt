@@ -1,31 +1,23 @@
 -- The problems of a file.
-use Rattle.std.specs.Prelude.{◌≡◌, ℕ, ◌<◌, length, Some, Result, Ok, Err}
-use Rattle.settings.specs.Settings.{SettingsData}
+use Rattle.std.specs.Prelude.{◌≡◌, ◌≢◌, ℕ, List, Result, Ok, Err}
 use Rattle.problems.specs.declared.draft.Draft.{Draft}
-use Rattle.problems.specs.declared.fault.Fault.{Fault as DraftFault}
-use Rattle.problems.specs.declared.fault.Refusal.{Refusal}
-use Rattle.problems.specs.declared.fault.Refusal.TheVariants.{Fault, Memory}
-use Rattle.problems.specs.Faults.{first_fault_of}
 use Rattle.problems.specs.Problems.{ProblemData, IsProblemOf}
 use Rattle.problem_tables.specs.Data.{FileData, ProblemData as TextProblem}
-use Rattle.problem_reader.specs.Files.{IsDraftOf, machine_at, problem_at}
+use Rattle.problem_tables.specs.declared.fault.Wrong.TheVariants as wrong
+use Rattle.problem_reader.specs.Files.{IsDraftOf, file_in_text, machine_at}
+use Rattle.problem_printouts.specs.declared.answers.Answers.{Answers}
+use Rattle.problem_printouts.specs.declared.fault.ProblemsFault.{ProblemsFault}
+use Rattle.problem_printouts.specs.declared.fault.ProblemsFault.TheVariants.{Problems, Solutions, Memory}
 
--- a problem that is made of the draft of a problem of the file, with these settings
-pub record IsProblemIn (file : FileData) (settings : SettingsData) (problem : TextProblem) (made : ProblemData) : Type 0 where
+-- a problem that is made of the draft of a problem of the file, with this budget ratio and ceiling
+pub record IsProblemIn (file : FileData) (ratio ceiling : ℕ) (problem : TextProblem) (made : ProblemData) : Type 0 where
   pub draft : Draft
   pub is_draft : IsDraftOf (machine_at file problem.machine) problem draft
-  pub is_made : IsProblemOf draft settings.ratio settings.ceiling made
+  pub is_made : IsProblemOf draft ratio ceiling made
 
--- the first fault of the draft of a problem of the file
-pub record IsFaultIn (file : FileData) (fault : DraftFault) : Type 0 where
-  pub number : ℕ
-  pub below : number < length file.problems
-  pub draft : Draft
-  pub is_draft : IsDraftOf (machine_at file (problem_at file number).machine) (problem_at file number) draft
-  pub is_first : first_fault_of draft ≡ Some fault
-
--- this is so of what is given, unless a problem of the file has a fault, or memory runs out
-abbrev pub OrRefused : {A : Type 0} → FileData → (A → Type 0) → Result A Refusal → Type 0
-OrRefused file given (Ok a) = given a
-OrRefused file given (Err (Fault fault)) = IsFaultIn file fault
-OrRefused file given (Err (Memory cause)) = Unit {0}
+-- what is answered for a text of problems: its fault, and else what is right of its file, unless memory runs out
+abbrev pub AnswersProblems : (FileData → Answers → Type 0) → List ℕ → Result Answers ProblemsFault → Type 0
+AnswersProblems is_right text (Ok told) = (file : FileData) × (file_in_text text ≡ Ok file) × is_right file told
+AnswersProblems is_right text (Err (Problems fault)) = (file_in_text text ≡ Err fault) × (fault.what ≢ wrong.Memory)
+AnswersProblems is_right text (Err (Solutions fault)) = ⊥
+AnswersProblems is_right text (Err Memory) = Unit {0}

@@ -1,2 +1,6 @@
 -- What the clauses of private functions cite.
+pub mod Asked
+pub mod Judged
+pub mod Known
+pub mod Pieces
 pub mod Sofar

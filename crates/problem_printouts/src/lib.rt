@@ -1,10 +1,23 @@
-//! What the commands that take scheduling problems print: what solving each problem of a file comes to.
+//! What the commands that take scheduling problems print, from the bytes of their texts: what solving each problem comes to, and
+//! what is wrong with solutions of them.
 #![tactic(auto)]
 
 mod answers;
+mod explaining;
+mod fault;
+mod graphing;
+mod judging;
+mod known;
+mod making;
+mod pieces;
+mod sharing;
 mod solving;
-#[cfg(test)]
-mod tests;
+mod unknown;
+mod walk;
 
 pub use answers::Answers;
-pub use solving::solve_text;
+pub use explaining::explain_printout;
+pub use fault::ProblemsFault;
+pub use graphing::{dot_printout, edges_printout};
+pub use judging::check_printout;
+pub use solving::solve_printout;

@@ -1,84 +1,125 @@
-//! What the problems of a file come to.
+//! What is printed where the problems of a text are solved.
 
-ghost use Rattle.std.specs.Prelude.{◌≡◌, ◌<◌, ◌+◌, ◌^◌, if◌then◌else◌, length};
+ghost use Rattle.std.specs.Prelude.{◌<◌, length, IfOk};
 ghost use Rattle.problem_reader.specs.Files.{problem_at};
-ghost use Rattle.problem_printouts.specs.Problems.{IsProblemIn, OrRefused};
-ghost use Rattle.problem_printouts.specs.Solving.{Answer, IsAnswer, IsSolveText};
-ghost use Rattle.problem_printouts.specs.inner.Sofar.{AreAnswered, IsOneMore};
+ghost use Rattle.problem_printouts.specs.Solving.{AnswersSolve, IsAnswer, IsSolveText};
+ghost use Rattle.problem_printouts.specs.inner.Pieces.{AreInPlace, IsPiece};
+ghost use Rattle.problem_printouts.specs.inner.Sofar.{IsOneMore};
 
 use crate::answers::Answers;
-use outcome_text::push_outcome;
-use problem_reader::ProblemFile;
-use problems::{Problem, Refusal};
+use crate::fault::ProblemsFault;
+use crate::pieces::push_answer;
+use crate::sharing::{Piece, made, taken};
+use crate::walk::{Teller, push_all};
+use machine_data::OutOfMemory;
+use problem_reader::{ProblemFile, read_problems};
 use settings::Settings;
 use std::alloc::Global;
+use std::thread::Threads;
 
-/// The problem of a file with a number, from 0.
-fn problem_in(
-    alloc: Global,
-    file: &ProblemFile,
-    number: usize,
-    settings: &Settings,
-) -> Result<Problem, Refusal>
-    requires { number < length file.now.problems }
-    ensures { OrRefused file.now (IsProblemIn file.now settings.now (problem_at file.now number)) result }
+/// Appends what a worker made of a problem. The result is whether it is solved.
+fn push_piece(
+    text: &mut Vec<u8>,
+    piece: &Piece,
+    _file: &ProblemFile,
+    _settings: &Settings,
+) -> Result<bool, OutOfMemory>
+    requires { IsPiece _file.now _settings.now piece.now }
+    ensures { IfOk result (IsOneMore (IsAnswer _file.now _settings.now (problem_at _file.now piece.now.number)) text.old.items text.new.items) }
 {
-    let draft = file.draft(alloc, number)?;
-    Problem::new(alloc, draft, settings)
+    text.extend_from_slice(piece.text.as_slice())?;
+    Ok(piece.met)
 }
 
-/// Appends what a problem comes to. The result is whether it is solved.
-fn push_answer(
+/// Appends what a problem comes to: what a worker made of it, if one did. The result is whether it is solved.
+fn push_next(
     alloc: Global,
     text: &mut Vec<u8>,
     file: &ProblemFile,
     number: usize,
     settings: &Settings,
-) -> Result<bool, Refusal>
-    requires { number < length file.now.problems }
-    ensures { OrRefused file.now (IsOneMore file.now settings.now number text.old.items text.new.items) result }
+    places: &mut Vec<Option<Piece>>,
+) -> Result<bool, OutOfMemory>
+    requires there { number < length file.now.problems }
+    requires places { AreInPlace file.now settings.now places.old.items }
+    ensures kept { AreInPlace file.now settings.now places.new.items }
+    ensures answer { IfOk result (IsOneMore (IsAnswer file.now settings.now (problem_at file.now number)) text.old.items text.new.items) }
 {
-    let problem = problem_in(alloc, file, number, settings)?;
-    Ok(push_outcome(alloc, text, file.name(number).as_str(), &problem)?)
-}
-
-/// The count, with one more where this is met.
-fn counted(met: u64, is_met: bool) -> u64
-    requires { met + 1 < 2 ^ 64 }
-    ensures { result ≡ met + (if is_met then 1 else 0) }
-{
-    if is_met { met + 1 } else { met }
-}
-
-/// Appends what each problem comes to. The result is how many are solved.
-fn push_answers(
-    alloc: Global,
-    text: &mut Vec<u8>,
-    file: &ProblemFile,
-    settings: &Settings,
-) -> Result<u64, Refusal>
-    ensures { OrRefused file.now (AreAnswered file.now settings.now text.old.items (length file.now.problems) text.new.items) result }
-{
-    let mut met = 0;
-    for number in 0..file.problems() {
-        met = counted(met, push_answer(alloc, text, file, number, settings)?);
+    match taken(places, number, file, settings) {
+        Some(piece) => push_piece(text, &piece, file, settings),
+        None => push_answer(alloc, text, file, number, settings),
     }
-    Ok(met)
 }
 
-/// Solves each problem of a file, and tells what that comes to: the answers one after another, and at the end the line
-/// `# problems P met A failed B`.
+/// What each problem comes to, with what workers made of them.
+#[derive(Drop)]
+struct Solving<'a> {
+    alloc: Global,
+    file: &'a ProblemFile,
+    settings: &'a Settings,
+    places: Vec<Option<Piece>>,
+}
+
+impl<'a> Teller for Solving<'a> {
+    ghost use Rattle.problem_printouts.specs.inner.Asked.Question.{Solve};
+    ghost use Rattle.problem_printouts.specs.inner.Pieces.{AreInPlace};
+
+    ghost asked = { λ t. record { file = t.file.now; question = Solve t.settings.now } };
+
+    ghost ready = { λ t. AreInPlace t.file.now t.settings.now t.places.items };
+
+    fn problems(&self) -> usize {
+        self.file.problems()
+    }
+
+    fn push(&mut self, text: &mut Vec<u8>, number: usize) -> Result<bool, OutOfMemory> {
+        push_next(
+            self.alloc,
+            text,
+            self.file,
+            number,
+            self.settings,
+            &mut self.places,
+        )
+    }
+}
+
+/// What the problems of a file come to.
+fn solved<R: Threads + Sync>(
+    rt: &R,
+    alloc: Global,
+    file: &ProblemFile,
+    settings: &Settings,
+) -> Result<Answers, OutOfMemory>
+    ensures { IfOk result (IsSolveText file.now settings.now) }
+{
+    let places = made(rt, alloc, file, settings);
+    let mut solving = Solving {
+        alloc,
+        file,
+        settings,
+        places,
+    };
+    let mut text = Vec::new(alloc);
+    let met = push_all(&mut solving, &mut text)?;
+    Answers::of(text, "# problems ", file.problems() as u64, met)
+}
+
+/// Solves each problem of a text, and tells what that comes to: the answers one after another, in the order of the text, and at
+/// the end the line `# problems P met A failed B`. The workers of the settings, each in a thread where one can be started, share
+/// the problems. With one worker no thread is started. Neither workers nor cut change anything that is told.
 ///
 /// # Errors
-/// [`Refusal::Fault`] with the first fault of a problem that has one, and [`Refusal::Memory`] where memory ran out.
-pub fn solve_text(
+/// [`ProblemsFault::Problems`] with the first fault of the text, and [`ProblemsFault::Memory`] where the calling thread was
+/// refused memory.
+pub fn solve_printout<R: Threads + Sync>(
+    rt: &R,
     alloc: Global,
-    file: &ProblemFile,
+    problems: &[u8],
     settings: &Settings,
-) -> Result<Answers, Refusal>
-    ensures exact { OrRefused file.now (IsSolveText file.now settings.now) result }
+) -> Result<Answers, ProblemsFault>
+    ensures exact { AnswersSolve settings.now problems.now result }
 {
-    let mut text = Vec::new(alloc);
-    let met = push_answers(alloc, &mut text, file, settings)?;
-    Ok(Answers::of(text, file.problems() as u64, met)?)
+    let file = read_problems(alloc, problems)?;
+    Ok(solved(rt, alloc, &file, settings)?)
 }

@@ -1,70 +1,36 @@
 -- What a line without a fault leaves known of the tables.
-use Rattle.std.proofs.Common.{◌≡◌, ℕ, zero, suc, ◌+◌, ◌-◌, ◌<◌, ◌≤◌, Bool, true, false, not, List, [], ◌∷◌, ◌++◌, get_or, length, map, refl, sym, ◌∙◌, arith, if◌then◌else◌, Option, Some, None}
+use Rattle.std.proofs.Common.{◌≡◌, ℕ, zero, suc, ◌+◌, ◌-◌, ◌<◌, ◌≤◌, Bool, true, false, not, List, [], ◌∷◌, ◌++◌, length, map, refl, sym, ◌∙◌, arith, if◌then◌else◌, Option, None}
 use Rattle.std.specs.Prelude.{◌&&◌, nat_lt}
-use Rattle.std.specs.Option.{option_or}
 use Rattle.std.specs.List.{All, list_any}
 use Rattle.std.proofs.lemmas.Bool.{false≢true}
 use Rattle.std.proofs.lemmas.Bool.Decides.{Decides-ltb}
 use Rattle.std.proofs.lemmas.List.{length-append, length_push}
 use Rattle.std.proofs.lemmas.List.Elements.{All-cons, All-nil, All-push, All-weaker}
 use Rattle.problem_lines.specs.Forms.{Form, MachineLine, UnitsLine, FileLine, KindLine, ProblemLine, OpLine, ValueLine, ReadLine, EdgeLine, EndLine, HoldForm}
-use Rattle.problem_lines.specs.Words.{Placed}
 use Rattle.problems.specs.declared.draft.Order.{Order}
 use Rattle.problems.specs.declared.draft.Value.{Value}
 use Rattle.registers.specs.declared.value.Read.{Read}
 use Rattle.problem_tables.specs.Data.{KindData, ProblemData, hold_in, kind_of}
-use Rattle.problem_tables.specs.Faults.{alternatives_fault, alternative_room, first_of, holds_fault, known, new, offset_fault, on_word, room_at, same_hold, unless}
-use Rattle.problem_tables.specs.Names.{bytes_of, has_name, index_of, last_name}
+use Rattle.problem_tables.specs.Faults.{alternatives_fault, alternative_room, first_of, holds_fault, known, offset_fault, on_word, room_at, same_hold, unless}
+use Rattle.problem_tables.specs.Names.{bytes_of, index_of, last_name}
 use Rattle.problem_tables.specs.Tables.{MachineParts, ProblemParts, TablesData, form_fault, has_machine, kind_faults, may_stand, named_machine, no_machine, no_problem, no_tables, order_faults, order_of, read_faults, read_of, value_faults, value_of, with_form, with_machine}
-use Rattle.problem_tables.specs.declared.fault.Part.{Part}
 use Rattle.problem_tables.specs.declared.fault.Part.TheVariants as part
 use Rattle.problem_tables.specs.declared.fault.Told.{Told}
 use Rattle.problem_tables.specs.declared.fault.Wrong.{Wrong}
 use Rattle.problem_tables.specs.declared.fault.Wrong.TheVariants as wrong
-use Rattle.problem_tables.proofs.Naming.{place}
+use Rattle.problem_reader.proofs.Faults.{known-low, new-absent, none-at, not-true}
 use Rattle.problem_reader.proofs.Machines.{IsHeld, IsKindOf}
 use Rattle.problem_reader.proofs.Making.{AreOnce, once-push}
 use Rattle.problem_reader.proofs.Problems.{AreKnown, IsMade, IsOrdered, IsReading}
 use Rattle.problem_reader.proofs.Walking.{IsWalked}
 
--- the first of some faults
-
-one : {T : Type 0} (a b : Option T) → option_or a b ≡ None → a ≡ None
-one None b h = refl
-one (Some x) b h = cc
-
-rest : {T : Type 0} (a b : Option T) → option_or a b ≡ None → b ≡ None
-rest None b h = h
-rest (Some x) b h = cc
-
--- each of some faults, by its number from 0
-none-at : (faults : List (Option Told)) (k : ℕ) → first_of faults ≡ None → get_or faults k None ≡ None
-none-at [] k h = refl
-none-at (fault ∷ faults) zero h = one fault (first_of faults) h
-none-at (fault ∷ faults) (suc k) h = none-at faults k (rest fault (first_of faults) h)
-
-well : (b : Bool) (told : Told) → unless b told ≡ None → b ≡ true
-well true told h = refl
-well false told h = cc
-
-not-true : (b : Bool) → not b ≡ true → b ≡ false
-not-true true h = absurd (false≢true h)
-not-true false h = refl
-
 and-left : (a b : Bool) → (a && b) ≡ true → a ≡ true
 and-left true b h = refl
 and-left false b h = h
 
--- a name that is known has a number among the names
-known-low : (names : List (List ℕ)) (what : Part) (w : Placed) → known names what w ≡ None → index_of names w.bytes < length names
-known-low names what w h = (place names w.bytes).known (well (has_name names w.bytes) (on_word w (wrong.Unknown what)) h)
-
-new-absent : (names : List (List ℕ)) (w : Placed) → new names w ≡ None → has_name names w.bytes ≡ false
-new-absent names w h = not-true (has_name names w.bytes) (well (not (has_name names w.bytes)) (on_word w wrong.Repeated) h)
-
 -- the holds of a kind
 
-abbrev hold_list : List (List ℕ) → List HoldForm → HoldForm → List HoldForm → List (Option Told)
+abbrev pub hold_list : List (List ℕ) → List HoldForm → HoldForm → List HoldForm → List (Option Told)
 hold_list units sofar hold holds =
     room_at (on_word hold.unit) (length sofar) 16 part.Holds
     ∷ known units part.Units hold.unit

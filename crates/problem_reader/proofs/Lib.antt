@@ -1,7 +1,12 @@
+pub mod Drafts
 pub mod Faultless
+pub mod Faults
+pub mod KindLines
 pub mod Machines
 pub mod Making
+pub mod Parts
 pub mod Problems
 pub mod Pushes
 pub mod Reading
+pub mod Steps
 pub mod Walking

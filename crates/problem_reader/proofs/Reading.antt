@@ -1,11 +1,10 @@
 -- A text, line by line.
-use Rattle.std.proofs.Common.{◌≡◌, inl, inr, ℕ, ◌+◌, ◌<◌, ◌≤◌, Bool, true, false, not, List, [], ◌∷◌, ◌++◌, length, map, refl, sym, ap, ◌∙◌, arith, append_assoc, subst, if◌then◌else◌, Option, Some, None}
-use Rattle.std.specs.Prelude.{◌||◌, ◌&&◌, ◌==◌, count_by, nat_lt, option_map, IfOk, Result, Ok, Err}
+use Rattle.std.proofs.Common.{◌≡◌, inl, inr, ℕ, zero, suc, ◌+◌, ◌<◌, ◌≤◌, Bool, true, false, not, List, [], ◌∷◌, ◌++◌, get_or, length, map, refl, sym, ap, ◌∙◌, arith, append_assoc, subst, if◌then◌else◌, Option, Some, None}
+use Rattle.std.specs.Prelude.{◌||◌, ◌&&◌, ◌==◌, count_by, nat_lt, option_map, Result, Ok, Err}
 use Rattle.std.specs.Option.{option_or}
 use Rattle.std.proofs.lemmas.Bool.{eqb-true, false_from_ne_true}
 use Rattle.std.proofs.lemmas.Bool.Decides.{Decides-ltb}
 use Rattle.std.proofs.lemmas.List.{append-nil, length_push}
-use Rattle.std.proofs.lemmas.List.Elements.{All-weaker}
 use Rattle.loop_lines.specs.Words.{lines_of}
 use Rattle.problem_lines.specs.Forms.{Form, MachineLine, UnitsLine, FileLine, KindLine, ProblemLine, OpLine, ValueLine, ReadLine, EdgeLine, EndLine}
 use Rattle.problem_lines.specs.Lines.{LineForm, line_form}
@@ -13,24 +12,27 @@ use Rattle.problem_lines.specs.Words.{Placed, placed_words}
 use Rattle.problem_lines.specs.declared.number.Integer.{Integer}
 use Rattle.problem_lines.specs.declared.number.Number.{Number}
 use Rattle.problem_lines.specs.declared.fault.LineFault.{LineFault}
-use Rattle.problem_tables.specs.Data.{FileData, ProblemData}
+use Rattle.problem_tables.specs.Data.{FileData, MachineData}
 use Rattle.problem_tables.specs.Faults.{alternatives_fault, delay_fault, first_of, in_range, known, new, number_or_0, offset_fault, on_line, on_word, room_at, units_fault, unless}
 use Rattle.problem_tables.specs.Names.{index_of, last_name}
 use Rattle.problem_tables.specs.Tables as tables
-use Rattle.problem_tables.specs.Tables.{ProblemParts, TablesData, no_machine, no_tables, with_form, with_machine_ended}
+use Rattle.problem_tables.specs.Tables.{MachineParts, ProblemParts, TablesData, no_machine, no_tables, with_form, with_machine_ended}
 use Rattle.problem_tables.specs.declared.fault.Part.TheVariants as part
 use Rattle.problem_tables.specs.declared.fault.Told.{Told}
 use Rattle.problem_tables.specs.declared.fault.Wrong.{Wrong}
 use Rattle.problem_tables.specs.declared.fault.Wrong.TheVariants as wrong
 use Rattle.problem_tables.proofs.Firsts.{or-none}
-use Rattle.problem_reader.specs.Files.{AnswersText, data_or, file_data, file_in_text, last_machine, machines_from, IsFile}
+use Rattle.problem_reader.specs.Files.{AnswersText, data_or, file_data, file_in_text, last_machine, machines_from, nowhere, IsFile}
 use Rattle.problem_reader.specs.Meaning.{at_line, end_fault, forms_from, forms_in, goes_forward, judged, line_fault, lines_in, meaning_faults}
 use Rattle.problem_reader.specs.Sofar.{files_in, is_inside, is_read, kinds_in, machines_in, ops_in, problem_lines, stands, units_in, values_in}
 use Rattle.problem_reader.specs.inner.Reading.{AnswersEnd, RefusesText, text_fault, with_text}
 use Rattle.problem_reader.specs.declared.fault.TextFault.{TextFault}
+use Rattle.problem_reader.proofs.Drafts.{draft-faultless}
 use Rattle.problem_reader.proofs.Faultless.{IsSound, no-machines, some-machine, sound-more, sound-none}
+use Rattle.problem_reader.proofs.KindLines.{HasHolds, LineHasHolds, line-held}
 use Rattle.problem_reader.proofs.Making.{AreOnce, edges-are, makers-are, reads-are}
 use Rattle.problem_reader.proofs.Problems.{problem_in}
+use Rattle.problem_reader.proofs.Steps.{AreFaultless, IsSoundOn, faultless-more, faultless-none, machine_on, machine_parts}
 use Rattle.problem_reader.proofs.Walking.{IsWalked, ended_from, has-machine, now-some, problem_now, tables_of, walk-push, with-done, with-ended}
 
 -- the tables' faults are those by look-ups
@@ -113,9 +115,10 @@ line-is before line once =
 pub record IsSofar (before : List Form) (t : TablesData) : Type 0 where
   pub is : t ≡ tables_of before
   pub sound : IsSound t
+  pub faultless : AreFaultless t
 
 pub sofar-none : IsSofar [] no_tables
-sofar-none = record { is = refl; sound = sound-none }
+sofar-none = record { is = refl; sound = sound-none; faultless = faultless-none }
 
 none-fault : (o : Option Told) (number : ℕ) → option_map (at_line number) o ≡ None → o ≡ None
 none-fault None number h = refl
@@ -141,18 +144,21 @@ with_line before line = before
 once-of : (before : List Form) (t : TablesData) → IsSofar before t → AreOnce (problem_now before).value_names
 once-of before t s = subst (λ (x : TablesData). AreOnce x.problem.value_names) s.is s.sound.once
 
-sofar-line : (before : List Form) (t : TablesData) (line : LineForm) → IsSofar before t → tables.line_fault t line ≡ None → IsSofar (before ++ line.form ∷ []) (with_form t line.form)
-sofar-line before t line s none =
+sofar-line : (before : List Form) (t : TablesData) (line : LineForm) → HasHolds line.form → IsSofar before t → tables.line_fault t line ≡ None → IsSofar (before ++ line.form ∷ []) (with_form t line.form)
+sofar-line before t line held s none =
     let may = stands-of (tables.may_stand t line.form) (on_line line wrong.Place) (option_or (tables.form_fault t (on_line line) line.form) None) none in
+    let well = fault-of (tables.may_stand t line.form) (on_line line wrong.Place) (tables.form_fault t (on_line line) line.form) none in
     record {
       is = ap (λ x. with_form x line.form) s.is ∙ walk-push before line.form (subst IsWalked s.is s.sound.walked) (ap (λ x. tables.may_stand x line.form) (sym s.is) ∙ may);
-      sound = sound-more t (on_line line) line.form s.sound may (fault-of (tables.may_stand t line.form) (on_line line wrong.Place) (tables.form_fault t (on_line line) line.form) none);
+      sound = sound-more t (on_line line) line.form s.sound may well;
+      faultless = faultless-more t (on_line line) line.form s.sound s.faultless held may well;
     }
 
-pub sofar-more : (before : List Form) (t : TablesData) (number : ℕ) (line : Result (Option LineForm) LineFault) → IsSofar before t → text_fault t number line ≡ None → IsSofar (with_line before line) (with_text t line)
-sofar-more before t number (Ok None) s none = s
-sofar-more before t number (Ok (Some line)) s none = sofar-line before t line s (none-fault (tables.line_fault t line) number none)
-sofar-more before t number (Err fault) s none = cc
+pub sofar-more : (before : List Form) (t : TablesData) (number : ℕ) (line : Result (Option LineForm) LineFault) → LineHasHolds line → IsSofar before t → text_fault t number line ≡ None
+    → IsSofar (with_line before line) (with_text t line)
+sofar-more before t number (Ok None) held s none = s
+sofar-more before t number (Ok (Some line)) held s none = sofar-line before t line held s (none-fault (tables.line_fault t line) number none)
+sofar-more before t number (Err fault) held s none = cc
 
 pub forms-more : (before : List Form) (t : TablesData) (number : ℕ) (line : Result (Option LineForm) LineFault) (lines : List (Result (Option LineForm) LineFault)) → IsSofar before t → text_fault t number line ≡ None
     → forms_from number before (line ∷ lines) ≡ forms_from (number + 1) (with_line before line) lines
@@ -187,7 +193,7 @@ pub read-more : (text : List ℕ) (t u : TablesData) (line : ℕ) (rest this aft
     → text_fault t line (line_form (placed_words this)) ≡ None → u ≡ with_text t (line_form (placed_words this)) → IsRead text u (line + 1) after
 read-more text t u line rest this after r next none is = record {
   before = with_line r.before (line_form (placed_words this));
-  sofar = subst (IsSofar (with_line r.before (line_form (placed_words this)))) (sym is) (sofar-more r.before t line (line_form (placed_words this)) r.sofar none);
+  sofar = subst (IsSofar (with_line r.before (line_form (placed_words this)))) (sym is) (sofar-more r.before t line (line_form (placed_words this)) (line-held (placed_words this)) r.sofar none);
   meaning = r.meaning ∙ ap (forms_from line r.before) (lines-next rest this after next) ∙ forms-more r.before t line (line_form (placed_words this)) (lines_in after) r.sofar none;
 }
 
@@ -244,22 +250,36 @@ read-all text t line rest file short r none out is =
     ∙ sym (ap data_or (short-forms text short ∙ r.meaning ∙ ap (forms_from line r.before) (no-lines rest none)
     ∙ ap (λ b. if b then Err (end_fault line) else Ok r.before) (ap (λ (x : TablesData). x.inside) (sym r.sofar.is) ∙ out)))
 
--- each problem is on a machine of the file
+-- each problem is on a machine of the file, and its drafts have no fault
 
-placed-if : (b : Bool) (t : TablesData) → nat_lt 0 (length t.machines) ≡ b → IsSound t
+at-file : (ended : List MachineData) (e : MachineData) (m : MachineParts) (k : ℕ) → machine_parts e ≡ m → machine_parts (get_or (ended ++ e ∷ []) k nowhere) ≡ machine_on ended m k
+at-file [] e m zero is = is
+at-file [] e m (suc k) is = refl
+at-file (x ∷ ended) e m zero is = refl
+at-file (x ∷ ended) e m (suc k) is = at-file ended e m k is
+
+file-if : (b : Bool) (t : TablesData) → nat_lt 0 (length t.machines) ≡ b → IsSound t → AreFaultless t
     → IsFile (if b then record t { machine = no_machine; ended = record t.ended { machines = t.ended.machines ++ tables.named_machine (last_name t.machines) t.machine ∷ [] } } else t).ended
-placed-if true t e s =
+file-if true t e s f k d low =
+    let p = get_or t.ended.problems k d in
+    let ended = tables.named_machine (last_name t.machines) t.machine in
     let some = some-machine (length t.machines) e in
     let count = s.count in
-    let more = length_push t.ended.machines (tables.named_machine (last_name t.machines) t.machine) in
-    let size : length (t.ended.machines ++ tables.named_machine (last_name t.machines) t.machine ∷ []) ≡ length t.machines = omega (arith, some, count, more) in
-    All-weaker (λ (p : ProblemData). p.machine < length t.machines) (λ (p : ProblemData). p.machine < length (t.ended.machines ++ tables.named_machine (last_name t.machines) t.machine ∷ [])) (λ p low. omega (arith, size, low)) t.ended.problems s.numbers
-placed-if false t e s =
+    let more = length_push t.ended.machines ended in
+    let number : p.machine < length t.machines = s.numbers k d low in
+    record {
+      placed = omega (arith, some, count, more, number);
+      faultless = λ draft is. draft-faultless (get_or (t.ended.machines ++ ended ∷ []) p.machine nowhere) p draft
+          (subst (λ m. IsSoundOn m p) (sym (at-file t.ended.machines ended t.machine p.machine refl)) (f.ended k d low)) is;
+    }
+file-if false t e s f k d low =
+    let p = get_or t.ended.problems k d in
     let none = no-machines (length t.machines) e in
-    All-weaker (λ (p : ProblemData). p.machine < length t.machines) (λ (p : ProblemData). p.machine < length t.ended.machines) (λ p low. absurd (omega (arith, none, low))) t.ended.problems s.numbers
+    let number : p.machine < length t.machines = s.numbers k d low in
+    absurd (omega (arith, none, number))
 
-pub sound-file : (t : TablesData) → IsSound t → IsFile (with_machine_ended t).ended
-sound-file t s = placed-if (nat_lt 0 (length t.machines)) t refl s
+pub sound-file : (t : TablesData) → IsSound t → AreFaultless t → IsFile (with_machine_ended t).ended
+sound-file t s f = file-if (nat_lt 0 (length t.machines)) t refl s f
 
 -- answers
 
@@ -277,10 +297,6 @@ answer-end text t line rest (Err told) short r none h = elim h [
   | inl e ↦ inl (ap Err e.1 ∙ read-end text t line rest short r none e.0)
   | inr e ↦ inr e
 ]
-
-pub end-file : (t : TablesData) (line : ℕ) (r : Result FileData TextFault) → IsSound t → AnswersEnd t line r → IfOk r IsFile
-end-file t line (Ok file) s h = subst IsFile (sym h.1) (sound-file t s)
-end-file t line (Err told) s h = tt
 
 -- no byte is left
 pub nothing-left : (rest : List ℕ) → true ≡ (length rest == 0) → rest ≡ []

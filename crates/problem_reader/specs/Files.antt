@@ -6,6 +6,7 @@ use Rattle.problems.specs.declared.draft.File.{File}
 use Rattle.problems.specs.declared.draft.Value.{Value}
 use Rattle.problems.specs.declared.draft.Order.{Order}
 use Rattle.problems.specs.declared.draft.Draft.{Draft}
+use Rattle.problems.specs.Faults.{first_fault_of}
 use Rattle.registers.specs.declared.value.Read.{Read}
 use Rattle.problem_tables.specs.Data.{KindData, MachineData, ProblemData, FileData, file_of, kind_of, kind_seen}
 use Rattle.problem_tables.specs.Faults.{number_or_0}
@@ -131,6 +132,11 @@ nothing = record { name = []; machine = 0; operations = []; operation_names = []
 abbrev pub problem_at : FileData → ℕ → ProblemData
 problem_at file number = slice_index_or file.problems number nothing
 
--- each problem is on a machine of its file
+-- a problem is on a machine of its file, and no draft of it has a fault
+pub record IsFaultlessIn (file : FileData) (problem : ProblemData) : Type 0 where
+  pub placed : problem.machine < length file.machines
+  pub faultless : (draft : Draft) → IsDraftOf (machine_at file problem.machine) problem draft → first_fault_of draft ≡ None
+
+-- each problem is so
 abbrev pub IsFile : FileData → Type 0
-IsFile file = All (λ (problem : ProblemData). problem.machine < length file.machines) file.problems
+IsFile file = All (IsFaultlessIn file) file.problems

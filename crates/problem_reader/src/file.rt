@@ -1,6 +1,7 @@
 //! What is read of a text.
 
-ghost use Rattle.std.specs.Prelude.{◌≡◌, ◌<◌, length, IfOk};
+ghost use Rattle.std.specs.Prelude.{◌≡◌, ◌<◌, length, None, IfOk};
+ghost use Rattle.problems.specs.Faults.{first_fault_of};
 ghost use Rattle.problem_tables.specs.Seen.{ended_seen};
 ghost use Rattle.problem_reader.specs.Files.{machine_at, problem_at, IsDraftOf, IsFile};
 
@@ -53,13 +54,14 @@ impl ProblemFile {
         &self.ended.problems[number].name
     }
 
-    /// The draft of the problem with a number, from 0, with all names.
+    /// The draft of the problem with a number, from 0, with all names. It has no fault.
     ///
     /// # Errors
     /// Memory ran out.
     pub fn draft(&self, alloc: Global, number: usize) -> Result<Draft, OutOfMemory>
         requires { number < length self.now.problems }
-        ensures { IfOk result (IsDraftOf (machine_at self.now (problem_at self.now number).machine) (problem_at self.now number)) }
+        ensures exact { IfOk result (IsDraftOf (machine_at self.now (problem_at self.now number).machine) (problem_at self.now number)) }
+        ensures faultless { IfOk result (λ draft. first_fault_of draft ≡ None) }
     {
         let problem = &self.ended.problems[number];
         draft_of(alloc, &self.ended.machines[problem.machine], problem)

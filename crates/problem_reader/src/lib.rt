@@ -5,8 +5,6 @@ mod copies;
 mod fault;
 mod file;
 mod read;
-#[cfg(test)]
-mod tests;
 
 pub use fault::TextFault;
 pub use file::ProblemFile;

@@ -9,8 +9,6 @@ mod lines;
 mod names;
 mod opened;
 mod tables;
-#[cfg(test)]
-mod tests;
 
 pub use ended::{Ended, TextMachine, TextProblem};
 pub use fault::{Part, Refusal, Told, Wrong};

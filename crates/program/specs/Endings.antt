@@ -5,7 +5,7 @@ use Rattle.clap.specs.declared.error.kind.ErrorKind.{ErrorKind}
 use Rattle.command_line.specs.declared.command.Command.{Command}
 use Rattle.command_line.specs.declared.line.Usage.{Usage}
 use Rattle.command_line.specs.declared.line.Usage.TheVariants.{Help, Refused, Memory}
-use Rattle.modsched.specs.Lines.{IsRequest, Means, machine_path}
+use Rattle.modsched.specs.Lines.{IsRequest, Means, first_path}
 use Rattle.endings.specs.declared.status.Status.{Status}
 
 -- a line ends in a status where it means a command, or asks for help or the version; else it is refused, or memory ran out
@@ -23,10 +23,10 @@ IsNoRequest (Help text) = ⊥
 IsNoRequest (Refused text) = Unit {0}
 IsNoRequest Memory = Unit {0}
 
--- the path that a machine's input is given: none is opened where a command reads no machine
+-- the path that the first input is given: none is opened where a command reads one text
 abbrev pub path_or_none : Option (List ℕ) → List ℕ
 path_or_none None = []
 path_or_none (Some path) = path
 
-abbrev pub machine_file : Command → List ℕ
-machine_file command = path_or_none (machine_path command)
+abbrev pub first_file : Command → List ℕ
+first_file command = path_or_none (first_path command)

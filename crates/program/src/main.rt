@@ -1,10 +1,10 @@
-//! The program `modsched`: software pipelining of innermost loops for a described VLIW machine.
+//! The program `modsched`: software pipelining for a described VLIW machine, of innermost loops and of scheduling problems.
 #![tactic(auto)]
 
 ghost use Rattle.std.specs.Prelude.{◌≡◌, map, IfErr};
 ghost use Rattle.clap.specs.Words.{fault_of, subcommand_of};
-ghost use Rattle.modsched.specs.Lines.{loops_path, program_line};
-ghost use Rattle.program.specs.Endings.{IsHeeded, IsNoRequest, machine_file};
+ghost use Rattle.modsched.specs.Lines.{last_path, program_line};
+ghost use Rattle.program.specs.Endings.{IsHeeded, IsNoRequest, first_file};
 
 use modsched::{
     Command, FileInput, StandardOutput, Status, Told, Usage, engine, exit_number, parse_line, show,
@@ -63,27 +63,20 @@ fn answer<R: AllocGlobal + Files + Print + Threads + Sync>(
 
 /// Does the work of a command over its files and the standard output.
 fn work<R: AllocGlobal + Files + Print + Threads + Sync>(rt: &R, command: &Command) -> Status {
-    let (mut machine, mut loops) = files(rt, command);
+    let (mut first, mut last) = files(rt, command);
     let mut output = StandardOutput::new(rt);
-    engine(
-        rt,
-        rt.alloc(),
-        command,
-        &mut machine,
-        &mut loops,
-        &mut output,
-    )
+    engine(rt, rt.alloc(), command, &mut first, &mut last, &mut output)
 }
 
-/// The file of a command's machine and that of its loops. Nothing is opened yet: a file is opened where
-/// it is first read, so that of a machine only for a command that reads one.
+/// The file that a command reads first and the one that it reads last. Nothing is opened yet: a file is
+/// opened where it is first read, so that the first one only for a command that reads two.
 fn files<'a, R: Files>(rt: &'a R, command: &'a Command) -> (FileInput<'a, R>, FileInput<'a, R>)
-    ensures machine { result.0 ≡ (machine_file command.entry.now, 0) }
-    ensures loops { result.1 ≡ (loops_path command.entry.now, 0) }
+    ensures first { result.0 ≡ (first_file command.entry.now, 0) }
+    ensures last { result.1 ≡ (last_path command.entry.now, 0) }
 {
-    let machine = command.machine_path().unwrap_or("");
+    let first = command.first_path().unwrap_or("");
     (
-        FileInput::new(rt, machine),
-        FileInput::new(rt, command.loops_path()),
+        FileInput::new(rt, first),
+        FileInput::new(rt, command.last_path()),
     )
 }

@@ -11,8 +11,6 @@ mod resolve;
 mod rows;
 mod sofar;
 mod spot;
-#[cfg(test)]
-mod tests;
 mod values;
 
 pub use fault::{Part, SolutionFault, Wrong};

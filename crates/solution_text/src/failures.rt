@@ -80,8 +80,12 @@ fn push_lack(text: &mut Vec<u8>, draft: &Draft, file: usize, value: usize) -> Re
     push_name(text, draft.names.values.as_slice(), value)
 }
 
-/// Appends a cause, with what is behind it.
-fn push_cause(
+/// Appends a cause by which an interval gives no solution, with who is behind it, where that is known: of a lack of registers the
+/// file and the value that has none, of the other causes the culprit that is given.
+///
+/// # Errors
+/// [`AllocError`] where memory ran out. The text is left with a part of all that.
+pub fn push_cause(
     text: &mut Vec<u8>,
     draft: &Draft,
     cause: Cause,

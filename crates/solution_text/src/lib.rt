@@ -11,13 +11,11 @@ mod names;
 mod operations;
 mod outcomes;
 mod solved;
-#[cfg(test)]
-mod tests;
 mod uses;
 mod values;
 mod verdicts;
 
-pub use failures::push_failed;
+pub use failures::{push_cause, push_failed};
 pub use laws::names_are_those_of_runs;
 pub use named::Register;
 pub use outcomes::push_outcome;

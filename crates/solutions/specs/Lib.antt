@@ -4,6 +4,7 @@ pub use Rattle.settings.specs.Searches
 pub mod Files
 pub mod Solutions
 pub mod Outcomes
+pub mod Trying
 pub mod Breaks
 pub mod Copies
 pub mod Runs

@@ -1,4 +1,3 @@
 -- What the clauses of private functions cite.
 pub mod Filling
-pub mod Trying
 pub mod Judging

@@ -13,3 +13,4 @@ pub use laws::{broken_is_unlawful, gives_is_lawful, lawful_solutions_are_runs, o
 pub use solution::Solution;
 pub use solving::outcome::{Cause, Outcome};
 pub use solving::solve::solve;
+pub use solving::trials::Trials;

@@ -3,8 +3,6 @@
 
 mod lines;
 mod parts;
-#[cfg(test)]
-mod tests;
 mod text;
 
 pub use lines::{push_last, push_line};

@@ -1,6 +1,8 @@
 //! Files that cannot be read, texts of the greatest length, and outputs that fail.
 
-use super::given::{ACC, ACC_LISTING, M1, REGISTERS_0_MACHINE};
+use super::given::{
+    ACC, ACC_LISTING, M1, REGISTERS_0_MACHINE, SUM, SUM_OK, SUM_SOLUTION, SUM_SOLVED,
+};
 use super::{Case, STRIDE, case_of, ends};
 use modsched::{Bytes, FaultyInput, FaultyOutput, Status, engine, parse_line};
 use std::alloc::{AllocError, Global};
@@ -13,13 +15,13 @@ const WORDS: &[&str] = &["bounds", "m.toml", "l.txt"];
 /// `bounds` of files one of which cannot be read.
 fn unread(
     rt: &(impl Abort + AllocGlobal + Threads + Sync),
-    machine: Option<&str>,
-    loops: Option<&str>,
+    first: Option<&str>,
+    last: Option<&str>,
     line: &str,
 ) -> Result<(), Fail> {
     let row = Case {
-        machine,
-        loops,
+        first,
+        last,
         ..case_of(WORDS, "", "")
     };
     ends(rt, &row, 3, "", line)
@@ -83,72 +85,121 @@ fn refuses_a_longer_text(rt: HostRuntime) -> Result<(), Fail> {
     ends(&rt, &case_of(WORDS, M1, text.as_str()), 5, "", line)
 }
 
-/// A line, and what it writes for the machine and the loop of these tests, and for no loop.
+/// A line, what its inputs hold and what it writes for that, and what the input is told as that can't be read. A line that reads no
+/// first input has nothing there.
 #[derive(Clone, Copy)]
 struct Line {
     words: &'static [&'static str],
-    has_machine: bool,
+    first: &'static str,
+    last: &'static str,
     out: &'static str,
-    none: &'static str,
+    unread_first: &'static str,
+    unread_last: &'static str,
 }
 
-const LINES: [Line; 4] = [
+const LINES: [Line; 6] = [
     Line {
         words: WORDS,
-        has_machine: true,
+        first: M1,
+        last: ACC,
         out: "loop acc ops 3 res 2 rec 1 mii 2\nloops 1\n",
-        none: "loops 0\n",
+        unread_first: "machine",
+        unread_last: "loops",
     },
     Line {
         words: &["plain", "l.txt", "--trip", "3"],
-        has_machine: false,
+        first: "",
+        last: ACC,
         out: "loop acc trip 3\nb[0] 1\nb[1] 3\nb[2] 6\nloops 1\n",
-        none: "loops 0\n",
+        unread_first: "",
+        unread_last: "loops",
     },
     Line {
         words: &["schedule", "m.toml", "l.txt"],
-        has_machine: true,
+        first: M1,
+        last: ACC,
         out: ACC_LISTING,
-        none: "loops 0 met 0 failed 0\n",
+        unread_first: "machine",
+        unread_last: "loops",
     },
     Line {
         words: &["run", "m.toml", "l.txt", "--trip", "3"],
-        has_machine: true,
+        first: M1,
+        last: ACC,
         out: "loop acc trip 3\nb[0] 1\nb[1] 3\nb[2] 6\nloops 1 met 1 failed 0\n",
-        none: "loops 0 met 0 failed 0\n",
+        unread_first: "machine",
+        unread_last: "loops",
+    },
+    Line {
+        words: &["solve", "p.txt"],
+        first: "",
+        last: SUM,
+        out: SUM_SOLVED,
+        unread_first: "",
+        unread_last: "problems",
+    },
+    Line {
+        words: &["check", "p.txt", "s.txt"],
+        first: SUM,
+        last: SUM_SOLUTION,
+        out: SUM_OK,
+        unread_first: "problems",
+        unread_last: "solutions",
     },
 ];
 
+/// How many of them are over loops.
+const OVER_LOOPS: usize = 4;
+
+/// What each of those writes for a text without a loop.
+const NONE: [&str; OVER_LOOPS] = [
+    "loops 0\n",
+    "loops 0\n",
+    "loops 0 met 0 failed 0\n",
+    "loops 0 met 0 failed 0\n",
+];
+
+/// What is told as that can't be read.
+fn unread_of(status: &Status) -> &'static str {
+    match status {
+        Status::MachineUnread => "machine",
+        Status::LoopsUnread => "loops",
+        Status::ProblemsUnread => "problems",
+        Status::SolutionsUnread => "solutions",
+        _ => "",
+    }
+}
+
 /// The number that a line exits with where its inputs give a byte a read and fail after so many, and
-/// whether it is the machine's file that cannot be read. Its output is whole, or nothing is written.
+/// what is told as that can't be read. Its output is whole, or nothing is written.
 fn read_to(
     rt: &(impl Abort + Threads + Sync),
     alloc: Global,
     line: &Line,
-    machine: Option<u64>,
-    loops: Option<u64>,
-) -> (u8, bool) {
+    first: Option<u64>,
+    last: Option<u64>,
+) -> (u8, &'static str) {
     let command = parse_line(alloc, line.words).expect(rt, "a command");
-    let mut machine = FaultyInput::new(M1.as_bytes(), 1, machine);
-    let mut loops = FaultyInput::new(ACC.as_bytes(), 1, loops);
+    let mut first = FaultyInput::new(line.first.as_bytes(), 1, first);
+    let mut last = FaultyInput::new(line.last.as_bytes(), 1, last);
     let mut output = FaultyOutput::new(alloc, STRIDE, STRIDE, true).expect(rt, "an output");
-    let status = engine(rt, alloc, &command, &mut machine, &mut loops, &mut output);
-    let of_machine = matches!(status, Status::MachineUnread);
+    let status = engine(rt, alloc, &command, &mut first, &mut last, &mut output);
     let wanted = if status.number() == 0 { line.out } else { "" };
     assert!(rt; output.as_slice() == wanted.as_bytes(), "{wanted}");
-    (status.number(), of_machine)
+    (status.number(), unread_of(&status))
 }
 
-// Each read fails in turn, from the first to the one that finds the end. The machine's file is read first.
+// Each read fails in turn, from the first to the one that finds the end. The first input is read first; one that is not read does
+// not fail.
 #[test]
 fn fails_to_read(rt: HostRuntime) {
     for line in &LINES {
         let out = line.out;
-        for reads in 0..=M1.len() as u64 {
-            let wanted = if line.has_machine {
-                [(3, true), (3, true)]
+        for reads in 0..=line.first.len() as u64 {
+            let wanted = if line.unread_first.is_empty() {
+                [(0, ""), (3, line.unread_last)]
             } else {
-                [(0, false), (3, false)]
+                [(3, line.unread_first), (3, line.unread_first)]
             };
             assert_eq!(rt;
                 [
@@ -159,10 +210,10 @@ fn fails_to_read(rt: HostRuntime) {
                 "read {reads} for {out}"
             );
         }
-        for reads in 0..=ACC.len() as u64 {
+        for reads in 0..=line.last.len() as u64 {
             assert_eq!(rt;
                 read_to(&rt, rt.alloc(), line, None, Some(reads)),
-                (3, false),
+                (3, line.unread_last),
                 "read {reads} for {out}"
             );
         }
@@ -179,10 +230,10 @@ fn write_to(
     can_flush: bool,
 ) -> u8 {
     let command = parse_line(alloc, line.words).expect(rt, "a command");
-    let mut machine = Bytes::new(M1.as_bytes());
-    let mut loops = Bytes::new(ACC.as_bytes());
+    let mut first = Bytes::new(line.first.as_bytes());
+    let mut last = Bytes::new(line.last.as_bytes());
     let mut output = FaultyOutput::new(alloc, 7, room, can_flush).expect(rt, "an output");
-    let status = engine(rt, alloc, &command, &mut machine, &mut loops, &mut output);
+    let status = engine(rt, alloc, &command, &mut first, &mut last, &mut output);
     let out = line.out.as_bytes();
     let took = room.min(out.len());
     assert!(rt; output.as_slice() == &out[..took], "room for {room}");
@@ -239,10 +290,10 @@ fn number_for(
 #[test]
 fn cuts_loop_texts(rt: HostRuntime) {
     let text = ACC.as_bytes();
-    for line in &LINES {
+    for (line, none) in LINES.iter().zip(&NONE) {
         for end in 0..=text.len() {
             let (out, wanted) = match end {
-                0 => (line.none, 0),
+                0 => (*none, 0),
                 _ if end + 1 >= text.len() => (line.out, 0),
                 _ => (line.out, 5),
             };
@@ -267,11 +318,11 @@ fn cuts_loop_texts(rt: HostRuntime) {
 #[test]
 fn cuts_machine_texts(rt: HostRuntime) {
     let text = M1.as_bytes();
-    for line in &LINES {
+    for line in LINES.iter().take(OVER_LOOPS) {
         let out = line.out;
         for end in 0..=text.len() {
             let cut = &text[..end];
-            let wanted = if !line.has_machine || end + 1 >= text.len() {
+            let wanted = if line.unread_first.is_empty() || end + 1 >= text.len() {
                 0
             } else if cut.trim_ascii_end().ends_with(b"]]") {
                 5

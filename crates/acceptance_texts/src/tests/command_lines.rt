@@ -1,14 +1,58 @@
-use command_line::{Command, Search, Task, Usage, Work, parse_line};
+use command_line::{Command, Report, Search, Task, Trip, Usage, Work, parse_line};
 use settings::Settings;
 use std::alloc::Global;
 use std::test::Fail;
 
+/// The path of the loops of a line, and what is done with them.
+fn over_loops(alloc: Global, words: &[&str]) -> Result<(String, Work), Fail> {
+    match parse_line(alloc, words)? {
+        Command::Loops { loops, work } => Ok((loops, work)),
+        _ => Err(Fail::from("a command that takes no loops")),
+    }
+}
+
 /// The paths and the task of a line whose command reads a machine.
 fn read(alloc: Global, words: &[&str]) -> Result<(String, String, Task), Fail> {
-    let Command { loops, work } = parse_line(alloc, words)?;
+    let (loops, work) = over_loops(alloc, words)?;
     match work {
         Work::OnMachine { machine, task } => Ok((machine, loops, task)),
-        Work::Plain(_) => Err(Fail::from("a command that reads no machine")),
+        Work::Plain { .. } => Err(Fail::from("a command that reads no machine")),
+    }
+}
+
+/// The path, the trip count and the number of workers of a line that asks for a plain run.
+fn plainly(alloc: Global, words: &[&str]) -> Result<(String, Trip, usize), Fail> {
+    let (loops, work) = over_loops(alloc, words)?;
+    match work {
+        Work::Plain { trip, workers } => Ok((loops, trip, workers)),
+        Work::OnMachine { .. } => Err(Fail::from("a command that reads a machine")),
+    }
+}
+
+/// The path and the settings of a line that asks for solutions.
+fn solved(alloc: Global, words: &[&str]) -> Result<(String, Settings), Fail> {
+    match parse_line(alloc, words)? {
+        Command::Solve { problems, settings } => Ok((problems, settings)),
+        _ => Err(Fail::from("a command that solves no problems")),
+    }
+}
+
+/// The path of a line that asks for something of problems alone, and what is told of them.
+fn reported(alloc: Global, words: &[&str]) -> Result<(String, Report), Fail> {
+    match parse_line(alloc, words)? {
+        Command::Problems { problems, told } => Ok((problems, told)),
+        _ => Err(Fail::from("a command that takes no problems alone")),
+    }
+}
+
+/// The paths of a line that asks whether solutions hold.
+fn checked(alloc: Global, words: &[&str]) -> Result<(String, String), Fail> {
+    match parse_line(alloc, words)? {
+        Command::Check {
+            problems,
+            solutions,
+        } => Ok((problems, solutions)),
+        _ => Err(Fail::from("a command that judges no solutions")),
     }
 }
 
@@ -66,19 +110,33 @@ fn reads_the_trip_count(rt: HostRuntime) -> Result<(), Fail> {
         (&["plain", "plain", "--trip", "64"], "plain", 64),
     ];
     for (words, path, count) in lines {
-        let Command { loops, work } = parse_line(rt.alloc(), words)?;
+        let (loops, trip, workers) = plainly(rt.alloc(), words)?;
         assert_eq!(rt; loops.as_str(), path);
-        match work {
-            Work::Plain(trip) => assert_eq!(rt; trip.count(), count),
-            other => panic!(rt; "{other:?}"),
-        }
+        assert_eq!(rt; trip.count(), count);
+        assert_eq!(rt; workers, 4);
+    }
+    Ok(())
+}
+
+#[test]
+fn reads_the_workers_of_a_plain_run(rt: HostRuntime) -> Result<(), Fail> {
+    let lines: [(&[&str], usize); 3] = [
+        (&["plain", "l", "--trip", "3", "--workers", "1"], 1),
+        (&["plain", "--workers=64", "l", "--trip", "3"], 64),
+        (&["plain", "--trip", "3", "--workers", "+2", "l"], 2),
+    ];
+    for (words, wanted) in lines {
+        let (_, _, workers) = plainly(rt.alloc(), words)?;
+        assert_eq!(rt; workers, wanted);
     }
     Ok(())
 }
 
 #[test]
 fn refuses_other_trip_counts(rt: HostRuntime) {
-    let lines: [&[&str]; 15] = [
+    let lines: [&[&str]; 17] = [
+        &["plain", "l", "--trip", "3", "--workers", "0"],
+        &["plain", "l", "--trip", "3", "--workers", "65"],
         &["plain", "l"],
         &["plain", "l", "--trip"],
         &["plain", "--trip", "3"],
@@ -174,6 +232,76 @@ fn reads_the_settings_of_an_explanation(rt: HostRuntime) -> Result<(), Fail> {
 }
 
 #[test]
+fn reads_the_settings_of_problems(rt: HostRuntime) -> Result<(), Fail> {
+    let lines: [(&[&str], &str, [u64; 4]); 6] = [
+        (&["solve", "p.txt"], "p.txt", [6, 32, 4, 4]),
+        (&["solve", "p.txt", "--ratio", "2"], "p.txt", [2, 32, 4, 4]),
+        (&["solve", "--ceiling=0", "p"], "p", [6, 0, 4, 4]),
+        (&["solve", "--workers", "1", "p"], "p", [6, 32, 1, 4]),
+        (&["solve", "p", "--cut", "256"], "p", [6, 32, 4, 256]),
+        (&["solve", "--", "--cut"], "--cut", [6, 32, 4, 4]),
+    ];
+    for (words, path, numbers) in lines {
+        let (problems, settings) = solved(rt.alloc(), words)?;
+        assert_eq!(rt; problems.as_str(), path);
+        assert_eq!(rt; numbers_of(settings), numbers);
+    }
+    Ok(())
+}
+
+#[test]
+fn reads_the_paths_of_a_check(rt: HostRuntime) -> Result<(), Fail> {
+    let lines: [(&[&str], &str, &str); 4] = [
+        (&["check", "p.txt", "s.txt"], "p.txt", "s.txt"),
+        (&["check", "--", "-p", "--help"], "-p", "--help"),
+        (&["check", "check", "solve"], "check", "solve"),
+        (&["check", "-", "-"], "-", "-"),
+    ];
+    for (words, first, second) in lines {
+        let (problems, solutions) = checked(rt.alloc(), words)?;
+        assert_eq!(rt; problems.as_str(), first);
+        assert_eq!(rt; solutions.as_str(), second);
+    }
+    Ok(())
+}
+
+#[test]
+fn reads_what_is_told_of_problems(rt: HostRuntime) -> Result<(), Fail> {
+    let (problems, told) = reported(rt.alloc(), &["edges", "p.txt"])?;
+    assert_eq!(rt; problems.as_str(), "p.txt");
+    assert!(rt; matches!(told, Report::Edges), "{told:?}");
+    let (problems, told) = reported(rt.alloc(), &["dot", "p.txt"])?;
+    assert_eq!(rt; problems.as_str(), "p.txt");
+    assert!(rt; matches!(told, Report::Dot), "{told:?}");
+    let (problems, told) = reported(rt.alloc(), &["explain", "--ceiling", "9", "p.txt"])?;
+    assert_eq!(rt; problems.as_str(), "p.txt");
+    match told {
+        Report::Explain(settings) => assert_eq!(rt; numbers_of(settings), [6, 9, 4, 4]),
+        other => panic!(rt; "{other:?}"),
+    }
+    Ok(())
+}
+
+#[test]
+fn refuses_other_lines_of_problems(rt: HostRuntime) {
+    let lines: [&[&str]; 10] = [
+        &["solve"],
+        &["solve", "p", "s"],
+        &["solve", "p", "--ratio", "0"],
+        &["solve", "p", "--ceiling", "256"],
+        &["solve", "p", "--workers", "65"],
+        &["solve", "p", "--trip", "3"],
+        &["check"],
+        &["check", "p"],
+        &["check", "p", "s", "t"],
+        &["check", "p", "s", "--ratio", "6"],
+    ];
+    for (i, words) in lines.iter().enumerate() {
+        assert!(rt; is_refused(rt.alloc(), words), "line {i}");
+    }
+}
+
+#[test]
 fn refuses_other_settings(rt: HostRuntime) {
     let lines: [&[&str]; 12] = [
         &["schedule", "m", "l", "--ratio", "0"],
@@ -198,7 +326,7 @@ fn refuses_other_settings(rt: HostRuntime) {
 fn refuses_other_lines(rt: HostRuntime) {
     let lines: [&[&str]; 18] = [
         &[],
-        &["edges", "m"],
+        &["edges"],
         &["dot", "m", "l", "--ratio", "6"],
         &["json", "m"],
         &["json", "m", "l", "--trip", "3"],
@@ -260,6 +388,8 @@ fn helps(rt: HostRuntime) {
         "edges",
         "dot",
         "plain",
+        "solve",
+        "check",
         "Usage: modsched",
         "1,048,576 bytes",
         "Exit status",
@@ -270,7 +400,7 @@ fn helps(rt: HostRuntime) {
         "1,024 loops",
     ];
     let of_plain = [
-        "Usage: modsched plain --trip <N> <LOOPS>",
+        "Usage: modsched plain [OPTIONS] --trip <N> <LOOPS>",
         "from 0 to 100000",
         "trip counts",
     ];
@@ -292,16 +422,30 @@ fn helps(rt: HostRuntime) {
         "[default: 32]",
     ];
     let of_edges = [
-        "Usage: modsched edges <MACHINE> <LOOPS>",
+        "Usage: modsched edges <MACHINE_OR_PROBLEMS> [LOOPS]",
         "edge P NAME Q NAME KIND delay D distance N",
     ];
-    let of_dot = ["Usage: modsched dot <MACHINE> <LOOPS>", "dot -Tsvg"];
+    let of_dot = [
+        "Usage: modsched dot <MACHINE_OR_PROBLEMS> [LOOPS]",
+        "dot -Tsvg",
+    ];
     let of_explain = [
-        "Usage: modsched explain [OPTIONS] <MACHINE> <LOOPS>",
+        "Usage: modsched explain [OPTIONS] <MACHINE_OR_PROBLEMS> [LOOPS]",
         "circuit delay D distance N needs C",
         "[default: 32]",
     ];
-    let lines: [(&[&str], &[&str]); 12] = [
+    let of_solve = [
+        "Usage: modsched solve [OPTIONS] <PROBLEMS>",
+        "# failed NAME at I: CAUSE",
+        "16,777,216 bytes",
+        "[default: 32]",
+    ];
+    let of_check = [
+        "Usage: modsched check <PROBLEMS> <SOLUTIONS>",
+        "NAME broken: WHAT",
+        "Exit status",
+    ];
+    let lines: [(&[&str], &[&str]); 14] = [
         (&["--help"], &of_program),
         (&["help"], &of_program),
         (&["bounds", "--help"], &of_bounds),
@@ -314,6 +458,8 @@ fn helps(rt: HostRuntime) {
         (&["explain", "--help"], &of_explain),
         (&["edges", "--help"], &of_edges),
         (&["dot", "--help"], &of_dot),
+        (&["solve", "--help"], &of_solve),
+        (&["check", "--help"], &of_check),
     ];
     for (words, parts) in lines {
         match parse_line(rt.alloc(), words) {
@@ -329,8 +475,10 @@ fn helps(rt: HostRuntime) {
 
 #[test]
 fn helps_in_short(rt: HostRuntime) {
-    let lines: [&[&str]; 9] = [
+    let lines: [&[&str]; 11] = [
         &["-h"],
+        &["solve", "-h"],
+        &["check", "-h"],
         &["explain", "-h"],
         &["json", "-h"],
         &["edges", "-h"],
@@ -361,14 +509,18 @@ fn tells_its_version(rt: HostRuntime) {
 
 #[test]
 fn tells_its_paths(rt: HostRuntime) -> Result<(), Fail> {
-    let bounds = parse_line(rt.alloc(), &["bounds", "m.toml", "l.txt"])?;
-    assert_eq!(rt; bounds.machine_path(), Some("m.toml"));
-    assert_eq!(rt; bounds.loops_path(), "l.txt");
-    let plain = parse_line(rt.alloc(), &["plain", "l.txt", "--trip", "3"])?;
-    assert_eq!(rt; plain.machine_path(), None);
-    assert_eq!(rt; plain.loops_path(), "l.txt");
-    let run = parse_line(rt.alloc(), &["run", "m.toml", "l.txt", "--trip", "3"])?;
-    assert_eq!(rt; run.machine_path(), Some("m.toml"));
-    assert_eq!(rt; run.loops_path(), "l.txt");
+    let lines: [(&[&str], Option<&str>, &str); 6] = [
+        (&["edges", "p.txt"], None, "p.txt"),
+        (&["bounds", "m.toml", "l.txt"], Some("m.toml"), "l.txt"),
+        (&["plain", "l.txt", "--trip", "3"], None, "l.txt"),
+        (&["run", "m", "l", "--trip", "3"], Some("m"), "l"),
+        (&["solve", "p.txt"], None, "p.txt"),
+        (&["check", "p.txt", "s.txt"], Some("p.txt"), "s.txt"),
+    ];
+    for (words, first, last) in lines {
+        let command = parse_line(rt.alloc(), words)?;
+        assert_eq!(rt; command.first_path(), first);
+        assert_eq!(rt; command.last_path(), last);
+    }
     Ok(())
 }

@@ -1,9 +1,9 @@
 //! The form of the command line: its subcommands, their arguments and options.
 
 ghost use Rattle.std.specs.Prelude.{◌≡◌, codes, false, IfOk};
-ghost use Rattle.clap.specs.Words.{app_of, new_app, rule_of};
+ghost use Rattle.clap.specs.Words.{app_of, new_app, new_rule, rule_of};
 ghost use Rattle.clap.specs.declared.builder.command.Command.TheViews.{out-Command};
-ghost use Rattle.command_line.specs.Lines.{program_line, bare_line, with_kernels, with_reports, plain_line, search_line, run_line, with_paths, with_search, path_rule, trip_rule, option_rule, ratio_rule, ceiling_rule, workers_rule, cut_rule};
+ghost use Rattle.command_line.specs.Lines.{program_line, bare_line, with_kernels, with_reports, with_problems, plain_line, search_line, explain_line, either_line, run_line, solve_line, check_line, with_paths, with_search, path_rule, trip_rule, option_rule, ratio_rule, ceiling_rule, workers_rule, cut_rule};
 ghost use Rattle.command_line.specs.inner.Made.{IsAdded};
 
 use crate::help;
@@ -18,7 +18,8 @@ const VERSION: &str = "0.1.0";
 pub(super) fn program<'a>(alloc: Global) -> Result<Command<'a>, AllocError>
     ensures { IfOk result (λ c. app_of c ≡ program_line) }
 {
-    with_reports(alloc, with_kernels(alloc, bare_program(alloc)?)?)
+    let command = with_kernels(alloc, bare_program(alloc)?)?;
+    with_problems(alloc, with_reports(alloc, command)?)
 }
 
 // The line of the program without a subcommand.
@@ -41,15 +42,14 @@ fn bare_program<'a>(alloc: Global) -> Result<Command<'a>, AllocError>
 fn with_kernels<'a>(alloc: Global, command: Command<'a>) -> Result<Command<'a>, AllocError>
     ensures { IfOk result (λ c. app_of c ≡ with_kernels (app_of command.entry)) }
 {
-    use help::{EXPLAIN_ABOUT, EXPLAIN_LONG_ABOUT, JSON_ABOUT, JSON_LONG_ABOUT};
+    use help::{JSON_ABOUT, JSON_LONG_ABOUT};
     use help::{SCHEDULE_ABOUT, SCHEDULE_LONG_ABOUT};
     let made = search(alloc, "schedule", SCHEDULE_ABOUT, SCHEDULE_LONG_ABOUT);
     let command = add(command, made)?;
     let command = add(command, run(alloc))?;
     let made = search(alloc, "json", JSON_ABOUT, JSON_LONG_ABOUT);
     let command = add(command, made)?;
-    let made = search(alloc, "explain", EXPLAIN_ABOUT, EXPLAIN_LONG_ABOUT);
-    add(command, made)
+    add(command, explain(alloc))
 }
 
 // A line with those that look for none.
@@ -60,11 +60,19 @@ fn with_reports<'a>(alloc: Global, command: Command<'a>) -> Result<Command<'a>, 
     use help::{EDGES_ABOUT, EDGES_LONG_ABOUT};
     let made = over_files(alloc, "bounds", BOUNDS_ABOUT, BOUNDS_LONG_ABOUT);
     let command = add(command, made)?;
-    let made = over_files(alloc, "edges", EDGES_ABOUT, EDGES_LONG_ABOUT);
+    let made = over_either(alloc, "edges", EDGES_ABOUT, EDGES_LONG_ABOUT);
     let command = add(command, made)?;
-    let made = over_files(alloc, "dot", DOT_ABOUT, DOT_LONG_ABOUT);
+    let made = over_either(alloc, "dot", DOT_ABOUT, DOT_LONG_ABOUT);
     let command = add(command, made)?;
     add(command, plain(alloc))
+}
+
+// A line with those that take problems.
+fn with_problems<'a>(alloc: Global, command: Command<'a>) -> Result<Command<'a>, AllocError>
+    ensures { IfOk result (λ c. app_of c ≡ with_problems (app_of command.entry)) }
+{
+    let command = add(command, solve(alloc))?;
+    add(command, check(alloc))
 }
 
 // The command with one more subcommand. Whether that was made is looked at here alone, since the checker goes through the drops
@@ -104,6 +112,35 @@ fn over_files<'a>(
         .arg(loops(alloc))
 }
 
+// A subcommand that has the paths of both files, or that of problems alone.
+fn over_either<'a>(
+    alloc: Global,
+    name: &'a str,
+    about: &'a str,
+    long_about: &'a str,
+) -> Result<Command<'a>, AllocError>
+    ensures app { IfOk result (λ c. app_of c ≡ either_line name.entry.now) }
+    ensures local { IfOk result (λ c. (out-Command c).has_globals ≡ false) }
+{
+    bare(alloc, name, about, long_about)
+        .arg(machine_or_problems(alloc))?
+        .arg(spare_loops(alloc))
+}
+
+// The subcommand `explain`.
+fn explain<'a>(alloc: Global) -> Result<Command<'a>, AllocError>
+    ensures app { IfOk result (λ c. app_of c ≡ explain_line) }
+    ensures local { IfOk result (λ c. (out-Command c).has_globals ≡ false) }
+{
+    let command = over_either(
+        alloc,
+        "explain",
+        help::EXPLAIN_ABOUT,
+        help::EXPLAIN_LONG_ABOUT,
+    )?;
+    with_search(alloc, command)
+}
+
 // A subcommand that looks for kernels.
 fn search<'a>(
     alloc: Global,
@@ -134,10 +171,30 @@ fn plain<'a>(alloc: Global) -> Result<Command<'a>, AllocError>
 {
     bare(alloc, "plain", help::PLAIN_ABOUT, help::PLAIN_LONG_ABOUT)
         .arg(loops(alloc))?
-        .arg(trip(alloc))
+        .arg(trip(alloc))?
+        .arg(workers(alloc))
 }
 
-// A subcommand with the options of the search for kernels.
+// The subcommand `solve`.
+fn solve<'a>(alloc: Global) -> Result<Command<'a>, AllocError>
+    ensures app { IfOk result (λ c. app_of c ≡ solve_line) }
+    ensures local { IfOk result (λ c. (out-Command c).has_globals ≡ false) }
+{
+    let command = bare(alloc, "solve", help::SOLVE_ABOUT, help::SOLVE_LONG_ABOUT);
+    with_search(alloc, command.arg(problems(alloc))?)
+}
+
+// The subcommand `check`.
+fn check<'a>(alloc: Global) -> Result<Command<'a>, AllocError>
+    ensures app { IfOk result (λ c. app_of c ≡ check_line) }
+    ensures local { IfOk result (λ c. (out-Command c).has_globals ≡ false) }
+{
+    bare(alloc, "check", help::CHECK_ABOUT, help::CHECK_LONG_ABOUT)
+        .arg(problems(alloc))?
+        .arg(solutions(alloc))
+}
+
+// A subcommand with the options of a search.
 fn with_search<'a>(alloc: Global, command: Command<'a>) -> Result<Command<'a>, AllocError>
     ensures app { IfOk result (λ c. app_of c ≡ with_search (app_of command.entry)) }
     ensures local { IfOk result (λ c. (out-Command c).has_globals ≡ (out-Command command.entry).has_globals) }
@@ -163,6 +220,45 @@ fn loops<'a>(alloc: Global) -> Arg<'a>
     ensures local { result.global ≡ false }
 {
     path(alloc, "loops", "LOOPS", help::LOOPS)
+}
+
+// The path of the machine's file, or that of the problems' where no other is given.
+fn machine_or_problems<'a>(alloc: Global) -> Arg<'a>
+    ensures rule { rule_of result ≡ path_rule (codes "machine") }
+    ensures local { result.global ≡ false }
+{
+    path(
+        alloc,
+        "machine",
+        "MACHINE_OR_PROBLEMS",
+        help::MACHINE_OR_PROBLEMS,
+    )
+}
+
+// The path of the loops' file, which may be left out.
+fn spare_loops<'a>(alloc: Global) -> Arg<'a>
+    ensures rule { rule_of result ≡ record (new_rule (codes "loops")) { value_names = 1 } }
+    ensures local { result.global ≡ false }
+{
+    Arg::new(alloc, "loops")
+        .value_name("LOOPS")
+        .help(help::SPARE_LOOPS)
+}
+
+// The path of the problems' file.
+fn problems<'a>(alloc: Global) -> Arg<'a>
+    ensures rule { rule_of result ≡ path_rule (codes "problems") }
+    ensures local { result.global ≡ false }
+{
+    path(alloc, "problems", "PROBLEMS", help::PROBLEMS)
+}
+
+// The path of the solutions' file.
+fn solutions<'a>(alloc: Global) -> Arg<'a>
+    ensures rule { rule_of result ≡ path_rule (codes "solutions") }
+    ensures local { result.global ≡ false }
+{
+    path(alloc, "solutions", "SOLUTIONS", help::SOLUTIONS)
 }
 
 // A path that has to be given.

@@ -1,13 +1,14 @@
 //! What the subcommand of a line was given, as a command.
 
-ghost use Rattle.std.specs.Prelude.{◌≡◌, ◌<◌, ◌^◌, ℕ, codes, IfOk, IfSome, IfNone};
-ghost use Rattle.clap.specs.Words.{first_of, found_of, rows_of, subcommand_rows_of};
-ghost use Rattle.command_line.specs.Lines.{Says, SaysTrip, SaysNumber, SaySettings, Means, MeansNamed, IsWorkGiven, IsTaskGiven, IsSearchGiven};
+ghost use Rattle.std.specs.Prelude.{◌≡◌, ◌≢◌, ◌<◌, ◌^◌, ℕ, codes, None, IfOk, IfSome, IfNone};
+ghost use Rattle.clap.specs.Words.{Text, first_of, found_of, rows_of, subcommand_rows_of};
+ghost use Rattle.command_line.specs.Lines.{Says, SaysTrip, SaysWorkers, SaysNumber, SaySettings, Means, MeansNamed, AreLoopsGiven, AreProblemsGiven, IsReportGiven, IsWorkGiven, IsTaskGiven, IsSearchGiven};
 ghost use Rattle.settings.specs.Settings.{SettingsData};
 
-use crate::command::{Command, Search, Task, Work};
+use crate::command::{Command, Report, Search, Task, Work};
 use crate::trip::Trip;
 use clap::ArgMatches;
+use machine_data::limits::MAX_WORKERS;
 use settings::Settings;
 use std::alloc::{AllocError, Global};
 
@@ -30,11 +31,104 @@ fn named(alloc: Global, name: &str, values: &ArgMatches<'_>) -> Result<Option<Co
     ensures meant { IfOk result (λ found. IfSome found (λ c. MeansNamed c name.now (rows_of (found_of values.now)))) }
     ensures none { IfOk result (λ found. IfNone found ((c : Command) → ¬ MeansNamed c name.now (rows_of (found_of values.now)))) }
 {
+    match name {
+        "solve" => solve_given(alloc, values),
+        "check" => check_given(alloc, values),
+        _ => other_given(alloc, name, values),
+    }
+}
+
+// The command of a subcommand of another name.
+fn other_given(
+    alloc: Global,
+    name: &str,
+    values: &ArgMatches<'_>,
+) -> Result<Option<Command>, AllocError>
+    ensures meant { IfOk result (λ found. IfSome found (λ c. MeansNamed c name.now (rows_of (found_of values.now)))) }
+    ensures none { name.now ≢ codes "solve" → name.now ≢ codes "check" → IfOk result (λ found. IfNone found ((c : Command) → ¬ MeansNamed c name.now (rows_of (found_of values.now)))) }
+{
+    match values.get_str("loops") {
+        Some(_) => loops_given(alloc, name, values),
+        None => problems_given(alloc, name, values),
+    }
+}
+
+// The command of a subcommand of this name that takes problems alone, where no loops are given.
+fn problems_given(
+    alloc: Global,
+    name: &str,
+    values: &ArgMatches<'_>,
+) -> Result<Option<Command>, AllocError>
+    ensures meant { first_of (codes "loops") (rows_of (found_of values.now)) ≡ None → IfOk result (λ found. IfSome found (λ c. MeansNamed c name.now (rows_of (found_of values.now)))) }
+    ensures none { IfOk result (λ found. IfNone found ((path : Text) (told : Report) → ¬ AreProblemsGiven path told name.now (rows_of (found_of values.now)))) }
+{
+    match (values.get_str("machine"), report_given(name, values)) {
+        (Some(problems), Some(told)) => Ok(Some(Command::Problems {
+            problems: String::from_str(alloc, problems)?,
+            told,
+        })),
+        _ => Ok(None),
+    }
+}
+
+// What is told of problems by the subcommand of this name.
+fn report_given(name: &str, values: &ArgMatches<'_>) -> Option<Report>
+    ensures meant { IfSome result (λ told. IsReportGiven told name.now (rows_of (found_of values.now))) }
+    ensures none { IfNone result ((told : Report) → ¬ IsReportGiven told name.now (rows_of (found_of values.now))) }
+{
+    match name {
+        "edges" => Some(Report::Edges),
+        "dot" => Some(Report::Dot),
+        "explain" => match settings_given(values) {
+            Some(settings) => Some(Report::Explain(settings)),
+            None => None,
+        },
+        _ => None,
+    }
+}
+
+// The command `solve`, where it was given what it needs.
+fn solve_given(alloc: Global, values: &ArgMatches<'_>) -> Result<Option<Command>, AllocError>
+    ensures meant { IfOk result (λ found. IfSome found (λ c. MeansNamed c (codes "solve") (rows_of (found_of values.now)))) }
+    ensures none { IfOk result (λ found. IfNone found ((c : Command) → ¬ MeansNamed c (codes "solve") (rows_of (found_of values.now)))) }
+{
+    match (values.get_str("problems"), settings_given(values)) {
+        (Some(problems), Some(settings)) => Ok(Some(Command::Solve {
+            problems: String::from_str(alloc, problems)?,
+            settings,
+        })),
+        _ => Ok(None),
+    }
+}
+
+// The command `check`, where it was given both paths.
+fn check_given(alloc: Global, values: &ArgMatches<'_>) -> Result<Option<Command>, AllocError>
+    ensures meant { IfOk result (λ found. IfSome found (λ c. MeansNamed c (codes "check") (rows_of (found_of values.now)))) }
+    ensures none { IfOk result (λ found. IfNone found ((c : Command) → ¬ MeansNamed c (codes "check") (rows_of (found_of values.now)))) }
+{
+    match (values.get_str("problems"), values.get_str("solutions")) {
+        (Some(problems), Some(solutions)) => Ok(Some(Command::Check {
+            problems: String::from_str(alloc, problems)?,
+            solutions: String::from_str(alloc, solutions)?,
+        })),
+        _ => Ok(None),
+    }
+}
+
+// The command of a subcommand of this name that takes loops.
+fn loops_given(
+    alloc: Global,
+    name: &str,
+    values: &ArgMatches<'_>,
+) -> Result<Option<Command>, AllocError>
+    ensures meant { IfOk result (λ found. IfSome found (λ c. MeansNamed c name.now (rows_of (found_of values.now)))) }
+    ensures none { IfOk result (λ found. IfNone found ((path : Text) (work : Work) → ¬ AreLoopsGiven path work name.now (rows_of (found_of values.now)))) }
+{
     let Some(work) = work_given(alloc, name, values)? else {
         return Ok(None);
     };
     match values.get_str("loops") {
-        Some(loops) => Ok(Some(Command {
+        Some(loops) => Ok(Some(Command::Loops {
             loops: String::from_str(alloc, loops)?,
             work,
         })),
@@ -52,10 +146,7 @@ fn work_given(
     ensures none { IfOk result (λ found. IfNone found ((w : Work) → ¬ IsWorkGiven w name.now (rows_of (found_of values.now)))) }
 {
     if name == "plain" {
-        return match trip_given(values) {
-            Some(trip) => Ok(Some(Work::Plain(trip))),
-            None => Ok(None),
-        };
+        return Ok(plain_given(values));
     }
     match (values.get_str("machine"), task_given(name, values)) {
         (Some(machine), Some(task)) => Ok(Some(Work::OnMachine {
@@ -63,6 +154,17 @@ fn work_given(
             task,
         })),
         _ => Ok(None),
+    }
+}
+
+// A plain run, where it was given what it needs.
+fn plain_given(values: &ArgMatches<'_>) -> Option<Work>
+    ensures meant { IfSome result (λ w. IsWorkGiven w (codes "plain") (rows_of (found_of values.now))) }
+    ensures none { IfNone result ((w : Work) → ¬ IsWorkGiven w (codes "plain") (rows_of (found_of values.now))) }
+{
+    match (trip_given(values), workers_given(values)) {
+        (Some(trip), Some(workers)) => Some(Work::Plain { trip, workers }),
+        _ => None,
     }
 }
 
@@ -109,6 +211,19 @@ fn settings_given(values: &ArgMatches<'_>) -> Option<Settings>
     let workers = number_given(values, "workers")?;
     let cut = number_given(values, "cut")?;
     Settings::new(ratio, ceiling, workers as usize, cut).ok()
+}
+
+// The number of workers that its option says.
+fn workers_given(values: &ArgMatches<'_>) -> Option<usize>
+    ensures says { IfSome result (λ workers. SaysWorkers (first_of (codes "workers") (rows_of (found_of values.now))) workers) }
+    ensures none { IfNone result ((workers : ℕ) → ¬ SaysWorkers (first_of (codes "workers") (rows_of (found_of values.now))) workers) }
+{
+    let workers = number_given(values, "workers")? as usize;
+    if 1 <= workers && workers <= MAX_WORKERS {
+        Some(workers)
+    } else {
+        None
+    }
 }
 
 // The number that an option says.

@@ -153,6 +153,3 @@ impl<R: Print> Output for StandardOutput<'_, R> {
         self.faults
     }
 }
-
-#[cfg(test)]
-mod tests;

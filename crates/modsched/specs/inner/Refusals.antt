@@ -2,12 +2,14 @@
 use Rattle.std.specs.Prelude.{◌≡◌}
 use Rattle.endings.specs.Statuses.{status_number}
 use Rattle.endings.specs.declared.status.Status.{Status}
-use Rattle.endings.specs.declared.status.Status.TheVariants.{Machine, Loops, NoTable, OutOfMemory}
+use Rattle.endings.specs.declared.status.Status.TheVariants.{Machine, Loops, NoTable, Problems, Solutions, OutOfMemory}
 
 -- it tells of a text or of memory, and want of memory has one status
 abbrev pub IsRefusal : Status → Type 0
 IsRefusal (Machine fault) = status_number (Machine fault) ≡ 4
 IsRefusal (Loops fault) = status_number (Loops fault) ≡ 5
 IsRefusal (NoTable name opcode) = Unit {0}
+IsRefusal (Problems fault) = status_number (Problems fault) ≡ 4
+IsRefusal (Solutions fault) = status_number (Solutions fault) ≡ 5
 IsRefusal OutOfMemory = Unit {0}
 IsRefusal status = ⊥

@@ -10,8 +10,9 @@ use command_line::Trip;
 use file_faults::FileFault;
 use loops::Loop;
 use machine::Machine;
-use printouts::{Printout, document_printout, listing_printout, run_printout};
+use printouts::{Printout, document_printout, listing_printout};
 use settings::Settings;
+use side_by_side::run_text_on;
 use std::alloc::Global;
 use std::thread::Threads;
 use workers::{OpenGate, pipeline_on};
@@ -59,5 +60,12 @@ pub(crate) fn run_text<R: Threads + Sync>(
     ensures { AnswersOn (IsRunText trip settings.now.ratio settings.now.ceiling machine.now loops.items) (first_lacking machine.now loops.items) result }
 {
     let (prepared, listing) = pipeline_on(rt, alloc, machine, loops, settings, &OpenGate)?;
-    Ok(run_printout(alloc, prepared.as_slice(), &listing, trip)?)
+    Ok(run_text_on(
+        rt,
+        alloc,
+        prepared.as_slice(),
+        &listing,
+        trip,
+        settings.workers(),
+    )?)
 }

@@ -4,6 +4,7 @@ ghost use Rattle.std.specs.Prelude.{◌≡◌, ◌≤◌, ◌++◌, IfOk, OnOk, 
 ghost use Rattle.std.specs.List.{AllZip, flat_map, zip};
 ghost use Rattle.ims.specs.Problems.{ProblemData};
 ghost use Rattle.candidates.specs.declared.listings.Row as row;
+ghost use Rattle.candidates.specs.Choices.{IsChoice};
 ghost use Rattle.candidates.specs.Listings.{IsRow};
 ghost use Rattle.candidates.specs.Texts.{counts_line, row_text};
 ghost use Rattle.one_thread.specs.Files.{ListsProblems};
@@ -67,6 +68,27 @@ fn push_rows(
     Ok(())
 }
 
+/// Appends what `run` writes of a prepared loop with its row in a listing: the lines of its kernel's run, or its line of
+/// the listing. The ceiling, 0 to 255, is that of the listing: how many intervals above the least one were tried.
+///
+/// # Errors
+/// Memory was refused. The text is left with a part of that.
+pub fn push_choice(
+    alloc: Global,
+    text: &mut Vec<u8>,
+    prepared: &Prepared,
+    ceiling: u64,
+    listed: &Row,
+    trip: Trip,
+) -> Result<(), AllocError>
+    requires ceiling { ceiling ≤ 255 }
+    requires row { IsRow listed.now }
+    requires choice { IsChoice prepared.now listed.now.choice }
+    ensures { OnOk result (text.new.items ≡ text.old.items ++ choice_lines trip ceiling prepared.now.loop listed.now listed.now.choice) }
+{
+    push_row(alloc, text, prepared.innermost(), ceiling, listed, trip)
+}
+
 /// Appends what is told of a loop.
 fn push_row(
     alloc: Global,
@@ -115,7 +137,10 @@ fn push_failed(alloc: Global, text: &mut Vec<u8>, ceiling: u64, row: &Row) -> Re
 }
 
 /// Appends the last line, with how many loops have a kernel and how many have none.
-fn push_counts(alloc: Global, text: &mut Vec<u8>, rows: &[Row]) -> Result<(), AllocError>
+///
+/// # Errors
+/// Memory was refused. The text is left with a part of that.
+pub fn push_counts(alloc: Global, text: &mut Vec<u8>, rows: &[Row]) -> Result<(), AllocError>
     ensures { OnOk result (text.new.items ≡ text.old.items ++ counts_line rows.now) }
 {
     let mut line = String::new(alloc);

@@ -36,7 +36,7 @@ pub fn document_printout(alloc: Global, listing: &Listing) -> Result<Printout, O
 }
 
 /// Whether every loop has a kernel.
-pub(crate) fn are_met(rows: &[Row]) -> bool
+pub fn are_met(rows: &[Row]) -> bool
     ensures { result ≡ are_met rows.now }
 {
     rows.iter().all(|row| row.choice.is_met())

@@ -38,8 +38,11 @@ fn push_loops(
     Ok(())
 }
 
-/// Appends the lines of the plain run of a loop.
-fn push_plain(
+/// Appends what `plain` writes of a loop: the lines of its plain run.
+///
+/// # Errors
+/// Memory was refused. The text is left with a part of that.
+pub fn push_plain(
     alloc: Global,
     text: &mut Vec<u8>,
     innermost: &Loop,

@@ -24,7 +24,10 @@ pub(crate) fn push_signed(text: &mut Vec<u8>, number: i64) -> Result<(), AllocEr
 }
 
 /// Appends the last line, with the number of loops.
-pub(crate) fn push_last(text: &mut Vec<u8>, loops: u64) -> Result<(), AllocError>
+///
+/// # Errors
+/// Memory was refused. The text is left with a part of that.
+pub fn push_last(text: &mut Vec<u8>, loops: u64) -> Result<(), AllocError>
     ensures ok { OnOk result (text.new.items ≡ text.old.items ++ last_line loops) }
 {
     text.extend_from_slice(b"loops ")?;

@@ -3,7 +3,7 @@
 ghost use Rattle.std.specs.Prelude.{◌≡◌, ◌<◌, ◌≤◌, length, replicate, None, IfOk};
 ghost use Rattle.modulo.specs.Problems.{budget_of};
 ghost use Rattle.problems.specs.Drafts.{plain_values};
-ghost use Rattle.solutions.specs.inner.Trying.{GivesOrFails};
+ghost use Rattle.solutions.specs.Trying.{GivesOrFails};
 ghost use Rattle.solutions.specs.Outcomes.{IsPlacedAs, first_of, last_of};
 ghost use Rattle.solutions.specs.Solutions.{files_of};
 
@@ -21,7 +21,7 @@ use std::marker::Model;
 /// Tries intervals of a problem one after another, each over the reservation table of the one before it, so that
 /// alternatives are prepared once. Contracts see the problem.
 #[derive(Drop)]
-pub(crate) struct Trials<'a> {
+pub struct Trials<'a> {
     problem: &'a Problem,
     /// The values as registers take them.
     values: Vec<registers::Value>,
@@ -46,8 +46,11 @@ impl<'a> Model for Trials<'a> {
 }
 
 impl<'a> Trials<'a> {
-    /// No interval is tried yet.
-    pub(crate) fn of(alloc: Global, problem: &'a Problem) -> Result<Trials<'a>, OutOfMemory>
+    /// No interval of this problem is tried yet.
+    ///
+    /// # Errors
+    /// Memory ran out.
+    pub fn of(alloc: Global, problem: &'a Problem) -> Result<Trials<'a>, OutOfMemory>
         ensures { IfOk result (λ trials. trials ≡ problem.now) }
     {
         let values = plain(alloc, &problem.draft().values)?;
@@ -60,12 +63,12 @@ impl<'a> Trials<'a> {
         })
     }
 
-    /// What the problem gives at an interval.
-    pub(crate) fn try_interval(
-        &mut self,
-        alloc: Global,
-        ii: u64,
-    ) -> Result<Outcome<'a>, OutOfMemory>
+    /// What the problem gives at an interval, in cycles, from the greater lower bound up to the last one that its ceiling allows: a
+    /// solution, or the cause of its failure.
+    ///
+    /// # Errors
+    /// Memory ran out. This says nothing of the problem.
+    pub fn try_interval(&mut self, alloc: Global, ii: u64) -> Result<Outcome<'a>, OutOfMemory>
         requires from_first { first_of self.old ≤ ii }
         requires to_last { ii ≤ last_of self.old }
         ensures same { self.new ≡ self.old }

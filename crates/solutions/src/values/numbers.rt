@@ -42,9 +42,11 @@ fn fill_file(
     let File::Rotating(registers) = kind else {
         return Ok(None);
     };
-    let mut held = [Lifetime::default(); MAX_VALUES];
-    let mut least = [0; MAX_VALUES];
-    let count = gather(files, file, lives, &mut held);
+    let mut lives_room = vec![in alloc; Lifetime::default(); files.len()]?;
+    let held = lives_room.as_mut_slice();
+    let mut numbers_room = vec![in alloc; 0; files.len()]?;
+    let least = numbers_room.as_mut_slice();
+    let count = gather(files, file, lives, held);
     match fill_least(alloc, ii, registers, &held[..count], &mut least[..count])? {
         Some(place) => Ok(Some(value_at(files, file, place))),
         None => {

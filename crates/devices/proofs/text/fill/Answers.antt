@@ -15,9 +15,9 @@ loop-filled-preserved g c =
     }
 
 pub returns-after-loop-filled-clause-read : goal.returns-after-loop-filled-clause-read
-returns-after-loop-filled-clause-read g c = HoldsText-full _ _ _ _ c.loop-filled.invariant.read (search rules)
+returns-after-loop-filled-clause-read g c = HoldsText-full _ _ _ _ _ c.loop-filled.invariant.read (search rules)
 
 pub returns-then-n-eq0-clause-read : goal.returns-then-n-eq0-clause-read
 returns-then-n-eq0-clause-read g c =
     let room : c.loop-filled.filled < length c.read_more.new.buffer.items = search rules in
-    HoldsText-end _ _ _ _ _ _ c.in_ok-n.n c.loop-filled-test.true room c.in_ok-n.ensures.kept c.loop-filled.invariant.read c.in_ok-n.ensures.reads (search rules)
+    HoldsText-end _ _ _ _ _ _ _ c.in_ok-n.n c.loop-filled-test.true room c.in_ok-n.ensures.kept c.loop-filled.invariant.read c.in_ok-n.ensures.reads (search rules)

@@ -1,20 +1,14 @@
-use Rattle.devices.specs.declared.text.ReadTextError.{ReadTextError}
-use Rattle.std.proofs.Common.{rules, ap, Err, ◌≡◌, ◌∙◌, ◌≤◌}
 use Rattle.devices.specs.Devices.{most_read}
-use Rattle.devices.proofs.TextLemmas.{IfSome-from, most_read_is, fault_exactly}
 use Rattle.devices.proofs.text.read_text.Goals as goal
 
 pub returns-clause-text : goal.returns-clause-text
-returns-clause-text g c = IfSome-from _ _ (λ bytes h. c.truncate.ensures.items ∙ c.in_ok-filled.ensures.read.text bytes h)
+unfolding most_read
+returns-clause-text g c = c.read_text_of.ensures.text
 
 pub returns-clause-rest : goal.returns-clause-rest
-returns-clause-rest g c = IfSome-from _ _ c.in_ok-filled.ensures.read.rest
+unfolding most_read
+returns-clause-rest g c = c.read_text_of.ensures.rest
 
 pub returns-clause-bound : goal.returns-clause-bound
-returns-clause-bound g c = let most : most_read ≡ 1048577 = most_read_is in let within : c.in_ok-filled.filled ≤ 1048577 = search rules in search rules
-
-pub returns-in_err-filled-clause-fault : goal.returns-in_err-filled-clause-fault
-returns-in_err-filled-clause-fault g c =
-    fault_exactly _ c.in_err-filled.field-0.0 _ _ c.from_residual-in_err-filled.ensures.1
-    (λ e. c.in_err-filled.ensures.fault (ap (λ (x : ReadTextError). Err x) e))
-    (λ e. c.in_err-filled.ensures.memory (ap (λ (x : ReadTextError). Err x) e))
+unfolding most_read
+returns-clause-bound g c = c.read_text_of.ensures.bound

@@ -25,7 +25,7 @@ loop-rest-preserved c =
     }
 
 pub file_of-requires : goal.file_of-requires
-file_of-requires c = sound-file (tables_seen c.loop-rest.tables) c.loop-rest.invariant.read.sofar.sound
+file_of-requires c = sound-file (tables_seen c.loop-rest.tables) c.loop-rest.invariant.read.sofar.sound c.loop-rest.invariant.read.sofar.faultless
 
 pub returns-clause-exact : goal.returns-clause-exact
 returns-clause-exact c =

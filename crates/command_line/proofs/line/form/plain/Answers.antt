@@ -7,4 +7,5 @@ pub returns-clause-app : goal.returns-clause-app
 unfolding plain_line
 returns-clause-app c =
     let first = adds _ _ _ _ _ c.in_ok-arg.ensures c.loops.ensures.local c.bare.ensures.app c.loops.ensures.rule in
-    IfOk-weaker c.arg-2.result _ _ (λ r h. adds _ _ _ _ _ h c.trip.ensures.local first c.trip.ensures.rule) c.arg-2.ensures
+    let second = adds _ _ _ _ _ c.in_ok-arg-2.ensures c.trip.ensures.local first c.trip.ensures.rule in
+    IfOk-weaker c.arg-3.result _ _ (λ r h. adds _ _ _ _ _ h c.workers.ensures.local second c.workers.ensures.rule) c.arg-3.ensures

@@ -6,6 +6,6 @@ use Rattle.command_line.proofs.line.form.with_reports.Goals as goal
 pub returns : goal.returns
 returns c =
     let one = adds_subcommand _ _ _ _ _ c.in_ok-command.ensures c.over_files-made.ensures.local refl c.over_files-made.ensures.app in
-    let two = adds_subcommand _ _ _ _ _ c.in_ok-command-2.ensures c.over_files-made-2.ensures.local one c.over_files-made-2.ensures.app in
-    let three = adds_subcommand _ _ _ _ _ c.in_ok-command-3.ensures c.over_files-made-3.ensures.local two c.over_files-made-3.ensures.app in
+    let two = adds_subcommand _ _ _ _ _ c.in_ok-command-2.ensures c.over_either-made.ensures.local one c.over_either-made.ensures.app in
+    let three = adds_subcommand _ _ _ _ _ c.in_ok-command-3.ensures c.over_either-made-2.ensures.local two c.over_either-made-2.ensures.app in
     IfOk-weaker c.add-4.result _ _ (λ r h. adds_subcommand _ _ _ _ _ h c.plain.ensures.local three c.plain.ensures.app) c.add-4.ensures

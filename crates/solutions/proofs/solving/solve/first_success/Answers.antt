@@ -1,7 +1,7 @@
 use Rattle.std.proofs.Common.{◌≡◌, ◌+◌, ◌≤◌, ap, ◌∙◌, subst, arith}
 use Rattle.modulo.specs.Problems.{ProblemData as SchedulingData, mii_of}
 use Rattle.problems.specs.Problems.{ProblemData}
-use Rattle.solutions.specs.inner.Trying.{GivesOrFails}
+use Rattle.solutions.specs.Trying.{GivesOrFails}
 use Rattle.solutions.specs.Outcomes.{FailsBy, Gives, first_of}
 use Rattle.solutions.proofs.Rightness.{given-is_right}
 use Rattle.solutions.proofs.Rising.{met_here, risen_on, unmet_here}

@@ -1,0 +1,10 @@
+pub mod Among
+pub mod Cuts
+pub mod Fitting
+pub mod Founds
+pub mod Judging
+pub mod Lints
+pub mod Passing
+pub mod Signs
+pub mod Passed
+pub mod Tables

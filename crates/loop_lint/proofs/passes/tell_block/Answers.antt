@@ -1,0 +1,26 @@
+use Rattle.std.proofs.Common.{[], arith}
+use Rattle.loop_reader.specs.Meaning.{forms_of, whole}
+use Rattle.loop_lint.proofs.Passing.{told_first, told_next}
+use Rattle.loop_lint.proofs.passes.tell_block.Goals as goal
+
+pub loop-rest-init : goal.loop-rest-init
+loop-rest-init c =
+    let t = c.new-before.ensures in
+    record {
+      told = told_first c.args.number c.args.text.now c.args.faults.now.items c.new-before.result t;
+      room = omega (arith, t.arrays, t.params, t.statements);
+      numbers = omega arith;
+      past = omega arith;
+    }
+
+pub loop-rest-preserved : goal.loop-rest-preserved
+loop-rest-preserved c =
+    let v = c.loop-rest.invariant in
+    let line = c.in_ok-ends.ensures in
+    record {
+      told = told_next c.args.number c.args.text.now (whole [] (forms_of c.args.text.now)) c.args.faults.now.items c.loop-rest.at c.loop-rest.rest.now c.next_line.result.0.now c.next_line.result.1.now c.loop-rest.before c.tell_line.new.before c.loop-rest.faults.items c.tell_line.new.faults.items c.in_ok-ends.ends
+          c.next_line.ensures.lines c.if-ends.false (λ lines is. line.told lines (whole [] (forms_of c.args.text.now)) is c.in_ok-block.ensures) v.told;
+      room = omega (arith, v.room, line.count, c.next_line.ensures.shorter);
+      numbers = omega (arith, v.numbers, c.next_line.ensures.shorter);
+      past = omega (arith, v.past);
+    }

@@ -1,0 +1,218 @@
+//! What lines of a block declare and give, by the names.
+
+ghost use Rattle.std.specs.Prelude.{◌≡◌, ◌+◌, ◌<◌, ◌≤◌, ◌^◌, ◌||◌, [], ℕ, List, OnOk, if◌then◌else◌};
+ghost use Rattle.machine_data.specs.Opcodes.{same_word};
+ghost use Rattle.loop_lines.specs.Forms as spec;
+ghost use Rattle.loop_lines.specs.Parsed.{form_seen};
+ghost use Rattle.loop_reader.specs.Meaning.{is_array, is_out, is_param, is_statement, stands};
+ghost use Rattle.loop_lint.specs.inner.Near.{one_if, IsNear, IsNearForm};
+ghost use Rattle.loop_lint.specs.inner.Tables.{covers, known_at, known_with, place_of, with_declared, with_init, with_out, IsTable};
+
+use loop_lines::Form;
+use std::alloc::{AllocError, Global};
+use std::collections::BTreeMap;
+
+/// How many numbers an initial value may be told: 0 to 16, and one too great.
+const NUMBERS: usize = 18;
+
+/// What a name stands for: an array, a parameter or the value of a statement, by its number from 0.
+#[derive(Clone, Copy)]
+pub(crate) enum Declared {
+    Array(usize),
+    Param(usize),
+    Value(usize),
+}
+
+/// What some lines of a block say of a name.
+#[derive(Clone, Copy)]
+pub(crate) struct Known {
+    /// By the first of them that declares it.
+    pub(crate) declared: Option<Declared>,
+    /// The numbers of its initial values, 0 to 16; the last flag is for those above.
+    pub(crate) inits: [bool; NUMBERS],
+    /// It has an `out`.
+    pub(crate) out: bool,
+}
+
+/// The flag of a number.
+pub(crate) fn place_of(number: Option<u8>) -> usize
+    requires { IsNear number }
+    ensures value { result ≡ place_of number }
+    ensures below { result < 18 }
+{
+    match number {
+        None => NUMBERS - 1,
+        Some(number) => number as usize,
+    }
+}
+
+impl Known {
+    /// Nothing.
+    pub(crate) const NOTHING: Known = Known {
+        declared: None,
+        inits: [false; NUMBERS],
+        out: false,
+    };
+
+    /// All initial values from 1 to a distance are there.
+    pub(crate) fn covers(&self, distance: u8) -> bool
+        requires { distance ≤ 16 }
+        ensures { result ≡ covers self.now.inits distance }
+    {
+        for before in 0..distance as usize {
+            if !self.inits[before + 1] {
+                return false;
+            }
+        }
+        true
+    }
+}
+
+/// What some lines of a block say, by names. They stand in a map by their order, so that no choice of names makes a
+/// look-up long.
+#[derive(Drop)]
+pub(crate) struct Table<'a> {
+    pub(crate) names: BTreeMap<&'a [u8], Known>,
+    pub(crate) arrays: usize,
+    pub(crate) params: usize,
+    pub(crate) statements: usize,
+    /// Some line is a statement.
+    pub(crate) statement: bool,
+    /// Some line is an `out`.
+    pub(crate) out: bool,
+}
+
+impl<'a> Table<'a> {
+    /// No lines. Nothing is allocated.
+    pub(crate) fn new(alloc: Global) -> Table<'a>
+        ensures { IsTable [] result }
+    {
+        Table {
+            names: BTreeMap::new(alloc),
+            arrays: 0,
+            params: 0,
+            statements: 0,
+            statement: false,
+            out: false,
+        }
+    }
+
+    /// What the lines say of a name.
+    pub(crate) fn get(&self, name: &[u8]) -> Known
+        ensures { result ≡ known_at self.now.names name.now }
+    {
+        look_up(&self.names, name)
+    }
+
+    /// The line may stand after these.
+    pub(crate) fn allows(&self, form: &Form<'_>) -> bool
+        ensures { (before : List spec.Form) → IsTable before self.now → result ≡ stands before (form_seen form.now) }
+    {
+        match form {
+            Form::Loop(_) | Form::Malformed => false,
+            Form::Array(_, _) | Form::Param(_, _) | Form::Init(_, _, _) => !self.statement,
+            Form::Statement(_) => !self.out,
+            Form::Out(_) => self.statement,
+            Form::End => true,
+        }
+    }
+
+    /// The lines and one more.
+    pub(crate) fn add(&mut self, form: &Form<'a>) -> Result<(), AllocError>
+        requires near { IsNearForm (form_seen form.now) }
+        requires room { self.old.arrays + self.old.params + self.old.statements + 1 < 2 ^ 64 }
+        ensures names { OnOk result ((q : List ℕ) → known_at self.new.names q ≡ known_with q self.old.arrays self.old.params self.old.statements (form_seen form.now) (known_at self.old.names q)) }
+        ensures arrays { OnOk result (self.new.arrays ≡ self.old.arrays + one_if (is_array (form_seen form.now))) }
+        ensures params { OnOk result (self.new.params ≡ self.old.params + one_if (is_param (form_seen form.now))) }
+        ensures statements { OnOk result (self.new.statements ≡ self.old.statements + one_if (is_statement (form_seen form.now))) }
+        ensures statement { OnOk result (self.new.statement ≡ (self.old.statement || is_statement (form_seen form.now))) }
+        ensures out { OnOk result (self.new.out ≡ (self.old.out || is_out (form_seen form.now))) }
+        ensures count { OnOk result (self.new.arrays + self.new.params + self.new.statements ≤ self.old.arrays + self.old.params + self.old.statements + 1) }
+    {
+        match form {
+            Form::Array(name, _) => {
+                declare(&mut self.names, *name, Declared::Array(self.arrays))?;
+                self.arrays += 1;
+            }
+            Form::Param(name, _) => {
+                declare(&mut self.names, *name, Declared::Param(self.params))?;
+                self.params += 1;
+            }
+            Form::Init(name, number, _) => give(&mut self.names, *name, *number)?,
+            Form::Statement(source) => {
+                if let Some(name) = source.name {
+                    declare(&mut self.names, name, Declared::Value(self.statements))?;
+                }
+                self.statements += 1;
+                self.statement = true;
+            }
+            Form::Out(name) => {
+                mark(&mut self.names, *name)?;
+                self.out = true;
+            }
+            Form::Loop(_) | Form::End | Form::Malformed => {}
+        }
+        Ok(())
+    }
+}
+
+/// What is known of a name.
+fn look_up<'a>(names: &BTreeMap<&'a [u8], Known>, name: &[u8]) -> Known
+    ensures { result ≡ known_at names.now name.now }
+{
+    match names.get(name) {
+        None => Known::NOTHING,
+        Some(known) => *known,
+    }
+}
+
+/// Puts down what is known of a name.
+fn put<'a>(
+    names: &mut BTreeMap<&'a [u8], Known>,
+    name: &'a [u8],
+    known: Known,
+) -> Result<(), AllocError>
+    ensures { OnOk result ((q : List ℕ) → known_at names.new q ≡ (if same_word q name.now then known else known_at names.old q)) }
+{
+    names.insert(name, known)?;
+    Ok(())
+}
+
+/// A line declares a name as this.
+fn declare<'a>(
+    names: &mut BTreeMap<&'a [u8], Known>,
+    name: &'a [u8],
+    what: Declared,
+) -> Result<(), AllocError>
+    ensures { OnOk result ((q : List ℕ) → known_at names.new q ≡ (if same_word q name.now then with_declared what (known_at names.old q) else known_at names.old q)) }
+{
+    let mut known = look_up(names, name);
+    known.declared = known.declared.or(Some(what));
+    put(names, name, known)?;
+    Ok(())
+}
+
+/// A line gives an initial value to a name.
+fn give<'a>(
+    names: &mut BTreeMap<&'a [u8], Known>,
+    name: &'a [u8],
+    number: Option<u8>,
+) -> Result<(), AllocError>
+    requires { IsNear number }
+    ensures { OnOk result ((q : List ℕ) → known_at names.new q ≡ (if same_word q name.now then with_init number (known_at names.old q) else known_at names.old q)) }
+{
+    let mut known = look_up(names, name);
+    known.inits[place_of(number)] = true;
+    put(names, name, known)?;
+    Ok(())
+}
+
+/// A line is an `out` of a name.
+fn mark<'a>(names: &mut BTreeMap<&'a [u8], Known>, name: &'a [u8]) -> Result<(), AllocError>
+    ensures { OnOk result ((q : List ℕ) → known_at names.new q ≡ (if same_word q name.now then with_out (known_at names.old q) else known_at names.old q)) }
+{
+    let mut known = look_up(names, name);
+    known.out = true;
+    put(names, name, known)?;
+    Ok(())
+}

@@ -1,0 +1,20 @@
+//! All faults of a loop text, each with the word that it is about. The reader of loop texts tells the first alone.
+#![tactic(auto)]
+
+mod block;
+mod fault;
+mod fits;
+mod judge;
+mod laws;
+mod lint;
+mod misfit;
+mod number;
+mod passes;
+mod scan;
+mod spots;
+mod tell;
+mod uses;
+
+pub use fault::LintFault;
+pub use laws::words_are_words;
+pub use lint::lint_loops;

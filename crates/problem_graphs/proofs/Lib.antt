@@ -1,0 +1,4 @@
+pub mod Drawn
+pub mod Loops
+pub mod Quotes
+pub mod Sizes

@@ -1,0 +1,21 @@
+use Rattle.std.proofs.Common.{Bool, List, pos, ◌++◌, ap, ◌∙◌, subst}
+use Rattle.graph.specs.Dependences.{EdgeData}
+use Rattle.problems.specs.declared.draft.Order.{Order}
+use Rattle.problems.specs.Drafts.{order_edge}
+use Rattle.problem_graphs.specs.declared.whys.Why.TheVariants as why
+use Rattle.problem_graphs.specs.Dot.{IsBold, arrow_line}
+use Rattle.problem_graphs.proofs.Drawn.{text-next}
+use Rattle.problem_graphs.proofs.dot.push_orders.Goals as goal
+
+pub loop-order-preserved : goal.loop-order-preserved
+loop-order-preserved c =
+    let draft = c.args.draft.now in
+    let circuit = c.args.circuit.now in
+    let xs : List Order = c.as_slice-order-items.result.now in
+    let i = c.loop-order.order-index in
+    let d : Order = record { from = 0; to = 0; delay = pos 0; distance = 0 } in
+    let bold = c.is_bold-bold.result in
+    text-next (λ (o : Order) (b : Bool). IsBold circuit (order_edge o) b) (λ (o : Order) (b : Bool). arrow_line draft (order_edge o) why.Order b) xs draft.orders.items i d
+    c.args.text.now.items c.loop-order.text.items c.push_arrow.new.text.items c.loop-order.invariant.0 bold c.as_slice-order-items.ensures.value c.loop-order-test.true
+    c.loop-order.invariant.1 c.loop-order.invariant.2 (subst (λ (e : EdgeData). IsBold circuit e bold) c.order_edge-edge.ensures c.is_bold-bold.ensures)
+    (c.in_ok-push_arrow.ensures.ok ∙ ap (λ (e : EdgeData). c.loop-order.text.items ++ arrow_line draft e why.Order bold) c.order_edge-edge.ensures)

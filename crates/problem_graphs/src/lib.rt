@@ -1,0 +1,19 @@
+//! The operations of a scheduling problem and what they wait for, as lines and as a graph in the language of Graphviz.
+#![tactic(auto)]
+
+mod demands;
+mod dot;
+mod edges;
+mod escapes;
+mod heads;
+mod laws;
+mod names;
+mod whys;
+
+pub use demands::read_edge;
+pub use dot::push_dot;
+pub use edges::{push_edge, push_edges};
+pub use heads::push_problem_line;
+pub use laws::names_are_read_back;
+pub use names::{push_op_name, push_unit_name};
+pub use whys::Why;

@@ -1,0 +1,79 @@
+-- Answers for texts from those of their parts.
+use Rattle.std.proofs.Common.{◌≡◌, ◌≢◌, ℕ, List, refl, sym, subst, ap, ◌∙◌}
+use Rattle.std.specs.Prelude.{Result, Ok, Err, ◌⊎◌}
+use Rattle.std.proofs.Common.{inl, inr}
+use Rattle.settings.specs.Settings.{SettingsData}
+use Rattle.problem_tables.specs.Data.{FileData}
+use Rattle.problem_tables.specs.declared.fault.Wrong.{Wrong as ProblemWrong}
+use Rattle.problem_tables.specs.declared.fault.Wrong.TheVariants as problem_wrong
+use Rattle.problem_reader.specs.Files.{file_in_text, out_of_memory, AnswersText as ProblemsAnswer}
+use Rattle.problem_reader.specs.declared.fault.TextFault.{TextFault}
+use Rattle.solution_reader.specs.Data.{SolutionData as TextSolution}
+use Rattle.solution_reader.specs.Meaning.{solutions_in_text, AnswersFault, AnswersText as SolutionsAnswer}
+use Rattle.solution_reader.specs.declared.fault.SolutionFault.{SolutionFault}
+use Rattle.solution_reader.specs.declared.fault.Wrong.{Wrong as SolutionWrong}
+use Rattle.solution_reader.specs.declared.fault.Wrong.TheVariants as solution_wrong
+use Rattle.problem_printouts.specs.declared.answers.Answers.{Answers}
+use Rattle.problem_printouts.specs.declared.fault.ProblemsFault.{ProblemsFault}
+use Rattle.problem_printouts.specs.declared.fault.ProblemsFault.TheVariants.{Problems, Solutions, Memory}
+use Rattle.problem_printouts.specs.Faults.{of_problems, of_problem_wrong, of_solutions, of_solution_wrong}
+use Rattle.problem_printouts.specs.Solving.{AnswersSolve, IsSolveText}
+use Rattle.problem_printouts.specs.Judging.{AnswersCheck, IsFaultOf}
+use Rattle.problem_printouts.specs.inner.Judged.{AnswersLists}
+use Rattle.problem_printouts.proofs.Strangers.{unknown-is-no-memory}
+
+-- the text of problems is refused
+
+-- this is so of what the fault is told as
+record Refuses (F : Result Answers ProblemsFault → Type 0) (text : List ℕ) : Type 0 where
+  pub memory : F (Err Memory)
+  pub problems : (fault : TextFault) → file_in_text text ≡ Err fault → fault.what ≢ problem_wrong.Memory → F (Err (Problems fault))
+
+is-fault : (text : List ℕ) (fault : TextFault) → (Err fault ≡ file_in_text text) ⊎ (fault ≡ out_of_memory) → fault.what ≢ problem_wrong.Memory → file_in_text text ≡ Err fault
+is-fault text fault (inl is) other = sym is
+is-fault text fault (inr is) other = absurd (other (ap (λ (f : TextFault). f.what) is))
+
+refused-at : (F : Result Answers ProblemsFault → Type 0) (text : List ℕ) (fault : TextFault) (what : ProblemWrong) → fault.what ≡ what → Refuses F text
+    → (Err fault ≡ file_in_text text) ⊎ (fault ≡ out_of_memory) → F (Err (of_problem_wrong what fault))
+refused-at F text fault problem_wrong.Memory is so a = so.memory
+refused-at F text fault what is so a =
+    let other : fault.what ≢ problem_wrong.Memory = λ bad. let never : what ≡ problem_wrong.Memory = sym is ∙ bad in cc in
+    so.problems fault (is-fault text fault a other) other
+
+pub solve_refused : (settings : SettingsData) (text : List ℕ) (fault : TextFault) → ProblemsAnswer (Err fault) (file_in_text text) → AnswersSolve settings text (Err (of_problems fault))
+solve_refused settings text fault a = refused-at (AnswersSolve settings text) text fault fault.what refl (record { memory = tt; problems = λ f is other. (is, other) }) a
+
+pub check_refused : (problems solutions : List ℕ) (fault : TextFault) → ProblemsAnswer (Err fault) (file_in_text problems) → AnswersCheck problems solutions (Err (of_problems fault))
+check_refused problems solutions fault a = refused-at (AnswersCheck problems solutions) problems fault fault.what refl (record { memory = tt; problems = λ f is other. (is, other) }) a
+
+-- the problems are solved
+
+pub solve_told : (settings : SettingsData) (text : List ℕ) (file : FileData) (told : Answers) → Ok file ≡ file_in_text text → IsSolveText file settings told → AnswersSolve settings text (Ok told)
+solve_told settings text file told is a = (file, sym is, a)
+
+-- the text of solutions is refused
+
+solutions-at : (problems solutions : List ℕ) (file : FileData) (fault : SolutionFault) (what : SolutionWrong) → fault.what ≡ what → Ok file ≡ file_in_text problems
+    → AnswersFault {A = List TextSolution} what fault (solutions_in_text solutions) → AnswersCheck problems solutions (Err (of_solution_wrong what fault))
+solutions-at problems solutions file fault solution_wrong.Memory is is_file a = tt
+solutions-at problems solutions file fault what is is_file a =
+    let other : fault.what ≢ solution_wrong.Memory = λ bad. let never : what ≡ solution_wrong.Memory = sym is ∙ bad in cc in
+    record { file = file; is_file = sym is_file; is_fault = subst (λ meaning. IsFaultOf file meaning fault) a refl; of_text = other }
+
+pub solutions_refused : (problems solutions : List ℕ) (file : FileData) (fault : SolutionFault) → Ok file ≡ file_in_text problems → SolutionsAnswer (Err fault) (solutions_in_text solutions)
+    → AnswersCheck problems solutions (Err (of_solutions fault))
+solutions_refused problems solutions file fault is_file a = solutions-at problems solutions file fault fault.what refl is_file a
+
+-- both mean something
+
+pub check_answered : (problems solutions : List ℕ) (file : FileData) (list : List TextSolution) (r : Result Answers ProblemsFault) → Ok file ≡ file_in_text problems → Ok list ≡ solutions_in_text solutions
+    → AnswersLists file list r → AnswersCheck problems solutions r
+check_answered problems solutions file list (Ok told) is_file is_list a = record { file = file; list = list; is_file = sym is_file; is_list = sym is_list; all_known = a.all_known; is_text = a.is_text }
+check_answered problems solutions file list (Err (Problems fault)) is_file is_list a = absurd a
+check_answered problems solutions file list (Err (Solutions fault)) is_file is_list a = record {
+  file = file;
+  is_file = sym is_file;
+  is_fault = subst (λ meaning. IsFaultOf file meaning fault) is_list a;
+  of_text = unknown-is-no-memory file list fault a;
+}
+check_answered problems solutions file list (Err Memory) is_file is_list a = tt

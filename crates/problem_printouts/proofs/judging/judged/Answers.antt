@@ -1,0 +1,20 @@
+use Rattle.std.specs.Prelude.{codes}
+use Rattle.std.proofs.Common.{subst, arith}
+use Rattle.problem_printouts.specs.Judging.{IsVerdict}
+use Rattle.problem_printouts.specs.inner.Sofar.{AreAnswered}
+use Rattle.problem_printouts.proofs.Answered.{few-met, told-ok}
+use Rattle.problem_printouts.proofs.judging.judged.Goals as goal
+
+pub of-requires : goal.of-requires
+of-requires c =
+    let all = c.problems.ensures in
+    let few = few-met (IsVerdict c.args.file.now c.args.list.now) c.args.file.now.problems c.new-text.result.items c.push_all.new.text.items c.in_ok-met.met c.in_ok-met.ensures in
+    omega (arith, all, few)
+
+pub returns : goal.returns
+returns c =
+    let is = IsVerdict c.args.file.now c.args.list.now in
+    let problems = c.args.file.now.problems in
+    let text = c.push_all.new.text.items in
+    let so = subst (λ old. AreAnswered is problems old text c.in_ok-met.met) c.new-text.ensures.items c.in_ok-met.ensures in
+    told-ok (codes "# problems ") is problems text c.problems.result c.in_ok-met.met so c.problems.ensures c.of.result c.of.ensures.text c.of.ensures.met c.of.ensures.failed

@@ -1,0 +1,29 @@
+//! The problems of a file, made of their drafts.
+
+ghost use Rattle.std.specs.Prelude.{◌<◌, length, IfOk};
+ghost use Rattle.problem_reader.specs.Files.{problem_at};
+ghost use Rattle.problem_printouts.specs.Problems.{IsProblemIn};
+
+use machine_data::OutOfMemory;
+use problem_reader::ProblemFile;
+use problems::{Problem, Refusal};
+use settings::Settings;
+use std::alloc::Global;
+
+/// The problem of a file with a number, from 0. No draft of a file is at fault.
+pub(crate) fn problem_in(
+    alloc: Global,
+    file: &ProblemFile,
+    number: usize,
+    settings: &Settings,
+) -> Result<Problem, OutOfMemory>
+    requires { number < length file.now.problems }
+    ensures { IfOk result (IsProblemIn file.now settings.now.ratio settings.now.ceiling (problem_at file.now number)) }
+{
+    let draft = file.draft(alloc, number)?;
+    match Problem::new(alloc, draft, settings) {
+        Ok(problem) => Ok(problem),
+        Err(Refusal::Memory(cause)) => Err(cause),
+        Err(Refusal::Fault(_)) => unreachable!(),
+    }
+}

@@ -1,0 +1,29 @@
+-- What holds the interval of a problem.
+use Rattle.std.specs.Prelude.{◌≡◌, ℕ, ◌-◌, ◌<◌, codes, List}
+use Rattle.modulo.specs.Problems.{mii_of}
+use Rattle.problems.specs.Problems.{ProblemData}
+use Rattle.solutions.specs.declared.solving.outcome.Cause.{Cause}
+use Rattle.solutions.specs.declared.solving.outcome.Cause.TheVariants.{Table, Budget, Stages, Registers}
+use Rattle.solutions.specs.Outcomes.{FailsBy}
+use Rattle.problem_reasons.specs.declared.hold.Hold.{Hold}
+use Rattle.problem_reasons.specs.declared.hold.Hold.TheVariants.{Units, Recurrences, Both, Failure}
+
+abbrev pub cause_word : Cause → List ℕ
+cause_word Table = codes "table"
+cause_word Budget = codes "budget"
+cause_word Stages = codes "stages"
+cause_word (Registers file value) = codes "registers"
+
+abbrev pub hold_word : Hold → List ℕ
+hold_word Units = codes "units"
+hold_word Recurrences = codes "recurrences"
+hold_word Both = codes "both"
+hold_word (Failure cause) = cause_word cause
+
+-- an interval that is the lower bound is held by the greater of the two bounds, or by both; one above it by the cause for which one
+-- cycle less gives no solution
+abbrev pub IsHold : ProblemData → ℕ → Hold → Type 0
+IsHold problem ii Units = (ii ≡ mii_of problem.scheduling) × (problem.scheduling.recurrences < problem.scheduling.resources)
+IsHold problem ii Recurrences = (ii ≡ mii_of problem.scheduling) × (problem.scheduling.resources < problem.scheduling.recurrences)
+IsHold problem ii Both = (ii ≡ mii_of problem.scheduling) × (problem.scheduling.resources ≡ problem.scheduling.recurrences)
+IsHold problem ii (Failure cause) = (mii_of problem.scheduling < ii) × FailsBy problem (ii - 1) cause

@@ -1,0 +1,67 @@
+//! What holds the interval of a problem.
+
+ghost use Rattle.std.specs.Prelude.{◌≡◌, ◌≤◌, ◌<◌, ◌-◌};
+ghost use Rattle.solutions.specs.Outcomes.{FailsBy, first_of};
+ghost use Rattle.problem_reasons.specs.Holds.{IsHold, cause_word, hold_word};
+
+use problems::Problem;
+use solutions::Cause;
+
+/// Why a problem has no solution at a shorter interval than its own.
+#[derive(Clone, Copy, Debug, PartialEq, Eq)]
+pub enum Hold {
+    /// The units ask for the interval, and the recurrences for a shorter one.
+    Units,
+    /// The recurrences ask for the interval, and the units for a shorter one.
+    Recurrences,
+    /// Both ask for the interval.
+    Both,
+    /// The interval is above both bounds: one cycle less gives no solution, by this cause.
+    Failure(Cause),
+}
+
+/// The word of a cause, as `table`.
+fn cause_word(cause: Cause) -> &'static str
+    ensures { result.now ≡ cause_word cause }
+{
+    match cause {
+        Cause::Table => "table",
+        Cause::Budget => "budget",
+        Cause::Stages => "stages",
+        Cause::Registers(_, _) => "registers",
+    }
+}
+
+impl Hold {
+    /// The hold's word, as `units`; that of its cause where there is one.
+    pub fn word(self) -> &'static str
+        ensures { result.now ≡ hold_word self }
+    {
+        match self {
+            Hold::Units => "units",
+            Hold::Recurrences => "recurrences",
+            Hold::Both => "both",
+            Hold::Failure(cause) => cause_word(cause),
+        }
+    }
+}
+
+/// What holds an interval, in cycles, with the cause of the one before it, if that was tried.
+pub(crate) fn hold_of(problem: &Problem, interval: u64, before: Cause) -> Hold
+    requires low { first_of problem.now ≤ interval }
+    requires before { first_of problem.now < interval → FailsBy problem.now (interval - 1) before }
+    ensures { IsHold problem.now interval result }
+{
+    let scheduling = problem.scheduling();
+    let resources = scheduling.resources();
+    let recurrences = scheduling.recurrences();
+    if scheduling.mii() < interval {
+        Hold::Failure(before)
+    } else if resources < recurrences {
+        Hold::Recurrences
+    } else if recurrences < resources {
+        Hold::Units
+    } else {
+        Hold::Both
+    }
+}

@@ -1,0 +1,21 @@
+use Rattle.std.proofs.Common.{◌≡◌, ◌∙◌, ◌++◌, ℕ, List, ap, arith, of_calls, rules}
+use Rattle.std.specs.List.{flat_map}
+use Rattle.candidates.specs.Texts.{counts_line}
+use Rattle.candidates.specs.declared.listings.Row as row
+use Rattle.printouts.specs.Run.{told_lines}
+use Rattle.printouts.proofs.Told.{loops_of}
+use Rattle.side_by_side.specs.inner.Parts.{text_of}
+use Rattle.side_by_side.proofs.Joining.{listed_long, told_joined}
+use Rattle.side_by_side.proofs.commands.runs.run_by.Goals as goal
+
+pub returns-clause-text : goal.returns-clause-text
+returns-clause-text g c =
+    let problems = c.args.prepared.now in
+    let listing = c.args.listing.now in
+    let parts = c.in_ok-parts.parts.items in
+    let made = c.in_ok-parts.ensures in
+    let same : flat_map text_of parts ≡ told_lines c.args.trip listing.ceiling (loops_of problems) listing.rows
+    = told_joined c.args.trip listing.ceiling problems listing.rows parts (listed_long listing.ceiling problems listing c.requires.lists) (made.each ∙ c.requires.each)
+    (λ k p r part h. let told = (made.made k part (omega (arith, c.requires.each, h))).met in search (rules, of_calls, told)) in
+    c.new.ensures.text ∙ (c.in_ok-push_counts.ensures ∙ ap (λ (rs : List row.Row). c.in_ok-text.text.items ++ counts_line rs) c.rows.ensures.value)
+    ∙ ap (λ (t : List ℕ). t ++ counts_line listing.rows) (c.in_ok-text.ensures ∙ same)

@@ -1,0 +1,5 @@
+//! What each command writes.
+
+pub(crate) mod explaining;
+pub(crate) mod plain;
+pub(crate) mod runs;

@@ -1,0 +1,136 @@
+//! What `explain` writes.
+
+ghost use Rattle.std.specs.Prelude.{◌≡◌, ◌<◌, ◌≤◌, length, count_by, IfOk, IfSome, slice_index_or, vec_len};
+ghost use Rattle.std.specs.List.{All};
+ghost use Rattle.graph.specs.Units.{first_lacking};
+ghost use Rattle.ims.specs.Problems.{ProblemData};
+ghost use Rattle.file_faults.specs.Answers.{AnswersOn};
+ghost use Rattle.printouts.specs.Explain.{IsExplainText};
+ghost use Rattle.side_by_side.specs.inner.Explained.{ExplainsPrepared, IsExplainedPart};
+ghost use Rattle.side_by_side.specs.inner.Parts.{met_of};
+
+use crate::parts::jobs::{Jobs, shared};
+use crate::parts::joined::joined;
+use crate::parts::part::Part;
+use crate::parts::slots::parts_of;
+use explain::{Explained, push_last, push_prepared};
+use file_faults::FileFault;
+use ims::Prepared;
+use loops::Loop;
+use machine::Machine;
+use one_thread::prepare_all;
+use printouts::{Printout, explain_text};
+use settings::Settings;
+use std::alloc::{AllocError, Global};
+use std::thread::Threads;
+
+/// About how much work the explanation of a loop is for each of its statements, in statements that are executed once.
+const EXPLAINED: u64 = 400;
+
+/// What `explain` writes, by at most as many workers as the settings say, side by side. One worker starts no thread, and
+/// neither do a single loop and loops with few statements.
+///
+/// # Errors
+/// The first loop with an opcode that the machine has no table for; and [`FileFault::Memory`], where the calling thread
+/// was refused memory.
+pub fn explain_text_on<R: Threads + Sync>(
+    rt: &R,
+    alloc: Global,
+    machine: &Machine,
+    loops: Vec<Loop>,
+    settings: &Settings,
+) -> Result<Printout, FileFault>
+    ensures { AnswersOn (IsExplainText settings.now.ratio settings.now.ceiling machine.now loops.items) (first_lacking machine.now loops.items) result }
+{
+    match explain_jobs(alloc, loops.as_slice(), settings.workers()) {
+        Some(jobs) => explain_by(rt, alloc, machine, loops, settings, &jobs),
+        None => explain_text(alloc, machine, loops, settings),
+    }
+}
+
+/// The jobs of loops that are explained.
+fn explain_jobs(alloc: Global, loops: &[Loop], workers: usize) -> Option<Jobs>
+    ensures each { IfSome result (λ s. vec_len s.list ≡ length loops.now) }
+    ensures within { IfSome result (λ s. All (λ (j : _). j.number < length loops.now) s.list.items) }
+{
+    shared(
+        alloc,
+        loops.len(),
+        workers,
+        &|number| { EXPLAINED.saturating_mul(loops[number].statements().len() as u64) },
+    )
+}
+
+/// What `explain` writes, by these jobs.
+fn explain_by<R: Threads + Sync>(
+    rt: &R,
+    alloc: Global,
+    machine: &Machine,
+    loops: Vec<Loop>,
+    settings: &Settings,
+    jobs: &Jobs,
+) -> Result<Printout, FileFault>
+    requires each { vec_len jobs.now.list ≡ vec_len loops }
+    requires within { All (λ (j : _). j.number < vec_len loops) jobs.now.list.items }
+    ensures { AnswersOn (IsExplainText settings.now.ratio settings.now.ceiling machine.now loops.items) (first_lacking machine.now loops.items) result }
+{
+    let prepared = prepare_all(alloc, machine, loops, settings)?;
+    let explained = explained_by(rt, alloc, machine, prepared.as_slice(), jobs)?;
+    Ok(Printout::new(explained.text, explained.all_met))
+}
+
+/// Why each of these loops has its interval, by these jobs.
+fn explained_by<R: Threads + Sync>(
+    rt: &R,
+    alloc: Global,
+    machine: &Machine,
+    prepared: &[Prepared],
+    jobs: &Jobs,
+) -> Result<Explained, AllocError>
+    requires each { vec_len jobs.now.list ≡ length prepared.now }
+    requires within { All (λ (j : _). j.number < length prepared.now) jobs.now.list.items }
+    ensures { IfOk result (ExplainsPrepared machine.now prepared.now) }
+{
+    let parts = parts_of(
+        rt,
+        alloc,
+        jobs,
+        &|number| { explained_part(alloc, machine, prepared, number) },
+    )?;
+    let met = met_among(parts.as_slice());
+    let failed = prepared.len() as u64 - met;
+    let mut text = joined(alloc, parts)?;
+    push_last(&mut text, prepared.len() as u64, met, failed)?;
+    Ok(Explained {
+        text,
+        all_met: failed == 0,
+    })
+}
+
+/// Why the loop of a number has its interval.
+fn explained_part(
+    alloc: Global,
+    machine: &Machine,
+    prepared: &[Prepared],
+    number: usize,
+) -> Result<Part, AllocError>
+    requires { number < length prepared.now }
+    ensures { IfOk result (λ part. (d : ProblemData) → IsExplainedPart machine.now (slice_index_or prepared.now number d) part) }
+{
+    let mut text = Vec::new(alloc);
+    match push_prepared(alloc, &mut text, machine, &prepared[number]) {
+        Ok(choice) => Ok(Part {
+            text,
+            met: choice.is_met(),
+        }),
+        Err(_) => Err(AllocError),
+    }
+}
+
+/// How many parts are of loops that are met.
+fn met_among(parts: &[Part]) -> u64
+    ensures count { result ≡ count_by met_of parts.now }
+    ensures most { result ≤ length parts.now }
+{
+    parts.iter().filter(|part| part.met).count() as u64
+}

@@ -1,0 +1,7 @@
+//! The parts of a text, one for each loop: how they are shared among workers, made and joined.
+
+pub(crate) mod drawn;
+pub(crate) mod jobs;
+pub(crate) mod joined;
+pub(crate) mod part;
+pub(crate) mod slots;

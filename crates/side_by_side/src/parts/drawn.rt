@@ -1,0 +1,88 @@
+//! Workers that draw jobs one after another and make their parts.
+
+ghost use Rattle.std.specs.Prelude.{◌≡◌, ◌<◌, ℕ, length};
+ghost use Rattle.std.specs.List.{All};
+ghost use Rattle.side_by_side.specs.inner.Parts.{IsMadeBelow};
+
+use crate::parts::jobs::Job;
+use crate::parts::part::Part;
+use std::alloc::{AllocError, Global};
+use std::sync::atomic::{AtomicUsize, Ordering};
+use std::thread::{self, Threads};
+
+/// A part, and its number.
+#[derive(Drop)]
+pub(crate) struct Made {
+    pub(crate) number: usize,
+    pub(crate) part: Part,
+}
+
+/// What so many workers make together, each in a thread where one can be started. Each draws jobs until none is left,
+/// or until it is refused memory: what is then lacking is left to the calling thread.
+pub(crate) fn made_by_all<R: Threads + Sync, F: Fn(usize) -> Result<Part, AllocError> + Sync>(
+    rt: &R,
+    alloc: Global,
+    workers: usize,
+    jobs: &[Job],
+    make: &F,
+) -> Vec<Vec<Made>>
+    requires within { All (λ (j : _). j.number < length jobs.now) jobs.now }
+    requires accepts { (k : ℕ) → k < length jobs.now → F.pre make.now k }
+    ensures { All (λ (one : _). All (IsMadeBelow F.Fn make.now (length jobs.now)) one.items) result.items }
+{
+    let next = AtomicUsize::new(0);
+    let drawn = &next;
+    let made = thread::map_indices(
+        rt,
+        alloc,
+        workers,
+        &|_| made_by_one(alloc, drawn, jobs, make),
+    );
+    match made {
+        Ok(made) => made,
+        Err(_) => Vec::new(alloc),
+    }
+}
+
+/// What one worker makes.
+fn made_by_one<F: Fn(usize) -> Result<Part, AllocError>>(
+    alloc: Global,
+    next: &AtomicUsize,
+    jobs: &[Job],
+    make: &F,
+) -> Vec<Made>
+    requires within { All (λ (j : _). j.number < length jobs.now) jobs.now }
+    requires accepts { (k : ℕ) → k < length jobs.now → F.pre make.now k }
+    ensures { All (IsMadeBelow F.Fn make.now (length jobs.now)) result.items }
+{
+    let mut made = Vec::new(alloc);
+    for _ in 0..jobs.len() {
+        let place = next.fetch_add(1, Ordering::SeqCst);
+        if place >= jobs.len() {
+            break;
+        }
+        if add_made(&mut made, jobs, place, make).is_err() {
+            break;
+        }
+    }
+    made
+}
+
+/// Makes the part of the job at a place, and adds it.
+fn add_made<F: Fn(usize) -> Result<Part, AllocError>>(
+    made: &mut Vec<Made>,
+    jobs: &[Job],
+    place: usize,
+    make: &F,
+) -> Result<(), AllocError>
+    requires place { place < length jobs.now }
+    requires within { All (λ (j : _). j.number < length jobs.now) jobs.now }
+    requires accepts { (k : ℕ) → k < length jobs.now → F.pre make.now k }
+    requires others { All (IsMadeBelow F.Fn make.now (length jobs.now)) made.old.items }
+    ensures { All (IsMadeBelow F.Fn make.now (length jobs.now)) made.new.items }
+{
+    let number = jobs[place].number;
+    let part = make(number)?;
+    made.push(Made { number, part })?;
+    Ok(())
+}

@@ -1,0 +1,47 @@
+//! The text of all parts.
+
+ghost use Rattle.std.specs.Prelude.{◌≡◌, ◌++◌, IfOk, OnOk};
+ghost use Rattle.std.specs.List.{flat_map};
+ghost use Rattle.side_by_side.specs.inner.Parts.{text_of};
+
+use crate::parts::part::Part;
+use std::alloc::{AllocError, Global};
+
+/// Room for what follows the parts, in bytes: the last line of a text.
+const LAST: usize = 128;
+
+/// The texts of parts, one after another. Each part is given back as soon as it is joined, so that none is held twice
+/// but the one at hand.
+///
+/// # Errors
+/// Memory was refused.
+pub(crate) fn joined(alloc: Global, parts: Vec<Part>) -> Result<Vec<u8>, AllocError>
+    ensures { IfOk result (λ text. text.items ≡ flat_map text_of parts.items) }
+{
+    let room = room_for(parts.as_slice());
+    let mut text = Vec::with_capacity(alloc, room)?;
+    append(&mut text, parts)?;
+    Ok(text)
+}
+
+/// How many bytes the texts of parts have, and the last line.
+fn room_for(parts: &[Part]) -> usize {
+    let mut room = LAST;
+    for part in parts {
+        room = room.saturating_add(part.text.len());
+    }
+    room
+}
+
+/// Appends the texts of parts, one after another.
+fn append(text: &mut Vec<u8>, parts: Vec<Part>) -> Result<(), AllocError>
+    ensures { OnOk result (text.new.items ≡ text.old.items ++ flat_map text_of parts.items) }
+{
+    let mut parts = parts.into_iter();
+    while let Some(part) = parts.next() {
+        if let Err(fault) = text.extend_from_slice(part.text.as_slice()) {
+            return Err(fault);
+        }
+    }
+    Ok(())
+}
