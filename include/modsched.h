@@ -165,7 +165,7 @@ enum {
  * With status 0, of each operation the issue time in its iteration (less than 64 intervals) is in `times` and the number of the
  * alternative in `alternatives`; both need room for as many items as there are operations. Of each value of a rotating file its
  * number is in `numbers`, which needs room for as many items as there are values: the instance of iteration i stands in the register
- * (number - i) modulo the registers of the file. The numbers of values of other files are 0. What is behind these items stays as it
+ * (number - i) modulo the registers of the file. The numbers of values of other files are 0. What is after these items stays as it
  * was, and with any other status all of the three arrays do. The answer is written with each status. */
 uint32_t modsched_solve(const struct modsched_problem *problem, uint64_t ratio, uint64_t ceiling, uint64_t *times,
                         size_t times_count, uint64_t *alternatives, size_t alternatives_count, uint64_t *numbers,
@@ -223,9 +223,9 @@ uint32_t modsched_check(const struct modsched_problem *problem, uint64_t interva
                         struct modsched_verdict *verdict);
 
 /* Texts. The calls below take the texts of a machine and of loops, as the program's files have them, and write what a command of the
- * program prints of them, byte for byte. A text is a pointer and a length, at most 1,048,576 bytes; it needs no zero byte behind it.
+ * program prints of them, byte for byte. A text is a pointer and a length, at most 1,048,576 bytes; it needs no zero byte after it.
  *
- * `out` is written from its beginning on, with as many bytes as there are and as `room` has; what is behind them stays as it was, and no
+ * `out` is written from its beginning on, with as many bytes as there are and as `room` has; what is after them stays as it was, and no
  * zero byte is added. told->bytes is how many bytes there are in all. So one call with a room of 0 tells how much room is needed, and a second
  * one has all of it written; or, where the room was enough, one call does. The room must not overlap the texts or told.
  *

@@ -242,7 +242,7 @@ def _circuit(lines: Lines, bounds: Bounds) -> Circuit | None:
     return Circuit(delay, distance, needs, edges)
 
 
-# The outcomes of an interval: the word behind `try I`, what follows it, and of its groups how many are names.
+# The outcomes of an interval: the word after `try I`, what follows it, and of its groups how many are names.
 OUTCOMES = [
     ("table", rf": ({OPERATION})", 1),
     ("budget", rf": ({OPERATION}(?: {OPERATION})*)", 1),

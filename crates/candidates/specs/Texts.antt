@@ -15,7 +15,7 @@ cause_word Budget = codes "budget"
 cause_word Stages = codes "stages"
 cause_word Registers = codes "registers"
 
--- a word, and a number behind it
+-- a word, and a number after it
 abbrev pub told : List ℕ → ℕ → List ℕ
 told word number = word ++ decimal number
 

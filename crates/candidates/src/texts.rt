@@ -161,7 +161,7 @@ fn number_failed(rows: &[Row]) -> usize
     rows.iter().filter(|row| row.choice.is_failed()).count()
 }
 
-/// Writes a number behind some text.
+/// Writes a number after some text.
 fn write_number(text: &mut String, before: &str, number: u64) -> Result<(), OutOfMemory>
     ensures { IfOk result (λ _. string_bytes text.new ≡ string_bytes text.old ++ (before.now ++ decimal number)) }
 {

@@ -36,7 +36,7 @@ misfit_of given ratio ceiling times alternatives numbers =
 abbrev pub misfit_in : GivenProblem → ℕ → ℕ → Arrays → ℕ
 misfit_in given ratio ceiling arrays = misfit_of given ratio ceiling (length arrays.times) (length arrays.alternatives) (length arrays.numbers)
 
--- an array begins with a list, and is as before behind it
+-- an array begins with a list, and is as before after it
 pub record IsWritten (xs before after : List ℕ) : Type 0 where
   pub same_length : length after ≡ length before
   pub room : length xs ≤ length before

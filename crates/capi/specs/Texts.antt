@@ -35,7 +35,7 @@ told_misfit misfit = record { bytes = 0; line = 0; misfit = misfit }
 abbrev pub told_nothing : Told
 told_nothing = record { bytes = 0; line = 0; misfit = 0 }
 
--- as much of a text as there is room for; what is behind it is as before
+-- as much of a text as there is room for; what is after it is as before
 abbrev pub filled : List ℕ → List ℕ → List ℕ
 filled text room = take (length room) text ++ drop (length text) room
 

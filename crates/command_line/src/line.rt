@@ -44,7 +44,7 @@ fn usage_of(alloc: Global, error: &clap::Error) -> Usage
     }
 }
 
-/// Reads the words of a command line, which begin behind the program's own name. Paths are any text.
+/// Reads the words of a command line, which begin after the program's own name. Paths are any text.
 pub fn parse_line<'a>(alloc: Global, words: &'a [&'a str]) -> Result<Command, Usage>
     ensures { let texts = map (λ w. w.now) words.entry.now in
         IsRead result (fault_of program_line texts) (subcommand_of program_line texts) }

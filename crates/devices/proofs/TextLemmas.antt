@@ -51,7 +51,7 @@ pub record ReadSoFar (left now : Option (List ℕ)) (buffer : List ℕ) (n : ℕ
   pub given : (bytes : List ℕ) → left ≡ Some bytes → take n buffer ≡ take n bytes
   pub there : (bytes : List ℕ) → left ≡ Some bytes → n ≤ length bytes
 
--- m more bytes were read behind the first n
+-- m more bytes were read after the first n
 pub ReadSoFar-read : (left now after : Option (List ℕ)) (buffer other : List ℕ) (n m : ℕ)
     → n ≤ length other → take n other ≡ take n buffer → ReadSoFar left now buffer n
     → Reads now after (drop n other) m → ReadSoFar left after other (n + m)

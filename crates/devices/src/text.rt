@@ -55,7 +55,7 @@ impl From<AllocError> for ReadTextError {
     }
 }
 
-// Reads into a buffer behind its first bytes.
+// Reads into a buffer after its first bytes.
 fn read_behind<I: Input>(input: &mut I, buffer: &mut [u8], filled: usize) -> Result<usize, Fault>
     requires fresh { I.failed input.old < 2 ^ 64 - 1 }
     requires room { filled ≤ length buffer.old }
@@ -85,7 +85,7 @@ fn make_room(buffer: &mut Vec<u8>, filled: usize, most: usize) -> Result<(), All
     Ok(())
 }
 
-// Reads behind the first bytes of a buffer, which grows where it is full.
+// Reads after the first bytes of a buffer, which grows where it is full.
 fn read_more<I: Input>(
     input: &mut I,
     buffer: &mut Vec<u8>,

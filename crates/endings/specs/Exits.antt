@@ -12,7 +12,7 @@ exit_number_of (Err (Help text)) = 0
 exit_number_of (Err (Refused text)) = 2
 exit_number_of (Err Memory) = 7
 
--- a line behind the program's name, where there is one to tell
+-- a line after the program's name, where there is one to tell
 abbrev pub told_line : Bool → List ℕ → List ℕ
 told_line false line = []
 told_line true line = (codes "modsched: " ++ line) ++ codes "\n"

@@ -1,4 +1,4 @@
--- What is behind the failure of an interval.
+-- Why an interval failed.
 use Rattle.std.proofs.Common.{◌≡◌, ◌≢◌, ℕ, ◌+◌, ◌<◌, ◌≤◌, List, length, map, get_or, Some, refl, sym, ap, ◌∙◌, subst, arith}
 use Rattle.std.specs.Prelude.{is_none, option_map, slice_get}
 use Rattle.std.specs.List.{All, range_with_len}

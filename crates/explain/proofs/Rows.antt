@@ -19,7 +19,7 @@ pub row-more : {B : Type 0} (R : ℕ → B → Type 0) (f : ℕ → B → List �
     → AreTexts R f (range_with_len a (n + 1)) (text ++ f (a + n) y)
 row-more R f a n text y h r = subst (λ (ns : List ℕ). AreTexts R f ns (text ++ f (a + n) y)) (sym (range-push a n)) (texts-push R f (range_with_len a n) text (a + n) y h r)
 
--- three texts behind one that was there
+-- three texts after one that was there
 pub three-behind : (old a b c first second new : List ℕ) → first ≡ old ++ a → second ≡ first ++ b → new ≡ second ++ c → new ≡ old ++ ((a ++ b) ++ c)
 three-behind old a b c first second new x y z = behind old (a ++ b) second c new (behind old a first b second x y) z
 

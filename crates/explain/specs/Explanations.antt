@@ -29,7 +29,7 @@ pub record IsExplained (units : List ℕ) (problem : ProblemData) (choice : Choi
   pub are_tries : AreTries problem choice tries
   pub is_text : text ≡ ((bounds_line problem.loop (bounds_of problem) ++ units) ++ circuit) ++ tries
 
--- that, and the schedule and the registers of the chosen interval behind it
+-- that, and the schedule and the registers of the chosen interval after it
 pub record IsTold (machine : MachineData) (units : List ℕ) (problem : ProblemData) (choice : Choice) (text : List ℕ) : Type 0 where
   pub explanation : List ℕ
   pub is_explanation : IsExplained units problem choice explanation

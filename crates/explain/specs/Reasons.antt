@@ -1,4 +1,4 @@
--- What is behind the failure of an interval, by name.
+-- Why an interval failed, by name.
 use Rattle.std.specs.Prelude.{ℕ, codes, List, ◌++◌, Some}
 use Rattle.std.specs.List.{flat_map}
 use Rattle.iterations.specs.Loops.{LoopData}
@@ -19,7 +19,7 @@ use Rattle.candidates.specs.Outcomes as outcomes
 use Rattle.explain.specs.declared.intervals.reasons.Reason.{Reason}
 use Rattle.explain.specs.declared.intervals.reasons.Reason.TheVariants.{Attempt, Register}
 
--- the cause that a reason is behind
+-- the cause that a reason is after
 abbrev pub cause_of : Reason → Cause
 cause_of (Attempt culprit) = outcomes.cause_of (failure_of culprit)
 cause_of (Register life) = Registers
@@ -30,7 +30,7 @@ pub record LacksFor (problem : ProblemData) (ii : ℕ) (life : Lifetime) : Type 
   pub is_schedule : outcomes.IsPlacedAs problem ii schedule
   pub none : HasNone schedule.ii problem.registers (lifetimes_of schedule) life
 
--- what is behind the failure of an interval
+-- why an interval failed
 abbrev pub IsReason : ProblemData → ℕ → Reason → Type 0
 IsReason problem ii (Attempt culprit) = AnswersCulprit problem ii (budget_of problem) (Some culprit)
 IsReason problem ii (Register life) = LacksFor problem ii life
@@ -40,7 +40,7 @@ pub record FailsFor (problem : ProblemData) (ii : ℕ) (reason : Reason) : Type 
   pub fails : outcomes.FailsBy problem ii (cause_of reason)
   pub is : IsReason problem ii reason
 
--- the name of an operation behind a blank
+-- the name of an operation after a blank
 abbrev pub named : LoopData → ℕ → List ℕ
 named loop op = codes " " ++ op_name loop op
 

@@ -13,7 +13,7 @@ use Rattle.explain.specs.declared.intervals.reasons.Reason.{Reason}
 use Rattle.explain.specs.Holds.{IsHold, hold_word}
 use Rattle.explain.specs.Reasons.{FailsFor, cause_of, reason_text}
 
--- `try I CAUSE:`, and what is behind it, with a line feed
+-- `try I CAUSE:`, and its culprits, with a line feed
 abbrev pub try_line : LoopData → ℕ → Reason → List ℕ
 try_line loop ii reason = (((told (codes "try ") ii ++ (codes " " ++ cause_word (cause_of reason))) ++ codes ":") ++ reason_text loop reason) ++ codes "\n"
 
@@ -35,7 +35,7 @@ abbrev pub IsEnd : ProblemData → Choice → List ℕ → Type 0
 IsEnd problem (Met ii kernel) text = (hold : Hold) × IsHold problem ii hold × (text ≡ kernel_line ii kernel.stages ++ hold_line hold)
 IsEnd problem (Failed cause) text = text ≡ []
 
--- the choice of a loop, with a line for each interval, from the least one on, that gives no kernel, with its cause and what is behind it
+-- the choice of a loop, with a line for each interval, from the least one on, that gives no kernel, with its cause and culprits
 pub record AreTries (problem : ProblemData) (choice : Choice) (text : List ℕ) : Type 0 where
   pub is_choice : IsChoice problem choice
   pub lines : List ℕ

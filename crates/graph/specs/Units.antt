@@ -45,7 +45,7 @@ greatest_of (n ∷ ns) = max n (greatest_of ns)
 abbrev pub greatest_use : List Row → ℕ
 greatest_use rows = greatest_of (map (λ (r : Row). use_of rows r.unit) rows)
 
--- behind the rows taken so far this choice of an alternative gives a use of the most used unit that no alternative makes
+-- after the rows taken so far this choice of an alternative gives a use of the most used unit that no alternative makes
 -- lower, and that none before it makes as low
 pub record IsBest (taken : List Row) (alternatives : List (List Row)) (choice : ℕ) : Type 0 where
   pub there : choice < length alternatives
@@ -54,7 +54,7 @@ pub record IsBest (taken : List Row) (alternatives : List (List Row)) (choice : 
   pub first : (other : ℕ) → other < choice
       → greatest_use (taken ++ slice_index_or alternatives choice []) < greatest_use (taken ++ slice_index_or alternatives other [])
 
--- each operation's choice, one after another, is best behind the rows of the choices before it
+-- each operation's choice, one after another, is best after the rows of the choices before it
 abbrev pub AreBest : List Row → List (List (List Row)) → List ℕ → Type 0
 AreBest taken [] [] = Unit {0}
 AreBest taken (alternatives ∷ operations) (choice ∷ choices) =

@@ -15,7 +15,7 @@ pub record Tallies (taken : List Row) (counts : List ℕ) (greatest : ℕ) : Typ
   pub each : (unit : ℕ) → unit < 64 → slice_index counts unit ≡ use_of taken unit
   pub most : greatest ≡ greatest_use taken
 
--- the counters are those of the rows taken and of the best alternative behind them
+-- the counters are those of the rows taken and of the best alternative after them
 pub record TakesBest (taken : List Row) (alternatives : List (List Row)) (counts : List ℕ) (greatest : ℕ) : Type 0 where
   pub choice : ℕ
   pub best : IsBest taken alternatives choice

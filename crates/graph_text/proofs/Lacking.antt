@@ -15,7 +15,7 @@ lacking_or-none : (name : List ℕ) (o : Option Opcode) (rest : Option (List ℕ
 lacking_or-none name None rest h = (refl, h)
 lacking_or-none name (Some opcode) rest h = cc
 
--- what is lacking behind loops that lack nothing
+-- what is lacking after loops that lack nothing
 pub first_lacking-append : (machine : MachineData) (xs ys : List LoopData) → first_lacking machine xs ≡ None → first_lacking machine (xs ++ ys) ≡ first_lacking machine ys
 first_lacking-append machine [] ys h = refl
 first_lacking-append machine (x ∷ xs) ys h =

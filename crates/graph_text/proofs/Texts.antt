@@ -45,7 +45,7 @@ pub texts-item : {A B : Type 0} (R : A → B → Type 0) (f : A → B → List �
 texts-item {A = A} R f xs i x text y within is h r =
     subst (λ (z : A). AreTexts R f (take (i + 1) xs) (text ++ f z y)) (sym is) (texts-more R f xs i x text y within h (subst (λ (z : A). R z y) is r))
 
--- one more text behind those before it
+-- one more text after those before it
 pub behind : (old before mid more new : List ℕ) → mid ≡ old ++ before → new ≡ mid ++ more → new ≡ old ++ (before ++ more)
 behind old before mid more new a b = b ∙ ap (λ t. t ++ more) a ∙ append_assoc old before more
 

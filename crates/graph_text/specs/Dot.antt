@@ -22,7 +22,7 @@ abbrev pub node_line : LoopData → ℕ → List ℕ
 node_line loop number =
     (((told (codes "  ") number ++ codes " [label=\"") ++ op_name loop number) ++ (codes " " ++ opcode_word loop number)) ++ codes "\"]\n"
 
--- behind a blank and an `@`, a distance that is not 0
+-- after a blank and an `@`, a distance that is not 0
 abbrev pub at_text : ℕ → List ℕ
 at_text zero = []
 at_text (suc n) = told (codes " @") (suc n)

@@ -13,7 +13,7 @@ use Rattle.graph_text.specs.Kinds.{IsOfKind, kind_word}
 use Rattle.graph_text.specs.Names.{op_name, opcode_word}
 use Rattle.graph_text.specs.Texts.{AreTexts, numbers_of, told}
 
--- the number of an operation, and its name behind a blank
+-- the number of an operation, and its name after a blank
 abbrev pub numbered : LoopData → ℕ → List ℕ
 numbered loop number = (decimal number ++ codes " ") ++ op_name loop number
 

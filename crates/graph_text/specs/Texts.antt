@@ -9,7 +9,7 @@ pub record AreTexts {A B : Type 0} (IsRight : A → B → Type 0) (text_of : A �
   pub are_right : AllZip IsRight things values
   pub is_text : text ≡ flat_map (λ both. text_of both.0 both.1) (zip things values)
 
--- a word, and a number behind it
+-- a word, and a number after it
 abbrev pub told : List ℕ → ℕ → List ℕ
 told word number = word ++ decimal number
 

@@ -7,7 +7,7 @@ ghost use Rattle.graph_text.specs.Texts.{told};
 use itoa::Buffer;
 use std::alloc::AllocError;
 
-/// Appends a word and a number behind it, in decimal digits.
+/// Appends a word and a number after it, in decimal digits.
 ///
 /// # Errors
 /// [`AllocError`] where memory ran out. The text is left with a part of both.
@@ -19,7 +19,7 @@ pub fn push_told(text: &mut Vec<u8>, word: &[u8], number: u64) -> Result<(), All
     text.extend_from_slice(digits.format(number).as_bytes())
 }
 
-/// Appends a word and a signed number behind it.
+/// Appends a word and a signed number after it.
 pub(crate) fn push_signed(text: &mut Vec<u8>, word: &[u8], number: i8) -> Result<(), AllocError>
     ensures ok { OnOk result (text.new.items ≡ text.old.items ++ (word.now ++ signed_decimal number)) }
 {

@@ -88,7 +88,7 @@ abbrev pub reading_cycle : RunData → Read → ℕ → ℕ
 reading_cycle run reading i = slice_index run.times reading.reader + reading.offset + run.ii * i
 
 -- what stands in a place in a cycle, in a run of so many iterations: the instance of the value v and the iteration k, which has
--- landed there, and behind all others that have
+-- landed there, and after all others that have
 pub record StandsIn (run : RunData) (trip : ℕ) (place : Place) (cycle v k : ℕ) : Type 0 where
   pub there : v < length run.values
   pub within : k < trip

@@ -17,7 +17,7 @@ param_name loop number = unwrap_or (option_map (λ (p : Param). p.name) (slice_g
 abbrev pub value_name : LoopData → ℕ → List ℕ
 value_name loop number = unwrap_or (option_and_then (λ (s : Statement). s.name) (slice_get loop.statements number)) []
 
--- what stands behind the `i` of a subscript
+-- what stands after the `i` of a subscript
 abbrev pub offset_text : ℤ → List ℕ
 offset_text (pos zero) = []
 offset_text (pos (suc n)) = 43 ∷ decimal (suc n)

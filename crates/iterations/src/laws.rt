@@ -7,7 +7,7 @@ pub fn plain_runs_keep_shapes()
     ensures { PlainRunsKeepShapes }
 {}
 
-/// Once an iteration is behind, its values stay what they are.
+/// Once an iteration is after, its values stay what they are.
 pub fn history_is_stable()
     ensures { HistoryIsStable }
 {}

@@ -40,7 +40,7 @@ abbrev pub spaced_option : {A : Type 0} → (A → List ℕ) → Option A → Li
 spaced_option text None = []
 spaced_option text (Some x) = spaced (text x)
 
--- the sources of an operation; a guard of a store stands behind `if`
+-- the sources of an operation; a guard of a store stands after `if`
 abbrev pub sources_text : Parts → Opcode → List Source → List ℕ
 sources_text parts Store (value ∷ guard ∷ []) = (spaced (source_text parts value) ++ codes " if") ++ spaced (source_text parts guard)
 sources_text parts opcode sources = flat_map (λ source. spaced (source_text parts source)) sources
@@ -55,7 +55,7 @@ operation_text parts op =
     (((((word_of op.opcode ++ spaced_option register_text op.destination) ++ spaced_option (address_text parts) op.address)
     ++ sources_text parts op.opcode op.sources) ++ codes " ?") ++ decimal op.stage) ++ alternative_text op.alternative
 
--- some operations behind the row's number: a blank before the first, and ` | ` between two
+-- some operations after the row's number: a blank before the first, and ` | ` between two
 abbrev pub joined : Parts → List ℕ → List Operation → List ℕ
 joined parts before [] = []
 joined parts before (op ∷ ops) = (before ++ operation_text parts op) ++ joined parts (codes " | ") ops

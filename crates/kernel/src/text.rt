@@ -179,7 +179,7 @@ fn write_operation(text: &mut String, parts: &Parts, op: &Operation) -> Result<(
     Ok(())
 }
 
-/// Writes the register that is written, if there is one, behind a blank.
+/// Writes the register that is written, if there is one, after a blank.
 fn write_destination(text: &mut String, destination: Option<u16>) -> Result<(), OutOfMemory>
     ensures { IfOk result (λ _. string_bytes text.new ≡ string_bytes text.old ++ spaced_option register_text destination) }
 {
@@ -199,7 +199,7 @@ fn write_alternative(text: &mut String, alternative: u8) -> Result<(), OutOfMemo
     Ok(())
 }
 
-/// Writes an address, if there is one, behind a blank.
+/// Writes an address, if there is one, after a blank.
 fn write_place(
     text: &mut String,
     parts: &Parts,
@@ -214,7 +214,7 @@ fn write_place(
     Ok(())
 }
 
-/// Writes an address behind a blank.
+/// Writes an address after a blank.
 fn write_address(text: &mut String, parts: &Parts, address: Address) -> Result<(), OutOfMemory>
     requires { address.array < length parts.now.arrays }
     ensures { IfOk result (λ _. string_bytes text.new ≡ string_bytes text.old ++ spaced (address_text parts.now address)) }
@@ -235,7 +235,7 @@ fn write_offset(text: &mut String, offset: i16) -> Result<(), OutOfMemory>
     write_value(text, sign, i64::from(offset))
 }
 
-/// Writes what an operation reads; the guard of a store stands behind `if`.
+/// Writes what an operation reads; the guard of a store stands after `if`.
 fn write_sources(
     text: &mut String,
     parts: &Parts,
@@ -251,7 +251,7 @@ fn write_sources(
     }
 }
 
-/// Writes what a store reads: its value and, behind `if`, its guard.
+/// Writes what a store reads: its value and, after `if`, its guard.
 fn write_stored(text: &mut String, parts: &Parts, sources: &[Source]) -> Result<(), OutOfMemory>
     requires { All (ParameterIsThere (length parts.now.params)) sources.now }
     ensures { IfOk result (λ _. string_bytes text.new ≡ string_bytes text.old ++ sources_text parts.now Opcode.Store sources.now) }
@@ -267,7 +267,7 @@ fn write_stored(text: &mut String, parts: &Parts, sources: &[Source]) -> Result<
     }
 }
 
-/// Writes sources, each behind a blank.
+/// Writes sources, each after a blank.
 fn write_plain(text: &mut String, parts: &Parts, sources: &[Source]) -> Result<(), OutOfMemory>
     requires { All (ParameterIsThere (length parts.now.params)) sources.now }
     ensures { IfOk result (λ _. string_bytes text.new ≡ string_bytes text.old ++ flat_map (λ (source : Source). spaced (source_text parts.now source)) sources.now) }
@@ -278,7 +278,7 @@ fn write_plain(text: &mut String, parts: &Parts, sources: &[Source]) -> Result<(
     Ok(())
 }
 
-/// Writes a source behind a blank.
+/// Writes a source after a blank.
 fn write_source(text: &mut String, parts: &Parts, source: Source) -> Result<(), OutOfMemory>
     requires { ParameterIsThere (length parts.now.params) source }
     ensures { IfOk result (λ _. string_bytes text.new ≡ string_bytes text.old ++ spaced (source_text parts.now source)) }
@@ -294,7 +294,7 @@ fn write_source(text: &mut String, parts: &Parts, source: Source) -> Result<(), 
     }
 }
 
-/// Writes a number behind some text.
+/// Writes a number after some text.
 #[inline(always)]
 fn write_number(text: &mut String, before: &str, number: u64) -> Result<(), OutOfMemory>
     ensures { IfOk result (λ _. string_bytes text.new ≡ string_bytes text.old ++ (before.now ++ decimal number)) }
@@ -303,7 +303,7 @@ fn write_number(text: &mut String, before: &str, number: u64) -> Result<(), OutO
     write_decimal(text, number)
 }
 
-/// Writes a signed number behind some text.
+/// Writes a signed number after some text.
 #[inline(always)]
 fn write_value(text: &mut String, before: &str, value: i64) -> Result<(), OutOfMemory>
     ensures { IfOk result (λ _. string_bytes text.new ≡ string_bytes text.old ++ (before.now ++ signed_decimal value)) }

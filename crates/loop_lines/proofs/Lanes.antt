@@ -38,7 +38,7 @@ lowest_bit n r fits is =
           )
     ]
 
--- none of the bytes before a place is a line feed, and none of some more behind them
+-- none of the bytes before a place is a line feed, and none of some more after them
 pub none_more : (text : List ℕ) (at ahead : ℕ) → ((k : ℕ) → k < at → eqb (get_or text k 0) 10 ≡ false) → ((k : ℕ) → k < ahead → eqb (get_or text (at + k) 0) 10 ≡ false)
     → (k : ℕ) → k < at + ahead → eqb (get_or text k 0) 10 ≡ false
 none_more text at ahead none more k lt =

@@ -85,7 +85,7 @@ first_at : (word : List ℕ) (n : ℕ) → n ≡ position_or_len stands_in_none 
 first_at word n e h at =
     position_or_len_is (λ c. c == 64) word n 0 (omega arith) (λ k lt. none_at (get_or word k 0) (stands_before word n k e lt)) (λ _. eq-eqb (get_or word n 0) 64 at)
 
--- a use with an `@` behind such bytes
+-- a use with an `@` after such bytes
 pub at_use : (word : List ℕ) (n : ℕ) → n ≡ position_or_len stands_in_none word → n < length word → get_or word n 0 ≡ 64 → named_use_of word ≡ at_of (take n word) (drop (n + 1) word)
 at_use word n e h at =
     let first = first_at word n e h at in

@@ -33,7 +33,7 @@ value_step word rest v next h digit is e =
     let parts = ap (λ ds. min (digits_value_after 10 v ds) (2 ^ 64 - 1)) (head_and_rest rest h) in
     same_value tail next (v * 10 + digit_value d) (omega arith) ∙ (sym parts ∙ e)
 
--- behind the last digit
+-- after the last digit
 pub number_end : (word rest : List ℕ) (v : ℕ) → 0 < length word → length rest < 1 → v < 2 ^ 64 → all_ascii_digits rest ≡ all_ascii_digits word → min (digits_value_after 10 v rest) (2 ^ 64 - 1) ≡ min (digits_value_after 10 0 word) (2 ^ 64 - 1) → Some v ≡ cond (is_number word) (Some (min (digits_value 10 word) (2 ^ 64 - 1))) None
 number_end word [] v some short fits all e =
     let there : nat_lt 0 (length word) ≡ true = lt-ltb 0 (length word) some in

@@ -33,7 +33,7 @@ stops_behind text n within all stop = position_or_len_is stops_word text n 0 wit
 one_further : (text : List ℕ) → position_or_len stops_word (45 ∷ text) ≡ 1 + position_or_len stops_word text
 one_further text = refl
 
--- digits up to a stop are a word, and so are they behind a sign
+-- digits up to a stop are a word, and so are they after a sign
 short_word : (negative : Bool) (text : List ℕ) (n : ℕ) → 0 < n → position_or_len stops_word text ≡ n
     → words_of (cond negative (45 ∷ text) text) ≡ cond negative (45 ∷ take n text) (take n text) ∷ words_of (drop n text)
 short_word true text n some e = word_taken (45 ∷ text) (45 ∷ text) (45 ∷ take n text) (drop n text) (suc n) refl (omega arith) (omega (arith, one_further text, e)) refl refl

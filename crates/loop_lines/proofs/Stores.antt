@@ -6,7 +6,7 @@ use Rattle.loop_lines.specs.Forms.{Malformed, place_of, store_line, store_of, us
 use Rattle.loop_lines.specs.Parsed.{guard_of, use_seen}
 use Rattle.loop_lines.specs.declared.form.Use.{Use}
 
--- a value without the uses behind it, or no use at all, is no line
+-- a value without the uses after it, or no use at all, is no line
 pub no_guard : (place : Option spec.Subscript) (value : Option spec.Use) → store_of place (with_use value None) ≡ Malformed
 no_guard None value = refl
 no_guard (Some place) None = refl

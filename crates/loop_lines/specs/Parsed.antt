@@ -20,11 +20,11 @@ use_seen (uses.At name distance) = spec.At name.now distance
 abbrev pub uses_seen : Uses → List spec.Use
 uses_seen u = map use_seen (option_to_list u.first ++ (option_to_list u.second ++ option_to_list u.third))
 
--- a name and the number behind its `@`
+-- a name and the number after its `@`
 abbrev pub at_seen : Bor (List ℕ) × Option ℕ → spec.Use
 at_seen x = spec.At x.0.now x.1
 
--- the guard of a `store`, as a list of the uses behind the value
+-- the guard of a `store`, as a list of the uses after the value
 abbrev pub guard_seen : Option Use → List spec.Use
 guard_seen guard = map use_seen (option_to_list guard)
 

@@ -12,7 +12,7 @@ use crate::words::{after_byte, begins_stop, next_word, without_space};
 use machine_data::limits::MAX_CELLS;
 use std::alloc::{AllocError, Global};
 
-/// The words of an array line behind `=`. They are marked where they are wide, so that the others are
+/// The words of an array line after `=`. They are marked where they are wide, so that the others are
 /// not looked through again.
 #[derive(Clone, Copy)]
 pub struct CellWords<'a> {
@@ -33,7 +33,7 @@ fn sign_of(word: &[u8]) -> (bool, &[u8])
     }
 }
 
-/// The first word, where it is an integer of sixteen digits at most behind at most one space: whether
+/// The first word, where it is an integer of sixteen digits at most after at most one space: whether
 /// it has a `-`, its digits, and what follows it. Cells are mostly written so, and found faster so than
 /// as words.
 #[inline(always)]

@@ -28,7 +28,7 @@ pub struct Subscript<'a> {
     pub offset: Option<i8>,
 }
 
-/// The uses of a statement, from the left on: behind a `None` stand no others.
+/// The uses of a statement, from the left on: after a `None` stand no others.
 #[derive(Clone, Copy)]
 pub struct Uses<'a> {
     pub first: Option<Use<'a>>,

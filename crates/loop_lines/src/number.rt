@@ -8,7 +8,7 @@ ghost use Rattle.loop_lines.specs.Forms.{is_number, int_of, small_of, offset_of,
 use crate::words::after_byte;
 use machine_data::limits::{MAX_DISTANCE, MAX_SUBSCRIPT};
 
-/// One more digit fits behind each number below this.
+/// One more digit fits after each number below this.
 const SMALL: u64 = u64::MAX / 10;
 
 /// The value of digits, or `u64::MAX` where it is above. `None` if the word is no number.

@@ -45,8 +45,8 @@ has_statement block = list_any is_statement block
 abbrev pub has_out : List Form → Bool
 has_out block = list_any is_out block
 
--- the line may stand in a block behind these standing lines: arrays, parameters and initial values only before the first
--- statement, statements only before the first `out`, and outs only behind a statement
+-- the line may stand in a block after these standing lines: arrays, parameters and initial values only before the first
+-- statement, statements only before the first `out`, and outs only after a statement
 abbrev pub stands : List Form → Form → Bool
 stands before (LoopLine name) = false
 stands before (ArrayLine name cells) = not (has_statement before)
@@ -80,7 +80,7 @@ abbrev pub any_name : (List ℕ → Bool) → Option (List ℕ) → Bool
 any_name test None = false
 any_name test (Some name) = test name
 
--- a line's declaration of a name, behind so many arrays, parameters and statements
+-- a line's declaration of a name, after so many arrays, parameters and statements
 abbrev pub declared_by : List ℕ → ℕ → ℕ → ℕ → Form → Option Declared
 declared_by name arrays params statements (ArrayLine other cells) = if same_word name other then Some (AnArray arrays) else None
 declared_by name arrays params statements (ParamLine other value) = if same_word name other then Some (AParam params) else None
@@ -190,7 +190,7 @@ abbrev pub is_uncovered : List Form → Use → Bool
 is_uncovered block (At name (Some distance)) = not (has_inits block name distance)
 is_uncovered block _ = false
 
--- the faults of a standing line, in order, behind the lines before it, in its block
+-- the faults of a standing line, in order, after the lines before it, in its block
 abbrev pub faults_of : List Form → List Form → Form → Kinds
 faults_of before block (ArrayLine name cells) =
     when (is_long name || list_any is_none cells || nat_lt 1024 (length cells) || nat_le 32 (how_many is_array before)) Limit
@@ -217,7 +217,7 @@ faults_of before block EndLine = when (not (has_statement before)) Limit
 faults_of before block (LoopLine name) = []
 faults_of before block Malformed = []
 
--- the faults of a line that opens a block, behind those that opened the blocks before it
+-- the faults of a line that opens a block, after those that opened the blocks before it
 abbrev pub opening_faults : List (List ℕ) → List ℕ → Kinds
 opening_faults names name =
     when (is_long name || nat_le 1024 (length names)) Limit ++ when (list_any (same_word name) names) RepeatedName

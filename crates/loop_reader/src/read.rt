@@ -45,7 +45,7 @@ impl<'a> Buffers<'a> {
     }
 }
 
-/// A block that was read: its loop, the text behind it and the number of that text's first line.
+/// A block that was read: its loop, the text after it and the number of that text's first line.
 #[derive(Drop)]
 struct BlockRead<'a> {
     found: Loop,
@@ -53,7 +53,7 @@ struct BlockRead<'a> {
     line: usize,
 }
 
-/// Reads a block from the line of this number on, which is the one behind the block's first.
+/// Reads a block from the line of this number on, which is the one after the block's first.
 fn read_block<'a>(
     alloc: Global,
     room: &mut Buffers<'a>,
@@ -113,7 +113,7 @@ fn check_end(statements: usize) -> Result<(), LoopFaultKind>
     Ok(())
 }
 
-/// The first fault of a line that opens a block behind so many others; else its name is added to theirs.
+/// The first fault of a line that opens a block after so many others; else its name is added to theirs.
 fn open<'a>(names: &mut Names<'a>, loops: usize, name: &'a [u8]) -> Result<(), LoopFaultKind>
     ensures { AnswersOpening names.old names.new loops name.now result }
 {

@@ -46,7 +46,7 @@ pieces-within f m (suc high) (x ∷ xs) few h =
 
 -- words
 
--- how many bytes words take, each behind a blank
+-- how many bytes words take, each after a blank
 abbrev words_room : List (List ℕ) → ℕ
 words_room [] = 0
 words_room (word ∷ words) = (1 + length word) + words_room words
@@ -194,7 +194,7 @@ places-room loop is (Some p) h =
     let r = place-length loop is p (h p refl) in
     omega arith
 
--- a store's guard stands behind `if`
+-- a store's guard stands after `if`
 stored-room : (words : List (List ℕ)) → words_room (stored_words words) ≤ words_room words + 3
 stored-room [] = omega arith
 stored-room (w ∷ []) = omega arith

@@ -11,7 +11,7 @@ use Rattle.iterations.specs.declared.language.statement.Statement.{Statement}
 use Rattle.iterations.specs.Loops.{LoopData}
 use Rattle.loops.specs.Text.{following, line_text, array_words, param_words, init_words, statement_words, out_words, text_of}
 
--- the pieces of all elements, each behind a blank
+-- the pieces of all elements, each after a blank
 pub pieces_following : {X : Type 0} (f : X → List ℕ) (before now : List ℕ) (xs : List X) (i : ℕ) → length xs ≤ i
     → now ≡ before ++ flat_map (λ x. 32 ∷ f x) (take i xs) → now ≡ before ++ following (map f xs)
 pieces_following f before now xs i all e =

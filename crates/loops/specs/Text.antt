@@ -16,7 +16,7 @@ pub use Rattle.iterations.specs.NamedParts.{array_name, param_name, value_name, 
 
 -- words
 
--- a name, and behind an `@` a number above 0
+-- a name, and after an `@` a number above 0
 abbrev pub at_distance : List ℕ → ℕ → List ℕ
 at_distance name zero = name
 at_distance name (suc d) = name ++ 64 ∷ decimal (suc d)
@@ -41,7 +41,7 @@ abbrev pub place_words : LoopData → Option Place → List (List ℕ)
 place_words loop None = []
 place_words loop (Some place) = place_word loop place ∷ []
 
--- what a store reads: its value and, behind `if`, its guard
+-- what a store reads: its value and, after `if`, its guard
 abbrev pub stored_words : List (List ℕ) → List (List ℕ)
 stored_words [] = []
 stored_words (value ∷ []) = value ∷ []
@@ -71,7 +71,7 @@ words_of_loop loop =
 
 -- texts
 
--- words behind another, each behind a blank
+-- words after another, each after a blank
 abbrev pub following : List (List ℕ) → List ℕ
 following words = flat_map (λ word. 32 ∷ word) words
 

@@ -99,7 +99,7 @@ fn write_array(text: &mut String, array: &Array) -> Result<(), OutOfMemory>
     Ok(())
 }
 
-/// Writes numbers, each behind a blank.
+/// Writes numbers, each after a blank.
 fn write_numbers(text: &mut String, numbers: &[i64]) -> Result<(), OutOfMemory>
     ensures { IfOk result (λ _. string_bytes text.new ≡ string_bytes text.old ++ following (map signed_decimal numbers.now)) }
 {
@@ -109,7 +109,7 @@ fn write_numbers(text: &mut String, numbers: &[i64]) -> Result<(), OutOfMemory>
     Ok(())
 }
 
-/// Writes a number behind some text.
+/// Writes a number after some text.
 fn write_number(text: &mut String, before: &str, number: i64) -> Result<(), OutOfMemory>
     ensures { IfOk result (λ _. string_bytes text.new ≡ string_bytes text.old ++ (before.now ++ signed_decimal number)) }
 {
@@ -247,7 +247,7 @@ fn write_statement(
     Ok(())
 }
 
-/// Writes a place, if there is one, behind a blank.
+/// Writes a place, if there is one, after a blank.
 fn write_place(text: &mut String, innermost: &Loop, place: Option<Place>) -> Result<(), OutOfMemory>
     requires { (p : Place) → place ≡ Some p → IsPlace innermost.now p }
     ensures { IfOk result (λ _. string_bytes text.new ≡ string_bytes text.old ++ following (place_words innermost.now place)) }
@@ -258,7 +258,7 @@ fn write_place(text: &mut String, innermost: &Loop, place: Option<Place>) -> Res
     Ok(())
 }
 
-/// Writes a place behind a blank.
+/// Writes a place after a blank.
 fn write_cell(text: &mut String, innermost: &Loop, place: Place) -> Result<(), OutOfMemory>
     requires { IsPlace innermost.now place }
     ensures { IfOk result (λ _. string_bytes text.new ≡ string_bytes text.old ++ 32 ∷ place_word innermost.now place) }
@@ -285,7 +285,7 @@ fn write_offset(text: &mut String, offset: i8) -> Result<(), OutOfMemory>
     Ok(())
 }
 
-/// Writes operands, each behind a blank.
+/// Writes operands, each after a blank.
 fn write_operands(
     text: &mut String,
     innermost: &Loop,
@@ -300,7 +300,7 @@ fn write_operands(
     Ok(())
 }
 
-/// Writes what a store reads: its value and, behind `if`, its guard.
+/// Writes what a store reads: its value and, after `if`, its guard.
 fn write_stored(
     text: &mut String,
     innermost: &Loop,
@@ -321,7 +321,7 @@ fn write_stored(
     Ok(())
 }
 
-/// Writes an operand behind a blank.
+/// Writes an operand after a blank.
 fn write_operand(text: &mut String, innermost: &Loop, operand: Operand) -> Result<(), OutOfMemory>
     requires { (number : ℕ) × MayRead innermost.now number operand }
     ensures { IfOk result (λ _. string_bytes text.new ≡ string_bytes text.old ++ 32 ∷ operand_word innermost.now operand) }

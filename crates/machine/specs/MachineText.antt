@@ -1,7 +1,7 @@
 -- What a machine text means: the machine that it describes, or the first check that it fails.
 --
 -- Each check is a list of faults, and the checks stand one after another in the order in which they are made. The first
--- fault of the whole list is the answer. Behind it the list may hold more, which nobody sees.
+-- fault of the whole list is the answer. After it the list may hold more, which nobody sees.
 use Rattle.std.specs.Prelude.{ℕ, pos, ◌==◌, nat_lt, not, ◌&&◌, Bool, true, false, if◌then◌else◌, codes, List, [], ◌∷◌, ◌++◌, length, map, Option, Some, None, option_map, is_some, unwrap_or, Result, Ok, Err, position}
 use Rattle.std.specs.Prelude.{negsuc}
 use Rattle.std.specs.List.{list_any, flat_map, before_first, after_first}
@@ -43,7 +43,7 @@ abbrev pub entries_of : Members → List (List ℕ × Data)
 entries_of no_members = []
 entries_of (member key value rest) = (key, value) ∷ entries_of rest
 
--- keys that a table may not have, each printed behind the path of the table
+-- keys that a table may not have, each printed after the path of the table
 unfoldable pub unknown_keys : List ℕ → List (List ℕ) → Members → Faults
 unknown_keys path known members =
     flat_map (λ entry. unless (list_any (same_word entry.0) known) (UnknownKey (path ++ entry.0))) (entries_of members)
@@ -58,14 +58,14 @@ text_of _ = []
 abbrev pub is_unit_name : List ℕ → Bool
 is_unit_name text = is_unit_word text && within 1 16 (length text)
 
--- an element of `units`, behind the names before it
+-- an element of `units`, after the names before it
 unfoldable pub unit_faults : List (List ℕ) → Data → Faults
 unit_faults before (string name) =
     unless (is_unit_name name) (Limit (codes "unit name"))
     ++ unless (not (list_any (λ other. same_word other name) before)) (RepeatedUnit name)
 unit_faults before _ = WrongType (codes "units") ∷ []
 
--- a check of each element, behind what the elements before it write
+-- a check of each element, after what the elements before it write
 abbrev pub faults_in_turn : {A : Type 0} → (List A → Data → Faults) → (Data → A) → List A → List Data → Faults
 faults_in_turn check written before [] = []
 faults_in_turn check written before (d ∷ ds) = check before d ++ faults_in_turn check written (before ++ written d ∷ []) ds
@@ -123,7 +123,7 @@ row_in units d = row_of units (words_in d)
 abbrev pub same_row : Row → Row → Bool
 same_row row other = (row.unit == other.unit) && (row.offset == other.offset)
 
--- the words of a row, behind the rows before it
+-- the words of a row, after the rows before it
 abbrev pub faults_of_words : List ℕ → List (List ℕ) → List Row → Option (List ℕ × ℕ) → Faults
 faults_of_words path units before None = WrongType path ∷ []
 faults_of_words path units before (Some words) =
@@ -131,7 +131,7 @@ faults_of_words path units before (Some words) =
     ++ unless (list_any (same_word words.0) units) (UnknownUnit words.0)
     ++ unless (not (list_any (λ other. same_row other (row_of units (Some words))) before)) (RepeatedRow path)
 
--- an element of an alternative, behind the rows before it
+-- an element of an alternative, after the rows before it
 unfoldable pub row_faults : List ℕ → List (List ℕ) → List Row → Data → Faults
 row_faults path units before d = faults_of_words path units before (words_in d)
 

@@ -40,14 +40,14 @@ pub record EndsLateAt (problem : ProblemData) (ii budget op time : ℕ) : Type 0
   pub late : 64 ≤ time / ii
   pub first : (sooner : ℕ) → sooner < op → slice_index times sooner / ii < 64
 
--- what keeps an attempt from a schedule: of a failure for each cause who is behind it, and nothing where there is a schedule
+-- what keeps an attempt from a schedule: of a failure for each cause the culprits, and nothing where there is a schedule
 abbrev pub AnswersCulprit : ProblemData → ℕ → ℕ → Option Culprit → Type 0
 AnswersCulprit problem ii budget (Some (Blocked op)) = IsFirstBlocked problem ii op
 AnswersCulprit problem ii budget (Some (Unplaced ops)) = (IsBlocked problem ii → ⊥) × EndsWithout problem ii budget ops.items
 AnswersCulprit problem ii budget (Some (Late op time)) = (IsBlocked problem ii → ⊥) × EndsLateAt problem ii budget op time
 AnswersCulprit problem ii budget None = (schedule : ScheduleData) × AnswersAttempt problem ii budget (Placed schedule)
 
--- the failure that a culprit is behind
+-- the failure that a culprit is after
 abbrev pub failure_of : Culprit → Failure
 failure_of (Blocked op) = Table
 failure_of (Unplaced ops) = Budget

@@ -13,7 +13,7 @@ pub fn breaches_break()
     ensures { BreachesBreak }
 {}
 
-/// Each culprit is behind a failure of the attempt.
+/// Each culprit is the cause of a failure of the attempt.
 pub fn culprits_are_failures()
     ensures { CulpritsAreFailures }
 {}

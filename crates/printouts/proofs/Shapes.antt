@@ -1,4 +1,4 @@
--- The shapes of the memories before and behind a plain run.
+-- The shapes of the memories before and after a plain run.
 use Rattle.std.proofs.Common.{◌≡◌, ◌≤◌, ℕ, zero, suc, ℤ, Bool, true, false, List, [], ◌∷◌, length, Option, Some, None, refl, ◌∙◌}
 use Rattle.std.specs.Prelude.{if◌then◌else◌}
 use Rattle.std.proofs.lemmas.List.{length-map, length-set}
@@ -64,7 +64,7 @@ pub opening_memory : (loop : LoopData) (trip : ℕ) → trip ≤ 100000 → IsMe
 unfolding opening_of
 opening_memory loop trip few = record { trips = few; cells = opening_long trip loop.arrays }
 
--- the memory behind a plain run has the loop's shape, as the one before it has
+-- the memory after a plain run has the loop's shape, as the one before it has
 pub plain_shape : (loop : LoopData) (trip : ℕ) → HasShapeOf loop (plain loop (opening_of loop trip))
 plain_shape loop trip = record {
   same_arrays = plain-many loop (opening_of loop trip) ∙ (opening_shape loop trip).same_arrays;

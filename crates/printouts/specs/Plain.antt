@@ -33,7 +33,7 @@ out_line name value = (((codes "out " ++ name) ++ codes " ") ++ signed_decimal v
 abbrev pub cells_of : ℕ → List ℤ
 cells_of trip = map (λ k. pos k -ℤ pos 64) (range_with_len 0 (trip + 128))
 
--- a cell of the array of this number has another value behind the run than before it
+-- a cell of the array of this number has another value after the run than before it
 abbrev pub is_changed : MemoryData → MemoryData → ℕ → ℤ → Bool
 is_changed opening after array cell = not (int_eq (cell_of after.arrays array cell) (cell_of opening.arrays array cell))
 
@@ -45,7 +45,7 @@ line_if_changed name cell kept value = if not (int_eq value kept) then cell_line
 abbrev pub changed_line : MemoryData → MemoryData → ℕ → List ℕ → ℤ → List ℕ
 changed_line opening after array name cell = line_if_changed name cell (cell_of opening.arrays array cell) (cell_of after.arrays array cell)
 
--- the lines of the cells of an array that a run changed, with the values behind it
+-- the lines of the cells of an array that a run changed, with the values after it
 abbrev pub cell_lines : MemoryData → MemoryData → ℕ → List ℕ → List ℕ
 cell_lines opening after array name =
     flat_map (λ cell. cell_line name cell (cell_of after.arrays array cell)) (filter (is_changed opening after array) (cells_of after.trip))

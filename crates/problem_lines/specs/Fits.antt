@@ -37,7 +37,7 @@ fits expected.Nothing word = false
 abbrev pub fault_on : Expected → Placed → LineFault
 fault_on what w = record { column = w.column; width = length w.bytes; what = what }
 
--- something has to stand in front of these words, behind the word that ends before a column
+-- something has to stand in front of these words, after the word that ends before a column
 abbrev pub misfit : ℕ → Expected → List Placed → Option LineFault
 misfit column what [] = Some (record { column = column; width = 0; what = what })
 misfit column what (w ∷ ws) = if fits what w.bytes then None else Some (fault_on what w)

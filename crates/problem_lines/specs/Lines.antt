@@ -1,6 +1,6 @@
 -- The form of a line by its words, or its first fault.
 --
--- Behind each keyword the places are listed from left to right; what is read of the words is said beside them. A line of words that
+-- After each keyword the places are listed from left to right; what is read of the words is said beside them. A line of words that
 -- do not fit their places has the fault of the first that does not.
 use Rattle.std.specs.Prelude.{ℕ, codes, nat_le, Bool, true, false, if◌then◌else◌, List, [], ◌∷◌, drop, length, map, Option, Some, None, Result, Ok, Err}
 use Rattle.std.specs.Option.{option_or}
@@ -26,7 +26,7 @@ is_word w text = same_word w.bytes text
 abbrev pub is_bar : Placed → Bool
 is_bar w = is_word w (codes "|")
 
--- what stands behind a keyword
+-- what stands after a keyword
 
 -- `units NAME NAME ..`
 abbrev pub unit_places : List Placed → List Expected
@@ -37,7 +37,7 @@ unit_places (w ∷ ws) = UnitName ∷ map (λ (other : Placed). UnitName) ws
 abbrev pub file_places : List Placed → List Expected
 file_places ws = Name ∷ Storage ∷ (if is_word (word_at ws 1) (codes "rotating") then Number ∷ [] else [])
 
--- `HOLD HOLD .. | HOLD ..`: a hold has to stand at the beginning and behind each bar, and elsewhere may stand a hold or a bar
+-- `HOLD HOLD .. | HOLD ..`: a hold has to stand at the beginning and after each bar, and elsewhere may stand a hold or a bar
 abbrev pub hold_places : Bool → List Placed → List Expected
 hold_places true [] = Hold ∷ []
 hold_places true (w ∷ ws) = Hold ∷ hold_places false ws
@@ -64,19 +64,19 @@ places words.Read ws = read_places ws
 places words.Edge ws = Name ∷ Name ∷ Delay ∷ Integer ∷ Distance ∷ Number ∷ []
 places words.End ws = []
 
--- the words behind one word `out`, if it is the first
+-- the words after one word `out`, if it is the first
 abbrev pub behind_out : List Placed → List Placed
 behind_out [] = []
 behind_out (w ∷ ws) = if is_word w (codes "out") then ws else w ∷ ws
 
--- the fault of what stands behind the places: only of a value's may follow a word, `out`
+-- the fault of what stands after the places: only of a value's may follow a word, `out`
 abbrev pub end_fault : first.Keyword → List Placed → Option LineFault
 end_fault words.Value ws = surplus (behind_out ws)
 end_fault keyword ws = surplus ws
 
 -- faults
 
--- the column behind the first word, or this one where there is none
+-- the column after the first word, or this one where there is none
 abbrev pub behind_first : ℕ → List Placed → ℕ
 behind_first column [] = column
 behind_first column (w ∷ ws) = behind w
@@ -85,7 +85,7 @@ abbrev pub behind_one : List Placed → List Placed
 behind_one [] = []
 behind_one (w ∷ ws) = ws
 
--- the first fault of words that stand behind a column and have to fit these places, and behind them this
+-- the first fault of words that stand after a column and have to fit these places, and after them this
 abbrev pub places_fault : (List Placed → Option LineFault) → ℕ → List Expected → List Placed → Option LineFault
 places_fault end column [] ws = end ws
 places_fault end column (what ∷ more) ws =
@@ -131,7 +131,7 @@ abbrev pub unless_fault : {A : Type 0} → Option LineFault → A → Result A L
 unless_fault None form = Ok form
 unless_fault (Some fault) form = Err fault
 
--- what is left of a line behind its keyword
+-- what is left of a line after its keyword
 abbrev pub keyword_line : first.Keyword → LeftWords → Result Form LineFault
 keyword_line keyword left = unless_fault (places_fault (end_fault keyword) left.after (places keyword left.words) left.words) (says keyword left.words)
 

@@ -20,7 +20,7 @@ form_seen (forms.Read reader value distance offset) = spec.ReadLine (word_seen r
 form_seen (forms.Edge from to delay distance) = spec.EdgeLine (word_seen from) (word_seen to) delay distance
 form_seen forms.End = spec.EndLine
 
--- a line behind its keyword
+-- a line after its keyword
 abbrev pub behind_seen : Result Form LineFault → Result spec.Form LineFault
 behind_seen (Ok form) = Ok (form_seen form)
 behind_seen (Err fault) = Err fault

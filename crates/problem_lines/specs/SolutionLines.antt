@@ -12,7 +12,7 @@ use Rattle.problem_lines.specs.declared.fault.LineFault.{LineFault}
 use Rattle.problem_lines.specs.declared.keyword.SolutionKeyword as first
 use Rattle.problem_lines.specs.declared.keyword.SolutionKeyword.TheVariants as words
 
--- what stands behind a keyword
+-- what stands after a keyword
 abbrev pub solution_places : first.SolutionKeyword → List Expected
 solution_places words.Solution = Name ∷ Ii ∷ Number ∷ []
 solution_places words.Op = Name ∷ Time ∷ Number ∷ By ∷ Number ∷ []
@@ -26,7 +26,7 @@ solution_says words.Op ws = OpTime (word_at ws 0) (number_of (word_at ws 2)) (nu
 solution_says words.Value ws = ValueNumber (word_at ws 0) (number_of (word_at ws 2))
 solution_says words.End ws = SolutionEnds
 
--- what is left of a line behind its keyword
+-- what is left of a line after its keyword
 abbrev pub solution_rest : first.SolutionKeyword → LeftWords → Result SolutionForm LineFault
 solution_rest keyword left = unless_fault (places_fault surplus left.after (solution_places keyword) left.words) (solution_says keyword left.words)
 

@@ -14,7 +14,7 @@ solution_form_seen (forms.Op name time alternative) = spec.OpTime (word_seen nam
 solution_form_seen (forms.Value name number) = spec.ValueNumber (word_seen name) number
 solution_form_seen forms.End = spec.SolutionEnds
 
--- a line behind its keyword
+-- a line after its keyword
 abbrev pub solution_rest_seen : Result SolutionForm LineFault → Result spec.SolutionForm LineFault
 solution_rest_seen (Ok form) = Ok (solution_form_seen form)
 solution_rest_seen (Err fault) = Err fault

@@ -31,11 +31,11 @@ words_from column text = pieces_from column (before_first (λ c. c == 35) text)
 abbrev pub placed_words : List ℕ → List Placed
 placed_words line = words_from 1 line
 
--- the column behind a word's last byte
+-- the column after a word's last byte
 abbrev pub behind : Placed → ℕ
 behind w = w.column + length w.bytes
 
--- what is left of a line behind some words, and the column behind the last of them
+-- what is left of a line after some words, and the column after the last of them
 pub record LeftWords : Type 0 where
   pub words : List Placed
   pub after : ℕ

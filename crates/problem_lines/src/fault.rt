@@ -45,7 +45,7 @@ pub enum Expected {
     By,
     /// `number`
     NumberWord,
-    /// No word: this one is behind the end of the form.
+    /// No word: this one is after the end of the form.
     Nothing,
 }
 
@@ -87,7 +87,7 @@ impl fmt::Display for Expected {
 /// The first fault of a line by its words alone.
 #[derive(Clone, Copy, Debug, PartialEq, Eq)]
 pub struct LineFault {
-    /// The column, from 1, of the first byte of the word at fault. Where a word is missing, the column behind the
+    /// The column, from 1, of the first byte of the word at fault. Where a word is missing, the column after the
     /// last byte of the line's last word.
     pub column: usize,
     /// How many bytes the word at fault has: 0 where a word is missing.

@@ -77,7 +77,7 @@ pub fn line_of(line: &[u8]) -> Result<Option<Line<'_>>, LineFault>
     }))
 }
 
-/// What a line says behind its keyword.
+/// What a line says after its keyword.
 fn form_behind<'a>(keyword: Keyword, left: &mut Left<'a>) -> Result<Form<'a>, LineFault>
     ensures { behind_seen result ≡ keyword_line keyword left.old }
 {
@@ -160,7 +160,7 @@ fn op_line<'a>(left: &mut Left<'a>) -> Result<Form<'a>, LineFault>
     Ok(Form::Op(name, kind))
 }
 
-/// `value NAME of OP lands NUM in FILE`, behind which `out` may follow
+/// `value NAME of OP lands NUM in FILE`, after which `out` may follow
 fn value_line<'a>(left: &mut Left<'a>) -> Result<Form<'a>, LineFault>
     ensures { behind_seen result ≡ keyword_line keywords.Value left.old }
 {
@@ -176,7 +176,7 @@ fn value_line<'a>(left: &mut Left<'a>) -> Result<Form<'a>, LineFault>
     Ok(Form::Value(name, maker, lands, file, out))
 }
 
-/// `read OP VALUE`, behind which a distance may follow, and an offset behind that
+/// `read OP VALUE`, after which a distance may follow, and an offset after that
 fn read_line<'a>(left: &mut Left<'a>) -> Result<Form<'a>, LineFault>
     ensures { behind_seen result ≡ keyword_line keywords.Read left.old }
 {

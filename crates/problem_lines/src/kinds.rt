@@ -142,7 +142,7 @@ fn take_hold_or_bar(left: &mut Left<'_>, first: bool) -> Result<bool, LineFault>
     Ok(false)
 }
 
-/// Takes the alternatives that are left of a line, behind the first one's bar.
+/// Takes the alternatives that are left of a line, after the first one's bar.
 pub(crate) fn take_holds(left: &mut Left<'_>) -> Result<(), LineFault>
     ensures fault { fault_seen result ≡ holds_fault true left.old }
     ensures sound { IfOk result (λ _. are_holds left.old.words ≡ true) }

@@ -19,11 +19,11 @@ use crate::scan::first_word;
 use crate::word::Word;
 use std::marker::Model;
 
-/// What is left of a line. Contracts see its words, and the column behind those before it.
+/// What is left of a line. Contracts see its words, and the column after those before it.
 #[derive(Drop)]
 pub(crate) struct Left<'a> {
     rest: &'a [u8],
-    /// The column of the first byte of the rest: the one behind the last word that was taken.
+    /// The column of the first byte of the rest: the one after the last word that was taken.
     column: usize,
 }
 

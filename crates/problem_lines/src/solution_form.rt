@@ -62,7 +62,7 @@ pub fn solution_line_of(line: &[u8]) -> Result<Option<SolutionLine<'_>>, LineFau
     }))
 }
 
-/// What a line says behind its keyword.
+/// What a line says after its keyword.
 fn rest_behind<'a>(
     keyword: SolutionKeyword,
     left: &mut Left<'a>,

@@ -60,7 +60,7 @@ abbrev if_end : Form → List Form → List ProblemData
 if_end EndLine before = problem_of before ∷ []
 if_end form before = []
 
--- behind one line more
+-- after one line more
 ended-behind : (before : List Form) (first : Form) (forms : List Form) (form : Form)
     → ended_from (before ++ first ∷ []) (forms ++ form ∷ []) ≡ ended_from (before ++ first ∷ []) forms ++ if_machine form ((before ++ first ∷ []) ++ forms)
     → ended_from (before ++ first ∷ []) (forms ++ form ∷ []) ≡ ended_from (before ++ first ∷ []) forms ++ if_machine form (before ++ first ∷ forms)

@@ -26,7 +26,7 @@ abbrev pub goes_forward : List Form → Placed → Placed → Number → Bool
 goes_forward before from to distance =
     nat_lt 0 distance.value || nat_lt (index_of (ops_in before) from.bytes) (index_of (ops_in before) to.bytes)
 
--- what is wrong with what the words of a line mean, from left to right, behind these lines; a count that is too large is told on the keyword
+-- what is wrong with what the words of a line mean, from left to right, after these lines; a count that is too large is told on the keyword
 abbrev pub meaning_faults : List Form → (Wrong → Told) → Form → List (Option Told)
 meaning_faults before told (MachineLine name) = new (machines_in before) name ∷ []
 meaning_faults before told (UnitsLine names) = units_fault (units_in before) names ∷ []
@@ -88,7 +88,7 @@ abbrev pub judged : Option Told → ℕ → Result (List Form) TextFault → Res
 judged None number rest = rest
 judged (Some told) number rest = Err (at_line number told)
 
--- the lines of a text from this number on, behind these: all that have words, or the first fault
+-- the lines of a text from this number on, after these: all that have words, or the first fault
 abbrev pub forms_from : ℕ → List Form → List (Result (Option LineForm) LineFault) → Result (List Form) TextFault
 forms_from number before [] = if is_inside before then Err (end_fault number) else Ok before
 forms_from number before (Err fault ∷ lines) = Err (form_fault number fault)

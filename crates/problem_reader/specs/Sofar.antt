@@ -13,7 +13,7 @@ abbrev pub is_problem : Form → Bool
 is_problem (ProblemLine name) = true
 is_problem form = false
 
--- the lines behind the last one that is so; behind these where there is none
+-- the lines after the last one that is so; after these where there is none
 abbrev pub since : (Form → Bool) → List Form → List Form → List Form
 since opens sofar [] = sofar
 since opens sofar (form ∷ forms) = if opens form then since opens [] forms else since opens (sofar ++ form ∷ []) forms
@@ -43,7 +43,7 @@ inside now (form ∷ forms) = inside now forms
 abbrev pub is_inside : List Form → Bool
 is_inside before = inside false before
 
--- the line may stand behind these
+-- the line may stand after these
 abbrev pub stands : List Form → Form → Bool
 stands before (MachineLine name) = not (is_inside before)
 stands before (ProblemLine name) = has_machine before && not (is_inside before)

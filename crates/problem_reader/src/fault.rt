@@ -8,7 +8,7 @@ use std::fmt;
 pub struct TextFault {
     /// The line's number, from 1; 0 for a text that is too long and for want of memory.
     pub line: usize,
-    /// The column of the first byte of the word at fault, from 1; where a word is missing, and behind the last line, the
+    /// The column of the first byte of the word at fault, from 1; where a word is missing, and after the last line, the
     /// column where it would stand. 0 where the line is 0.
     pub column: usize,
     /// How many bytes the word at fault has: 0 where none is there.

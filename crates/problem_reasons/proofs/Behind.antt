@@ -1,4 +1,4 @@
--- Who is behind a failure.
+-- The culprits of a failure.
 use Rattle.std.proofs.Common.{◌≡◌, ℕ, Option, Some, None, Result, Ok, Err, refl, ap}
 use Rattle.std.specs.Prelude.{IfOk}
 use Rattle.modulo.specs.declared.outcome.attempts.Culprit.{Culprit}

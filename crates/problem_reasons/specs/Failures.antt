@@ -1,4 +1,4 @@
--- Why an interval gives no solution, and who is behind it.
+-- Why an interval gives no solution, and its culprits.
 use Rattle.std.specs.Prelude.{◌≡◌, ℕ, Option, Some, None}
 use Rattle.modulo.specs.declared.outcome.attempts.Culprit.{Culprit}
 use Rattle.modulo.specs.Culprits.{AnswersCulprit, failure_of}
@@ -15,14 +15,14 @@ pub record IsBehind (problem : ProblemData) (ii : ℕ) (cause : Cause) (found : 
   pub same_cause : cause_of (failure_of culprit) ≡ cause
   pub is_culprit : AnswersCulprit problem.scheduling ii (budget_of problem.scheduling) (Some culprit)
 
--- who is behind a cause; behind a lack of registers nobody but the value that the cause names
+-- the culprits of a cause; of a lack of registers nobody but the value that the cause names
 abbrev pub IsEvidence : ProblemData → ℕ → Cause → Option Culprit → Type 0
 IsEvidence problem ii Table found = IsBehind problem ii Table found
 IsEvidence problem ii Budget found = IsBehind problem ii Budget found
 IsEvidence problem ii Stages found = IsBehind problem ii Stages found
 IsEvidence problem ii (Registers file value) found = found ≡ None
 
--- a cause, and who is behind it
+-- a cause, and its culprits
 pub record FailureData : Type 0 where
   pub cause : Cause
   pub found : Option Culprit

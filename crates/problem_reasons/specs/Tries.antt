@@ -16,7 +16,7 @@ use Rattle.problem_reasons.specs.declared.hold.Hold.{Hold}
 use Rattle.problem_reasons.specs.Failures.{FailsFor, FailureData}
 use Rattle.problem_reasons.specs.Holds.{IsHold, hold_word}
 
--- `try I CAUSE`, with what is behind it, with a line feed
+-- `try I CAUSE`, with its culprits, with a line feed
 abbrev pub try_line : Draft → ℕ → FailureData → List ℕ
 try_line draft ii failure = ((told (codes "try ") ii ++ codes " ") ++ cause_text draft failure.cause failure.found) ++ codes "\n"
 
@@ -39,7 +39,7 @@ IsEnd problem (Met s) text = (hold : Hold) × IsHold problem s.ii hold × (text 
 IsEnd problem (Failed cause) text = text ≡ []
 
 -- what a problem comes to, with a line for each interval, from the least one on, that gives no solution, with its cause and what is
--- behind it
+-- after it
 pub record AreTries (problem : ProblemData) (outcome : Outcome) (text : List ℕ) : Type 0 where
   pub is_solved : IsSolved problem outcome
   pub lines : List ℕ

@@ -1,4 +1,4 @@
-//! Who is behind the failure of an interval.
+//! The culprits of the failure of an interval.
 
 ghost use Rattle.std.specs.Prelude.{◌≡◌, ◌≤◌, IfOk};
 ghost use Rattle.modulo.specs.Culprits.{AnswersCulprit};
@@ -36,7 +36,7 @@ fn culprit_at(alloc: Global, problem: &Problem, ii: u64) -> Result<Option<Culpri
     culprit::<DefaultTable>(alloc, scheduling, ii, budget(scheduling))
 }
 
-/// Who is behind the cause by which an interval, in cycles, gives no solution; of a lack of registers nobody else. The attempt is made
+/// The culprits of the cause by which an interval, in cycles, gives no solution; of a lack of registers nobody else. The attempt is made
 /// once more to find that out.
 pub(crate) fn evidence(
     alloc: Global,

@@ -27,7 +27,7 @@ fn is_met(outcome: &Outcome) -> bool
 /// Appends why a problem has its interval, in cycles: its [line of bounds](problem_graphs::push_problem_line); the units that it uses by the
 /// choices of the resource-constrained bound, with the operations that use them; a circuit that the recurrence-constrained bound is
 /// due to, with its edges, where the bound is above 1; each interval that is tried and gives no solution, with its cause and what is
-/// behind it; the interval that gives one, and what holds it; and that solution, or why the last interval gives none, as
+/// after it; the interval that gives one, and what holds it; and that solution, or why the last interval gives none, as
 /// [`push_outcome`](solution_text::push_outcome) tells it. The result is whether there is a solution.
 ///
 /// # Errors

@@ -16,7 +16,7 @@ use solutions::{Cause, Outcome, Trials};
 use std::alloc::{AllocError, Global};
 use writing::{Text, push_both, push_told};
 
-/// Appends the line of an interval, in cycles, that gives no solution, with the cause and who is behind it.
+/// Appends the line of an interval, in cycles, that gives no solution, with the cause and its culprits.
 fn push_try(
     text: &mut Vec<u8>,
     draft: &Draft,

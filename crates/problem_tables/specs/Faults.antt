@@ -53,7 +53,7 @@ in_range least most n = unless (nat_le least n.value && nat_le n.value most) (on
 
 -- machines
 
--- the names of a `units` line, behind those of the machine so far
+-- the names of a `units` line, after those of the machine so far
 abbrev pub units_fault : List (List ℕ) → List Placed → Option Told
 units_fault units [] = None
 units_fault units (name ∷ names) = first_of (
@@ -78,7 +78,7 @@ abbrev pub offset_fault : ℕ → Option Number → Option Told
 offset_fault most None = None
 offset_fault most (Some n) = in_range 0 most n
 
--- the holds of an alternative, behind these holds of it
+-- the holds of an alternative, after these holds of it
 abbrev pub holds_fault : List (List ℕ) → List HoldForm → List HoldForm → Option Told
 holds_fault units sofar [] = None
 holds_fault units sofar (hold ∷ holds) = first_of (
@@ -94,7 +94,7 @@ abbrev pub alternative_room : ℕ → List HoldForm → Option Told
 alternative_room count [] = None
 alternative_room count (hold ∷ holds) = room_at (on_word hold.unit) count 16 part.Alternatives
 
--- the alternatives of a kind, behind so many of them
+-- the alternatives of a kind, after so many of them
 abbrev pub alternatives_fault : List (List ℕ) → ℕ → List (List HoldForm) → Option Told
 alternatives_fault units count [] = None
 alternatives_fault units count (holds ∷ more) = first_of (

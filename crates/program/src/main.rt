@@ -31,7 +31,7 @@ fn run<R: AllocGlobal + Env + Files + Print + Threads + Sync>(rt: &R) -> Result<
     answer(rt, words.as_slice())
 }
 
-/// The words of the command line behind the program's name.
+/// The words of the command line after the program's name.
 fn words<R: AllocGlobal + Env>(rt: &R) -> Result<Vec<String>, Usage>
     ensures { IfErr result IsNoRequest }
 {

@@ -32,13 +32,13 @@ pub record IsLeast (ii registers : ℕ) (before : List Lifetime) (numbers : List
   pub lawful : IsLawfulAllotment ii registers (before ++ life ∷ []) (numbers ++ number ∷ [])
   pub least : (other : ℕ) → other < number → ¬ IsLawfulAllotment ii registers (before ++ life ∷ []) (numbers ++ other ∷ [])
 
--- each number is the least one behind those before it
+-- each number is the least one after those before it
 pub record AreLeast (ii registers : ℕ) (lives : List Lifetime) (numbers : List ℕ) : Type 0 where
   pub each : length numbers ≡ length lives
   pub least : (k : ℕ) (life : Lifetime) → slice_get lives k ≡ Some life
       → IsLeast ii registers (take k lives) (take k numbers) life (slice_index numbers k)
 
--- behind the least numbers of those before it, some lifetime has no number
+-- after the least numbers of those before it, some lifetime has no number
 pub record HaveNone (ii registers : ℕ) (lives : List Lifetime) : Type 0 where
   pub place : ℕ
   pub life : Lifetime

@@ -3,7 +3,7 @@ use Rattle.std.specs.Prelude.{◌≡◌, ℕ, List, [], ◌∷◌, ◌++◌, tak
 use Rattle.registers.specs.declared.lifetime.Lifetime.{Lifetime}
 use Rattle.registers.specs.Allotments.{IsLawfulAllotment, AreLeast}
 
--- behind the least numbers of those before it, this lifetime has no number. Those before it have one each, so it is the first
+-- after the least numbers of those before it, this lifetime has no number. Those before it have one each, so it is the first
 pub record HasNone (ii registers : ℕ) (lives : List Lifetime) (life : Lifetime) : Type 0 where
   pub place : ℕ
   pub is_life : slice_get lives place ≡ Some life

@@ -53,7 +53,7 @@ pub fn least_is_one()
     ensures { LeastIsOne }
 {}
 
-/// There is none where some value has no number behind the least ones of those before it.
+/// There is none where some value has no number after the least ones of those before it.
 pub fn least_or_none()
     ensures { LeastOrNone }
 {}

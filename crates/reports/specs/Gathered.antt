@@ -1,4 +1,4 @@
--- What is left to try behind reports.
+-- What is left to try after reports.
 use Rattle.std.specs.Prelude.{ℕ, zero, suc, ◌+◌, ◌-◌, if◌then◌else◌, List, [], ◌∷◌}
 use Rattle.ims.specs.Problems.{ProblemData, mii_of}
 use Rattle.candidates.specs.declared.choices.Choice.{Choice}

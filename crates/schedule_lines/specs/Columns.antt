@@ -10,7 +10,7 @@ use Rattle.schedule_lines.specs.Slots.{greatest_live, is_used, live_count, live_
 abbrev pub width_of : List (List ℕ) → ℕ
 width_of cells = greatest_of (map length cells)
 
--- a cell that stands to the right in its column, and the same behind a blank
+-- a cell that stands to the right in its column, and the same after a blank
 abbrev pub padded : ℕ → List ℕ → List ℕ
 padded width cell = replicate (width - length cell) 32 ++ cell
 

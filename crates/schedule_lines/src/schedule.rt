@@ -28,7 +28,7 @@ fn push_idle(text: &mut Vec<u8>, idle: usize) -> Result<(), AllocError>
 /// Each value has a line `value NAME lives F to L register K`, with the first and the last cycle in which it
 /// lives in iteration 0 and the number of its register. The grid has a line for each row of the modulo
 /// reservation table: in the column of a unit stands the operation that takes it in that row, with its stage
-/// behind a slash, or a dot; in the last column how many registers hold a value then, with `full` where they
+/// after a slash, or a dot; in the last column how many registers hold a value then, with `full` where they
 /// are the most. Units that no operation takes are left out, and a last line `idle units N` counts them where
 /// there are any. Each cell stands to the right in its column. Widths are counted in bytes, so where a name
 /// has characters of several bytes its column looks narrower.

@@ -17,7 +17,7 @@ use std::alloc::Global;
 pub(crate) struct Slots {
     /// For each row and unit, one row after another, the place of the slot's text.
     pub(crate) takers: Vec<u8>,
-    /// The text of an empty slot, and behind it that of each operation.
+    /// The text of an empty slot, and after it that of each operation.
     pub(crate) texts: Vec<Vec<u8>>,
 }
 

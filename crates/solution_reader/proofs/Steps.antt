@@ -41,14 +41,14 @@ solutions-push (first ∷ lines) line before =
 solutions-more : (before : List TextLine) (line : TextLine) → solutions_in (before ++ line ∷ []) ≡ solutions_in before ++ ended_by before line.form
 solutions-more before line = solutions-push before line []
 
--- behind a line that begins no solution
+-- after a line that begins no solution
 told-more : {A : Type 0} (f : TextLine → Option A) (before : List TextLine) (line : TextLine) → begins line.form ≡ false
     → filter_map f (since [] (before ++ line ∷ [])) ≡ filter_map f (since [] before) ++ filter_map f (line ∷ [])
 told-more f before line h =
     let cut : since [] (before ++ line ∷ []) ≡ since [] before ++ line ∷ [] = since-push before line [] ∙ ap (λ b. if b then [] else since [] before ++ line ∷ []) h in
     ap (filter_map f) cut ∙ filter_map-append f (since [] before) (line ∷ [])
 
--- behind one that begins a solution
+-- after one that begins a solution
 told-none : {A : Type 0} (f : TextLine → Option A) (before : List TextLine) (line : TextLine) → begins line.form ≡ true → filter_map f (since [] (before ++ line ∷ [])) ≡ []
 told-none f before line h =
     let cut : since [] (before ++ line ∷ []) ≡ [] = since-push before line [] ∙ ap (λ b. if b then [] else since [] before ++ line ∷ []) h in

@@ -40,12 +40,12 @@ new names name = unless (not (has_name names name.bytes)) (on_word name wrong.Re
 abbrev pub one_more : (Wrong → Told) → List (List ℕ) → ℕ → Part → Placed → Option Told
 one_more told names most what name = first_of (room_at told (length names) most what ∷ new names name ∷ [])
 
--- the line may stand behind these: what begins a solution outside one, the others inside
+-- the line may stand after these: what begins a solution outside one, the others inside
 abbrev pub stands : List TextLine → SolutionForm → Bool
 stands before (SolutionBegins name ii) = is_none (head_in before)
 stands before form = is_some (head_in before)
 
--- what is wrong with what the words of a line mean, behind these lines; a count that is too large is told on the keyword
+-- what is wrong with what the words of a line mean, after these lines; a count that is too large is told on the keyword
 abbrev pub meaning_fault : List TextLine → (Wrong → Told) → SolutionForm → Option Told
 meaning_fault before told (SolutionBegins name ii) = one_more told (solution_names (solutions_in before)) 4096 part.Solutions name
 meaning_fault before told (OpTime name time alternative) = one_more told (op_names (ops_in before)) 128 part.Operations name

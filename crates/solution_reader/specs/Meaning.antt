@@ -18,7 +18,7 @@ at_line number told = record { line = number; column = told.column; width = told
 abbrev pub form_fault : ℕ → LineFault → SolutionFault
 form_fault number fault = record { line = number; column = fault.column; width = fault.width; what = wrong.Form fault.what }
 
--- behind the last line, whose number is one below this, a solution is under way
+-- after the last line, whose number is one below this, a solution is under way
 abbrev pub end_fault : ℕ → SolutionFault
 end_fault number = record { line = number; column = 1; width = 0; what = wrong.NoEnd }
 
@@ -35,7 +35,7 @@ judged (Some told) number rest = Err (at_line number told)
 abbrev pub text_line : ℕ → SolutionLineForm → TextLine
 text_line number line = record { number = number; form = line.form }
 
--- the lines of a text from this number on, behind these: all that say something, or the first fault
+-- the lines of a text from this number on, after these: all that say something, or the first fault
 abbrev pub lines_from : ℕ → List TextLine → List (Result (Option SolutionLineForm) LineFault) → Result (List TextLine) SolutionFault
 lines_from number before [] = if is_some (head_in before) then Err (end_fault number) else Ok before
 lines_from number before (Err fault ∷ lines) = Err (form_fault number fault)

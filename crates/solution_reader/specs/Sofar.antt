@@ -13,14 +13,14 @@ abbrev pub begins : SolutionForm → Bool
 begins (SolutionBegins name ii) = true
 begins form = false
 
--- the lines behind the last one that begins a solution; behind these where there is none
+-- the lines after the last one that begins a solution; after these where there is none
 abbrev pub since : List TextLine → List TextLine → List TextLine
 since sofar [] = sofar
 since sofar (line ∷ lines) = if begins line.form then since [] lines else since (sofar ++ line ∷ []) lines
 
 -- the solution under way
 
--- how the solution under way begins behind one more line, if there is one
+-- how the solution under way begins after one more line, if there is one
 abbrev pub head_behind : Option HeadData → ℕ → SolutionForm → Option HeadData
 head_behind head number (SolutionBegins name ii) = Some (record { name = name; line = number; ii = ii.value })
 head_behind head number SolutionEnds = None
@@ -42,7 +42,7 @@ abbrev pub value_told : ℕ → SolutionForm → Option ValueData
 value_told number (ValueNumber name told) = Some (record { name = name; line = number; number = told.value })
 value_told number form = None
 
--- what the lines behind the last one that begins a solution tell
+-- what the lines after the last one that begins a solution tell
 abbrev pub ops_in : List TextLine → List OpData
 ops_in before = filter_map (λ (line : TextLine). op_told line.number line.form) (since [] before)
 
@@ -55,12 +55,12 @@ abbrev pub solution_with : List OpData → List ValueData → Option HeadData �
 solution_with ops values None = []
 solution_with ops values (Some head) = record { head = head; ops = ops; values = values } ∷ []
 
--- the solution that a line behind these ends
+-- the solution that a line after these ends
 abbrev pub ended_by : List TextLine → SolutionForm → List SolutionData
 ended_by before SolutionEnds = solution_with (ops_in before) (values_in before) (head_in before)
 ended_by before form = []
 
--- those that the lines behind these end
+-- those that the lines after these end
 abbrev pub solutions_from : List TextLine → List TextLine → List SolutionData
 solutions_from before [] = []
 solutions_from before (line ∷ lines) = ended_by before line.form ++ solutions_from (before ++ line ∷ []) lines

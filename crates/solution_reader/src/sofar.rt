@@ -34,7 +34,7 @@ pub(crate) struct Sofar<'a> {
     values: Values<'a>,
 }
 
-/// The fault of one more name, which is there already where `there` says so, behind so many of its part.
+/// The fault of one more name, which is there already where `there` says so, after so many of its part.
 fn name_fault(
     at: Spot,
     count: usize,

@@ -18,14 +18,14 @@ pub record IsBehind (problem : ProblemData) (cause : Cause) (found : Option Culp
   pub same_cause : cause_of (failure_of culprit) ≡ cause
   pub is_culprit : AnswersCulprit problem.scheduling (last_of problem) (budget_of problem.scheduling) (Some culprit)
 
--- who is behind a cause; behind a lack of registers nobody but the value that the cause names
+-- the culprits of a cause; of a lack of registers nobody but the value that the cause names
 abbrev pub IsEvidence : ProblemData → Cause → Option Culprit → Type 0
 IsEvidence problem Table found = IsBehind problem Table found
 IsEvidence problem Budget found = IsBehind problem Budget found
 IsEvidence problem Stages found = IsBehind problem Stages found
 IsEvidence problem (Registers file value) found = found ≡ None
 
--- the text of a problem that has no solution, with who is behind the cause
+-- the text of a problem that has no solution, with the culprits of the cause
 abbrev pub IsFailedText : List ℕ → List ℕ → ProblemData → Cause → List ℕ → Type 0
 IsFailedText name notes problem cause text = (found : Option Culprit) × IsEvidence problem cause found × (text ≡ failed_text name notes problem cause found)
 

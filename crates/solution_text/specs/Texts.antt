@@ -50,7 +50,7 @@ evidence_text draft (Some culprit) = codes ":" ++ culprit_text draft culprit
 abbrev pub lack_text : Draft → ℕ → ℕ → List ℕ
 lack_text draft file value = ((codes "registers of " ++ file_name draft file) ++ codes ": ") ++ value_name draft value
 
--- a cause, with what is behind it: of a lack of registers the file and the value that has none, of the others who is behind them
+-- a cause, with its culprits: of a lack of registers the file and the value that has none, of the others the culprits
 abbrev pub cause_text : Draft → Cause → Option Culprit → List ℕ
 cause_text draft Table culprit = codes "table" ++ evidence_text draft culprit
 cause_text draft Budget culprit = codes "budget" ++ evidence_text draft culprit

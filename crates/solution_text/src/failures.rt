@@ -40,7 +40,7 @@ fn push_late(text: &mut Vec<u8>, draft: &Draft, op: usize, time: u64) -> Result<
     push_told(text, " at ", time)
 }
 
-/// Appends who is behind a failure.
+/// Appends the culprits of a failure.
 fn push_culprit(text: &mut Vec<u8>, draft: &Draft, culprit: &Culprit) -> Result<(), AllocError>
     ensures ok { OnOk result (text.new.items ≡ text.old.items ++ culprit_text draft.now culprit.now) }
 {
@@ -51,7 +51,7 @@ fn push_culprit(text: &mut Vec<u8>, draft: &Draft, culprit: &Culprit) -> Result<
     }
 }
 
-/// Appends a cause, and who is behind it, where that is known.
+/// Appends a cause, and its culprits, where that is known.
 fn push_evidence(
     text: &mut Vec<u8>,
     draft: &Draft,
@@ -80,7 +80,7 @@ fn push_lack(text: &mut Vec<u8>, draft: &Draft, file: usize, value: usize) -> Re
     push_name(text, draft.names.values.as_slice(), value)
 }
 
-/// Appends a cause by which an interval gives no solution, with who is behind it, where that is known: of a lack of registers the
+/// Appends a cause by which an interval gives no solution, with its culprits, where that is known: of a lack of registers the
 /// file and the value that has none, of the other causes the culprit that is given.
 ///
 /// # Errors
@@ -120,7 +120,7 @@ fn push_failure(
 }
 
 /// Appends the text of a problem that has no solution: its bounds, other lines on it that are given as they are, and why the last
-/// interval that is tried gives none, with who is behind it, where that is known: of a lack of registers the file and the value
+/// interval that is tried gives none, with its culprits, where that is known: of a lack of registers the file and the value
 /// that has none, of the other causes the culprit that is given.
 ///
 /// # Errors

@@ -36,7 +36,7 @@ fn last_culprit(alloc: Global, problem: &Problem) -> Result<Option<Culprit>, Out
     culprit::<DefaultTable>(alloc, scheduling, last, budget(scheduling))
 }
 
-/// Who is behind the cause by which the last interval that is tried gives no solution; of a lack of registers nobody else.
+/// The culprits of the cause by which the last interval that is tried gives no solution; of a lack of registers nobody else.
 fn evidence(alloc: Global, problem: &Problem, cause: Cause) -> Result<Option<Culprit>, OutOfMemory>
     requires { FailsBy problem.now (last_of problem.now) cause }
     ensures { IfOk result (IsEvidence problem.now cause) }
@@ -67,7 +67,7 @@ fn push_without(
 }
 
 /// Appends the text of what a problem gives, as [`solve`](solutions::solve) found it: its bounds, other lines on it that are given
-/// as they are, and its solution, or why the last interval that is tried gives none and who is behind it. The attempt at that
+/// as they are, and its solution, or why the last interval that is tried gives none and its culprits. The attempt at that
 /// interval is made once more to find that out.
 ///
 /// # Errors

@@ -30,7 +30,7 @@ pub record Gives (problem : ProblemData) (ii : ℕ) (s : SolutionData) : Type 0 
   pub is_placed : IsPlacedAs problem ii (schedule_of s)
   pub least : HasLeastNumbers s
 
--- behind the least numbers of those before it in its file, which is rotating, the value has no number. Those before it have one each
+-- after the least numbers of those before it in its file, which is rotating, the value has no number. Those before it have one each
 pub record HasNoNumber (draft : Draft) (schedule : ScheduleData) (file value : ℕ) : Type 0 where
   pub registers : ℕ
   pub is_rotating : slice_get draft.files.items file ≡ Some (Rotating registers)

@@ -77,7 +77,7 @@ pub record IsLawfulSolution (s : SolutionData) : Type 0 where
   pub files : (file registers : ℕ) → slice_get s.problem.draft.files.items file ≡ Some (Rotating registers)
       → IsLawfulAllotment s.ii registers (in_file (files_of s.problem.draft) file (lives_of_solution s)) (in_file (files_of s.problem.draft) file s.numbers)
 
--- in each rotating file each number is the least one behind those before it
+-- in each rotating file each number is the least one after those before it
 pub record HasLeastNumbers (s : SolutionData) : Type 0 where
   pub numbers : AreNumbers s.problem.draft s.numbers
   pub files : (file registers : ℕ) → slice_get s.problem.draft.files.items file ≡ Some (Rotating registers)

@@ -8,13 +8,13 @@ use Rattle.graph_text.specs.Names.{op_name}
 use Rattle.graph_text.specs.Texts.{numbers_of, told}
 use Rattle.unit_uses.specs.Choices.{rows_at}
 
--- `*K` behind the name of an operation that uses a unit K times, where K is above 1
+-- `*K` after the name of an operation that uses a unit K times, where K is above 1
 abbrev pub times_text : ℕ → List ℕ
 times_text zero = []
 times_text (suc zero) = []
 times_text (suc (suc n)) = told (codes "*") (suc (suc n))
 
--- an operation behind a blank, with how often it uses a unit; nothing where it does not
+-- an operation after a blank, with how often it uses a unit; nothing where it does not
 abbrev pub user_text : LoopData → ℕ → ℕ → List ℕ
 user_text loop number zero = []
 user_text loop number (suc n) = (codes " " ++ op_name loop number) ++ times_text (suc n)

@@ -138,7 +138,7 @@ fn push_unit_line(
 
 /// Appends a line for each unit of a machine that a loop uses by these choices, in the machine's order:
 /// `unit U uses N: NAME NAME*2 ..`. N is how many rows of the chosen alternatives are of the unit. The operations
-/// that use it follow in text order, each by its value's name or, for a store, its place, with `*K` behind one
+/// that use it follow in text order, each by its value's name or, for a store, its place, with `*K` after one
 /// that uses it K times, K above 1. A unit whose uses no unit has more than is marked, as in
 /// `unit U uses N full: ..`; by the choices of [`unit_choices`](crate::unit_choices) that N is the
 /// resource-constrained lower bound.

@@ -90,7 +90,7 @@ m = mul p p
 end
 ";
 
-/// An operation far behind the first.
+/// An operation far after the first.
 pub const FAR: &str = "\
 loop far
 param p = 1

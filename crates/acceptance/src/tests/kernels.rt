@@ -344,9 +344,9 @@ fn every_opcode(alloc: Global) -> Result<Operations, OutOfMemory> {
 }
 
 // Preloads and outs stand in the order of their lists, each on a line. Between them is a line for each of
-// the rows 0 to 4; the rows 2 and 3 have no operation, and so nothing behind the colon. In a row the
+// the rows 0 to 4; the rows 2 and 3 have no operation, and so nothing after the colon. In a row the
 // operations stand in the order of their numbers. A store has no register of its own, and alternative 0
-// isn't written; an address shows its sign also at 0; a store's second source stands behind `if`.
+// isn't written; an address shows its sign also at 0; a store's second source stands after `if`.
 const EVERY_OPCODE: &str = "pre r255 9223372036854775807\n\
     pre r0 -1\n\
     0: or r5 r1 r2 ?0 | xor r6 r1 r2 ?0 | min r7 r1 0 ?0 | max r8 limit r2 ?0 | lt r9 r1 r2 ?0 | sel r10 r9 p 0 ?0 | mov r255 p ?0\n\

@@ -313,7 +313,7 @@ fn cuts_loop_texts(rt: HostRuntime) {
     }
 }
 
-// A machine text that is cut behind a whole table is a machine without the other ones, which the loop needs. Cut elsewhere it is
+// A machine text that is cut after a whole table is a machine without the other ones, which the loop needs. Cut elsewhere it is
 // refused, unless it is whole but for its last line feed.
 #[test]
 fn cuts_machine_texts(rt: HostRuntime) {

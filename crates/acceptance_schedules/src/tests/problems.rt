@@ -103,7 +103,7 @@ fn expect_places(
 }
 
 /// The heights at 4 are 7, 5 and 2. So the first sum comes first, at 0; the product 2 cycles later, when u is
-/// free at residue 2; the last sum 3 cycles behind that, at 5, when u is free at residue 1.
+/// free at residue 2; the last sum 3 cycles after that, at 5, when u is free at residue 1.
 #[test]
 fn the_ring_at_4(rt: HostRuntime) -> Result<(), Fail> {
     let alloc = rt.alloc();

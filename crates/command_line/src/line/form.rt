@@ -76,7 +76,7 @@ fn with_problems<'a>(alloc: Global, command: Command<'a>) -> Result<Command<'a>,
 }
 
 // The command with one more subcommand. Whether that was made is looked at here alone, since the checker goes through the drops
-// behind each `?`.
+// after each `?`.
 fn add<'a>(
     command: Command<'a>,
     made: Result<Command<'a>, AllocError>,

@@ -17,7 +17,7 @@ use iterations::Loop;
 use itoa::Buffer;
 use std::alloc::{AllocError, Global};
 
-/// Appends a word and a signed number behind it.
+/// Appends a word and a signed number after it.
 fn push_signed(text: &mut Vec<u8>, word: &[u8], number: i64) -> Result<(), AllocError>
     ensures ok { OnOk result (text.new.items ≡ text.old.items ++ (word.now ++ signed_decimal number)) }
 {

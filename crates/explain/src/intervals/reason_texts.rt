@@ -1,4 +1,4 @@
-//! What is behind the failure of an interval, as text.
+//! Why an interval failed, as text.
 
 ghost use Rattle.std.specs.Prelude.{◌≡◌, ◌<◌, ◌++◌, length, Some, OnOk};
 ghost use Rattle.std.specs.List.{All, flat_map};
@@ -14,7 +14,7 @@ use machine_data::limits::MAX_STATEMENTS;
 use rotating::Lifetime;
 use std::alloc::AllocError;
 
-/// Appends the name of an operation behind a blank.
+/// Appends the name of an operation after a blank.
 fn push_named(text: &mut Vec<u8>, innermost: &Loop, op: usize) -> Result<(), AllocError>
     requires { op < length innermost.now.statements }
     ensures ok { OnOk result (text.new.items ≡ text.old.items ++ named innermost.now op) }
@@ -24,7 +24,7 @@ fn push_named(text: &mut Vec<u8>, innermost: &Loop, op: usize) -> Result<(), All
     push_name(text, innermost, op as u8)
 }
 
-/// Appends the names of operations, each behind a blank.
+/// Appends the names of operations, each after a blank.
 fn push_all_named(text: &mut Vec<u8>, innermost: &Loop, ops: &[usize]) -> Result<(), AllocError>
     requires { All (λ op. op < length innermost.now.statements) ops.now }
     ensures ok { OnOk result (text.new.items ≡ text.old.items ++ flat_map (named innermost.now) ops.now) }
@@ -72,7 +72,7 @@ fn push_culprit(
     }
 }
 
-/// Appends what is behind the failure of an interval.
+/// Appends why an interval failed.
 pub(crate) fn push_reason(
     text: &mut Vec<u8>,
     prepared: &Prepared,

@@ -1,4 +1,4 @@
-//! What is behind the failure of an interval.
+//! Why an interval failed.
 
 ghost use Rattle.std.specs.Prelude.{◌≡◌, ◌≢◌, ◌≤◌, IfOk, Some};
 ghost use Rattle.ims.specs.Culprits.{AnswersCulprit};
@@ -14,7 +14,7 @@ use mrt::DefaultTable;
 use rotating::{Lifetime, first_without_number};
 use std::alloc::Global;
 
-/// What is behind the failure of an interval.
+/// Why an interval failed.
 #[derive(Debug, Drop)]
 pub(crate) enum Reason {
     /// What keeps the attempt from a schedule.
@@ -73,7 +73,7 @@ fn life_without(alloc: Global, prepared: &Prepared, ii: u64) -> Result<Lifetime,
     }
 }
 
-/// What is behind the failure of an interval, in cycles, with its cause.
+/// Why an interval failed, in cycles, with its cause.
 pub(crate) fn reason_of(
     alloc: Global,
     prepared: &Prepared,

@@ -13,7 +13,7 @@ use ims::Prepared;
 use machine_data::OutOfMemory;
 use std::alloc::Global;
 
-/// Appends the line of an interval, in cycles, that gives no kernel, with the cause and what is behind it.
+/// Appends the line of an interval, in cycles, that gives no kernel, with the cause and its culprits.
 fn push_try(
     text: &mut Vec<u8>,
     prepared: &Prepared,

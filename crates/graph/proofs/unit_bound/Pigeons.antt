@@ -11,7 +11,7 @@ use Rattle.machine_data.specs.declared.alternative.Row.{Row}
 use Rattle.machine_data.specs.Alternative.{residue_of, rows_meet}
 use Rattle.graph.specs.Units.{use_of}
 
--- the residues of the rows of a unit, of an operation issued at a time, and behind them others
+-- the residues of the rows of a unit, of an operation issued at a time, and after them others
 abbrev residues : ℕ → ℕ → ℕ → List Row → List ℕ → List ℕ
 residues ii unit time [] others = others
 residues ii unit time (r ∷ rows) others = cond (eqb r.unit unit) (residue_of ii r time ∷ residues ii unit time rows others) (residues ii unit time rows others)

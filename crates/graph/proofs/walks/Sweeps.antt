@@ -134,7 +134,7 @@ exceeds-along edges p ii delay distance a more =
     let sum : delay ≡ delay_of a.walk = a.delay_sum in
     record { start = p; walk = a.walk; closed = a.is_walk; exceeds = omega (arith, ints) }
 
--- numbers in a sweep, once the operations from `op` on were raised: all are as before it, and those are as behind it
+-- numbers in a sweep, once the operations from `op` on were raised: all are as before it, and those are as after it
 pub record IsSwept (graph : GraphData) (ii made op : ℕ) (numbers : List ℕ) : Type 0 where
   pub each : AreReaches graph ii (128 * made + (length graph.latencies - op)) made numbers
   pub done : (p : ℕ) → p < length graph.latencies → op ≤ p → IsReach graph ii (128 * made + (length graph.latencies - op)) (made + 1) p (slice_index numbers p)

@@ -18,7 +18,7 @@ pub record IsLink (statements : List Statement) (array from link : ℕ) : Type 0
 abbrev pub IsNextTouch : List Statement → ℕ → ℕ → Type 0
 IsNextTouch statements k next = (s : Statement) (place : Place) → slice_get statements k ≡ Some s → s.place ≡ Some place → IsLink statements place.array (k + 1) next
 
--- from a statement on, the first one that touches each array and, behind each that touches one, the next
+-- from a statement on, the first one that touches each array and, after each that touches one, the next
 pub record AreLinked (statements : List Statement) (from : ℕ) (first next : List ℕ) : Type 0 where
   pub first_of : (array : ℕ) → array < 256 → IsLink statements array from (slice_index first array)
   pub next_of : (k : ℕ) → from ≤ k → IsNextTouch statements k (slice_index next k)

@@ -107,7 +107,7 @@ fn push_uses(
     Ok(())
 }
 
-/// The statements that touch each array, in their order: the first one, and behind each the next. At the
+/// The statements that touch each array, in their order: the first one, and after each the next. At the
 /// end of an array's stands the number of statements.
 #[derive(Drop)]
 struct SameArrays {

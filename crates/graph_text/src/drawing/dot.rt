@@ -121,7 +121,7 @@ fn push_arrows(
 /// Appends a loop's dependences as a graph in the language of Graphviz. Its label is the loop's name with the
 /// lower bounds of the interval, in cycles. Each operation is a node with its number, labelled with its
 /// name and opcode: it is named by its value, and a store by its place. Each dependence is an edge, labelled
-/// with its [kind](Kind), its delay in cycles and, unless that is 0, behind an `@` its distance in iterations.
+/// with its [kind](Kind), its delay in cycles and, unless that is 0, after an `@` its distance in iterations.
 /// The edges of the circuit are bold; a circuit without edges makes none bold.
 ///
 /// # Errors

@@ -17,7 +17,7 @@ use std::alloc::{AllocError, Global};
 /// A guess of how many bytes a line takes, for the first reservation.
 const LINE: usize = 64;
 
-/// Appends the bounds, each behind its word.
+/// Appends the bounds, each after its word.
 pub(crate) fn push_bounds_told(text: &mut Vec<u8>, bounds: LowerBounds) -> Result<(), AllocError>
     ensures ok { OnOk result (text.new.items ≡ text.old.items ++ bounds_told bounds) }
 {

@@ -25,7 +25,7 @@ use std::alloc::{AllocError, Global};
 /// A guess of how many bytes the lines of a loop take, for the first reservation.
 const PART: usize = 1024;
 
-/// Appends a word, the number of an operation, and its name behind a blank.
+/// Appends a word, the number of an operation, and its name after a blank.
 fn push_numbered(
     text: &mut Vec<u8>,
     word: &[u8],

@@ -3,7 +3,7 @@ use Rattle.std.proofs.Common.{◌≡◌, ℕ, ◌+◌, ◌/◌, ◌%◌, ◌<◌
 use Rattle.std.proofs.lemmas.Fmt.{decimal_digit, decimal_step}
 use Rattle.std.specs.Fmt.{decimal}
 
--- a number of two digits behind some text
+-- a number of two digits after some text
 pub two_digits : (before : List ℕ) (n : ℕ) → 10 ≤ n → n < 100 → (before ++ decimal (n / 10)) ++ decimal (n % 10) ≡ before ++ decimal n
 two_digits before n low high =
     let last : decimal (n % 10) ≡ (48 + n % 10) ∷ [] = decimal_digit (n % 10) (omega arith) in

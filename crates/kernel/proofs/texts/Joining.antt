@@ -22,7 +22,7 @@ in_row-elsewhere row ops i op within is elsewhere =
     let e : (op.row == row) ≡ false = ne_eqb op.row row elsewhere in
     ap (in_row row) (rest_at ops i op within is) ∙ rw e refl
 
--- an operation of the row is written behind what stands before it, and a bar before the next
+-- an operation of the row is written after what stands before it, and a bar before the next
 pub joined_more : (parts : Parts) (row : ℕ) (ops : List Operation) (i : ℕ) (op : Operation) (text now before after all : List ℕ) → i < length ops → op ≡ get_or ops i op → op.row ≡ row
     → now ≡ (text ++ before) ++ operation_text parts op
     → after ≡ codes " | "

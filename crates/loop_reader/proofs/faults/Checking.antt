@@ -121,7 +121,7 @@ or-true false = refl
 statement-kept : (before : List Form) (form : Form) → has_statement before ≡ true → has_statement (before ++ form ∷ []) ≡ true
 statement-kept before form h = list_any-append is_statement before (form ∷ []) ∙ ap (λ b. b || (is_statement form || false)) h
 
--- behind a statement stands no initial value
+-- after a statement stands no initial value
 no-init : (form : Form) (name : List ℕ) (number : Option ℕ) (before : List Form) → has_statement before ≡ true → stands before form ≡ true → is_init name number form ≡ false
 no-init (LoopLine n) name number before h s = refl
 no-init (ArrayLine n c) name number before h s = refl
@@ -142,7 +142,7 @@ pub or-none : (b : Bool) → (b || false) ≡ b
 or-none true = refl
 or-none false = refl
 
--- all initial values of a block stand before a line that comes behind a statement or is one
+-- all initial values of a block stand before a line that comes after a statement or is one
 inits-before : (name : List ℕ) (number : Option ℕ) (before : List Form) (form : Form) (after : List Form) → is_init name number form ≡ false → list_any (is_init name number) after ≡ false
     → list_any (is_init name number) (before ++ form ∷ after) ≡ list_any (is_init name number) before
 inits-before name number before form after h k =

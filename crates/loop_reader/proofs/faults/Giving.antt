@@ -61,7 +61,7 @@ same-test : (a name : List ℕ) (b : Bool) → same_word a name ≡ b → (n k :
 same-test a name true h n k rest e = inl (name, refl, same_word-yes a name h, value-number k n (sym e))
 same-test a name false h n k rest e = inr e
 
--- a name is that of this statement or comes behind it
+-- a name is that of this statement or comes after it
 same-here : (a : List ℕ) (maybe : Option (List ℕ)) (n k : ℕ) (rest : Option Declared) → option_or (if any_name (same_word a) maybe then Some (AValue n) else None) rest ≡ Some (AValue k)
     → ((name : List ℕ) × (maybe ≡ Some name) × (a ≡ name) × (k ≡ n)) ⊎ (rest ≡ Some (AValue k))
 same-here a None n k rest e = inr e

@@ -32,7 +32,7 @@ pub option_or-assoc : {T : Type 0} (a b c : Option T) → option_or a (option_or
 option_or-assoc None b c = refl
 option_or-assoc (Some x) b c = refl
 
--- a declaration behind these lines
+-- a declaration after these lines
 abbrev pub declared_after : List ℕ → List Form → Form → Option Declared
 declared_after q before form = declared_by q (how_many is_array before) (how_many is_param before) (how_many is_statement before) form
 

@@ -39,7 +39,7 @@ extend-mapped f g lines i d old new h before now =
     now ∙ ap (λ ys. ys ++ map g (option_to_list (f (form_seen (get_or lines i d).form)))) before
     ∙ sym (ap (map g) (kept-more f lines i d h) ∙ map-append g (filter_map f (forms_in (take i lines))) (option_to_list (f (form_seen (get_or lines i d).form))))
 
--- the initial values of statements and of more behind them
+-- the initial values of statements and of more after them
 rows_of-append : (inits : List (Option ℤ)) (k : ℕ) (xs ys : List StatementForm) → rows_of inits k (xs ++ ys) ≡ rows_of inits k xs ++ rows_of inits (k + length xs) ys
 rows_of-append inits k [] ys = ap (λ n. rows_of inits n ys) (omega arith)
 rows_of-append inits k (x ∷ xs) ys =

@@ -23,7 +23,7 @@ use Rattle.loop_reader.proofs.making.Lines.{IsClean, IsArrayAt, IsParamAt, IsSta
 use Rattle.loop_reader.proofs.making.Numbered.{EachFrom, each-get, each-weaker, each-map, each-all, each-length, all-join, all-mapped, all-filtered, Ascends, ascends-lower, ascends-append, ascends-pairs, mapped-ascends, filtered-ascends}
 use Rattle.loop_reader.proofs.making.Spelled.{IsSpelled, block-spelled}
 
--- each line has no fault behind the ones before it, in its block
+-- each line has no fault after the ones before it, in its block
 abbrev pub IsFaultlessFrom : List Form → List Form → List Form → Type 0
 IsFaultlessFrom block before [] = Unit {0}
 IsFaultlessFrom block before (form ∷ forms) = (faults_of before block form ≡ []) × IsFaultlessFrom block (before ++ form ∷ []) forms

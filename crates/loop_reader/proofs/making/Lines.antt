@@ -19,7 +19,7 @@ use Rattle.loop_reader.proofs.lookups.Declared.{declared-append, declared_after,
 use Rattle.loop_reader.proofs.making.Numbered.{EachFrom}
 use Rattle.loop_reader.proofs.making.Spelled.{IsSpelled, IsSpelledUse, IsStatementForm, IsOffset, IsKept, OnSome}
 
--- each line of a block is spelled and has no fault behind the lines before it
+-- each line of a block is spelled and has no fault after the lines before it
 pub record IsClean (block : List Form) : Type 0 where
   pub spelled : (front : List Form) (form : Form) (after : List Form) → block ≡ front ++ form ∷ after → IsSpelled form
   pub faultless : (front : List Form) (form : Form) (after : List Form) → block ≡ front ++ form ∷ after → faults_of front block form ≡ []

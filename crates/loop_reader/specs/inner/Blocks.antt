@@ -32,7 +32,7 @@ declared_if q (Some declaration) = if same_word q declaration.0.now then Some (d
 abbrev pub one_if : Bool → ℕ
 one_if b = if b then 1 else 0
 
--- the faults of standing lines behind others, in a block
+-- the faults of standing lines after others, in a block
 abbrev pub entry_faults : List Form → List Form → List LineEntry → List LoopFault
 entry_faults block before [] = []
 entry_faults block before (entry ∷ entries) =
@@ -54,7 +54,7 @@ StopsAt number lines entries (stops.Open line) =
     (whole [] lines ≡ forms_in entries)
     × ((names : List (List ℕ)) → inside_faults number names [] lines ≡ entry_faults (forms_in entries) [] entries ++ at_line line (NoEnd ∷ []))
 
--- the line where they stop and the text behind it are within this bound
+-- the line where they stop and the text after it are within this bound
 abbrev pub IsBehind : ℕ → Stop → Type 0
 IsBehind bound (stops.End line rest) = line + 1 + length rest.now ≤ bound
 IsBehind bound (stops.Unfit line rest) = line + 1 + length rest.now ≤ bound
@@ -66,7 +66,7 @@ pub record IsCounts (block : List Form) (counts : Counts) : Type 0 where
   pub params : counts.params ≡ how_many is_param block
   pub statements : counts.statements ≡ how_many is_statement block
 
--- the line stands in a block behind so many others
+-- the line stands in a block after so many others
 abbrev pub IsLineIn : List Form → Counts → Form → Type 0
 IsLineIn block counts form = (before : List Form) × (after : List Form) × (block ≡ before ++ form ∷ after) × IsCounts before counts
 

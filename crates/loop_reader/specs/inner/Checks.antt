@@ -69,7 +69,7 @@ abbrev pub is_live : List Bool → Option Declared → Bool
 is_live outs (Some (AValue value)) = slice_index_or outs value false
 is_live outs _ = false
 
--- the faults of a line behind so many others
+-- the faults of a line after so many others
 abbrev pub kinds_at : List Form → Counts → List (Option ℤ) → List Bool → Form → Kinds
 kinds_at block counts inits outs (ArrayLine name cells) =
     when (is_long name || list_any is_none cells || nat_lt 1024 (length cells) || nat_le 32 counts.arrays) Limit

@@ -165,7 +165,7 @@ fn is_long_name(name: Option<&[u8]>) -> bool
     }
 }
 
-/// The name of the statement behind so many lines stands for another thing.
+/// The name of the statement after so many lines stands for another thing.
 fn is_repeated_value(index: &Index<'_, '_>, before: Counts, source: &StatementWords<'_>) -> bool
     requires { IsLineIn (forms_in index.now) before (StatementLine (statement_seen source.now)) }
     ensures { result ≡ any_name (λ name. not (is_that (AValue before.statements) (declared (forms_in index.now) name))) (statement_seen source.now).name }
@@ -185,7 +185,7 @@ fn is_wide_place(place: &Option<Subscript<'_>>) -> bool
     }
 }
 
-/// The first fault of an array behind so many lines.
+/// The first fault of an array after so many lines.
 fn array_fault<'a>(
     index: &Index<'_, 'a>,
     counts: Counts,
@@ -255,7 +255,7 @@ fn take_init<'a>(
     }
 }
 
-/// The first fault of a statement behind so many lines; else what its names stand for.
+/// The first fault of a statement after so many lines; else what its names stand for.
 #[inline(always)]
 fn check_statement<'a>(
     index: &Index<'_, 'a>,
@@ -347,7 +347,7 @@ fn nothing_unless(fault: Option<LoopFaultKind>) -> Result<Targets, LoopFaultKind
     }
 }
 
-/// The first fault of a line behind so many others, which gave this to the block's values; else what the
+/// The first fault of a line after so many others, which gave this to the block's values; else what the
 /// names stand for that it uses. What the line gives is taken down.
 #[inline(always)]
 fn take_line<'a>(

@@ -14,15 +14,15 @@ use std::alloc::AllocError;
 /// Where the lines that stand in a block stop.
 #[derive(Clone, Copy)]
 pub(crate) enum Stop<'a> {
-    /// At its `end`, which is the line of this number; with the text behind it.
+    /// At its `end`, which is the line of this number; with the text after it.
     End(usize, &'a [u8]),
-    /// At a line that may not stand there, by its number; with the text behind it.
+    /// At a line that may not stand there, by its number; with the text after it.
     Unfit(usize, &'a [u8]),
-    /// At the end of the text, which is behind the line before this number.
+    /// At the end of the text, which is after the line before this number.
     Open(usize),
 }
 
-/// Which lines a block has so far, as far as they decide what may stand behind them.
+/// Which lines a block has so far, as far as they decide what may stand after them.
 #[derive(Clone, Copy)]
 struct Seen {
     statement: bool,
@@ -35,7 +35,7 @@ impl Seen {
         out: false,
     };
 
-    /// The line may stand behind these.
+    /// The line may stand after these.
     fn allows(self, form: Form<'_>) -> bool
         ensures { (before : List spec.Form) → has_statement before ≡ self.statement → has_out before ≡ self.out
             → result ≡ stands before (form_seen form.entry) }
@@ -101,7 +101,7 @@ fn collect<'a>(
     Ok((seen, Stop::Open(line)))
 }
 
-/// Collects the other lines that stand in the block, behind one that does not. Their numbers are not
+/// Collects the other lines that stand in the block, after one that does not. Their numbers are not
 /// asked for.
 fn collect_rest<'a>(
     lines: &mut Vec<LineEntry<'a>>,

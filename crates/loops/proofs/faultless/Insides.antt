@@ -12,13 +12,13 @@ abbrev pub is_end : Form → Bool
 is_end EndLine = true
 is_end _ = false
 
--- a line of a block that isn't its last one, may stand behind these lines, and has no fault there
+-- a line of a block that isn't its last one, may stand after these lines, and has no fault there
 pub record IsFine (block before : List Form) (form : Form) : Type 0 where
   pub goes_on : is_end form ≡ false
   pub standing : stands before form ≡ true
   pub faultless : faults_of before block form ≡ []
 
--- each of these lines, behind those before it
+-- each of these lines, after those before it
 abbrev pub AreFine : List Form → List Form → List Form → Type 0
 AreFine block before [] = Unit {0}
 AreFine block before (form ∷ forms) = IsFine block before form × AreFine block (before ++ form ∷ []) forms

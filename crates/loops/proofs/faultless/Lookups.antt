@@ -25,7 +25,7 @@ use Rattle.loops.proofs.spelling.LoopNames.{get-some}
 
 -- lists cut at an element
 
--- an element with what stands before it and behind it
+-- an element with what stands before it and after it
 abbrev pub CutAt : {X : Type 0} → List X → ℕ → X → Type 0
 CutAt {X} xs k x = (front : List X) × (back : List X) × (xs ≡ front ++ x ∷ back) × (length front ≡ k)
 

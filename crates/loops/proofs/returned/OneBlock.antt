@@ -35,7 +35,7 @@ block-ended name before (form ∷ forms) h i =
     block-step name before form (ended forms) h.0 i.0 ∙ block-ended name (before ++ form ∷ []) forms h.1 i.1
     ∙ ap (λ b. (name, b) ∷ []) (append_assoc before (form ∷ []) forms)
 
--- lines of one kind behind others
+-- lines of one kind after others
 
 standing-join : (start xs ys : List Form) → IsStanding start xs → IsStanding (start ++ xs) ys → IsStanding start (xs ++ ys)
 standing-join start [] ys h k = subst (λ b. IsStanding b ys) (append-nil start) k
@@ -49,7 +49,7 @@ inner-map : {X : Type 0} (f : X → Form) → ((x : X) → IsInner (f x)) → (x
 inner-map f h [] = tt
 inner-map f h (x ∷ xs) = (h x, inner-map f h xs)
 
--- lines behind which what they need is kept
+-- lines after which what they need is kept
 standing-map : {X : Type 0} (Kept : List Form → Type 0) (f : X → Form) → ((before : List Form) (x : X) → Kept before → (stands before (f x) ≡ true) × Kept (before ++ f x ∷ []))
     → (xs : List X) (start : List Form) → Kept start → IsStanding start (map f xs) × Kept (start ++ map f xs)
 standing-map Kept f step [] start h = (tt, subst Kept (sym (append-nil start)) h)

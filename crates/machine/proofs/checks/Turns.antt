@@ -28,7 +28,7 @@ made-more make vs i v made h is e = rw (take_more vs i v h, ← is, e) (sym (ap 
 pub made-all : {A : Type 0} (make : Data → A) (vs : List Value) (i : ℕ) (made : List A) → length vs ≤ i → made ≡ map make (map view (take i vs)) → made ≡ map make (data_of (items_view vs))
 made-all make vs i made h e = e ∙ rw (take_all i vs h) (ap (map make) (sym (data_of-view vs)))
 
--- checks behind what was made of the elements before, where those have no fault
+-- checks after what was made of the elements before, where those have no fault
 module _ {A : Type 0} (check : List A → Data → Faults) (make : Data → A) (vs : List Value) where
   abbrev pub InTurn : ℕ → List A → Type 0
   InTurn i made = faults_in_turn check make made (map view (drop i vs)) ≡ faults_in_turn check make [] (data_of (items_view vs))

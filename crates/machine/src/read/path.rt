@@ -62,7 +62,7 @@ impl<'a> Path<'a> {
         }
     }
 
-    /// The path with a last piece behind it, as the key of a fault.
+    /// The path with a last piece after it, as the key of a fault.
     pub(crate) fn to_key(&self, alloc: Global, last: &str) -> Result<Key, AllocError>
         ensures { IfOk result (λ key. key ≡ self.now ++ last.now) }
     {

@@ -68,7 +68,7 @@ fn read_alternative(
     Ok(Alternative::new(rows))
 }
 
-/// A row behind others of its alternative.
+/// A row after others of its alternative.
 fn read_row(
     alloc: Global,
     path: &Path,

@@ -36,7 +36,7 @@ pub(crate) fn read_units(alloc: Global, value: Option<&Value>) -> Result<Vec<Nam
     Ok(names)
 }
 
-/// The name of a unit behind others.
+/// The name of a unit after others.
 fn read_unit(alloc: Global, before: &[Name], value: &Value) -> Result<Name, MachineFault>
     ensures { ReadsPart (unit_faults before.now (view value.now)) (λ name. name ≡ text_of (view value.now)) result }
 {
@@ -77,14 +77,14 @@ fn is_unit_word(text: &[u8]) -> bool
     }
 }
 
-/// Whether all of these bytes may stand behind the first of a unit's name.
+/// Whether all of these bytes may stand after the first of a unit's name.
 fn are_unit_bytes(text: &[u8]) -> bool
     ensures { result ≡ list_all is_unit_byte text.now }
 {
     text.iter().all(|c| is_unit_byte(*c))
 }
 
-/// Whether a byte may stand behind the first of a unit's name.
+/// Whether a byte may stand after the first of a unit's name.
 fn is_unit_byte(c: u8) -> bool
     ensures { result ≡ is_unit_byte c }
 {

@@ -52,7 +52,7 @@ or_first : (a b : Bool) → cond a true b ≡ (a || b)
 or_first true b = refl
 or_first false b = refl
 
--- one slot more behind the others, and before them
+-- one slot more after the others, and before them
 pub HasUnits-more : (bits mask : ℕ) (slots : List Slot) (k : ℕ) (d : Slot) → k < length slots → mask ≡ 2 ^ (get_or slots k d).row.unit
     → HasUnits bits (rows_in (take k slots)) → HasUnits (bit_or bits mask) (rows_in (take (k + 1) slots))
 HasUnits-more bits mask slots k d lt m has unit =

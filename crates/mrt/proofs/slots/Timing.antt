@@ -111,7 +111,7 @@ is_set-set words times own at word other place held lt a p written =
     ]
 
 -- ---- places with a residue
--- the places that go on behind an interval of 64 or more
+-- the places that go on after an interval of 64 or more
 pub residue_at : (ii residue p : ℕ) → 64 ≤ ii → p < ii + 64 → p % ii ≡ residue → (p ≡ residue) ⊎ (p ≡ residue + ii)
 residue_at ii residue p long lt at =
     elim (cases_lt p ii) [

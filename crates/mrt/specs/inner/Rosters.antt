@@ -39,7 +39,7 @@ pub record IsKind (operations : OperationAlternatives) (kind : Kind) : Type 0 wh
   pub there : kind.operation < length operations
   pub first : kind.first ≡ first_row (slice_index_or operations kind.operation [])
 
--- what is read behind the end of a list of kinds
+-- what is read after the end of a list of kinds
 abbrev pub no_kind : Kind
 no_kind = record { operation = 0; first = record { unit = 0; offset = 0 } }
 

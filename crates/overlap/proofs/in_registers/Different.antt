@@ -44,7 +44,7 @@ flat-back f (x ∷ xs) y c = elim (Contains-append_cases (f x) (flat_map f xs) y
   | inr d ↦ let r = flat-back f xs y d in (r.0, contains-tail x xs r.0 r.1, r.2)
 ]
 
--- of lists laid behind one another
+-- of lists laid after one another
 pub pairs-flat : {A : Type 0} (R : A → A → Type 0) (f : ℕ → List A) (xs : List ℕ) → AllPairs (λ x y. x ≢ y) xs
     → ((x : ℕ) → Contains xs x → AllPairs R (f x)) → ((x y : ℕ) (u v : A) → Contains xs x → Contains xs y → x ≢ y → Contains (f x) u → Contains (f y) v → R u v)
     → AllPairs R (flat_map f xs)

@@ -60,7 +60,7 @@ fn push_cell(text: &mut Vec<u8>, name: &str, cell: i64, value: i64) -> Result<()
     text.extend_from_slice(&tail[start..])
 }
 
-/// Writes the end of a cell's line, behind the array's name, at the end of a buffer, and returns where it
+/// Writes the end of a cell's line, after the array's name, at the end of a buffer, and returns where it
 /// starts.
 fn write_tail(cell: i64, value: i64, buffer: &mut [u8]) -> usize
     requires { length buffer.old ≡ 44 }

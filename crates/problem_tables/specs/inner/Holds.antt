@@ -10,7 +10,7 @@ use Rattle.problem_tables.specs.declared.fault.Part.TheVariants as part
 use Rattle.problem_tables.specs.declared.fault.Told.{Told}
 use Rattle.problem_tables.specs.declared.fault.Wrong.TheVariants as wrong
 
--- the first hold of an alternative tells that this alternative, behind so many of them, is too many
+-- the first hold of an alternative tells that this alternative, after so many of them, is too many
 abbrev pub crowd_fault : ℕ → List Hold → HoldForm → Option Told
 crowd_fault count [] hold = room_at (on_word hold.unit) count 16 part.Alternatives
 crowd_fault count (first ∷ sofar) hold = unless true (on_word hold.unit wrong.Place)
@@ -18,7 +18,7 @@ crowd_fault count (first ∷ sofar) hold = unless true (on_word hold.unit wrong.
 abbrev pub same_row : Hold → Hold → Bool
 same_row a b = (a.unit == b.unit) && (a.offset == b.offset)
 
--- the faults of a hold behind these holds of its alternative, and so many alternatives
+-- the faults of a hold after these holds of its alternative, and so many alternatives
 abbrev pub hold_fault : List (List ℕ) → ℕ → List Hold → HoldForm → Option Told
 hold_fault units count sofar hold = first_of (
     crowd_fault count sofar hold
@@ -28,7 +28,7 @@ hold_fault units count sofar hold = first_of (
     ∷ unless (not (list_any (same_row (hold_in units hold)) sofar)) (on_word hold.unit wrong.Repeated)
     ∷ [])
 
--- the faults of the alternative that has these holds behind some others
+-- the faults of the alternative that has these holds after some others
 abbrev pub rest_fault : List (List ℕ) → ℕ → List HoldForm → List HoldForm → Option Told
 rest_fault units count [] holds = first_of (alternative_room count holds ∷ holds_fault units [] holds ∷ [])
 rest_fault units count (first ∷ sofar) holds = holds_fault units (first ∷ sofar) holds

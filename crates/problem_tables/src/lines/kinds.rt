@@ -58,7 +58,7 @@ fn is_among(row: Hold, others: &[Hold]) -> bool
     others.iter().any(|other| is_same(row, *other))
 }
 
-/// The fault of a hold that says this, behind the holds of its alternative so far.
+/// The fault of a hold that says this, after the holds of its alternative so far.
 fn hold_fault(
     units: &Names<'_>,
     count: usize,
@@ -102,7 +102,7 @@ fn take_hold(
     Ok(())
 }
 
-/// Takes an alternative in, behind so many others.
+/// Takes an alternative in, after so many others.
 fn take_holds(
     units: &Names<'_>,
     count: usize,

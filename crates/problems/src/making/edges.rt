@@ -60,7 +60,7 @@ fn push_orders(draft: &Draft, edges: &mut Vec<Edge>) -> Result<(), OutOfMemory>
     Ok(())
 }
 
-/// The edges of the reads, and behind them those of the orders.
+/// The edges of the reads, and after them those of the orders.
 pub(crate) fn edges_of(alloc: Global, draft: &Draft) -> Result<Vec<Edge>, OutOfMemory>
     requires { IsWellFormed draft.now }
     ensures { IfOk result (λ edges. edges.items ≡ edges_of draft.now) }

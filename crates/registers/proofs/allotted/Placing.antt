@@ -21,7 +21,7 @@ use Rattle.registers.proofs.allotted.Meeting.{forbids-in, fits-length, point-ord
 use Rattle.registers.proofs.allotted.More.{lawful-more}
 use Rattle.registers.proofs.allotted.Taking.{LeavesFits}
 
--- the first point that a number gives a value, and how far the last one is behind it
+-- the first point that a number gives a value, and how far the last one is after it
 abbrev pub placed_at : ℕ → ℕ → ℕ → Lifetime → ℕ → ℕ
 placed_at ii registers origin life c = place_at (begin_of ii registers origin life % 16384) (((begin_of ii registers origin life / 16384) % registers + c) % registers)
 
@@ -293,7 +293,7 @@ found-least ii registers origin lives numbers (suc k) gaps first other found som
     let small = point-small ii first.first some few (let s = f.ordered in let r = f.short in omega arith) in
     found-more ii registers origin lives numbers (suc k) gaps first other found some few regs spans span (omega arith) (omega arith) begin have lawful fit
 
--- the gaps that are left behind it
+-- the gaps that are left after it
 
 free-more : (ii registers origin : ℕ) (lives : List Lifetime) (numbers : List ℕ) (k c a n : ℕ) (gaps left : List Gap) (other : Lifetime) → k < length numbers → slice_get lives k ≡ Some other
     → Fits gaps a n ↔ ((j : ℕ) (life : Lifetime) → j < k → slice_get lives j ≡ Some life → ¬ Overlap a n (placed_at ii registers origin life (slice_index numbers j)) (extent ii life))

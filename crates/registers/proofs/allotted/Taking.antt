@@ -69,7 +69,7 @@ cases-apart a n at long not = elim (cases_lt (a + n) at) [
   ]
 ]
 
--- an arc at the start of its gap leaves what is behind it
+-- an arc at the start of its gap leaves what is after it
 pub start-left : (gaps : List Gap) (around k at long : ℕ) (gap behind : Gap) → AreInOrder around gaps → slice_get gaps k ≡ Some gap → at ≡ gap.start → at + long < gap.start + gap.room
     → behind.start ≡ at + long + 1 → behind.start + behind.room ≡ gap.start + gap.room → LeavesFits gaps (set gaps k behind) at long
 start-left gaps around k at long gap behind is here begin inside start end a n =

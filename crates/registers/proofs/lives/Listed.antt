@@ -41,7 +41,7 @@ drop-more [] (suc k) = let z : suc k + 1 ≡ suc (k + 1) = omega arith in ap (λ
 drop-more (y ∷ xs) zero = refl
 drop-more (y ∷ xs) (suc k) = let z : suc k + 1 ≡ suc (k + 1) = omega arith in ap (λ n. drop n (y ∷ xs)) z ∙ drop-more xs k
 
--- what stands behind a place that is written stays
+-- what stands after a place that is written stays
 pub behind-more : {X : Type 0} (xs ys : List X) (k : ℕ) (x : X) → drop k xs ≡ drop k ys → drop (k + 1) (set xs k x) ≡ drop (k + 1) ys
 behind-more xs ys k x e = put-behind xs k x ∙ drop-more xs k ∙ ap (drop 1) e ∙ sym (drop-more ys k)
 
@@ -67,7 +67,7 @@ raised f table x rest n lt e v = elim (cases_eq x.value v) [
       omega arith
 ]
 
--- the last read, by the cycles behind the reads
+-- the last read, by the cycles after the reads
 
 one-more : (f : Read → ℕ) (r : Read) (reads : List Read) → greatest_of (map (λ (x : Read). f x + 1) (r ∷ reads)) ≡ greatest_of (map f (r ∷ reads)) + 1
 one-more f r [] = omega arith

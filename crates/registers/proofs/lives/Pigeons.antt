@@ -6,7 +6,7 @@ use Rattle.std.proofs.lemmas.Map.Steps.{length-le_from_distinct_below}
 use Rattle.std.specs.List.{list_any, IsDistinct, AllByRecursion}
 use Rattle.registers.specs.Crowds.{total}
 
--- the places of so many things, and behind them others
+-- the places of so many things, and after them others
 abbrev places : (ℕ → ℕ) → ℕ → List ℕ → List ℕ
 places place zero others = others
 places place (suc m) others = place m ∷ places place m others

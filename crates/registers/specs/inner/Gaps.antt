@@ -1,4 +1,4 @@
--- The points around the registers that no value takes. An arc is told by its first point, and by how far its last one is behind it.
+-- The points around the registers that no value takes. An arc is told by its first point, and by how far its last one is after it.
 use Rattle.std.specs.Prelude.{◌≡◌, ℕ, ◌+◌, ◌-◌, ◌*◌, ◌%◌, ◌<◌, ◌≤◌, List, Some, slice_get}
 use Rattle.registers.specs.declared.numbers.gaps.Gap.{Gap}
 

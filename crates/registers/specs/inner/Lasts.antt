@@ -1,4 +1,4 @@
--- The last cycle in which a value is read, told by the cycle behind it.
+-- The last cycle in which a value is read, told by the cycle after it.
 use Rattle.std.specs.Prelude.{ℕ, ◌-◌, ◌==◌, if◌then◌else◌}
 
 -- the cycle before this one; 0 tells that there is none, and then it is the landing

@@ -7,7 +7,7 @@ use Rattle.registers.specs.declared.values.turns.Arc.{Arc}
 abbrev pub point_of : ℕ → ℕ → ℕ
 point_of ii cycle = (cycle / ii) * 16384 + cycle % ii
 
--- how far a value begins behind the origin, with the number 0; there are 2^33 turns more for each register, so that this is never below 0
+-- how far a value begins after the origin, with the number 0; there are 2^33 turns more for each register, so that this is never below 0
 abbrev pub begin_of : ℕ → ℕ → ℕ → Lifetime → ℕ
 begin_of ii registers origin life = point_of ii life.first + (registers * 140737488355328 - origin)
 

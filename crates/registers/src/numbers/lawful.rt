@@ -17,7 +17,7 @@ fn are_registers(registers: usize, numbers: &[usize]) -> bool
 
 /// Whether the numbers are lawful for the values at an interval, in cycles: one for each, each below the number of
 /// registers, and no two different instances of values ever in one register in one cycle. Instances of every
-/// iteration count, those before the first and behind the last ones too.
+/// iteration count, those before the first and after the last ones too.
 pub fn are_lawful(ii: u64, registers: usize, lives: &[Lifetime], numbers: &[usize]) -> bool
     requires some { 1 ≤ ii }
     requires few { ii ≤ 16384 }

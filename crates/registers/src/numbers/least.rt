@@ -15,7 +15,7 @@ use machine_data::limits::MAX_INTERVAL;
 use std::alloc::Global;
 
 /// Writes the least numbers of these values, up to the first value that has none, and gives its place where there
-/// is one: behind the least numbers of those before it, no number is lawful for it. What stands in `numbers` from
+/// is one: after the least numbers of those before it, no number is lawful for it. What stands in `numbers` from
 /// its place on says nothing. The interval is in cycles.
 ///
 /// Lifetimes in rotating registers are those of B. R. Rau, M. Lee, P. P. Tirumalai and M. S.

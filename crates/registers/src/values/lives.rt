@@ -32,7 +32,7 @@ fn raise_reads(ii: u64, times: &[u64], reads: &[Read], carried: &mut [u64], ends
 }
 
 /// The lifetime of a value that is read at most so many iterations later, and for the last time in the cycle before
-/// `behind`; there, 0 tells that it is never read.
+/// `after`; there, 0 tells that it is never read.
 fn live_of(ii: u64, times: &[u64], end: u64, value: Value, farthest: u64, behind: u64) -> Lifetime
     requires maker { value.maker < length times.now }
     requires few { length times.now ≤ 256 }
@@ -56,7 +56,7 @@ fn live_of(ii: u64, times: &[u64], end: u64, value: Value, farthest: u64, behind
     }
 }
 
-/// Writes when each value lives in iteration 0, in the order of the values; what stands in `lives` behind them stays.
+/// Writes when each value lives in iteration 0, in the order of the values; what stands in `lives` after them stays.
 /// `ii` is the interval, `times` has the issue time of each operation in iteration 0, and `end` is the cycle up to which
 /// a value that is live at the end has to last, all in cycles. There are at most 256 operations and 256 values, and an
 /// iteration takes at most 64 intervals.

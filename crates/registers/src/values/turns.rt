@@ -18,7 +18,7 @@ pub(crate) struct Arc {
     pub(crate) turn: u64,
     /// The points of that turn before its first one.
     pub(crate) phase: u64,
-    /// How far its last point is behind its first one.
+    /// How far its last point is after its first one.
     pub(crate) length: u64,
 }
 

@@ -53,7 +53,7 @@ impl Allotment {
 
     /// The allotment of these numbers, where they are lawful: one for each value, each below the number
     /// of registers, and no two different instances of values ever in one register in one cycle.
-    /// Instances of every iteration count, those before the first and behind the last ones too. Nothing
+    /// Instances of every iteration count, those before the first and after the last ones too. Nothing
     /// is allocated.
     ///
     /// # Errors
@@ -120,7 +120,7 @@ pub fn allot(
     }
 }
 
-/// The first value, in text order, that has no number behind the least numbers of those before it, by its
+/// The first value, in text order, that has no number after the least numbers of those before it, by its
 /// lifetime; `None` where all have one. It is the value for which [`allot`] finds no allotment.
 ///
 /// # Errors

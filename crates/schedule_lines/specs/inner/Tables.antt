@@ -10,7 +10,7 @@ use Rattle.schedule_lines.specs.Slots.{label_of, operations_in, takes_slot}
 abbrev pub taker_in : List ℕ → ℕ → ℕ → ℕ
 taker_in takers unit row = slice_index takers (row * 64 + unit)
 
--- the text of the operation that takes a slot stands behind that of an empty slot
+-- the text of the operation that takes a slot stands after that of an empty slot
 abbrev pub place_of : Option ℕ → ℕ
 place_of None = 0
 place_of (Some op) = suc op
@@ -24,7 +24,7 @@ pub record AreTakersFrom (schedule : ScheduleData) (from : ℕ) (takers : List �
 abbrev pub texts_in : List (Vec ℕ Global) → List (List ℕ)
 texts_in texts = map (λ (text : Vec ℕ Global). text.items) texts
 
--- the text of an empty slot, and behind it those of the operations
+-- the text of an empty slot, and after it those of the operations
 abbrev pub labels_of : ScheduleData → List (List ℕ)
 labels_of schedule = codes "." ∷ map (label_of schedule) (operations_in schedule)
 

@@ -24,7 +24,7 @@ fn push_blanks(text: &mut Vec<u8>, blanks: usize) -> Result<(), AllocError>
     Ok(())
 }
 
-/// Appends a cell behind as many blanks as it is shorter than its column.
+/// Appends a cell after as many blanks as it is shorter than its column.
 pub(crate) fn push_padded(text: &mut Vec<u8>, width: usize, cell: &[u8]) -> Result<(), AllocError>
     ensures ok { OnOk result (text.new.items ≡ text.old.items ++ padded width cell.now) }
 {

@@ -15,7 +15,7 @@ Takes l ii v (Won kernel) w = (a : Option ℕ) × (w ≡ with_posted (with_seen 
 Takes l ii v (Failed cause) w = (a : Option ℕ) × (w ≡ with_seen v l a)
 Takes l ii v Unsettled w = (a : Option ℕ) × (w ≡ with_seen v l a)
 
--- behind a win of its piece an interval is beaten without a look
+-- after a win of its piece an interval is beaten without a look
 abbrev pub TakesOrPasses : Bool → ℕ → ℕ → View → Found → View → Type 0
 TakesOrPasses true l ii v found w = (found ≡ Beaten) × (w ≡ v)
 TakesOrPasses false l ii v found w = Takes l ii v found w

@@ -7,7 +7,7 @@ use Rattle.solution_reader.specs.Sofar.{TextLine}
 use Rattle.solution_reader.specs.declared.fault.SolutionFault.{SolutionFault}
 use Rattle.solution_reader.specs.inner.Steps.{SofarData, IsSofar}
 
--- lines from a number on behind others come to what these lines from this number on do, where so much has been said
+-- lines from a number on after others come to what these lines from this number on do, where so much has been said
 pub record GoesOn (number : ℕ) (before : List TextLine) (forms : List (Result (Option SolutionLineForm) LineFault)) (next : ℕ) (sofar : SofarData) (rest : List (Result (Option SolutionLineForm) LineFault)) : Type 0 where
   pub after : List TextLine
   pub is : IsSofar after sofar

@@ -5,7 +5,7 @@ use Rattle.machine_data.specs.declared.alternative.Row.{Row}
 use Rattle.graph.specs.Units.{AreBest, IsBest, chosen_rows}
 use Rattle.graph.specs.Uses.{Tallies}
 
--- the choice is the best one behind the rows taken, and the counters are those with its rows
+-- the choice is the best one after the rows taken, and the counters are those with its rows
 pub record TakesChoice (taken : List Row) (alternatives : List (List Row)) (choice : ℕ) (counts : List ℕ) (greatest : ℕ) : Type 0 where
   pub best : IsBest taken alternatives choice
   pub tallies : Tallies (taken ++ slice_index_or alternatives choice []) counts greatest

@@ -24,7 +24,7 @@ loop-freedom-preserved g c =
       subst (λ k. AtMost (2048 * k) c.with_operations-uses.result.counts) (sym n) c.with_operations-uses.ensures.grown,
     )
 
--- the loop is left before its first pass, where no operation has an alternative, or behind its last
+-- the loop is left before its first pass, where no operation has an alternative, or after its last
 pub returns-clause-exact : goal.returns-clause-exact
 returns-clause-exact g c =
     let operations : List (List (List Row)) = g.O.Offers.operations c.args.operations.now in
