@@ -11,7 +11,7 @@ use Rattle.candidates.specs.Outcomes.{GivesKernel, FailsBy}
 use Rattle.candidates.specs.Choices.{IsLeastMet, IsUnmet}
 use Rattle.candidates.proofs.OneOutcomes.{one_outcome}
 
--- so many intervals tried, none of which gives a kernel; the cause is that of the last
+-- the first `above` intervals tried, none of which gives a kernel; the cause is that of the last
 abbrev pub Risen : ProblemData → ℕ → Cause → Type 0
 Risen p above last = search.Risen (GivesKernel p) (FailsBy p) (mii_of p) above last
 

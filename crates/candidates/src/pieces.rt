@@ -34,8 +34,8 @@ impl Model for Pieces {
 }
 
 impl Pieces {
-    /// So many loops, 0 to 1,024, each with the intervals from its least one to as far above it as the
-    /// ceiling says, 0 to 255, of which a piece has as many as the cut says, 1 to 256, or what is left.
+    /// `loops` loops, 0 to 1,024, each with the intervals from its least one to the one `ceiling` above
+    /// it, 0 to 255. A piece has `cut` intervals of a loop, 1 to 256, or those that are left.
     pub fn of(loops: usize, ceiling: u64, cut: u64) -> Pieces
         requires loops { loops ≤ 1024 }
         requires ceiling { ceiling ≤ 255 }

@@ -16,7 +16,7 @@ use Rattle.explain.specs.Reasons.{FailsFor, IsReason, cause_of}
 use Rattle.explain.specs.Tries.{AreTries, hold_line, kernel_line, try_line}
 use Rattle.explain.proofs.Rows.{row-more}
 
--- so many intervals were tried, none of which gives a kernel, and a line was written for each
+-- the first `above` intervals were tried, none of which gives a kernel, and a line was written for each
 pub record AreTold (p : ProblemData) (above : ℕ) (last : Cause) (old new : List ℕ) : Type 0 where
   pub risen : Risen p above last
   pub lines : List ℕ

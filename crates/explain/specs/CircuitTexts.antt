@@ -1,4 +1,4 @@
--- The lines of a circuit that asks for the recurrence-constrained lower bound.
+-- The lines of a circuit that needs the recurrence-constrained lower bound.
 use Rattle.std.specs.Prelude.{◌≡◌, ℕ, ℤ, pos, ◌-◌, ◌*◌, ◌≤ℤ◌, ◌<ℤ◌, codes, List, [], ◌∷◌, ◌++◌}
 use Rattle.std.specs.Fmt.{signed_decimal}
 use Rattle.graph.specs.Dependences.{EdgeData}
@@ -19,7 +19,7 @@ abbrev pub circuit_line : List EdgeData → ℕ → List ℕ
 circuit_line [] bound = codes "circuit none\n"
 circuit_line (e ∷ circuit) bound = sums_line (delay_of (e ∷ circuit)) (distance_of (e ∷ circuit)) bound
 
--- a circuit that asks for the recurrence-constrained lower bound: the line of its sums, and a line for each of its edges, in its
+-- a circuit that needs the recurrence-constrained lower bound: the line of its sums, and a line for each of its edges, in its
 -- order, with its kind
 pub record IsCircuitText (problem : ProblemData) (text : List ℕ) : Type 0 where
   pub circuit : List EdgeData

@@ -20,7 +20,7 @@ use Rattle.explain.specs.Tries.{AreTries}
 abbrev pub bounds_of : ProblemData → LowerBounds
 bounds_of problem = record { resources = problem.resources; recurrences = problem.recurrences }
 
--- a loop with its choice: the line of its lower bounds, the lines of the units, a circuit that asks for the recurrence-constrained
+-- a loop with its choice: the line of its lower bounds, the lines of the units, a circuit that needs the recurrence-constrained
 -- bound, and what was tried
 pub record IsExplained (units : List ℕ) (problem : ProblemData) (choice : Choice) (text : List ℕ) : Type 0 where
   pub circuit : List ℕ

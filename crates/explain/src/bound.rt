@@ -1,4 +1,4 @@
-//! The circuit that asks for a bound, as text.
+//! A critical circuit, as text.
 
 pub(crate) mod circuit;
 pub(crate) mod sums;

@@ -12,7 +12,7 @@ use machine_data::OutOfMemory;
 use std::alloc::Global;
 
 /// Appends why a loop has its interval: the line of its lower bounds, the lines of the units that are given, a
-/// circuit that asks for the recurrence-constrained bound, each interval that is tried with its cause, and what
+/// circuit that needs the recurrence-constrained bound, each interval that is tried with its cause, and what
 /// holds the interval of its kernel. The choice is that of the loop.
 ///
 /// # Errors

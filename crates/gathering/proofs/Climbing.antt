@@ -15,7 +15,7 @@ use Rattle.gathering.specs.inner.Cells.{known_at, empty_from, is_full}
 use Rattle.gathering.proofs.Filling.{set_length}
 use Rattle.candidates.proofs.OneOutcomes.{one_outcome}
 
--- so many intervals tried, none of which gives a kernel
+-- the first `above` intervals tried, none of which gives a kernel
 pub record Climbed (p : ProblemData) (old now : LoopCells) (above retried : ℕ) (last : Cause) : Type 0 where
   pub none : NoneBefore p (mii_of p + above)
   pub fails : (k : ℕ) → above ≡ suc k → FailsBy p (mii_of p + k) last

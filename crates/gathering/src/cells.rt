@@ -27,7 +27,7 @@ pub(crate) struct LoopCells {
 }
 
 impl LoopCells {
-    /// So many empty cells.
+    /// `count` empty cells.
     fn empty(alloc: Global, count: usize) -> Result<LoopCells, OutOfMemory>
         ensures { IfOk result (λ r. r.cells.items ≡ replicate count None) }
     {

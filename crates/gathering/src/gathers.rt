@@ -111,8 +111,8 @@ fn choose_all(
     Ok(chosen)
 }
 
-/// The choice of each loop: the one to which one thread would come that tries its intervals one after
-/// another, whatever the reports tell. An interval that no report tells a kernel or a cause of is tried.
+/// The choice of each loop: whatever the reports tell, it is that of one thread that tries the intervals
+/// one after another. Intervals for which no report has a kernel or a cause are tried.
 ///
 /// # Errors
 /// Memory ran out.

@@ -65,7 +65,7 @@ unfoldable pub kernel_row_text : Parts → ℕ → List ℕ
 kernel_row_text parts row =
     ((decimal row ++ codes ":") ++ joined parts (codes " ") (filter (λ (op : Operation). op.row == row) parts.operations)) ++ codes "\n"
 
--- the rows from one on, so many
+-- rows, from `row` on: the last number is how many
 abbrev pub rows_text : Parts → ℕ → ℕ → List ℕ
 rows_text parts row zero = []
 rows_text parts row (suc n) = kernel_row_text parts row ++ rows_text parts (row + 1) n

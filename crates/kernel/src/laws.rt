@@ -2,7 +2,7 @@
 
 ghost use Rattle.kernel.specs.Promises.{RunsKeepShapes, WellFormedKeepsRules};
 
-/// A run leaves a memory of the kernel's shape, for as many iterations.
+/// A run leaves a memory of the kernel's shape, for the same number of iterations.
 pub fn runs_keep_shapes()
     ensures { RunsKeepShapes }
 {}

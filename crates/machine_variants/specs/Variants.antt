@@ -42,12 +42,13 @@ is_opcode one other = opcode_number one == opcode_number other
 abbrev pub shortened_where : Bool → Option OperationData → Option OperationData
 shortened_where here table = if here then option_map shortened_table table else table
 
--- so many names, all different: `u0`, `u1` ..
+-- `count` names, all different: `u0`, `u1` ..
 abbrev pub numbered : ℕ → List (List ℕ)
 numbered count = map (λ k. codes "u" ++ decimal k) (range_with_len 0 count)
 
--- the machine with the unit of a number twice, the new one after all others; with the latency of an opcode one cycle less; or with so
--- many registers. Where there is a new unit, all are named anew, so that no two have one name: names play no part in a schedule
+-- the machine with the unit of a number twice, the new one after all others; with the latency of an opcode one cycle less; or
+-- with another number of registers. Where there is a new unit, all are named anew, so that no two have one name: names play no
+-- part in a schedule
 abbrev pub varied : Variant → MachineData → MachineData
 varied (Doubled unit) machine = record {
   units = numbered (length machine.units + 1);

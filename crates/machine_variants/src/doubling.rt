@@ -202,7 +202,7 @@ fn numbered_name(alloc: Global, number: usize) -> Result<Name, OutOfMemory>
     }
 }
 
-/// So many names, all different.
+/// `count` names, all different.
 fn numbered(alloc: Global, count: usize) -> Result<Vec<Name>, OutOfMemory>
     requires { count ≤ 100 }
     ensures { IfOk result (λ names. names.items ≡ numbered count) }

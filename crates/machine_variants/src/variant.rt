@@ -18,11 +18,11 @@ use std::alloc::Global;
 /// What is changed of a machine.
 #[derive(Clone, Copy, Debug, PartialEq, Eq)]
 pub enum Variant {
-    /// The unit of this number stands there twice.
+    /// The machine has the unit of this number twice.
     Doubled(u8),
     /// The latency of this opcode is one cycle less.
     Shortened(Opcode),
-    /// There are so many registers.
+    /// The machine has this number of registers.
     Registers(u16),
 }
 

@@ -12,7 +12,7 @@ use Rattle.candidates.specs.declared.choices.Choice.{Choice}
 use Rattle.candidates.proofs.Promised.{listings-are_right}
 use Rattle.one_thread.specs.Files.{ArePrepared, ListsProblems}
 
--- prepared loops are as many as the loops, each with the ceiling
+-- there are as many prepared loops as loops, each with the ceiling
 pub prepared_long : (m : MachineData) (ratio ceiling : ℕ) (ls : List LoopData) (ps : List ProblemData) → ArePrepared m ratio ceiling ls ps → length ps ≡ length ls
 prepared_long m ratio ceiling [] [] h = refl
 prepared_long m ratio ceiling [] (p ∷ ps) h = absurd h

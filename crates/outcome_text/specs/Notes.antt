@@ -42,7 +42,7 @@ circuit_line draft [] = []
 circuit_line draft (e ∷ circuit) =
     listed (codes "# circuit") draft.names.operations.items (stops_of (e ∷ circuit)) ++ sums_text (delay_of (e ∷ circuit)) (distance_of (e ∷ circuit))
 
--- of so many units, in order, those that just so many of the rows use
+-- of `units` units, in order, those that exactly `uses` of the rows use
 abbrev pub units_with : ℕ → List Row → ℕ → List ℕ
 units_with units rows uses = filter (λ unit. use_of rows unit == uses) (range_with_len 0 units)
 

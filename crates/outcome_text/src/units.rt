@@ -52,7 +52,7 @@ pub fn use_of(operations: &[Alternatives], choices: &[u8], unit: usize) -> u64
     uses
 }
 
-/// Of so many units, in order, those that just so many of the rows of all choices use.
+/// Of `units` units, in order, those that exactly `uses` of the rows of all choices use.
 fn units_with(
     alloc: Global,
     units: usize,

@@ -18,7 +18,7 @@ use Rattle.overlap.specs.Allotments.{AllotmentData, allotted_number}
 use Rattle.overlap.specs.Lifetimes.{carried, values_of}
 use Rattle.ims.specs.Schedules.{ScheduleData, stage_of, row_of, stages_of}
 
--- the name, in an operation of a stage, of the register of a value as it was so many iterations ago
+-- the name, in an operation of a stage, of the register of a value as it was `distance` iterations ago
 abbrev pub name_of : ScheduleData → AllotmentData → ℕ → ℕ → ℕ → ℕ
 name_of schedule allotment value distance stage = (allotted_number schedule.problem.loop allotment value + distance + stage) % allotment.registers
 
@@ -49,8 +49,8 @@ operations_from schedule allotment op [] = []
 operations_from schedule allotment op (s ∷ statements) =
     operation_of schedule allotment op s ∷ operations_from schedule allotment (op + 1) statements
 
--- the initial values of a value with the numbers from one on, so many, each in the register of that instance before the first
--- iteration
+-- initial values of a value, from that with the number `number` on, each in the register of that instance before the first
+-- iteration; the last number is how many
 abbrev pub preloads_from : ScheduleData → AllotmentData → ℕ → ℕ → ℕ → List Preload
 preloads_from schedule allotment value number zero = []
 preloads_from schedule allotment value number (suc n) =

@@ -25,7 +25,7 @@ values_of loop = values_from 0 loop.statements
 abbrev pub rank_of : LoopData → ℕ → ℕ
 rank_of loop statement = length (values_from 0 (take statement loop.statements))
 
--- a statement reads the value as it was so many iterations ago
+-- the statement `reader` reads the value as it was `distance` iterations ago
 pub record Use : Type 0 where
   pub reader : ℕ
   pub distance : ℕ
@@ -49,7 +49,7 @@ abbrev pub is_out : LoopData → ℕ → Bool
 is_out loop value = list_any (λ o. o == value) loop.outs
 
 -- how many iterations a value is carried on: the greatest distance of its uses, and at least 1 where it is live at the end.
--- So many initial values stand in registers before the first turn
+-- It is also how many initial values stand in registers before the first turn
 abbrev pub carried : LoopData → ℕ → ℕ
 carried loop value = max (greatest_of (map (λ (u : Use). u.distance) (uses_of loop value))) (if is_out loop value then 1 else 0)
 

@@ -68,8 +68,8 @@ InstancesAreIssuedOnce = (schedule : ScheduleData) (allotment : AllotmentData) �
     → (is_issued (emitted schedule allotment) trip cycle o ≡ true)
     ↔ ((iteration : ℕ) × (iteration < trip) × (cycle ≡ issue_of schedule.ii schedule.times op iteration))
 
--- (ii) where an operation reads a value as it was so many iterations ago, that source is a register, and its name is, in the turn of
--- the operation's issue, the register of the instance that is wanted
+-- (ii) where an operation reads a value as it was `distance` iterations ago, that source is a register, and its name is, in the
+-- turn of the operation's issue, the register of the instance that is to be read
 abbrev pub NamesAreOfInstances : Type 0
 NamesAreOfInstances = (schedule : ScheduleData) (allotment : AllotmentData) → Belong schedule allotment
     → (reader operand value distance iteration : ℕ) (s : Statement) (o : Operation)

@@ -55,7 +55,7 @@ abbrev pub IsBold : List EdgeData → EdgeData → Bool → Type 0
 IsBold circuit e bold = IsTrue bold ↔ Contains circuit e
 
 -- the graph of a problem: a node for each operation, and an arrow for each read and, after these, for each order, of which those of a
--- circuit that asks for the recurrence-constrained bound are bold
+-- circuit that needs the recurrence-constrained bound are bold
 pub record IsDotText (name : List ℕ) (problem : ProblemData) (text : List ℕ) : Type 0 where
   pub circuit : List EdgeData
   pub is_critical : IsCritical problem.scheduling.graph.edges problem.scheduling.recurrences circuit

@@ -141,7 +141,7 @@ fn push_orders(text: &mut Vec<u8>, draft: &Draft, circuit: &[Edge]) -> Result<()
 /// Appends the graph of a problem in the language of Graphviz. Its label is the problem's name with the lower bounds of the interval,
 /// in cycles. Each operation is a node with its number, labelled with what it and its kind are called. Each read and, after these, each
 /// order is an arrow from the operation that comes first, labelled with why the other one waits (`value V` of a read of the value `V`,
-/// and `order`), its delay in cycles and, unless that is 0, after an `@` its distance in iterations. Where a circuit asks for the
+/// and `order`), its delay in cycles and, unless that is 0, after an `@` its distance in iterations. Where a circuit needs the
 /// recurrence-constrained lower bound, the arrows of one such circuit are bold. Of names, a quote and a backslash stand after a
 /// backslash. A part that has no name is told by its number.
 ///

@@ -43,6 +43,6 @@ pub record LeftWords : Type 0 where
 abbrev pub left_of : ℕ → List ℕ → LeftWords
 left_of column text = record { words = words_from column text; after = column }
 
--- the word with this number, from 0, of words that have so many
+-- the word with this number, from 0, of words that have one with it
 abbrev pub word_at : List Placed → ℕ → Placed
 word_at words number = slice_index_or words number (record { bytes = []; column = 0 })

@@ -30,7 +30,7 @@ pub struct Integer {
 /// What a register file keeps its values in.
 #[derive(Clone, Copy, Debug, PartialEq, Eq)]
 pub enum Storage {
-    /// So many rotating registers.
+    /// This number of rotating registers.
     Rotating(Number),
     /// No registers of this file.
     Unallotted,

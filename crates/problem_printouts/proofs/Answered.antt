@@ -57,7 +57,7 @@ met-or-failed (answer ∷ answers) =
     omega (arith, met, failed, one, more)
 
 module _ (is_answer : TextProblem → Answer → Type 0) (problems : List TextProblem) (old : List ℕ) where
-  -- the first so many problems are answered
+  -- the first `number` problems are answered
   abbrev pub IsSofar : ℕ → List ℕ → ℕ → Type 0
   IsSofar number text met = AreAnswered is_answer (take number problems) old text met
 
@@ -74,7 +74,7 @@ module _ (is_answer : TextProblem → Answer → Type 0) (problems : List TextPr
     same_met = ap (λ n. n + (if is_met then 1 else 0)) so.same_met ∙ ap (λ b. met_in so.answers + (if b then 1 else 0)) one.same_met ∙ sym (met-push so.answers one.answer);
   }
 
-  -- so many are met at most
+  -- at most `number` of them are met
   pub answered-few : (text : List ℕ) (number met : ℕ) → number ≤ length problems → IsSofar number text met → met ≤ number
   answered-few text number met low so =
       let is = so.same_met in

@@ -13,9 +13,9 @@ use Rattle.solution_reader.specs.declared.fault.Wrong.TheVariants as wrong
 use Rattle.std.specs.Prelude.{nat_lt, if◌then◌else◌}
 use Rattle.problem_printouts.specs.Judging.{first_unknown, problem_names, unknown_by, unknown_of}
 
--- no such fault is want of memory
+-- no such fault is `Memory`
 
--- a fault that is told, if one is, is not want of memory
+-- a fault that is told, if one is, is not `Memory`
 abbrev NoMemory : Option SolutionFault → Type 0
 NoMemory told = (fault : SolutionFault) → told ≡ Some fault → fault.what ≢ wrong.Memory
 

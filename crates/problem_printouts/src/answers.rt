@@ -19,8 +19,8 @@ pub struct Answers {
 }
 
 impl Answers {
-    /// These answers to so many problems, of which so many are met, with the last line after them, `P met A failed B` after
-    /// these words.
+    /// These answers to `all` problems, of which `met` are met, with the last line after them: `words`, then
+    /// `P met A failed B`.
     pub(crate) fn of(text: Vec<u8>, words: &str, all: u64, met: u64) -> Result<Answers, OutOfMemory>
         requires { met ≤ all }
         ensures text { IfOk result (λ a. a.text.items ≡ text.items ++ last_line words.now all met (all - met)) }
@@ -33,7 +33,7 @@ impl Answers {
         Ok(Answers { text, met, failed })
     }
 
-    /// These answers to so many problems, of which so many are met, with the line `problems P` after them.
+    /// These answers to `all` problems, of which `met` are met, with the line `problems P` after them.
     pub(crate) fn of_count(text: Vec<u8>, all: u64, met: u64) -> Result<Answers, OutOfMemory>
         requires { met ≤ all }
         ensures text { IfOk result (λ a. a.text.items ≡ text.items ++ (told (codes "problems ") all ++ codes "\n")) }
@@ -46,7 +46,7 @@ impl Answers {
         Ok(Answers::of_all(text, all, met))
     }
 
-    /// These answers to so many problems, of which so many are met.
+    /// These answers to `all` problems, of which `met` are met.
     pub(crate) fn of_all(text: Vec<u8>, all: u64, met: u64) -> Answers
         requires { met ≤ all }
         ensures text { result.text.items ≡ text.items }

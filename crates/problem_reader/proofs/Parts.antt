@@ -252,7 +252,7 @@ pub record IsReadOf (values : List Value) (operations : ℕ) (reading : Read) : 
   pub offset : reading.offset ≤ 63
   pub forward : reading.distance ≡ 0 → get_or (map (λ (v : Value). v.maker) values) reading.value 0 < reading.reader
 
--- on a machine that has so many kinds and files
+-- on a machine that has `kinds` kinds and `files` files
 pub record IsSoundProblem (kinds files : ℕ) (p : ProblemParts) : Type 0 where
   pub operations_few : length p.operations ≤ 128
   pub operations_named : length p.operation_names ≡ length p.operations

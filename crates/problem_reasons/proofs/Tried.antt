@@ -16,7 +16,7 @@ use Rattle.problem_reasons.specs.Holds.{IsHold}
 use Rattle.problem_reasons.proofs.Rows.{row-more}
 use Rattle.problem_reasons.specs.Tries.{AreTries, hold_line, met_line, try_line}
 
--- so many intervals were tried, none of which gives a solution, and a line was written for each
+-- the first `above` intervals were tried, none of which gives a solution, and a line was written for each
 pub record AreTold (p : ProblemData) (above : ℕ) (last : Cause) (old new : List ℕ) : Type 0 where
   pub risen : Risen p above last
   pub lines : List ℕ

@@ -10,11 +10,11 @@ use solutions::Cause;
 /// Why a problem has no solution at a shorter interval than its own.
 #[derive(Clone, Copy, Debug, PartialEq, Eq)]
 pub enum Hold {
-    /// The units ask for the interval, and the recurrences for a shorter one.
+    /// The units need the interval, and the recurrences a shorter one.
     Units,
-    /// The recurrences ask for the interval, and the units for a shorter one.
+    /// The recurrences need the interval, and the units a shorter one.
     Recurrences,
-    /// Both ask for the interval.
+    /// Both need the interval.
     Both,
     /// The interval is above both bounds: one cycle less gives no solution, by this cause.
     Failure(Cause),

@@ -32,7 +32,7 @@ fn push_try(
     text.push_piece("\n")
 }
 
-/// Appends the line of an interval, in cycles, that gives a solution of so many stages.
+/// Appends the line of an interval, in cycles, that gives a solution of `stages` stages.
 fn push_met_line(text: &mut Vec<u8>, interval: u64, stages: u64) -> Result<(), AllocError>
     ensures ok { OnOk result (text.new.items ≡ text.old.items ++ met_line interval stages) }
 {
@@ -49,7 +49,7 @@ fn push_hold(text: &mut Vec<u8>, hold: Hold) -> Result<(), AllocError>
     text.push_piece("\n")
 }
 
-/// Appends the lines of an interval, in cycles, that gives a solution of so many stages.
+/// Appends the lines of an interval, in cycles, that gives a solution of `stages` stages.
 fn push_met(text: &mut Vec<u8>, interval: u64, stages: u64, hold: Hold) -> Result<(), AllocError>
     ensures ok { OnOk result (text.new.items ≡ text.old.items ++ (met_line interval stages ++ hold_line hold)) }
 {

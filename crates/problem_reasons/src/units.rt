@@ -67,7 +67,7 @@ fn push_uses(
     text.push_piece(":")
 }
 
-/// Appends the line of a unit with so many uses, if it has any.
+/// Appends the line of a unit with `uses` uses, if it has any.
 fn push_unit_line(
     text: &mut Vec<u8>,
     problem: &Problem,

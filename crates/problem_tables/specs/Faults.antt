@@ -94,7 +94,7 @@ abbrev pub alternative_room : ℕ → List HoldForm → Option Told
 alternative_room count [] = None
 alternative_room count (hold ∷ holds) = room_at (on_word hold.unit) count 16 part.Alternatives
 
--- the alternatives of a kind, after so many of them
+-- the alternatives of a kind, after `count` others
 abbrev pub alternatives_fault : List (List ℕ) → ℕ → List (List HoldForm) → Option Told
 alternatives_fault units count [] = None
 alternatives_fault units count (holds ∷ more) = first_of (

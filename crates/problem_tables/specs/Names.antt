@@ -10,7 +10,7 @@ bytes_of ws = map (λ (w : Placed). w.bytes) ws
 abbrev pub has_name : List (List ℕ) → List ℕ → Bool
 has_name names name = list_any (same_word name) names
 
--- the number of a name among names, from 0: as many as there are where it is none of them
+-- the number of a name among names, from 0; where it is none of them, how many there are
 abbrev pub index_of : List (List ℕ) → List ℕ → ℕ
 index_of [] name = 0
 index_of (first ∷ names) name = if same_word name first then 0 else index_of names name + 1

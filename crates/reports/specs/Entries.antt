@@ -8,8 +8,8 @@ use Rattle.reports.specs.declared.entry.Entry.{Entry}
 use Rattle.reports.specs.declared.entry.Found.{Found}
 use Rattle.reports.specs.declared.entry.Found.TheVariants.{Won, Failed, Beaten, Unsettled}
 
--- the loops that a report is of, its entries, how many pieces were lost for want of memory, and whether its pass went dry;
--- the room is for how many more entries there is memory
+-- the loops that a report is of, its entries, how many pieces were lost for lack of memory, and whether its pass went dry;
+-- `room` is how many more entries there is memory for
 pub record ReportData : Type 0 where
   pub loops : List ProblemData
   pub entries : List Entry

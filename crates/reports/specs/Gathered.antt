@@ -10,7 +10,7 @@ abbrev pub tried : ProblemData → Choice → ℕ
 tried problem (Met ii kernel) = ii + 1 - mii_of problem
 tried problem (Failed cause) = problem.ceiling + 1
 
--- how many of so many intervals of a loop, from one on, no report settles
+-- how many of a loop's intervals, from `start` on, no report settles; the last number is how many are looked at
 abbrev pub missing_in : List ReportData → ℕ → ℕ → ℕ → ℕ
 missing_in reports l start zero = 0
 missing_in reports l start (suc n) = (if is_settled_in reports l start then 0 else 1) + missing_in reports l (start + 1) n

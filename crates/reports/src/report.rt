@@ -43,7 +43,7 @@ impl<'a> Report<'a> {
         self.entries.as_slice()
     }
 
-    /// How many pieces were lost for want of memory.
+    /// How many pieces were lost for lack of memory.
     pub fn lost(&self) -> u64
         ensures value { result ≡ self.now.lost }
     {
@@ -117,7 +117,7 @@ pub fn go_dry(report: &mut Report<'_>)
     report.dry = true;
 }
 
-/// Makes room for so many entries more. The result is whether there is memory for them.
+/// Makes room for `count` more entries. The result is whether there is memory for them.
 pub fn reserve(report: &mut Report<'_>, count: usize) -> bool
     ensures loops { report.new.loops ≡ report.old.loops }
     ensures entries { report.new.entries ≡ report.old.entries }

@@ -36,7 +36,7 @@ unit_width machine schedule unit = width_of (unit_name machine unit ∷ map (slo
 unfoldable pub live_width : ScheduleData → ℕ
 live_width schedule = width_of (codes "live" ∷ map decimal (live_counts schedule))
 
--- what marks a row in which as many registers are live as in the fullest one, and at least one
+-- the mark of a row with `count` live registers: ` full` where that is `greatest`, what the fullest row has, and not 0
 abbrev pub full_mark : ℕ → ℕ → List ℕ
 full_mark count greatest = if nat_lt 0 count && (count == greatest) then codes " full" else []
 

@@ -38,7 +38,7 @@ same_or [] n x y near = absurd (omega arith)
 same_or (z ∷ xs) zero x y near = refl
 same_or (z ∷ xs) (suc n) x y near = same_or xs n x y (omega arith)
 
--- the first so many items have it
+-- the first `n` items have it
 abbrev pub FirstAre : {X : Type 0} → (X → Type 0) → List X → ℕ → Type 0
 FirstAre {X} P xs n = (k : ℕ) (d : X) → k < n → P (slice_index_or xs k d)
 

@@ -155,7 +155,7 @@ still_below false l ii new (Failed c) below t = absurd (false≢true t)
 still_below false l ii new Beaten below t = absurd (false≢true t)
 still_below false l ii new Unsettled below t = absurd (false≢true t)
 
--- a piece, so many intervals of it entered, and whether one of them was won
+-- a piece, `count` intervals of it entered, and whether one of them was won
 pub record Halfway (tells : Bool) (v w : View) (l start count : ℕ) (won : Bool) (before now : ReportData) : Type 0 where
   pub adds : Adds tells v w l start count before now
   pub below : WonBelow won l (mii_at before.loops l + (start + count)) adds.new

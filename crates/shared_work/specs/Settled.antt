@@ -28,7 +28,7 @@ pub record IsWorkedOut (loops : List ProblemData) (pieces : PiecesData) (terms :
   pub worked : AllZip (WorkedAs pieces) views reports
   pub whole : All (HasNoRefusal loops) reports
 
--- the reports of so many workers on one board, which was closed over all of their passes
+-- the reports of `workers` workers on one board, which was closed over all of their passes
 pub record AreOfOneBoard (pieces : PiecesData) (workers : ℕ) (reports : List ReportData) : Type 0 where
   pub words : List ℕ
   pub views : List View

@@ -10,7 +10,7 @@ use Rattle.reports.specs.declared.entry.Entry.{Entry}
 use Rattle.reports.specs.declared.entry.Found.TheVariants.{Beaten}
 use Rattle.reports.specs.Entries.{ReportData, In, entry_place, won_of, mii_at}
 
--- so many numbers, from one on
+-- numbers in a row, from `start` on: the last number is how many
 abbrev pub from_on : ℕ → ℕ → List ℕ
 from_on start zero = []
 from_on start (suc n) = start ∷ from_on (start + 1) n

@@ -18,7 +18,7 @@ use reports::Report;
 use std::alloc::Global;
 use std::thread::Threads;
 
-/// The reports of so many workers, 1 to 64, on a board of their own, each in a thread where one can be
+/// The reports of `workers` workers, 1 to 64, on a board of their own, each in a thread where one can be
 /// started. Where the gate always lets a worker go on, each finds no piece left in the end. Then, unless a
 /// worker was refused memory, nothing is left to try when the reports are gathered.
 ///
@@ -65,7 +65,7 @@ struct Back<'a> {
 }
 
 impl<'a> Back<'a> {
-    /// Room for so many.
+    /// Room for `workers` of each.
     fn with_room(alloc: Global, workers: usize) -> Result<Back<'a>, OutOfMemory>
         ensures passes { IfOk result (λ b. b.passes.items ≡ []) }
         ensures reports { IfOk result (λ b. b.reports.items ≡ []) }

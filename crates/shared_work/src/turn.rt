@@ -13,7 +13,7 @@ use kernel::Kernel;
 use reports::{Entry, Found, Report, enter, lose, reserve};
 use std::alloc::Global;
 
-/// Enters each interval of the piece, in order, or loses the piece for want of memory.
+/// Enters each interval of the piece, in order, or loses the piece for lack of memory.
 pub(crate) fn turn<B: Board>(
     alloc: Global,
     board: &B,

@@ -12,7 +12,7 @@ ahead-more : {A : Type 0} (found : List A) (told : A) (rest : Result (List A) �
 ahead-more found told (Ok more) = ap Ok (sym (append_assoc found (told ∷ []) more))
 ahead-more found told (Err number) = refl
 
--- what all come to, where so many have been found
+-- what all come to, where the first `number` gave `found`
 pub record IsAhead {A : Type 0} (all : List (Option A)) (found : List A) (number : ℕ) : Type 0 where
   pub same : each_told 0 all ≡ ahead found (each_told number (drop number all))
 

@@ -22,7 +22,7 @@ use Rattle.solution_reader.specs.inner.Reading.{GoesOn, AnswersLine}
 use Rattle.solution_reader.specs.inner.Steps.{SofarData, IsSofar, may_stand, say_fault, step_fault, with_form}
 use Rattle.solution_reader.proofs.Steps.{next_step, same_fault}
 
--- no fault of a line is want of memory
+-- no fault of a line is `Memory`
 
 abbrev IsReal : Wrong → Type 0
 IsReal wrong.Memory = ⊥

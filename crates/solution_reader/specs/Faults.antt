@@ -36,7 +36,7 @@ room_at told count most what = unless (nat_lt count most) (told (wrong.Count wha
 abbrev pub new : List (List ℕ) → Placed → Option Told
 new names name = unless (not (has_name names name.bytes)) (on_word name wrong.Repeated)
 
--- one more name that is told on a line, of a part of which there may be so many
+-- one more name that is told on a line, of a part of which there may be `most`
 abbrev pub one_more : (Wrong → Told) → List (List ℕ) → ℕ → Part → Placed → Option Told
 one_more told names most what name = first_of (room_at told (length names) most what ∷ new names name ∷ [])
 

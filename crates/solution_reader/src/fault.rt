@@ -120,7 +120,7 @@ impl From<AllocError> for Refusal {
 /// The first line at fault and its first fault.
 #[derive(Clone, Copy, Debug, PartialEq, Eq)]
 pub struct SolutionFault {
-    /// The line's number, from 1; 0 for a text that is too long and for want of memory.
+    /// The line's number, from 1; 0 where the text is too long or memory ran out.
     pub line: usize,
     /// The column of the first byte of the word at fault, from 1; where a word is missing, and after the last line,
     /// the column where it would stand. 0 where the line is 0.

@@ -34,7 +34,8 @@ pub(crate) struct Sofar<'a> {
     values: Values<'a>,
 }
 
-/// The fault of one more name, which is there already where `there` says so, after so many of its part.
+/// The fault of one more name after `count` names of its part, of which there may be `most`; `there`
+/// says whether the name is one of those before it.
 fn name_fault(
     at: Spot,
     count: usize,

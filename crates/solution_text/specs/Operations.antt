@@ -18,7 +18,7 @@ abbrev pub placed_text : SolutionData → ℕ → List ℕ
 placed_text s op =
     ((codes "op " ++ op_name s.problem.draft op) ++ told (codes " time ") (slice_index s.times op)) ++ told (codes " by ") (slice_index s.choices op)
 
--- ` UNIT`, or ` UNIT@OFFSET` so many cycles after the issue
+-- ` UNIT`, or ` UNIT@OFFSET` where it is held OFFSET cycles after the issue
 abbrev pub hold_text : Draft → Row → List ℕ
 hold_text draft row = codes " " ++ at (unit_name draft row.unit) row.offset
 

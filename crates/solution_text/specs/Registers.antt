@@ -9,7 +9,7 @@ use Rattle.writing.specs.Words.{told}
 use Rattle.solution_text.specs.declared.named.Register.{Register}
 use Rattle.solution_text.specs.Names.{file_name}
 
--- the register that is so many after a home's number, counted round its file; none where the values are allotted to none
+-- the register that is `above` after a home's number, counted round its file; none where the values are allotted to none
 abbrev pub register_behind : Home → ℕ → Option Register
 register_behind (Rotates file registers number) above = Some (record { file = file; number = (number + above) % registers })
 register_behind Unallotted above = None
@@ -22,7 +22,7 @@ destination_of s value = register_behind (home_of (run_of s) value) (stage_of (r
 abbrev pub source_of : SolutionData → Read → Option Register
 source_of s reading = register_behind (home_of (run_of s) reading.value) (reading.distance + stage_of (run_of s) reading.reader)
 
--- where the instance of so many iterations before the first one is put before the first turn
+-- where the instance `iterations` iterations before the first one is put before the first turn
 abbrev pub opening_of : SolutionData → ℕ → ℕ → Option Register
 opening_of s value iterations = register_behind (home_of (run_of s) value) iterations
 

@@ -52,7 +52,7 @@ initial_line_in s value iterations (Some register) =
 unfoldable pub initial_line : SolutionData → ℕ → ℕ → List ℕ
 initial_line s value iterations = initial_line_in s value iterations (opening_of s value iterations)
 
--- the initial values of a value: as many as the iterations that it is carried on, from the latest one back
+-- the initial values of a value: one for each iteration that it is carried on, from the latest one back
 unfoldable pub initials_of : SolutionData → ℕ → List ℕ
 initials_of s value = flat_map (λ k. initial_line s value (k + 1)) (range_with_len 0 (carried_by (run_of s) value))
 

@@ -20,7 +20,7 @@ pub struct Register {
     pub number: usize,
 }
 
-/// The register that is so many after the number of a value, counted round its file; none of a value of an unallotted file.
+/// The register that is `above` after the number of a value, counted round its file; `None` if the file is unallotted.
 pub(crate) fn register_behind(solution: &Solution, value: usize, above: u64) -> Option<Register>
     requires there { value < length solution.now.problem.draft.values.items }
     requires few { above ≤ 4096 }

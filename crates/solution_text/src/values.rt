@@ -97,7 +97,7 @@ fn carried(solution: &Solution, value: usize) -> u64
     iterations
 }
 
-/// Appends the line of the initial value of so many iterations before the first one, where it has a register.
+/// Appends the line of the initial value of the instance `iterations` iterations before the first, where it has a register.
 #[tactic(auto, unfolding(crate::specs::Values::initial_line))]
 fn push_initial(
     text: &mut Vec<u8>,

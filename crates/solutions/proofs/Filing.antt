@@ -187,7 +187,7 @@ pub gather_no : {X : Type 0} (files : List ℕ) (file k count : ℕ) (xs into al
     → take count into ++ in_file (drop (k + 1) files) file (drop (k + 1) xs) ≡ all
 gather_no files file k count xs into all lt long not before = ap (λ ys. take count into ++ ys) (sym (drop_no files file k xs lt long not)) ∙ before
 
--- the entries of the first so many values
+-- the entries of the first `k` values
 
 pub taken_yes : (files : List ℕ) (file k : ℕ) (xs from : List ℕ) → k < length files → length xs ≡ length files → slice_index files k ≡ file
     → place_in files file k < length from → in_file (take k files) file (take k xs) ≡ take (place_in files file k) from

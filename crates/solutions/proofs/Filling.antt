@@ -13,7 +13,7 @@ use Rattle.solutions.specs.Files.{in_file}
 use Rattle.solutions.specs.inner.Filling.{AreFilled, IsFilled, Lacks, LacksFirst}
 use Rattle.solutions.proofs.Filing.{same_in_file, length-in_file}
 
--- the numbers of the first so many files are the least ones
+-- the numbers of the first `end` files are the least ones
 abbrev pub FilledBelow : ℕ → List File → List ℕ → List Lifetime → List ℕ → ℕ → Type 0
 FilledBelow ii kinds files lives numbers end = (file : ℕ) (kind : File) → file < end → slice_get kinds file ≡ Some kind → IsFilled ii files lives numbers file kind
 

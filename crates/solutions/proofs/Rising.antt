@@ -8,7 +8,7 @@ use Rattle.solutions.specs.Outcomes.{FailsBy, Gives, first_of, last_of}
 use Rattle.solutions.specs.Solutions.{SolutionData}
 use Rattle.solutions.proofs.OneOutcomes.{not-both}
 
--- so many intervals tried, none of which has a solution; the cause is that of the last
+-- the first `above` intervals tried, none of which has a solution; the cause is that of the last
 abbrev pub Risen : ProblemData → ℕ → Cause → Type 0
 Risen p above last = search.Risen (Gives p) (FailsBy p) (first_of p) above last
 

@@ -27,7 +27,7 @@ impl<'a> Solution<'a> {
         copies_of(self.ii(), self.life(value))
     }
 
-    /// How many instances of a file's values live in one cycle at the most, once iterations start on and on.
+    /// How many instances of a file's values live in one cycle at the most, once the loop runs steadily.
     pub fn max_live(&self, file: usize) -> u64
         ensures value { result ≡ max_live_of self.now file }
         ensures well_formed { IsLawfulSolution self.now }

@@ -104,8 +104,8 @@ fn list<R: Threads + Sync, G: Gate + Sync>(
     list_choices(alloc, loops, chosen, settings)
 }
 
-/// The choice of each loop, by at most so many workers, 1 to 64, and no more than there are pieces. The
-/// calling thread tries what workers leave, and all where there is no memory to start them.
+/// The choice of each loop, by at most `workers` workers, 1 to 64, and no more than there are pieces.
+/// The calling thread tries what workers leave, and all where there is no memory to start them.
 ///
 /// # Errors
 /// The calling thread was refused memory.

@@ -1,4 +1,4 @@
-//! The lines of a circuit that asks for the recurrence-constrained lower bound.
+//! The lines of a circuit that needs the recurrence-constrained lower bound.
 
 ghost use Rattle.std.specs.Prelude.{◌≡◌, ◌≤◌, ◌++◌, ℕ, List, length, OnOk};
 ghost use Rattle.std.specs.Fmt.{signed_decimal};
@@ -26,7 +26,7 @@ fn push_signed(text: &mut Vec<u8>, word: &[u8], number: i64) -> Result<(), Alloc
     text.extend_from_slice(digits.format(number).as_bytes())
 }
 
-/// Appends the line of the sums of a circuit and of the bound that it asks for, in cycles.
+/// Appends the line of the sums of a circuit and of the bound that it needs, in cycles.
 fn push_sums(text: &mut Vec<u8>, sums: Sums, bound: u64) -> Result<(), AllocError>
     ensures ok { OnOk result (text.new.items ≡ text.old.items ++ sums_line sums.delay sums.distance bound) }
 {
@@ -36,7 +36,7 @@ fn push_sums(text: &mut Vec<u8>, sums: Sums, bound: u64) -> Result<(), AllocErro
     text.extend_from_slice(b"\n")
 }
 
-/// Appends the line of a circuit and of the bound that it asks for, in cycles.
+/// Appends the line of a circuit and of the bound that it needs, in cycles.
 fn push_head(text: &mut Vec<u8>, circuit: &[Edge], bound: u64) -> Result<(), AllocError>
     requires few { length circuit.now ≤ 128 }
     ensures ok { OnOk result (text.new.items ≡ text.old.items ++ circuit_line circuit.now bound) }
@@ -64,7 +64,7 @@ fn push_circuit_edges(
     Ok(())
 }
 
-/// Appends the lines of a circuit that asks for the recurrence-constrained lower bound.
+/// Appends the lines of a circuit that needs the recurrence-constrained lower bound.
 pub(crate) fn push_circuit(
     alloc: Global,
     text: &mut Vec<u8>,

@@ -11,11 +11,11 @@ use ims::Prepared;
 /// Why a loop has no kernel at a shorter interval than its own.
 #[derive(Clone, Copy, Debug, PartialEq, Eq)]
 pub enum Hold {
-    /// The units of the machine ask for the interval, and the recurrences for a shorter one.
+    /// The units of the machine need the interval, and the recurrences a shorter one.
     Units,
-    /// The recurrences ask for the interval, and the units of the machine for a shorter one.
+    /// The recurrences need the interval, and the units of the machine a shorter one.
     Recurrences,
-    /// Both ask for the interval.
+    /// Both need the interval.
     Both,
     /// The interval is above both bounds: one cycle less gives no kernel, by this cause.
     Failure(Cause),

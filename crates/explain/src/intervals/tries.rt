@@ -32,7 +32,7 @@ fn push_try(
     text.extend_from_slice(b"\n")
 }
 
-/// Appends the line of an interval, in cycles, that gives a kernel of so many stages.
+/// Appends the line of an interval, in cycles, that gives a kernel of `stages` stages.
 fn push_kernel(text: &mut Vec<u8>, interval: u64, stages: u64) -> Result<(), OutOfMemory>
     ensures ok { OnOk result (text.new.items ≡ text.old.items ++ kernel_line interval stages) }
 {
@@ -49,7 +49,7 @@ fn push_hold(text: &mut Vec<u8>, hold: Hold) -> Result<(), OutOfMemory>
     text.extend_from_slice(b"\n")
 }
 
-/// Appends the lines of an interval, in cycles, that gives a kernel of so many stages.
+/// Appends the lines of an interval, in cycles, that gives a kernel of `stages` stages.
 fn push_met(text: &mut Vec<u8>, interval: u64, stages: u64, hold: Hold) -> Result<(), OutOfMemory>
     ensures ok { OnOk result (text.new.items ≡ text.old.items ++ (kernel_line interval stages ++ hold_line hold)) }
 {

@@ -43,7 +43,7 @@ pub record AreCellsOf (p : ProblemData) (row : LoopCells) : Type 0 where
   pub long : length row.cells.items ≡ p.ceiling + 1
   pub truth : (above : ℕ) → IsTrueCell p (mii_of p + above) (known_at row.cells.items above)
 
--- how many of so many cells, from one on, are empty
+-- how many cells, from `above` on, are empty; the last number is how many are looked at
 abbrev pub empty_from : List (Option Settled) → ℕ → ℕ → ℕ
 empty_from cells above zero = 0
 empty_from cells above (suc n) = (if is_full (known_at cells above) then 0 else 1) + empty_from cells (above + 1) n

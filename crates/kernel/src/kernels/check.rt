@@ -19,8 +19,8 @@ pub enum Rule {
     Latency,
     /// Each register that an operation names is below the number of registers.
     Register,
-    /// Each operation has the destination, the number of sources and the address that its opcode asks
-    /// for, and names parameters that are there.
+    /// Each operation has the destination, the number of sources and the address that its opcode needs,
+    /// and names parameters that are there.
     Shape,
     /// Each address is in an array that is there, and its offset with the stage added is -64 to 64.
     Place,

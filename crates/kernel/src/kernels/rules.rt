@@ -143,14 +143,14 @@ fn source_is_there(source: Source, registers: u64) -> bool
     }
 }
 
-/// Whether each operation has what its opcode asks for.
+/// Whether each operation has what its opcode needs.
 fn are_shaped(operations: &[Operation], params: usize) -> bool
     ensures { IsTrue result ↔ All (IsShaped params) operations.now }
 {
     operations.iter().all(|op| is_shaped(op, params))
 }
 
-/// Whether an operation has what its opcode asks for, and names parameters that are there.
+/// Whether an operation has what its opcode needs, and names parameters that are there.
 fn is_shaped(op: &Operation, params: usize) -> bool
     ensures { IsTrue result ↔ IsShaped params op.now }
 {
@@ -172,7 +172,7 @@ fn parameter_is_there(source: Source, params: usize) -> bool
 }
 
 /// Whether an operation has the destination, the address and the number of sources that its opcode
-/// asks for.
+/// needs.
 fn has_shape(op: &Operation) -> bool
     ensures { IsTrue result ↔ HasOperationShape op.now.opcode op.now }
 {

@@ -56,7 +56,7 @@ pairs-flat R f (x ∷ xs) different each cross =
     let r = flat-back f xs v d in
     cross x r.0 u v (contains-head x xs) (contains-tail x xs r.0 r.1) (pairs-head (λ x y. x ≢ y) x xs different r.0 r.1) c r.2)
 
--- so many different numbers below a bound are at most as many
+-- there are at most `n` different numbers below `n`
 
 without : ℕ → List ℕ → List ℕ
 without n [] = []

@@ -4,7 +4,7 @@ use Rattle.std.specs.List.{AllZip}
 use Rattle.problem_tables.specs.Data.{ProblemData as TextProblem}
 use Rattle.problem_printouts.specs.Told.{Answer, met_in, texts_of}
 
--- the answers to these problems are after the old text, and so many of them are met
+-- the answers to these problems are after the old text, and `met` of them are met
 pub record AreAnswered (is_answer : TextProblem → Answer → Type 0) (problems : List TextProblem) (old text : List ℕ) (met : ℕ) : Type 0 where
   pub answers : List Answer
   pub each : AllZip is_answer problems answers

@@ -10,7 +10,7 @@ use Rattle.problem_tables.specs.declared.fault.Part.TheVariants as part
 use Rattle.problem_tables.specs.declared.fault.Told.{Told}
 use Rattle.problem_tables.specs.declared.fault.Wrong.TheVariants as wrong
 
--- the first hold of an alternative tells that this alternative, after so many of them, is too many
+-- the first hold of an alternative tells that this alternative, after `count` others, is too many
 abbrev pub crowd_fault : ℕ → List Hold → HoldForm → Option Told
 crowd_fault count [] hold = room_at (on_word hold.unit) count 16 part.Alternatives
 crowd_fault count (first ∷ sofar) hold = unless true (on_word hold.unit wrong.Place)
@@ -18,7 +18,7 @@ crowd_fault count (first ∷ sofar) hold = unless true (on_word hold.unit wrong.
 abbrev pub same_row : Hold → Hold → Bool
 same_row a b = (a.unit == b.unit) && (a.offset == b.offset)
 
--- the faults of a hold after these holds of its alternative, and so many alternatives
+-- the faults of a hold after the holds `sofar` of its alternative, and `count` alternatives
 abbrev pub hold_fault : List (List ℕ) → ℕ → List Hold → HoldForm → Option Told
 hold_fault units count sofar hold = first_of (
     crowd_fault count sofar hold

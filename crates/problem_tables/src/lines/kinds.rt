@@ -102,7 +102,7 @@ fn take_hold(
     Ok(())
 }
 
-/// Takes an alternative in, after so many others.
+/// Takes an alternative in, after `count` others.
 fn take_holds(
     units: &Names<'_>,
     count: usize,

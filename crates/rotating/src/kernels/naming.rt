@@ -34,7 +34,7 @@ pub(crate) fn fill_numbers(schedule: &Schedule, allotment: &Allotment, table: &m
     }
 }
 
-/// The name, in a stage, of the register of a value as it was so many iterations ago.
+/// The name, in a stage, of the register of a value as it was `distance` iterations ago.
 pub(crate) fn register_name(registers: u64, number: usize, distance: u8, stage: u64) -> u16
     requires some { 1 ≤ registers }
     requires few { registers ≤ 256 }

@@ -33,7 +33,7 @@ fn preload_of(
     }
 }
 
-/// Adds the initial values of a value, as many as it is carried on.
+/// Adds the first `count` initial values of a value.
 fn push_value(
     schedule: &Schedule,
     allotment: &Allotment,

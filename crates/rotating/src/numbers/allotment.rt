@@ -78,7 +78,7 @@ impl Allotment {
     }
 }
 
-/// So many zeros.
+/// `count` zeros.
 fn zeros(alloc: Global, count: usize) -> Result<Vec<usize>, OutOfMemory>
     ensures { IfOk result (λ v. vec_len v ≡ count) }
 {
@@ -120,8 +120,8 @@ pub fn allot(
     }
 }
 
-/// The first value, in text order, that has no number after the least numbers of those before it, by its
-/// lifetime; `None` where all have one. It is the value for which [`allot`] finds no allotment.
+/// The lifetime of the first value, in text order, that gets no number once those before it have their
+/// least ones; `None` where all get one. It is the value for which [`allot`] finds no allotment.
 ///
 /// # Errors
 /// [`OutOfMemory`] where memory ran out.

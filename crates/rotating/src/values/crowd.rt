@@ -8,8 +8,8 @@ use ims::Schedule;
 use overlap::Lifetime;
 use registers::crowd_in;
 
-/// How many registers hold a value in the cycle of a row once the loop runs on and on: the instances of
-/// all values, of whatever iteration, that live in it. The lifetimes are those of the schedule.
+/// How many registers hold a value in the cycle of a row once the loop runs steadily: the instances of
+/// all values, of any iteration, that live in it. The lifetimes are those of the schedule.
 pub fn live_in(schedule: &Schedule, lives: &[Lifetime], row: u64) -> u64
     requires lives { lives.now ≡ lifetimes_of schedule.now }
     requires row { row < schedule.now.ii }

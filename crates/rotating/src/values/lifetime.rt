@@ -43,8 +43,8 @@ fn end_of(schedule: &Schedule) -> u32
     (ii * stages).max(last_landing(schedule)) as u32
 }
 
-/// The first cycle of a value that lands in this cycle and is carried on to so many later iterations
-/// at the farthest.
+/// The first cycle of a value that lands in the cycle `landing` and is carried on for `farthest`
+/// iterations.
 fn first_cycle(schedule: &Schedule, value: u8, farthest: u32, landing: u64) -> u64
     requires farthest { farthest ≡ carried schedule.now.problem.loop value }
     requires landing { landing ≡ landing_of schedule.now value }
@@ -57,8 +57,8 @@ fn first_cycle(schedule: &Schedule, value: u8, farthest: u32, landing: u64) -> u
     }
 }
 
-/// The lifetime of a value that is carried on to so many later iterations at the farthest, and is last
-/// read, or else wanted, in this cycle.
+/// The lifetime of a value that is carried on for `farthest` iterations, and is last read or needed in
+/// the cycle `last`.
 fn lifetime_of(schedule: &Schedule, value: u8, farthest: u32, last: u32) -> Lifetime
     requires there { value < length schedule.now.problem.loop.statements }
     requires farthest { farthest ≡ carried schedule.now.problem.loop value }

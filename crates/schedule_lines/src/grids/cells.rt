@@ -14,7 +14,7 @@ pub(crate) fn digits_of(number: u64) -> usize
     digits.format(number).len()
 }
 
-/// Appends so many blanks.
+/// Appends `blanks` blanks.
 fn push_blanks(text: &mut Vec<u8>, blanks: usize) -> Result<(), AllocError>
     ensures ok { OnOk result (text.new.items ≡ text.old.items ++ replicate blanks 32) }
 {
@@ -24,7 +24,7 @@ fn push_blanks(text: &mut Vec<u8>, blanks: usize) -> Result<(), AllocError>
     Ok(())
 }
 
-/// Appends a cell after as many blanks as it is shorter than its column.
+/// Appends a cell, with blanks before it up to the width of its column.
 pub(crate) fn push_padded(text: &mut Vec<u8>, width: usize, cell: &[u8]) -> Result<(), AllocError>
     ensures ok { OnOk result (text.new.items ≡ text.old.items ++ padded width cell.now) }
 {

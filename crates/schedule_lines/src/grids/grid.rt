@@ -95,7 +95,7 @@ fn push_head(text: &mut Vec<u8>, machine: &Machine, grid: &Grid) -> Result<(), A
     text.extend_from_slice(b"\n")
 }
 
-/// Appends the end of the line of a row with so many live registers; the fullest row has the greatest number.
+/// Appends the end of the line of a row with `count` live registers; the fullest row has `greatest`.
 fn push_end(text: &mut Vec<u8>, count: u64, greatest: u64) -> Result<(), AllocError>
     ensures ok { OnOk result (text.new.items ≡ text.old.items ++ (full_mark count greatest ++ codes "\n")) }
 {

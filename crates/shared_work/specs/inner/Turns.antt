@@ -38,7 +38,7 @@ pub record ViewGains (v w : View) (entries new : List Entry) : Type 0 where
   pub count : w.count ≡ v.count
   pub beaten : (e : Entry) → In e new → IsBeatenRightly w entries e
 
--- a loop's intervals from one above its least on, so many of them, are entered
+-- `count` of a loop's intervals are entered, from the one `start` above its least on
 pub record Adds (tells : Bool) (v w : View) (l start count : ℕ) (before after : ReportData) : Type 0 where
   pub new : List Entry
   pub entries : after.entries ≡ before.entries ++ new

@@ -30,7 +30,7 @@ module _ {F : Type 0} (g : Shared F (ℕ × Unit {0}) (Result Part AllocError)) 
   abbrev pub AreSlots : List (Option Part) → Type 0
   AreSlots slots = (k : ℕ) (d : Option Part) → k < length slots → IsSlot k (slice_index_or slots k d)
 
-  -- so many parts, each by the call with its own number
+  -- `count` parts, each made by the call with its own number
   pub record AreMade (count : ℕ) (parts : List Part) : Type 0 where
     pub each : length parts ≡ count
     pub made : (k : ℕ) (d : Part) → k < count → IsMade k (slice_index_or parts k d)

@@ -16,7 +16,7 @@ use printouts::{Printout, plain_text, push_last, push_plain};
 use std::alloc::{AllocError, Global};
 use std::thread::Threads;
 
-/// What `plain` writes, by at most so many workers side by side. One worker starts no thread, and neither do a single
+/// What `plain` writes, by at most `workers` workers side by side. One worker starts no thread, and neither do a single
 /// loop and loops whose runs are little work.
 ///
 /// # Errors

@@ -21,8 +21,8 @@ use printouts::{Printout, are_met, push_choice, push_counts, run_printout};
 use std::alloc::{AllocError, Global};
 use std::thread::Threads;
 
-/// What `run` writes of prepared loops with their listing, by at most so many workers side by side. One worker starts no
-/// thread, and neither do a single loop and loops whose runs are little work.
+/// What `run` writes of prepared loops with their listing, by at most `workers` workers side by side. One worker starts
+/// no thread, and neither do a single loop and loops whose runs are little work.
 ///
 /// # Errors
 /// The calling thread was refused memory.

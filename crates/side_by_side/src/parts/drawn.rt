@@ -17,7 +17,7 @@ pub(crate) struct Made {
     pub(crate) part: Part,
 }
 
-/// What so many workers make together, each in a thread where one can be started. Each draws jobs until none is left,
+/// What `workers` workers make together, each in a thread where one can be started. Each draws jobs until none is left,
 /// or until it is refused memory: what is then lacking is left to the calling thread.
 pub(crate) fn made_by_all<R: Threads + Sync, F: Fn(usize) -> Result<Part, AllocError> + Sync>(
     rt: &R,

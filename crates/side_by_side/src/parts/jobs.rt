@@ -24,9 +24,9 @@ pub(crate) struct Jobs {
     pub(crate) workers: usize,
 }
 
-/// The jobs of so many parts, each of which is so much work, for at most so many workers. It is `None` where the
-/// calling thread had better make all parts: one worker is asked for, there is one part at most, or so little work
-/// that no thread is worth its start; and where there is no memory for the list.
+/// The jobs of `parts` parts, with the work that `work_of` gives for each, for at most `workers` workers. It is `None`
+/// where the calling thread had better make all parts: there is at most one worker or at most one part, or so little
+/// work that no thread is worth its start; and where there is no memory for the list.
 pub(crate) fn shared<W: Fn(usize) -> u64>(
     alloc: Global,
     parts: usize,
@@ -52,7 +52,7 @@ pub(crate) fn shared<W: Fn(usize) -> u64>(
     Some(Jobs { list, workers })
 }
 
-/// The jobs of so many parts, in their order.
+/// The jobs of `parts` parts, in their order.
 fn jobs_of<W: Fn(usize) -> u64>(
     alloc: Global,
     parts: usize,
@@ -67,7 +67,7 @@ fn jobs_of<W: Fn(usize) -> u64>(
     Ok(jobs)
 }
 
-/// Adds the jobs of so many parts, in their order.
+/// Adds the jobs of `parts` parts, in their order.
 fn add_jobs<W: Fn(usize) -> u64>(jobs: &mut Vec<Job>, parts: usize, work_of: &W)
     requires room { parts ≤ vec_capacity jobs.old }
     requires empty { jobs.old.items ≡ [] }

@@ -12,7 +12,7 @@ use Rattle.solution_reader.specs.inner.Steps.{SofarData}
 abbrev pub on_spot : Spot → Wrong → Told
 on_spot at what = record { column = at.column; width = at.width; what = what }
 
--- a line is refused just for its fault, but for want of memory
+-- a line is refused just for its fault, or for lack of memory
 abbrev pub Refuses : {A : Type 0} → Result A Refusal → Option Told → Type 0
 Refuses (Ok done) fault = fault ≡ None
 Refuses (Err (Fault told)) fault = fault ≡ Some told

@@ -38,7 +38,7 @@ pub(crate) fn spread(files: &[usize], file: usize, from: &[usize], numbers: &mut
     }
 }
 
-/// The value of a file with so many values of the file before it.
+/// The value of the file `file` with `place` values of that file before it.
 pub(crate) fn value_at(files: &[usize], file: usize, place: usize) -> usize
     requires { place < count_by (λ other. other == file) files.now }
     ensures there { result < length files.now }
