@@ -52,7 +52,7 @@ def bare(text, comment):
 
 
 def words(text):
-    """The names of a text, each with what is behind its dots: a field, or a name of a module."""
+    """The names of a text, each with what comes after its dots: a field, or a name of a module."""
     return {(it[1], it[2][1:]) for it in WORD.finditer(text)}
 
 

@@ -183,7 +183,7 @@ class Search:
         return [(registers, [it for it in self.numbers if self.problem.values[it].file == file]) for file, registers in self.problem.machine.files.items() if registers]
 
     def add_registers(self) -> None:
-        """The instances of a file's values are arcs round a circle of as many cycles as its registers have in that many turns: no two of them meet."""
+        """The instances of a file's values are arcs round a circle of registers times interval cycles: no two of them meet."""
         for registers, names in self.rotating():
             whole, arcs = registers * self.interval, list[tuple[z3.ArithRef, z3.ArithRef]]()
             for name in names:

@@ -33,7 +33,7 @@ def _line(texts: dict[str, list[str]], operation: dict[str, Any]) -> str:
 
 
 def kernel_lines(machine: dict[str, Any], problem: dict[str, Any], solution: dict[str, Any], texts: dict[str, list[str]]) -> Iterator[str]:
-    """The lines of a kernel. Behind an operation of an iteration some turns ago stands how many, as ?N."""
+    """The lines of a kernel. After an operation of an iteration that began N turns ago stands ?N."""
     interval, times, units = solution["interval"], solution["times"], machine["units"]
     source = problem["source"]
     yield f"loop {problem['name']} at {os.path.basename(source['file'])}:{source['line']}, interval {interval}, stages {solution['stages']}"

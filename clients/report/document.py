@@ -33,7 +33,7 @@ class Names:
         return self.places[name]
 
     def in_order(self, names: list[str] | tuple[str, ...]) -> list[int]:
-        """The operations of names that are told in the order of the loop: of several the first behind those before it."""
+        """The operations of names that are told in the order of the loop: of several the first after those before it."""
         found: list[int] = []
         for name in names:
             behind = [it for it in self.all_of(name) if not found or it > found[-1]]

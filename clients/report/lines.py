@@ -144,7 +144,7 @@ class Lines:
 
     @property
     def line(self) -> str:
-        """The next line, or an empty one behind the last."""
+        """The next line, or an empty one after the last."""
         return self.lines[self.at] if self.at < len(self.lines) else ""
 
     def misfit(self, why: str, back: int = 0) -> Misfit:

@@ -34,7 +34,7 @@ class Life:
 
 @dataclass(frozen=True)
 class Initial:
-    """A register that has to have a value's instance of so many iterations before the first one."""
+    """A register that has to have a value's instance of `distance` iterations before the first one."""
 
     register: int
     value: int

@@ -1,11 +1,11 @@
 /* The arguments beside the problem: settings at and past their limits, and arrays that are too short, just long enough, longer and empty. The
- * arrays lie in blocks of just their length, so that valgrind sees whatever is written or read behind them. */
+ * arrays lie in blocks of just their length, so that valgrind sees whatever is written or read after them. */
 #include "worked.h"
 
 #include <stdlib.h>
 #include <string.h>
 
-/* A block of so many numbers, filled from some, or with 77. A length of 0 has a pointer too. */
+/* A block of `count` numbers, filled from some, or with 77. A length of 0 has a pointer too. */
 static uint64_t *block(const uint64_t *from, size_t count) {
     uint64_t *made = (uint64_t *)malloc(count ? count * sizeof *made : 1);
     size_t i;
@@ -20,7 +20,7 @@ static int is_filled(const uint64_t *items, size_t from, size_t count) {
     return 1;
 }
 
-/* A problem is solved into arrays of these lengths. Gives the status; nothing may be written with another one than 0, nor behind the items of
+/* A problem is solved into arrays of these lengths. Gives the status; nothing may be written with another one than 0, nor after the items of
  * the problem. */
 static uint32_t solve(const struct worked *it, const struct modsched_problem *problem, uint64_t ratio, uint64_t ceiling, size_t times_count,
                       size_t alternatives_count, size_t numbers_count, struct modsched_answer *answer) {

@@ -32,7 +32,7 @@ static void set_order(struct modsched_order *order, uint32_t from, uint32_t to, 
 }
 
 /* Two units; a file of four registers and one that is not allotted; a kind with one alternative of one hold and a kind with two of two; three
- * operations, two values, two reads and two orders. The items behind them are as the first ones, so that a greater count is all that is wrong. */
+ * operations, two values, two reads and two orders. The items after them are as the first ones, so that a greater count is all that is wrong. */
 static void make_sound(void) {
     size_t i;
     memset(&part, 0, sizeof part), memset(&problem, 0, sizeof problem);

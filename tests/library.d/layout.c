@@ -1,4 +1,4 @@
-/* The structs are laid out as the library has them: numbers one after another, with nothing between them but what a pointer's alignment asks for. */
+/* The structs are laid out as the library has them: numbers one after another, with nothing between them but what a pointer's alignment needs. */
 #include "worked.h"
 
 #define IS(condition) (void)sizeof(char[(condition) ? 1 : -1])

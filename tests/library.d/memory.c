@@ -19,7 +19,7 @@ void __wrap_free(void *block);
 }
 #endif
 
-static long calls, held; /* so many growths were asked for, and so many blocks are held */
+static long calls, held; /* how many growths were requested, and how many blocks are held */
 static long refused;     /* the growth that is refused, from 1, or 0 for none */
 static int is_alone;     /* whether those after it are granted */
 
@@ -70,7 +70,7 @@ static int is_check_refused(const struct worked *it) {
     return check(it, &verdict) == MODSCHED_CHECK_MEMORY && same_verdict(&verdict, &wanted);
 }
 
-/* A call in which nothing is refused, and then each growth that it asked for. */
+/* A call in which nothing is refused, and then each growth that it requested. */
 static void refuse_each(const struct worked *it, int (*is_right)(const struct worked *), int (*is_told)(const struct worked *)) {
     long needed, at;
     refused = 0, calls = 0, held = 0;
@@ -88,7 +88,7 @@ static void refuse_each(const struct worked *it, int (*is_right)(const struct wo
             expect_of(held == 0, it->name, "nothing is left behind where memory runs out");
         }
     }
-    /* (so that a growth which is asked for now and was not before would be noticed) */
+    /* (so that a growth which is requested now and was not before would be noticed) */
     refused = needed + 1, calls = 0;
     expect_of(is_right(it), it->name, "no further growth is asked for");
     refused = 0;

@@ -25,7 +25,7 @@ struct given {
     uint64_t trip, ratio, ceiling;
 };
 
-static long calls, held, refused; /* growths that were asked for, blocks that are held, and from which growth on all are refused, or 0 */
+static long calls, held, refused; /* growths that were requested, blocks that are held, and from which growth on all are refused, or 0 */
 
 #ifdef REFUSES
 #ifdef __cplusplus

@@ -2,7 +2,7 @@
  *
  * Each is worked out by hand from the definitions, which docs/SEMANTICS.md tells ("Problems without a loop", "Iterative modulo
  * scheduling"): the bounds; the operations by falling height, each at the first free slot from the earliest time that those placed
- * before it allow; the live ranges; and the least number of each value. An instance i of a value with the number n stands in the
+ * before it allow; the lifetimes; and the least number of each value. An instance i of a value with the number n stands in the
  * register n - i, modulo the registers of its file. */
 #include "worked.h"
 
@@ -55,7 +55,7 @@ static const struct modsched_read TAP_READS[] = {{0, 4, 0, 0}, {1, 4, 0, 0}, {5,
 
 /* A chain of three operations of 3 cycles on one unit.
  *
- * The unit asks for 3, and no recurrence for more than 1. They are issued in 0, in 4 (in 3 the unit is taken, as in 0), and in 8 (in 7 it
+ * The unit needs 3, and no recurrence more than 1. They are issued in 0, in 4 (in 3 the unit is taken, as in 0), and in 8 (in 7 it
  * is taken, as in 4). The first value lives from 3 to 4 and the second from 7 to 8. In 7 the second meets the first one of the next
  * iteration, which stands in -1: with two registers 0 is free for it, and with one nothing is.
  *
@@ -115,7 +115,7 @@ static const struct modsched_read OWN_READ[] = {{0, 0, 4, 0}};
 /* A load and a store on one unit, of 1 and 4 cycles. The load reads a cell that the store of the iteration before wrote, so it comes 4
  * cycles after that one; the store of its own iteration must not land before it, so that one comes at most 3 cycles before it.
  *
- * The unit asks for 2, and so does the circuit for -3 + 4 = 1 at the most. Heights at 2: 1 for the load, 4 for the store. The store is
+ * The unit needs 2, and so does the circuit for -3 + 4 = 1 at the most. Heights at 2: 1 for the load, 4 for the store. The store is
  * issued in 0; the load waits for 0 + 4 - 2, where the unit is taken, and is issued in 3. */
 static const struct modsched_kind MEMORY_KINDS[] = {{1, ITEMS(ON_FIRST)}, {4, ITEMS(ON_FIRST)}};
 static const struct modsched_order MEMORY_ORDERS[] = {{0, 1, -3, 0}, {1, 0, 4, 1}};
@@ -123,7 +123,7 @@ static const struct modsched_order MEMORY_ORDERS[] = {{0, 1, -3, 0}, {1, 0, 4, 1
 /* Two adds (2 cycles), of which the second reads the first, and a multiply that holds the unit for two cycles: docs/SEMANTICS.md has it as
  * the loop `force`.
  *
- * The unit asks for 4. At 4, x is placed in 0 and y in 2; no two neighbouring cycles are left for m, which is placed in 0 by force, so that x
+ * The unit needs 4. At 4, x is placed in 0 and y in 2; no two neighbouring cycles are left for m, which is placed in 0 by force, so that x
  * goes; x is placed in 3, y goes, and is placed in 6. These are five placements, so with one for each operation the budget is used up.
  * At 5, with x in 0 and y in 2, 3 and 4 are left for m. */
 static const struct modsched_hold BUSY[] = {{0, 0}, {0, 1}};
@@ -136,7 +136,7 @@ static const struct modsched_read FORCE_READS[] = {{0, 1, 0, 0}};
 
 /* Three operations on one unit, which x holds in the cycle of its issue, y two cycles later, and m in the first two cycles.
  *
- * The unit asks for 4. At 4, x and y are placed in 0, and take the cycles 0 and 2. No two neighbouring ones are left for m, which is placed in 0 by
+ * The unit needs 4. At 4, x and y are placed in 0, and take the cycles 0 and 2. No two neighbouring ones are left for m, which is placed in 0 by
  * force, so that x goes; for x 3 is left. These are four placements, one more than there are operations. */
 static const struct modsched_hold LATER[] = {{0, 2}};
 static const struct modsched_alternative ON_LATER[] = {{ITEMS(LATER)}};
@@ -145,7 +145,7 @@ static const struct modsched_kind ROOMLESS_KINDS[] = {{2, ITEMS(ON_FIRST)}, {2, 
 
 /* An operation a that holds the unit once, and b and c (3 cycles), which hold it in two cycles, 2 apart.
  *
- * The unit asks for 5. At 5, c is placed first, in 0, and takes the cycles 0 and 2; a takes 1. For b none of the pairs 0 and 2, 1 and 3, 2 and 4, 3 and 0,
+ * The unit needs 5. At 5, c is placed first, in 0, and takes the cycles 0 and 2; a takes 1. For b none of the pairs 0 and 2, 1 and 3, 2 and 4, 3 and 0,
  * 4 and 1 is left: it is placed in 0 by force, and c goes. Nor is a pair left for c now. It was in 0 before, so it is placed in 1 by force, and a
  * goes, for which 4 is left. */
 static const struct modsched_alternative ON_TWICE[] = {{ITEMS(TWICE)}};

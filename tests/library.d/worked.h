@@ -42,7 +42,7 @@ int are_marked(const uint64_t *items, size_t from);
 /* Whether no item was written. */
 int is_marked(const struct arrays *arrays);
 
-/* The problem is solved as it has to be: status, answer, arrays, and nothing behind them. */
+/* The problem is solved as it has to be: status, answer, arrays, and nothing after them. */
 int is_solved_right(const struct worked *worked);
 
 /* Answers and verdicts in which everything is 0. */

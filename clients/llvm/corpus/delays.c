@@ -11,7 +11,7 @@ void difference(const int32_t *restrict x, int32_t *restrict y, int n) {
     }
 }
 
-/* three delays, one behind the other */
+/* three delays, one after the other */
 /* run: n=T x=n y=n | loads 1 stores 1 orders 0 */
 int32_t line3(const int32_t *restrict x, int32_t *restrict y, int n) {
     int32_t a = 1, b = 2, c = 3;

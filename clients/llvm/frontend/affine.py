@@ -19,7 +19,7 @@ class Linear:
         return Linear(constant, tuple(sorted(((it, by) for it, by in terms.items() if by), key=lambda it: [id(value) for value in it[0]])))
 
     def plus(self, other: "Linear", by: int = 1) -> "Linear":
-        """This and another so many times."""
+        """This plus `by` times another."""
         terms = dict(self.terms)
         for it, of in other.terms:
             terms[it] = terms.get(it, 0) + of * by

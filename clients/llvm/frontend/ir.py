@@ -31,7 +31,7 @@ class Argument(Value):
 
 @dataclass(eq=False, repr=False)
 class Global(Value):
-    """The address of a global variable of so many bytes, or of a function (0 bytes)."""
+    """The address of a global variable of `size` bytes, or of a function (0 bytes)."""
 
     size: int
 

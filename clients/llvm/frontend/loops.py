@@ -125,7 +125,7 @@ def _conditional(header: Block, blocks: list[Block], latch: Block) -> Block | No
 
 
 def _convert(loop: Loop, inner: Block) -> None:
-    """The conditional block becomes guards of its loads and stores, and phis behind it become selects."""
+    """The conditional block becomes guards of its loads and stores, and phis after it become selects."""
     test = loop.header.last
     wanted = loop.header.successors[0] is inner
     for one in inner.instructions:

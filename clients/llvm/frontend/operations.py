@@ -16,7 +16,7 @@ MOST_DISTANCE = 16  # iterations between a value and a read of it, the most that
 
 @dataclass(frozen=True)
 class Read:
-    """An operand that is the value of an operation, made so many iterations ago, and read so many cycles after the issue."""
+    """An operand that is the value of an operation, made `distance` iterations ago, and read `offset` cycles after the issue."""
 
     maker: Instruction
     distance: int

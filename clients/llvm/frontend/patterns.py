@@ -38,7 +38,7 @@ class Term:
 
     @property
     def types(self) -> int:
-        """How many types it asks for."""
+        """How many types it requires."""
         return bool(self.type) + sum(it.types for it in self.operands or ())
 
 

@@ -2,8 +2,8 @@
 
     /* run: n=T x=n+7 y=n | loads 3 stores 1 orders 2 open 1 */
 
-stands before a function. For T iterations its argument n is T, and x points to n + 7 elements of random bytes (of a struct, to so many bytes). `x=&y+3` points to the fourth element of what
-y points to, `x=n:small` to numbers from 0 to 15, and floating-point numbers are multiples of 1/4. Behind the bar stand the loads, stores and orders of the
+stands before a function. For T iterations its argument n is T, and x points to n + 7 elements of random bytes (of a struct, to n + 7 bytes). `x=&y+3` points to the fourth element of what
+y points to, `x=n:small` to numbers from 0 to 15, and floating-point numbers are multiples of 1/4. After the bar stand the loads, stores and orders of the
 function's innermost loop, as they are counted by hand, and how many of the orders are open: those of accesses of which it is not known whether and when they
 meet. `left out: REASON` is what is expected of a loop that gives no problem.
 """

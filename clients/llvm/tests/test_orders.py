@@ -99,7 +99,7 @@ class Distances(unittest.TestCase):
         self.assertEqual(orders_of(apart), [])
 
     def test_far(self):
-        """A distance above 255 is told as 255, which asks for more."""
+        """A distance above 255 is told as 255, which is stricter."""
         self.assertEqual(two(("i", "load"), ("i+1000", "store")), [(1, 0, 2, 255)])
 
     def test_unknown_step(self):

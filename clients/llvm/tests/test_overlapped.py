@@ -47,7 +47,7 @@ class Found(unittest.TestCase):
         self.assertTrue(is_right(*found_of("filters.c", "comb")))
 
     def test_late_store(self):
-        """The store lands when the load of the fourth iteration behind has already looked."""
+        """The store lands when the load of the fourth iteration after it has already looked."""
         case, machine, problem, solution = found_of("filters.c", "comb")
         self.assertEqual(problem["edges"][0]["distance"], 4)
         solution["times"][operation(problem, "store")] += 4 * solution["interval"]

@@ -112,7 +112,7 @@ class ByHand(unittest.TestCase):
         ])
 
     def test_delays(self):
-        """Two delays, one behind the other: the value of two iterations ago."""
+        """Two delays, one after the other: the value of two iterations ago."""
         found = lines_of("%a = phi i32 [ 1, %entry ], [ %x, %loop ]\n%b = phi i32 [ 2, %entry ], [ %a, %loop ]", LOAD + "%t = add i32 %b, %a\n" + STORE.format("%t"))
         self.assertEqual(found[-3:], ["read f:add %x distance 2 offset 0", "read f:add %x distance 1 offset 0", "read f:store %t distance 0 offset 0"])
         problems, _ = document_of("%a = phi i32 [ 1, %entry ], [ %x, %loop ]\n%b = phi i32 [ 2, %entry ], [ %a, %loop ]", LOAD + "%t = add i32 %b, %a\n" + STORE.format("%t"))
@@ -166,7 +166,7 @@ class ByHand(unittest.TestCase):
         self.assertEqual(lines_of("", lines)[-1], "edge f:store f:load delay 2 distance 1")
 
     def test_place(self):
-        """A load that is extended behind a store of the same place is before it all the same."""
+        """A load that is extended after a store of the same place is before it all the same."""
         lines = "%qp = getelementptr i16, i16* %q, i64 %i\n%a = load i16, i16* %qp\nstore i16 7, i16* %qp\n%b = sext i16 %a to i32\n" + STORE.format("%b")
         self.assertEqual(lines_of("", lines), [
             "op f:memory memory", "op f:store store", "op f:store.2 store", "value %b of f:memory lands 3 in r",

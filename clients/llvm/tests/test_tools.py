@@ -96,7 +96,7 @@ class Solutions(unittest.TestCase):
 
     @unittest.skipUnless(common.HAS_LIBRARY, "./library has not made out/libmodsched.so")
     def test_solved(self):
-        """A load each cycle, and a sum that waits one: interval 1. The sum is issued 3 cycles behind its load."""
+        """A load each cycle, and a sum that waits one: interval 1. The sum is issued 3 cycles after its load."""
         written("p.json", run("problems.py", written("small.c", SMALL)).stdout)
         done = run("solve.py", "--library", common.LIBRARY, "p.json")
         found = json.loads(done.stdout)

@@ -152,7 +152,7 @@ def _array(item: Any, items: Sequence[Any]) -> Any:
 
 
 def _unsigned(number: int, bits: int = 32) -> int:
-    """The number, or the greatest of so many bits, which is above each limit, where it has not got so many. (ctypes would drop the bits above.)"""
+    """The number, or the greatest of `bits` bits, which is above each limit, where it is negative or has more bits. (ctypes would drop the bits above.)"""
     return number if 0 <= number < 1 << bits else (1 << bits) - 1
 
 
@@ -185,7 +185,7 @@ class Problem:
         self.units.append(name)
 
     def file(self, name: str, registers: int = 0) -> None:
-        """A register file with so many rotating registers, or 0 where its values are allotted to none."""
+        """A register file with `registers` rotating registers, or 0 where its values are allotted to none."""
         self._new(self.files, name)
         self.files[name] = registers
 
@@ -200,12 +200,12 @@ class Problem:
         self.operations[name] = _number(list(self.kinds), kind)
 
     def value(self, name: str, maker: str, lands: int, file: str, out: bool = False) -> None:
-        """A value that an operation makes, so many cycles after its issue, and whether it is live at the end."""
+        """A value that an operation makes, `lands` cycles after its issue, and whether it is live at the end."""
         self._new(self.values, name)
         self.values[name] = (_number(list(self.operations), maker), lands, int(out), _number(list(self.files), file))
 
     def read(self, value: str, reader: str, distance: int = 0, offset: int = 0) -> None:
-        """An operation reads the value of so many iterations ago, so many cycles after its own issue."""
+        """An operation reads the value of `distance` iterations ago, `offset` cycles after its own issue."""
         self.reads.append((_number(list(self.values), value), _number(list(self.operations), reader), distance, offset))
 
     def order(self, first: str, to: str, delay: int, distance: int = 0) -> None:
@@ -291,11 +291,11 @@ class Library:
         return self._printed("explain", (machine, loops), ratio, ceiling)
 
     def run(self, machine: str | bytes, loops: str | bytes, trip: int, ratio: int = 6, ceiling: int = 32) -> Printed:
-        """What the kernel of each loop leaves after so many iterations, 0 to 100,000. Raises as `schedule`."""
+        """What the kernel of each loop leaves after `trip` iterations, 0 to 100,000. Raises as `schedule`."""
         return self._printed("run", (machine, loops), trip, ratio, ceiling)
 
     def plain(self, loops: str | bytes, trip: int) -> Printed:
-        """What each loop leaves after so many iterations, 0 to 100,000, one after another. Raises as `schedule`."""
+        """What each loop leaves after `trip` iterations, 0 to 100,000, one after another. Raises as `schedule`."""
         return self._printed("plain", (loops,), trip)
 
     def bounds(self, machine: str | bytes, loops: str | bytes) -> Printed:

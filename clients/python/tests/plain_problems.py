@@ -1,4 +1,4 @@
-"""Scheduling problems by the letter of their definitions, in plain Python: bounds, attempts, live ranges, registers and the judge of solutions.
+"""Scheduling problems by the letter of their definitions, in plain Python: bounds, attempts, lifetimes, registers and the judge of solutions.
 
 It shares no code with modsched and is slow: it is there to be compared with. A problem is a `Problem`, whose lists are those of a draft
 (docs/SEMANTICS.md, "Problems without a loop"): `kinds` are pairs of a latency and alternatives, each alternative a list of pairs (unit, offset);
@@ -96,7 +96,7 @@ def attempt(problem, ii):
 
 
 def tried(problem, ii):
-    """The times and alternatives, or the cause and who is behind it: an operation, those that have no place, or one and its time."""
+    """The times and alternatives, or the cause and its culprit: an operation, those that have no place, or one and its time."""
     every, edges, height = alternatives_of(problem), edges_of(problem), heights(problem, ii)
     count, placed, last = len(every), {}, {}
     usable = [[number for number, rows in enumerate(of) if not collides(rows, ii)] for of in every]

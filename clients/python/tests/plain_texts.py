@@ -22,7 +22,7 @@ def hold_text(named, hold):
 
 
 def register(named, numbers, value, above):
-    """The register that stands so many above a value's number, or None where the value is allotted to none."""
+    """The register that stands `above` registers above a value's number, or None where the value is allotted to none."""
     file = named.problem.values[value][2]
     registers = named.problem.files[file]
     return f"{named.files[file]}.{(numbers[value] + above) % registers}" if registers else None

@@ -20,7 +20,7 @@ def found() -> str | None:
 
 
 class Browser:
-    """One page of a browser of its own. It keeps what the console tells, and each address that the page asks for."""
+    """One page of a browser of its own. It keeps what the console tells, and each address that the page requests."""
 
     def __init__(self, path: str):
         self.folder = tempfile.TemporaryDirectory(prefix="report-browser-")

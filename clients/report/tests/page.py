@@ -173,7 +173,7 @@ def seen_of_places(loop: dict[str, Any], it: dict[str, Any]) -> Iterator[str]:
 
 
 def seen_of_bars(ii: int, values: list[tuple[str, int, int]], lane_of: Callable[[int, int], Any], columns: list[Any], folds: list[Any]) -> Iterator[str]:
-    """The bars of live ranges (name, first, last): each value in the rows in which it lives, once for each turn that it lives in, in the lane of its
+    """The bars of lifetimes (name, first, last): each value in the rows in which it lives, once for each turn that it lives in, in the lane of its
     register and in no other's place."""
     wanted = []
     for place, (name, its_first, its_last) in enumerate(values):

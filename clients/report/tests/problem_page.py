@@ -103,7 +103,7 @@ def seen_of_solution(problem: dict[str, Any], it: dict[str, Any]) -> Iterator[st
 
 
 def seen_of_file(problem: dict[str, Any], at: int, file: dict[str, Any], seen: dict[str, Any]) -> Iterator[str]:
-    """The live ranges of a file that has values."""
+    """The lifetimes of a file that has values."""
     kernel, registers = problem["kernel"], file["registers"]
     its = [value | lives for value, lives in zip(problem["values"], kernel["values"]) if value["file"] == at]
     held = "copies" if registers is None else "register"

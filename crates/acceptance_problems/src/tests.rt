@@ -96,7 +96,7 @@ fn orders_of(alloc: Global, list: &[(usize, usize, i64, u64)]) -> Result<Vec<Ord
     Ok(orders)
 }
 
-/// The problem of these lists, with at most six placements for each operation and so many intervals above the least one.
+/// The problem of these lists, with at most six placements for each operation and `ceiling` intervals above the least one.
 fn problem_of(
     alloc: Global,
     kinds: Vec<Kind>,

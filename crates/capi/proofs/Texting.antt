@@ -51,7 +51,7 @@ refused (Loops f) before after told status other h = h
 refused (NoTable name opcode) before after told status other h = h
 refused Memory before after told status other h = absurd (other refl)
 
--- what was printed is brought about by the texts, and so is want of memory
+-- what was printed is brought about by the texts, and so is the answer that memory ran out
 pub brought : (IsBrought : Outcome → Type 0) (printed : Outcome) (before after : List ℕ) (told : Told) (status : ℕ)
     → IsBrought printed → IsBrought (Err Memory) → Hands printed before after told status ⊎ HandsNothing before after told status → HandsBrought IsBrought before after told status
 brought IsBrought printed before after told status is none h = elim h [

@@ -17,7 +17,7 @@ use Rattle.capi.specs.declared.given.Read.{Read as GivenRead}
 use Rattle.capi.specs.declared.given.Order.{Order as GivenOrder}
 use Rattle.capi.specs.declared.given.Problem.{Problem as GivenProblem}
 
--- a file of so many rotating registers, or of none at all
+-- a file of `registers` rotating registers, or an unallotted one for 0
 abbrev pub file_of : ℕ → File
 file_of registers = if registers == 0 then Unallotted else Rotating registers
 

@@ -17,7 +17,7 @@ use std::alloc::Global;
 /// Checks a schedule of a problem: an interval, in cycles, the issue time of each operation, in cycles, the number of the
 /// alternative of each, from 0, and of each value the number of its register, which is 0 in an unallotted file.
 ///
-/// 0: lawful. 1: the verdict says what is broken first. 2: there are not as many times as alternatives. 5: the problem is
+/// 0: lawful. 1: the verdict says what is broken first. 2: the times and the alternatives differ in number. 5: the problem is
 /// at fault. 7: memory ran out, which says nothing of the schedule.
 #[unsafe(no_mangle)]
 pub extern "C" fn modsched_check(

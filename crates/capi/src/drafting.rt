@@ -8,7 +8,7 @@ use machine_data::OutOfMemory;
 use problems::{Draft, File, Names};
 use std::alloc::Global;
 
-/// The register file of so many registers.
+/// The register file of `registers` rotating registers, or an unallotted one for 0.
 fn file_of(registers: u32) -> File
     ensures { result ≡ file_of registers }
 {

@@ -45,7 +45,7 @@ pub struct Verdict {
     pub register: u64,
     /// The cycle in which both values live, from the beginning of iteration 0.
     pub cycle: u64,
-    /// Which argument does not fit: 1 the times and the alternatives, which are not as many.
+    /// Which argument does not fit: 1 the times and the alternatives, which differ in number.
     pub misfit: u64,
     /// What is wrong with the problem.
     pub fault: FaultNumbers,
@@ -77,7 +77,7 @@ pub(crate) fn silence() -> Verdict
     }
 }
 
-/// The times and the alternatives are not as many.
+/// The times and the alternatives differ in number.
 pub(crate) fn misfit_verdict() -> Verdict
     ensures { result ≡ misfit_verdict }
 {

@@ -216,13 +216,13 @@ abbrev pub Means : Command → Option (Text × List Row) → Type 0
 Means command None = ⊥
 Means command (Some subcommand) = MeansNamed command subcommand.0 subcommand.1
 
--- help or the version was asked for
+-- help or the version was requested
 abbrev pub IsRequest : ErrorKind → Type 0
 IsRequest kind.DisplayHelp = ⊤
 IsRequest kind.DisplayVersion = ⊤
 IsRequest _ = ⊥
 
--- what is told of an error of this kind: what was asked for, or else a refusal
+-- what is told of an error of this kind: the help or the version, or else a refusal
 abbrev pub IsToldBy : Usage → ErrorKind → Type 0
 IsToldBy (Help text) k = IsRequest k
 IsToldBy (Refused text) k = (¬ IsRequest k) × (k ≢ kind.OutOfMemory)

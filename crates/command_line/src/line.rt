@@ -17,7 +17,7 @@ use std::alloc::{AllocError, Global};
 /// Why a line gives no command.
 #[derive(Debug, Drop)]
 pub enum Usage {
-    /// Help or the version was asked for: its text.
+    /// Help or the version was requested: its text.
     Help(String),
     /// The line is refused: what is wrong with it, and how it is used.
     Refused(String),

@@ -152,7 +152,7 @@ pub fn read_text<I: Input>(alloc: Global, input: &mut I) -> Result<Vec<u8>, Read
     read_text_of(alloc, input, TEXT_LIMIT)
 }
 
-/// Reads an input to its end, or to one byte past so many, which are less than 2^32, whichever comes first. After a fault it makes
+/// Reads an input to its end or up to `most + 1` bytes, whichever comes first; `most` is less than 2^32. After a fault it makes
 /// no further call.
 pub fn read_text_of<I: Input>(
     alloc: Global,

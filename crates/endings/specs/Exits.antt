@@ -5,7 +5,7 @@ use Rattle.command_line.specs.declared.line.Usage.TheVariants.{Help, Refused, Me
 use Rattle.endings.specs.Statuses.{line_of, status_number}
 use Rattle.endings.specs.declared.status.Status.{Status}
 
--- the number by which the process exits: that of a status, 0 for help, 2 for a line that is refused, 7 for want of memory
+-- the number by which the process exits: that of a status, 0 for help, 2 for a line that is refused, 7 where memory runs out
 abbrev pub exit_number_of : Result Status Usage → ℕ
 exit_number_of (Ok status) = status_number status
 exit_number_of (Err (Help text)) = 0

@@ -102,7 +102,7 @@ fn solutions_number(what: SolutionsWrong) -> u8
     }
 }
 
-/// A machine text that is refused for want of memory alone ends in `OutOfMemory`.
+/// A machine text that is refused only for lack of memory ends in `OutOfMemory`.
 impl From<MachineFault> for Status {
     ghost from_gives = { λ fault status. status ≡ refusal_of_machine fault };
 
@@ -114,7 +114,7 @@ impl From<MachineFault> for Status {
     }
 }
 
-/// A loop text that is refused for want of memory alone ends in `OutOfMemory`.
+/// A loop text that is refused only for lack of memory ends in `OutOfMemory`.
 impl From<LoopFault> for Status {
     ghost from_gives = { λ fault status. status ≡ refusal_of_loops fault };
 
@@ -126,7 +126,7 @@ impl From<LoopFault> for Status {
     }
 }
 
-/// Texts that have no listing end as their fault says; for want of memory alone, in `OutOfMemory`.
+/// Texts that have no listing end as their fault says, and in `OutOfMemory` where memory ran out.
 impl From<FileFault> for Status {
     ghost from_gives = { λ fault status. status ≡ refusal_of_file fault };
 
@@ -140,7 +140,7 @@ impl From<FileFault> for Status {
     }
 }
 
-/// A text of problems that is refused for want of memory alone ends in `OutOfMemory`.
+/// A text of problems that is refused only for lack of memory ends in `OutOfMemory`.
 impl From<TextFault> for Status {
     ghost from_gives = { λ fault status. status ≡ refusal_of_problem_text fault };
 
@@ -152,7 +152,7 @@ impl From<TextFault> for Status {
     }
 }
 
-/// A text of solutions that is refused for want of memory alone ends in `OutOfMemory`.
+/// A text of solutions that is refused only for lack of memory ends in `OutOfMemory`.
 impl From<SolutionFault> for Status {
     ghost from_gives = { λ fault status. status ≡ refusal_of_solution_text fault };
 
@@ -164,7 +164,7 @@ impl From<SolutionFault> for Status {
     }
 }
 
-/// Texts of problems and solutions that have no answer end as their fault says; for want of memory alone, in `OutOfMemory`.
+/// Texts of problems and solutions that have no answer end as their fault says, and in `OutOfMemory` where memory ran out.
 impl From<ProblemsFault> for Status {
     ghost from_gives = { λ fault status. status ≡ refusal_of_problems fault };
 

@@ -23,7 +23,7 @@ pub fn finish<O: Output>(output: &mut O, text: &[u8], all_met: bool) -> Status
     }
 }
 
-/// Writes the help or the version that was asked for, as [`finish`] writes an output where all is met.
+/// Writes the help or the version that was requested, as [`finish`] writes an output where all is met.
 pub fn show<O: Output>(output: &mut O, text: &str) -> Status
     requires { O.failed output.old < 2 ^ 64 - 1 }
     ensures ends { EndsWritten text.now true (O.taken output.old) (O.taken output.new) result }

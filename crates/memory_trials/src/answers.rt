@@ -14,7 +14,7 @@ pub enum Answer {
     Refused,
     /// What it comes to with ample memory, by the calling thread alone, since no worker was started.
     Alone,
-    /// A worker went on to the end, and its report tells what it lacks for want of memory.
+    /// A worker went on to the end, and its report tells what it lacks since memory ran out.
     InPart,
     /// A worker went on to the end, and its report tells that every piece was lost.
     AllLost,

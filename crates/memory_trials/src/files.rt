@@ -53,7 +53,7 @@ fn listed<R: Threads + Sync>(rt: &R, alloc: Global, settings: &Settings) -> Answ
     }
 }
 
-/// What a listing is, where a worker came to so many pieces.
+/// What a listing is, where a worker came to `pieces` pieces.
 fn written(alloc: Global, listing: &Listing, pieces: u64) -> Answer {
     let Ok(text) = listing_text(alloc, listing) else {
         return Answer::Refused;

@@ -100,7 +100,7 @@ problems_refusal (problems.Problems f) = problems_refusal_at f.what f refl
 problems_refusal (problems.Solutions f) = solutions_refusal_at f.what f refl
 problems_refusal problems.Memory = tt
 
--- want of memory has one status among them
+-- among them one status alone tells that memory ran out
 pub refusal_memory : (status : Status) → IsRefusal status → status_number status ≡ 7 → status ≡ OutOfMemory
 refusal_memory (Machine f) is seven = absurd (omega (arith, is, seven))
 refusal_memory (Loops f) is seven = absurd (omega (arith, is, seven))

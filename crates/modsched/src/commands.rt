@@ -23,7 +23,7 @@ use std::alloc::Global;
 use std::thread::Threads;
 
 /// What a command writes for the bytes of its texts, each of which is read once, or the status of a refusal. A command that reads
-/// one text pays no heed to the first bytes.
+/// one text ignores the first bytes.
 pub(crate) fn printout_of<R: Threads + Sync>(
     rt: &R,
     alloc: Global,

@@ -8,7 +8,7 @@ use Rattle.command_line.specs.declared.line.Usage.TheVariants.{Help, Refused, Me
 use Rattle.modsched.specs.Lines.{IsRequest, Means, first_path}
 use Rattle.endings.specs.declared.status.Status.{Status}
 
--- a line ends in a status where it means a command, or asks for help or the version; else it is refused, or memory ran out
+-- a line ends in a status where it means a command, or requests help or the version; else it is refused, or memory ran out
 abbrev pub IsHeeded : Result Status Usage → Kinds → Option (Text × List Row) → Type 0
 IsHeeded (Ok status) kinds subcommand = ((command : Command) × (kinds ≡ []) × Means command subcommand)
     ⊎ ((k : ErrorKind) × IsAmong k kinds × IsRequest k)

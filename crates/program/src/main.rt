@@ -22,7 +22,7 @@ fn main(rt: HostRuntime) -> ExitCode {
     ExitCode::from(exit_number(&ending))
 }
 
-/// Reads the command line and does what it asks for.
+/// Reads the command line and carries it out.
 fn run<R: AllocGlobal + Env + Files + Print + Threads + Sync>(rt: &R) -> Result<Status, Usage>
     ensures { IfErr result IsNoRequest }
 {
@@ -45,7 +45,7 @@ fn words<R: AllocGlobal + Env>(rt: &R) -> Result<Vec<String>, Usage>
     }
 }
 
-/// Does what these words ask for. Help and the version are shown on the standard output.
+/// Carries out the command line of these words. Help and the version are shown on the standard output.
 fn answer<R: AllocGlobal + Files + Print + Threads + Sync>(
     rt: &R,
     words: &[&str],

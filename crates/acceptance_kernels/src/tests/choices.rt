@@ -25,7 +25,7 @@ z = add x y
 end
 ";
 
-/// What is chosen for a loop, of so many intervals above its least one.
+/// What is chosen for a loop, from its least interval to `ceiling` above that.
 fn chosen(alloc: Global, machine: &str, text: &str, ceiling: u64) -> Result<Choice, Fail> {
     let machine = read_machine(alloc, machine.as_bytes())?;
     let mut loops = read_loops(alloc, text.as_bytes())?;

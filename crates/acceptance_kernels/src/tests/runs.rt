@@ -69,7 +69,7 @@ fn left(
     Ok(())
 }
 
-/// The kernel of a case and its loop, run for so many iterations, change just these cells and leave
+/// The kernel of a case and its loop, run for `trip` iterations, change just these cells and leave
 /// these live values.
 fn leaves(
     rt: &impl Abort,

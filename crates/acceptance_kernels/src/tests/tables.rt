@@ -179,7 +179,7 @@ fn statement(alloc: Global, draws: &mut Draws, number: u64) -> Result<String, Al
     }
 }
 
-/// A loop of so many statements, in the manner of the benchmarks.
+/// A loop of `count` values and a store, in the manner of the benchmarks.
 fn made(alloc: Global, seed: u64, count: u64) -> Result<String, AllocError>
     requires { 0 < count }
 {

@@ -121,7 +121,7 @@ fn each_form(rt: HostRuntime) {
     assert!(rt; matches!(line_of(b" \t# op a k"), Ok(None)));
 }
 
-/// A line has this fault: what is expected at a column, in place of a word of so many bytes.
+/// A line has this fault: what is expected at a column, in place of a word of `width` bytes.
 fn has_fault(line: &[u8], what: Expected, column: usize, width: usize) -> bool {
     let wanted = LineFault {
         column,

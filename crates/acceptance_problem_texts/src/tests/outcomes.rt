@@ -18,7 +18,7 @@ fn labels(alloc: Global, texts: &[&str]) -> Result<Vec<Label>, Fail> {
 }
 
 /// One operation `add` of 3 cycles that holds the unit `u` in these cycles after its issue. It adds to its value `s` of the
-/// iteration before. At most so many intervals above the least one are tried.
+/// iteration before. At most `ceiling` intervals above the least one are tried.
 pub(crate) fn sum(
     alloc: Global,
     offsets: &[u64],

@@ -49,7 +49,7 @@ end
 # problems 2 met 1 failed 1
 ";
 
-/// What is printed where a text is solved by so many workers is this.
+/// Where `workers` workers solve a text, this is printed.
 fn comes_to<R: Threads + Sync + Abort>(
     rt: &R,
     alloc: Global,
@@ -83,7 +83,7 @@ fn no_problems(rt: HostRuntime) -> Result<(), Fail> {
     comes_to(&rt, rt.alloc(), b"", 3, nothing, 0, 0)
 }
 
-/// A text with so many problems like `sum`, and what they come to.
+/// A text with `count` problems like `sum`, and what they come to.
 fn many(alloc: Global, count: usize) -> Result<(String, String), Fail> {
     let mut text = String::new(alloc);
     let mut solved = String::new(alloc);

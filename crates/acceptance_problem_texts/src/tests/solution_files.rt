@@ -100,7 +100,7 @@ fn faults_of_lines(rt: HostRuntime) {
     }
 }
 
-/// A text with so many lines, `solution` or in one solution, of different names.
+/// A text with `count` lines, `solution` or in one solution, of different names.
 fn many(alloc: Global, count: usize, head: &str, front: &str, rest: &str) -> Result<String, Fail> {
     let mut text = String::new(alloc);
     text.push_str(head)?;

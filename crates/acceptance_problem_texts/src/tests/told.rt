@@ -102,8 +102,8 @@ fn names(alloc: Global, named: bool) -> Result<Names, Fail> {
     })
 }
 
-/// The problem with so many registers, of which so many intervals above the least one are tried, and whose first operation holds
-/// these units.
+/// The problem with `registers` registers, of which `ceiling` intervals above the least one are tried, and whose first operation
+/// holds these units.
 fn problem_holding(
     alloc: Global,
     first: &[Hold],

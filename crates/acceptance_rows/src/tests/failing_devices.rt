@@ -63,7 +63,7 @@ fn writes_a_beginning(rt: HostRuntime) -> Result<(), Fail> {
     ends(&rt, &row, 6, "loop acc o", "modsched: cannot write\n")
 }
 
-/// A text of comments of so many bytes.
+/// A text of comments of `bytes` bytes.
 fn comments(alloc: Global, bytes: usize) -> Result<String, AllocError> {
     let mut text = String::new(alloc);
     for _ in 0..bytes {
@@ -170,8 +170,8 @@ fn unread_of(status: &Status) -> &'static str {
     }
 }
 
-/// The number that a line exits with where its inputs give a byte a read and fail after so many, and
-/// what is told as that can't be read. Its output is whole, or nothing is written.
+/// The number that a line exits with where its inputs give a byte a read and fail after `first` and
+/// `last` reads, and which input is told as unread. Its output is whole, or nothing is written.
 fn read_to(
     rt: &(impl Abort + Threads + Sync),
     alloc: Global,
@@ -220,8 +220,8 @@ fn fails_to_read(rt: HostRuntime) {
     }
 }
 
-/// A line with an output that takes 7 bytes a write and so many in all, which is just what went out; the
-/// number that it exits with.
+/// The number that a line exits with where its output takes 7 bytes a write and `room` in all. The first
+/// `room` bytes of the wanted text went out, or all of it where it is shorter.
 fn write_to(
     rt: &(impl Abort + Threads + Sync),
     alloc: Global,

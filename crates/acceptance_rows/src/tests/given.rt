@@ -61,7 +61,7 @@ end
 /// What a check says of that.
 pub(super) const SUM_OK: &str = "sum ok ii 3 stages 1\n# problems 1 met 1 failed 0\n";
 
-/// Its graph. The one edge is the circuit that asks for the interval.
+/// Its graph. The one edge is the critical circuit.
 pub(super) const SUM_DOT: &str = r#"digraph "sum" {
   label="sum res 1 rec 3 mii 3"
   node [shape=box]

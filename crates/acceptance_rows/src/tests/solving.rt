@@ -107,7 +107,7 @@ fn writes_a_beginning_of_answers(rt: HostRuntime) -> Result<(), Fail> {
     ends(&rt, &row, 6, "# sum ops ", "modsched: cannot write\n")
 }
 
-/// A text of so many bytes that says nothing.
+/// A text of `bytes` bytes that says nothing.
 fn comments(alloc: Global, bytes: usize) -> Result<String, AllocError> {
     let mut text = String::new(alloc);
     for _ in 0..bytes {
@@ -116,7 +116,7 @@ fn comments(alloc: Global, bytes: usize) -> Result<String, AllocError> {
     Ok(text)
 }
 
-/// What comes of a text of problems and one of solutions of so many bytes.
+/// What comes of a text of problems and one of solutions of `bytes` bytes.
 fn of_length(
     rt: &(impl Abort + AllocGlobal + Threads + Sync),
     bytes: usize,

@@ -20,7 +20,7 @@ fn read(alloc: Global, words: &[&str]) -> Result<(String, String, Task), Fail> {
     }
 }
 
-/// The path, the trip count and the number of workers of a line that asks for a plain run.
+/// The path, the trip count and the number of workers of a `plain` line.
 fn plainly(alloc: Global, words: &[&str]) -> Result<(String, Trip, usize), Fail> {
     let (loops, work) = over_loops(alloc, words)?;
     match work {
@@ -29,7 +29,7 @@ fn plainly(alloc: Global, words: &[&str]) -> Result<(String, Trip, usize), Fail>
     }
 }
 
-/// The path and the settings of a line that asks for solutions.
+/// The path and the settings of a `solve` line.
 fn solved(alloc: Global, words: &[&str]) -> Result<(String, Settings), Fail> {
     match parse_line(alloc, words)? {
         Command::Solve { problems, settings } => Ok((problems, settings)),
@@ -37,7 +37,7 @@ fn solved(alloc: Global, words: &[&str]) -> Result<(String, Settings), Fail> {
     }
 }
 
-/// The path of a line that asks for something of problems alone, and what is told of them.
+/// The path of a line for a report on problems alone, and which report it is.
 fn reported(alloc: Global, words: &[&str]) -> Result<(String, Report), Fail> {
     match parse_line(alloc, words)? {
         Command::Problems { problems, told } => Ok((problems, told)),
@@ -45,7 +45,7 @@ fn reported(alloc: Global, words: &[&str]) -> Result<(String, Report), Fail> {
     }
 }
 
-/// The paths of a line that asks whether solutions hold.
+/// The paths of a `check` line.
 fn checked(alloc: Global, words: &[&str]) -> Result<(String, String), Fail> {
     match parse_line(alloc, words)? {
         Command::Check {

@@ -11,7 +11,7 @@ use std::test::Fail;
 /// What a call of a write answers.
 #[derive(Clone, Copy)]
 enum Answer {
-    /// It takes so many bytes, or all where there are fewer.
+    /// It takes this number of bytes, or all where there are fewer.
     Takes(usize),
     /// A signal interrupts it.
     IsInterrupted,

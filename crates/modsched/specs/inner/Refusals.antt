@@ -4,7 +4,7 @@ use Rattle.endings.specs.Statuses.{status_number}
 use Rattle.endings.specs.declared.status.Status.{Status}
 use Rattle.endings.specs.declared.status.Status.TheVariants.{Machine, Loops, NoTable, Problems, Solutions, OutOfMemory}
 
--- it tells of a text or of memory, and want of memory has one status
+-- it tells of a text or of memory, and one status alone tells that memory ran out
 abbrev pub IsRefusal : Status → Type 0
 IsRefusal (Machine fault) = status_number (Machine fault) ≡ 4
 IsRefusal (Loops fault) = status_number (Loops fault) ≡ 5

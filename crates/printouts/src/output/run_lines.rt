@@ -9,7 +9,7 @@ use crate::output::lines::{push_number, push_signed};
 use loops::{Loop, Memory, RunFault, value_name};
 use std::alloc::AllocError;
 
-/// The answer of a run that only want of memory can refuse.
+/// The answer of a run that only lack of memory can refuse.
 pub(crate) fn within_limits(answer: Result<Memory, RunFault>) -> Result<Memory, AllocError>
     requires trip { ¬ IsErrOf answer RunFault.Trip }
     requires shape { ¬ IsErrOf answer RunFault.Shape }

@@ -54,7 +54,7 @@ impl Gate for Meeting {
     }
 }
 
-/// A gate that lets all workers together go on so many times.
+/// A gate that lets all workers together go on `most` times.
 #[derive(Drop)]
 pub(super) struct Limited {
     most: u64,
@@ -62,7 +62,7 @@ pub(super) struct Limited {
 }
 
 impl Limited {
-    /// So many times.
+    /// A gate for `most` times.
     pub(super) fn new(most: u64) -> Limited {
         Limited {
             most,

@@ -321,7 +321,7 @@ fn all_whole(reports: &[Report<'_>]) -> bool
     reports.iter().all(|report| report.is_whole())
 }
 
-/// What is gathered from so many workers on a board of their own, unless a worker was refused memory.
+/// What is gathered from `workers` workers on a board of their own, unless a worker was refused memory.
 fn chosen_by<R: Threads + Sync>(
     rt: &R,
     alloc: Global,

@@ -165,7 +165,7 @@ fn gives_the_value_of_the_last_turn(rt: HostRuntime) -> Result<(), Fail> {
     Ok(())
 }
 
-/// Why the counting kernel is not run for so many iterations on the memory of this loop for one.
+/// Why the counting kernel does not run for `trip` iterations on the memory that this loop has for one.
 fn fault(alloc: Global, text: &str, trip: u64) -> Result<Option<RunFault>, Fail> {
     let kernel = Kernel::check(counting(alloc)?)?;
     let memory = opened(alloc, text, 1)?;
