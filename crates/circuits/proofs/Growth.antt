@@ -14,7 +14,7 @@ use Rattle.circuits.proofs.Returns.{GoesOnOnce}
 use Rattle.circuits.proofs.Rounds.{Rises, rise-returns, circuit-from_return}
 use Rattle.circuits.proofs.Tables.{AreLongest, IsTable, IsFirst, IsOnWay, first-of, same-of, longest-more, short-more, rises-from_longer, table-more, on_way-more}
 
--- the layers of walks of 0 to so many edges, and an operation whose walk got longer with the last edge
+-- the layers of walks of 0 to `made` edges, and an operation whose walk got longer with the last edge
 pub record IsGrown (graph : GraphData) (ii : ℕ) (layers : List Layer) (made at : ℕ) : Type 0 where
   pub size : length layers ≡ made + 1
   pub table : IsTable graph ii layers
@@ -80,7 +80,7 @@ walked-kept graph ii made start at left layers walk d table some short is first 
     (table (left - 1) f (omega arith)) (way f).there (subst (λ (a : Layer). slice_index_or a.first at None ≡ None) same first)) in
     subst (λ n. IsOnWay graph ii start (slice_index (get_or layers made f).lengths start) walk at n) equal (way f)
 
--- a walk of so many edges at most that is longer than each one of fewer
+-- a walk of at most `made` edges that is longer than each one of fewer than `made`
 pub record IsLongWalk (graph : GraphData) (ii made start : ℕ) (walk : List EdgeData) : Type 0 where
   pub reach : ℕ
   pub end : ℕ

@@ -55,7 +55,7 @@ once-short graph g p q walk w once =
     let b : length (sources walk) ≡ length walk = length-sources walk in
     omega arith
 
--- the walks of fewer edges from an operation are shorter than so many cycles, at the interval
+-- the walks of fewer than `made` edges from an operation are shorter than `reach` cycles, at the interval
 pub record Rises (graph : GraphData) (ii made p reach : ℕ) : Type 0 where
   pub there : p < length graph.latencies
   pub shorter : (walk : List EdgeData) (q : ℕ) → IsWalk graph.edges p walk q → length walk < made → delay_of walk <ℤ pos (reach + ii * distance_of walk)

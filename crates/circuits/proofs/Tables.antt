@@ -18,7 +18,7 @@ use Rattle.circuits.specs.declared.layer.Layer.{Layer}
 use Rattle.circuits.specs.inner.Layers.{LeadsOn, IsLayer}
 use Rattle.circuits.proofs.Rounds.{Rises}
 
--- no walk of at most so many edges is longer than its operation's length
+-- no walk of at most `most` edges is longer than its operation's length
 abbrev pub AreLongest : GraphData → ℕ → ℕ → List ℕ → Type 0
 AreLongest graph ii most lengths = (p : ℕ) → p < length graph.latencies → (walk : List EdgeData) (q : ℕ) → IsWalk graph.edges p walk q → length walk ≤ most
     → delay_of walk ≤ℤ pos (slice_index lengths p + ii * distance_of walk)
@@ -124,7 +124,7 @@ table-more graph ii made layers layer long old new k d short =
           (subst (λ n. IsLayer graph ii (get_or layers n d).lengths layer.lengths layer.first) at (new d))))
     ]
 
--- a walk of so many cycles in all, at the interval, of which those from its end are left
+-- the beginning of a walk of `reach` cycles in all, at the interval: `left` of them are left from its end, `at`
 pub record IsOnWay (graph : GraphData) (ii start reach : ℕ) (walk : List EdgeData) (at left : ℕ) : Type 0 where
   pub there : at < length graph.latencies
   pub is_walk : IsWalk graph.edges start walk at

@@ -4,7 +4,7 @@ use Rattle.std.specs.List.{AllPairs}
 use Rattle.graph.specs.Dependences.{EdgeData}
 use Rattle.graph.specs.Walks.{IsWalk, delay_of, distance_of}
 
--- a circuit that takes more cycles than so many intervals of this length as its distance: it comes to no operation twice
+-- a circuit whose delay is more than this interval times its distance: it comes to no operation twice
 pub record IsCircuitAbove (edges : List EdgeData) (ii : ℕ) (walk : List EdgeData) : Type 0 where
   pub start : ℕ
   pub closed : IsWalk edges start walk start

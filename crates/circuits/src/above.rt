@@ -30,8 +30,8 @@ fn first_return(walk: &[Edge]) -> Option<&[Edge]>
     None
 }
 
-/// A circuit of the edges that does not fit an interval, in cycles, where there is one: a closed walk that
-/// takes more cycles than so many intervals as it goes over iterations, and comes to no operation twice.
+/// A circuit of the edges that does not fit an interval, in cycles, where there is one: a closed walk
+/// whose delay is more than the interval times its distance, and that comes to no operation twice.
 /// Its edges are given in its order. At 0 it is a circuit of positive delay.
 ///
 /// The longest walks of at most 0, 1, 2 edges and so on are found until no walk gets longer: then every

@@ -17,7 +17,7 @@ struct Walk {
     first: Option<Edge>,
 }
 
-/// The longest walk from each operation of those that have so many edges at most.
+/// The longest walk from each operation, of those with at most a certain number of edges.
 #[derive(Clone, Copy)]
 pub(crate) struct Layer {
     /// In cycles; 0 to 64 for each edge.
@@ -33,7 +33,7 @@ pub(crate) struct Longer {
     pub(crate) at: Option<usize>,
 }
 
-/// How long a walk is that begins with an edge and goes on for so many cycles.
+/// How long a walk is that begins with `edge` and goes on for `rest` cycles.
 ///
 /// Walks stay below 2^20 cycles: they have some hundred edges of at most 64.
 fn through(edge: Edge, rest: u64, interval: u64) -> i64

@@ -1,4 +1,4 @@
-//! Circuits of a loop's dependences that ask for an interval, as certificates.
+//! Circuits of a loop's dependences that do not fit an interval, as certificates.
 #![tactic(auto)]
 
 mod above;

@@ -31,7 +31,7 @@ latency_in (Some table) = table.latency
 abbrev pub latencies_of : MachineData → LoopData → List ℕ
 latencies_of machine loop = map (λ (s : Statement). latency_in (table_of machine s.opcode)) loop.statements
 
--- the statement of this number uses the value of statement p at this distance: it reads what p gave so many iterations ago
+-- statement q uses the value of statement p at this distance: it reads what p gave `distance` iterations ago
 abbrev pub Uses : LoopData → ℕ → ℕ → ℕ → Type 0
 Uses loop q p distance = (s : Statement) × (slice_get loop.statements q ≡ Some s) × Contains s.operands (Value p distance)
 
@@ -47,7 +47,7 @@ pub record Touches (loop : LoopData) (op iteration array : ℕ) (cell : ℤ) : T
 abbrev pub HasOpcode : LoopData → ℕ → Opcode → Type 0
 HasOpcode loop op opcode = (s : Statement) × (slice_get loop.statements op ≡ Some s) × (s.opcode ≡ opcode)
 
--- in every iteration, p's instance and q's instance so many iterations later touch one cell of one array, p's first
+-- in every iteration, p's instance and q's instance `distance` iterations later touch one cell of one array, p's first
 abbrev pub MeetInMemory : LoopData → ℕ → ℕ → ℕ → Type 0
 MeetInMemory loop p q distance = (iteration : ℕ) →
     ((array : ℕ) × (cell : ℤ) × Touches loop p iteration array cell × Touches loop q (iteration + distance) array cell)

@@ -1,10 +1,10 @@
--- Rounds of relaxation, told by walks: what is known after so many rounds are the longest walks of at most so many edges.
+-- Rounds of relaxation, told by walks: after `round` rounds the numbers are those of the longest walks of at most `round` edges.
 use Rattle.std.specs.Prelude.{◌≡◌, ℕ, ◌<◌, ◌≤◌, ◌↔◌, ◌≤ℤ◌, Bool, true, false, List, length}
 use Rattle.graph.specs.Dependences.{EdgeData}
 use Rattle.graph.specs.Graphs.{GraphData}
 use Rattle.graph.specs.Walks.{IsWalk, IsRecurrenceBound, length_of}
 
--- from an operation, some walk of fewer edges than there are rounds is as long as each walk of at most as many
+-- from an operation, some walk of fewer than `round` edges is at least as long as each walk of at most `round` edges
 pub record IsSettledAt (graph : GraphData) (ii round p : ℕ) : Type 0 where
   pub walk : List EdgeData
   pub end : ℕ
@@ -13,12 +13,12 @@ pub record IsSettledAt (graph : GraphData) (ii round p : ℕ) : Type 0 where
   pub longest : (other : List EdgeData) (last : ℕ) → IsWalk graph.edges p other last → length other ≤ round
       → length_of graph.latencies ii other last ≤ℤ length_of graph.latencies ii walk end
 
--- the last of so many rounds changes nothing
+-- the last of `round` rounds changes nothing
 abbrev pub Settles : GraphData → ℕ → ℕ → Type 0
 Settles graph ii round = (p : ℕ) → p < length graph.latencies → IsSettledAt graph ii round p
 
 -- whether rounds settle, and how many are made: the least number, from 1, of which the last changes nothing, and where there is
--- none as many as there are operations
+-- none, the number of operations
 pub record IsRounds (graph : GraphData) (ii : ℕ) (settled : Bool) (rounds : ℕ) : Type 0 where
   pub from_one : 1 ≤ rounds
   pub within : rounds ≤ length graph.latencies

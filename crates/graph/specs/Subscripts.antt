@@ -20,7 +20,7 @@ IsDelay from to latency later delay =
     ⊎ (((from ≡ Load) × (to ≡ Store) × (delay ≡ (pos 1 -ℤ pos later)))
     ⊎ ((from ≡ Store) × (to ≡ Store) × (delay ≡ ((pos 1 +ℤ pos latency) -ℤ pos later))))
 
--- the second statement comes upon the cell of the first so many iterations later, and not before it
+-- the second statement touches the cell of the first one `e.distance` iterations later, and not before it
 pub record IsMemoryEdge (latencies : List ℕ) (p : ℕ) (first : Statement) (q : ℕ) (second : Statement) (e : EdgeData) : Type 0 where
   pub from : e.from ≡ p
   pub to : e.to ≡ q
@@ -33,7 +33,7 @@ pub record IsMemoryEdge (latencies : List ℕ) (p : ℕ) (first : Statement) (q 
   pub order : e.distance ≡ 0 → p < q
   pub delay : IsDelay first.opcode second.opcode (slice_index latencies p) (slice_index latencies q) e.delay
 
--- the values that are read are of the first so many statements
+-- the values that are read are of the first `n` statements
 abbrev pub ReadsBelow : ℕ → Operand → Type 0
 ReadsBelow n (Constant value) = Unit {0}
 ReadsBelow n (Parameter number) = Unit {0}
@@ -68,10 +68,10 @@ abbrev pub HasUses : List ℕ → ℕ → List Operand → List EdgeData → Typ
 HasUses latencies to operands list = (from distance : ℕ) → Contains operands (Value from distance)
     → Contains list (record { from = from; to = to; distance = distance; delay = pos (slice_index latencies from) })
 
--- the list has the edges through memory from the first so many operations to one
+-- the list has the edges through memory from the first `n` operations to operation `to`
 abbrev pub HasMeetings : List Statement → List ℕ → ℕ → ℕ → List EdgeData → Type 0
 HasMeetings statements latencies to n list = (e : EdgeData) → e.to ≡ to → e.from < n → IsMeeting statements latencies e → Contains list e
 
--- the list has all edges to the first so many operations
+-- the list has all edges to the first `n` operations
 abbrev pub HasAllEdges : List Statement → List ℕ → ℕ → List EdgeData → Type 0
 HasAllEdges statements latencies n list = (e : EdgeData) → e.to < n → IsFound statements latencies e → Contains list e

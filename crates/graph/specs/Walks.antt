@@ -18,11 +18,11 @@ abbrev pub distance_of : List EdgeData → ℕ
 distance_of [] = 0
 distance_of (e ∷ walk) = e.distance + distance_of walk
 
--- every closed walk takes at least as many intervals of this length as it takes cycles
+-- every closed walk fits: its delay is at most this interval times its distance
 abbrev pub FitsCircuits : List EdgeData → ℕ → Type 0
 FitsCircuits edges ii = (p : ℕ) (walk : List EdgeData) → IsWalk edges p walk p → delay_of walk ≤ℤ pos (ii * distance_of walk)
 
--- some closed walk takes more cycles than so many intervals of this length
+-- some closed walk does not fit: its delay is more than this interval times its distance
 pub record Exceeds (edges : List EdgeData) (ii : ℕ) : Type 0 where
   pub start : ℕ
   pub walk : List EdgeData

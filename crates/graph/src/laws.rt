@@ -50,8 +50,7 @@ pub fn walks_are_short()
     ensures { WalksAreShort }
 {}
 
-/// The longest walk of so many edges is no longer than 64 cycles for each of them and 64 more, so no
-/// number grows further in as many rounds.
+/// A walk of `n` edges is at most `64 * n + 64` cycles long, so `n` rounds raise no number beyond that.
 pub fn sums_are_limited()
     ensures { SumsAreLimited }
 {}

@@ -17,7 +17,7 @@ use machine_data::{Alternative, Alternatives, Machine, Opcode, Row};
 /// How many rows use each unit, and the use of the most used unit.
 ///
 /// Each of at most 16 passes takes at most 16 rows for each of 128 operations, so no counter is above
-/// 16,384. The bounds that the functions below ask for only keep its sums within 16 bits.
+/// 16,384. The bounds that the functions below require only keep its sums within 16 bits.
 #[derive(Clone, Copy)]
 struct Uses {
     counts: [u16; MAX_UNITS],
@@ -88,7 +88,7 @@ impl Uses {
         self.with(alternatives[best].rows())
     }
 
-    /// These uses with all operations taken on that have so many alternatives, in their order.
+    /// These uses, after all operations that have `freedom` alternatives are taken on in their order.
     fn with_operations<O: Offers>(self, operations: &O, freedom: usize) -> Uses
         requires sound { O.sound operations.now }
         requires count { length (O.operations operations.now) ≤ 128 }

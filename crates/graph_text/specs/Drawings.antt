@@ -1,4 +1,4 @@
--- The graphs of loops, each with a circuit that asks for the lower bound of its interval.
+-- The graphs of loops, each with a circuit that needs the lower bound of its interval.
 use Rattle.std.specs.Prelude.{ℕ, ◌-◌, List, [], ◌∷◌}
 use Rattle.machine_data.specs.Machines.{MachineData}
 use Rattle.iterations.specs.Loops.{LoopData}
@@ -11,7 +11,7 @@ use Rattle.graph_text.specs.Bounds.{IsMeasured}
 use Rattle.graph_text.specs.Dot.{IsDotText}
 use Rattle.graph_text.specs.Texts.{AreTexts}
 
--- a circuit that asks for a bound: it does not fit an interval that is one cycle shorter. There is none where all circuits fit that one
+-- a circuit that needs a bound: it does not fit an interval that is one cycle shorter. It is empty where all circuits fit that
 abbrev pub IsCritical : List EdgeData → ℕ → List EdgeData → Type 0
 IsCritical edges bound [] = FitsCircuits edges (bound - 1)
 IsCritical edges bound (e ∷ circuit) = IsCircuitAbove edges (bound - 1) (e ∷ circuit)

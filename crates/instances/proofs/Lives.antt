@@ -13,7 +13,7 @@ use Rattle.registers.specs.Values.{greatest_of, reads_of, landing_of, read_at, l
 use Rattle.registers.proofs.Whole.{times-more}
 use Rattle.instances.specs.Runs.{RunData, IsRun, carried_by, landing, value_of}
 
--- an iteration so many before another one, in cycles
+-- the iteration `d` before iteration `j`, in cycles
 pub times-back : (j d ii : ℕ) → ((pos j -ℤ pos d) *ℤ pos ii) ≡ (pos (ii * j) -ℤ pos (ii * d))
 times-back j d ii = elim (cases_lt j d) [
   | inr le ↦
@@ -202,7 +202,7 @@ module _ (run : RunData) (is : IsRun run) where
   pub lands-by_end : (v : ℕ) → v < length run.values → landing_of run.times (value_of run v) ≤ run.end
   lands-by_end v within = is.lasts v (record { maker = 0; lands = 0; out = false }) within
 
-  -- one that is carried on lives for as many intervals, or it is live at the end
+  -- a value that is carried on over `m` iterations lives for `m` intervals, or it is live at the end
   pub lasts-when_carried : (v m : ℕ) → 1 ≤ m → m ≤ carried_by run v → (run.ii * m ≤ (life run v).last) ⊎ ((m ≡ 1) × (run.end ≤ (life run v).last))
   lasts-when_carried v m some le = elim (cases_lt (most (λ (r : Read). r.distance) run.reads v) m) [
     | inr far ↦ elim (most-reached (λ (r : Read). r.distance) run.reads v) [

@@ -54,7 +54,7 @@ map-at f [] n r x e h = cc
 map-at f (y ∷ reads) zero r x e h = let same : y ≡ r = cc in let there : f y ≡ x = cc in ap f (sym same) ∙ there
 map-at f (y ∷ reads) (suc n) r x e h = map-at f reads n r x e h
 
--- an instance before another one, by the iteration and then by the maker's place among so many operations
+-- an instance before another one, by the iteration and then by the maker's place among `many` operations
 comes-before : (many i d maker reader : ℕ) → d ≤ i → maker < many → (d ≡ 0 → maker < reader) → many * (i - d) + maker < many * i + reader
 comes-before many i zero maker reader le few first =
     let f = first refl in
@@ -180,7 +180,7 @@ module _ {V : Type 0} (run : RunData) (is : IsRun run) (forward : GoForward run)
       sequential-one trip one other s t fuel r.value (i - r.distance) e.0 (omega arith) (omega arith))))
       ∙ sym (t v i in_v within)
 
--- and some: each value made of what is read, so many steps deep
+-- and some: each value made of what is read, a number of steps deep
 
 made : {V : Type 0} → RunData → Computes V → Initials V → ℕ → History V
 made run compute initial zero = initial

@@ -9,7 +9,7 @@ use Rattle.registers.specs.Physical.{physical}
 use Rattle.instances.specs.Runs.{Home, InRegister, Rotates, Unallotted, RunData, AreHomes, value_of, home_of, place_in, place_of, stage_of, destination_in, destination, source_in, source, preloaded_in, preloaded}
 use Rattle.instances.specs.Promises.{NamesAreOfInstances}
 
--- the physical register of a name in a turn, with so many rounds added that nothing is below 0
+-- the physical register of a name in a turn, with `k` rounds added, enough that nothing is below 0
 pub physical-is : (registers name : ℕ) (turn : ℤ) (k m : ℕ) → 0 < registers → (pos name -ℤ turn) +ℤ pos (k * registers) ≡ pos m → physical registers name turn ≡ m % registers
 physical-is registers name turn k m some e = ap unsigned_abs (int_rem_euclid_is (pos name -ℤ turn) (pos registers) registers k m some refl e)
 
@@ -29,7 +29,7 @@ physical-wrapped registers name turn some =
     ∙ sym (add-mul-mod_self_right r.1 (name / registers) registers)
     ∙ sym (physical-is registers name turn r.0 (r.1 + (name / registers) * registers) some more)
 
--- a name some on, as many turns later
+-- a name `more` higher, `more` turns later
 pub physical-later : (registers name more : ℕ) (turn : ℤ) → 0 < registers → physical registers (name + more) (turn +ℤ pos more) ≡ physical registers name turn
 physical-later registers name more turn some = ap (λ z. unsigned_abs (int_rem_euclid z (pos registers))) (omega (arith, ints))
 

@@ -5,8 +5,8 @@ use Rattle.registers.specs.Physical.{physical}
 use Rattle.instances.specs.Runs.{RunData, IsRun, AreHomes, IsOpening, StandsIn, carried_by, destination, place_of, preloaded, reading_cycle, source, value_of}
 use Rattle.instances.specs.Histories.{AreSame, Computes, History, Initials, IsOverlapped, IsSequential}
 
--- an operation of this time in iteration 0 is issued in the turns from its stage on, so many, in its row, and in just the cycles of
--- its instances
+-- an operation of this time in iteration 0 is issued in `trip` turns from its stage on, in its row, and in just the cycles of its
+-- instances
 abbrev pub InstancesAreIssuedOnce : Type 0
 InstancesAreIssuedOnce = (ii time trip cycle : ℕ) → 1 ≤ ii
     → ((cycle % ii ≡ time % ii) × (time / ii ≤ cycle / ii) × (cycle / ii < time / ii + trip))

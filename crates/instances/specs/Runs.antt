@@ -13,8 +13,8 @@ pub data Place : Type 0 where
   InRegister : (file number : ℕ) → Place
   Alone : (value : ℕ) (iteration : ℤ) → Place
 
--- where the instances of a value stand: in the rotating registers of a file, so many, by the value's number there; or each in a
--- place of its own, where the value's file is not allotted
+-- where the instances of a value stand: in the `registers` rotating registers of a file, by the value's number there; or each in
+-- a place of its own, where the value's file is not allotted
 pub data Home : Type 0 where
   Rotates : (file registers number : ℕ) → Home
   Unallotted : Home
@@ -36,7 +36,7 @@ value_of run v = slice_index_or run.values v (record { maker = 0; lands = 0; out
 abbrev pub home_of : RunData → ℕ → Home
 home_of run v = slice_index_or run.homes v Unallotted
 
--- how many iterations a value is carried on; so many initial values of it are wanted
+-- how many iterations a value is carried on: it needs one initial value for each of these
 abbrev pub carried_by : RunData → ℕ → ℕ
 carried_by run v = carried run.reads v (value_of run v).out
 
@@ -62,7 +62,7 @@ destination_in Unallotted v stage k = Alone v (pos k)
 abbrev pub destination : RunData → ℕ → ℕ → Place
 destination run v k = destination_in (home_of run v) v (stage_of run (value_of run v).maker) k
 
--- where a reader of this stage finds the value of so many iterations before
+-- where a reader of this stage finds the value of `distance` iterations before
 abbrev pub source_in : Home → ℕ → ℕ → ℕ → ℕ → Place
 source_in (Rotates file registers number) v distance stage i = InRegister file (physical registers ((number + distance + stage) % registers) (pos (stage + i)))
 source_in Unallotted v distance stage i = Alone v (pos i -ℤ pos distance)
@@ -70,7 +70,7 @@ source_in Unallotted v distance stage i = Alone v (pos i -ℤ pos distance)
 abbrev pub source : RunData → Read → ℕ → Place
 source run reading i = source_in (home_of run reading.value) reading.value reading.distance (stage_of run reading.reader) i
 
--- where, before the first turn, its instance of so many iterations before the first one is put
+-- where, before the first turn, its instance of `m` iterations before the first one is put
 abbrev pub preloaded_in : Home → ℕ → ℕ → Place
 preloaded_in (Rotates file registers number) v m = InRegister file (physical registers ((number + m) % registers) (pos 0))
 preloaded_in Unallotted v m = Alone v (pos 0 -ℤ pos m)
@@ -87,7 +87,7 @@ landing run v k = landing_of run.times (value_of run v) + run.ii * k
 abbrev pub reading_cycle : RunData → Read → ℕ → ℕ
 reading_cycle run reading i = slice_index run.times reading.reader + reading.offset + run.ii * i
 
--- what stands in a place in a cycle, in a run of so many iterations: the instance of the value v and the iteration k, which has
+-- what stands in a place in a cycle, in a run of `trip` iterations: the instance of the value v and the iteration k, which has
 -- landed there, and after all others that have
 pub record StandsIn (run : RunData) (trip : ℕ) (place : Place) (cycle v k : ℕ) : Type 0 where
   pub there : v < length run.values

@@ -3,7 +3,7 @@
 
 ghost use Rattle.instances.specs.Promises.{EndsHoldLast, InstancesAreIssuedOnce, NamesAreOfInstances, OpeningsAreApart, RegistersHoldInstances, RunsAreSequential};
 
-/// An operation that is issued in its row, in so many turns from its stage on, is issued in just the cycles of its
+/// An operation that is issued in its row, in `trip` turns from its stage on, is issued in just the cycles of its
 /// instances: one for each iteration, from the first to the last.
 pub fn instances_are_issued_once()
     ensures { InstancesAreIssuedOnce }

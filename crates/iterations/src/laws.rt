@@ -2,7 +2,8 @@
 
 ghost use Rattle.iterations.specs.Promises.{PlainRunsKeepShapes, HistoryIsStable, InstancesReadValues, InstancesGiveValues, CellsHoldLastStored};
 
-/// A run leaves a memory of the loop's shape, for as many iterations, whose arrays are as long.
+/// A run leaves a memory of the loop's shape, for the same number of iterations and with arrays of the
+/// same length.
 pub fn plain_runs_keep_shapes()
     ensures { PlainRunsKeepShapes }
 {}

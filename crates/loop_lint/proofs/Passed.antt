@@ -37,7 +37,7 @@ place_other number what more words rest word all h f e =
 pub place_none : (number : ℕ) (what : Expected) (more : List Expected) (words : List (List ℕ)) (all : ℕ) → words ≡ [] → places_misfit number (what ∷ more) words ≡ all → number ≡ all
 place_none number what more words all h e = sym (ap (places_misfit number (what ∷ more)) h) ∙ e
 
--- integers, as many as there are words
+-- an integer for each word
 abbrev pub integers : List (List ℕ) → List Expected
 integers words = map (λ (w : List ℕ). expected.Integer) words
 

@@ -47,8 +47,8 @@ abbrev pub statement_places : List (List ℕ) → List Expected
 statement_places (equals ∷ opcode ∷ words) = expected.Equals ∷ expected.Opcode ∷ value_places (opcode_named opcode)
 statement_places words = expected.Equals ∷ expected.Opcode ∷ []
 
--- the number of the first of these words, after so many others, that does not stand in its place; or that of the one where a word is missing,
--- or too many
+-- the number of the first of these words, counted from the given number on, that does not stand in its place; or the number at
+-- which a word is missing or too many
 abbrev pub places_misfit : ℕ → List Expected → List (List ℕ) → ℕ
 places_misfit number [] words = number
 places_misfit number (what ∷ more) [] = number

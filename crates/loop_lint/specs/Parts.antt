@@ -16,7 +16,7 @@ use Rattle.loop_lint.specs.Misfits.{misfit}
 pub data Part : Type 0 where
   -- the name of an array, of a parameter or of a statement's value
   AName : List ℕ → Part
-  -- the word of a cell, after so many others
+  -- a cell's number, from 0, and its word
   ACell : ℕ → List ℕ → Part
   -- an integer
   AnInteger : Option ℤ → Part
@@ -51,12 +51,12 @@ abbrev pub use_word : Opcode → ℕ → ℕ
 use_word Store number = 2 * number + 2
 use_word opcode number = number + 3
 
--- the uses of a statement after so many others
+-- the uses of a statement, from use `number` on
 abbrev pub use_parts : Opcode → ℕ → List Use → List PartAt
 use_parts opcode number [] = []
 use_parts opcode number (u ∷ us) = record { word = use_word opcode number; part = AUse u } ∷ use_parts opcode (number + 1) us
 
--- the cells of an array after so many others, by their words
+-- the cells of an array, from cell `number` on, by their words
 abbrev pub cell_parts : ℕ → List (List ℕ) → List PartAt
 cell_parts number [] = []
 cell_parts number (cell ∷ cells) = record { word = number + 3; part = ACell number cell } ∷ cell_parts (number + 1) cells

@@ -36,7 +36,7 @@ placed_words line = words_from 1 line
 abbrev pub after_word : Placed → ℕ
 after_word w = w.column + length w.bytes
 
--- where the word with this number stands, from 0. Where there are not so many words, the column after the last byte of the last one, and no byte
+-- where word `number` stands, counted from 0. Where there is none, the column after the last byte of the last one, and no byte
 abbrev pub spot_from : ℕ → List Placed → ℕ → Spot
 spot_from column [] number = record { column = column; width = 0 }
 spot_from column (w ∷ ws) zero = record { column = w.column; width = length w.bytes }

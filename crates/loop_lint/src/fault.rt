@@ -16,7 +16,7 @@ pub struct LintFault {
     pub column: usize,
     /// How many bytes the word has: 0 where none is there.
     pub width: usize,
-    /// What is wrong. It is never want of memory.
+    /// What is wrong. It is never lack of memory.
     pub kind: LoopFaultKind,
 }
 

@@ -28,7 +28,7 @@ fn add_name<'a>(names: &mut BTreeSet<&'a [u8]>, name: &'a [u8]) -> Result<bool, 
     Ok(!added)
 }
 
-/// Tells the faults of a line that begins a loop, after so many others of these names.
+/// Tells the faults of a line that begins a loop, after `loops` others whose names are `names`.
 fn tell_opening<'a>(
     faults: &mut Vec<LintFault>,
     names: &mut BTreeSet<&'a [u8]>,

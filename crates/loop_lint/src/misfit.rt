@@ -22,7 +22,7 @@ fn value_places(opcode: Option<Opcode>) -> &'static [Expected]
     }
 }
 
-/// The number of the first word of a rest of a line, after so many others, that does not stand in its place.
+/// The number of the first word of `rest` that does not stand in its place. Words are counted from `number`.
 #[tactic(auto, using(crate::proofs::Passed::place_next, crate::proofs::Passed::place_other, crate::proofs::Passed::place_none))]
 fn places_misfit(number: usize, places: &[Expected], rest: &[u8]) -> usize
     requires { number + length places.now < 2 ^ 64 }

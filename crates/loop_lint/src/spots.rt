@@ -12,7 +12,7 @@ pub(crate) struct Spot {
     pub(crate) width: usize,
 }
 
-/// Where the word with this number stands, from 0. Where there are not so many words, the column after the last one.
+/// Where word `number` stands, counted from 0. If there is no such word, the column after the last one.
 #[tactic(auto, using(crate::proofs::Passed::spot_here, crate::proofs::Passed::spot_next, crate::proofs::Passed::spot_none))]
 pub(crate) fn spot_at(line: &[u8], number: usize) -> Spot
     requires { length line.now + 1 < 2 ^ 64 }

@@ -175,7 +175,7 @@ fn count(read: &Option<Use<'_>>) -> usize
     if read.is_some() { 1 } else { 0 }
 }
 
-/// The word of the use of a statement after so many others.
+/// The number of the word that is use `number` of a statement. Both count from 0.
 fn use_word(opcode: Opcode, number: usize) -> usize
     requires { number < 4 }
     ensures { result ≡ use_word opcode number }

@@ -15,7 +15,7 @@ kind_text kind.MissingInit = codes "missing init"
 kind_text kind.NoEnd = codes "no end"
 kind_text kind.Memory = codes "out of memory"
 
--- a line's number and what is told of it; want of memory is told of no line
+-- a line's number and what is told of it; lack of memory is told of no line
 abbrev pub told_at : LoopFaultKind → ℕ → List ℕ
 told_at kind.Memory line = kind_text kind.Memory
 told_at kind line = ((codes "line " ++ decimal line) ++ codes ": ") ++ kind_text kind

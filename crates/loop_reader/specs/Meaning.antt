@@ -80,7 +80,7 @@ abbrev pub any_name : (List ℕ → Bool) → Option (List ℕ) → Bool
 any_name test None = false
 any_name test (Some name) = test name
 
--- a line's declaration of a name, after so many arrays, parameters and statements
+-- a line's declaration of `name`, after `arrays` arrays, `params` parameters and `statements` statements
 abbrev pub declared_by : List ℕ → ℕ → ℕ → ℕ → Form → Option Declared
 declared_by name arrays params statements (ArrayLine other cells) = if same_word name other then Some (AnArray arrays) else None
 declared_by name arrays params statements (ParamLine other value) = if same_word name other then Some (AParam params) else None
@@ -365,7 +365,7 @@ abbrev pub seen : Result (Vec LoopData Global) LoopFault → Result (List LoopDa
 seen (Ok loops) = Ok loops.items
 seen (Err fault) = Err fault
 
--- a fault is the meaning, unless it is want of memory, which is said of line 0
+-- a fault is the meaning, unless it is lack of memory, which is said of line 0
 abbrev pub AnswersFault : {A : Type 0} → LoopFaultKind → LoopFault → Result A LoopFault → Type 0
 AnswersFault Memory fault meaning = fault.line ≡ 0
 AnswersFault kind fault meaning = Err fault ≡ meaning

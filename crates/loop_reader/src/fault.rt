@@ -52,13 +52,13 @@ impl fmt::Display for LoopFaultKind {
 /// The first line at fault and its first fault.
 #[derive(Clone, Copy, Debug, PartialEq, Eq)]
 pub struct LoopFault {
-    /// The line's number, from 1. It is 0 for a text above 1,048,576 bytes and for want of memory.
+    /// The line's number, from 1. It is 0 for a text above 1,048,576 bytes and for lack of memory.
     pub line: usize,
     pub kind: LoopFaultKind,
 }
 
 impl LoopFault {
-    /// A fault of this line, unless it is want of memory.
+    /// A fault of this line, or of line 0 for lack of memory.
     pub(crate) fn at(line: usize, kind: LoopFaultKind) -> LoopFault
         ensures kind { result.kind ≡ kind }
         ensures line { result.line ≡ line_at kind line }
@@ -70,7 +70,7 @@ impl LoopFault {
     }
 }
 
-/// Prints `line N: ` and the kind, or the kind alone for want of memory.
+/// Prints `line N: ` and the kind, or the kind alone for lack of memory.
 impl fmt::Display for LoopFault {
     ghost use Rattle.std.specs.Prelude.{Some};
     ghost use Rattle.loop_reader.specs.Faults.{loop_fault_text};

@@ -103,7 +103,7 @@ fn read_block<'a>(
     })
 }
 
-/// The fault of a line that ends a block of so many statements: it has one at least.
+/// The fault of a line that ends a block of `statements` statements: it needs at least one.
 fn check_end(statements: usize) -> Result<(), LoopFaultKind>
     ensures fault { fault_in result ≡ first_in (when (statements == 0) Limit) }
 {
@@ -113,7 +113,7 @@ fn check_end(statements: usize) -> Result<(), LoopFaultKind>
     Ok(())
 }
 
-/// The first fault of a line that opens a block after so many others; else its name is added to theirs.
+/// The first fault of a line that opens a block after `loops` others; else its name is added to theirs.
 fn open<'a>(names: &mut Names<'a>, loops: usize, name: &'a [u8]) -> Result<(), LoopFaultKind>
     ensures { AnswersOpening names.old names.new loops name.now result }
 {

@@ -33,7 +33,7 @@ joined xs ys m n h k =
     let e = length-append xs ys in
     omega arith
 
--- pieces of at most so many bytes
+-- at most `high` pieces of at most `m` bytes each
 pieces-within : {X : Type 0} (f : X → List ℕ) (m high : ℕ) (xs : List X) → length xs ≤ high → AllByRecursion (λ x. length (f x) ≤ m) xs → length (flat_map f xs) ≤ high * m
 pieces-within f m high [] few h = omega arith
 pieces-within f m zero (x ∷ xs) few h = absurd (omega arith)

@@ -15,5 +15,5 @@ pub use name::Name;
 pub use opcode::{OPCODES, Opcode};
 pub use opcode_table::OpcodeTable;
 
-/// The only error of calls that fail for want of memory alone.
+/// The only error of calls that fail for lack of memory alone.
 pub type OutOfMemory = std::alloc::AllocError;

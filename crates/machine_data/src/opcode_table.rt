@@ -25,7 +25,7 @@ impl Model for OpcodeTable {
 }
 
 impl OpcodeTable {
-    /// Operations that take so many cycles, by these alternatives.
+    /// Operations that take `latency` cycles, by these alternatives.
     pub fn new(latency: u8, alternatives: Alternatives) -> OpcodeTable
         requires some { 0 < latency }
         requires few { latency ≤ 64 }

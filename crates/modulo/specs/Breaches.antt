@@ -71,7 +71,7 @@ pub record BreaksSlot (problem : ProblemData) (ii : ℕ) (places : List (ℕ × 
   pub first : (p k q l : ℕ) → ComesBefore q l later j → TakesSlot ii problem.operations (times_in places) (choices_in places) p k q l → ⊥
 
 -- ---- edges
--- the first edge of a list that the times do not keep: its target is issued so many cycles too early
+-- the first edge of a list that the times do not keep: its target is issued `early` cycles too early
 pub record IsFirstUnkept (ii : ℕ) (times : List ℕ) (edges : List EdgeData) (edge : EdgeData) (early : ℕ) : Type 0 where
   pub place : ℕ
   pub is_edge : slice_get edges place ≡ Some edge

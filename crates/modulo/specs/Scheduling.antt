@@ -55,7 +55,7 @@ pub record IsForced (problem : ProblemData) (ii : ℕ) (state : State) (p earlie
   pub time : at.time ≡ forced_time (option_flatten (slice_get state.previous p)) earliest
   pub choice : IsFirstSound ii (alternatives_of problem.operations p) at.alternative
 
--- where an operation is placed: in the first free slot of as many cycles, from the earliest time on, as the interval has, and else by force
+-- where an operation is placed: in the first free slot within one interval from the earliest time on, and else by force
 pub record IsPlacement (problem : ProblemData) (ii : ℕ) (state : State) (p : ℕ) (at : Placement) : Type 0 where
   pub earliest : ℕ
   pub is_earliest : IsEarliest problem ii state p earliest
@@ -90,7 +90,7 @@ pub record IsStep (problem : ProblemData) (ii : ℕ) (heights : List ℕ) (state
   pub kept : (q : ℕ) → q ≢ p → (IsEvicted problem ii state p at q → ⊥) → placement_of next.placed q ≡ placement_of state.placed q
   pub remembered : next.previous ≡ slice_set state.previous p (Some at.time)
 
--- so many steps lead from no placement to a state
+-- a number of steps leads from no placement to a state
 abbrev pub LeadsTo : ProblemData → ℕ → List ℕ → ℕ → State → Type 0
 LeadsTo problem ii heights zero state = state ≡ empty (length problem.operations)
 LeadsTo problem ii heights (suc steps) state = (before : State) × LeadsTo problem ii heights steps before × IsStep problem ii heights before state

@@ -4,7 +4,7 @@ ghost use Rattle.std.specs.Prelude.{◌≡◌, [], replicate, OnOk, OnErr};
 
 use machine_data::OutOfMemory;
 
-/// Makes a list one of so many copies of a value, whatever it held. It takes memory only where the list has
+/// Makes `list` hold `count` copies of `value` and nothing else. It takes memory only where the list has
 /// too little.
 pub(crate) fn refill<T: Copy + Drop>(
     list: &mut Vec<T>,

@@ -26,7 +26,7 @@ pub struct OwnerTable {
     roster: Roster,
     /// One more than the greatest unit of an alternative.
     units: usize,
-    /// For each residue a row of as many owners.
+    /// For each residue a row of `units` owners.
     owners: Vec<usize>,
 }
 

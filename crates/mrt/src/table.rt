@@ -95,8 +95,8 @@ pub trait ModuloTable: Drop {
         ensures operations { operations self.new ≡ operations self.old }
         ensures interval { interval self.new ≡ interval self.old };
 
-    /// The least time from `start` on, of as many as the initiation interval has cycles, at which an
-    /// operation can be issued, and the first alternative there.
+    /// The least time within one initiation interval from `start` on at which an operation can be
+    /// issued, and the first alternative there.
     fn first_free(&self, op: usize, start: u64) -> Option<(u64, usize)>
         requires there { op < length (operations self.now) }
         requires time { start + interval self.now ≤ 2 ^ 32 }

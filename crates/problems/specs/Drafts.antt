@@ -24,7 +24,7 @@ lands_of draft number = slice_index (map (λ (v : Value). v.lands) draft.values.
 
 -- well-formed drafts
 
--- no names, or one for each of so many, all different
+-- no names, or one for each of `count`, all different
 pub record AreNames (count : ℕ) (names : List (List ℕ)) : Type 0 where
   pub each : (length names ≡ 0) ⊎ (length names ≡ count)
   pub different : AllPairs (λ a b. a ≢ b) names
@@ -33,7 +33,7 @@ abbrev pub IsFile : File → Type 0
 IsFile (Rotating registers) = (1 ≤ registers) × (registers ≤ 256)
 IsFile Unallotted = Unit {0}
 
--- 1 to 16 different rows, of the first so many units and at offsets of 0 to 63 cycles
+-- 1 to 16 different rows, of the first `count` units and at offsets of 0 to 63 cycles
 pub record AreRows (count : ℕ) (rows : List Hold) : Type 0 where
   pub some : 1 ≤ length rows
   pub few : length rows ≤ 16

@@ -63,7 +63,7 @@ is_repeated names number name = list_any (same_word name) (take number names)
 abbrev pub repeat_fault : Part → List (List ℕ) → ℕ → List ℕ → Option Fault
 repeat_fault part names number name = unless (not (is_repeated names number name)) (Repeated part number)
 
--- of a part of which there are so many
+-- of a part of which there are `count`
 abbrev pub name_fault : Part → ℕ → List (List ℕ) → Option Fault
 name_fault part count names = first_of (
     unless (length names == 0 || length names == count) (NameCount part)

@@ -29,7 +29,7 @@ pub enum Part {
 /// The first thing that is wrong with a draft. All numbers count from 0.
 #[derive(Clone, Copy, Debug, PartialEq, Eq)]
 pub enum Fault {
-    /// How many there are of a part is out of range: so many.
+    /// The size of a part is out of range: it is this number.
     Count(Part, usize),
     /// A part has names, but not one for each.
     NameCount(Part),

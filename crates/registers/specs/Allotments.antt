@@ -5,7 +5,7 @@ use Rattle.registers.specs.Physical.{physical}
 use Rattle.registers.specs.declared.lifetime.Lifetime.{Lifetime}
 use Rattle.registers.specs.Lifetimes.{IsLiveIn}
 
--- so many registers, and for each value, in order, the number of the physical register of its instance 0
+-- the number of registers, and for each value, in order, the number of the physical register of its instance 0
 pub record AllotmentData : Type 0 where
   pub registers : ℕ
   pub numbers : List ℕ

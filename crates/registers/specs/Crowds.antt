@@ -1,5 +1,5 @@
--- How many instances of values live in one cycle. Iterations are counted without end on both sides, so that in each interval as many live
--- in the cycle of a row as in that of the same row of any other one.
+-- How many instances of values live in one cycle. Iterations are counted without end on both sides, so that in the cycle of a row
+-- the same number of instances lives in every interval.
 use Rattle.std.specs.Prelude.{ℕ, zero, suc, ◌+◌, ◌-◌, ◌/◌, ◌<◌, ◌≤◌, ℤ, pos, ◌+ℤ◌, ◌-ℤ◌, ◌*ℤ◌, ◌≤ℤ◌, ◌<ℤ◌, List}
 use Rattle.std.specs.List.{slice_index_or}
 use Rattle.registers.specs.declared.lifetime.Lifetime.{Lifetime}
@@ -9,7 +9,8 @@ abbrev pub total : (ℕ → ℕ) → ℕ → ℕ
 total count zero = 0
 total count (suc n) = count n + total count n
 
--- an instance lives in the cycle of the row where its iteration began so many intervals before, at the least, and fewer than so many
+-- an instance lives in the cycle of the row where its iteration began at least `least_age` intervals before, and fewer than
+-- `ages_end`
 abbrev pub least_age : ℕ → ℕ → Lifetime → ℕ
 least_age ii row life = (life.first + (ii - 1 - row)) / ii
 
@@ -23,7 +24,7 @@ instances_in ii row life = ages_end ii row life - least_age ii row life
 abbrev pub nobody : Lifetime
 nobody = record { operation = 0; first = 0; last = 0 }
 
--- the instances of the first so many values
+-- the instances of the first values, by the number of these
 abbrev pub crowd_in : ℕ → ℕ → List Lifetime → ℕ → ℕ
 crowd_in ii row lives = total (λ k. instances_in ii row (slice_index_or lives k nobody))
 

@@ -58,12 +58,12 @@ lives_of ii times end values reads = lives_from ii times end reads 0 values
 
 -- sizes
 
--- a value of one of so many operations
+-- a value of one of `operations` operations
 pub record IsValue (operations : ℕ) (value : Value) : Type 0 where
   pub maker : value.maker < operations
   pub lands : value.lands ≤ 64
 
--- a read of one of so many values by one of so many operations
+-- a read of one of `values` values by one of `operations` operations
 pub record IsRead (operations values : ℕ) (reading : Read) : Type 0 where
   pub value : reading.value < values
   pub reader : reading.reader < operations

@@ -53,7 +53,7 @@ pub fn least_is_one()
     ensures { LeastIsOne }
 {}
 
-/// There is none where some value has no number after the least ones of those before it.
+/// If some value gets no register after first fit, no list of least numbers exists.
 pub fn least_or_none()
     ensures { LeastOrNone }
 {}

@@ -3,7 +3,7 @@ use Rattle.std.proofs.Common.{◌≡◌, ℕ, suc, ◌+◌, ◌<◌, ◌≤◌, 
 use Rattle.std.proofs.lemmas.Bool.{cases_lt}
 use Rattle.settings.specs.Searches.{IsLeastGiven, IsNoneGiven, NoneGiven}
 
--- so many intervals tried, none of which gives anything; the cause is that of the last
+-- `above` intervals tried, from `first` on, none of which gives anything; the cause is that of the last
 pub record Risen {A C : Type 0} (gives : ℕ → A → Type 0) (fails_by : ℕ → C → Type 0) (first above : ℕ) (cause : C) : Type 0 where
   pub none : NoneGiven gives first (first + above)
   pub fails : (k : ℕ) → above ≡ suc k → fails_by (first + k) cause

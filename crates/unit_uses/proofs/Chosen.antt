@@ -55,7 +55,7 @@ chosen-push operations choices alternatives choice counts others greatest most p
 abbrev test : ℕ → List (List Row) → Bool
 test freedom alternatives = length alternatives == freedom
 
--- a loop comes to an operation that has so many alternatives
+-- a loop comes to an operation that has `freedom` alternatives
 pub chosen-taken : (done operations : List (List (List Row))) (made choices : List ℕ) (i freedom choice : ℕ) (alternatives : List (List Row)) (counts others : List ℕ) (greatest most : ℕ)
     → i < length operations → i < length choices → alternatives ≡ get_or operations i [] → length alternatives ≡ freedom
     → ((taken : List Row) → Tallies taken counts greatest → TakesChoice taken alternatives choice others most)

@@ -17,7 +17,7 @@ use Rattle.unit_uses.proofs.Chosen.{rows-append}
 abbrev having : ℕ → List (List (List Row)) → List (List (List Row))
 having n operations = filter (λ alternatives. length alternatives == n) operations
 
--- the uses of a unit by the operations that have so many alternatives
+-- the uses of a unit by the operations that have `n` alternatives
 abbrev use_among : List (List (List Row)) → List ℕ → ℕ → ℕ → ℕ
 use_among operations choices n unit = use_of (chosen_rows (having n operations) (choices_among operations choices n)) unit
 
@@ -33,7 +33,7 @@ use_among-cons first operations k choices n unit =
     ap (λ ks. use_of (chosen_rows (having n (first ∷ operations)) ks) unit) (among-cons first operations k choices n)
     ∙ use-cond first k (having n operations) (choices_among operations choices n) unit (length first == n)
 
--- the uses of a unit by the operations that have at most so many alternatives
+-- the uses of a unit by the operations that have at most `n` alternatives
 use_up_to : List (List (List Row)) → List ℕ → ℕ → ℕ → ℕ
 use_up_to [] choices n unit = 0
 use_up_to (first ∷ operations) [] n unit = 0

@@ -6,7 +6,7 @@ use Rattle.machine_data.specs.Machines.{MachineData, IsMachine}
 use Rattle.iterations.specs.Loops.{LoopData}
 use Rattle.graph.specs.Units.{AreBest, IsUnitBound, by_freedom, chosen_rows, first_without_table, greatest_use, operations_of}
 
--- the choices of the operations that have so many alternatives
+-- the choices of the operations that have `n` alternatives
 abbrev pub choices_among : List (List (List Row)) → List ℕ → ℕ → List ℕ
 choices_among operations choices n = map (λ both. both.1) (filter (λ both. length both.0 == n) (zip operations choices))
 

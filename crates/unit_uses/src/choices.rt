@@ -16,8 +16,8 @@ use machine_data::limits::{MAX_OPERATION_ALTERNATIVES, MAX_STATEMENTS};
 use machine_data::{Alternatives, Machine, OutOfMemory};
 use std::alloc::Global;
 
-/// Makes the choices of all operations that have so many alternatives, in their order, after the rows that
-/// are counted, and counts theirs too.
+/// Makes the choices of all operations that have `freedom` alternatives, in their order, after the rows
+/// that are counted, and counts theirs too.
 fn choose_among<O: Offers>(
     operations: &O,
     freedom: usize,

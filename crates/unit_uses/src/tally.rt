@@ -12,7 +12,7 @@ use machine_data::{Alternative, Row};
 
 /// How many rows use each unit, and the use of the most used unit.
 ///
-/// A loop has at most 128 operations of at most 16 rows. The bounds that the functions below ask for only keep
+/// A loop has at most 128 operations of at most 16 rows. The bounds that the functions below require only keep
 /// sums within 16 bits.
 #[derive(Clone, Copy)]
 pub(crate) struct Tally {

@@ -113,7 +113,7 @@ fn push_uses(
     Ok(())
 }
 
-/// Appends the line of a unit with so many uses, if it has any; no unit has more than the greatest.
+/// Appends the line of a unit with `uses` uses, if it has any; no unit has more than `greatest`.
 fn push_unit_line(
     text: &mut Vec<u8>,
     machine: &Machine,

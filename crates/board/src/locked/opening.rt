@@ -7,7 +7,7 @@ use std::alloc::Global;
 use std::sync::{Mutex, Wait};
 
 impl<R: Wait + Drop> LockedBoard<R> {
-    /// A board for so many loops and pieces, with just so many passes. Its calls wait by `rt`.
+    /// A board for `loops` loops and `pieces` pieces, with just `passes` passes. Its calls wait by `rt`.
     pub fn new(
         rt: R,
         alloc: Global,

@@ -22,8 +22,8 @@ fn opening_words(alloc: Global, loops: usize) -> Result<Vec<u64>, OutOfMemory>
 }
 
 impl WordBoard {
-    /// A board for so many loops and pieces, with just so many passes. The tag is whatever tells it from
-    /// other boards.
+    /// A board for `loops` loops and `pieces` pieces, with just `passes` passes. The tag is whatever
+    /// tells it from other boards.
     pub fn new(
         alloc: Global,
         tag: u64,
@@ -65,7 +65,7 @@ impl WordBoard {
         self.tag
     }
 
-    // Cuts the first seat, which stands for all passes, into as many.
+    // Cuts the first seat, which stands for all passes, into one for each pass.
     fn issue(&self, alloc: Global, mut seat: Seat<(), View>) -> Result<Vec<WordPass>, OutOfMemory>
         requires table { seat.table_id ≡ self.now.table.shared.table_id }
         requires whole { seat.me ≡ (blank self.now.passes, []) }

@@ -45,7 +45,7 @@ CountsRows-push operations alternatives counts others greatest most p takes =
       tallies = subst (λ rows. Tallies rows others most) (chosen_rows-push [] operations p.choices alternatives next.choice p.best) next.tallies;
     }
 
--- a loop comes to an operation that has so many alternatives
+-- a loop comes to an operation that has `freedom` alternatives
 pub CountsRows-taken : (done operations : List (List (List Row))) (i freedom : ℕ) (alternatives : List (List Row)) (counts others : List ℕ) (greatest most : ℕ)
     → i < length operations → alternatives ≡ get_or operations i [] → length alternatives ≡ freedom
     → ((taken : List Row) → Tallies taken counts greatest → TakesBest taken alternatives others most)

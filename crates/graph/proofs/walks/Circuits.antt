@@ -103,7 +103,7 @@ pub distance_of-append : (a b : List EdgeData) → distance_of (a ++ b) ≡ dist
 distance_of-append [] b = omega arith
 distance_of-append (e ∷ a) b = let h : distance_of (a ++ b) ≡ distance_of a + distance_of b = distance_of-append a b in omega arith
 
--- a walk of the same ends with fewer edges than so many, and as long
+-- a walk of the same ends with fewer than `n` edges, and as long
 pub record AsLong (edges : List EdgeData) (latencies : List ℕ) (ii n p : ℕ) (walk : List EdgeData) (q : ℕ) : Type 0 where
   pub other : List EdgeData
   pub is_walk : IsWalk edges p other q

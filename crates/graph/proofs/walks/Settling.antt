@@ -86,7 +86,7 @@ unsettled-not_settled graph ii round u settles =
     let b : length_of graph.latencies ii u.walk u.end ≤ℤ length_of graph.latencies ii s.walk s.end = s.longest u.walk u.end u.is_walk u.few in
     omega (arith, ints)
 
--- where the round changes a number that has as many edges as there are operations, some circuit does not fit
+-- where round `length graph.latencies` still changes a number, some circuit does not fit
 pub exceeds-from_unsettled : (graph : GraphData) (ii : ℕ) → IsGraph graph → IsUnsettled graph ii (length graph.latencies) → Exceeds graph.edges ii
 exceeds-from_unsettled graph ii g u =
     elim (exceeds_or_short graph.edges graph.latencies ii (length graph.latencies) g.ends (length u.walk) u.start u.end u.walk (omega arith) u.there u.is_walk) [
@@ -104,7 +104,7 @@ height_at graph ii round settles p (inr above) = pos 0
 abbrev height_of : (graph : GraphData) (ii round : ℕ) → Settles graph ii round → ℕ → ℤ
 height_of graph ii round settles p = height_at graph ii round settles p (cases_lt p (length graph.latencies))
 
--- it is as long as each walk of as many edges as there are rounds
+-- it is at least as long as each walk of at most `round` edges
 highest : (graph : GraphData) (ii round : ℕ) (settles : Settles graph ii round) (p : ℕ) (case : (p < length graph.latencies) ⊎ (length graph.latencies ≤ p))
     → p < length graph.latencies → (other : List EdgeData) (last : ℕ) → IsWalk graph.edges p other last → length other ≤ round
     → length_of graph.latencies ii other last ≤ℤ height_at graph ii round settles p case

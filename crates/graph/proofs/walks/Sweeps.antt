@@ -39,7 +39,7 @@ rise-from_reach graph ii long longer most more p own next below old new rises = 
       omega (arith, ints);
 }
 
--- where a number rises in a sweep after as many as there are operations, but one, some circuit does not fit
+-- where a number rises in a sweep after one sweep for each operation but one, some circuit does not fit
 pub exceeds-from_rise : (graph : GraphData) (ii most p : ℕ) → IsGraph graph → length graph.latencies ≤ most + 1 → IsRise graph ii most p → Exceeds graph.edges ii
 exceeds-from_rise graph ii most p g all u =
     elim (exceeds_or_short graph.edges graph.latencies ii (length graph.latencies) g.ends (length u.walk) p u.end u.walk (omega arith) u.there u.is_walk) [
@@ -270,7 +270,7 @@ onward-all graph ii numbers g keep = λ k d h on.
     all-from_filter (λ (x : EdgeData). x.from == e.from) (λ (x : EdgeData). e.from < x.to → KeepsNumber ii numbers (slice_index numbers e.from) x) graph.edges
     (keep e.from (g.ends k d h).0 (omega arith)) k d h (eq-eqb e.from e.from refl) on
 
--- of so many edges those that lead to their own operation or to one before it raise no number
+-- of the first `count` edges, those that lead to their own operation or to one before it raise no number
 abbrev pub KeepBack : List EdgeData → ℕ → List ℕ → ℕ → Type 0
 KeepBack edges ii numbers count = (k : ℕ) (d : EdgeData) → k < count → (get_or edges k d).to ≤ (get_or edges k d).from
     → KeepsNumber ii numbers (slice_index numbers (get_or edges k d).from) (get_or edges k d)
@@ -310,7 +310,7 @@ exceeds-shorter edges ii later le x =
     let more : pos (later * distance_of x.walk) <ℤ delay_of x.walk = x.exceeds in
     record { start = x.start; walk = x.walk; closed = x.closed; exceeds = omega (arith, ints) }
 
--- an interval that a circuit asks for is at most 64 cycles for each operation
+-- an interval that a circuit needs is at most 64 cycles for each operation
 pub asked_for-limited : (graph : GraphData) (ii : ℕ) → IsGraph graph → (ii ≡ 1) ⊎ Exceeds graph.edges (ii - 1) → ii ≤ 64 * length graph.latencies
 asked_for-limited graph ii g (inl one) = let some : 0 < length graph.latencies = g.some in omega arith
 asked_for-limited graph ii g (inr x) = let below : ii - 1 < 64 * length graph.latencies = exceeds-below_limit graph (ii - 1) g x in omega arith

@@ -38,7 +38,7 @@ pub record IsRaised (edges : List EdgeData) (ii : ℕ) (numbers : List ℕ) (own
 abbrev pub KeepsNumbers : GraphData → ℕ → List ℕ → Type 0
 KeepsNumbers graph ii numbers = All (λ (e : EdgeData). KeepsNumber ii numbers (slice_index numbers e.from) e) graph.edges
 
--- some walk from an operation is longer than each one of at most so many edges
+-- some walk from an operation is longer than each one of at most `most` edges
 pub record IsRise (graph : GraphData) (ii most p : ℕ) : Type 0 where
   pub there : p < length graph.latencies
   pub walk : List EdgeData
@@ -47,7 +47,7 @@ pub record IsRise (graph : GraphData) (ii most p : ℕ) : Type 0 where
   pub longer : (other : List EdgeData) (last : ℕ) → IsWalk graph.edges p other last → length other ≤ most
       → length_of graph.latencies ii other last <ℤ length_of graph.latencies ii walk end
 
--- some walk of at most so many edges is longer than each one of fewer from the same operation
+-- some walk of at most `round` edges is longer than each one of fewer from the same operation
 pub record IsUnsettled (graph : GraphData) (ii round : ℕ) : Type 0 where
   pub start : ℕ
   pub there : start < length graph.latencies

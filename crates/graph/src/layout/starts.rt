@@ -27,7 +27,7 @@ impl End {
     }
 }
 
-/// For each of so many operations, and for the one after them, the place where its edges begin.
+/// For each of `operations` operations, and for the one after them, the place where its edges begin.
 pub(crate) fn starts(
     alloc: Global,
     list: &[Edge],

@@ -54,8 +54,8 @@ fn interval_of_self_edges(edges: &Edges) -> u64
 /// "Iterative Modulo Scheduling", HPL-94-115. It is at least 1 and at most 64 for each operation.
 ///
 /// It is the least interval, from 1, at which no circuit of the edges takes more cycles than it has
-/// intervals. An interval that is too short is raised to the least one that a circuit fits which does not
-/// fit it, until all circuits fit: each interval on the way is one that some circuit asks for.
+/// intervals. While some circuit does not fit the interval, it is raised to the least one that such a
+/// circuit fits: each interval on the way is one that some circuit needs.
 ///
 /// # Errors
 /// None: no memory is taken.

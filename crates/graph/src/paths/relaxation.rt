@@ -78,9 +78,9 @@ pub(crate) fn set_first(edges: &Edges, interval: u64, numbers: &mut [u64; MAX_ST
     }
 }
 
-/// Raises the number of each operation, from the last one to the first, after so many sweeps before, and
-/// keeps the edge by which it rose. The last operation whose number rises, if any. An edge to a later operation
-/// raises no number any more, since that operation's number was raised before.
+/// Raises the number of each operation, from the last one to the first, after `made` sweeps, and keeps
+/// the edge by which it rose. Returns the last operation whose number rose, if any. An edge to a later
+/// operation raises no number any more, since that operation's number was raised before.
 fn raise_all(
     edges: &Edges,
     interval: u64,
@@ -113,7 +113,7 @@ fn raise_all(
     rising
 }
 
-/// Whether no edge raises a number that leads to its own operation or to one before it.
+/// Whether no edge that leads to its own operation or to one before it raises a number.
 fn keeps_back(edges: &Edges, interval: u64, numbers: &[u64; MAX_STATEMENTS]) -> bool
     requires short { interval ≤ 16384 }
     requires small { (p : ℕ) → p < length edges.now.latencies → slice_index numbers.now p ≤ 2097152 }
@@ -130,8 +130,8 @@ fn keeps_back(edges: &Edges, interval: u64, numbers: &[u64; MAX_STATEMENTS]) -> 
     true
 }
 
-/// Makes one more sweep, after so many before. An operation whose number rises, unless no edge raises a number
-/// after it: so that no other sweep has to tell so, the edges are looked at that the sweep may have left.
+/// Makes one more sweep, after `made` sweeps. Returns an operation whose number rose, or `None` once no
+/// edge can raise one, which it checks itself.
 fn sweep(
     edges: &Edges,
     interval: u64,
@@ -155,7 +155,8 @@ fn sweep(
     Some(rising)
 }
 
-/// The operation that so many steps along kept edges lead to, as many as there are operations, if they do.
+/// Follows kept edges from `start`, one for each operation of the loop. Returns the operation that they
+/// lead to, or `None` if no edge is kept for one on the way.
 fn far_along(edges: &Edges, via: &[Option<Edge>; MAX_STATEMENTS], start: usize) -> Option<usize>
     requires there { start < length edges.now.latencies }
     requires via { AreVias edges.now via.now }
@@ -171,7 +172,8 @@ fn far_along(edges: &Edges, via: &[Option<Edge>; MAX_STATEMENTS], start: usize) 
     Some(at)
 }
 
-/// The least interval that a circuit of so many cycles and iterations fits, where it is longer than this one.
+/// The least interval that a circuit of `delay` cycles and `distance` iterations fits, where it is
+/// longer than `interval`.
 ///
 /// A circuit is of at most 128 edges, each over at most 255 iterations: the bound on its distance only
 /// keeps the product within 64 bits.
@@ -241,8 +243,8 @@ fn circuit(
 /// Each sweep raises the numbers of all operations along their edges. They are the heights once a sweep
 /// changes nothing, and they never settle where a circuit does not fit. The edges by which numbers last
 /// rose lead to such a circuit, mostly after a sweep or two, and none of the intervals below its cycles
-/// for each of its iterations is the bound. Without it the sweeps end when there were as many as there
-/// are operations, and only this interval is known to be too short.
+/// for each of its iterations is the bound. If no such circuit is found, the sweeps end after one for
+/// each operation, and only this interval is known to be too short.
 pub(crate) fn relax(edges: &Edges, interval: u64, numbers: &mut [u64; MAX_STATEMENTS]) -> Relaxed
     requires short { interval ≤ 16384 }
     ensures exact { Relaxes edges.now interval numbers.new result }

@@ -61,8 +61,8 @@ fn rounds_to_settle(edges: &Edges, interval: u64) -> usize
 /// Each operation has a number, at first its latency. A round raises it to the greatest, over the edges
 /// from the operation, of the target's number in the round before with the edge's delay, less the
 /// interval for each iteration of the edge's distance. Rounds are made until one changes nothing, which
-/// is counted too, and no more than there are operations: as many are told where they do not settle, and
-/// none is made there, since a circuit that does not fit is seen first.
+/// is counted too, and at most one for each operation. Where they do not settle, the number of
+/// operations is told, and no round is made, since a circuit that does not fit is seen first.
 ///
 /// # Errors
 /// None: no memory is taken.

@@ -1,4 +1,4 @@
-//! The graphs of loops, each with a circuit that asks for the lower bound of its interval.
+//! The graphs of loops, each with a circuit that needs the lower bound of its interval.
 
 ghost use Rattle.std.specs.Prelude.{◌≡◌, ◌≤◌, ◌++◌, ℕ, List, Vec, IfOk};
 ghost use Rattle.std.specs.Global.{Global};
@@ -19,8 +19,8 @@ use std::alloc::{AllocError, Global};
 /// A guess of how many bytes the graph of a loop takes, for the first reservation.
 const PART: usize = 1024;
 
-/// A circuit of dependences that asks for their recurrence-constrained lower bound, in cycles: it does not
-/// fit an interval that is one cycle shorter. It has no edges where nothing asks for the bound, which is
+/// A circuit of dependences that needs their recurrence-constrained lower bound, in cycles: it does not
+/// fit an interval that is one cycle shorter. It has no edges where no circuit needs the bound, which is
 /// then 1.
 ///
 /// # Errors
@@ -52,7 +52,7 @@ fn push_drawing(
 }
 
 /// The dependences of loops as graphs in the language of Graphviz, one for each loop, in order. Where a
-/// circuit of dependences asks for a loop's recurrence-constrained lower bound, one such circuit is bold.
+/// circuit of dependences needs a loop's recurrence-constrained lower bound, one such circuit is bold.
 ///
 /// # Errors
 /// [`TextFault::NoTable`] for the first statement whose opcode the machine has no table for, and

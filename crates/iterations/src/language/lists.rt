@@ -27,7 +27,7 @@ pub struct Param {
     pub value: i64,
 }
 
-/// An initial value: what the value of a statement was so many iterations before the first one.
+/// An initial value: what the value of a statement was `number` iterations before the first one.
 #[derive(Clone, Copy, Debug, PartialEq, Eq)]
 pub struct Initial {
     /// The statement's number, from 0.

@@ -10,7 +10,7 @@ pub enum Operand {
     Constant(i64),
     /// The parameter of this number, from 0.
     Parameter(u8),
-    /// The value of a statement, by its number, as it was so many iterations ago: 0 is this
+    /// The value of a statement, by its number, as it was `distance` iterations ago: 0 is this
     /// iteration. Before the first iteration it is the initial value of that number.
     Value { statement: u8, distance: u8 },
 }

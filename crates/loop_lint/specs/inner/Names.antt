@@ -13,12 +13,12 @@ use Rattle.loop_lint.specs.declared.fault.LintFault.{LintFault}
 abbrev pub is_among : BTreeSet (Bor (List ℕ)) → List ℕ → Bool
 is_among names q = contains_by (λ k. slice_cmp nat_cmp q k.now) names
 
--- a set has these names, of which there are so many
+-- a set has these names, of which there are `loops`
 pub record AreNames (before : List (List ℕ)) (names : BTreeSet (Bor (List ℕ))) (loops : ℕ) : Type 0 where
   pub each : (q : List ℕ) → is_among names q ≡ list_any (same_word q) before
   pub count : length before ≡ loops
 
--- all that is told is what these faults are and what is told of the lines that are left
+-- `all` are these faults and then those of the lines that are left
 pub record GoesOn (names : BTreeSet (Bor (List ℕ))) (number loops : ℕ) (left : List TextLine) (faults all : List LintFault) : Type 0 where
   pub more : List (List ℕ)
   pub are : AreNames more names loops

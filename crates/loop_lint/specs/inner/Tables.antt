@@ -56,7 +56,7 @@ with_init number known = record known { inits = slice_set known.inits (place_of 
 abbrev pub with_out : Known → Known
 with_out known = record known { out = true }
 
--- what is known of a name with one more line, after so many of each form
+-- what is known of a name with one more line, after `arrays` arrays, `params` parameters and `statements` statements
 abbrev pub known_with : List ℕ → ℕ → ℕ → ℕ → Form → Known → Known
 known_with q arrays params statements (ArrayLine name cells) known = if same_word q name then with_declared (variants.Array arrays) known else known
 known_with q arrays params statements (ParamLine name value) known = if same_word q name then with_declared (variants.Param params) known else known

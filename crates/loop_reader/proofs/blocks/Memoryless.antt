@@ -1,4 +1,4 @@
--- No line has a fault that is want of memory.
+-- No fault of a line is lack of memory.
 use Rattle.std.proofs.Common.{◌≡◌, ℕ, Bool, true, false, List, [], ◌∷◌, ◌++◌, Some, sym, subst}
 use Rattle.std.specs.List.{AllByRecursion}
 use Rattle.loop_reader.specs.declared.lines.entry.LineEntry.{LineEntry}

@@ -23,7 +23,7 @@ cut-at lines i d h = drop-cons lines i d h ∙ ap (λ n. get_or lines i d ∷ dr
 split-at : (lines : List LineEntry) (i : ℕ) (d : LineEntry) → i < length lines → lines ≡ take i lines ++ get_or lines i d ∷ drop (i + 1) lines
 split-at lines i d h = sym (take-append-drop i lines) ∙ ap (λ xs. take i lines ++ xs) (cut-at lines i d h)
 
--- the lines after one of the first so many
+-- the lines of a block after line `i`, which is one of its first `sound` lines
 abbrev pub behind : List LineEntry → ℕ → List LineEntry → ℕ → List Form
 behind index sound lines i = forms_in (drop (i + 1) lines) ++ forms_in (drop sound index)
 

@@ -66,7 +66,7 @@ pub record IsCounts (block : List Form) (counts : Counts) : Type 0 where
   pub params : counts.params ≡ how_many is_param block
   pub statements : counts.statements ≡ how_many is_statement block
 
--- the line stands in a block after so many others
+-- the line stands in a block after the lines that `counts` counts
 abbrev pub IsLineIn : List Form → Counts → Form → Type 0
 IsLineIn block counts form = (before : List Form) × (after : List Form) × (block ≡ before ++ form ∷ after) × IsCounts before counts
 

@@ -34,7 +34,7 @@ values_taken [] values = []
 values_taken (taken ∷ rest) [] = []
 values_taken (taken ∷ rest) (value ∷ values) = (if taken then Some value else None) ∷ values_taken rest values
 
--- as many values at least, and the rows of 16 places of which one is taken are marked
+-- there are at least as many values as places, and each row of 16 places of which one is taken is marked
 pub record IsTable (taken : List Bool) (values : List ℤ) (rows : List Bool) : Type 0 where
   pub room : length taken ≤ length values
   pub rowed : length taken ≤ 16 * length rows
@@ -69,7 +69,7 @@ abbrev pub is_live : List Bool → Option Declared → Bool
 is_live outs (Some (AValue value)) = slice_index_or outs value false
 is_live outs _ = false
 
--- the faults of a line after so many others
+-- the faults of a line after those that `counts` counts
 abbrev pub kinds_at : List Form → Counts → List (Option ℤ) → List Bool → Form → Kinds
 kinds_at block counts inits outs (ArrayLine name cells) =
     when (is_long name || list_any is_none cells || nat_lt 1024 (length cells) || nat_le 32 counts.arrays) Limit
@@ -140,7 +140,7 @@ abbrev pub IsNearRead : Option code.Use → Type 0
 IsNearRead None = Unit {0}
 IsNearRead (Some u) = IsNearUse (use_seen u)
 
--- a table of so many initial values has those of a declaration
+-- a table of `room` initial values has those of a declaration
 abbrev pub IsRoomFor : ℕ → Option Declared → Type 0
 IsRoomFor room (Some (AValue number)) = 16 * number + 16 ≤ room
 IsRoomFor room _ = Unit {0}
@@ -159,7 +159,7 @@ pub record IsGiven (block before : List Form) (inits : List (Option ℤ)) (outs 
 abbrev pub IsBlock : List Form → Type 0
 IsBlock block = (text : List ℕ) × (block ≡ whole [] (forms_of text))
 
--- the line that a fault names: none for want of memory
+-- the line that a fault names: none, which is 0, for lack of memory
 abbrev pub line_at : LoopFaultKind → ℕ → ℕ
 line_at Memory line = 0
 line_at kind line = line

@@ -12,7 +12,7 @@ use Rattle.loop_reader.specs.declared.fault.LoopFaultKind.TheVariants.{Memory}
 use Rattle.loop_reader.specs.declared.names.known.Names.{Names}
 use Rattle.loop_reader.specs.declared.read.BlockRead.{BlockRead}
 
--- a fault of line 0 for want of memory, or another of which this holds
+-- a fault of line 0 for lack of memory, or another of which this holds
 abbrev pub UnlessMemory : LoopFaultKind → LoopFault → Type 0 → Type 0
 UnlessMemory Memory fault P = fault.line ≡ 0
 UnlessMemory kind fault P = P
@@ -39,7 +39,7 @@ AnswersBlock name number text (Err fault) = UnlessMemory fault.kind fault ((name
 abbrev pub HasNames : Names → List (List ℕ) → Type 0
 HasNames table names = (q : List ℕ) → is_some (known_as table q) ≡ list_any (same_word q) names
 
--- the answer for a line that opens a block after those of so many other names
+-- the answer for a line that opens a block after `loops` others
 abbrev pub AnswersOpening : Names → Names → ℕ → List ℕ → Result (Unit {0}) LoopFaultKind → Type 0
 AnswersOpening old new loops name (Ok done) = (names : List (List ℕ)) → HasNames old names → length names ≡ loops → (opening_faults names name ≡ []) × HasNames new (names ++ name ∷ [])
 AnswersOpening old new loops name (Err kind) = (names : List (List ℕ)) → HasNames old names → length names ≡ loops → UnlessMemoryKind kind (first_in (opening_faults names name) ≡ Some kind)

@@ -165,7 +165,7 @@ fn is_long_name(name: Option<&[u8]>) -> bool
     }
 }
 
-/// The name of the statement after so many lines stands for another thing.
+/// The name of the statement after the lines that `before` counts stands for another thing.
 fn is_repeated_value(index: &Index<'_, '_>, before: Counts, source: &StatementWords<'_>) -> bool
     requires { IsLineIn (forms_in index.now) before (StatementLine (statement_seen source.now)) }
     ensures { result ≡ any_name (λ name. not (is_that (AValue before.statements) (declared (forms_in index.now) name))) (statement_seen source.now).name }
@@ -185,7 +185,7 @@ fn is_wide_place(place: &Option<Subscript<'_>>) -> bool
     }
 }
 
-/// The first fault of an array after so many lines.
+/// The first fault of an array after the lines that `counts` counts.
 fn array_fault<'a>(
     index: &Index<'_, 'a>,
     counts: Counts,
@@ -255,7 +255,7 @@ fn take_init<'a>(
     }
 }
 
-/// The first fault of a statement after so many lines; else what its names stand for.
+/// The first fault of a statement after the lines that `counts` counts; else what its names stand for.
 #[inline(always)]
 fn check_statement<'a>(
     index: &Index<'_, 'a>,
@@ -347,8 +347,8 @@ fn nothing_unless(fault: Option<LoopFaultKind>) -> Result<Targets, LoopFaultKind
     }
 }
 
-/// The first fault of a line after so many others, which gave this to the block's values; else what the
-/// names stand for that it uses. What the line gives is taken down.
+/// The first fault of a line after those that `counts` counts, which gave `given` to the block's values;
+/// else what the names that it uses stand for. What the line gives is added to `given`.
 #[inline(always)]
 fn take_line<'a>(
     index: &Index<'_, 'a>,
@@ -377,8 +377,8 @@ fn take_line<'a>(
     }
 }
 
-/// The first fault of the first so many lines of a block. Where they have none, `given` is left with
-/// what they give to the block's values, and `found` with what the names stand for that they use.
+/// The first fault of the first `sound` lines of a block. Where they have none, `given` is left with
+/// what they give to the block's values, and `found` with what the names that they use stand for.
 pub(crate) fn first_fault<'a>(
     index: &Index<'_, 'a>,
     sound: usize,

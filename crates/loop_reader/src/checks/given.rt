@@ -24,7 +24,8 @@ fn unmark(flags: &mut Vec<bool>, count: usize) -> Result<(), AllocError>
 #[derive(Drop)]
 pub(crate) struct Table {
     taken: Vec<bool>,
-    /// At least as many. A place that is not taken still holds what an earlier block left there.
+    /// At least as many as in `taken`. A place that is not taken still holds what an earlier block
+    /// left there.
     values: Vec<i64>,
     /// For each row whether one of its places is taken.
     rows: Vec<bool>,

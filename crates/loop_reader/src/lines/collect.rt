@@ -101,8 +101,8 @@ fn collect<'a>(
     Ok((seen, Stop::Open(line)))
 }
 
-/// Collects the other lines that stand in the block, after one that does not. Their numbers are not
-/// asked for.
+/// Collects the other lines that stand in the block, after one that does not. Their line numbers are
+/// not needed.
 fn collect_rest<'a>(
     lines: &mut Vec<LineEntry<'a>>,
     mut seen: Seen,

@@ -66,7 +66,7 @@ impl Counts {
     }
 }
 
-/// The name that a line declares after so many others, and what it stands for.
+/// The name that a line declares after those that `before` counts, and what it stands for.
 fn declaration<'a>(form: &Form<'a>, before: Counts) -> Option<(&'a [u8], Declared)>
     ensures { (q : List ℕ) → declared_by q before.arrays before.params before.statements (form_seen form.now)
         ≡ declared_if q result }
@@ -79,8 +79,8 @@ fn declaration<'a>(form: &Form<'a>, before: Counts) -> Option<(&'a [u8], Declare
     }
 }
 
-/// Adds the name that a line declares after so many others, unless it is there already. The result is
-/// whether it was new, or there is none.
+/// Adds the name that a line declares after those that `before` counts, unless it is there already. The
+/// result is whether it was new, or there is none.
 fn add_declared<'a>(
     names: &mut Names<'a>,
     form: &Form<'a>,

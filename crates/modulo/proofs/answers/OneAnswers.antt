@@ -1,4 +1,4 @@
--- An attempt has one answer: its machine has one next state, so one state after as many steps, and one end.
+-- An attempt has one answer: its machine has one next state, so one state after each number of steps, and one end.
 use Rattle.std.proofs.Common.{◌≡◌, ◌≢◌, ◌⊎◌, ℕ, zero, suc, ◌+◌, ◌*◌, ◌/◌, ◌<◌, ◌≤◌, pos, ◌+ℤ◌, List, length, set, Option, Some, None, refl, sym, ap, ◌∙◌, subst, inl, inr, arith}
 use Rattle.std.specs.Prelude.{◌≤ℤ◌, MatchOption}
 use Rattle.std.specs.List.{slice_index}

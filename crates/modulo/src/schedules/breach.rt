@@ -24,7 +24,7 @@ pub enum Breach {
         /// The residue of the row's cycle at the interval.
         residue: u64,
     },
-    /// The edge is not kept: its target is issued so many cycles too early, at least 1.
+    /// The edge is not kept: its target is issued this number of cycles too early, at least 1.
     Edge(Edge, u64),
     /// The operation is in stage 64 or later.
     Stage(usize),

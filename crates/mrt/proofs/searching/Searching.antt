@@ -10,7 +10,7 @@ use Rattle.mrt.specs.inner.Slots.{meets_held, Occupies}
 use Rattle.mrt.proofs.searching.Taking.{free_from_unmet}
 use Rattle.mrt.specs.Placements.{OperationAlternatives, Placements, alternatives_of, rows_of, IsFree, IsFirstSlot}
 
--- the least cycle below a bound at which one of so many alternatives serves, and the first that does, or the bound
+-- the least cycle below a bound at which one of the first `alternatives` serves, and the first that does, or the bound
 pub record IsBest (F : ℕ → ℕ → Type 0) (bound first best alternatives : ℕ) : Type 0 where
   pub few : first ≤ bound
   pub none_sooner : (alternative : ℕ) → alternative < alternatives → (sooner : ℕ) → sooner < first → F sooner alternative → ⊥

@@ -40,7 +40,7 @@ fn free_cycles(rounds: &[u64], slots: &[Slot], ii: usize, base: usize, cycles: u
         → (bit_at result k == 1) ≡ not (meets_held ii held (rows_in slots.now) (time + k)) }
     ensures rest { (k : ℕ) → k < 64 → cycles ≤ k → bit_at result k ≡ 0 }
 {
-    // (what is not asked for counts as met, so that the search ends as soon as the rest is)
+    // (cycles from `cycles` on count as met, so that the search ends as soon as the others are)
     let mut met = bits_from(cycles);
     for slot in slots {
         let round = rounds[usize::from(slot.row.unit)];
@@ -52,7 +52,7 @@ fn free_cycles(rounds: &[u64], slots: &[Slot], ii: usize, base: usize, cycles: u
     !met
 }
 
-/// A word of as many bits as the interval has cycles, turned so that the bit of a residue comes first.
+/// A word of `ii` bits, turned so that the bit of a residue comes first.
 fn turned(round: u64, ii: usize, residue: usize) -> u64
     requires short { ii < 64 }
     requires residue { residue < ii }

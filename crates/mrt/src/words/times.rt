@@ -80,7 +80,7 @@ fn free_cycles(
         → (bit_at result k == 1) ≡ not (meets_held ii held (rows_in slots.now) (time + k)) }
     ensures rest { (k : ℕ) → k < 64 → cycles ≤ k → bit_at result k ≡ 0 }
 {
-    // (what is not asked for counts as met, so that the search ends as soon as the rest is)
+    // (cycles from `cycles` on count as met, so that the search ends as soon as the others are)
     let mut met = bits_from(cycles);
     for slot in slots {
         met |= sixty_four(times, words, slot.row.unit, slot.residue(base, ii));

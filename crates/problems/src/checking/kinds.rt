@@ -89,7 +89,7 @@ fn kind_fault(units: usize, number: usize, kind: &Kind) -> Option<Fault>
     first_in_alternatives(units, number, kind.alternatives.as_slice())
 }
 
-/// The first fault of the kinds, over so many units.
+/// The first fault of the kinds, where there are `units` units.
 pub(crate) fn first_in_kinds(units: usize, kinds: &[Kind]) -> Option<Fault>
     ensures { result ≡ first_in (kind_fault units) kinds.now }
 {

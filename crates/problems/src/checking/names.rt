@@ -33,7 +33,7 @@ fn first_repeated(alloc: Global, part: Part, names: &[Label]) -> Result<Option<F
     Ok(None)
 }
 
-/// The first fault of the names of a part, of which there are so many.
+/// The first fault of the names of a part, of which there are `count`.
 fn name_fault(
     alloc: Global,
     part: Part,

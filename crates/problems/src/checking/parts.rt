@@ -34,7 +34,7 @@ pub(crate) fn first_in_files(files: &[File]) -> Option<Fault>
     None
 }
 
-/// The first fault of the operations, of so many kinds.
+/// The first fault of the operations, where there are `kinds` kinds.
 pub(crate) fn first_in_operations(kinds: usize, operations: &[usize]) -> Option<Fault>
     ensures { result ≡ first_in (operation_fault kinds) operations.now }
 {
@@ -62,7 +62,7 @@ fn value_fault(operations: usize, files: usize, number: usize, value: &Value) ->
     None
 }
 
-/// The first fault of the values, of so many operations and register files.
+/// The first fault of the values, where there are `operations` operations and `files` register files.
 pub(crate) fn first_in_values(operations: usize, files: usize, values: &[Value]) -> Option<Fault>
     ensures { result ≡ first_in (value_fault operations files) values.now }
 {
@@ -130,7 +130,7 @@ fn order_fault(operations: usize, number: usize, order: &Order) -> Option<Fault>
     None
 }
 
-/// The first fault of the orders of so many operations.
+/// The first fault of the orders of `operations` operations.
 pub(crate) fn first_in_orders(operations: usize, orders: &[Order]) -> Option<Fault>
     ensures { result ≡ first_in (order_fault operations) orders.now }
 {

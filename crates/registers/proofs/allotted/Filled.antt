@@ -11,7 +11,7 @@ use Rattle.registers.specs.Numberless.{HasNone, HasNoneAt}
 use Rattle.registers.specs.Residues.{IsLifeSpan}
 use Rattle.registers.proofs.allotted.Least.{there-is, take-more, place-within, take-life, taken-at, take-twice, index-taken, empty-lawful}
 
--- the numbers of so many values are least
+-- the numbers of the first `k` values are least
 abbrev pub LeastBelow : ℕ → ℕ → List Lifetime → List ℕ → ℕ → Type 0
 LeastBelow ii registers lives numbers k = (n : ℕ) (life : Lifetime) → n < k → slice_get lives n ≡ Some life
     → IsLeast ii registers (take n lives) (take n numbers) life (slice_index numbers n)

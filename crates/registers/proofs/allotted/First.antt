@@ -83,7 +83,7 @@ first-before ii registers lives numbers one y c k cycle some lt lawful there f m
           f.none_before n g.0 (at-taken lives k n g.0 g.1 before) g.2;
     }
 
--- it meets no value before it, but itself: the instance so many iterations before it as there are registers
+-- it meets no value before it, but itself: its instance `registers` iterations before
 pub first-itself : (ii registers : ℕ) (lives : List Lifetime) (numbers : List ℕ) (y : Lifetime) (c : ℕ) → 1 ≤ ii → 1 ≤ registers → c < registers → y.first ≤ y.last
     → IsLawfulAllotment ii registers lives numbers → IsFreeNumber ii registers lives numbers y c → registers ≤ (y.last - y.first) / ii
     → IsFirstMeeting ii registers (lives ++ y ∷ []) (numbers ++ c ∷ []) (record { earlier = length lives; later = length lives; register = c; cycle = y.first })
@@ -127,7 +127,7 @@ first-itself ii registers lives numbers y c some regs lt order lawful free long_
           free n f.0 f.1 f.2;
     }
 
--- the first meeting of the first so many values is that of all
+-- the first meeting of the first `n` values is that of all
 pub first-whole : (ii registers : ℕ) (lives : List Lifetime) (numbers : List ℕ) (n : ℕ) (meeting : Meeting) → IsFirstMeeting ii registers (take n lives) (take n numbers) meeting
     → IsFirstMeeting ii registers lives numbers meeting
 first-whole ii registers lives numbers n meeting first =

@@ -26,7 +26,7 @@ take-more [] k h = absurd (omega arith)
 take-more (x ∷ xs) zero h = refl
 take-more (x ∷ xs) (suc k) h = ap (λ ys. x ∷ ys) (take-more xs k (omega arith))
 
--- the first so many are one
+-- two lists of least numbers have the same first `k` numbers
 same-takes : (ii registers : ℕ) (lives : List Lifetime) (numbers others : List ℕ) → AreLeast ii registers lives numbers → AreLeast ii registers lives others
     → (k : ℕ) → k ≤ length lives → take k numbers ≡ take k others
 same-takes ii registers lives numbers others a b zero le = refl
@@ -77,7 +77,7 @@ index-taken (x ∷ xs) zero k lt = absurd (omega arith)
 index-taken (x ∷ xs) (suc n) zero lt = refl
 index-taken (x ∷ xs) (suc n) (suc k) lt = index-taken xs n k (omega arith)
 
--- the first so many of least numbers are least
+-- the first `n` of least numbers are least
 least-before : (ii registers : ℕ) (lives : List Lifetime) (numbers : List ℕ) → AreLeast ii registers lives numbers → (n : ℕ) → n ≤ length lives → AreLeast ii registers (take n lives) (take n numbers)
 least-before ii registers lives numbers a n le =
     let e = a.each in

@@ -113,7 +113,7 @@ line-forbids ii registers origin n c d one other some few regs ho ht lt from onc
     let is : at % registers ≡ c = add-mul-mod_self_right c t registers ∙ mod-eq_of_lt lt in
     (forbids-in ii registers n c one other some few regs ho ht lt).1 (at, (omega arith, omega arith), is)
 
--- the gaps that the first so many values leave
+-- the gaps that the first `k` values leave
 pub record HaveGaps (ii registers origin : ℕ) (lives : List Lifetime) (numbers : List ℕ) (k : ℕ) (gaps : List Gap) : Type 0 where
   pub order : AreInOrder (registers * 16384) gaps
   pub placed : (j : ℕ) (life : Lifetime) → j < k → slice_get lives j ≡ Some life → placed_at ii registers origin life (slice_index numbers j) + extent ii life < registers * 16384

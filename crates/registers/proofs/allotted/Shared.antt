@@ -33,7 +33,7 @@ product-small ii registers number candidate one other some regs oh ot forbids =
     let a = oh.short in let b = ot.short in
     (omega (arith, ints), omega (arith, ints))
 
--- instance 0 of the other meets the instance that is so many iterations before
+-- instance 0 of `other` meets the instance of `one` that is `first_shift` iterations before it
 pub met-in : (ii registers number candidate cycle : ℕ) (one other : Lifetime) → 1 ≤ ii → 1 ≤ registers → one.first ≤ one.last → other.first ≤ other.last
     → Forbids ii registers one number other candidate
     → pos cycle ≡ int_max (pos one.first -ℤ (first_shift ii registers one number other candidate *ℤ pos ii)) (pos other.first)

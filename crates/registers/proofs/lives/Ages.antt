@@ -28,7 +28,7 @@ times-apart t i m =
     let g : (x.1 + y.0) * m ≡ x.1 * m + y.0 * m = omega arith in
     omega (arith, ints)
 
--- of an iteration that began so many intervals before
+-- of an iteration that began `n` intervals before
 
 begun-from : (ii row n first : ℕ) → row < ii → first ≤ row + n * ii → (first + (ii - 1 - row)) / ii ≤ n
 begun-from ii row n first lt le =

@@ -6,12 +6,12 @@ use Rattle.std.proofs.lemmas.Map.Steps.{length-le_from_distinct_below}
 use Rattle.std.specs.List.{list_any, IsDistinct, AllByRecursion}
 use Rattle.registers.specs.Crowds.{total}
 
--- the places of so many things, and after them others
+-- the places of a number of things, and after them others
 abbrev places : (ℕ → ℕ) → ℕ → List ℕ → List ℕ
 places place zero others = others
 places place (suc m) others = place m ∷ places place m others
 
--- the same of so many groups
+-- the same of a number of groups
 abbrev all_places : (ℕ → ℕ → ℕ) → (ℕ → ℕ) → ℕ → List ℕ
 all_places place count zero = []
 all_places place count (suc n) = places (place n) (count n) (all_places place count n)

@@ -2,7 +2,7 @@
 use Rattle.std.specs.Prelude.{◌≡◌, ℕ, ◌+◌, ◌-◌, ◌*◌, ◌%◌, ◌<◌, ◌≤◌, List, Some, slice_get}
 use Rattle.registers.specs.declared.numbers.gaps.Gap.{Gap}
 
--- the point of this turn with so many points of the turn before it
+-- the point of this turn that has `phase` points of the turn before it
 abbrev pub place_at : ℕ → ℕ → ℕ
 place_at phase turn = turn * 16384 + phase
 
@@ -17,7 +17,7 @@ FitsAt gaps k at length = (gap : Gap) × (slice_get gaps k ≡ Some gap) × (gap
 abbrev pub Fits : List Gap → ℕ → ℕ → Type 0
 Fits gaps at length = (k : ℕ) × FitsAt gaps k at length
 
--- each gap ends before the next one begins, and within so many points
+-- each gap ends before the next one begins, and within `around` points
 pub record AreInOrder (around : ℕ) (gaps : List Gap) : Type 0 where
   pub within : (k : ℕ) (gap : Gap) → slice_get gaps k ≡ Some gap → gap.start + gap.room ≤ around
   pub order : (k l : ℕ) (one other : Gap) → k < l → slice_get gaps k ≡ Some one → slice_get gaps l ≡ Some other → one.start + one.room ≤ other.start

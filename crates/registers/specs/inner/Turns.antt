@@ -1,5 +1,5 @@
 -- Cycles and lifetimes told by turns. A cycle is told as a point: its turns, the whole intervals before it, and the cycles beyond them, in one
--- number. No interval is longer than 16,384 cycles, so each turn has that many points.
+-- number. No interval is longer than 16,384 cycles, so each turn has 16,384 points.
 use Rattle.std.specs.Prelude.{ℕ, ◌+◌, ◌-◌, ◌*◌, ◌/◌, ◌%◌}
 use Rattle.registers.specs.declared.lifetime.Lifetime.{Lifetime}
 use Rattle.registers.specs.declared.values.turns.Arc.{Arc}

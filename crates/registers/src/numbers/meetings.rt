@@ -77,7 +77,7 @@ fn first_meeting_more(
         });
     }
     if (other.last - other.first) / ii >= registers as u64 {
-        // (the instance so many iterations before has the same register, and lives at least until instance 0 begins)
+        // (the instance `registers` iterations before has the same register, and lives at least until instance 0 begins)
         return Some(Meeting {
             earlier: later,
             later,

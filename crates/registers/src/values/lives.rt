@@ -31,8 +31,8 @@ fn raise_reads(ii: u64, times: &[u64], reads: &[Read], carried: &mut [u64], ends
     }
 }
 
-/// The lifetime of a value that is read at most so many iterations later, and for the last time in the cycle before
-/// `after`; there, 0 tells that it is never read.
+/// The lifetime of a value that is read at most `farthest` iterations later, and for the last time in
+/// the cycle before `behind`; if that is 0, the value is never read.
 fn live_of(ii: u64, times: &[u64], end: u64, value: Value, farthest: u64, behind: u64) -> Lifetime
     requires maker { value.maker < length times.now }
     requires few { length times.now ≤ 256 }

@@ -1,4 +1,4 @@
--- In each cycle passed some slot is held, as far as they are asked for.
+-- In each cycle passed, below the limit, some slot is held.
 use Rattle.std.proofs.Common.{◌≡◌, ℕ, ◌+◌, ◌-◌, ◌%◌, ◌<◌, Bool, true}
 use Rattle.mrt.specs.inner.Slots.{rows_in, meets_held}
 use Rattle.mrt.specs.inner.Times.{Tell}

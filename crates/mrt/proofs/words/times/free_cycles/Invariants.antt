@@ -4,7 +4,7 @@ use Rattle.mrt.specs.inner.Slots.{rows_in, meets_held}
 use Rattle.mrt.specs.inner.Times.{Tell}
 use Rattle.mrt.proofs.words.times.free_cycles.Given as goal
 
--- of the cycles asked for, a bit is set where some slot so far is held in its cycle, and each other bit is set
+-- of the first `cycles` cycles, a bit is set where some slot so far is held in its cycle, and each other bit is set
 abbrev pub invariant-loop-slot : goal.invariant-loop-slot
 invariant-loop-slot l = record {
   asked : (held : ℕ → ℕ → Bool) (time k : ℕ) → Tell l.ii l.words l.times held → time % l.ii ≡ l.base → k < 64 → k < l.cycles
