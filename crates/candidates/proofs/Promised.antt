@@ -5,8 +5,8 @@ use Rattle.std.proofs.lemmas.List.Elements.{All-nil, All-cons}
 use Rattle.machine_data.specs.Machines.{MachineData, table_of}
 use Rattle.machine_data.specs.declared.alternative.Row.{Row}
 use Rattle.machine_data.specs.declared.opcode.Opcode.{Opcode}
-use Rattle.iterations.specs.declared.language.statement.Statement.{Statement}
-use Rattle.iterations.specs.Loops.{LoopData}
+use Rattle.loop_data.specs.declared.language.statement.Statement.{Statement}
+use Rattle.loop_data.specs.Loops.{LoopData}
 use Rattle.graph.specs.Dependences.{latency_in}
 use Rattle.graph.specs.Schedules.{IsLawfulSchedule}
 use Rattle.graph.specs.Units.{opcodes_of}

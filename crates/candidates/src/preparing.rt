@@ -6,7 +6,7 @@ ghost use Rattle.ims.specs.Problems.{IsProblemOf};
 
 use graph::GraphFault;
 use ims::Prepared;
-use iterations::Loop;
+use loop_data::Loop;
 use machine_data::Machine;
 use settings::Settings;
 use std::alloc::Global;

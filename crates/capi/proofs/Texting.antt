@@ -8,7 +8,7 @@ use Rattle.loops.specs.LoopFaultKind.{LoopFaultKind}
 use Rattle.loops.specs.LoopFaultKind.TheVariants as kinds
 use Rattle.file_faults.specs.declared.fault.FileFault.{FileFault}
 use Rattle.file_faults.specs.declared.fault.FileFault.TheVariants.{Machine, Loops, NoTable, Memory}
-use Rattle.endings.specs.Statuses.{loops_status, refusal_of_file, refusal_of_machine, status_number}
+use Rattle.exit_status.specs.Statuses.{loops_status, refusal_of_file, refusal_of_machine, status_number}
 use Rattle.printouts.specs.Outcomes.{Outcome}
 use Rattle.capi.specs.declared.telling.Told.{Told}
 use Rattle.capi.specs.Texts.{Hands, HandsBrought, HandsNothing, HandsRefusal}

@@ -2,7 +2,7 @@
 use Rattle.std.specs.Prelude.{◌≡◌, ◌≢◌, ◌⊎◌, ℕ, nat_lt, if◌then◌else◌, List, ◌++◌, take, drop, length, Ok, Err}
 use Rattle.file_faults.specs.declared.fault.FileFault.{FileFault}
 use Rattle.file_faults.specs.declared.fault.FileFault.TheVariants.{Loops, Memory}
-use Rattle.endings.specs.Statuses.{line_of, refusal_of_file, status_number}
+use Rattle.exit_status.specs.Statuses.{line_of, refusal_of_file, status_number}
 use Rattle.printouts.specs.Outcomes.{Outcome}
 use Rattle.capi.specs.declared.telling.Told.{Told}
 

@@ -2,10 +2,10 @@
 
 ghost use Rattle.std.specs.Prelude.{◌≡◌, ◌<◌, ◌⊎◌, Err, IfOk, string_bytes};
 ghost use Rattle.file_faults.specs.declared.fault.FileFault.TheVariants.{Memory};
-ghost use Rattle.endings.specs.Statuses.{line_of, refusal_of_file, status_number};
+ghost use Rattle.exit_status.specs.Statuses.{line_of, refusal_of_file, status_number};
 ghost use Rattle.capi.specs.Texts.{Hands, HandsNothing, HandsRefusal, filled, line_at, told_misfit, told_text};
 
-use endings::Status;
+use exit_status::Status;
 use file_faults::FileFault;
 use printouts::Printout;
 use std::alloc::{AllocError, Global};

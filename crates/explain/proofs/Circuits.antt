@@ -15,7 +15,7 @@ use Rattle.graph_text.specs.Edges.{edge_line}
 use Rattle.graph_text.specs.Kinds.{IsOfKind, IsTimed}
 use Rattle.graph_text.specs.Texts.{AreTexts}
 use Rattle.graph_text.proofs.Texts.{behind}
-use Rattle.iterations.specs.Loops.{LoopData}
+use Rattle.loop_data.specs.Loops.{LoopData}
 use Rattle.ims.specs.Problems.{ProblemData, IsProblem}
 use Rattle.explain.specs.CircuitTexts.{IsCircuitText, circuit_line, sums_line}
 

@@ -5,7 +5,7 @@ use Rattle.std.proofs.lemmas.List.{append-nil}
 use Rattle.std.proofs.lemmas.List.Sums.{sum_by-append}
 use Rattle.machine_data.specs.Machines.{MachineData}
 use Rattle.machine_data.specs.declared.opcode.Opcode.{Opcode}
-use Rattle.iterations.specs.Loops.{LoopData}
+use Rattle.loop_data.specs.Loops.{LoopData}
 use Rattle.graph.specs.TablesAnswer.{TablesAnswer}
 use Rattle.graph.specs.Units.{first_lacking, first_without_table, lacking_or, operations_of}
 use Rattle.graph_text.specs.declared.fault.TextFault.{TextFault}
@@ -15,8 +15,8 @@ use Rattle.graph_text.specs.Bounds.{bounds_line}
 use Rattle.graph_text.specs.Faults.{TextAnswers, lacking_in}
 use Rattle.graph_text.proofs.Lacking.{complete, first_lacking-append, refused_or}
 use Rattle.graph_text.proofs.Texts.{all_zip-push, behind, zipped-push}
-use Rattle.unit_uses.specs.Choices.{AreUnitChoices}
-use Rattle.unit_uses.specs.UnitLines.{unit_lines_of}
+use Rattle.resource_bound.specs.Choices.{AreUnitChoices}
+use Rattle.resource_bound.specs.UnitLines.{unit_lines_of}
 use Rattle.ims.specs.Problems.{ProblemData, IsProblemOf}
 use Rattle.candidates.specs.declared.choices.Choice.{Choice}
 use Rattle.candidates.specs.Listings.{is_met, is_failed}

@@ -1,13 +1,13 @@
 -- Why loops have the intervals that they have, as text.
 use Rattle.std.specs.Prelude.{◌≡◌, ℕ, ◌==◌, codes, List, ◌++◌, length, count_by}
 use Rattle.machine_data.specs.Machines.{MachineData}
-use Rattle.iterations.specs.Loops.{LoopData}
+use Rattle.loop_data.specs.Loops.{LoopData}
 use Rattle.graph_text.specs.declared.measuring.LowerBounds.{LowerBounds}
 use Rattle.graph_text.specs.Bounds.{bounds_line}
 use Rattle.graph_text.specs.Texts.{AreTexts, told}
 use Rattle.graph.specs.Units.{operations_of}
-use Rattle.unit_uses.specs.Choices.{AreUnitChoices}
-use Rattle.unit_uses.specs.UnitLines.{unit_lines_of}
+use Rattle.resource_bound.specs.Choices.{AreUnitChoices}
+use Rattle.resource_bound.specs.UnitLines.{unit_lines_of}
 use Rattle.ims.specs.Problems.{ProblemData, IsProblemOf}
 use Rattle.candidates.specs.declared.choices.Choice.{Choice}
 use Rattle.candidates.specs.Listings.{is_met, is_failed}

@@ -1,7 +1,7 @@
 -- Why an interval failed, by name.
 use Rattle.std.specs.Prelude.{ℕ, codes, List, ◌++◌, Some}
 use Rattle.std.specs.List.{flat_map}
-use Rattle.iterations.specs.Loops.{LoopData}
+use Rattle.loop_data.specs.Loops.{LoopData}
 use Rattle.graph_text.specs.Names.{op_name}
 use Rattle.graph_text.specs.Texts.{told}
 use Rattle.modulo.specs.declared.outcome.attempts.Culprit.{Culprit}

@@ -1,7 +1,7 @@
 -- The lines of the intervals that are tried.
 use Rattle.std.specs.Prelude.{◌≡◌, ℕ, ◌+◌, ◌-◌, codes, List, [], ◌++◌}
 use Rattle.std.specs.List.{range_with_len}
-use Rattle.iterations.specs.Loops.{LoopData}
+use Rattle.loop_data.specs.Loops.{LoopData}
 use Rattle.graph_text.specs.Texts.{AreTexts, told}
 use Rattle.ims.specs.Problems.{ProblemData, mii_of}
 use Rattle.candidates.specs.declared.choices.Choice.{Choice}

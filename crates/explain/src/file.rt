@@ -7,8 +7,8 @@ ghost use Rattle.graph_text.specs.Faults.{TextAnswers, lacking_in};
 ghost use Rattle.candidates.specs.Listings.{is_failed, is_met};
 ghost use Rattle.candidates.specs.declared.choices.Choice.{Choice};
 ghost use Rattle.explain.specs.Explanations.{ArePartsOf, IsExplanationOf, IsPartOf, IsTold, IsToldOn, last_line};
-ghost use Rattle.unit_uses.specs.Choices.{AreUnitChoices};
-ghost use Rattle.unit_uses.specs.UnitLines.{unit_lines_of};
+ghost use Rattle.resource_bound.specs.Choices.{AreUnitChoices};
+ghost use Rattle.resource_bound.specs.UnitLines.{unit_lines_of};
 ghost use Rattle.explain.specs.declared.file.Tally.{Tally};
 
 use crate::shown::push_shown;
@@ -17,11 +17,11 @@ use candidates::{Choice, prepare};
 use graph::GraphFault;
 use graph_text::{TextFault, push_told};
 use ims::Prepared;
-use iterations::Loop;
+use loop_data::Loop;
 use machine_data::{Machine, OutOfMemory};
+use resource_bound::{push_unit_lines, unit_choices};
 use settings::Settings;
 use std::alloc::{AllocError, Global};
-use unit_uses::{push_unit_lines, unit_choices};
 
 /// A guess of how many bytes are told of a loop, for the first reservation.
 const PART: usize = 512;

@@ -4,11 +4,11 @@ use Rattle.std.specs.List.{Contains}
 use Rattle.machine_data.specs.declared.opcode.Opcode.{Opcode}
 use Rattle.machine_data.specs.declared.opcode.Opcode.TheVariants.{Load, Store}
 use Rattle.machine_data.specs.Machines.{MachineData, OperationData, table_of}
-use Rattle.iterations.specs.declared.language.statement.Statement.{Statement}
-use Rattle.iterations.specs.declared.language.statement.Place.{Place}
-use Rattle.iterations.specs.declared.language.statement.Operand.TheVariants.{Value}
-pub use Rattle.iterations.specs.Instances.{ComesFirst}
-use Rattle.iterations.specs.Loops.{LoopData}
+use Rattle.loop_data.specs.declared.language.statement.Statement.{Statement}
+use Rattle.loop_data.specs.declared.language.statement.Place.{Place}
+use Rattle.loop_data.specs.declared.language.statement.Operand.TheVariants.{Value}
+pub use Rattle.loop_data.specs.Instances.{ComesFirst}
+use Rattle.loop_data.specs.Loops.{LoopData}
 use Rattle.graph.specs.declared.dependence.edge.Edge.{Edge}
 
 -- an edge demands t(to) + ii * distance ≥ t(from) + delay of the issue times t, in cycles, at an interval ii

@@ -2,7 +2,7 @@
 use Rattle.std.specs.Prelude.{◌≡◌, ℕ, pos, ◌<◌, ◌≤◌, ◌≤ℤ◌, List, length}
 use Rattle.std.specs.List.{All, AllPairs, Contains}
 use Rattle.machine_data.specs.Machines.{MachineData}
-use Rattle.iterations.specs.Loops.{LoopData}
+use Rattle.loop_data.specs.Loops.{LoopData}
 use Rattle.graph.specs.Dependences.{EdgeData, Precedes, Dependence, latencies_of}
 
 -- the edges, and the latency of each operation in cycles

@@ -2,7 +2,7 @@
 use Rattle.std.specs.Prelude.{◌≡◌, ℕ, ℤ, pos, ◌+◌, ◌*◌, ◌<◌, ◌≤◌, ◌≤ℤ◌, ◌⊎◌, List, [], length, slice_index}
 use Rattle.std.specs.List.{All}
 use Rattle.machine_data.specs.declared.opcode.Opcode.TheVariants.{Load, Store}
-use Rattle.iterations.specs.Loops.{LoopData, IsLoop}
+use Rattle.loop_data.specs.Loops.{LoopData, IsLoop}
 use Rattle.graph.specs.Dependences.{EdgeData, Dependence, Uses, Touches, HasOpcode, ComesFirst}
 use Rattle.graph.specs.Schedules.{KeepsEdge}
 use Rattle.graph.specs.Walks.{IsWalk, distance_of, length_of, Exceeds, FitsCircuits, IsRecurrenceBound}

@@ -4,8 +4,8 @@ use Rattle.std.specs.List.{slice_index_or, flat_map, range_with_len}
 use Rattle.machine_data.specs.declared.alternative.Row.{Row}
 use Rattle.machine_data.specs.declared.opcode.Opcode.{Opcode}
 use Rattle.machine_data.specs.Machines.{MachineData, OperationData, table_of}
-use Rattle.iterations.specs.declared.language.statement.Statement.{Statement}
-use Rattle.iterations.specs.Loops.{LoopData}
+use Rattle.loop_data.specs.declared.language.statement.Statement.{Statement}
+use Rattle.loop_data.specs.Loops.{LoopData}
 
 -- the opcodes of a loop's statements
 abbrev pub opcodes_of : LoopData → List Opcode

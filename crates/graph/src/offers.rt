@@ -6,7 +6,7 @@ ghost use Rattle.machine_data.specs.Alternative.{AreAlternatives};
 ghost use Rattle.machine_data.specs.declared.alternative.Row.{Row};
 ghost use Rattle.graph.specs.Units.{first_without_table, operations_of};
 
-use iterations::Loop;
+use loop_data::Loop;
 use machine_data::{Alternative, Alternatives, Machine};
 
 /// Operations with the alternatives of each.

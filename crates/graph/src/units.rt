@@ -10,7 +10,7 @@ ghost use Rattle.graph.specs.Uses.{AtMost, Tallies, TakesBest, CountsRows, IsBel
 
 use crate::fault::GraphFault;
 use crate::offers::{OfList, OfLoop, Offers};
-use iterations::Loop;
+use loop_data::Loop;
 use machine_data::limits::{MAX_STATEMENTS, MAX_UNITS};
 use machine_data::{Alternative, Alternatives, Machine, Opcode, Row};
 

@@ -7,9 +7,9 @@ use Rattle.std.proofs.lemmas.List.Elements.{All-contains}
 use Rattle.std.proofs.lemmas.Option.{slice_get-get_or, slice_get_within}
 use Rattle.machine_data.specs.declared.opcode.Opcode.{Opcode}
 use Rattle.machine_data.specs.declared.opcode.Opcode.TheVariants.{Load, Store}
-use Rattle.iterations.specs.declared.language.statement.Operand.TheVariants as operand
-use Rattle.iterations.specs.declared.language.statement.Statement.{Statement}
-use Rattle.iterations.specs.Loops.{LoopData, IsLoop, GivesValue, HasShape, MayRead}
+use Rattle.loop_data.specs.declared.language.statement.Operand.TheVariants as operand
+use Rattle.loop_data.specs.declared.language.statement.Statement.{Statement}
+use Rattle.loop_data.specs.Loops.{LoopData, IsLoop, GivesValue, HasShape, MayRead}
 use Rattle.graph.specs.Dependences.{EdgeData, Dependence, HasOpcode, Uses, value_flow, memory_flow, anti, output}
 use Rattle.graph_text.specs.declared.kind.Kind.{Kind}
 use Rattle.graph_text.specs.declared.kind.Kind.TheVariants.{Value, Memory, Anti, Output}

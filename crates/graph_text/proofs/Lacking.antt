@@ -4,7 +4,7 @@ use Rattle.std.specs.Prelude.{Ok, Err}
 use Rattle.std.proofs.lemmas.List.{take_more, drop_more, take-append-drop}
 use Rattle.machine_data.specs.Machines.{MachineData}
 use Rattle.machine_data.specs.declared.opcode.Opcode.{Opcode}
-use Rattle.iterations.specs.Loops.{LoopData}
+use Rattle.loop_data.specs.Loops.{LoopData}
 use Rattle.graph.specs.Units.{first_lacking, first_without_table, lacking_or}
 use Rattle.graph_text.specs.Faults.{TextAnswers, lacking_in}
 use Rattle.graph_text.specs.declared.fault.TextFault.{TextFault}

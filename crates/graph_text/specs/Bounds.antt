@@ -1,7 +1,7 @@
 -- The lower bounds of the intervals of loops, and their lines.
 use Rattle.std.specs.Prelude.{ℕ, codes, max, List, ◌++◌, length}
 use Rattle.machine_data.specs.Machines.{MachineData}
-use Rattle.iterations.specs.Loops.{LoopData}
+use Rattle.loop_data.specs.Loops.{LoopData}
 use Rattle.graph.specs.Graphs.{GraphData, IsGraphOf}
 use Rattle.graph.specs.Units.{IsUnitBound, operations_of}
 use Rattle.graph.specs.Walks.{IsRecurrenceBound}

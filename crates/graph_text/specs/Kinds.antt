@@ -1,7 +1,7 @@
 -- The kinds of dependence between the operations of a loop.
 use Rattle.std.specs.Prelude.{◌≡◌, ℕ, pos, ◌+ℤ◌, ◌-ℤ◌, List, codes, length, slice_index}
 use Rattle.machine_data.specs.declared.opcode.Opcode.TheVariants.{Load, Store}
-use Rattle.iterations.specs.Loops.{LoopData, IsLoop}
+use Rattle.loop_data.specs.Loops.{LoopData, IsLoop}
 use Rattle.graph.specs.Dependences.{EdgeData, Dependence, HasOpcode, MeetInMemory, Uses}
 use Rattle.graph.specs.Subscripts.{AreLatencies}
 use Rattle.graph_text.specs.declared.kind.Kind.{Kind}

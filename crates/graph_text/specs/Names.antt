@@ -1,10 +1,10 @@
 -- How operations are named in texts.
 use Rattle.std.specs.Prelude.{ℕ, List, [], Option, Some, None, slice_get}
 use Rattle.machine_data.specs.Opcodes.{word_of}
-use Rattle.iterations.specs.declared.language.statement.Place.{Place}
-use Rattle.iterations.specs.declared.language.statement.Statement.{Statement}
-use Rattle.iterations.specs.Loops.{LoopData}
-use Rattle.iterations.specs.NamedParts.{place_word}
+use Rattle.loop_data.specs.declared.language.statement.Place.{Place}
+use Rattle.loop_data.specs.declared.language.statement.Statement.{Statement}
+use Rattle.loop_data.specs.Loops.{LoopData}
+use Rattle.loop_data.specs.NamedParts.{place_word}
 
 -- the name of a value, or where there is none the place that is written
 abbrev pub name_or_place : LoopData → Option (List ℕ) → Option Place → List ℕ

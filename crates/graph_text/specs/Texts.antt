@@ -1,7 +1,7 @@
 -- Texts of several things, one after another.
 use Rattle.std.specs.Prelude.{◌≡◌, ℕ, decimal, List, ◌++◌, length}
 use Rattle.std.specs.List.{flat_map, range_with_len, zip, AllZip}
-use Rattle.iterations.specs.Loops.{LoopData}
+use Rattle.loop_data.specs.Loops.{LoopData}
 
 -- the text of each thing with a value that is right for it, in the order of the things
 pub record AreTexts {A B : Type 0} (IsRight : A → B → Type 0) (text_of : A → B → List ℕ) (things : List A) (text : List ℕ) : Type 0 where

@@ -5,7 +5,7 @@ ghost use Rattle.graph_text.specs.declared.fault.TextFault.TheVariants.{Memory};
 ghost use Rattle.graph_text.specs.Faults.{fault_of};
 
 use graph::GraphFault;
-use iterations::Loop;
+use loop_data::Loop;
 use machine_data::{Name, Opcode};
 use std::alloc::AllocError;
 use std::fmt;

@@ -4,7 +4,7 @@ ghost use Rattle.std.specs.Prelude.{◌≡◌, ℕ, List};
 ghost use Rattle.graph_text.specs.Kinds.{IsOfKind, IsTimed, kind_word};
 
 use graph::Edge;
-use iterations::Loop;
+use loop_data::Loop;
 use machine_data::Opcode;
 
 /// Why an operation depends on another one.

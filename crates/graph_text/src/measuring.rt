@@ -7,7 +7,7 @@ ghost use Rattle.graph_text.specs.declared.measuring.Measured.{Measured};
 
 use crate::fault::{TextFault, fault_of};
 use graph::{Edges, edges, rec_mii, res_mii};
-use iterations::Loop;
+use loop_data::Loop;
 use machine_data::Machine;
 use std::alloc::Global;
 

@@ -1,12 +1,12 @@
 //! The names of operations.
 
 ghost use Rattle.std.specs.Prelude.{◌≡◌, ◌<◌, ◌++◌, length, OnOk};
-ghost use Rattle.iterations.specs.Loops.{IsPlace};
-ghost use Rattle.iterations.specs.NamedParts.{array_name, offset_text, place_word};
+ghost use Rattle.loop_data.specs.Loops.{IsPlace};
+ghost use Rattle.loop_data.specs.NamedParts.{array_name, offset_text, place_word};
 ghost use Rattle.graph_text.specs.Names.{op_name, opcode_word};
 
 use crate::lines::{push_both, push_signed};
-use iterations::{Loop, Place};
+use loop_data::{Loop, Place};
 use std::alloc::AllocError;
 
 /// Appends the constant of a subscript with its sign, unless it is 0.

@@ -3,7 +3,7 @@ use Rattle.std.specs.Prelude.{◌≡◌, ℕ, ◌*◌, ◌≤◌, max, List, len
 use Rattle.std.specs.List.{All, Contains}
 use Rattle.machine_data.specs.declared.alternative.Row.{Row}
 use Rattle.machine_data.specs.Machines.{MachineData}
-use Rattle.iterations.specs.Loops.{LoopData, IsLoop}
+use Rattle.loop_data.specs.Loops.{LoopData, IsLoop}
 use Rattle.graph.specs.Dependences.{EdgeData, Dependence, latencies_of}
 use Rattle.graph.specs.Graphs.{GraphData}
 use Rattle.graph.specs.Units.{operations_of}

@@ -1,7 +1,7 @@
 -- Laws of attempts and schedules.
 use Rattle.std.specs.Prelude.{◌≡◌, ℕ, ◌<◌, ◌≤◌, List, length}
 use Rattle.machine_data.specs.Machines.{MachineData}
-use Rattle.iterations.specs.Loops.{LoopData}
+use Rattle.loop_data.specs.Loops.{LoopData}
 use Rattle.graph.specs.Graphs.{IsGraphOf}
 use Rattle.graph.specs.Promises.{KeepsDependences}
 use Rattle.graph.specs.Schedules.{IsLawfulSchedule}

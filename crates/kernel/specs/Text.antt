@@ -5,7 +5,7 @@ use Rattle.std.specs.Fmt.{signed_decimal}
 use Rattle.machine_data.specs.declared.opcode.Opcode.{Opcode}
 use Rattle.machine_data.specs.declared.opcode.Opcode.TheVariants.{Store}
 use Rattle.machine_data.specs.Opcodes.{word_of}
-use Rattle.iterations.specs.declared.language.lists.Param.{Param}
+use Rattle.loop_data.specs.declared.language.lists.Param.{Param}
 use Rattle.kernel.specs.declared.kernels.operation.Operation.{Operation}
 use Rattle.kernel.specs.declared.kernels.operation.Address.{Address}
 use Rattle.kernel.specs.declared.kernels.operation.Source.{Source}

@@ -6,7 +6,7 @@ use Rattle.serde_json.specs.Find.{of_integer}
 use Rattle.serde_json.specs.View.{items_of}
 use Rattle.serde_json.specs.Written.{compact_text}
 use Rattle.machine_data.specs.Opcodes.{word_of}
-use Rattle.iterations.specs.declared.language.lists.Param.{Param}
+use Rattle.loop_data.specs.declared.language.lists.Param.{Param}
 use Rattle.kernel.specs.declared.kernels.operation.Operation.{Operation}
 use Rattle.kernel.specs.declared.kernels.operation.Address.{Address}
 use Rattle.kernel.specs.declared.kernels.operation.Source.{Source}

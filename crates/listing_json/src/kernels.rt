@@ -6,8 +6,8 @@ ghost use Rattle.kernel.specs.declared.kernels.operation.Address.{Address};
 ghost use Rattle.listing_json.specs.Documents.{address_value, count_value, kernel_value, option_value};
 
 use crate::told::{Told, told_all, told_digits};
-use iterations::Param;
 use kernel::{Address, Operation, Out, Parts, Preload, Source};
+use loop_data::Param;
 use serde_json::{Value, json};
 use std::alloc::{AllocError, Global};
 

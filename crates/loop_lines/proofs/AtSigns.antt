@@ -4,7 +4,7 @@ use Rattle.std.proofs.lemmas.Bool.{and_parts, ne_eqb}
 use Rattle.std.proofs.lemmas.List.Sums.{passes_at_first}
 use Rattle.std.proofs.lemmas.List.Folds.{list_any_at}
 use Rattle.std.specs.List.{list_all, list_any, position_or_len}
-use Rattle.iterations.specs.Names.{is_letter, is_name, is_name_byte, starts_name}
+use Rattle.loop_data.specs.Names.{is_letter, is_name, is_name_byte, starts_name}
 
 -- a byte that stands somewhere is there
 pub any_there : (p : ℕ → Bool) (xs : List ℕ) → position_or_len p xs < length xs → list_any p xs ≡ true

@@ -10,7 +10,7 @@ use Rattle.std.specs.List.{before_first, list_all, list_any, position_or_len, ra
 use Rattle.std.specs.Str.{all_ascii_digits}
 use Rattle.std.specs.Str.Parse.{digits_value}
 use Rattle.loop_lines.specs.Forms.{Use, Plain, at_of, int_of, is_number, named_use_of, signed_of}
-use Rattle.iterations.specs.Names.{is_letter, is_name, is_name_byte, starts_name}
+use Rattle.loop_data.specs.Names.{is_letter, is_name, is_name_byte, starts_name}
 use Rattle.loop_lines.proofs.AtSigns.{any_there, name_bytes, name_starts, no_at, none_at}
 use Rattle.loop_lines.proofs.Cuts.{before_next}
 

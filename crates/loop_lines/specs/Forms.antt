@@ -8,8 +8,8 @@ use Rattle.std.specs.Str.Parse.{digits_value}
 use Rattle.machine_data.specs.declared.opcode.Opcode.{Opcode}
 use Rattle.machine_data.specs.declared.opcode.Opcode.TheVariants.{Load, Store}
 use Rattle.machine_data.specs.Opcodes.{opcode_named, same_word}
-use Rattle.iterations.specs.Arithmetic.{operands_of}
-use Rattle.iterations.specs.Names.{is_name}
+use Rattle.loop_data.specs.Arithmetic.{operands_of}
+use Rattle.loop_data.specs.Names.{is_name}
 
 -- what a statement uses: a number, a plain name, or a name at a distance
 pub data Use : Type 0 where

@@ -1,5 +1,5 @@
-pub use Rattle.iterations.specs.Arithmetic
-pub use Rattle.iterations.specs.Names
+pub use Rattle.loop_data.specs.Arithmetic
+pub use Rattle.loop_data.specs.Names
 pub use Rattle.machine_data.specs.Opcodes
 pub mod Cells
 pub mod Forms

@@ -2,7 +2,7 @@
 
 ghost use Rattle.std.specs.Prelude.{◌≡◌, option_map};
 ghost use Rattle.loop_lines.specs.Forms.{Malformed, array_line, compute_line, end_line, form_of, init_line, line_form, load_line, loop_line, out_line, param_line, store_line, value_line};
-ghost use Rattle.iterations.specs.Arithmetic.{operands_of};
+ghost use Rattle.loop_data.specs.Arithmetic.{operands_of};
 ghost use Rattle.loop_lines.specs.Parsed.{form_seen};
 ghost use Rattle.loop_lines.specs.Words.{words_of};
 

@@ -2,7 +2,7 @@
 
 ghost use Rattle.std.specs.Prelude.{◌≡◌, not, true};
 ghost use Rattle.std.specs.List.{list_all, position_or_len};
-ghost use Rattle.iterations.specs.Names.{is_letter, is_name, is_name_byte, is_reserved};
+ghost use Rattle.loop_data.specs.Names.{is_letter, is_name, is_name_byte, is_reserved};
 
 use crate::words::is_text;
 
@@ -81,7 +81,7 @@ fn is_reserved(word: &[u8]) -> bool
 
 /// These bytes, which may all stand in a name, are one: the first is a letter or `_`, and they are not
 /// reserved.
-#[tactic(auto, using(crate::proofs::NameBytes::starts_by_first), unfolding(iterations::specs::Names::is_name))]
+#[tactic(auto, using(crate::proofs::NameBytes::starts_by_first), unfolding(loop_data::specs::Names::is_name))]
 pub(crate) fn begins_name(word: &[u8]) -> bool
     requires { list_all is_name_byte word.now ≡ true }
     ensures { result ≡ is_name word.now }

@@ -3,7 +3,7 @@
 ghost use Rattle.std.specs.Prelude.{◌≡◌, ◌==◌, ◌<◌, if◌then◌else◌, true, None, option_map};
 ghost use Rattle.std.specs.List.{before_first, after_first, list_all, list_any};
 ghost use Rattle.loop_lines.specs.Forms.{at_of, named_use_of, place_of, use_of};
-ghost use Rattle.iterations.specs.Names.{is_name_byte};
+ghost use Rattle.loop_data.specs.Names.{is_name_byte};
 ghost use Rattle.loop_lines.specs.Parsed.{at_seen, guard_of, guard_seen, subscript_seen, use_seen};
 ghost use Rattle.loop_lines.specs.Words.{words_of};
 

@@ -2,7 +2,7 @@
 use Rattle.std.proofs.Common.{◌≡◌, ◌==◌, ℕ, ℤ, ◌+◌, ◌-◌, ◌<◌, ◌||◌, ◌&&◌, Bool, true, false, cond, List, [], ◌∷◌, take, Option, Some, None, option_map, refl, sym, ◌∙◌, ap, arith, get_or, length, is_some, ltb, length-drop}
 use Rattle.std.proofs.lemmas.Bool.{true≢false}
 use Rattle.std.specs.List.{after_first, before_first, list_all, list_any, position_or_len}
-use Rattle.iterations.specs.Names.{is_letter, is_name, is_name_byte, starts_name}
+use Rattle.loop_data.specs.Names.{is_letter, is_name, is_name_byte, starts_name}
 use Rattle.loop_lines.specs.Forms.{Use, or_use, place_of, subscript_of}
 
 pub some_use : (a : Option (Option ℤ)) (b : Option Use) → is_some (or_use a b) ≡ (is_some a || is_some b)

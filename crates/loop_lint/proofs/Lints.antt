@@ -16,7 +16,7 @@ use Rattle.loop_lines.specs.Parsed.{form_seen}
 use Rattle.loop_lines.specs.declared.form.Form as code
 use Rattle.loop_lines.specs.declared.form.Form.TheVariants as variants
 use Rattle.loop_lines.specs.Words.{lines_of, words_of}
-use Rattle.iterations.specs.Loops.{LoopData}
+use Rattle.loop_data.specs.Loops.{LoopData}
 use Rattle.loop_reader.specs.Meaning.{Kinds, at_line, blocks_of, faults_of, first_fault, forms_of, inside_faults, is_long, line_faults, loop_of, loops_in, opening_faults, outside_faults, when, whole, with_line}
 use Rattle.loop_reader.specs.declared.fault.LoopFault.{LoopFault}
 use Rattle.loop_reader.specs.declared.fault.LoopFaultKind.{LoopFaultKind}

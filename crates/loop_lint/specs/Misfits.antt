@@ -7,8 +7,8 @@ use Rattle.std.specs.List.{list_any, before_first, after_first}
 use Rattle.machine_data.specs.declared.opcode.Opcode.{Opcode}
 use Rattle.machine_data.specs.declared.opcode.Opcode.TheVariants.{Load, Store}
 use Rattle.machine_data.specs.Opcodes.{opcode_named, same_word}
-use Rattle.iterations.specs.Arithmetic.{operands_of}
-use Rattle.iterations.specs.Names.{is_name}
+use Rattle.loop_data.specs.Arithmetic.{operands_of}
+use Rattle.loop_data.specs.Names.{is_name}
 use Rattle.loop_lines.specs.Forms.{int_of, is_number, place_of, use_of}
 use Rattle.loop_lint.specs.declared.fits.Expected.{Expected}
 use Rattle.loop_lint.specs.declared.fits.Expected.TheVariants as expected

@@ -3,7 +3,7 @@
 ghost use Rattle.std.specs.Prelude.{◌≡◌, ◌≢◌, ◌<◌, ℕ, ◌==◌, ◌-◌, ◌&&◌, nat_lt, not, List, ◌∷◌, true, false, take, slice_index, length, is_some, MatchOption};
 ghost use Rattle.std.specs.List.{before_first, after_first, list_all, list_any, position_or_len};
 ghost use Rattle.machine_data.specs.Opcodes.{opcode_named, same_word};
-ghost use Rattle.iterations.specs.Names.{is_letter, is_name, is_name_byte, is_reserved, starts_name};
+ghost use Rattle.loop_data.specs.Names.{is_letter, is_name, is_name_byte, is_reserved, starts_name};
 ghost use Rattle.loop_lines.specs.Forms.{named_use_of, place_of, subscript_of, use_of};
 ghost use Rattle.loop_lint.specs.Misfits.{fits, gives_value, is_init};
 
@@ -83,7 +83,7 @@ fn is_reserved(word: &[u8]) -> bool
 }
 
 /// A name.
-#[tactic(auto, unfolding(iterations::specs::Names::is_name))]
+#[tactic(auto, unfolding(loop_data::specs::Names::is_name))]
 pub(crate) fn is_name(word: &[u8]) -> bool
     ensures { result ≡ is_name word.now }
 {

@@ -1,4 +1,4 @@
-pub use Rattle.iterations.specs.Loops
+pub use Rattle.loop_data.specs.Loops
 pub use Rattle.loop_lines.specs.Forms
 pub use Rattle.loop_lines.specs.Words
 pub use Rattle.machine_data.specs.Opcodes

@@ -10,15 +10,15 @@ use Rattle.machine_data.specs.Opcodes.{same_word}
 use Rattle.loop_reader.specs.declared.fault.LoopFault.{LoopFault}
 use Rattle.loop_reader.specs.declared.fault.LoopFaultKind.{LoopFaultKind}
 use Rattle.loop_reader.specs.declared.fault.LoopFaultKind.TheVariants.{Syntax, Limit, RepeatedName, UnknownName, UseBeforeDefinition, MissingInit, NoEnd, Memory}
-use Rattle.iterations.specs.declared.language.lists.Array.{Array}
-use Rattle.iterations.specs.declared.language.lists.Param.{Param}
-use Rattle.iterations.specs.declared.language.lists.Initial.{Initial}
-use Rattle.iterations.specs.declared.language.statement.Operand.{Operand}
-use Rattle.iterations.specs.declared.language.statement.Operand.TheVariants.{Constant, Parameter, Value}
-use Rattle.iterations.specs.declared.language.statement.Place.{Place}
-use Rattle.iterations.specs.declared.language.statement.Statement.{Statement}
+use Rattle.loop_data.specs.declared.language.lists.Array.{Array}
+use Rattle.loop_data.specs.declared.language.lists.Param.{Param}
+use Rattle.loop_data.specs.declared.language.lists.Initial.{Initial}
+use Rattle.loop_data.specs.declared.language.statement.Operand.{Operand}
+use Rattle.loop_data.specs.declared.language.statement.Operand.TheVariants.{Constant, Parameter, Value}
+use Rattle.loop_data.specs.declared.language.statement.Place.{Place}
+use Rattle.loop_data.specs.declared.language.statement.Statement.{Statement}
 use Rattle.loop_lines.specs.Forms.{Form, LoopLine, ArrayLine, ParamLine, InitLine, StatementLine, OutLine, EndLine, Malformed, Use, Number, Plain, At, StatementForm, Subscript, line_form}
-use Rattle.iterations.specs.Loops.{LoopData}
+use Rattle.loop_data.specs.Loops.{LoopData}
 use Rattle.loop_lines.specs.Words.{lines_of, words_of}
 
 -- which form a line has

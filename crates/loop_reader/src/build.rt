@@ -2,7 +2,7 @@
 
 ghost use Rattle.std.specs.Prelude.{◌≡◌, ◌+◌, ◌*◌, ◌≤◌, ◌<◌, ◌++◌, [], true, None, ℕ, List, IfOk, OnOk, length, option_map, option_to_list};
 ghost use Rattle.std.specs.Borrow.{Bor};
-ghost use Rattle.iterations.specs.Loops.{IsLoop, IsName};
+ghost use Rattle.loop_data.specs.Loops.{IsLoop, IsName};
 ghost use Rattle.loop_reader.specs.Meaning.{array_in, loop_of, param_in, statement_in, has_statement, is_statement};
 ghost use Rattle.loop_lines.specs.Parsed.{form_seen, statement_seen};
 ghost use Rattle.loop_reader.specs.inner.Blocks.{entry_faults, forms_in, one_if};
@@ -13,7 +13,7 @@ ghost use Rattle.loop_reader.specs.inner.Found.{AreFound, operand_if, operand_wi
 use crate::checks::given::Given;
 use crate::names::found::{Target, Targets};
 use crate::names::index::{Counts, Index};
-use iterations::{Array, Cells, Initial, Loop, Operand, Operands, Param, Place, Statement};
+use loop_data::{Array, Cells, Initial, Loop, Operand, Operands, Param, Place, Statement};
 use loop_lines::{Form, StatementWords, Subscript, Use, cells_of};
 use machine_data::Name;
 use machine_data::limits::MAX_DISTANCE;

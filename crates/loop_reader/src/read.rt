@@ -2,8 +2,8 @@
 
 ghost use Rattle.std.specs.Prelude.{◌≡◌, ◌==◌, ◌+◌, ◌≤◌, ◌<◌, ◌^◌, true, length, IfOk};
 ghost use Rattle.std.specs.List.{All};
-ghost use Rattle.iterations.specs.Names.{is_name};
-ghost use Rattle.iterations.specs.Loops.{IsLoop};
+ghost use Rattle.loop_data.specs.Names.{is_name};
+ghost use Rattle.loop_data.specs.Loops.{IsLoop};
 ghost use Rattle.loop_reader.specs.Meaning.{loops_in, seen, when, LoopsAnswer};
 ghost use Rattle.loop_reader.specs.declared.fault.LoopFaultKind.TheVariants.{Limit};
 ghost use Rattle.loop_reader.specs.inner.Checks.{first_in};
@@ -19,7 +19,7 @@ use crate::lines::entry::LineEntry;
 use crate::names::found::Targets;
 use crate::names::index::{Declared, Index, index_names};
 use crate::names::known::Names;
-use iterations::Loop;
+use loop_data::Loop;
 use loop_lines::{Form, form_of, next_line};
 use machine_data::limits::{MAX_LOOPS, MAX_TEXT};
 use std::alloc::{AllocError, Global};

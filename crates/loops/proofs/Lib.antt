@@ -1,4 +1,4 @@
-pub use Rattle.iterations.proofs.Openings
+pub use Rattle.loop_data.proofs.Openings
 pub mod Parts
 pub mod ReadBack
 pub mod Sizes

@@ -13,14 +13,14 @@ use Rattle.std.proofs.lemmas.Map.Steps.{length-le_from_distinct_below}
 use Rattle.machine_data.specs.declared.opcode.Opcode.{Opcode}
 use Rattle.machine_data.specs.declared.opcode.Opcode.TheVariants.{Load, Store, Add, Sub, Mul, And, Or, Xor, Min, Max, Lt, Sel, Mov}
 use Rattle.machine_data.specs.Opcodes.{word_of}
-use Rattle.iterations.specs.declared.language.lists.Array.{Array}
-use Rattle.iterations.specs.declared.language.lists.Param.{Param}
-use Rattle.iterations.specs.declared.language.lists.Initial.{Initial}
-use Rattle.iterations.specs.declared.language.statement.Operand.{Operand}
-use Rattle.iterations.specs.declared.language.statement.Operand.TheVariants.{Constant, Parameter, Value}
-use Rattle.iterations.specs.declared.language.statement.Place.{Place}
-use Rattle.iterations.specs.declared.language.statement.Statement.{Statement}
-use Rattle.iterations.specs.Loops.{LoopData, IsLoop, IsName, IsLong, IsBefore, IsPlace, MayRead, HasShape, GivesValue, HasInitial}
+use Rattle.loop_data.specs.declared.language.lists.Array.{Array}
+use Rattle.loop_data.specs.declared.language.lists.Param.{Param}
+use Rattle.loop_data.specs.declared.language.lists.Initial.{Initial}
+use Rattle.loop_data.specs.declared.language.statement.Operand.{Operand}
+use Rattle.loop_data.specs.declared.language.statement.Operand.TheVariants.{Constant, Parameter, Value}
+use Rattle.loop_data.specs.declared.language.statement.Place.{Place}
+use Rattle.loop_data.specs.declared.language.statement.Statement.{Statement}
+use Rattle.loop_data.specs.Loops.{LoopData, IsLoop, IsName, IsLong, IsBefore, IsPlace, MayRead, HasShape, GivesValue, HasInitial}
 use Rattle.loops.specs.Text.{array_name, value_name, at_distance, operand_word, place_word, place_words, offset_text, stored_words, array_words, param_words, init_words, words_by, statement_words, out_words, following, line_text, text_of}
 use Rattle.loops.proofs.spelling.LoopNames.{all-numbered, get-below, arrays-named, params-named, statement-named, array_name-named, param_name-named, value_name-named}
 use Rattle.loops.proofs.Texts.{text_of-is}

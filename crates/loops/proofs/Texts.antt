@@ -4,11 +4,11 @@ use Rattle.std.specs.List.{flat_map}
 use Rattle.std.proofs.lemmas.List.{take_all, append-nil}
 use Rattle.std.proofs.lemmas.List.Concat.{flat_map-append}
 use Rattle.std.proofs.lemmas.List.Folds.{flat_map-map}
-use Rattle.iterations.specs.declared.language.lists.Array.{Array}
-use Rattle.iterations.specs.declared.language.lists.Param.{Param}
-use Rattle.iterations.specs.declared.language.lists.Initial.{Initial}
-use Rattle.iterations.specs.declared.language.statement.Statement.{Statement}
-use Rattle.iterations.specs.Loops.{LoopData}
+use Rattle.loop_data.specs.declared.language.lists.Array.{Array}
+use Rattle.loop_data.specs.declared.language.lists.Param.{Param}
+use Rattle.loop_data.specs.declared.language.lists.Initial.{Initial}
+use Rattle.loop_data.specs.declared.language.statement.Statement.{Statement}
+use Rattle.loop_data.specs.Loops.{LoopData}
 use Rattle.loops.specs.Text.{following, line_text, array_words, param_words, init_words, statement_words, out_words, text_of}
 
 -- the pieces of all elements, each after a blank

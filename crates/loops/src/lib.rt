@@ -3,7 +3,7 @@
 
 mod write;
 
-pub use iterations::{
+pub use loop_data::{
     Array, Cells, Initial, Loop, Memory, Operand, Operands, Param, Place, RunFault, Statement,
     apply, apply_two, cells_hold_last_stored, history_is_stable, instances_give_values,
     instances_read_values, opening, plain_runs_keep_shapes, run_from, run_plain,

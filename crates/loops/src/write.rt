@@ -3,13 +3,13 @@
 ghost use Rattle.std.specs.Prelude.{◌≡◌, ◌+◌, ◌<◌, ℕ, [], ◌∷◌, ◌++◌, length, map, codes, Option, Some, None, Ok, IfOk, string_bytes};
 ghost use Rattle.std.specs.List.{All, flat_map};
 ghost use Rattle.std.specs.Fmt.{signed_decimal};
-ghost use Rattle.iterations.specs.declared.language.statement.Operand.{Operand};
-ghost use Rattle.iterations.specs.Loops.{IsPlace, IsStatement, MayRead};
+ghost use Rattle.loop_data.specs.declared.language.statement.Operand.{Operand};
+ghost use Rattle.loop_data.specs.Loops.{IsPlace, IsStatement, MayRead};
 ghost use Rattle.loop_reader.specs.Meaning.{loops_in};
 ghost use Rattle.loops.specs.Text.{array_name, param_name, value_name, at_distance, operand_word, offset_text, place_word, array_words, param_words, init_words, place_words, stored_words, statement_words, out_words, following, line_text, text_of};
 
-use iterations::{Array, Initial, Loop, Operand, Param, Place, Statement};
 use itoa::Buffer;
+use loop_data::{Array, Initial, Loop, Operand, Param, Place, Statement};
 use machine_data::OutOfMemory;
 use machine_data::limits::MAX_NAME;
 use std::alloc::Global;

@@ -5,8 +5,8 @@ use Rattle.machine_data.specs.declared.alternative.Row.{Row}
 use Rattle.machine_data.specs.declared.opcode.Opcode.{Opcode}
 use Rattle.machine_data.specs.Machines.{MachineData, OperationData, table_of}
 use Rattle.machine_data.specs.Opcodes.{all_opcodes, opcode_number}
-use Rattle.iterations.specs.declared.language.statement.Statement.{Statement}
-use Rattle.iterations.specs.Loops.{LoopData}
+use Rattle.loop_data.specs.declared.language.statement.Statement.{Statement}
+use Rattle.loop_data.specs.Loops.{LoopData}
 use Rattle.graph.specs.Dependences.{latency_in}
 use Rattle.graph.specs.Units.{alternatives_in}
 use Rattle.machine_variants.specs.declared.variant.Variant.{Variant}

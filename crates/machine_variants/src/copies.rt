@@ -2,7 +2,7 @@
 
 ghost use Rattle.std.specs.Prelude.{◌≡◌, IfOk};
 
-use iterations::{Array, Cells, Loop, Operands, Param, Statement};
+use loop_data::{Array, Cells, Loop, Operands, Param, Statement};
 use machine_data::{Name, OutOfMemory};
 use smallvec::SmallVec;
 use std::alloc::Global;

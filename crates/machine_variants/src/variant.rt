@@ -4,13 +4,13 @@ ghost use Rattle.std.specs.Prelude.{◌≡◌, ◌≤◌, ◌<◌, ◌++◌, [],
 ghost use Rattle.std.specs.List.{All, list_any, range_with_len};
 ghost use Rattle.machine_data.specs.Machines.{table_of};
 ghost use Rattle.machine_data.specs.Opcodes.{all_opcodes};
-ghost use Rattle.iterations.specs.declared.language.statement.Statement as statement;
+ghost use Rattle.loop_data.specs.declared.language.statement.Statement as statement;
 ghost use Rattle.graph.specs.Dependences.{latency_in};
 ghost use Rattle.graph.specs.Units.{alternatives_in};
 ghost use Rattle.machine_variants.specs.Variants.{IsVariantOf, concerns, is_opcode, is_other_number, numbers_to, takes, variants_of};
 
 use crate::opcodes::{all_opcodes, alternatives_of, latency_of};
-use iterations::{Loop, Statement};
+use loop_data::{Loop, Statement};
 use machine_data::limits::MAX_REGISTERS;
 use machine_data::{Machine, Opcode, OutOfMemory, Row};
 use std::alloc::Global;

@@ -38,10 +38,10 @@ use Rattle.printouts.specs.Outcomes.{Outcome}
 use Rattle.modsched.specs.Devices.{most_read}
 use Rattle.modsched.specs.Engine.{AnswersReport, Brings, Ending, WorkBrings, most_problems_read, most_read_by}
 use Rattle.modsched.specs.inner.Refusals.{IsRefusal}
-use Rattle.endings.specs.Statuses.{status_number, loops_status, problems_status, solutions_status, refusal_of_file, refusal_of_machine, refusal_of_problems}
-use Rattle.endings.specs.declared.status.Status.{Status}
-use Rattle.endings.specs.declared.status.Status.TheVariants.{Done, Unmet, MachineUnread, LoopsUnread, ProblemsUnread, SolutionsUnread}
-use Rattle.endings.specs.declared.status.Status.TheVariants.{Machine, Loops, NoTable, Problems, Solutions, Unwritten, OutOfMemory}
+use Rattle.exit_status.specs.Statuses.{status_number, loops_status, problems_status, solutions_status, refusal_of_file, refusal_of_machine, refusal_of_problems}
+use Rattle.exit_status.specs.declared.status.Status.{Status}
+use Rattle.exit_status.specs.declared.status.Status.TheVariants.{Done, Unmet, MachineUnread, LoopsUnread, ProblemsUnread, SolutionsUnread}
+use Rattle.exit_status.specs.declared.status.Status.TheVariants.{Machine, Loops, NoTable, Problems, Solutions, Unwritten, OutOfMemory}
 
 -- the status of each refusal is one
 machine_refusal : (f : MachineFault) → IsRefusal (refusal_of_machine f)

@@ -29,10 +29,10 @@ use Rattle.problem_printouts.specs.Graphing.{AnswersDot, AnswersEdges}
 use Rattle.problem_printouts.specs.Explaining.{AnswersExplain}
 use Rattle.problem_printouts.specs.declared.answers.Answers.{Answers}
 use Rattle.problem_printouts.specs.declared.fault.ProblemsFault.{ProblemsFault}
-use Rattle.endings.specs.Statuses.{refusal_of_file, refusal_of_problems}
-use Rattle.endings.specs.Writing.{EndsWritten}
-use Rattle.endings.specs.declared.status.Status.{Status}
-use Rattle.endings.specs.declared.status.Status.TheVariants.{MachineUnread, LoopsUnread, ProblemsUnread, SolutionsUnread}
+use Rattle.exit_status.specs.Statuses.{refusal_of_file, refusal_of_problems}
+use Rattle.exit_status.specs.Writing.{EndsWritten}
+use Rattle.exit_status.specs.declared.status.Status.{Status}
+use Rattle.exit_status.specs.declared.status.Status.TheVariants.{MachineUnread, LoopsUnread, ProblemsUnread, SolutionsUnread}
 
 -- the status where the text that a command reads first can't be read. A command that reads one text never ends so
 abbrev pub first_unread : Command → Status

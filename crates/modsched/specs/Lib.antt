@@ -1,8 +1,8 @@
 pub use Rattle.command_line.specs.Lines
 pub use Rattle.devices.specs.Devices
-pub use Rattle.endings.specs.Exits
-pub use Rattle.endings.specs.Statuses
-pub use Rattle.endings.specs.Writing
+pub use Rattle.exit_status.specs.Exits
+pub use Rattle.exit_status.specs.Statuses
+pub use Rattle.exit_status.specs.Writing
 pub use Rattle.printouts.specs.Bounds
 pub use Rattle.printouts.specs.Explain
 pub use Rattle.printouts.specs.Graphs

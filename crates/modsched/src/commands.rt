@@ -11,7 +11,7 @@ mod searches;
 
 use answering::{check_text, report_text, solve_text};
 use command_line::{Command, Search, Task, Work};
-use endings::Status;
+use exit_status::Status;
 use file_faults::FileFault;
 use loops::{Loop, read_loops};
 use machine::{Machine, read_machine};

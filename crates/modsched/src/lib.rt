@@ -9,7 +9,7 @@ pub use devices::{
     Bytes, Fault, FaultyInput, FaultyOutput, FileInput, Input, Output, ReadTextError,
     StandardOutput, TEXT_LIMIT, TakenBytes, read_text, write_text,
 };
-pub use endings::{Line, Status, Told, exit_number, finish, show};
+pub use exit_status::{Line, Status, Told, exit_number, finish, show};
 pub use printouts::kernels_tell_plain_lines;
 pub use settings::{OutOfRange, Settings};
 pub use subcommand::engine;

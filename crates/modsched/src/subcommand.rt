@@ -2,15 +2,15 @@
 
 ghost use Rattle.std.specs.Prelude.{◌≡◌, ◌+◌, ◌-◌, ◌^◌, ◌<◌, ◌↔◌, Some, take, drop, true, false, IfOk, IfSome, OnOk, IsErrOf};
 ghost use Rattle.modsched.specs.Engine.{Does, Ends, first_for, first_unread, last_unread, most_read_by, reads_first};
-ghost use Rattle.endings.specs.Writing.{CountsFault};
-ghost use Rattle.endings.specs.Statuses.{HasAnswered, HasWritten, IsComplete, status_number};
+ghost use Rattle.exit_status.specs.Writing.{CountsFault};
+ghost use Rattle.exit_status.specs.Statuses.{HasAnswered, HasWritten, IsComplete, status_number};
 
 mod texts;
 
 use crate::commands::printout_of;
 use command_line::Command;
 use devices::{Input, Output, ReadTextError};
-use endings::{Status, finish};
+use exit_status::{Status, finish};
 use std::alloc::Global;
 use std::thread::Threads;
 use texts::{first_text, last_text};

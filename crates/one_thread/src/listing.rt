@@ -8,8 +8,8 @@ ghost use Rattle.one_thread.specs.Files.{AnswersOn, HaveCeiling, ListsProblems, 
 
 use crate::preparing::prepare_all;
 use candidates::{Listing, Settings};
+use collecting::{Chosen, gather};
 use file_faults::FileFault;
-use gathering::{Chosen, gather};
 use ims::Prepared;
 use loops::Loop;
 use machine::{Machine, OutOfMemory};

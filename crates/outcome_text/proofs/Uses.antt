@@ -3,8 +3,8 @@ use Rattle.std.proofs.Common.{◌≡◌, ℕ, ◌+◌, ◌<◌, List, ◌++◌, 
 use Rattle.machine_data.specs.declared.alternative.Row.{Row}
 use Rattle.graph.specs.Units.{chosen_rows, use_of}
 use Rattle.graph.proofs.unit_bound.Tally.{use_of-append}
-use Rattle.unit_uses.specs.Choices.{rows_at}
-use Rattle.unit_uses.proofs.Chosen.{rows-more}
+use Rattle.resource_bound.specs.Choices.{rows_at}
+use Rattle.resource_bound.proofs.Chosen.{rows-more}
 
 -- the uses by one operation more
 pub use-more : (operations : List (List (List Row))) (choices : List ℕ) (i unit uses more : ℕ) → i < length operations → i < length choices

@@ -7,7 +7,7 @@ use Rattle.graph.specs.Units.{chosen_rows, use_of}
 use Rattle.graph.specs.Walks.{delay_of, distance_of}
 use Rattle.circuits.specs.Circuits.{IsCircuitAbove}
 use Rattle.modulo.specs.Problems.{ProblemData as SchedulingData}
-use Rattle.unit_uses.specs.Choices.{AreUnitChoices}
+use Rattle.resource_bound.specs.Choices.{AreUnitChoices}
 use Rattle.problems.specs.declared.draft.Draft.{Draft}
 use Rattle.problems.specs.Problems.{ProblemData}
 use Rattle.writing.specs.Words.{told, told_signed}

@@ -5,14 +5,14 @@ ghost use Rattle.std.specs.List.{All};
 ghost use Rattle.machine_data.specs.declared.alternative.Row.{Row};
 ghost use Rattle.machine_data.specs.Alternative.{AreAlternatives};
 ghost use Rattle.graph.specs.Units.{chosen_rows, use_of};
-ghost use Rattle.unit_uses.specs.Choices.{rows_at};
+ghost use Rattle.resource_bound.specs.Choices.{rows_at};
 ghost use Rattle.outcome_text.specs.Notes.{AreFullest, full_line, units_with};
 
 use crate::listed::push_listed;
 use machine_data::{Alternatives, OutOfMemory, Row};
 use problems::{Draft, Problem};
+use resource_bound::unit_choices_of;
 use std::alloc::{AllocError, Global};
-use unit_uses::unit_choices_of;
 use writing::Text;
 
 /// The rows of the alternative that an operation takes by these choices, at most 16; none where there is no such alternative.

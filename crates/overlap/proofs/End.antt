@@ -8,9 +8,9 @@ use Rattle.std.proofs.lemmas.List.{same_lists, get_or_default}
 use Rattle.std.proofs.lemmas.List.Elements.{All-contains, Contains-get_or}
 use Rattle.std.proofs.Math.Nat.{mul-add, lt-div-mul-add}
 use Rattle.std.proofs.lemmas.Option.{same_Some}
-use Rattle.iterations.specs.declared.language.statement.Statement.{Statement}
-use Rattle.iterations.specs.Loops.{LoopData, GivesValue, HasInitial}
-use Rattle.iterations.specs.Run.{MemoryData, RunState, start, after_iterations, end_of, earlier_value, plain, cell_index}
+use Rattle.loop_data.specs.declared.language.statement.Statement.{Statement}
+use Rattle.loop_data.specs.Loops.{LoopData, GivesValue, HasInitial}
+use Rattle.loop_data.specs.Run.{MemoryData, RunState, start, after_iterations, end_of, earlier_value, plain, cell_index}
 use Rattle.graph.specs.Dependences.{ComesFirst}
 use Rattle.graph.specs.Promises.{issue_of}
 use Rattle.kernel.specs.declared.kernels.parts.Parts.{Parts}
@@ -21,7 +21,7 @@ use Rattle.ims.specs.Schedules.{ScheduleData, IsSchedule, stages_of}
 use Rattle.overlap.specs.Emission.{out_of, emitted}
 use Rattle.overlap.specs.Sequence.{state_before, given_by, write_of_instance, sequence_before}
 use Rattle.overlap.specs.Overlap.{IsRun, IsLastStore, OverlapIsSequence}
-use Rattle.iterations.proofs.InstanceCells.{HaveBlocks, cell, blocks-at}
+use Rattle.loop_data.proofs.InstanceCells.{HaveBlocks, cell, blocks-at}
 use Rattle.overlap.proofs.in_flight.Issued.{issued-from_sequence, sequence-from_issued}
 use Rattle.overlap.proofs.in_flight.Landing.{contains-cases, last-of_all_is, none-of_all}
 use Rattle.overlap.proofs.in_cells.LastStores.{holds-last}
@@ -29,7 +29,7 @@ use Rattle.registers.proofs.Whole.{times-more}
 use Rattle.overlap.proofs.in_registers.Lives.{greatest-of, contains-map, value-at_rank}
 use Rattle.overlap.proofs.in_cells.Loads.{lands-first}
 use Rattle.overlap.proofs.in_flight.Made.{writes-are_of_values}
-use Rattle.iterations.proofs.Instances.{arrays-first, earlier-at, initial-at, slice_get-within}
+use Rattle.loop_data.proofs.Instances.{arrays-first, earlier-at, initial-at, slice_get-within}
 use Rattle.overlap.proofs.in_registers.Preloaded.{preloaded-is}
 use Rattle.overlap.proofs.in_registers.OfSchedule.{run_of, is-run, rank-within, value-is}
 use Rattle.overlap.proofs.in_registers.Registers.{made-write, lands-before, rank-destination}

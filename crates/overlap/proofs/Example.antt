@@ -2,8 +2,8 @@
 use Rattle.std.proofs.Common.{◌≡◌, ℕ, List, [], ◌∷◌, Some, None, pos, negsuc, refl}
 use Rattle.std.specs.Prelude.{codes}
 use Rattle.machine_data.specs.declared.opcode.Opcode.TheVariants.{Load, Store, Add}
-use Rattle.iterations.specs.declared.language.statement.Operand.TheVariants.{Value}
-use Rattle.iterations.specs.Loops.{LoopData}
+use Rattle.loop_data.specs.declared.language.statement.Operand.TheVariants.{Value}
+use Rattle.loop_data.specs.Loops.{LoopData}
 use Rattle.kernel.specs.declared.kernels.operation.Source.TheVariants.{Register}
 use Rattle.overlap.specs.Lifetimes.{lifetimes_of}
 use Rattle.overlap.specs.Allotments.{AllotmentData}

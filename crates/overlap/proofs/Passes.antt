@@ -4,11 +4,11 @@ use Rattle.std.specs.Prelude.{slice_get, slice_index, is_some}
 use Rattle.std.proofs.lemmas.Int.{ints}
 use Rattle.std.proofs.lemmas.List.Elements.{All-contains}
 use Rattle.std.proofs.lemmas.Option.{same_Some}
-use Rattle.iterations.specs.declared.language.statement.Statement.{Statement}
-use Rattle.iterations.specs.declared.language.statement.Operand.{Operand}
-use Rattle.iterations.specs.declared.language.statement.Operand.TheVariants.{Value}
-use Rattle.iterations.specs.Loops.{MayRead}
-use Rattle.iterations.specs.Run.{cell_index}
+use Rattle.loop_data.specs.declared.language.statement.Statement.{Statement}
+use Rattle.loop_data.specs.declared.language.statement.Operand.{Operand}
+use Rattle.loop_data.specs.declared.language.statement.Operand.TheVariants.{Value}
+use Rattle.loop_data.specs.Loops.{MayRead}
+use Rattle.loop_data.specs.Run.{cell_index}
 use Rattle.graph.specs.Promises.{issue_of}
 use Rattle.kernel.specs.declared.kernels.operation.Operation.{Operation}
 use Rattle.kernel.specs.Overlapped.{physical, is_issued}
@@ -20,7 +20,7 @@ use Rattle.instances.proofs.Issued as issued
 use Rattle.instances.proofs.Turned.{name-in_turn}
 use Rattle.overlap.proofs.in_cells.LastStores.{holds-last}
 use Rattle.overlap.proofs.in_cells.Loads.{load-finds, load-opens}
-use Rattle.iterations.proofs.Instances.{slice_get-within}
+use Rattle.loop_data.proofs.Instances.{slice_get-within}
 use Rattle.overlap.proofs.in_flight.Issued.{is_on, on-parts, on-from_parts}
 use Rattle.overlap.proofs.in_registers.Registers.{register-lands, register-opens}
 use Rattle.overlap.proofs.in_flight.Values.{load-same, blocks-of, cell-index_below}

@@ -9,13 +9,13 @@ use Rattle.std.proofs.lemmas.List.Elements.{All-contains, All-get_or, All-nil, A
 use Rattle.std.proofs.Math.Nat.{mod-lt}
 use Rattle.machine_data.specs.declared.opcode.Opcode.{Opcode}
 use Rattle.machine_data.specs.declared.opcode.Opcode.TheVariants.{Load, Store}
-use Rattle.iterations.specs.declared.language.statement.Statement.{Statement}
-use Rattle.iterations.specs.declared.language.statement.Place.{Place}
-use Rattle.iterations.specs.declared.language.statement.Operand.{Operand}
-use Rattle.iterations.specs.declared.language.statement.Operand.TheVariants as operand
-use Rattle.iterations.specs.declared.language.lists.Array.{Array}
-use Rattle.iterations.specs.Loops.{HasShape, MayRead, IsStatement, GivesValue, HasInitial}
-use Rattle.iterations.specs.Run.{initial_of}
+use Rattle.loop_data.specs.declared.language.statement.Statement.{Statement}
+use Rattle.loop_data.specs.declared.language.statement.Place.{Place}
+use Rattle.loop_data.specs.declared.language.statement.Operand.{Operand}
+use Rattle.loop_data.specs.declared.language.statement.Operand.TheVariants as operand
+use Rattle.loop_data.specs.declared.language.lists.Array.{Array}
+use Rattle.loop_data.specs.Loops.{HasShape, MayRead, IsStatement, GivesValue, HasInitial}
+use Rattle.loop_data.specs.Run.{initial_of}
 use Rattle.graph.specs.Units.{greatest_of}
 use Rattle.kernel.specs.declared.kernels.operation.Operation.{Operation}
 use Rattle.kernel.specs.declared.kernels.operation.Address.{Address}
@@ -30,7 +30,7 @@ use Rattle.overlap.specs.Emission.{name_of, source_of, address_of, operation_of,
 use Rattle.overlap.specs.Overlap.{Belong, KernelsAreWellFormed}
 use Rattle.overlap.proofs.in_registers.Different.{pairs-cons, pairs-nil, pairs-head, pairs-tail, pairs-flat, different-few}
 use Rattle.overlap.proofs.in_registers.Lives.{greatest-of, greatest-reached, contains-map, contains-map_back}
-use Rattle.iterations.proofs.Instances.{slice_get-within}
+use Rattle.loop_data.proofs.Instances.{slice_get-within}
 use Rattle.overlap.proofs.in_registers.Preloaded.{preload-back, preloads-one, value-back, number-back}
 
 -- each operation is of a statement

@@ -1,4 +1,4 @@
-pub use Rattle.iterations.specs.Loops
+pub use Rattle.loop_data.specs.Loops
 pub use Rattle.machine_data.specs.Machines
 pub use Rattle.registers.specs.Values
 pub mod Lifetimes

@@ -1,10 +1,10 @@
 -- How long the values of a scheduled loop live, in cycles.
 use Rattle.std.specs.Prelude.{ℕ, ◌+◌, ◌*◌, ◌==◌, min, max, Bool, if◌then◌else◌, is_some, List, [], ◌∷◌, ◌++◌, length, map, take, zip, Option, Some, None, filter_map, slice_index}
 use Rattle.std.specs.List.{list_any}
-use Rattle.iterations.specs.declared.language.statement.Operand.{Operand}
-use Rattle.iterations.specs.declared.language.statement.Operand.TheVariants.{Value}
-use Rattle.iterations.specs.declared.language.statement.Statement.{Statement}
-use Rattle.iterations.specs.Loops.{LoopData}
+use Rattle.loop_data.specs.declared.language.statement.Operand.{Operand}
+use Rattle.loop_data.specs.declared.language.statement.Operand.TheVariants.{Value}
+use Rattle.loop_data.specs.declared.language.statement.Statement.{Statement}
+use Rattle.loop_data.specs.Loops.{LoopData}
 use Rattle.graph.specs.Units.{greatest_of}
 use Rattle.registers.specs.declared.lifetime.Lifetime.{Lifetime}
 pub use Rattle.registers.specs.Lifetimes.{IsLiveIn}

@@ -3,7 +3,7 @@ use Rattle.std.specs.Prelude.{◌≡◌, ℕ, ◌+◌, ◌*◌, max, List, [], �
 use Rattle.registers.specs.declared.value.Value.{Value}
 use Rattle.registers.specs.declared.value.Read.{Read}
 use Rattle.registers.specs.Values.{lives_of}
-use Rattle.iterations.specs.Loops.{LoopData}
+use Rattle.loop_data.specs.Loops.{LoopData}
 use Rattle.ims.specs.Schedules.{ScheduleData, stages_of}
 use Rattle.overlap.specs.Lifetimes.{Use, values_of, uses_of, is_out, last_landing, lifetimes_of}
 

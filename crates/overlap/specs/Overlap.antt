@@ -2,11 +2,11 @@
 use Rattle.std.specs.Prelude.{◌≡◌, ◌↔◌, ◌⊎◌, ℕ, pos, ◌+◌, ◌-◌, ◌*◌, ◌<◌, ◌≤◌, ◌+ℤ◌, ◌-ℤ◌, true, List, map, Some, None, slice_get}
 use Rattle.machine_data.specs.declared.opcode.Opcode.{Opcode}
 use Rattle.machine_data.specs.declared.opcode.Opcode.TheVariants.{Load}
-use Rattle.iterations.specs.declared.language.statement.Operand.TheVariants.{Value}
-use Rattle.iterations.specs.declared.language.statement.Place.{Place}
-use Rattle.iterations.specs.declared.language.statement.Statement.{Statement}
-use Rattle.iterations.specs.Loops.{LoopData}
-use Rattle.iterations.specs.Run.{HasShapeOf, MemoryData, IsMemory, cell_index, cell_of, initial_of, plain}
+use Rattle.loop_data.specs.declared.language.statement.Operand.TheVariants.{Value}
+use Rattle.loop_data.specs.declared.language.statement.Place.{Place}
+use Rattle.loop_data.specs.declared.language.statement.Statement.{Statement}
+use Rattle.loop_data.specs.Loops.{LoopData}
+use Rattle.loop_data.specs.Run.{HasShapeOf, MemoryData, IsMemory, cell_index, cell_of, initial_of, plain}
 use Rattle.graph.specs.Dependences.{Uses, ComesFirst}
 use Rattle.graph.specs.Promises.{issue_of}
 use Rattle.graph.specs.Units.{opcodes_of}

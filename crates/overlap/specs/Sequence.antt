@@ -3,11 +3,11 @@ use Rattle.std.specs.Prelude.{ℕ, zero, suc, ℤ, pos, ◌+◌, ◌-◌, ◌/�
 use Rattle.std.specs.List.{cons_option}
 use Rattle.machine_data.specs.declared.opcode.Opcode.{Opcode}
 use Rattle.machine_data.specs.declared.opcode.Opcode.TheVariants.{Store}
-use Rattle.iterations.specs.declared.language.statement.Place.{Place}
-use Rattle.iterations.specs.declared.language.statement.Statement.{Statement}
-pub use Rattle.iterations.specs.Instances.{read_by, given_by}
-unfoldable pub use Rattle.iterations.specs.Instances.{state_before}
-use Rattle.iterations.specs.Run.{MemoryData, writes, first_of, cell_index}
+use Rattle.loop_data.specs.declared.language.statement.Place.{Place}
+use Rattle.loop_data.specs.declared.language.statement.Statement.{Statement}
+pub use Rattle.loop_data.specs.Instances.{read_by, given_by}
+unfoldable pub use Rattle.loop_data.specs.Instances.{state_before}
+use Rattle.loop_data.specs.Run.{MemoryData, writes, first_of, cell_index}
 use Rattle.graph.specs.Promises.{issue_of}
 use Rattle.kernel.specs.Overlapped.{Write, InRegister, InCell, physical}
 use Rattle.overlap.specs.Allotments.{AllotmentData, allotted_number}

@@ -2,8 +2,8 @@
 use Rattle.std.specs.Prelude.{◌≡◌, ℕ, zero, suc, ◌==◌, codes, List, [], ◌++◌, length}
 use Rattle.std.specs.List.{flat_map, range_with_len}
 use Rattle.graph.specs.Units.{chosen_rows, use_of}
-use Rattle.unit_uses.specs.Choices.{AreUnitChoices, rows_at}
-use Rattle.unit_uses.specs.UnitLines.{full_text, times_text}
+use Rattle.resource_bound.specs.Choices.{AreUnitChoices, rows_at}
+use Rattle.resource_bound.specs.UnitLines.{full_text, times_text}
 use Rattle.problems.specs.declared.draft.Draft.{Draft}
 use Rattle.problems.specs.Problems.{ProblemData}
 use Rattle.writing.specs.Words.{told}

@@ -2,7 +2,7 @@
 
 ghost use Rattle.std.specs.Prelude.{◌≡◌, ◌<◌, ◌++◌, ℕ, ◌==◌, Bool, List, codes, length, OnOk};
 ghost use Rattle.std.specs.List.{flat_map, range_with_len};
-ghost use Rattle.unit_uses.specs.UnitLines.{full_text};
+ghost use Rattle.resource_bound.specs.UnitLines.{full_text};
 ghost use Rattle.writing.specs.Words.{told};
 ghost use Rattle.problem_graphs.specs.Names.{unit_name};
 ghost use Rattle.problem_reasons.specs.Units.{AreUnitLines, line_with, unit_line, user_text, users_text};
@@ -11,8 +11,8 @@ use machine_data::OutOfMemory;
 use outcome_text::{rows_at, rows_with, use_of};
 use problem_graphs::{push_op_name, push_unit_name};
 use problems::{Draft, Problem};
+use resource_bound::unit_choices_of;
 use std::alloc::{AllocError, Global};
-use unit_uses::unit_choices_of;
 use writing::{Text, push_told};
 
 /// Appends an operation with how often it uses a unit, if it does.

@@ -6,7 +6,7 @@ use Rattle.command_line.specs.declared.command.Command.{Command}
 use Rattle.command_line.specs.declared.line.Usage.{Usage}
 use Rattle.command_line.specs.declared.line.Usage.TheVariants.{Help, Refused, Memory}
 use Rattle.modsched.specs.Lines.{IsRequest, Means, first_path}
-use Rattle.endings.specs.declared.status.Status.{Status}
+use Rattle.exit_status.specs.declared.status.Status.{Status}
 
 -- a line ends in a status where it means a command, or requests help or the version; else it is refused, or memory ran out
 abbrev pub IsHeeded : Result Status Usage → Kinds → Option (Text × List Row) → Type 0

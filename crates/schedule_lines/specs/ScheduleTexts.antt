@@ -2,7 +2,7 @@
 use Rattle.std.specs.Prelude.{ℕ, zero, suc, ◌-◌, codes, List, [], ◌++◌, length, slice_index}
 use Rattle.std.specs.List.{flat_map, range_with_len, slice_index_or}
 use Rattle.machine_data.specs.Machines.{MachineData}
-use Rattle.iterations.specs.Loops.{LoopData}
+use Rattle.loop_data.specs.Loops.{LoopData}
 use Rattle.graph_text.specs.Names.{op_name}
 use Rattle.graph_text.specs.Texts.{told}
 use Rattle.ims.specs.Schedules.{ScheduleData}

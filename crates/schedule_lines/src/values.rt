@@ -6,7 +6,7 @@ ghost use Rattle.schedule_lines.specs.ScheduleTexts.{value_line, value_lines};
 
 use graph_text::{push_name, push_told};
 use ims::Schedule;
-use iterations::Loop;
+use loop_data::Loop;
 use rotating::Lifetime;
 use std::alloc::AllocError;
 

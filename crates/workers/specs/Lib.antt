@@ -11,5 +11,5 @@ pub use Rattle.reports.specs.Entries
 pub use Rattle.reports.specs.Gathered
 pub use Rattle.reports.specs.declared.entry.Entry
 pub use Rattle.reports.specs.declared.entry.Found
-pub use Rattle.shared_work.specs.Settled
-pub use Rattle.shared_work.specs.Worked
+pub use Rattle.board_workers.specs.Settled
+pub use Rattle.board_workers.specs.Worked

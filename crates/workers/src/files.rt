@@ -9,14 +9,14 @@ ghost use Rattle.candidates.specs.Choices.{IsChoice};
 ghost use Rattle.candidates.specs.Promises.{IsRight};
 ghost use Rattle.one_thread.specs.Files.{AnswersFile, AnswersOn, HaveCeiling, ListsFile, ListsProblems, PreparesAndLists};
 
+use board_workers::{Gate, run_workers};
 use candidates::{Listing, Pieces, Settings};
+use collecting::{Chosen, gather};
 use file_faults::FileFault;
-use gathering::{Chosen, gather};
 use ims::Prepared;
 use loops::{Loop, read_loops};
 use machine::{Machine, OutOfMemory, read_machine};
 use one_thread::{list_choices, prepare_all};
-use shared_work::{Gate, run_workers};
 use std::alloc::Global;
 use std::thread::Threads;
 

@@ -3,10 +3,10 @@
 use graph::res_mii;
 use loops::read_loops;
 use machine::{Opcode, read_machine};
+use resource_bound::{push_unit_lines, unit_choices, unit_choices_of};
 use std::alloc::Global;
 use std::process::Abort;
 use std::test::Fail;
-use unit_uses::{push_unit_lines, unit_choices, unit_choices_of};
 
 /// Two units that add, one of which multiplies too, and one that no operation uses.
 const ADDERS: &str = r#"registers = 8

@@ -1,4 +1,4 @@
-use endings::Status;
+use exit_status::Status;
 use loops::{LoopFault, LoopFaultKind};
 use machine::{Key, MachineFault, Name, Opcode};
 use problem_printouts::ProblemsFault;

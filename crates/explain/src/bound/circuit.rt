@@ -3,7 +3,7 @@
 ghost use Rattle.std.specs.Prelude.{◌≡◌, ◌≤◌, ◌++◌, ℕ, List, length, OnOk};
 ghost use Rattle.std.specs.Fmt.{signed_decimal};
 ghost use Rattle.std.specs.List.{All};
-ghost use Rattle.iterations.specs.Loops.{IsLoop};
+ghost use Rattle.loop_data.specs.Loops.{IsLoop};
 ghost use Rattle.graph_text.specs.Edges.{edge_line};
 ghost use Rattle.graph_text.specs.Kinds.{IsOfKind, IsTimed};
 ghost use Rattle.graph_text.specs.Texts.{AreTexts};
@@ -13,8 +13,8 @@ use crate::bound::sums::{Sums, sums_of};
 use graph::{Edge, Edges};
 use graph_text::{critical_circuit, kind_of, push_edge, push_told};
 use ims::Prepared;
-use iterations::Loop;
 use itoa::Buffer;
+use loop_data::Loop;
 use std::alloc::{AllocError, Global};
 
 /// Appends a word and a signed number after it.

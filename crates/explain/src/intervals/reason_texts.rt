@@ -9,7 +9,7 @@ ghost use Rattle.explain.specs.Reasons.{IsReason, culprit_text, life_text, named
 use crate::intervals::reasons::Reason;
 use graph_text::{push_name, push_told};
 use ims::{Culprit, Prepared};
-use iterations::Loop;
+use loop_data::Loop;
 use machine_data::limits::MAX_STATEMENTS;
 use rotating::Lifetime;
 use std::alloc::AllocError;

@@ -6,10 +6,10 @@ use Rattle.std.proofs.lemmas.List.Elements.{All-contains, Contains-get_or}
 use Rattle.std.proofs.lemmas.Option.{slice_get_within, slice_get-get_or}
 use Rattle.std.specs.List.{slice_index, slice_get, All, AllPairs, Contains}
 use Rattle.machine_data.specs.Machines.{MachineData}
-use Rattle.iterations.specs.declared.language.statement.Statement.{Statement}
-use Rattle.iterations.specs.declared.language.statement.Operand.{Operand}
-use Rattle.iterations.specs.declared.language.statement.Operand.TheVariants.{Constant, Parameter, Value}
-use Rattle.iterations.specs.Loops.{LoopData, IsLoop, MayRead}
+use Rattle.loop_data.specs.declared.language.statement.Statement.{Statement}
+use Rattle.loop_data.specs.declared.language.statement.Operand.{Operand}
+use Rattle.loop_data.specs.declared.language.statement.Operand.TheVariants.{Constant, Parameter, Value}
+use Rattle.loop_data.specs.Loops.{LoopData, IsLoop, MayRead}
 use Rattle.graph.specs.Dependences.{EdgeData, Precedes, Dependence, latencies_of}
 use Rattle.graph.specs.Graphs.{IsGraph, IsGraphOf}
 use Rattle.graph.specs.Subscripts.{AreLatencies, IsFound, ReadsBelow}

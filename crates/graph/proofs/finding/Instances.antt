@@ -5,9 +5,9 @@ use Rattle.std.proofs.lemmas.Bool.{cases_eq}
 use Rattle.std.specs.List.{slice_index}
 use Rattle.machine_data.specs.declared.opcode.Opcode.{Opcode}
 use Rattle.machine_data.specs.declared.opcode.Opcode.TheVariants.{Load, Store}
-use Rattle.iterations.specs.Loops.{LoopData}
-use Rattle.iterations.specs.declared.language.statement.Statement.{Statement}
-use Rattle.iterations.specs.declared.language.statement.Place.{Place}
+use Rattle.loop_data.specs.Loops.{LoopData}
+use Rattle.loop_data.specs.declared.language.statement.Statement.{Statement}
+use Rattle.loop_data.specs.declared.language.statement.Place.{Place}
 use Rattle.graph.specs.Dependences.{EdgeData, Touches, HasOpcode, ComesFirst, MeetInMemory, Dependence, value_flow, memory_flow, anti, output}
 use Rattle.graph.specs.Subscripts.{IsDelay, IsMeeting, IsFound}
 

@@ -5,8 +5,8 @@ use Rattle.std.specs.List.{find}
 use Rattle.std.specs.Option.{is_none}
 use Rattle.machine_data.specs.declared.opcode.Opcode.{Opcode}
 use Rattle.machine_data.specs.Machines.{MachineData, OperationData, table_of}
-use Rattle.iterations.specs.declared.language.statement.Statement.{Statement}
-use Rattle.iterations.specs.Loops.{LoopData}
+use Rattle.loop_data.specs.declared.language.statement.Statement.{Statement}
+use Rattle.loop_data.specs.Loops.{LoopData}
 use Rattle.graph.specs.TablesAnswer.{TablesAnswer}
 use Rattle.graph.specs.Units.{opcodes_of, first_without_table}
 use Rattle.graph.specs.Dependences.{latencies_of, latency_in}

@@ -5,8 +5,8 @@ use Rattle.std.proofs.lemmas.Int.{ints}
 use Rattle.std.proofs.lemmas.List.Elements.{All-contains}
 use Rattle.std.proofs.Math.Nat.{mul-add}
 use Rattle.std.specs.List.{slice_index, Contains}
-use Rattle.iterations.specs.Loops.{LoopData, IsLoop, MayRead}
-use Rattle.iterations.specs.declared.language.statement.Operand.TheVariants.{Value}
+use Rattle.loop_data.specs.Loops.{LoopData, IsLoop, MayRead}
+use Rattle.loop_data.specs.declared.language.statement.Operand.TheVariants.{Value}
 use Rattle.graph.specs.Dependences.{EdgeData, ComesFirst, MeetInMemory, Dependence, value_flow, memory_flow, anti, output}
 use Rattle.graph.specs.Promises.{InOrder, ValuesInTime, StoresInTime, LoadsInTime, StoresInOrder, CircuitsTakeIterations}
 use Rattle.graph.specs.Walks.{IsWalk, distance_of}

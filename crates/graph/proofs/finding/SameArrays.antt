@@ -3,8 +3,8 @@ use Rattle.std.proofs.Common.{◌≡◌, ℕ, ◌+◌, ◌<◌, ◌≤◌, List,
 use Rattle.std.specs.List.{slice_index, slice_get}
 use Rattle.std.proofs.lemmas.Bool.{cases_lt, cases_eq}
 use Rattle.std.proofs.lemmas.Option.{slice_get_within}
-use Rattle.iterations.specs.declared.language.statement.Statement.{Statement}
-use Rattle.iterations.specs.declared.language.statement.Place.{Place}
+use Rattle.loop_data.specs.declared.language.statement.Statement.{Statement}
+use Rattle.loop_data.specs.declared.language.statement.Place.{Place}
 use Rattle.graph.specs.Dependences.{EdgeData}
 use Rattle.graph.specs.Subscripts.{HasMeetings}
 use Rattle.graph.specs.inner.SameArrays.{Skips, IsLink, IsNextTouch, AreLinked}

@@ -10,7 +10,7 @@ use Rattle.machine_data.specs.declared.alternative.Row.{Row}
 use Rattle.machine_data.specs.declared.opcode.Opcode.{Opcode}
 use Rattle.machine_data.specs.Alternative.{AreAlternatives, rows_meet}
 use Rattle.machine_data.specs.Machines.{MachineData, OperationData, IsMachine, table_of}
-use Rattle.iterations.specs.Loops.{LoopData}
+use Rattle.loop_data.specs.Loops.{LoopData}
 use Rattle.graph.specs.Units.{use_of, greatest_of, greatest_use, AreBest, chosen_rows, by_freedom, IsUnitBound, operations_of, opcodes_of, alternatives_in, first_without_table}
 use Rattle.graph.specs.Schedules.{IsPlan, KeepsUnits, issued_rows}
 use Rattle.graph.specs.Uses.{CountsRows}

@@ -1,7 +1,7 @@
 -- The statements that touch each array, linked in their order.
 use Rattle.std.specs.Prelude.{◌≡◌, ℕ, ◌+◌, ◌<◌, ◌≤◌, List, Some, slice_index, slice_get}
-use Rattle.iterations.specs.declared.language.statement.Statement.{Statement}
-use Rattle.iterations.specs.declared.language.statement.Place.{Place}
+use Rattle.loop_data.specs.declared.language.statement.Statement.{Statement}
+use Rattle.loop_data.specs.declared.language.statement.Place.{Place}
 
 -- no statement from the one up to before the other touches the array
 abbrev pub Skips : List Statement → ℕ → ℕ → ℕ → Type 0

@@ -1,6 +1,6 @@
 //! The dependences of a loop, found by the subscripts of its statements.
 
-ghost use Rattle.iterations.specs.declared.language.statement.Statement.{Statement};
+ghost use Rattle.loop_data.specs.declared.language.statement.Statement.{Statement};
 ghost use Rattle.std.specs.Prelude.{slice_get, pos, ◌+ℤ◌, ◌≡◌, ℕ, ℤ, ◌+◌, ◌<◌, ◌≤◌, length, Some, IfSome, IfOk};
 ghost use Rattle.std.specs.List.{All, Contains};
 ghost use Rattle.graph.specs.Dependences.{EdgeData};
@@ -8,7 +8,7 @@ ghost use Rattle.graph.specs.Subscripts.{IsDelay, IsMemoryEdge, ReadsBelow, AreL
 ghost use Rattle.graph.specs.inner.SameArrays.{AreLinked};
 
 use crate::dependence::edge::Edge;
-use iterations::{Operand, Statement};
+use loop_data::{Operand, Statement};
 use machine_data::Opcode;
 use machine_data::limits::MAX_STATEMENTS;
 use std::alloc::{AllocError, Global};

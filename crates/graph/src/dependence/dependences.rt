@@ -15,7 +15,7 @@ use crate::fault::GraphFault;
 use crate::layout::graph::Edges;
 use crate::layout::groups::by_end;
 use crate::layout::starts::End;
-use iterations::Loop;
+use loop_data::Loop;
 use machine_data::Machine;
 use std::alloc::{AllocError, Global};
 

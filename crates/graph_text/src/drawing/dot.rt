@@ -13,7 +13,7 @@ use crate::listing::bounds::push_bounds_told;
 use crate::measuring::{LowerBounds, Measured};
 use crate::names::{opcode_word, push_name};
 use graph::{Edge, Edges};
-use iterations::Loop;
+use loop_data::Loop;
 use std::alloc::AllocError;
 
 /// How an edge is drawn.

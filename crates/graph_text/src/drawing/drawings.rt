@@ -12,7 +12,7 @@ use crate::fault::TextFault;
 use crate::measuring::measure;
 use circuits::circuit_above;
 use graph::{Edge, Edges};
-use iterations::Loop;
+use loop_data::Loop;
 use machine_data::Machine;
 use std::alloc::{AllocError, Global};
 

@@ -10,7 +10,7 @@ use crate::fault::TextFault;
 use crate::lines::{push_both, push_told};
 use crate::measuring::{LowerBounds, measure};
 use graph::mii;
-use iterations::Loop;
+use loop_data::Loop;
 use machine_data::Machine;
 use std::alloc::{AllocError, Global};
 

@@ -18,7 +18,7 @@ use crate::listing::bounds::push_bounds_line;
 use crate::measuring::measure;
 use crate::names::{opcode_word, push_name};
 use graph::{Edge, Edges, heights, longer_intervals_fit, mii};
-use iterations::Loop;
+use loop_data::Loop;
 use machine_data::Machine;
 use std::alloc::{AllocError, Global};
 

@@ -5,8 +5,8 @@ use Rattle.std.proofs.lemmas.List.{take_more, get_or-map, length-map}
 use Rattle.machine_data.specs.declared.alternative.Row.{Row}
 use Rattle.machine_data.specs.declared.opcode.Opcode.{Opcode}
 use Rattle.machine_data.specs.Machines.{MachineData, OperationData, IsMachine, table_of}
-use Rattle.iterations.specs.declared.language.statement.Statement.{Statement}
-use Rattle.iterations.specs.Loops.{LoopData, IsLoop}
+use Rattle.loop_data.specs.declared.language.statement.Statement.{Statement}
+use Rattle.loop_data.specs.Loops.{LoopData, IsLoop}
 use Rattle.graph.specs.Dependences.{Dependence}
 use Rattle.graph.specs.Graphs.{GraphData, IsGraphOf}
 use Rattle.graph.specs.Units.{opcodes_of, operations_of, alternatives_in}

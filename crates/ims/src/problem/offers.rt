@@ -5,12 +5,12 @@ ghost use Rattle.std.specs.Global.{Global};
 ghost use Rattle.std.specs.List.{All};
 ghost use Rattle.machine_data.specs.declared.alternative.Row.{Row};
 ghost use Rattle.machine_data.specs.Alternative.{AreAlternatives};
-ghost use Rattle.iterations.specs.Loops.{IsLoop};
+ghost use Rattle.loop_data.specs.Loops.{IsLoop};
 ghost use Rattle.graph.specs.TablesAnswer.{TablesAnswer};
 ghost use Rattle.graph.specs.Units.{first_without_table, operations_of};
 
 use graph::GraphFault;
-use iterations::Loop;
+use loop_data::Loop;
 use machine_data::{Alternatives, Machine};
 use std::alloc::Global;
 

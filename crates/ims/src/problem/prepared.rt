@@ -7,7 +7,7 @@ ghost use Rattle.ims.specs.Problems.{IsProblem, IsProblemOf, mii_of, without_loo
 
 use crate::problem::offers::offers;
 use graph::{Edges, GraphFault};
-use iterations::Loop;
+use loop_data::Loop;
 use machine_data::{Alternatives, Machine};
 use modulo::Problem;
 use std::alloc::Global;

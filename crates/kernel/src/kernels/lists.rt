@@ -2,7 +2,7 @@
 
 use crate::kernels::operation::{Operation, Source};
 use crate::kernels::parts::{Out, Preload};
-use iterations::{ListOf, Param, ShortListOf};
+use loop_data::{ListOf, Param, ShortListOf};
 use machine_data::Name;
 
 /// What an operation reads, in order.

@@ -2,7 +2,7 @@
 
 ghost use Rattle.std.specs.Prelude.{◌≡◌, ◌<◌, ◌≤◌, ◌↔◌, IsTrue, MatchOption};
 ghost use Rattle.std.specs.List.{All};
-ghost use Rattle.iterations.specs.Arithmetic.{operands_of};
+ghost use Rattle.loop_data.specs.Arithmetic.{operands_of};
 ghost use Rattle.kernel.specs.declared.kernels.operation.Operation.{Operation};
 ghost use Rattle.kernel.specs.declared.kernels.parts.Out.{Out};
 ghost use Rattle.kernel.specs.Kernels.{HasOperationShape};

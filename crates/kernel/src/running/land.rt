@@ -6,7 +6,7 @@ ghost use Rattle.kernel.specs.inner.Steps.{arrays_landed, registers_landed, slot
 
 use crate::running::file::RegisterFile;
 use crate::running::flight::{Due, SLOTS};
-use iterations::Memory;
+use loop_data::Memory;
 
 /// Lands the writes of a cycle, which leaves their slot empty.
 pub(crate) fn land(registers: &mut RegisterFile, memory: &mut Memory, ring: &mut [Due], cycle: u64)

@@ -1,7 +1,7 @@
 -- Numbers of a line that is read, which are at most 16 where they are told.
 use Rattle.std.specs.Prelude.{◌≡◌, ℕ, ◌≤◌, Bool, true, if◌then◌else◌, Option, Some, None}
 use Rattle.std.specs.List.{AllByRecursion}
-use Rattle.iterations.specs.Names.{is_name}
+use Rattle.loop_data.specs.Names.{is_name}
 use Rattle.loop_lines.specs.Forms.{Form, LoopLine, InitLine, StatementLine, Use, At}
 use Rattle.loop_lines.specs.Parsed.{use_seen}
 use Rattle.loop_lines.specs.declared.form.Use as code

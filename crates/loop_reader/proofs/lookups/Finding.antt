@@ -18,7 +18,7 @@ use Rattle.loop_lines.specs.declared.form.Use.{Use}
 use Rattle.loop_lines.specs.declared.form.Use.TheVariants as code_uses
 use Rattle.loop_reader.specs.declared.names.found.Target.{Target}
 use Rattle.loop_lines.specs.declared.form.Uses.{Uses}
-use Rattle.iterations.specs.declared.language.statement.Operand.{Operand}
+use Rattle.loop_data.specs.declared.language.statement.Operand.{Operand}
 
 found-as : (block : List Form) (line there : LineEntry) (found one : Targets) → IsFoundFor block line.form found → there ≡ line → one ≡ found → IsFoundFor block there.form one
 found-as block line there found one h e f = rw e (rw f h)

@@ -8,8 +8,8 @@ use Rattle.std.proofs.lemmas.Str.{IsUtf8-from_ascii}
 use Rattle.std.proofs.lemmas.Bool.Decides.{nat_tests}
 use Rattle.std.proofs.lemmas.List.Folds.{list_any-append}
 use Rattle.machine_data.specs.Opcodes.{same_word}
-use Rattle.iterations.specs.Names.{is_name, starts_name, is_letter, is_name_byte, is_reserved}
-use Rattle.iterations.specs.Loops.{IsName}
+use Rattle.loop_data.specs.Names.{is_name, starts_name, is_letter, is_name_byte, is_reserved}
+use Rattle.loop_data.specs.Loops.{IsName}
 use Rattle.loop_reader.specs.Meaning.{opening_faults, is_long, when}
 use Rattle.loop_reader.specs.declared.fault.LoopFaultKind.TheVariants.{Limit, RepeatedName}
 

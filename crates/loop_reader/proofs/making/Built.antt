@@ -10,7 +10,7 @@ use Rattle.loop_reader.specs.inner.Blocks.{forms_in, one_if}
 use Rattle.loop_reader.specs.inner.Building.{rows_of, row_if}
 use Rattle.loop_lines.specs.Parsed.{form_seen}
 use Rattle.loop_reader.specs.declared.lines.entry.LineEntry.{LineEntry}
-use Rattle.iterations.specs.declared.language.lists.Initial.{Initial}
+use Rattle.loop_data.specs.declared.language.lists.Initial.{Initial}
 use Rattle.loop_reader.proofs.lookups.Declared.{forms-more, how_many-cons, how_many-push}
 use Rattle.std.proofs.lemmas.List.Sums.{sum_by-append}
 

@@ -5,13 +5,13 @@ use Rattle.std.proofs.lemmas.List.{append-nil}
 use Rattle.std.proofs.lemmas.Option.{none-some, same_Some}
 use Rattle.loop_reader.specs.declared.lines.entry.LineEntry.{LineEntry}
 use Rattle.loop_reader.specs.declared.fault.LoopFault.{LoopFault}
-use Rattle.iterations.specs.declared.language.lists.Array.{Array}
-use Rattle.iterations.specs.declared.language.lists.Param.{Param}
+use Rattle.loop_data.specs.declared.language.lists.Array.{Array}
+use Rattle.loop_data.specs.declared.language.lists.Param.{Param}
 use Rattle.loop_reader.specs.inner.Blocks.{forms_in, entry_faults}
 use Rattle.loop_reader.specs.inner.Building.{IsFew, IsNamed, name_in}
 use Rattle.loop_reader.specs.inner.Checks.{IsBlock}
 use Rattle.loop_lines.specs.Forms.{Form, LoopLine, ArrayLine, ParamLine, InitLine, StatementLine, OutLine, EndLine, Malformed, StatementForm}
-use Rattle.iterations.specs.Loops.{IsName}
+use Rattle.loop_data.specs.Loops.{IsName}
 use Rattle.loop_reader.specs.Meaning.{how_many, is_array, is_param, is_statement, at_line, faults_of, array_in, param_in, statement_in, Kinds}
 use Rattle.loop_lines.specs.Parsed.{form_seen}
 use Rattle.loop_reader.proofs.making.Lawful.{IsFaultlessFrom}

@@ -8,9 +8,9 @@ use Rattle.std.proofs.lemmas.List.Folds.{list_any-append}
 use Rattle.std.proofs.lemmas.Option.{none-some, same_Some, slice_get-map}
 use Rattle.machine_data.specs.Opcodes.{same_word}
 use Rattle.loop_reader.specs.declared.fault.LoopFaultKind.TheVariants.{Limit, RepeatedName, UnknownName, MissingInit}
-use Rattle.iterations.specs.declared.language.lists.Initial.{Initial}
+use Rattle.loop_data.specs.declared.language.lists.Initial.{Initial}
 use Rattle.loop_lines.specs.Forms.{Form, InitLine, OutLine, StatementForm}
-use Rattle.iterations.specs.Loops.{LoopData, GivesValue, HasInitial, IsBefore, IsLong}
+use Rattle.loop_data.specs.Loops.{LoopData, GivesValue, HasInitial, IsBefore, IsLong}
 use Rattle.loop_reader.specs.Meaning.{AValue, declared, is_value, is_init, init_value, init_numbers, value_in, has_init, same_number, is_out_of, when, is_long, is_outside, array_in, param_in, statement_in, out_in, statement_of, inits_at, inits_from, number_at}
 use Rattle.loop_reader.proofs.lookups.Declared.{same_word-here}
 use Rattle.loop_reader.proofs.making.Numbered.{EachFrom, Ascends, ascends-lower, ascends-append, ascends-pairs, Has, has-left, has-right, IsRun, run-has, run-ascends, run-bounds, all-join, all-filtered}

@@ -5,16 +5,16 @@ use Rattle.std.proofs.lemmas.Bool.{false≢true, true≢false, and_parts, or_par
 use Rattle.std.proofs.lemmas.List.{append-nil, length-map}
 use Rattle.std.proofs.lemmas.List.Elements.{All-from_recursion}
 use Rattle.std.proofs.lemmas.Option.{none-some, same_Some}
-use Rattle.iterations.specs.declared.language.lists.Array.{Array}
-use Rattle.iterations.specs.declared.language.lists.Param.{Param}
-use Rattle.iterations.specs.declared.language.lists.Initial.{Initial}
-use Rattle.iterations.specs.declared.language.statement.Operand.TheVariants.{Value}
-use Rattle.iterations.specs.declared.language.statement.Place.{Place}
-use Rattle.iterations.specs.declared.language.statement.Statement.{Statement}
+use Rattle.loop_data.specs.declared.language.lists.Array.{Array}
+use Rattle.loop_data.specs.declared.language.lists.Param.{Param}
+use Rattle.loop_data.specs.declared.language.lists.Initial.{Initial}
+use Rattle.loop_data.specs.declared.language.statement.Operand.TheVariants.{Value}
+use Rattle.loop_data.specs.declared.language.statement.Place.{Place}
+use Rattle.loop_data.specs.declared.language.statement.Statement.{Statement}
 use Rattle.loop_reader.specs.inner.Blocks.{one_if}
 use Rattle.loop_reader.specs.inner.Checks.{IsBlock, IsCounted}
 use Rattle.loop_lines.specs.Forms.{Form, StatementForm, Subscript, Use, Number, Plain, At}
-use Rattle.iterations.specs.Loops.{IsLoop, IsName, IsStatement, IsPlace, MayRead, GivesValue, IsLong, declared_names}
+use Rattle.loop_data.specs.Loops.{IsLoop, IsName, IsStatement, IsPlace, MayRead, GivesValue, IsLong, declared_names}
 use Rattle.loop_reader.specs.Meaning.{Declared, AnArray, AParam, AValue, declared, how_many, number_at, is_array, is_param, is_statement, is_value, is_array_name, is_readable, is_value_from, same_number, has_init, has_inits, has_statement, is_long, faults_of, reads, array_in, param_in, statement_in, statement_of, operand_of, place_at, inits_from, loop_of}
 use Rattle.loop_reader.proofs.faults.Checking.{declared-below, counted-as}
 use Rattle.loop_reader.proofs.lookups.Declared.{how_many-cons}

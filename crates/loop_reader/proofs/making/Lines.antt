@@ -9,11 +9,11 @@ use Rattle.std.proofs.lemmas.Option.{none-some, same_Some}
 use Rattle.machine_data.specs.Opcodes.{same_word}
 use Rattle.loop_reader.specs.declared.fault.LoopFaultKind.{LoopFaultKind}
 use Rattle.loop_reader.specs.declared.fault.LoopFaultKind.TheVariants.{Limit, RepeatedName, UnknownName, UseBeforeDefinition, MissingInit}
-use Rattle.iterations.specs.declared.language.lists.Array.{Array}
-use Rattle.iterations.specs.declared.language.lists.Param.{Param}
+use Rattle.loop_data.specs.declared.language.lists.Array.{Array}
+use Rattle.loop_data.specs.declared.language.lists.Param.{Param}
 use Rattle.loop_reader.specs.inner.Blocks.{one_if}
 use Rattle.loop_lines.specs.Forms.{Form, LoopLine, ArrayLine, ParamLine, InitLine, StatementLine, OutLine, EndLine, Malformed, StatementForm, Subscript, Use}
-use Rattle.iterations.specs.Loops.{IsName, IsLong, HasShape}
+use Rattle.loop_data.specs.Loops.{IsName, IsLong, HasShape}
 use Rattle.loop_reader.specs.Meaning.{Declared, AnArray, AParam, AValue, declared, first_declared, how_many, is_array, is_param, is_statement, is_value, is_array_name, any_name, faults_of, when, Kinds, is_long, is_wide, is_wide_place, is_unknown, is_unknown_place, is_early, is_uncovered, array_in, param_in, statement_in, statement_of, number_at}
 use Rattle.loop_reader.proofs.lookups.Declared.{declared-append, declared_after, same_word-here, same_word-yes, how_many-push, how_many-cons}
 use Rattle.loop_reader.proofs.making.Numbered.{EachFrom}

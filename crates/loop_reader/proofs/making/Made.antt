@@ -3,12 +3,12 @@ use Rattle.std.proofs.Common.{◌≡◌, ℕ, ℤ, List, map, Option, refl, ap, 
 use Rattle.std.specs.List.{filter_map}
 use Rattle.loop_lines.specs.Forms.{Form}
 use Rattle.loop_reader.specs.inner.Building.{rows_of}
-use Rattle.iterations.specs.Loops.{LoopData}
+use Rattle.loop_data.specs.Loops.{LoopData}
 use Rattle.loop_reader.specs.Meaning.{array_in, param_in, statement_in, out_in, statement_of, inits_from, loop_of}
-use Rattle.iterations.specs.declared.language.lists.Array.{Array}
-use Rattle.iterations.specs.declared.language.lists.Initial.{Initial}
-use Rattle.iterations.specs.declared.language.lists.Param.{Param}
-use Rattle.iterations.specs.declared.language.statement.Statement.{Statement}
+use Rattle.loop_data.specs.declared.language.lists.Array.{Array}
+use Rattle.loop_data.specs.declared.language.lists.Initial.{Initial}
+use Rattle.loop_data.specs.declared.language.lists.Param.{Param}
+use Rattle.loop_data.specs.declared.language.statement.Statement.{Statement}
 
 abbrev pub loop_with : List ℕ → List Array → List Param → List Statement → List Initial → List ℕ → LoopData
 loop_with name arrays params statements inits outs = record { name = name; arrays = arrays; params = params; statements = statements; inits = inits; outs = outs }

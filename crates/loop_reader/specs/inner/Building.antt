@@ -1,10 +1,10 @@
 -- The loop of a block as the reader makes it.
 use Rattle.std.specs.Prelude.{ℕ, zero, suc, ℤ, ◌+◌, ◌<◌, ◌≤◌, List, [], ◌∷◌, ◌++◌, Option, Some, None, option_to_list, option_map}
 use Rattle.loop_lines.specs.Forms.{Form, ArrayLine, ParamLine, StatementLine, StatementForm}
-use Rattle.iterations.specs.Loops.{IsName}
+use Rattle.loop_data.specs.Loops.{IsName}
 use Rattle.loop_reader.specs.Meaning.{Declared, AnArray, AParam, AValue, how_many, is_array, is_param, is_statement}
 use Rattle.loop_reader.specs.inner.Checks.{slot}
-use Rattle.iterations.specs.declared.language.lists.Initial.{Initial}
+use Rattle.loop_data.specs.declared.language.lists.Initial.{Initial}
 
 -- so few lines of each form that their numbers fit a byte
 pub record IsFew (block : List Form) : Type 0 where

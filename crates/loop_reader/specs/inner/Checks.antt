@@ -3,7 +3,7 @@
 use Rattle.std.specs.Prelude.{◌≡◌, ℕ, zero, suc, ℤ, ◌+◌, ◌*◌, ◌<◌, ◌≤◌, ◌==◌, ◌||◌, ◌&&◌, nat_lt, nat_le, not, Bool, true, false, if◌then◌else◌, List, [], ◌∷◌, ◌++◌, length, Option, Some, None, is_some, is_none, slice_index_or, slice_set}
 use Rattle.std.specs.List.{list_any, AllByRecursion}
 use Rattle.loop_lines.specs.Forms.{Form, LoopLine, ArrayLine, ParamLine, InitLine, StatementLine, OutLine, EndLine, Malformed, Use, At}
-use Rattle.iterations.specs.Names.{is_name}
+use Rattle.loop_data.specs.Names.{is_name}
 use Rattle.loop_reader.specs.Meaning.{Declared, AnArray, AParam, AValue, declared, is_value, is_array, is_param, is_statement, how_many, is_long, is_outside, is_wide, is_wide_place, is_unknown, is_unknown_place, is_early, any_name, is_init, init_value, is_out_of, when, whole, forms_of, Kinds}
 use Rattle.loop_lines.specs.Parsed.{use_seen}
 use Rattle.loop_reader.specs.declared.fault.LoopFaultKind.{LoopFaultKind}

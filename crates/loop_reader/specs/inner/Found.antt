@@ -14,10 +14,10 @@ use Rattle.loop_lines.specs.declared.form.Uses.{Uses}
 use Rattle.loop_reader.specs.declared.names.found.Targets.{Targets}
 use Rattle.loop_reader.specs.declared.names.found.Target.{Target}
 use Rattle.loop_reader.specs.declared.names.found.Target.TheVariants as targets
-use Rattle.iterations.specs.declared.language.statement.Operand.{Operand}
-use Rattle.iterations.specs.declared.language.statement.Operand.TheVariants.{Constant, Parameter, Value}
-use Rattle.iterations.specs.declared.language.statement.Place.{Place}
-use Rattle.iterations.specs.declared.language.statement.Statement.{Statement}
+use Rattle.loop_data.specs.declared.language.statement.Operand.{Operand}
+use Rattle.loop_data.specs.declared.language.statement.Operand.TheVariants.{Constant, Parameter, Value}
+use Rattle.loop_data.specs.declared.language.statement.Place.{Place}
+use Rattle.loop_data.specs.declared.language.statement.Statement.{Statement}
 
 -- the fault of a line, of which else something is found
 abbrev pub fault_in : {F K : Type 0} → Result F K → Option K

@@ -2,7 +2,7 @@
 use Rattle.std.specs.Prelude.{◌≡◌, ℕ, ◌+◌, ◌<◌, ◌≤◌, List, [], ◌∷◌, ◌++◌, length, Some, is_some, Result, Ok, Err}
 use Rattle.std.specs.List.{list_any}
 use Rattle.machine_data.specs.Opcodes.{same_word}
-use Rattle.iterations.specs.Loops.{IsLoop}
+use Rattle.loop_data.specs.Loops.{IsLoop}
 use Rattle.loop_reader.specs.Meaning.{whole, forms_of, inside_faults, outside_faults, blocks_from, blocks_of, opening_faults, loop_of}
 use Rattle.loop_reader.specs.inner.Checks.{first_in}
 use Rattle.loop_reader.specs.inner.Known.{known_as}

@@ -4,7 +4,7 @@ use Rattle.std.proofs.lemmas.Bool.{or_from}
 use Rattle.loop_reader.specs.declared.fault.LoopFault.{LoopFault}
 use Rattle.loop_reader.specs.declared.fault.LoopFaultKind.TheVariants.{Limit}
 use Rattle.loop_lines.specs.Forms.{Form}
-use Rattle.iterations.specs.Loops.{LoopData, IsLoop}
+use Rattle.loop_data.specs.Loops.{LoopData, IsLoop}
 use Rattle.loop_reader.specs.Meaning.{at_line, inside_faults, is_long, opening_faults, outside_faults, when}
 use Rattle.loops.proofs.faultless.HeadLines.{arrays-fine, params-fine, no-fault, no-faults}
 use Rattle.loops.proofs.faultless.InitLines.{head_forms, inits-fine}

@@ -6,10 +6,10 @@ use Rattle.std.proofs.lemmas.List.{length-map}
 use Rattle.std.proofs.lemmas.List.Elements.{recursion_from_All}
 use Rattle.loop_reader.specs.declared.fault.LoopFaultKind.{LoopFaultKind}
 use Rattle.loop_reader.specs.declared.fault.LoopFaultKind.TheVariants.{Limit, RepeatedName}
-use Rattle.iterations.specs.declared.language.lists.Array.{Array}
-use Rattle.iterations.specs.declared.language.lists.Param.{Param}
+use Rattle.loop_data.specs.declared.language.lists.Array.{Array}
+use Rattle.loop_data.specs.declared.language.lists.Param.{Param}
 use Rattle.loop_lines.specs.Forms.{Form}
-use Rattle.iterations.specs.Loops.{LoopData, IsLoop, IsName}
+use Rattle.loop_data.specs.Loops.{LoopData, IsLoop, IsName}
 use Rattle.loop_reader.specs.Meaning.{Kinds, declared, is_array, is_long, is_param, is_statement, how_many, when}
 use Rattle.loops.proofs.faultless.Insides.{IsFine, AreFine, fine-mapped}
 use Rattle.loops.proofs.faultless.Lookups.{array-cut, declared-new, how_many-all, how_many-append, how_many-none, param-cut}

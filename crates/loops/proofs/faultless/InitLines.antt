@@ -5,9 +5,9 @@ use Rattle.std.proofs.lemmas.Bool.{and_left, and_right, false_from_ne_true, ne_e
 use Rattle.std.proofs.lemmas.List.Elements.{recursion_from_All}
 use Rattle.machine_data.specs.Opcodes.{same_word}
 use Rattle.loop_reader.specs.declared.fault.LoopFaultKind.TheVariants.{Limit, RepeatedName, UnknownName}
-use Rattle.iterations.specs.declared.language.lists.Initial.{Initial}
+use Rattle.loop_data.specs.declared.language.lists.Initial.{Initial}
 use Rattle.loop_lines.specs.Forms.{Form}
-use Rattle.iterations.specs.Loops.{LoopData, IsLoop, GivesValue, IsBefore}
+use Rattle.loop_data.specs.Loops.{LoopData, IsLoop, GivesValue, IsBefore}
 use Rattle.loop_reader.specs.Meaning.{declared, is_init, is_long, is_statement, is_value, number_at, when}
 use Rattle.loops.specs.Text.{value_name}
 use Rattle.loop_reader.proofs.lookups.Declared.{same_word-yes}

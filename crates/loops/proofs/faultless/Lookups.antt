@@ -9,12 +9,12 @@ use Rattle.std.proofs.lemmas.List.Folds.{list_any-append}
 use Rattle.std.proofs.lemmas.List.Sums.{sum_by-append}
 use Rattle.std.proofs.lemmas.Option.{none-some, same_Some, slice_get_within, get_or_from_slice_get}
 use Rattle.machine_data.specs.Opcodes.{same_word}
-use Rattle.iterations.specs.declared.language.lists.Array.{Array}
-use Rattle.iterations.specs.declared.language.lists.Param.{Param}
-use Rattle.iterations.specs.declared.language.lists.Initial.{Initial}
-use Rattle.iterations.specs.declared.language.statement.Statement.{Statement}
+use Rattle.loop_data.specs.declared.language.lists.Array.{Array}
+use Rattle.loop_data.specs.declared.language.lists.Param.{Param}
+use Rattle.loop_data.specs.declared.language.lists.Initial.{Initial}
+use Rattle.loop_data.specs.declared.language.statement.Statement.{Statement}
 use Rattle.loop_lines.specs.Forms.{Form, ArrayLine, ParamLine, StatementLine}
-use Rattle.iterations.specs.Loops.{LoopData, IsLoop, GivesValue, HasInitial, declared_names, value_names}
+use Rattle.loop_data.specs.Loops.{LoopData, IsLoop, GivesValue, HasInitial, declared_names, value_names}
 use Rattle.loop_reader.specs.Meaning.{Declared, AnArray, AParam, AValue, declared_by, first_declared, declared, how_many, is_array, is_param, is_statement, is_init, has_init, any_name}
 use Rattle.loops.specs.Text.{array_name, param_name, value_name}
 use Rattle.loop_reader.proofs.faults.Checking.{not-from}

@@ -3,9 +3,9 @@ use Rattle.std.proofs.Common.{◌≡◌, ◌≢◌, ℕ, ◌≤◌, not, true, f
 use Rattle.std.specs.List.{AllByRecursion, list_any}
 use Rattle.std.proofs.lemmas.List.Elements.{recursion_from_All}
 use Rattle.loop_reader.specs.declared.fault.LoopFaultKind.TheVariants.{Limit, RepeatedName, UnknownName, MissingInit}
-use Rattle.iterations.specs.declared.language.statement.Statement.{Statement}
+use Rattle.loop_data.specs.declared.language.statement.Statement.{Statement}
 use Rattle.loop_lines.specs.Forms.{Form}
-use Rattle.iterations.specs.Loops.{LoopData, IsLoop, GivesValue, HasInitial}
+use Rattle.loop_data.specs.Loops.{LoopData, IsLoop, GivesValue, HasInitial}
 use Rattle.loop_reader.specs.Meaning.{declared, has_init, has_statement, is_long, is_out_of, is_statement, is_value, when}
 use Rattle.loops.specs.Text.{value_name}
 use Rattle.loops.proofs.faultless.HeadLines.{no-fault, no-faults}

@@ -3,15 +3,15 @@ use Rattle.std.proofs.Common.{◌≡◌, ℕ, ◌<◌, false, List, ◌++◌, le
 use Rattle.std.specs.List.{AllByRecursion, slice_get}
 use Rattle.std.proofs.lemmas.Bool.{le-ltb}
 use Rattle.std.proofs.lemmas.List.Elements.{recursion_from_All}
-use Rattle.iterations.specs.declared.language.lists.Array.{Array}
-use Rattle.iterations.specs.declared.language.lists.Param.{Param}
-use Rattle.iterations.specs.declared.language.statement.Statement.{Statement}
-use Rattle.iterations.specs.Loops.{LoopData, IsLoop, IsName, GivesValue, declared_names, value_names}
+use Rattle.loop_data.specs.declared.language.lists.Array.{Array}
+use Rattle.loop_data.specs.declared.language.lists.Param.{Param}
+use Rattle.loop_data.specs.declared.language.statement.Statement.{Statement}
+use Rattle.loop_data.specs.Loops.{LoopData, IsLoop, IsName, GivesValue, declared_names, value_names}
 use Rattle.loop_reader.specs.Meaning.{is_long}
 use Rattle.loops.specs.Text.{array_name, param_name, value_name}
 use Rattle.loops.proofs.faultless.Lookups.{array_named, param_named, gives-named}
 use Rattle.loops.proofs.Parts.{all-at, all-left, all-right, all-unmapped, all-unfiltered}
-use Rattle.iterations.proofs.Holding.{element_at}
+use Rattle.loop_data.proofs.Holding.{element_at}
 
 pub not-long : (name : List ℕ) → IsName name → is_long name ≡ false
 not-long name h = le-ltb 16 (length name) h.short

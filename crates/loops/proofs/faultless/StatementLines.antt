@@ -4,15 +4,15 @@ use Rattle.std.specs.List.{list_any, slice_get}
 use Rattle.std.proofs.lemmas.Bool.{and_from, and_left, lt-leb, ne_eqb, or_from}
 use Rattle.std.proofs.lemmas.List.Elements.{recursion_from_All}
 use Rattle.loop_reader.specs.declared.fault.LoopFaultKind.TheVariants.{Limit, RepeatedName, UnknownName, UseBeforeDefinition, MissingInit}
-use Rattle.iterations.specs.declared.language.lists.Array.{Array}
-use Rattle.iterations.specs.declared.language.lists.Initial.{Initial}
-use Rattle.iterations.specs.declared.language.lists.Param.{Param}
-use Rattle.iterations.specs.declared.language.statement.Operand.{Operand}
-use Rattle.iterations.specs.declared.language.statement.Operand.TheVariants.{Constant, Parameter, Value}
-use Rattle.iterations.specs.declared.language.statement.Place.{Place}
-use Rattle.iterations.specs.declared.language.statement.Statement.{Statement}
+use Rattle.loop_data.specs.declared.language.lists.Array.{Array}
+use Rattle.loop_data.specs.declared.language.lists.Initial.{Initial}
+use Rattle.loop_data.specs.declared.language.lists.Param.{Param}
+use Rattle.loop_data.specs.declared.language.statement.Operand.{Operand}
+use Rattle.loop_data.specs.declared.language.statement.Operand.TheVariants.{Constant, Parameter, Value}
+use Rattle.loop_data.specs.declared.language.statement.Place.{Place}
+use Rattle.loop_data.specs.declared.language.statement.Statement.{Statement}
 use Rattle.loop_lines.specs.Forms.{Form, Subscript, Use}
-use Rattle.iterations.specs.Loops.{LoopData, IsLoop, IsPlace, IsStatement, MayRead, HasInitial}
+use Rattle.loop_data.specs.Loops.{LoopData, IsLoop, IsPlace, IsStatement, MayRead, HasInitial}
 use Rattle.loop_reader.specs.Meaning.{any_name, declared, has_init, has_inits, is_array_name, is_early, is_long, is_out, is_readable, is_statement, is_uncovered, is_unknown, is_unknown_place, is_value_from, is_wide, is_wide_place, how_many, same_number, when}
 use Rattle.loops.specs.Text.{array_name, param_name, value_name}
 use Rattle.loops.proofs.faultless.HeadLines.{no-fault, no-faults, not-declared}

@@ -5,10 +5,10 @@ use Rattle.std.specs.Option.{option_or, option_map}
 use Rattle.std.proofs.lemmas.Bool.{and_from, eq-eqb, cond-true, cases_order}
 use Rattle.std.proofs.lemmas.Option.{none-some, same_Some, cond_some, slice_get-map, slice_get_within, get_or_from_slice_get}
 use Rattle.machine_data.specs.Opcodes.{same_word}
-use Rattle.iterations.specs.declared.language.lists.Initial.{Initial}
-use Rattle.iterations.specs.declared.language.statement.Statement.{Statement}
+use Rattle.loop_data.specs.declared.language.lists.Initial.{Initial}
+use Rattle.loop_data.specs.declared.language.statement.Statement.{Statement}
 use Rattle.loop_lines.specs.Forms.{Form, StatementForm}
-use Rattle.iterations.specs.Loops.{LoopData, IsLoop, GivesValue, IsBefore}
+use Rattle.loop_data.specs.Loops.{LoopData, IsLoop, GivesValue, IsBefore}
 use Rattle.loop_reader.specs.Meaning.{AValue, declared, number_at, value_in, init_value, init_numbers, inits_at, inits_from}
 use Rattle.loops.specs.Text.{value_name}
 use Rattle.loop_reader.proofs.lookups.Declared.{option_or-none, option_or-assoc, same_word-here}

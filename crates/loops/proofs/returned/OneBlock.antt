@@ -4,9 +4,9 @@ use Rattle.std.specs.List.{AllByRecursion, list_any}
 use Rattle.std.proofs.lemmas.Bool.{or_from, or_left, or_right, cond-true}
 use Rattle.std.proofs.lemmas.List.{append-nil}
 use Rattle.std.proofs.lemmas.List.Folds.{list_any-append}
-use Rattle.iterations.specs.declared.language.statement.Statement.{Statement}
+use Rattle.loop_data.specs.declared.language.statement.Statement.{Statement}
 use Rattle.loop_lines.specs.Forms.{Form, LoopLine, ArrayLine, ParamLine, InitLine, StatementLine, OutLine, EndLine, Malformed}
-use Rattle.iterations.specs.Loops.{LoopData, IsLoop}
+use Rattle.loop_data.specs.Loops.{LoopData, IsLoop}
 use Rattle.loop_reader.specs.Meaning.{is_statement, is_out, has_statement, has_out, stands, with_line, blocks_of, blocks_from}
 use Rattle.loop_reader.proofs.faults.Checking.{IsStanding}
 use Rattle.loops.proofs.returned.Written.{array_form, param_form, init_form, statement_form, out_form, body_forms, written_forms, ended}

@@ -4,15 +4,15 @@ use Rattle.std.specs.List.{AllByRecursion, filter_map, cons_option, slice_get}
 use Rattle.std.specs.Option.{option_map}
 use Rattle.std.proofs.lemmas.List.{append-nil}
 use Rattle.std.proofs.lemmas.List.Elements.{All-weaker, recursion_from_All, filter_map-append}
-use Rattle.iterations.specs.declared.language.lists.Array.{Array}
-use Rattle.iterations.specs.declared.language.lists.Param.{Param}
-use Rattle.iterations.specs.declared.language.lists.Initial.{Initial}
-use Rattle.iterations.specs.declared.language.statement.Operand.{Operand}
-use Rattle.iterations.specs.declared.language.statement.Operand.TheVariants.{Constant, Parameter, Value}
-use Rattle.iterations.specs.declared.language.statement.Place.{Place}
-use Rattle.iterations.specs.declared.language.statement.Statement.{Statement}
+use Rattle.loop_data.specs.declared.language.lists.Array.{Array}
+use Rattle.loop_data.specs.declared.language.lists.Param.{Param}
+use Rattle.loop_data.specs.declared.language.lists.Initial.{Initial}
+use Rattle.loop_data.specs.declared.language.statement.Operand.{Operand}
+use Rattle.loop_data.specs.declared.language.statement.Operand.TheVariants.{Constant, Parameter, Value}
+use Rattle.loop_data.specs.declared.language.statement.Place.{Place}
+use Rattle.loop_data.specs.declared.language.statement.Statement.{Statement}
 use Rattle.loop_lines.specs.Forms.{Form}
-use Rattle.iterations.specs.Loops.{LoopData, IsLoop, IsPlace, MayRead, GivesValue, HasInitial}
+use Rattle.loop_data.specs.Loops.{LoopData, IsLoop, IsPlace, MayRead, GivesValue, HasInitial}
 use Rattle.loop_reader.specs.Meaning.{number_at, reads, array_in, param_in, statement_in, out_in, place_at, operand_of, statement_of, inits_from, blocks_of, loop_of}
 use Rattle.loops.proofs.returned.InitsBack.{inits-back}
 use Rattle.loops.proofs.faultless.Lookups.{declared-array, declared-param, declared-value}

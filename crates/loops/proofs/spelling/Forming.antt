@@ -6,7 +6,7 @@ use Rattle.std.specs.Fmt.{decimal, signed_decimal}
 use Rattle.std.proofs.lemmas.Bool.{and_from, or_from, or_parts, or_left, or_right, cond-true, cond-false}
 use Rattle.std.proofs.lemmas.List.{take_at, drop_at, append_assoc, length_push}
 use Rattle.loop_lines.specs.Forms.{Plain, At, small_of, is_number, use_of, named_use_of, at_of, or_use, ArrayLine, ParamLine, LoopLine, OutLine, Malformed, int_of, ints_of, with_int, formed, form_of}
-use Rattle.iterations.specs.Names.{is_name}
+use Rattle.loop_data.specs.Names.{is_name}
 use Rattle.loops.proofs.spelling.Numerals.{int_of-signed_decimal, is_number-decimal, small_of-decimal}
 use Rattle.loops.proofs.spelling.Names.{name_bytes, no_name, int_of-name, not_at, other_byte, letter_in_name}
 

@@ -5,10 +5,10 @@ use Rattle.std.specs.Option.{option_map, option_and_then}
 use Rattle.std.proofs.lemmas.Bool.{false≢true}
 use Rattle.std.proofs.lemmas.List.Elements.{recursion_from_All}
 use Rattle.std.proofs.lemmas.Option.{none-some, same_Some}
-use Rattle.iterations.specs.declared.language.lists.Array.{Array}
-use Rattle.iterations.specs.declared.language.lists.Param.{Param}
-use Rattle.iterations.specs.declared.language.statement.Statement.{Statement}
-use Rattle.iterations.specs.Loops.{LoopData, IsLoop, IsName, GivesValue, declared_names, value_names}
+use Rattle.loop_data.specs.declared.language.lists.Array.{Array}
+use Rattle.loop_data.specs.declared.language.lists.Param.{Param}
+use Rattle.loop_data.specs.declared.language.statement.Statement.{Statement}
+use Rattle.loop_data.specs.Loops.{LoopData, IsLoop, IsName, GivesValue, declared_names, value_names}
 use Rattle.loops.specs.Text.{array_name, param_name, value_name}
 use Rattle.loops.proofs.Parts.{all-unmapped}
 

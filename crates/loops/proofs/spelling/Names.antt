@@ -7,7 +7,7 @@ use Rattle.std.specs.Str.Parse.{digits_value}
 use Rattle.std.proofs.lemmas.Bool.{and_parts, and_from, and_left, and_right, or_from, or_left, ne_eqb, cond-true, cond-false, true≢false}
 use Rattle.std.proofs.lemmas.Bool.Decides.{nat_tests}
 use Rattle.loop_lines.specs.Forms.{Plain, is_number, int_of, signed_of, use_of, named_use_of, or_use}
-use Rattle.iterations.specs.Names.{is_letter, is_name_byte, starts_name, is_reserved, is_name}
+use Rattle.loop_data.specs.Names.{is_letter, is_name_byte, starts_name, is_reserved, is_name}
 use Rattle.loop_lines.specs.Words.{is_blank}
 use Rattle.loops.proofs.spelling.Splitting.{is_plain_byte, is_plain}
 

@@ -6,7 +6,7 @@ use Rattle.std.proofs.lemmas.Bool.{and_from, or_from, cond-true, lt-ltb, eq-eqb}
 use Rattle.std.proofs.lemmas.Int.{ints}
 use Rattle.std.proofs.lemmas.List.{take_at, get_or_at, length_push}
 use Rattle.loop_lines.specs.Forms.{Subscript, subscript_of, place_of}
-use Rattle.iterations.specs.Names.{is_name}
+use Rattle.loop_data.specs.Names.{is_name}
 use Rattle.loops.specs.Text.{offset_text}
 use Rattle.loops.proofs.spelling.Numerals.{offset_of-decimal}
 use Rattle.loops.proofs.spelling.Names.{name_bytes, not_byte, other_byte, letter_in_name}

@@ -11,7 +11,7 @@ use Rattle.machine_data.specs.declared.opcode.Opcode.{Opcode}
 use Rattle.machine_data.specs.declared.opcode.Opcode.TheVariants.{Load, Store, Add, Sub, Mul, And, Or, Xor, Min, Max, Lt, Sel, Mov}
 use Rattle.machine_data.specs.Opcodes.{word_of}
 use Rattle.loop_lines.specs.Forms.{is_number}
-use Rattle.iterations.specs.Loops.{IsLong}
+use Rattle.loop_data.specs.Loops.{IsLong}
 use Rattle.loops.specs.Text.{at_distance, offset_text}
 use Rattle.loops.proofs.spelling.Numerals.{is_number-decimal}
 use Rattle.loops.proofs.spelling.Splitting.{is_plain_byte, is_plain, list_all-append}

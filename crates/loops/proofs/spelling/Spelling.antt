@@ -9,17 +9,17 @@ use Rattle.std.proofs.lemmas.List.{length-map}
 use Rattle.std.proofs.lemmas.List.Elements.{recursion_from_All}
 use Rattle.machine_data.specs.declared.opcode.Opcode.{Opcode}
 use Rattle.machine_data.specs.declared.opcode.Opcode.TheVariants.{Load, Store, Add, Sub, Mul, And, Or, Xor, Min, Max, Lt, Sel, Mov}
-use Rattle.iterations.specs.declared.language.lists.Array.{Array}
-use Rattle.iterations.specs.declared.language.lists.Param.{Param}
-use Rattle.iterations.specs.declared.language.lists.Initial.{Initial}
-use Rattle.iterations.specs.declared.language.statement.Operand.{Operand}
-use Rattle.iterations.specs.declared.language.statement.Operand.TheVariants.{Constant, Parameter, Value}
-use Rattle.iterations.specs.declared.language.statement.Place.{Place}
-use Rattle.iterations.specs.declared.language.statement.Statement.{Statement}
+use Rattle.loop_data.specs.declared.language.lists.Array.{Array}
+use Rattle.loop_data.specs.declared.language.lists.Param.{Param}
+use Rattle.loop_data.specs.declared.language.lists.Initial.{Initial}
+use Rattle.loop_data.specs.declared.language.statement.Operand.{Operand}
+use Rattle.loop_data.specs.declared.language.statement.Operand.TheVariants.{Constant, Parameter, Value}
+use Rattle.loop_data.specs.declared.language.statement.Place.{Place}
+use Rattle.loop_data.specs.declared.language.statement.Statement.{Statement}
 use Rattle.loop_lines.specs.Forms.{Form, LoopLine, InitLine, StatementLine, EndLine, Number, line_form, form_of, use_of, named_use_of, or_use, place_of}
-use Rattle.iterations.specs.Names.{is_name}
-use Rattle.iterations.specs.Arithmetic.{operands_of}
-use Rattle.iterations.specs.Loops.{LoopData, IsLoop, IsName, IsLong, IsPlace, MayRead, HasShape, GivesValue, HasInitial}
+use Rattle.loop_data.specs.Names.{is_name}
+use Rattle.loop_data.specs.Arithmetic.{operands_of}
+use Rattle.loop_data.specs.Loops.{LoopData, IsLoop, IsName, IsLong, IsPlace, MayRead, HasShape, GivesValue, HasInitial}
 use Rattle.loop_reader.specs.Meaning.{forms_of}
 use Rattle.loops.specs.Text.{array_name, param_name, value_name, at_distance, operand_word, place_word, place_words, offset_text, array_words, param_words, init_words, words_by, statement_words, out_words, words_of_loop, text_of}
 use Rattle.loop_lines.specs.Words.{lines_of, words_of}

@@ -8,8 +8,8 @@ use Rattle.machine_data.specs.declared.opcode.Opcode.{Opcode}
 use Rattle.machine_data.specs.declared.opcode.Opcode.TheVariants.{Load, Store, Add, Sub, Mul, And, Or, Xor, Min, Max, Lt, Sel, Mov}
 use Rattle.machine_data.specs.Opcodes.{word_of, opcode_named, same_word}
 use Rattle.loop_lines.specs.Forms.{Form, Use, Subscript, InitLine, StatementLine, Malformed, small_of, is_number, int_of, init_of, init_line, with_use, uses_of, use_of, place_of, formed, loop_line, array_line, param_line, store_line, store_of, out_line, end_line, compute_line, value_of, value_line, form_of}
-use Rattle.iterations.specs.Names.{is_name, is_reserved, starts_name, keywords}
-use Rattle.iterations.specs.Arithmetic.{operands_of}
+use Rattle.loop_data.specs.Names.{is_name, is_reserved, starts_name, keywords}
+use Rattle.loop_data.specs.Arithmetic.{operands_of}
 use Rattle.loop_reader.proofs.lookups.Declared.{same_word-sym}
 use Rattle.loops.proofs.spelling.Numerals.{int_of-signed_decimal, is_number-decimal, small_of-decimal}
 use Rattle.loops.proofs.spelling.Forming.{before_first-at, after_first-at, list_any-at, name_not_at}

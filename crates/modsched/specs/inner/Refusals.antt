@@ -1,8 +1,8 @@
 -- What is so of the status of each refusal.
 use Rattle.std.specs.Prelude.{◌≡◌}
-use Rattle.endings.specs.Statuses.{status_number}
-use Rattle.endings.specs.declared.status.Status.{Status}
-use Rattle.endings.specs.declared.status.Status.TheVariants.{Machine, Loops, NoTable, Problems, Solutions, OutOfMemory}
+use Rattle.exit_status.specs.Statuses.{status_number}
+use Rattle.exit_status.specs.declared.status.Status.{Status}
+use Rattle.exit_status.specs.declared.status.Status.TheVariants.{Machine, Loops, NoTable, Problems, Solutions, OutOfMemory}
 
 -- it tells of a text or of memory, and one status alone tells that memory ran out
 abbrev pub IsRefusal : Status → Type 0

@@ -7,7 +7,7 @@ ghost use Rattle.modsched.specs.Engine.{AnswersReport, ProblemsBring, problems_e
 ghost use Rattle.modsched.specs.inner.Refusals.{IsRefusal};
 
 use command_line::Report;
-use endings::Status;
+use exit_status::Status;
 use printouts::Printout;
 use problem_printouts::{
     Answers, ProblemsFault, check_printout, dot_printout, edges_printout, explain_printout,

@@ -3,8 +3,8 @@ use Rattle.std.proofs.Common.{◌≡◌, ◌⊎◌, ℕ, suc, zero, ◌<◌, ◌
 use Rattle.std.specs.Prelude.{slice_get}
 use Rattle.std.proofs.lemmas.Bool.{cases_Bool, true≢false, cond-true, cond-false}
 use Rattle.std.proofs.lemmas.Option.{same_Some}
-use Rattle.iterations.specs.declared.language.statement.Statement.{Statement}
-use Rattle.iterations.specs.Run.{MemoryData}
+use Rattle.loop_data.specs.declared.language.statement.Statement.{Statement}
+use Rattle.loop_data.specs.Run.{MemoryData}
 use Rattle.graph.specs.Dependences.{ComesFirst}
 use Rattle.kernel.specs.Overlapped.{InCell, Write, same_target}
 use Rattle.overlap.specs.Allotments.{AllotmentData}
@@ -12,9 +12,9 @@ use Rattle.ims.specs.Schedules.{ScheduleData}
 use Rattle.overlap.specs.Sequence.{state_before, write_of_instance}
 use Rattle.overlap.specs.Overlap.{IsLastStore}
 use Rattle.overlap.proofs.in_flight.Landing.{target-from_same, same-self}
-use Rattle.iterations.proofs.Instances.{arrays-next, slice_get-within}
-use Rattle.iterations.proofs.InstanceCells.{HaveBlocks, cell, blocks-next, there-is}
-use Rattle.iterations.proofs.LastStores.{before-cases, before-more, nothing-first, before-iteration, before-iteration_back}
+use Rattle.loop_data.proofs.Instances.{arrays-next, slice_get-within}
+use Rattle.loop_data.proofs.InstanceCells.{HaveBlocks, cell, blocks-next, there-is}
+use Rattle.loop_data.proofs.LastStores.{before-cases, before-more, nothing-first, before-iteration, before-iteration_back}
 use Rattle.overlap.proofs.in_cells.Cells.{put, cell-next}
 
 -- no store before writes the cell

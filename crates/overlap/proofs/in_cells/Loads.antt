@@ -7,11 +7,11 @@ use Rattle.std.proofs.lemmas.Int.{ints}
 use Rattle.std.proofs.lemmas.Option.{same_Some}
 use Rattle.machine_data.specs.declared.opcode.Opcode.{Opcode}
 use Rattle.machine_data.specs.declared.opcode.Opcode.TheVariants.{Load, Store}
-use Rattle.iterations.specs.declared.language.statement.Statement.{Statement}
-use Rattle.iterations.specs.declared.language.statement.Place.{Place}
-use Rattle.iterations.specs.Loops.{LoopData, IsPlace}
-use Rattle.iterations.specs.Run.{MemoryData, cell_index}
-use Rattle.iterations.proofs.InstanceCells.{cell-one}
+use Rattle.loop_data.specs.declared.language.statement.Statement.{Statement}
+use Rattle.loop_data.specs.declared.language.statement.Place.{Place}
+use Rattle.loop_data.specs.Loops.{LoopData, IsPlace}
+use Rattle.loop_data.specs.Run.{MemoryData, cell_index}
+use Rattle.loop_data.proofs.InstanceCells.{cell-one}
 use Rattle.graph.specs.Dependences.{Touches, HasOpcode, ComesFirst}
 use Rattle.graph.specs.Promises.{issue_of, InOrder}
 use Rattle.graph.proofs.finding.Promised.{stores-in_time, loads-in_time, stores-in_order}

@@ -2,7 +2,7 @@
 use Rattle.std.proofs.Common.{◌≡◌, ℕ, suc, ◌+◌, ◌*◌, ◌/◌, ◌%◌, ◌<◌, List, [], ◌∷◌, length, map, refl, sym, ap, ◌∙◌, arith}
 use Rattle.std.specs.Prelude.{slice_index}
 use Rattle.std.proofs.Math.Nat.{div-add-mod'}
-use Rattle.iterations.specs.declared.language.statement.Statement.{Statement}
+use Rattle.loop_data.specs.declared.language.statement.Statement.{Statement}
 use Rattle.kernel.specs.declared.kernels.operation.Operation.{Operation}
 use Rattle.overlap.specs.Allotments.{AllotmentData}
 use Rattle.ims.specs.Schedules.{ScheduleData}

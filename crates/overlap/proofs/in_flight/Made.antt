@@ -6,11 +6,11 @@ use Rattle.std.proofs.lemmas.Bool.{true≢false}
 use Rattle.std.proofs.lemmas.Int.{ints}
 use Rattle.machine_data.specs.declared.opcode.Opcode.{Opcode}
 use Rattle.machine_data.specs.declared.opcode.Opcode.TheVariants.{Load, Store}
-use Rattle.iterations.specs.Arithmetic.{apply_to}
-use Rattle.iterations.specs.declared.language.statement.Statement.{Statement}
-use Rattle.iterations.specs.declared.language.statement.Place.{Place}
-use Rattle.iterations.specs.Loops.{HasShape}
-use Rattle.iterations.specs.Run.{MemoryData, RunState, cell_index, cell_of, loaded, value_given, writes, first_of}
+use Rattle.loop_data.specs.Arithmetic.{apply_to}
+use Rattle.loop_data.specs.declared.language.statement.Statement.{Statement}
+use Rattle.loop_data.specs.declared.language.statement.Place.{Place}
+use Rattle.loop_data.specs.Loops.{HasShape}
+use Rattle.loop_data.specs.Run.{MemoryData, RunState, cell_index, cell_of, loaded, value_given, writes, first_of}
 use Rattle.graph.specs.Promises.{issue_of}
 use Rattle.kernel.specs.declared.kernels.operation.Operation.{Operation}
 use Rattle.kernel.specs.declared.kernels.parts.Parts.{Parts}
@@ -22,7 +22,7 @@ use Rattle.overlap.specs.Sequence.{state_before, read_by, stored_by, made_by, wr
 use Rattle.overlap.specs.Overlap.{IsRun, WritesAreOfValues}
 use Rattle.instances.proofs.Issued.{cycle-from_row, turn-of_issue}
 use Rattle.instances.proofs.Turned.{name-in_turn}
-use Rattle.iterations.proofs.Instances.{length-before}
+use Rattle.loop_data.proofs.Instances.{length-before}
 use Rattle.overlap.proofs.in_flight.Issued.{is_on, on-parts}
 use Rattle.overlap.proofs.in_flight.Values.{sources-same, load-same}
 

@@ -6,12 +6,12 @@ use Rattle.std.proofs.lemmas.Bool.{cases_lt}
 use Rattle.std.proofs.lemmas.Int.{ints}
 use Rattle.std.proofs.lemmas.List.Elements.{All-contains}
 use Rattle.machine_data.specs.declared.opcode.Opcode.TheVariants.{Load}
-use Rattle.iterations.specs.declared.language.statement.Statement.{Statement}
-use Rattle.iterations.specs.declared.language.statement.Operand.{Operand}
-use Rattle.iterations.specs.declared.language.statement.Operand.TheVariants as operand
-use Rattle.iterations.specs.declared.language.statement.Place.{Place}
-use Rattle.iterations.specs.Loops.{LoopData, MayRead}
-use Rattle.iterations.specs.Run.{HasShapeOf, MemoryData, IsMemory, read_operand, cell_index, cell_of}
+use Rattle.loop_data.specs.declared.language.statement.Statement.{Statement}
+use Rattle.loop_data.specs.declared.language.statement.Operand.{Operand}
+use Rattle.loop_data.specs.declared.language.statement.Operand.TheVariants as operand
+use Rattle.loop_data.specs.declared.language.statement.Place.{Place}
+use Rattle.loop_data.specs.Loops.{LoopData, MayRead}
+use Rattle.loop_data.specs.Run.{HasShapeOf, MemoryData, IsMemory, read_operand, cell_index, cell_of}
 use Rattle.graph.specs.Dependences.{Uses}
 use Rattle.graph.specs.Promises.{issue_of}
 use Rattle.kernel.specs.declared.kernels.operation.Source.{Source}
@@ -24,8 +24,8 @@ use Rattle.overlap.specs.Overlap.{IsRun}
 use Rattle.overlap.proofs.in_flight.Landing.{contains-head, contains-tail}
 use Rattle.instances.proofs.Issued.{turn-of_issue}
 use Rattle.instances.proofs.Turned.{name-in_turn}
-use Rattle.iterations.proofs.Instances.{read-value, read-initial, slice_get-within}
-use Rattle.iterations.proofs.InstanceCells.{HaveBlocks}
+use Rattle.loop_data.proofs.Instances.{read-value, read-initial, slice_get-within}
+use Rattle.loop_data.proofs.InstanceCells.{HaveBlocks}
 use Rattle.overlap.proofs.in_cells.LastStores.{holds-last}
 use Rattle.overlap.proofs.in_flight.Writes.{makes-value}
 use Rattle.overlap.proofs.in_registers.Registers.{register-lands, register-opens}

@@ -5,17 +5,17 @@ use Rattle.std.proofs.lemmas.Bool.{cases_Bool, cond-true, cond-false, true≢fal
 use Rattle.std.proofs.lemmas.List.Elements.{All-contains, All-get_or}
 use Rattle.machine_data.specs.declared.opcode.Opcode.{Opcode}
 use Rattle.machine_data.specs.declared.opcode.Opcode.TheVariants.{Store}
-use Rattle.iterations.specs.declared.language.statement.Statement.{Statement}
-use Rattle.iterations.specs.declared.language.statement.Place.{Place}
-use Rattle.iterations.specs.Loops.{HasShape}
-use Rattle.iterations.specs.Run.{writes, first_of, cell_index}
+use Rattle.loop_data.specs.declared.language.statement.Statement.{Statement}
+use Rattle.loop_data.specs.declared.language.statement.Place.{Place}
+use Rattle.loop_data.specs.Loops.{HasShape}
+use Rattle.loop_data.specs.Run.{writes, first_of, cell_index}
 use Rattle.graph.specs.Schedules.{KeepsEdge}
 use Rattle.graph.specs.Promises.{KeepsDependences, issue_of}
 use Rattle.kernel.specs.Overlapped.{Target, InRegister, InCell, Write, physical}
 use Rattle.overlap.specs.Allotments.{AllotmentData, allotted_number}
 use Rattle.ims.specs.Schedules.{ScheduleData, IsSchedule}
 use Rattle.overlap.specs.Sequence.{read_by, given_by, stored_by, made_by, write_by_opcode, write_of_instance}
-use Rattle.iterations.proofs.Instances.{slice_get-within}
+use Rattle.loop_data.proofs.Instances.{slice_get-within}
 
 -- a schedule keeps the dependences of its loop
 pub keeps-dependences : (schedule : ScheduleData) → IsSchedule schedule → KeepsDependences schedule.problem.loop schedule.problem.graph.latencies schedule.ii schedule.times

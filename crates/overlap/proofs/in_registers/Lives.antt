@@ -4,10 +4,10 @@ use Rattle.std.specs.Prelude.{slice_get, slice_index, is_some, filter_map, zip}
 use Rattle.std.specs.List.{Contains, cons_option}
 use Rattle.std.proofs.lemmas.Bool.{cases_Bool, cases_eq, cases_lt, eq-eqb, ne_eqb, cond-true, cond-false, cond_both}
 use Rattle.std.proofs.lemmas.List.Elements.{Contains-append_left, Contains-append_right, Contains-append_cases}
-use Rattle.iterations.specs.declared.language.statement.Statement.{Statement}
-use Rattle.iterations.specs.declared.language.statement.Operand.{Operand}
-use Rattle.iterations.specs.declared.language.statement.Operand.TheVariants.{Constant, Parameter, Value}
-use Rattle.iterations.specs.Loops.{LoopData}
+use Rattle.loop_data.specs.declared.language.statement.Statement.{Statement}
+use Rattle.loop_data.specs.declared.language.statement.Operand.{Operand}
+use Rattle.loop_data.specs.declared.language.statement.Operand.TheVariants.{Constant, Parameter, Value}
+use Rattle.loop_data.specs.Loops.{LoopData}
 use Rattle.graph.specs.Dependences.{Uses}
 use Rattle.graph.specs.Promises.{KeepsDependences, ValuesInTime}
 use Rattle.graph.specs.Units.{greatest_of}
@@ -15,7 +15,7 @@ use Rattle.ims.specs.Schedules.{ScheduleData, IsSchedule}
 use Rattle.overlap.specs.Lifetimes.{Use, distance_to, uses_from, uses_of, carried, landing_of, read_at, last_read, last_landing, first_cycle, last_cycle, values_from, values_of, rank_of}
 use Rattle.overlap.proofs.in_flight.Landing.{contains-cases, contains-head, contains-tail}
 use Rattle.overlap.proofs.in_flight.Issued.{option-behind, option-cases}
-use Rattle.iterations.proofs.Instances.{slice_get-within, split-there}
+use Rattle.loop_data.proofs.Instances.{slice_get-within, split-there}
 
 -- the greatest of some numbers
 

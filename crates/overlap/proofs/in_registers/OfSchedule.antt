@@ -6,10 +6,10 @@ use Rattle.std.proofs.lemmas.List.{get_or-map, length-map}
 use Rattle.std.proofs.lemmas.List.Elements.{All-contains, All-filter, All-get_or, All-map, Contains-append_cases, Contains-get_or}
 use Rattle.std.proofs.lemmas.Option.{get_or_from_slice_get, same_Some, slice_get-get_or, slice_get-map, slice_get_within}
 use Rattle.std.proofs.Math.Nat.{div-lt_iff_lt-mul}
-use Rattle.iterations.specs.declared.language.statement.Operand.TheVariants as operand
-use Rattle.iterations.specs.declared.language.statement.Statement.{Statement}
-use Rattle.iterations.specs.Loops.{LoopData, MayRead}
-use Rattle.iterations.proofs.Instances.{slice_get-within}
+use Rattle.loop_data.specs.declared.language.statement.Operand.TheVariants as operand
+use Rattle.loop_data.specs.declared.language.statement.Statement.{Statement}
+use Rattle.loop_data.specs.Loops.{LoopData, MayRead}
+use Rattle.loop_data.proofs.Instances.{slice_get-within}
 use Rattle.graph.specs.Dependences.{Uses}
 use Rattle.graph.proofs.finding.Promised.{values-in_time}
 use Rattle.registers.specs.declared.value.Value.{Value}

@@ -5,8 +5,8 @@ use Rattle.std.specs.List.{Contains}
 use Rattle.std.proofs.lemmas.Bool.{cases_eq, eq-eqb, ne_eqb, cond-true, cond-false}
 use Rattle.std.proofs.lemmas.Int.{ints}
 use Rattle.std.proofs.lemmas.List.Elements.{Contains-append_left, Contains-append_right}
-use Rattle.iterations.specs.declared.language.statement.Statement.{Statement}
-use Rattle.iterations.specs.Run.{initial_of}
+use Rattle.loop_data.specs.declared.language.statement.Statement.{Statement}
+use Rattle.loop_data.specs.Run.{initial_of}
 use Rattle.kernel.specs.declared.kernels.parts.Preload.{Preload}
 use Rattle.kernel.specs.Overlapped.{physical, preloaded}
 use Rattle.overlap.specs.Allotments.{AllotmentData, allotted_number}

@@ -5,8 +5,8 @@ use Rattle.std.specs.List.{Contains}
 use Rattle.std.proofs.lemmas.Bool.{cases_lt}
 use Rattle.std.proofs.lemmas.Int.{ints}
 use Rattle.std.proofs.lemmas.Option.{same_Some}
-use Rattle.iterations.specs.declared.language.statement.Statement.{Statement}
-use Rattle.iterations.specs.Run.{MemoryData, initial_of}
+use Rattle.loop_data.specs.declared.language.statement.Statement.{Statement}
+use Rattle.loop_data.specs.Run.{MemoryData, initial_of}
 use Rattle.graph.specs.Dependences.{Uses}
 use Rattle.graph.specs.Promises.{issue_of}
 use Rattle.kernel.specs.Overlapped.{InRegister, Write, physical, last_landed, preloaded}

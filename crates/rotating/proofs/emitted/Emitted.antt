@@ -1,6 +1,6 @@
 -- The parts of a kernel, one by one.
 use Rattle.std.proofs.Common.{◌≡◌, ℕ, List}
-use Rattle.iterations.specs.declared.language.lists.Param.{Param}
+use Rattle.loop_data.specs.declared.language.lists.Param.{Param}
 use Rattle.kernel.specs.declared.kernels.operation.Operation.{Operation}
 use Rattle.kernel.specs.declared.kernels.parts.Parts.{Parts}
 use Rattle.kernel.specs.declared.kernels.parts.Preload.{Preload}

@@ -4,17 +4,17 @@ use Rattle.std.specs.Prelude.{slice_get, slice_index, is_some, replicate, if◌t
 use Rattle.std.proofs.lemmas.Bool.{cases_eq, cases_lt, cases_Bool, cond-true, cond-false}
 use Rattle.std.proofs.lemmas.List.{get_or-set_other, get_or-set_same}
 use Rattle.std.proofs.lemmas.List.Elements.{All-get_or, All-contains}
-use Rattle.iterations.specs.declared.language.statement.Statement.{Statement}
-use Rattle.iterations.specs.declared.language.statement.Operand.TheVariants.{Value}
-use Rattle.iterations.specs.Loops.{LoopData, IsLoop, MayRead}
-use Rattle.iterations.specs.Run.{initial_of}
+use Rattle.loop_data.specs.declared.language.statement.Statement.{Statement}
+use Rattle.loop_data.specs.declared.language.statement.Operand.TheVariants.{Value}
+use Rattle.loop_data.specs.Loops.{LoopData, IsLoop, MayRead}
+use Rattle.loop_data.specs.Run.{initial_of}
 use Rattle.graph.specs.Units.{greatest_of}
 use Rattle.ims.specs.Schedules.{ScheduleData}
 use Rattle.overlap.specs.Lifetimes.{Use, carried, is_out, uses_of, values_from, lifetime_of, lifetimes_of}
 use Rattle.overlap.specs.Allotments.{AllotmentData, IsAllotment}
 use Rattle.overlap.specs.Emission.{name_of, preloads_from}
 use Rattle.overlap.proofs.in_registers.Lives.{values-append, contains-map_back, greatest-reached, use-back}
-use Rattle.iterations.proofs.Instances.{take-one_more, slice_get-within}
+use Rattle.loop_data.proofs.Instances.{take-one_more, slice_get-within}
 use Rattle.rotating.proofs.lives.Greatest.{drop-at, value-yes, value-no}
 
 cond-most : (b : Bool) → (if b then 1 else 0) ≤ 1

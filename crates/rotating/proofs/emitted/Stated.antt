@@ -7,9 +7,9 @@ use Rattle.machine_data.specs.declared.alternative.Row.{Row}
 use Rattle.machine_data.specs.declared.opcode.Opcode.{Opcode}
 use Rattle.machine_data.specs.declared.opcode.Opcode.TheVariants.{Load, Store, Sel, Mov}
 use Rattle.machine_data.specs.Alternative.{AreAlternatives}
-use Rattle.iterations.specs.declared.language.statement.Statement.{Statement}
-use Rattle.iterations.specs.Arithmetic.{operands_of}
-use Rattle.iterations.specs.Loops.{LoopData, HasShape, IsLoop, MayRead}
+use Rattle.loop_data.specs.declared.language.statement.Statement.{Statement}
+use Rattle.loop_data.specs.Arithmetic.{operands_of}
+use Rattle.loop_data.specs.Loops.{LoopData, HasShape, IsLoop, MayRead}
 
 operands-few : (opcode : Opcode) → operands_of opcode ≤ 3
 operands-few Load = omega arith

@@ -5,8 +5,8 @@ use Rattle.std.specs.List.{All, Contains}
 use Rattle.std.proofs.lemmas.Bool.{cases_Bool, cond-true, cond-false}
 use Rattle.std.proofs.lemmas.List.Elements.{All-contains, All-nil, All-cons}
 use Rattle.std.proofs.Math.Nat.{mul-le-mul_left, div-add-mod', mod-lt}
-use Rattle.iterations.specs.declared.language.statement.Operand.TheVariants.{Value}
-use Rattle.iterations.specs.Loops.{MayRead}
+use Rattle.loop_data.specs.declared.language.statement.Operand.TheVariants.{Value}
+use Rattle.loop_data.specs.Loops.{MayRead}
 use Rattle.graph.specs.Dependences.{Uses}
 use Rattle.graph.specs.Units.{greatest_of}
 use Rattle.graph.proofs.finding.Promised.{values-in_time}

@@ -1,6 +1,6 @@
 -- How far and how late the operands of a statement read a value.
 use Rattle.std.specs.Prelude.{ℕ, ◌+◌, ◌*◌, List, map, filter_map}
-use Rattle.iterations.specs.declared.language.statement.Operand.{Operand}
+use Rattle.loop_data.specs.declared.language.statement.Operand.{Operand}
 use Rattle.graph.specs.Units.{greatest_of}
 use Rattle.overlap.specs.Lifetimes.{distance_to}
 

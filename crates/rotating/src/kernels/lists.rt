@@ -1,16 +1,16 @@
 //! What a kernel copies from its loop, and the values that are live at the end.
 
 ghost use Rattle.std.specs.Prelude.{◌≡◌, ◌<◌, ◌≤◌, [], length, map, IfOk, vec_len, vec_capacity};
-ghost use Rattle.iterations.specs.declared.language.lists.Array.{Array};
-ghost use Rattle.iterations.specs.Loops.{GivesValue};
+ghost use Rattle.loop_data.specs.declared.language.lists.Array.{Array};
+ghost use Rattle.loop_data.specs.Loops.{GivesValue};
 ghost use Rattle.overlap.specs.Emission.{name_of_value, out_of};
 ghost use Rattle.rotating.specs.inner.Naming.{AreNumbers};
 
 use crate::kernels::naming::register_name;
 use crate::numbers::allotment::Allotment;
 use ims::Schedule;
-use iterations::{Loop, Param};
 use kernel::{ArrayNames, Out, Outs, Params};
+use loop_data::{Loop, Param};
 use machine_data::{Name, OutOfMemory};
 use std::alloc::Global;
 

@@ -2,14 +2,14 @@
 
 ghost use Rattle.std.specs.Prelude.{◌≡◌, ◌<◌, ◌≤◌, ◌+◌, ◌%◌, ℕ, length, map};
 ghost use Rattle.std.specs.List.{All};
-ghost use Rattle.iterations.specs.Loops.{MayRead};
+ghost use Rattle.loop_data.specs.Loops.{MayRead};
 ghost use Rattle.overlap.specs.Emission.{address_of, source_of};
 ghost use Rattle.rotating.specs.inner.Naming.{AreNumbers};
 
 use crate::numbers::allotment::Allotment;
 use ims::Schedule;
-use iterations::{Operand, Place};
 use kernel::{Address, Source, Sources};
+use loop_data::{Operand, Place};
 use smallvec::SmallVec;
 use std::alloc::Global;
 

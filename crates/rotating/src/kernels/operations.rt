@@ -8,8 +8,8 @@ ghost use Rattle.rotating.specs.inner.Naming.{AreNumbers};
 use crate::kernels::naming::{address_of, register_name, sources_of};
 use crate::numbers::allotment::Allotment;
 use ims::Schedule;
-use iterations::Statement;
 use kernel::{Address, Operation, Operations};
+use loop_data::Statement;
 use machine_data::OutOfMemory;
 use std::alloc::Global;
 

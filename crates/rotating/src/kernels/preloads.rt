@@ -1,7 +1,7 @@
 //! The initial values that stand in registers before the first turn of a kernel.
 
 ghost use Rattle.std.specs.Prelude.{◌≡◌, ◌<◌, ◌≤◌, ◌+◌, ◌++◌, [], IfOk, vec_len, vec_capacity};
-ghost use Rattle.iterations.specs.Run.{initial_of};
+ghost use Rattle.loop_data.specs.Run.{initial_of};
 ghost use Rattle.overlap.specs.Allotments.{allotted_number};
 ghost use Rattle.overlap.specs.Emission.{name_of, preloads_from, preloads_of};
 ghost use Rattle.overlap.specs.Lifetimes.{carried, values_of};
@@ -11,8 +11,8 @@ use crate::kernels::naming::register_name;
 use crate::numbers::allotment::Allotment;
 use crate::values::uses::fill_carried;
 use ims::Schedule;
-use iterations::Loop;
 use kernel::{Preload, Preloads};
+use loop_data::Loop;
 use machine_data::OutOfMemory;
 use std::alloc::Global;
 

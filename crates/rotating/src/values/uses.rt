@@ -3,13 +3,13 @@
 ghost use Rattle.std.specs.Prelude.{◌≡◌, ◌<◌, ◌≤◌, ℕ, max, length, map, slice_index, ◌==◌, if◌then◌else◌};
 ghost use Rattle.std.specs.List.{list_any};
 ghost use Rattle.graph.specs.Units.{greatest_of};
-ghost use Rattle.iterations.specs.Loops.{IsLoop};
+ghost use Rattle.loop_data.specs.Loops.{IsLoop};
 ghost use Rattle.overlap.specs.Lifetimes.{Use, carried, is_out, read_at, uses_of};
 ghost use Rattle.rotating.specs.inner.Naming.{AreCarried};
 ghost use Rattle.rotating.specs.inner.Uses.{greatest_in};
 
 use ims::Schedule;
-use iterations::{Loop, Operand};
+use loop_data::{Loop, Operand};
 
 /// Raises the entry of each value that these operands read to the read: `base`, and `step` more for
 /// each iteration that the value is old.

@@ -1,5 +1,5 @@
 use Rattle.std.proofs.Common.{sym, subst, ◌<◌}
-use Rattle.endings.specs.Statuses.{status_number}
+use Rattle.exit_status.specs.Statuses.{status_number}
 use Rattle.capi.proofs.Texting.{loud}
 use Rattle.capi.proofs.telling.refuse.Goals as goal
 

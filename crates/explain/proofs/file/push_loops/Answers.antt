@@ -2,7 +2,7 @@ use Rattle.std.proofs.Common.{◌≡◌, ◌++◌, ℕ, List, length, ap, ◌∙
 use Rattle.std.specs.Prelude.{Ok, Err}
 use Rattle.std.specs.Vec.Iter.{into_iter_items}
 use Rattle.std.proofs.lemmas.Result.{err_from_is_err_and}
-use Rattle.iterations.specs.Loops.{LoopData}
+use Rattle.loop_data.specs.Loops.{LoopData}
 use Rattle.graph.specs.Units.{first_lacking}
 use Rattle.graph_text.specs.Faults.{TextAnswers}
 use Rattle.graph_text.proofs.Lacking.{answered, complete}

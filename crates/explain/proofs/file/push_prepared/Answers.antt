@@ -2,8 +2,8 @@ use Rattle.std.proofs.Common.{◌≡◌, ◌∙◌, ℕ, List, Vec, Global}
 use Rattle.graph.specs.Units.{operations_of}
 use Rattle.graph_text.specs.Faults.{lacking_in}
 use Rattle.graph_text.proofs.Lacking.{answered}
-use Rattle.unit_uses.specs.Choices.{AreUnitChoices}
-use Rattle.unit_uses.specs.UnitLines.{unit_lines_of}
+use Rattle.resource_bound.specs.Choices.{AreUnitChoices}
+use Rattle.resource_bound.specs.UnitLines.{unit_lines_of}
 use Rattle.explain.proofs.Parts.{told-on}
 use Rattle.explain.proofs.file.push_prepared.Goals as goal
 

@@ -1,6 +1,6 @@
 use Rattle.std.proofs.Common.{rules, ◌≡◌, None, ap, ◌∙◌}
 use Rattle.graph_text.specs.Names.{name_or_place, op_name}
-use Rattle.iterations.specs.NamedParts.{place_word}
+use Rattle.loop_data.specs.NamedParts.{place_word}
 use Rattle.graph_text.proofs.Parts.{op-named, place-there}
 use Rattle.graph_text.proofs.names.push_name.Goals as goal
 

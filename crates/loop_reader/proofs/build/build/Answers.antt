@@ -2,7 +2,7 @@ use Rattle.std.proofs.Common.{ap, ◌∙◌, ◌++◌, sym, subst, length, take,
 use Rattle.std.proofs.lemmas.List.{length-map, take_all}
 use Rattle.loop_reader.specs.Meaning.{array_in, param_in, statement_in, out_in, statement_of, how_many, is_statement}
 use Rattle.loop_reader.specs.inner.Blocks.{forms_in}
-use Rattle.iterations.specs.Loops.{IsLoop}
+use Rattle.loop_data.specs.Loops.{IsLoop}
 use Rattle.loop_reader.proofs.making.Built.{extend-lines, extend-mapped, extend-rows, statement-placed}
 use Rattle.loop_reader.specs.inner.Found.{AreFound}
 use Rattle.loop_reader.specs.declared.lines.entry.LineEntry.{LineEntry}

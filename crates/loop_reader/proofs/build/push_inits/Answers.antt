@@ -2,7 +2,7 @@ use Rattle.std.proofs.Common.{◌≡◌, ◌∙◌, ◌+◌, ◌++◌, ◌∷◌
 use Rattle.std.proofs.lemmas.Int.{ints, to_z-of_z}
 use Rattle.std.proofs.lemmas.List.{append-nil}
 use Rattle.loop_reader.specs.inner.Building.{row_of}
-use Rattle.iterations.specs.declared.language.lists.Initial.{Initial}
+use Rattle.loop_data.specs.declared.language.lists.Initial.{Initial}
 use Rattle.loop_reader.proofs.faults.Rows.{row-more}
 use Rattle.loop_reader.proofs.build.push_inits.Goals as goal
 use Rattle.loop_reader.proofs.build.push_inits.Goals.{in-Some+in_ok-push, in_default}

@@ -6,7 +6,7 @@ use Rattle.std.specs.Result.{IsErrAnd}
 use Rattle.loop_reader.specs.declared.fault.LoopFaultKind.{LoopFaultKind}
 use Rattle.loop_lines.specs.Words.{words_of}
 use Rattle.loop_lines.specs.Forms.{LoopLine, line_form}
-use Rattle.iterations.specs.Loops.{LoopData, IsLoop}
+use Rattle.loop_data.specs.Loops.{LoopData, IsLoop}
 use Rattle.loop_reader.specs.Meaning.{forms_of, whole, loops_in, loop_of, AnswersFault}
 use Rattle.loop_lines.specs.Parsed.{form_seen}
 use Rattle.loop_reader.specs.inner.Texts.{HasNames}

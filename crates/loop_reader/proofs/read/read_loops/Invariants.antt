@@ -1,6 +1,6 @@
 use Rattle.std.proofs.Common.{◌+◌, ◌-◌, ◌≤◌, length, map}
 use Rattle.std.specs.List.{All}
-use Rattle.iterations.specs.Loops.{LoopData, IsLoop}
+use Rattle.loop_data.specs.Loops.{LoopData, IsLoop}
 use Rattle.loop_reader.specs.Meaning.{forms_of}
 use Rattle.loop_reader.specs.inner.Texts.{HasNames}
 use Rattle.loop_reader.proofs.blocks.OpeningLines.{Reads}

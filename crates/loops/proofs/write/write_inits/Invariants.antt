@@ -1,6 +1,6 @@
 use Rattle.std.proofs.Common.{◌≡◌, ◌++◌, take, string_bytes}
 use Rattle.std.specs.List.{flat_map}
-use Rattle.iterations.specs.declared.language.lists.Initial.{Initial}
+use Rattle.loop_data.specs.declared.language.lists.Initial.{Initial}
 use Rattle.loops.specs.Text.{line_text, init_words}
 use Rattle.loops.proofs.write.write_inits.Given as goal
 

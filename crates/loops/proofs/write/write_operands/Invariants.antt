@@ -1,6 +1,6 @@
 use Rattle.std.proofs.Common.{◌≡◌, ◌∷◌, ◌++◌, take, string_bytes}
 use Rattle.std.specs.List.{flat_map}
-use Rattle.iterations.specs.declared.language.statement.Operand.{Operand}
+use Rattle.loop_data.specs.declared.language.statement.Operand.{Operand}
 use Rattle.loops.specs.Text.{operand_word}
 use Rattle.loops.proofs.write.write_operands.Given as goal
 

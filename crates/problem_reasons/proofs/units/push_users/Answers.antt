@@ -2,7 +2,7 @@ use Rattle.std.proofs.Common.{◌≡◌, ℕ, List, ◌++◌, ap, ◌∙◌}
 use Rattle.machine_data.specs.declared.alternative.Row.{Row}
 use Rattle.graph.specs.Units.{use_of}
 use Rattle.modulo.specs.Problems.{ProblemData as SchedulingData}
-use Rattle.unit_uses.specs.Choices.{rows_at}
+use Rattle.resource_bound.specs.Choices.{rows_at}
 use Rattle.problems.specs.declared.draft.Draft.{Draft}
 use Rattle.problem_graphs.proofs.Loops.{numbered-more}
 use Rattle.problem_reasons.specs.Units.{user_text}

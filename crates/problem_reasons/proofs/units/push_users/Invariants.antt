@@ -1,7 +1,7 @@
 use Rattle.std.proofs.Common.{◌≡◌, ◌++◌}
 use Rattle.std.specs.List.{flat_map, range_with_len}
 use Rattle.graph.specs.Units.{use_of}
-use Rattle.unit_uses.specs.Choices.{rows_at}
+use Rattle.resource_bound.specs.Choices.{rows_at}
 use Rattle.problem_reasons.specs.Units.{user_text}
 use Rattle.problem_reasons.proofs.units.push_users.Given as goal
 

@@ -1,7 +1,7 @@
 use Rattle.std.proofs.Common.{◌≡◌, ◌<◌, ℕ, List, ◌++◌, length, get_or, sym, ap, ◌∙◌, subst}
 use Rattle.std.specs.List.{All, flat_map, range_with_len}
 use Rattle.std.proofs.lemmas.List.{flat_map_more}
-use Rattle.iterations.specs.Loops.{LoopData}
+use Rattle.loop_data.specs.Loops.{LoopData}
 use Rattle.graph_text.proofs.Texts.{numbers-push}
 use Rattle.ims.specs.Problems.{ProblemData}
 use Rattle.registers.specs.declared.lifetime.Lifetime.{Lifetime}

@@ -1,7 +1,7 @@
 use Rattle.std.proofs.Common.{List, sym, subst}
 use Rattle.std.specs.List.{All}
 use Rattle.std.proofs.lemmas.Result.{IfOk-weaker}
-use Rattle.iterations.specs.Loops.{IsLoop, LoopData}
+use Rattle.loop_data.specs.Loops.{IsLoop, LoopData}
 use Rattle.graph.specs.Dependences.{EdgeData}
 use Rattle.graph.specs.Graphs.{GraphData}
 use Rattle.graph_text.specs.Kinds.{IsTimed}

@@ -1,6 +1,6 @@
 use Rattle.std.proofs.Common.{◌<◌, Some, length, sym, subst}
 use Rattle.std.specs.List.{All}
-use Rattle.iterations.specs.Loops.{LoopData}
+use Rattle.loop_data.specs.Loops.{LoopData}
 use Rattle.modulo.specs.declared.outcome.attempts.Culprit.{Culprit}
 use Rattle.ims.specs.Culprits.{AnswersCulprit}
 use Rattle.ims.specs.Problems.{budget_of}

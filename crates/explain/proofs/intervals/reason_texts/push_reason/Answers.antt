@@ -1,5 +1,5 @@
 use Rattle.std.proofs.Common.{◌<◌, length, sym, subst}
-use Rattle.iterations.specs.Loops.{LoopData}
+use Rattle.loop_data.specs.Loops.{LoopData}
 use Rattle.explain.specs.declared.intervals.reasons.Reason.{Reason}
 use Rattle.explain.specs.Reasons.{IsReason}
 use Rattle.explain.proofs.Reasoned.{value-there}

@@ -1,6 +1,6 @@
 use Rattle.std.proofs.Common.{◌≡◌, ◌<◌, ◌≤◌, [], length, get_or, Some, None, arith}
 use Rattle.std.specs.List.{slice_get}
-use Rattle.iterations.specs.declared.language.statement.Statement.{Statement}
+use Rattle.loop_data.specs.declared.language.statement.Statement.{Statement}
 use Rattle.graph.specs.Subscripts.{GainsEdges, HasUses}
 use Rattle.std.proofs.lemmas.Option.{slice_get-get_or}
 use Rattle.machine_data.specs.declared.opcode.Opcode.TheVariants.{Load}

@@ -1,7 +1,7 @@
 use Rattle.std.proofs.Common.{◌≡◌, ◌-◌, Some, length}
 use Rattle.std.specs.List.{slice_get}
-use Rattle.iterations.specs.declared.language.statement.Statement.{Statement}
-use Rattle.iterations.specs.declared.language.statement.Place.{Place}
+use Rattle.loop_data.specs.declared.language.statement.Statement.{Statement}
+use Rattle.loop_data.specs.declared.language.statement.Place.{Place}
 use Rattle.graph.specs.Subscripts.{GainsEdges, HasMeetings}
 use Rattle.graph.proofs.dependence.collect.push_meetings.Given as goal
 

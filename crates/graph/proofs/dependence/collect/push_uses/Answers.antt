@@ -3,8 +3,8 @@ use Rattle.std.proofs.lemmas.Int.{ints}
 use Rattle.std.proofs.lemmas.List.{take_all, get_or_default}
 use Rattle.std.proofs.lemmas.Option.{slice_get-get_or}
 use Rattle.std.specs.List.{slice_get, All}
-use Rattle.iterations.specs.declared.language.statement.Operand.TheVariants.{Constant}
-use Rattle.iterations.specs.declared.language.statement.Statement.{Statement}
+use Rattle.loop_data.specs.declared.language.statement.Operand.TheVariants.{Constant}
+use Rattle.loop_data.specs.declared.language.statement.Statement.{Statement}
 use Rattle.graph.specs.Subscripts.{HasUses, ReadsBelow}
 use Rattle.graph.proofs.finding.Found.{uses-pushed, HasUses-passed}
 use Rattle.graph.proofs.dependence.collect.push_uses.Goals as goal

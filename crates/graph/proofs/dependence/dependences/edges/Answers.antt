@@ -1,6 +1,6 @@
 use Rattle.std.proofs.Common.{◌≡◌, ℕ, ◌<◌, Vec, Global, length, Ok, sym, ap, ◌∙◌, subst}
 use Rattle.std.specs.List.{All, Contains}
-use Rattle.iterations.specs.declared.language.statement.Statement.{Statement}
+use Rattle.loop_data.specs.declared.language.statement.Statement.{Statement}
 use Rattle.graph.specs.TablesAnswer.{TablesAnswer}
 use Rattle.graph.specs.Units.{first_without_table}
 use Rattle.graph.specs.Dependences.{EdgeData, latencies_of}

@@ -1,7 +1,7 @@
 use Rattle.std.proofs.Common.{◌<◌, [], length, get_or, sym, ap, ◌∙◌, subst, arith}
 use Rattle.machine_data.specs.Alternative.{AreAlternatives}
 use Rattle.machine_data.specs.Machines.{table_of}
-use Rattle.iterations.specs.declared.language.statement.Statement.{Statement}
+use Rattle.loop_data.specs.declared.language.statement.Statement.{Statement}
 use Rattle.graph.specs.Units.{alternatives_in}
 use Rattle.graph.proofs.unit_bound.Chosen.{length-operations, operation_at}
 use Rattle.graph.proofs.unit_bound.UnitBound.{operations_well_formed}

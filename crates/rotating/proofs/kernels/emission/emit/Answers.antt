@@ -1,7 +1,7 @@
 use Rattle.std.proofs.Common.{◌≡◌, sym, ap, ◌∙◌, subst}
 use Rattle.kernel.specs.Check.{IsWellFormed}
 use Rattle.kernel.specs.Overlapped.{overlapped}
-use Rattle.iterations.specs.Run.{HasShapeOf, plain}
+use Rattle.loop_data.specs.Run.{HasShapeOf, plain}
 use Rattle.overlap.specs.Emission.{emitted}
 use Rattle.overlap.specs.Overlap.{Belong}
 use Rattle.overlap.proofs.End.{overlap-is_sequence}

@@ -1,6 +1,6 @@
 use Rattle.std.proofs.Common.{map, ap, ◌∙◌}
-use Rattle.iterations.specs.declared.language.lists.Array.{Array}
-use Rattle.iterations.specs.Loops.{LoopData}
+use Rattle.loop_data.specs.declared.language.lists.Array.{Array}
+use Rattle.loop_data.specs.Loops.{LoopData}
 use Rattle.overlap.specs.Emission.{emitted}
 use Rattle.rotating.proofs.emitted.Emitted.{parts-same}
 use Rattle.rotating.proofs.kernels.emission.parts_of.Goals as goal

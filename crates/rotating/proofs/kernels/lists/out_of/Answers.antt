@@ -1,10 +1,10 @@
 use Rattle.std.proofs.Common.{◌≡◌, ◌<◌, ◌+◌, ◌-◌, ◌%◌, ap, ◌∙◌, arith}
-use Rattle.iterations.specs.Loops.{LoopData}
+use Rattle.loop_data.specs.Loops.{LoopData}
 use Rattle.ims.specs.Problems.{ProblemData}
 use Rattle.ims.specs.Schedules.{stages_of}
 use Rattle.overlap.specs.Allotments.{allotted_number}
 use Rattle.overlap.specs.Emission.{name_of, name_of_value}
-use Rattle.iterations.proofs.Instances.{slice_get-within}
+use Rattle.loop_data.proofs.Instances.{slice_get-within}
 use Rattle.rotating.proofs.emitted.Ranks.{number-below}
 use Rattle.rotating.proofs.kernels.lists.out_of.Goals as goal
 

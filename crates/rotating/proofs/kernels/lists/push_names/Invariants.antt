@@ -1,6 +1,6 @@
 use Rattle.std.proofs.Common.{◌≡◌, ◌≤◌, length, map, take}
 use Rattle.std.specs.Prelude.{vec_len, vec_capacity}
-use Rattle.iterations.specs.declared.language.lists.Array.{Array}
+use Rattle.loop_data.specs.declared.language.lists.Array.{Array}
 use Rattle.rotating.proofs.kernels.lists.push_names.Given as goal
 
 abbrev pub invariant-loop-array : goal.invariant-loop-array

@@ -1,7 +1,7 @@
 use Rattle.std.proofs.Common.{◌≡◌, ◌<◌, ℕ, List, length, sym, ap, ◌∙◌, subst, arith}
 use Rattle.std.specs.List.{slice_index_or}
 use Rattle.std.proofs.lemmas.List.Elements.{All-get_or}
-use Rattle.iterations.specs.Loops.{LoopData, GivesValue, HasInitial}
+use Rattle.loop_data.specs.Loops.{LoopData, GivesValue, HasInitial}
 use Rattle.ims.specs.Problems.{ProblemData}
 use Rattle.rotating.proofs.kernels.lists.push_outs.Goals as goal
 

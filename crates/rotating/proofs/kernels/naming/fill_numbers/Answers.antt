@@ -1,9 +1,9 @@
 use Rattle.std.proofs.Common.{◌≡◌, ◌<◌, ◌≤◌, length, get_or, sym, ap, ◌∙◌, subst, arith, true, false}
 use Rattle.std.specs.Prelude.{slice_index, is_some}
-use Rattle.iterations.specs.declared.language.statement.Statement.{Statement}
+use Rattle.loop_data.specs.declared.language.statement.Statement.{Statement}
 use Rattle.overlap.specs.Allotments.{allotted_number}
 use Rattle.overlap.specs.Lifetimes.{rank_of}
-use Rattle.iterations.specs.Loops.{LoopData}
+use Rattle.loop_data.specs.Loops.{LoopData}
 use Rattle.ims.specs.Problems.{ProblemData}
 use Rattle.rotating.proofs.emitted.Ranks.{rank-yes, rank-no, past-zero, table-more}
 use Rattle.rotating.proofs.kernels.naming.fill_numbers.Goals as goal

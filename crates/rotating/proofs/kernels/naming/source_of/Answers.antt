@@ -1,6 +1,6 @@
 use Rattle.std.proofs.Common.{◌<◌, ◌+◌, ◌%◌, ap, sym, ◌∙◌, subst, arith}
-use Rattle.iterations.specs.Loops.{MayRead}
-use Rattle.iterations.specs.declared.language.statement.Operand.TheVariants.{Value}
+use Rattle.loop_data.specs.Loops.{MayRead}
+use Rattle.loop_data.specs.declared.language.statement.Operand.TheVariants.{Value}
 use Rattle.kernel.specs.declared.kernels.operation.Source.TheVariants.{Register}
 use Rattle.overlap.specs.Allotments.{allotted_number}
 use Rattle.overlap.specs.Emission.{source_of}

@@ -1,6 +1,6 @@
 use Rattle.std.proofs.Common.{length, ap, sym, subst, arith}
 use Rattle.std.specs.List.{All}
-use Rattle.iterations.specs.Loops.{MayRead}
+use Rattle.loop_data.specs.Loops.{MayRead}
 use Rattle.rotating.proofs.emitted.Stated.{operands-limited, operands-may}
 use Rattle.rotating.proofs.kernels.operations.operation_of.Goals as goal
 

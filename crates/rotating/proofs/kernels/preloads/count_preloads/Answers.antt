@@ -1,6 +1,6 @@
 use Rattle.std.proofs.Common.{rules, ◌≡◌, ◌+◌, ◌<◌, ◌≤◌, length, get_or, true, false, sym, ap, ◌∙◌, subst, arith}
 use Rattle.std.specs.Prelude.{slice_index, is_some}
-use Rattle.iterations.specs.declared.language.statement.Statement.{Statement}
+use Rattle.loop_data.specs.declared.language.statement.Statement.{Statement}
 use Rattle.rotating.specs.inner.Naming.{preload_count}
 use Rattle.rotating.proofs.emitted.Ranks.{carried-few, values-yes, values-no}
 use Rattle.rotating.proofs.kernels.preloads.count_preloads.Goals as goal

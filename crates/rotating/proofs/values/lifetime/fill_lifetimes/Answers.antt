@@ -1,5 +1,5 @@
 use Rattle.std.proofs.Common.{◌≡◌, ◌<◌, max, subst, ◌++◌, [], length, map, take, drop, sym, ap, ◌∙◌, arith, append-nil}
-use Rattle.iterations.specs.Loops.{LoopData}
+use Rattle.loop_data.specs.Loops.{LoopData}
 use Rattle.ims.specs.Problems.{ProblemData}
 use Rattle.std.specs.Prelude.{if◌then◌else◌}
 use Rattle.graph.specs.Units.{greatest_of}

@@ -1,8 +1,8 @@
 use Rattle.std.proofs.Common.{◌≡◌, ◌<◌, ◌+◌, ◌*◌, max, length, ◌∷◌, map, drop, sym, ap, ◌∙◌, arith}
 use Rattle.std.specs.Prelude.{slice_index}
 use Rattle.graph.specs.Units.{greatest_of}
-use Rattle.iterations.specs.declared.language.statement.Statement.{Statement}
-use Rattle.iterations.specs.Loops.{LoopData}
+use Rattle.loop_data.specs.declared.language.statement.Statement.{Statement}
+use Rattle.loop_data.specs.Loops.{LoopData}
 use Rattle.ims.specs.Problems.{ProblemData}
 use Rattle.overlap.specs.Lifetimes.{Use, read_at, uses_from}
 use Rattle.rotating.specs.inner.Uses.{greatest_in}

@@ -1,6 +1,0 @@
-use Rattle.std.proofs.Common.{◌≡◌, length}
-use Rattle.gathering.specs.inner.Cells.{AreEmptyCells}
-use Rattle.gathering.proofs.cells.empty_cells.Given as goal
-
-abbrev pub invariant-loop-number : goal.invariant-loop-number
-invariant-loop-number l = (length l.rows.items ≡ l.number) × AreEmptyCells l.loops l.rows.items

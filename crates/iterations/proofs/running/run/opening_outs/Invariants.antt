@@ -1,6 +1,0 @@
-use Rattle.std.proofs.Common.{◌≡◌, map, take}
-use Rattle.iterations.specs.Run.{initial_of}
-use Rattle.iterations.proofs.running.run.opening_outs.Given as goal
-
-abbrev pub invariant-loop-statement : goal.invariant-loop-statement
-invariant-loop-statement l = l.outs.items ≡ map (λ s. initial_of l.innermost s 1) (take l.statement-index l.statements)

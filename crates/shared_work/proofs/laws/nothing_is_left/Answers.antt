@@ -1,6 +1,0 @@
-use Rattle.candidates.proofs.OneOutcomes.{one_outcome}
-use Rattle.shared_work.proofs.Left.{left}
-use Rattle.shared_work.proofs.laws.nothing_is_left.Goals as goal
-
-pub returns : goal.returns
-returns c = record { left = λ loops pieces terms words views reports choices h are. left one_outcome loops pieces terms words views reports h choices are }

@@ -1,7 +1,0 @@
-use Rattle.graph.specs.Units.{operations_of}
-use Rattle.graph.proofs.unit_bound.UnitBound.{operations_well_formed}
-use Rattle.unit_uses.proofs.Fullest.{fullest_is_bound}
-use Rattle.unit_uses.proofs.laws.fullest_use_is_bound.Goals as goal
-
-pub returns : goal.returns
-returns c = λ machine loop choices m none are. fullest_is_bound (operations_of machine loop) choices are (operations_well_formed machine loop m none)

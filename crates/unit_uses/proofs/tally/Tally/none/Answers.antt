@@ -1,8 +1,0 @@
-use Rattle.graph.proofs.unit_bound.Tally.{Tallies-none, AtMost-none}
-use Rattle.unit_uses.proofs.tally.Tally.none.Goals as goal
-
-pub returns-clause-tallied : goal.returns-clause-tallied
-returns-clause-tallied c = Tallies-none
-
-pub returns-clause-empty : goal.returns-clause-empty
-returns-clause-empty c = AtMost-none
