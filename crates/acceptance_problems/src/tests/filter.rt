@@ -19,25 +19,28 @@ use std::alloc::Global;
 use std::process::Abort;
 use std::test::Fail;
 
-/// A value of an operation. The second sum is live at the end.
-const fn value(maker: usize, lands: u64, out: bool) -> Value {
-    Value {
-        maker,
-        lands,
-        out,
-        file: 0,
-    }
-}
+/// What a load makes, and what a multiply-accumulate makes. The second sum is live at the end.
+const LOADED: Value = Value {
+    maker: 0,
+    lands: 3,
+    out: false,
+    file: 0,
+};
 
-/// An operation reads a value.
-const fn read(value: usize, reader: usize, distance: u64, offset: u64) -> Read {
-    Read {
-        value,
-        reader,
-        distance,
-        offset,
-    }
-}
+const SUM: Value = Value {
+    maker: 4,
+    lands: 2,
+    out: false,
+    file: 0,
+};
+
+/// A factor is read at the issue, and the sum of the iteration's other tap one cycle later.
+const FACTOR: Read = Read {
+    value: 0,
+    reader: 4,
+    distance: 0,
+    offset: 0,
+};
 
 const FILTER: Parts<'static> = Parts {
     units: 3,
@@ -54,20 +57,42 @@ const FILTER: Parts<'static> = Parts {
     ],
     operations: &[0, 0, 0, 0, 1, 1],
     values: &[
-        value(0, 3, false),
-        value(1, 3, false),
-        value(2, 3, false),
-        value(3, 3, false),
-        value(4, 2, false),
-        value(5, 2, true),
+        LOADED,
+        Value { maker: 1, ..LOADED },
+        Value { maker: 2, ..LOADED },
+        Value { maker: 3, ..LOADED },
+        SUM,
+        Value {
+            maker: 5,
+            out: true,
+            ..SUM
+        },
     ],
     reads: &[
-        read(0, 4, 0, 0),
-        read(1, 4, 0, 0),
-        read(5, 4, 1, 1),
-        read(2, 5, 0, 0),
-        read(3, 5, 0, 0),
-        read(4, 5, 0, 1),
+        FACTOR,
+        Read { value: 1, ..FACTOR },
+        Read {
+            value: 5,
+            reader: 4,
+            distance: 1,
+            offset: 1,
+        },
+        Read {
+            value: 2,
+            reader: 5,
+            ..FACTOR
+        },
+        Read {
+            value: 3,
+            reader: 5,
+            ..FACTOR
+        },
+        Read {
+            value: 4,
+            reader: 5,
+            distance: 0,
+            offset: 1,
+        },
     ],
     orders: &[],
     names: &[],

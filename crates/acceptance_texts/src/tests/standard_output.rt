@@ -22,6 +22,7 @@ use Answer::{Fails, IsInterrupted, Takes};
 const TEXT: &[u8] = b"loop acc trip 3\n";
 
 /// A system whose writes answer from a list, over and over, and take the bytes of the text alone, in their order.
+#[derive(Drop)]
 struct Scripted {
     answers: &'static [Answer],
     calls: Cell<usize>,

@@ -19,27 +19,26 @@ fn pattern(alloc: Global, len: usize) -> Result<Vec<u8>, AllocError> {
     Ok(bytes)
 }
 
-/// How many bytes there are, how many a text may have, and how many are read: one past the limit at most.
+/// How many bytes there are, how many a text may have, and how many are read: one past the limit at most. Of a buffer the first size is 65,536 bytes.
 const READ: &[(usize, usize, usize)] = &[
-    (0, 1_048_576, 0),
-    (1, 1_048_576, 1),
-    (65_535, 1_048_576, 65_535),
-    (65_536, 1_048_576, 65_536),
-    (65_537, 1_048_576, 65_537),
-    (1_048_575, 1_048_576, 1_048_575),
-    (1_048_576, 1_048_576, 1_048_576),
-    (1_048_577, 1_048_576, 1_048_577),
-    (1_048_578, 1_048_576, 1_048_577),
-    (1_100_000, 1_048_576, 1_048_577),
-    (1_100_000, 0, 1),
-    (1_100_000, 1, 2),
-    (1_100_000, 65_534, 65_535),
-    (1_100_000, 65_535, 65_536),
-    (1_100_000, 65_536, 65_537),
-    (1_100_000, 1_099_998, 1_099_999),
-    (1_100_000, 1_099_999, 1_100_000),
-    (1_100_000, 1_100_000, 1_100_000),
-    (1_100_000, 16_777_216, 1_100_000),
+    (0, 150_000, 0),
+    (1, 150_000, 1),
+    (65_535, 150_000, 65_535),
+    (65_536, 150_000, 65_536),
+    (65_537, 150_000, 65_537),
+    (149_999, 150_000, 149_999),
+    (150_000, 150_000, 150_000),
+    (150_001, 150_000, 150_001),
+    (150_002, 150_000, 150_001),
+    (200_000, 0, 1),
+    (200_000, 1, 2),
+    (200_000, 65_534, 65_535),
+    (200_000, 65_535, 65_536),
+    (200_000, 65_536, 65_537),
+    (200_000, 199_998, 199_999),
+    (200_000, 199_999, 200_000),
+    (200_000, 200_000, 200_000),
+    (200_000, 16_777_216, 200_000),
 ];
 
 /// Of these bytes the first `want` are read, and the others are left.
@@ -51,13 +50,22 @@ fn is_read(alloc: Global, bytes: &[u8], most: usize, want: usize) -> Result<bool
 
 #[test]
 fn reads_up_to_a_byte_past_the_limit(rt: HostRuntime) -> Result<(), Fail> {
-    let all = pattern(rt.alloc(), 1_100_000)?;
+    let all = pattern(rt.alloc(), 200_000)?;
     for (len, most, want) in READ {
         let bytes = all.as_slice().get(..*len).ok_or("a beginning")?;
         assert!(rt; is_read(rt.alloc(), bytes, *most, *want)?, "{len}, {most}");
     }
-    let text = read_text(rt.alloc(), &mut Bytes::new(all.as_slice()))?;
-    assert!(rt; Some(text.as_slice()) == all.as_slice().get(..1_048_577));
+    Ok(())
+}
+
+/// A text of a machine or of loops has 1,048,576 bytes at most.
+#[test]
+fn reads_a_byte_past_the_limit_of_texts(rt: HostRuntime) -> Result<(), Fail> {
+    let all = pattern(rt.alloc(), 1_048_578)?;
+    let mut input = Bytes::new(all.as_slice());
+    let text = read_text(rt.alloc(), &mut input)?;
+    assert_eq!(rt; (text.len(), input.rest().len()), (1_048_577, 1));
+    assert!(rt; all.as_slice().starts_with(text.as_slice()));
     Ok(())
 }
 
