@@ -1,10 +1,9 @@
 //! Whole texts: the first fault of each, with how many bytes the word at fault has, and a draft. All worked by hand.
 
-ghost use Rattle.std.specs.Prelude.{◌<◌, length};
-
 use problem_lines::Expected;
 use problem_printouts::{ProblemsFault, check_printout};
-use problem_reader::{Part, ProblemFile, TextFault, Wrong, read_problems};
+use problem_reader::{Part, TextFault, Wrong, read_problems};
+use problems::Draft;
 use solution_reader::{
     Part as SolutionPart, SolutionFault, Wrong as SolutionWrong, read_solutions,
 };
@@ -323,23 +322,21 @@ const SECOND: &str = "Draft { units: 1, files: [], kinds: [\
 Kind { latency: 64, alternatives: [[Hold { unit: 0, offset: 63 }]] }], operations: [0], values: [], reads: [], orders: [], names: Names { \
 units: [\"u\"], files: [], kinds: [\"k\"], operations: [\"a\"], values: [] } }";
 
-/// The draft of the problem with a number.
-fn drafted(alloc: Global, file: &ProblemFile, number: usize) -> Result<String, Fail>
-    requires { number < length file.now.problems }
-{
-    let draft = file.draft(alloc, number)?;
+/// A draft as it prints itself for programmers.
+fn printed(alloc: Global, draft: &Draft) -> Result<String, Fail> {
     Ok(format!(in alloc; "{draft:?}")?)
 }
 
 #[test]
 fn drafts_are_read(rt: HostRuntime) -> Result<(), Fail> {
-    let file = read_problems(rt.alloc(), TEXT)?;
+    let alloc = rt.alloc();
+    let file = read_problems(alloc, TEXT)?;
     assert_eq!(rt; file.problems(), 2);
-    assert_eq!(rt;
-        (file.name(0).as_str(), file.name(1).as_str()),
-        ("biquad", "small")
-    );
-    assert_eq!(rt; drafted(rt.alloc(), &file, 0)?.as_str(), FIRST);
-    assert_eq!(rt; drafted(rt.alloc(), &file, 1)?.as_str(), SECOND);
+    assert_eq!(rt; file.name(0).as_str(), "biquad");
+    assert_eq!(rt; file.name(1).as_str(), "small");
+    let first = file.draft(alloc, 0)?;
+    assert_eq!(rt; printed(alloc, &first)?.as_str(), FIRST);
+    let second = file.draft(alloc, 1)?;
+    assert_eq!(rt; printed(alloc, &second)?.as_str(), SECOND);
     Ok(())
 }
