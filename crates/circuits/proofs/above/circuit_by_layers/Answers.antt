@@ -9,7 +9,7 @@ use Rattle.circuits.specs.inner.Layers.{IsReturn}
 use Rattle.circuits.proofs.Returns.{GoesOnOnce}
 use Rattle.circuits.proofs.Tables.{fits-from_same, on_way-none}
 use Rattle.circuits.proofs.Growth.{IsGrown, IsWalked, IsLongWalk, grown-more, edge-on, walked-more, walked-kept, whole-walk, long-returns, long-circuit}
-use Rattle.circuits.proofs.above.circuit_above.Goals as goal
+use Rattle.circuits.proofs.above.circuit_by_layers.Goals as goal
 
 pub returns-in_default : goal.returns-in_default
 returns-in_default c =

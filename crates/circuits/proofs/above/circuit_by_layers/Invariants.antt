@@ -1,6 +1,6 @@
 use Rattle.std.proofs.Common.{◌+◌, ◌≤◌, length}
 use Rattle.circuits.proofs.Growth.{IsGrown, IsWalked}
-use Rattle.circuits.proofs.above.circuit_above.Given as goal
+use Rattle.circuits.proofs.above.circuit_by_layers.Given as goal
 
 abbrev pub invariant-loop-made : goal.invariant-loop-made
 invariant-loop-made l = IsGrown l.edges l.ii l.layers.items l.made l.at
