@@ -1,9 +1,12 @@
-//! The sums of a circuit.
+//! The sums of the delays and distances of edges.
 
-ghost use Rattle.std.specs.Prelude.{◌≡◌, ◌≤◌, ◌+◌, pos, ◌+ℤ◌, ◌-ℤ◌, ◌≤ℤ◌, length};
+ghost use Rattle.std.specs.Prelude.{◌≡◌, ◌≤◌, ◌+◌, ◌++◌, pos, ◌+ℤ◌, ◌-ℤ◌, ◌≤ℤ◌, length, OnOk};
 ghost use Rattle.graph.specs.Walks.{delay_of, distance_of};
+ghost use Rattle.graph_text.specs.Edges.{sums_told};
 
 use graph::Edge;
+use std::alloc::AllocError;
+use writing::{push_signed, push_told};
 
 /// The sums of the delays and distances of edges.
 #[derive(Clone, Copy)]
@@ -33,7 +36,7 @@ impl Sums {
     }
 }
 
-/// The sums of the delays and distances of edges.
+/// The sums of the delays and distances of at most 128 edges.
 pub(crate) fn sums_of(edges: &[Edge]) -> Sums
     requires few { length edges.now ≤ 128 }
     ensures delay { result.delay ≡ delay_of edges.now }
@@ -47,4 +50,15 @@ pub(crate) fn sums_of(edges: &[Edge]) -> Sums
         sums = sums.with(*edge);
     }
     sums
+}
+
+/// Appends a delay, in cycles, and a distance, in iterations: ` delay D distance N`.
+///
+/// # Errors
+/// [`AllocError`] where memory ran out. The text is left with a part of that.
+pub fn push_sums(text: &mut Vec<u8>, delay: i64, distance: u64) -> Result<(), AllocError>
+    ensures ok { OnOk result (text.new.items ≡ text.old.items ++ sums_told delay distance) }
+{
+    push_signed(text, " delay ", delay)?;
+    push_told(text, " distance ", distance)
 }

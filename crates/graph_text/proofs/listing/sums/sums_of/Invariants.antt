@@ -1,7 +1,7 @@
 use Rattle.std.proofs.Common.{◌≡◌, ◌*◌, ◌≤◌, pos, ◌-ℤ◌, take}
 use Rattle.std.specs.Prelude.{◌≤ℤ◌}
 use Rattle.graph.specs.Walks.{delay_of, distance_of}
-use Rattle.explain.proofs.bound.sums.sums_of.Given as goal
+use Rattle.graph_text.proofs.listing.sums.sums_of.Given as goal
 
 abbrev pub invariant-loop-edge : goal.invariant-loop-edge
 invariant-loop-edge l = record {

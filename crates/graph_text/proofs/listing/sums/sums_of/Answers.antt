@@ -2,8 +2,8 @@ use Rattle.std.proofs.Common.{◌≡◌, ◌<◌, ◌+◌, ◌∙◌, pos, ◌+�
 use Rattle.std.proofs.lemmas.Int.{ints}
 use Rattle.graph.specs.Dependences.{EdgeData}
 use Rattle.graph.specs.Walks.{delay_of, distance_of}
-use Rattle.explain.proofs.Circuits.{delay-more, distance-more}
-use Rattle.explain.proofs.bound.sums.sums_of.Goals as goal
+use Rattle.graph_text.proofs.CircuitSums.{delay-more, distance-more}
+use Rattle.graph_text.proofs.listing.sums.sums_of.Goals as goal
 
 pub loop-edge-preserved : goal.loop-edge-preserved
 loop-edge-preserved c =

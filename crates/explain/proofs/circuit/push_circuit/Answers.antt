@@ -6,10 +6,10 @@ use Rattle.graph.specs.Dependences.{EdgeData}
 use Rattle.graph.specs.Graphs.{GraphData}
 use Rattle.graph_text.specs.Kinds.{IsTimed}
 use Rattle.explain.proofs.Circuits.{circuit-part, circuit-short, circuit-timed, critical-of}
-use Rattle.explain.proofs.bound.circuit.push_circuit.Goals as goal
+use Rattle.explain.proofs.circuit.push_circuit.Goals as goal
 
-pub push_head-requires : goal.push_head-requires
-push_head-requires c =
+pub push_circuit_line-requires : goal.push_circuit_line-requires
+push_circuit_line-requires c =
     let p = c.args.prepared.now in
     let critical = critical-of p c.edges-graph.result.now c.recurrences-bound.result c.in_ok-circuit.circuit.items c.edges-graph.ensures.value c.recurrences-bound.ensures.value
     c.in_ok-circuit.ensures.exact in
@@ -34,7 +34,7 @@ returns c =
     record {
       ok = IfOk-weaker c.push_circuit_edges.result _ _
           (λ _ edges. circuit-part p c.innermost.result.now c.edges-graph.result.now c.recurrences-bound.result c.in_ok-circuit.circuit.items c.as_slice.result.now c.as_slice-2.result.now
-          c.args.text.now.items c.push_head.new.text.items c.push_circuit_edges.new.text.items c.innermost.ensures.value c.edges-graph.ensures.value c.recurrences-bound.ensures.value
-          c.as_slice.ensures.value c.as_slice-2.ensures.value c.in_ok-circuit.ensures.exact c.in_ok-push_head.ensures.ok edges)
+          c.args.text.now.items c.push_circuit_line.new.text.items c.push_circuit_edges.new.text.items c.innermost.ensures.value c.edges-graph.ensures.value c.recurrences-bound.ensures.value
+          c.as_slice.ensures.value c.as_slice-2.ensures.value c.in_ok-circuit.ensures.exact c.in_ok-push_circuit_line.ensures.ok edges)
           c.push_circuit_edges.ensures.ok;
     }
