@@ -10,11 +10,11 @@ use writing::{push_signed, push_told};
 
 /// The sums of the delays and distances of edges.
 #[derive(Clone, Copy)]
-pub(crate) struct Sums {
+pub struct Sums {
     /// In cycles.
-    pub(crate) delay: i64,
+    pub delay: i64,
     /// In iterations.
-    pub(crate) distance: u64,
+    pub distance: u64,
 }
 
 impl Sums {
@@ -37,7 +37,7 @@ impl Sums {
 }
 
 /// The sums of the delays and distances of at most 128 edges.
-pub(crate) fn sums_of(edges: &[Edge]) -> Sums
+pub fn sums_of(edges: &[Edge]) -> Sums
     requires few { length edges.now ≤ 128 }
     ensures delay { result.delay ≡ delay_of edges.now }
     ensures distance { result.distance ≡ distance_of edges.now }
