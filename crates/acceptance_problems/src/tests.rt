@@ -10,6 +10,7 @@ use machine_data::OutOfMemory;
 use problems::{Draft, File, Hold, Kind, Names, Order, Problem, Value};
 use registers::Read;
 use settings::Settings;
+use smallvec::SmallVec;
 use solutions::{Outcome, Solution, solve};
 use std::alloc::Global;
 use std::process::Abort;
@@ -17,13 +18,13 @@ use std::test::Fail;
 
 /// A kind of operations each of which takes one of these units in the cycle of its issue.
 fn kind(alloc: Global, latency: u64, units: &[usize]) -> Result<Kind, OutOfMemory> {
-    let mut alternatives = Vec::new(alloc);
+    let mut alternatives = SmallVec::new(alloc);
     for unit in units {
         let hold = Hold {
             unit: *unit,
             offset: 0,
         };
-        alternatives.push(Vec::from_slice(alloc, &[hold])?)?;
+        alternatives.push(SmallVec::from_slice(alloc, &[hold])?)?;
     }
     Ok(Kind {
         latency,

@@ -4,6 +4,7 @@ use problem_graphs::{push_dot, push_edges, push_problem_line};
 use problems::{Draft, File, Hold, Kind, Label, Names, Order, Problem, Value};
 use registers::Read;
 use settings::Settings;
+use smallvec::SmallVec;
 use std::alloc::Global;
 use std::test::Fail;
 
@@ -18,8 +19,8 @@ fn labels(alloc: Global, texts: &[&str]) -> Result<Vec<Label>, Fail> {
 
 /// A kind of this latency that holds the only unit at the issue.
 fn kind(alloc: Global, latency: u64) -> Result<Kind, Fail> {
-    let rows = Vec::from_slice(alloc, &[Hold { unit: 0, offset: 0 }])?;
-    let mut alternatives = Vec::new(alloc);
+    let rows = SmallVec::from_slice(alloc, &[Hold { unit: 0, offset: 0 }])?;
+    let mut alternatives = SmallVec::new(alloc);
     alternatives.push(rows)?;
     Ok(Kind {
         latency,

@@ -4,6 +4,7 @@ use outcome_text::push_outcome;
 use problems::{Draft, File, Hold, Kind, Label, Names, Problem, Value};
 use registers::Read;
 use settings::Settings;
+use smallvec::SmallVec;
 use std::alloc::Global;
 use std::process::Abort;
 use std::test::Fail;
@@ -25,14 +26,14 @@ pub(crate) fn sum(
     registers: usize,
     ceiling: u64,
 ) -> Result<Problem, Fail> {
-    let mut rows = Vec::new(alloc);
+    let mut rows = SmallVec::new(alloc);
     for offset in offsets {
         rows.push(Hold {
             unit: 0,
             offset: *offset,
         })?;
     }
-    let mut alternatives = Vec::new(alloc);
+    let mut alternatives = SmallVec::new(alloc);
     alternatives.push(rows)?;
     let mut kinds = Vec::new(alloc);
     kinds.push(Kind {
@@ -118,14 +119,14 @@ fn no_table(rt: HostRuntime) -> Result<(), Fail> {
 
 /// A kind of one cycle that holds these units at the issue.
 fn holding(alloc: Global, units: &[usize]) -> Result<Kind, Fail> {
-    let mut rows = Vec::new(alloc);
+    let mut rows = SmallVec::new(alloc);
     for unit in units {
         rows.push(Hold {
             unit: *unit,
             offset: 0,
         })?;
     }
-    let mut alternatives = Vec::new(alloc);
+    let mut alternatives = SmallVec::new(alloc);
     alternatives.push(rows)?;
     Ok(Kind {
         latency: 1,

@@ -11,6 +11,7 @@ use modulo::{Breach, Culprit};
 use problems::{Draft, File, Hold, Kind, Label, Names, Problem, Value};
 use registers::Read;
 use settings::Settings;
+use smallvec::SmallVec;
 use solution_text::{Missing, push_broken, push_failed, push_missing, push_ok, push_outcome};
 use solutions::{Broken, Cause, Outcome, solve};
 use std::alloc::{AllocError, Global};
@@ -76,9 +77,9 @@ fn labels(alloc: Global, texts: &[&str]) -> Result<Vec<Label>, Fail> {
 
 /// A kind of operations.
 fn kind(alloc: Global, latency: u64, tables: &[&[Hold]]) -> Result<Kind, AllocError> {
-    let mut alternatives = Vec::new(alloc);
+    let mut alternatives = SmallVec::new(alloc);
     for rows in tables {
-        alternatives.push(Vec::from_slice(alloc, rows)?)?;
+        alternatives.push(SmallVec::from_slice(alloc, rows)?)?;
     }
     Ok(Kind {
         latency,

@@ -15,6 +15,7 @@ use machine_data::{Alternative, Alternatives, Machine, OutOfMemory};
 use problems::{Draft, File, Hold, Kind, Order, Problem, Value};
 use registers::Read;
 use settings::Settings;
+use smallvec::SmallVec;
 use solutions::{Outcome, Solution, solve};
 use std::alloc::Global;
 use std::process::Abort;
@@ -39,8 +40,8 @@ enum Both {
 }
 
 /// The rows of an alternative as holds.
-fn holds_of(alloc: Global, alternative: &Alternative) -> Result<Vec<Hold>, OutOfMemory> {
-    let mut holds = Vec::new(alloc);
+fn holds_of(alloc: Global, alternative: &Alternative) -> Result<SmallVec<Hold, 2>, OutOfMemory> {
+    let mut holds = SmallVec::new(alloc);
     for row in alternative.rows() {
         holds.push(Hold {
             unit: usize::from(row.unit),
@@ -52,7 +53,7 @@ fn holds_of(alloc: Global, alternative: &Alternative) -> Result<Vec<Hold>, OutOf
 
 /// A kind with these alternatives.
 fn kind_of(alloc: Global, latency: u64, list: &Alternatives) -> Result<Kind, OutOfMemory> {
-    let mut alternatives = Vec::new(alloc);
+    let mut alternatives = SmallVec::new(alloc);
     for alternative in list.as_slice() {
         alternatives.push(holds_of(alloc, alternative)?)?;
     }

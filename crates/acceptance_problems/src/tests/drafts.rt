@@ -5,6 +5,7 @@ use problems::{
 };
 use registers::Read;
 use settings::Settings;
+use smallvec::SmallVec;
 use std::alloc::{AllocError, Global};
 use std::process::Abort;
 use std::test::Fail;
@@ -88,9 +89,9 @@ fn labels(alloc: Global, texts: &[&str]) -> Result<Vec<Label>, Fail> {
 
 /// A kind of operations.
 fn kind(alloc: Global, latency: u64, tables: &[&[Hold]]) -> Result<Kind, AllocError> {
-    let mut alternatives = Vec::new(alloc);
+    let mut alternatives = SmallVec::new(alloc);
     for rows in tables {
-        alternatives.push(Vec::from_slice(alloc, rows)?)?;
+        alternatives.push(SmallVec::from_slice(alloc, rows)?)?;
     }
     Ok(Kind {
         latency,
