@@ -6,6 +6,7 @@ use problems::{
 };
 use registers::Read;
 use settings::Settings;
+use smallvec::SmallVec;
 use std::alloc::{AllocError, Global};
 use std::test::Fail;
 
@@ -99,9 +100,9 @@ fn empty(alloc: Global) -> Draft {
 
 /// A kind of operations.
 fn kind(alloc: Global, latency: u64, tables: &[&[Hold]]) -> Result<Kind, AllocError> {
-    let mut alternatives = Vec::new(alloc);
+    let mut alternatives = SmallVec::new(alloc);
     for rows in tables {
-        alternatives.push(Vec::from_slice(alloc, rows)?)?;
+        alternatives.push(SmallVec::from_slice(alloc, rows)?)?;
     }
     Ok(Kind {
         latency,
