@@ -1,5 +1,5 @@
-use Rattle.std.proofs.Common.{◌≡◌, ℕ, List, ◌++◌, ap, ◌∙◌}
-use Rattle.std.specs.Prelude.{ℤ, codes}
+use Rattle.std.proofs.Common.{rules, ◌≡◌, ℕ, List, ◌++◌, ap, ◌∙◌}
+use Rattle.std.specs.Prelude.{codes}
 use Rattle.std.proofs.lemmas.Result.{on_ok_weaker}
 use Rattle.graph_text.specs.Edges.{sums_told}
 use Rattle.writing.proofs.Beginnings.{two_pushed}
@@ -26,8 +26,7 @@ returns c =
     let three : c.push_why.new.text.items ≡ old ++ ((from ++ to) ++ (codes " " ++ why))
     = two_pushed old (from ++ to) (codes " " ++ why) c.push_numbered-2.new.text.items c.push_why.new.text.items two word in
     let both : c.push_sums.new.text.items ≡ c.push_why.new.text.items ++ sums
-    = c.in_ok-push_sums.ensures.ok ∙ ap (λ (d : ℤ). c.push_why.new.text.items ++ sums_told d c.from-4.result) c.from-3.ensures
-    ∙ ap (λ (n : ℕ). c.push_why.new.text.items ++ sums_told edge.delay n) c.from-4.ensures in
+    = search rules in
     let four : c.push_sums.new.text.items ≡ old ++ (((from ++ to) ++ (codes " " ++ why)) ++ sums)
     = two_pushed old ((from ++ to) ++ (codes " " ++ why)) sums c.push_why.new.text.items c.push_sums.new.text.items three both in
     record {

@@ -1,4 +1,4 @@
-use Rattle.std.proofs.Common.{ℕ, ◌++◌, ap, ◌∙◌}
+use Rattle.std.proofs.Common.{◌++◌, ap, ◌∙◌}
 use Rattle.graph.specs.Units.{operations_of, use_of}
 use Rattle.graph_text.proofs.Texts.{numbered-more}
 use Rattle.resource_bound.specs.Choices.{rows_at}
