@@ -8,5 +8,5 @@ mod outcome;
 mod units;
 
 pub use circuit::circuit_of;
-pub use outcome::push_outcome;
-pub use units::{rows_at, rows_with, use_of};
+pub use outcome::{is_met, push_outcome};
+pub use units::{fullest_of, rows_at, rows_with, use_of};
