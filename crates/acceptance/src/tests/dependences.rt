@@ -22,11 +22,7 @@ fn dependences_of(alloc: Global, machine: &str, text: &str) -> Result<Edges, Fai
 /// Whether an interval is at or above the recurrence bound, and how many rounds are made.
 fn rounds_of(alloc: Global, machine: &str, text: &str, ii: u16) -> Result<(bool, u64), Fail> {
     let dependences = dependences_of(alloc, machine, text)?;
-    Ok(rounds(
-        alloc,
-        &dependences,
-        u64::from(ii).clamp(1, 16384),
-    )?)
+    Ok(rounds(alloc, &dependences, u64::from(ii).clamp(1, 16384))?)
 }
 
 // The recurrence of `CHAIN` takes 5 cycles.

@@ -6,9 +6,7 @@ use super::given::{
     ABS, ACC, ACCO, ALTS, CHAIN, EDGE, FAR, FORCE, HOLD, KEEP, LAST, LATE, LONE, POW, SHIFT, SUM,
     WRAP,
 };
-use loops::{
-    Loop, Memory, RunFault, apply, opening, read_loops, run_from, run_plain, write_loop,
-};
+use loops::{Loop, Memory, RunFault, apply, opening, read_loops, run_from, run_plain, write_loop};
 use machine::Opcode;
 use std::alloc::Global;
 use std::process::Abort;
@@ -60,7 +58,10 @@ fn refusal_from(alloc: Global, text: &str, other: &str) -> Result<Option<RunFaul
 fn refuses_trips_and_shapes(rt: HostRuntime) -> Result<(), Fail> {
     assert_eq!(rt; refusal(rt.alloc(), ACC, 100_000)?, None);
     assert_eq!(rt; refusal(rt.alloc(), ACC, 100_001)?, Some(RunFault::Trip));
-    assert_eq!(rt; refusal_from(rt.alloc(), ACC, CHAIN)?, Some(RunFault::Shape));
+    assert_eq!(rt;
+        refusal_from(rt.alloc(), ACC, CHAIN)?,
+        Some(RunFault::Shape)
+    );
     assert_eq!(rt; refusal_from(rt.alloc(), ACC, ACC)?, None);
     Ok(())
 }
