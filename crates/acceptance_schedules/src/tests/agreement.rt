@@ -1,14 +1,13 @@
-//! Listings over each of the three reservation tables: the same bytes.
+//! Schedules over each of the three reservation tables: the same times.
 
 ghost use Rattle.std.specs.Prelude.{◌≤◌, ◌<◌};
 ghost use Rattle.ims.specs.Problems.{mii_of};
 
-use super::text_of;
-use ims::{Failure, Prepared, Schedule, Try, attempt};
+use super::{found, is_found};
+use ims::Prepared;
 use loops::read_loops;
 use machine::{Machine, read_machine};
-use mrt::{MaskTable, ModuloTable, OwnerTable, TimelineTable};
-use rotating::allot;
+use mrt::{MaskTable, OwnerTable, TimelineTable};
 use std::alloc::{AllocError, Global};
 use std::process::Abort;
 use std::test::Fail;
@@ -27,97 +26,33 @@ ops.add = { latency = 1, alts = [["alu@0"], ["mem@0", "alu@9"]] }
 ops.mul = { latency = 4, alts = [["alu@0", "alu@2"]] }
 "#;
 
-/// Adds the text of a schedule's kernel, or that some value has no register. Tells whether there is a kernel.
-fn add_kernel(
-    rt: &impl Abort,
-    alloc: Global,
-    schedule: &Schedule,
-    listing: &mut String,
-) -> Result<bool, Fail> {
-    let registers = u64::from(schedule.prepared().registers());
-    assert!(rt; 1 <= registers && registers <= 256);
-    let Some(allotment) = allot(alloc, schedule, registers)? else {
-        listing.push_str("registers\n")?;
-        return Ok(false);
-    };
-    listing.push_str(text_of(alloc, schedule, &allotment)?.as_str())?;
-    Ok(true)
-}
-
-/// The line of an attempt that failed.
-fn line_of(failure: Failure) -> &'static str {
-    match failure {
-        Failure::Table => "table\n",
-        Failure::Budget => "budget\n",
-        Failure::Stages => "stages\n",
-    }
-}
-
-/// Adds what an interval gives over a table, and tells whether it is a kernel.
-fn add_interval<T: ModuloTable>(
-    rt: &impl Abort,
-    alloc: Global,
-    prepared: &Prepared,
-    ii: u64,
-    listing: &mut String,
-) -> Result<bool, Fail>
+/// The tables agree at an interval.
+fn agree_at(rt: &impl Abort, alloc: Global, prepared: &Prepared, ii: u64) -> Result<(), Fail>
     requires from_mii { mii_of prepared.now ≤ ii }
     requires limit { ii ≤ 16384 }
 {
     let operations = prepared.operations() as u64;
     assert!(rt; operations <= 128);
-    match attempt::<T>(alloc, prepared, ii, 6 * operations)? {
-        Try::Placed(schedule) => add_kernel(rt, alloc, &schedule, listing),
-        Try::Failed(failure) => {
-            listing.push_str(line_of(failure))?;
-            Ok(false)
-        }
-    }
+    let budget = 6 * operations;
+    let (places, failure) = found::<OwnerTable>(alloc, prepared, ii, budget)?;
+    is_found::<MaskTable>(rt, alloc, prepared, ii, budget, &places, failure)?;
+    is_found::<TimelineTable>(rt, alloc, prepared, ii, budget, &places, failure)
 }
 
-/// Adds what the least intervals of a loop give over a table, up to the first kernel.
-fn add_loop<T: ModuloTable>(
-    rt: &impl Abort,
-    alloc: Global,
-    prepared: &Prepared,
-    listing: &mut String,
-) -> Result<(), Fail> {
+/// The tables agree at the least intervals of a loop. Tells whether there are any: the machine may lack one of its opcodes.
+fn agree(rt: &impl Abort, alloc: Global, machine: &Machine, text: &str) -> Result<bool, Fail> {
+    let innermost = read_loops(alloc, text.as_bytes())?.pop().ok_or("a loop")?;
+    let Ok(prepared) = Prepared::new(alloc, machine, innermost, 6, 32) else {
+        return Ok(false);
+    };
     let mii = prepared.mii();
     for ii in mii..mii + 8 {
-        if add_interval::<T>(rt, alloc, prepared, ii, listing)? {
-            return Ok(());
-        }
+        agree_at(rt, alloc, &prepared, ii)?;
     }
-    Ok(())
+    Ok(true)
 }
 
-/// What a loop gives over a table; nothing where the machine lacks one of its opcodes.
-fn listing<T: ModuloTable>(
-    rt: &impl Abort,
-    alloc: Global,
-    machine: &Machine,
-    text: &str,
-) -> Result<String, Fail> {
-    let mut listing = String::new(alloc);
-    let innermost = read_loops(alloc, text.as_bytes())?.pop().ok_or("a loop")?;
-    if let Ok(prepared) = Prepared::new(alloc, machine, innermost, 6, 32) {
-        add_loop::<T>(rt, alloc, &prepared, &mut listing)?;
-    }
-    Ok(listing)
-}
-
-/// The listing of a loop is the same over each table. Tells whether it has a line.
-fn agree(rt: &impl Abort, alloc: Global, machine: &Machine, text: &str) -> Result<bool, Fail> {
-    let owners = listing::<OwnerTable>(rt, alloc, machine, text)?;
-    let masks = listing::<MaskTable>(rt, alloc, machine, text)?;
-    assert_eq!(rt; masks.as_str(), owners.as_str());
-    let timelines = listing::<TimelineTable>(rt, alloc, machine, text)?;
-    assert_eq!(rt; timelines.as_str(), owners.as_str());
-    Ok(!owners.as_str().is_empty())
-}
-
-/// The listings of loops are the same over each table, on each machine. Each has a line, unless machines may lack
-/// opcodes.
+/// The tables agree for loops on each machine. None of these lacks an opcode, unless it may.
 fn all_agree(
     rt: &impl Abort,
     alloc: Global,
