@@ -27,8 +27,8 @@ pub(super) fn write_to(
     let status = engine(rt, alloc, &command, &mut first, &mut last, &mut output);
     let number = status.number();
     let is_refused = number == 4 || number == 5;
-    let took = if is_refused { 0 } else { room.min(out.len()) };
     let out = out.as_bytes();
+    let took = if is_refused { 0 } else { room.min(out.len()) };
     assert!(rt; output.as_slice() == &out[..took], "room for {room}");
     number
 }

@@ -279,7 +279,8 @@ fn left_nothing(rt: &impl Abort, all: &Together)
 fn two_threads_of_a_caller_are_at_work_at_once(rt: HostRuntime) -> Result<(), Fail> {
     let alloc = rt.alloc();
     let three = Three::new(&rt, alloc)?;
-    left_nothing(&rt, &by_two(&rt, alloc, &three, &OpenGate)?);
+    let all = by_two(&rt, alloc, &three, &OpenGate)?;
+    left_nothing(&rt, &all);
     let gate = Roll::new();
     let all = by_two(&rt, alloc, &three, &gate)?;
     left_nothing(&rt, &all);
