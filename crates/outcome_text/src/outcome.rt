@@ -10,7 +10,7 @@ use solutions::{Outcome, solve};
 use std::alloc::Global;
 
 /// Whether an outcome is a solution.
-fn is_met(outcome: &Outcome) -> bool
+pub fn is_met(outcome: &Outcome) -> bool
     ensures { result ≡ is_met outcome.now }
 {
     match outcome {

@@ -73,8 +73,12 @@ fn units_with(
     Ok(full)
 }
 
-/// The units that the resource-constrained bound is due to.
-fn fullest_of(alloc: Global, problem: &Problem) -> Result<Vec<usize>, OutOfMemory>
+/// The units that the resource-constrained bound is due to, in order: those that are used as often as it says when each operation
+/// takes the alternative that the bound counts.
+///
+/// # Errors
+/// Memory ran out.
+pub fn fullest_of(alloc: Global, problem: &Problem) -> Result<Vec<usize>, OutOfMemory>
     ensures { IfOk result (λ units. AreFullest problem.now units.items) }
 {
     let scheduling = problem.scheduling();

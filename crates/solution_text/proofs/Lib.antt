@@ -2,5 +2,5 @@ pub mod Loops
 pub mod Places
 pub mod Meant
 pub mod Shown
-pub mod Evidence
+pub mod EvidenceLemmas
 pub mod Carrying

@@ -44,7 +44,7 @@ pub(crate) fn push_files(text: &mut Vec<u8>, solution: &Solution) -> Result<(), 
 }
 
 /// Whether some file is unallotted.
-fn has_free(files: &[File]) -> bool
+pub fn has_free(files: &[File]) -> bool
     ensures { result ≡ list_any is_free files.now }
 {
     files.iter().any(|file| matches!(file, File::Unallotted))

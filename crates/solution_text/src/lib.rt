@@ -16,8 +16,10 @@ mod values;
 mod verdicts;
 
 pub use failures::{push_cause, push_failed};
+pub use files::has_free;
 pub use laws::names_are_those_of_runs;
-pub use named::Register;
-pub use outcomes::push_outcome;
+pub use named::{Register, register_behind};
+pub use outcomes::{evidence, push_outcome};
 pub use solved::push_solution;
+pub use values::carried;
 pub use verdicts::{Missing, push_broken, push_missing, push_ok};

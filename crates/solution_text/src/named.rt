@@ -20,8 +20,10 @@ pub struct Register {
     pub number: usize,
 }
 
-/// The register that is `above` after the number of a value, counted round its file; `None` if the file is unallotted.
-pub(crate) fn register_behind(solution: &Solution, value: usize, above: u64) -> Option<Register>
+/// The register that is `above` after the number of a value, counted round its file; `None` if the file is unallotted. By the
+/// stage of its maker it is where that puts the value, by the distance and the stage of a read where that finds it, and by a
+/// number of iterations where the instance that many iterations before the first one is put before the first turn.
+pub fn register_behind(solution: &Solution, value: usize, above: u64) -> Option<Register>
     requires there { value < length solution.now.problem.draft.values.items }
     requires few { above ≤ 4096 }
     ensures { result ≡ register_behind (home_of (run_of solution.now) value) above }

@@ -36,8 +36,16 @@ fn last_culprit(alloc: Global, problem: &Problem) -> Result<Option<Culprit>, Out
     culprit::<DefaultTable>(alloc, scheduling, last, budget(scheduling))
 }
 
-/// The culprits of the cause by which the last interval that is tried gives no solution; of a lack of registers nobody else.
-fn evidence(alloc: Global, problem: &Problem, cause: Cause) -> Result<Option<Culprit>, OutOfMemory>
+/// The culprits of the cause by which the last interval that is tried gives no solution; of a lack of registers nobody else. The
+/// attempt at that interval is made once more to find them.
+///
+/// # Errors
+/// [`OutOfMemory`] where memory ran out.
+pub fn evidence(
+    alloc: Global,
+    problem: &Problem,
+    cause: Cause,
+) -> Result<Option<Culprit>, OutOfMemory>
     requires { FailsBy problem.now (last_of problem.now) cause }
     ensures { IfOk result (IsEvidence problem.now cause) }
 {

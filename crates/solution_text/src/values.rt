@@ -81,8 +81,8 @@ pub(crate) fn push_values(text: &mut Vec<u8>, solution: &Solution) -> Result<(),
     Ok(())
 }
 
-/// How many iterations a value is carried on.
-fn carried(solution: &Solution, value: usize) -> u64
+/// How many iterations a value is carried on: it needs one initial value for each of these.
+pub fn carried(solution: &Solution, value: usize) -> u64
     requires { value < length solution.now.problem.draft.values.items }
     ensures value { result ≡ carried_by (run_of solution.now) value }
     ensures few { result ≤ 16 }

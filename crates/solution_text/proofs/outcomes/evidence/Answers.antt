@@ -4,7 +4,7 @@ use Rattle.modulo.specs.declared.outcome.attempts.Failure.TheVariants as failure
 use Rattle.solutions.specs.declared.solving.outcome.Cause.{Cause}
 use Rattle.solutions.specs.Outcomes.{FailsBy, last_of}
 use Rattle.solution_text.specs.Outcomes.{IsEvidence}
-use Rattle.solution_text.proofs.Evidence.{found-failure}
+use Rattle.solution_text.proofs.EvidenceLemmas.{found-failure}
 use Rattle.solution_text.proofs.outcomes.evidence.Goals as goal
 
 pub returns-in-Table : goal.returns-in-Table
