@@ -4,7 +4,6 @@ use Rattle.std.proofs.lemmas.Bool.{cases_lt}
 use Rattle.std.specs.Prelude.{Some, None, MatchBool, not}
 use Rattle.machine_data.specs.Machines.{MachineData}
 use Rattle.ims.specs.Problems.{IsProblem, ProblemData, mii_of}
-use Rattle.kernel.specs.declared.kernels.parts.Parts.{Parts}
 use Rattle.candidates.specs.declared.outcomes.Cause.{Cause}
 use Rattle.candidates.specs.Outcomes.{FailsBy, GivesKernel}
 use Rattle.candidates.proofs.Rising.{Risen, met_here, none_where, risen_none, risen_on, unmet_here}

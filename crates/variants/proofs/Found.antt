@@ -1,15 +1,11 @@
 -- What a loop has on a machine and on its variants, by what was found.
-use Rattle.std.proofs.Common.{◌≡◌, ◌≤◌, ◌+◌, ◌-◌, ℕ, false, sym, subst, arith}
-use Rattle.std.specs.Prelude.{Option, Some, None, Ok, Err}
-use Rattle.machine_data.specs.declared.opcode.Opcode.{Opcode}
+use Rattle.std.proofs.Common.{◌≡◌, ℕ, false}
+use Rattle.std.specs.Prelude.{Option, Some, None}
 use Rattle.machine_data.specs.Machines.{MachineData}
-use Rattle.loop_data.specs.Loops.{LoopData}
-use Rattle.graph.specs.declared.fault.GraphFault.TheVariants.{NoTable}
-use Rattle.graph.specs.TablesAnswer.{TablesAnswer}
-use Rattle.ims.specs.Problems.{IsProblemOf, ProblemData}
+use Rattle.ims.specs.Problems.{ProblemData}
 use Rattle.machine_variants.specs.declared.variant.Variant.{Variant}
 use Rattle.machine_variants.specs.Variants.{passes_limit}
-use Rattle.variants.specs.Intervals.{IsFinding, IsIntervalOf, IsIntervalOn, IsVariedInterval}
+use Rattle.variants.specs.Intervals.{IsFinding, IsVariedInterval}
 use Rattle.variants.specs.inner.Tries.{found_of}
 
 -- what was found on a variant within the limits

@@ -1,11 +1,7 @@
 -- What attempts give with other numbers of registers.
-use Rattle.std.proofs.Common.{◌≡◌, ◌≤◌, ◌<◌, ◌+◌, ℕ, List, [], ◌∷◌, ◌++◌, length, get_or, refl, sym, ◌∙◌, subst, inl, inr, arith}
-use Rattle.std.proofs.lemmas.Bool.{cases_lt}
-use Rattle.std.proofs.lemmas.List.{get_or_append_left, get_or_push, length_push}
+use Rattle.std.proofs.Common.{◌≡◌, ◌≤◌, ◌<◌, ◌+◌, ℕ, List, length, get_or, refl, sym, subst}
 use Rattle.std.specs.Prelude.{Option, Some, None, MatchBool, MatchOption, is_some}
 use Rattle.machine_data.specs.Machines.{MachineData}
-use Rattle.modulo.specs.declared.outcome.attempts.Failure.{Failure}
-use Rattle.modulo.specs.declared.outcome.attempts.Failure.TheVariants as failure
 use Rattle.ims.specs.declared.outcome.attempts.Try.{Try}
 use Rattle.ims.specs.declared.outcome.attempts.Try.TheVariants as try
 use Rattle.ims.specs.Attempts.{AnswersAttempt}
@@ -15,7 +11,7 @@ use Rattle.ims.proofs.problems.OneProblems.{one-problem}
 use Rattle.overlap.specs.Allotments.{AllotmentData, AreLeast, HaveNone, LeastFor, NoneFor}
 use Rattle.overlap.specs.Emission.{emitted}
 use Rattle.overlap.specs.Lifetimes.{lifetimes_of}
-use Rattle.candidates.specs.declared.outcomes.Cause.TheVariants.{Table, Budget, Stages, Registers}
+use Rattle.candidates.specs.declared.outcomes.Cause.TheVariants.{Registers}
 use Rattle.candidates.specs.Outcomes.{IsPlacedAs}
 use Rattle.machine_variants.specs.declared.variant.Variant.TheVariants as variant
 use Rattle.machine_variants.specs.Variants.{varied}

@@ -1,5 +1,5 @@
 -- What is told of loops, one after another.
-use Rattle.std.proofs.Common.{◌≡◌, ◌<◌, ◌≤◌, ◌+◌, ℕ, Bool, cond, List, [], ◌∷◌, ◌++◌, filter, length, take, get_or, refl, sym, ap, ◌∙◌, subst, append_assoc, arith}
+use Rattle.std.proofs.Common.{◌≡◌, ◌<◌, ◌≤◌, ◌+◌, ℕ, Bool, cond, List, [], ◌∷◌, ◌++◌, filter, length, take, get_or, refl, sym, ap, ◌∙◌, subst}
 use Rattle.std.specs.Prelude.{Option, Some, None, count_by, not}
 use Rattle.std.specs.List.{All, AllZip}
 use Rattle.std.proofs.lemmas.List.{append-nil, take_all, take_more}
@@ -10,12 +10,13 @@ use Rattle.machine_data.specs.Machines.{MachineData}
 use Rattle.loop_data.specs.Loops.{LoopData}
 use Rattle.graph.specs.Units.{first_lacking, first_without_table, lacking_or}
 use Rattle.graph_text.specs.Texts.{AreTexts}
-use Rattle.graph_text.proofs.Texts.{all_zip-push, behind, texts-more, texts-none, zipped-push}
+use Rattle.graph_text.proofs.Texts.{all_zip-push, texts-more, zipped-push}
+use Rattle.writing.proofs.Beginnings.{two_pushed}
 use Rattle.ims.specs.Problems.{IsProblemOf, ProblemData}
 use Rattle.machine_variants.specs.declared.variant.Variant.{Variant}
+use Rattle.machine_variants.specs.Variants.{concerns, variants_for, variants_of}
 use Rattle.variants.specs.declared.finding.Finding.{Finding}
 use Rattle.variants.specs.declared.finding.Standing.{Standing}
-use Rattle.machine_variants.specs.Variants.{concerns, variants_for, variants_of}
 use Rattle.variants.specs.Intervals.{IsFinding, IsStanding}
 use Rattle.variants.specs.Texts.{ArePartsOf, IsPartOf, PartData, is_met, loop_line, variant_line}
 use Rattle.variants.specs.inner.Tries.{IsOn}
@@ -54,7 +55,7 @@ done-push machine problems old new newer met failed newer_met newer_failed p has
         number_met = m ∙ ap (λ n. n + count_by is_met (has ∷ [])) d.parts.number_met ∙ sym (count-push (λ (x : PartData). is_met x.standing) parts.values y);
         number_failed = f ∙ ap (λ n. n + count_by (λ h. not (is_met h)) (has ∷ [])) d.parts.number_failed ∙ sym (count-push (λ (x : PartData). not (is_met x.standing)) parts.values y);
       };
-      is_text = behind old d.text new part newer d.is_text e;
+      is_text = two_pushed old d.text part new newer d.is_text e;
     }
 
 pub done-more : (machine : MachineData) (problems : List ProblemData) (i : ℕ) (old new newer : List ℕ) (met failed newer_met newer_failed : ℕ) (p : ProblemData) (has : Standing)
@@ -108,7 +109,7 @@ pub lines-more : (machine : MachineData) (p : ProblemData) (has : Standing) (var
 lines-more machine p has variants i d old new newer low before one = (
   before.0 ++ variant_line machine has (get_or variants i d) one.0,
   texts-more (IsFinding machine p) (variant_line machine has) variants i d before.0 one.0 low before.1 one.1,
-  behind old before.0 new (variant_line machine has (get_or variants i d) one.0) newer before.2 one.2,
+  two_pushed old before.0 (variant_line machine has (get_or variants i d) one.0) new newer before.2 one.2,
 )
 
 -- the part of a loop: its line, and those of the variants that concern it
@@ -125,5 +126,5 @@ part-of machine p has loop all concerned told old mid new same_loop is_all is_co
         are_lines = subst (λ vs. AreTexts (IsFinding machine p) (variant_line machine has) vs lines.0) same lines.1;
         is_text = refl;
       },
-      behind old (loop_line p has) mid lines.0 new at lines.2,
+      two_pushed old (loop_line p has) lines.0 mid new at lines.2,
     )

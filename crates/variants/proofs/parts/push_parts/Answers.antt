@@ -1,4 +1,4 @@
-use Rattle.std.proofs.Common.{◌≡◌, ◌+◌, ◌<◌, length, refl, arith}
+use Rattle.std.proofs.Common.{◌<◌, length, refl, arith}
 use Rattle.variants.proofs.Told.{done-all, done-more, done-none}
 use Rattle.variants.proofs.parts.push_parts.Goals as goal
 
