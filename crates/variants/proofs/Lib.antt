@@ -1,0 +1,5 @@
+pub mod Deciding
+pub mod Found
+pub mod Giving
+pub mod Others
+pub mod Told

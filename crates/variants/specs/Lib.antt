@@ -1,0 +1,3 @@
+pub mod Intervals
+pub mod Texts
+pub mod inner
