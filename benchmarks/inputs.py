@@ -1,5 +1,5 @@
 #!/usr/bin/env python3
-"""Makes the inputs of ./bench, always the same bytes.
+"""Makes the inputs of ./x bench, always the same bytes.
 
     python3 benchmarks/inputs.py DIRECTORY
 

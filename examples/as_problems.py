@@ -64,7 +64,7 @@ def problem_lines(block: str, outs: dict[str, set[str]]) -> Iterator[str]:
                     values.append(f"value {name} of {name} lands {latency} in r" + (" out" if name in outs[loop] else ""))
             case ["edge", one, _, other, _, kind, "delay", delay, "distance", distance]:
                 if kind == "value":
-                    rest.append(f"read {names[int(other)]} {names[int(one)]} distance {distance}")
+                    rest.append(f"read {names[int(other)]} {names[int(one)]}" + (f" distance {distance}" if distance != "0" else ""))
                 else:
                     rest.append(f"edge {names[int(one)]} {names[int(other)]} delay {delay} distance {distance}")
     yield from [*values, *rest, "end"]

@@ -15,7 +15,7 @@ def arguments() -> argparse.Namespace:
     """The arguments of the command line."""
     parser = argparse.ArgumentParser(
         prog="solve.py",
-        description="Solves the problems of problems.json with libmodsched.so (./library makes it), and writes solutions.json. A line on standard error tells of"
+        description="Solves the problems of problems.json with libmodsched.so (./x library makes it), and writes solutions.json. A line on standard error tells of"
         " each problem that has no solution, and why: the status is then 1.",
     )
     parser.add_argument("--library", default=os.path.join(solving.ROOT, "out", "libmodsched.so"), metavar="FILE", help="the library (out/libmodsched.so)")

@@ -16,7 +16,7 @@ def main() -> int:
     for test, _ in [*result.failures, *result.errors]:
         print(f"llvm: FAILED: {test}")
     if not common.HAS_LIBRARY:
-        print("llvm: plain Python solved the problems, since ./library has not made out/libmodsched.so")
+        print("llvm: plain Python solved the problems, since ./x library has not made out/libmodsched.so")
     print(f"{max(0, result.testsRun - len(result.skipped) - failed)} passed, {failed} failed")
     return 1 if failed else 0
 

@@ -94,7 +94,7 @@ class Solutions(unittest.TestCase):
         self.assertEqual((done.returncode, done.stdout), (2, ""))
         self.assertIn("nothing.so", done.stderr)
 
-    @unittest.skipUnless(common.HAS_LIBRARY, "./library has not made out/libmodsched.so")
+    @unittest.skipUnless(common.HAS_LIBRARY, "./x library has not made out/libmodsched.so")
     def test_solved(self):
         """A load each cycle, and a sum that waits one: interval 1. The sum is issued 3 cycles after its load."""
         written("p.json", run("problems.py", written("small.c", SMALL)).stdout)
@@ -104,7 +104,7 @@ class Solutions(unittest.TestCase):
         solution = found["solutions"][0]
         self.assertEqual((solution["name"], solution["interval"], solution["stages"], solution["times"]), ("f", 1, 4, {"small.c:4:load": 0, "small.c:4:add": 3}))
 
-    @unittest.skipUnless(common.HAS_LIBRARY, "./library has not made out/libmodsched.so")
+    @unittest.skipUnless(common.HAS_LIBRARY, "./x library has not made out/libmodsched.so")
     def test_unsolved(self):
         """One register is not enough for a value that lives while the next one is made."""
         given = json.loads(run("problems.py", written("small.c", SMALL)).stdout)
@@ -115,7 +115,7 @@ class Solutions(unittest.TestCase):
         self.assertIn("f has no solution: no interval up to 1 works: registers", done.stderr)
         self.assertEqual(json.loads(done.stdout)["solutions"], [])
 
-    @unittest.skipUnless(common.HAS_LIBRARY, "./library has not made out/libmodsched.so")
+    @unittest.skipUnless(common.HAS_LIBRARY, "./x library has not made out/libmodsched.so")
     def test_as_plain(self):
         """The library and plain Python come to the same solutions of the corpus."""
         for path in cases.corpus_files():

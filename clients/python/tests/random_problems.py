@@ -1,4 +1,4 @@
-"""Random texts of scheduling problems and of solutions, and what `modsched solve` and `modsched check` have to say of them: ./fuzz runs these rounds.
+"""Random texts of scheduling problems and of solutions, and what `modsched solve` and `modsched check` have to say of them: ./x fuzz runs these rounds.
 
 A round makes a text of problems, from small ones to some at their limits, and compares with plain Python (plain_texts.py, which shares no code with modsched)
   - what `solve` prints, byte for byte, but that any circuit that needs the bound may be told; by one worker and by others with other cuts the same bytes;

@@ -1,5 +1,4 @@
-//! Tests that cross crates: texts go into the readers and what was read into the bounds and runs, and the words of a line and the
-//! texts of its files go into the whole program over memory.
+//! Tests that cross crates: texts go into the readers, and what was read into the bounds and runs.
 #![tactic(auto)]
 
 #[cfg(test)]

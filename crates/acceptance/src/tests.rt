@@ -1,11 +1,6 @@
-//! What is worked out by hand for texts of machines and loops.
+//! What no command prints of texts of machines and loops, and the README's example.
 
-mod certificates;
 mod dependences;
-mod faults;
 mod given;
-mod graph_texts;
-mod kernels;
 mod library;
-mod matrices;
 mod runs;

@@ -1,5 +1,4 @@
-//! Tests that cross crates: live ranges, register numbers and kernels of worked schedules are compared with values worked out by hand,
-//! and the kernels are run against the loops.
+//! Tests of kernels that are built by hand, and of numbers of registers that are given.
 #![tactic(auto)]
 
 #[cfg(test)]

@@ -1,5 +1,5 @@
-//! Tests that cross crates: problems as back ends of compilers have them are solved, and their intervals, times, live ranges and
-//! register numbers are compared with values worked out by hand.
+//! Tests of the crates for scheduling problems: drafts and their faults, a problem that is given by numbers, lines and whole texts with how many bytes the word at fault has, problems
+//! without names, and pieces of lines. All is worked by hand. What the program prints of texts is told by its sessions.
 #![tactic(auto)]
 
 #[cfg(test)]

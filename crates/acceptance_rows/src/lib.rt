@@ -1,5 +1,4 @@
-//! Tests that cross crates: the words of a line and the texts of its files go into the whole program over memory, where reads and writes fail in
-//! each place and texts are cut after each byte. What the built program prints for whole texts is said by sessions, in tests/sessions.
+//! Tests of command lines over memory whose inputs and outputs fail, and over texts that are cut.
 #![tactic(auto)]
 
 #[cfg(test)]

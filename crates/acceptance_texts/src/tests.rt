@@ -1,8 +1,6 @@
 //! Texts and lines, each with what they have to give.
 
 mod command_lines;
-mod documents;
-mod machines;
 mod standard_output;
 mod statuses;
 mod whole_texts;

@@ -1,6 +1,7 @@
 -- The text of a listing.
-use Rattle.std.specs.Prelude.{ℕ, ◌+◌, decimal, codes, max, nat_lt, Bool, if◌then◌else◌, List, [], ◌++◌, length, count_by}
+use Rattle.std.specs.Prelude.{ℕ, ◌+◌, codes, max, nat_lt, Bool, if◌then◌else◌, List, [], ◌++◌, length, count_by}
 use Rattle.std.specs.List.{flat_map, list_any}
+use Rattle.writing.specs.Words.{ended, last_line, told}
 use Rattle.kernel.specs.Text.{kernel_text_of}
 use Rattle.candidates.specs.declared.outcomes.Cause.{Cause}
 use Rattle.candidates.specs.declared.outcomes.Cause.TheVariants.{Table, Budget, Stages, Registers}
@@ -14,10 +15,6 @@ cause_word Table = codes "table"
 cause_word Budget = codes "budget"
 cause_word Stages = codes "stages"
 cause_word Registers = codes "registers"
-
--- a word, and a number after it
-abbrev pub told : List ℕ → ℕ → List ℕ
-told word number = word ++ decimal number
 
 -- the least interval that is tried
 abbrev pub mii_in : Row → ℕ
@@ -33,7 +30,7 @@ head_of row =
 -- interval that was tried
 abbrev pub choice_text : ℕ → Choice → List ℕ
 choice_text last (Met ii kernel) = ((told (codes " ii ") ii ++ told (codes " stages ") kernel.stages) ++ codes "\n") ++ kernel_text_of kernel
-choice_text last (Failed cause) = told (codes " failed to ") last ++ ((codes ": " ++ cause_word cause) ++ codes "\n")
+choice_text last (Failed cause) = told (codes " failed to ") last ++ (codes ": " ++ ended (cause_word cause))
 
 abbrev pub row_text : ℕ → Row → List ℕ
 row_text ceiling row = head_of row ++ choice_text (mii_in row + ceiling) row.choice
@@ -55,7 +52,7 @@ number_failed rows = count_by (λ (row : Row). is_failed row.choice) rows
 
 -- `loops A met B failed F`
 abbrev pub counts_line : List Row → List ℕ
-counts_line rows = ((told (codes "loops ") (length rows) ++ told (codes " met ") (number_met rows)) ++ told (codes " failed ") (number_failed rows)) ++ codes "\n"
+counts_line rows = last_line (codes "loops ") (length rows) (number_met rows) (number_failed rows)
 
 unfoldable pub listing_text_of : ListingData → List ℕ
 listing_text_of listing = (version_text listing.rows ++ flat_map (row_text listing.ceiling) listing.rows) ++ counts_line listing.rows

@@ -1,18 +1,19 @@
 //! Listings as text.
 
-ghost use Rattle.std.specs.Prelude.{◌≡◌, ◌≤◌, ◌++◌, decimal, codes, IfOk, string_bytes};
+ghost use Rattle.std.specs.Prelude.{◌≡◌, ◌≤◌, ◌++◌, codes, IfOk, string_bytes};
 ghost use Rattle.std.specs.List.{All, flat_map};
 ghost use Rattle.candidates.specs.declared.choices.Choice.TheVariants.{Failed, Met};
+ghost use Rattle.writing.specs.Words.{ended};
 ghost use Rattle.candidates.specs.Listings.{IsRow};
 ghost use Rattle.candidates.specs.Texts.{cause_word, choice_text, has_outs, head_of, counts_line, listing_text_of, mii_in, number_failed, number_met, row_text, version_text};
 
 use crate::choices::Choice;
 use crate::listings::{Listing, Row};
 use crate::outcomes::Cause;
-use itoa::Buffer;
 use kernel::{Kernel, text_room, write_kernel};
 use machine_data::OutOfMemory;
 use std::alloc::Global;
+use writing::{push_both, push_last, push_line, push_told};
 
 /// How many bytes are reserved for the line of a loop.
 const LINE_ROOM: usize = 128;
@@ -99,20 +100,19 @@ fn write_head(text: &mut String, row: &Row, least: u64) -> Result<(), OutOfMemor
     requires { least ≡ mii_in row.now }
     ensures { IfOk result (λ _. string_bytes text.new ≡ string_bytes text.old ++ head_of row.now) }
 {
-    text.push_str("loop ")?;
-    text.push_str(row.name.as_str())?;
-    write_number(text, " ops ", row.operations as u64)?;
-    write_number(text, " res ", row.resources)?;
-    write_number(text, " rec ", row.recurrences)?;
-    write_number(text, " mii ", least)
+    push_both(text, "loop ", row.name.as_str())?;
+    push_told(text, " ops ", row.operations as u64)?;
+    push_told(text, " res ", row.resources)?;
+    push_told(text, " rec ", row.recurrences)?;
+    push_told(text, " mii ", least)
 }
 
 /// Writes the rest of the line of a loop that has a kernel, and the kernel's text.
 fn write_met(text: &mut String, ii: u64, kernel: &Kernel) -> Result<(), OutOfMemory>
     ensures { IfOk result (λ _. string_bytes text.new ≡ string_bytes text.old ++ choice_text 0 (Met ii kernel.now)) }
 {
-    write_number(text, " ii ", ii)?;
-    write_number(text, " stages ", kernel.parts().stages)?;
+    push_told(text, " ii ", ii)?;
+    push_told(text, " stages ", kernel.parts().stages)?;
     text.push_str("\n")?;
     write_kernel(text, kernel)
 }
@@ -121,18 +121,16 @@ fn write_met(text: &mut String, ii: u64, kernel: &Kernel) -> Result<(), OutOfMem
 fn write_failed(text: &mut String, last: u64, cause: Cause) -> Result<(), OutOfMemory>
     ensures { IfOk result (λ _. string_bytes text.new ≡ string_bytes text.old ++ choice_text last (Failed cause)) }
 {
-    write_number(text, " failed to ", last)?;
+    push_told(text, " failed to ", last)?;
     write_cause(text, cause)
 }
 
 /// Writes a cause, and ends the line.
 fn write_cause(text: &mut String, cause: Cause) -> Result<(), OutOfMemory>
-    ensures { IfOk result (λ _. string_bytes text.new ≡ string_bytes text.old ++ ((codes ": " ++ cause_word cause) ++ codes "\n")) }
+    ensures { IfOk result (λ _. string_bytes text.new ≡ string_bytes text.old ++ (codes ": " ++ ended (cause_word cause))) }
 {
     text.push_str(": ")?;
-    text.push_str(cause.word())?;
-    text.push_str("\n")?;
-    Ok(())
+    push_line(text, cause.word())
 }
 
 /// Appends the last line: how many loops there are, how many have a kernel and how many have none. Where
@@ -140,33 +138,20 @@ fn write_cause(text: &mut String, cause: Cause) -> Result<(), OutOfMemory>
 pub fn write_last(text: &mut String, rows: &[Row]) -> Result<(), OutOfMemory>
     ensures text { IfOk result (λ _. string_bytes text.new ≡ string_bytes text.old ++ counts_line rows.now) }
 {
-    write_number(text, "loops ", rows.len() as u64)?;
-    write_number(text, " met ", number_met(rows) as u64)?;
-    write_number(text, " failed ", number_failed(rows) as u64)?;
-    text.push_str("\n")?;
-    Ok(())
+    let (met, failed) = (number_met(rows) as u64, number_failed(rows) as u64);
+    push_last(text, "loops ", rows.len() as u64, met, failed)
 }
 
 /// How many loops have a kernel.
-fn number_met(rows: &[Row]) -> usize
+pub fn number_met(rows: &[Row]) -> usize
     ensures { result ≡ number_met rows.now }
 {
     rows.iter().filter(|row| row.choice.is_met()).count()
 }
 
-/// How many loops have none.
-fn number_failed(rows: &[Row]) -> usize
+/// How many loops have no kernel.
+pub fn number_failed(rows: &[Row]) -> usize
     ensures { result ≡ number_failed rows.now }
 {
     rows.iter().filter(|row| row.choice.is_failed()).count()
-}
-
-/// Writes a number after some text.
-fn write_number(text: &mut String, before: &str, number: u64) -> Result<(), OutOfMemory>
-    ensures { IfOk result (λ _. string_bytes text.new ≡ string_bytes text.old ++ (before.now ++ decimal number)) }
-{
-    text.push_str(before)?;
-    let mut buffer = Buffer::new();
-    text.push_str(buffer.format(number))?;
-    Ok(())
 }

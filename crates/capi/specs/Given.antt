@@ -1,7 +1,7 @@
 -- Which draft a caller's problem means.
-use Rattle.std.specs.Prelude.{◌≡◌, ℕ, ◌==◌, not, if◌then◌else◌, List, [], map, Vec}
+use Rattle.std.specs.Prelude.{◌≡◌, ℕ, ◌==◌, not, if◌then◌else◌, List, [], map}
 use Rattle.std.specs.Borrow.{Bor}
-use Rattle.std.specs.Global.{Global}
+use Rattle.smallvec.specs.SmallVec.{SmallVec}
 use Rattle.registers.specs.declared.value.Read.{Read}
 use Rattle.problems.specs.declared.draft.File.{File}
 use Rattle.problems.specs.declared.draft.File.TheVariants.{Rotating, Unallotted}
@@ -27,7 +27,7 @@ hold_of hold = record { unit = hold.unit; offset = hold.offset }
 abbrev pub holds_of : Bor (List GivenHold) → List Hold
 holds_of holds = map hold_of holds.now
 
-abbrev pub rows_of : Vec Hold Global → List Hold
+abbrev pub rows_of : SmallVec Hold → List Hold
 rows_of rows = rows.items
 
 -- the latency and the alternatives of a kind

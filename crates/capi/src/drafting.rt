@@ -6,6 +6,7 @@ ghost use Rattle.capi.specs.Given.{IsDraftOf, file_of, given_kind, hold_of, hold
 use crate::given::{Hold, Kind, Order, Problem, Read, Value};
 use machine_data::OutOfMemory;
 use problems::{Draft, File, Names};
+use smallvec::SmallVec;
 use std::alloc::Global;
 
 /// The register file of `registers` rotating registers, or an unallotted one for 0.
@@ -31,10 +32,13 @@ fn files_of(alloc: Global, files: &[u32]) -> Result<Vec<File>, OutOfMemory>
 }
 
 /// The rows of an alternative.
-fn holds_of(alloc: Global, holds: &[Hold]) -> Result<Vec<problems::Hold>, OutOfMemory>
+fn holds_of(
+    alloc: Global,
+    holds: &[Hold],
+) -> Result<SmallVec<problems::Hold, 2>, OutOfMemory>
     ensures { IfOk result (λ v. v.items ≡ map hold_of holds.now) }
 {
-    let mut made = Vec::with_capacity(alloc, holds.len())?;
+    let mut made = SmallVec::with_capacity(alloc, holds.len())?;
     for hold in holds {
         made.push(problems::Hold {
             unit: hold.unit as usize,
@@ -48,10 +52,10 @@ fn holds_of(alloc: Global, holds: &[Hold]) -> Result<Vec<problems::Hold>, OutOfM
 fn alternatives_of(
     alloc: Global,
     alternatives: &[&[Hold]],
-) -> Result<Vec<Vec<problems::Hold>>, OutOfMemory>
+) -> Result<SmallVec<SmallVec<problems::Hold, 2>, 2>, OutOfMemory>
     ensures { IfOk result (λ v. map rows_of v.items ≡ map holds_of alternatives.now) }
 {
-    let mut made = Vec::with_capacity(alloc, alternatives.len())?;
+    let mut made = SmallVec::with_capacity(alloc, alternatives.len())?;
     for holds in alternatives {
         made.push(holds_of(alloc, holds)?)?;
     }

@@ -2,5 +2,8 @@ pub mod Farthest
 pub mod Growth
 pub mod Layers
 pub mod Returns
+pub mod Rings
 pub mod Rounds
+pub mod Sweeping
 pub mod Tables
+pub mod WalkSums

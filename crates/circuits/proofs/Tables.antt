@@ -35,7 +35,7 @@ pub record IsFirst (graph : GraphData) (ii : ℕ) (before : List ℕ) (p reach :
   pub delay : e.delay ≤ℤ pos 64
   pub leads : (pos (slice_index before e.to) +ℤ e.delay) ≡ pos (reach + ii * e.distance)
 
-first-from : (graph : GraphData) (ii : ℕ) (before : List ℕ) (p reach : ℕ) (e : EdgeData) → IsGraph graph
+pub first-from : (graph : GraphData) (ii : ℕ) (before : List ℕ) (p reach : ℕ) (e : EdgeData) → IsGraph graph
     → LeadsOn (filter (λ (e : EdgeData). e.from == p) graph.edges) ii before reach e → IsFirst graph ii before p reach e
 first-from graph ii before p reach e g leads =
     let c = contained-from_filter (λ (e : EdgeData). e.from == p) graph.edges e leads.0 in

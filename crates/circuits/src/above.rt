@@ -8,6 +8,7 @@ ghost use Rattle.circuits.specs.Circuits.{IsCircuitAbove};
 ghost use Rattle.circuits.specs.inner.Layers.{IsReturn};
 
 use crate::layer::{longer_walks, without_edges};
+use crate::sweeps::{Swept, sweep_all};
 use graph::{Edge, Edges};
 use std::alloc::{AllocError, Global};
 
@@ -30,18 +31,12 @@ fn first_return(walk: &[Edge]) -> Option<&[Edge]>
     None
 }
 
-/// A circuit of the edges that does not fit an interval, in cycles, where there is one: a closed walk
-/// whose delay is more than the interval times its distance, and that comes to no operation twice.
-/// Its edges are given in its order. At 0 it is a circuit of positive delay.
+/// The circuit of a walk by layers, where one does not fit the interval.
 ///
-/// The longest walks of at most 0, 1, 2 edges and so on are found until no walk gets longer: then every
-/// circuit fits. A walk that still gets longer with one edge more than there are operations comes to some
-/// operation twice, and what it does in between is such a circuit, since the rest is no longer than the
-/// walks before.
-///
-/// # Errors
-/// An `AllocError` where memory runs out: it takes some 2 KiB for each operation.
-pub fn circuit_above(alloc: Global, edges: &Edges, ii: u64) -> Result<Option<Vec<Edge>>, AllocError>
+/// The longest walks of at most 0, 1, 2 edges and so on are found until no walk gets longer: then every circuit fits. A walk that
+/// still gets longer with one edge more than there are operations comes to some operation twice, and what it does in between is such a
+/// circuit, since the rest is no longer than the walks before.
+fn circuit_by_layers(alloc: Global, edges: &Edges, ii: u64) -> Result<Option<Vec<Edge>>, AllocError>
     requires limit { ii ≤ 16384 }
     ensures exact { IfOk result (λ found. MatchOption found (FitsCircuits edges.now.edges ii) (λ walk. IsCircuitAbove edges.now.edges ii walk.items)) }
 {
@@ -68,4 +63,26 @@ pub fn circuit_above(alloc: Global, edges: &Edges, ii: u64) -> Result<Option<Vec
     let part = first_return(walk.as_slice()).unwrap();
     let circuit = Vec::from_slice(alloc, part)?;
     Ok(Some(circuit))
+}
+
+/// A circuit of the edges that does not fit an interval, in cycles, where there is one: a closed walk that
+/// takes more cycles than its distance times the interval, and comes to no operation twice. Its edges are
+/// given in its order. At 0 it is a circuit of positive delay.
+///
+/// Walks are made longer in sweeps over the edges, until the edges that they begin with go round a circuit
+/// that does not fit, or no walk gets longer: then every circuit fits. Should the sweeps end without
+/// either, walks are made by layers.
+///
+/// # Errors
+/// An `AllocError` where memory runs out: the circuit is all that sweeps take memory for, and layers take
+/// some 2 KiB for each operation.
+pub fn circuit_above(alloc: Global, edges: &Edges, ii: u64) -> Result<Option<Vec<Edge>>, AllocError>
+    requires limit { ii ≤ 16384 }
+    ensures exact { IfOk result (λ found. MatchOption found (FitsCircuits edges.now.edges ii) (λ walk. IsCircuitAbove edges.now.edges ii walk.items)) }
+{
+    match sweep_all(alloc, edges, ii)? {
+        Swept::Fits => Ok(None),
+        Swept::Circuit(circuit) => Ok(Some(circuit)),
+        Swept::Open => circuit_by_layers(alloc, edges, ii),
+    }
 }

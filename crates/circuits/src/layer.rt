@@ -11,10 +11,11 @@ use machine_data::limits::MAX_STATEMENTS;
 
 /// The longest walk from an operation.
 #[derive(Clone, Copy)]
-struct Walk {
-    reach: u64,
+pub(crate) struct Walk {
+    /// In cycles.
+    pub(crate) reach: u64,
     /// The edge that the walk begins with, where it is longer than the operation's walk was.
-    first: Option<Edge>,
+    pub(crate) first: Option<Edge>,
 }
 
 /// The longest walk from each operation, of those with at most a certain number of edges.
@@ -46,7 +47,12 @@ fn through(edge: Edge, rest: u64, interval: u64) -> i64
 }
 
 /// The longest of an operation's walk and of those that begin with an edge from it.
-fn farthest(own: u64, outgoing: &[Edge], lengths: &[u64; MAX_STATEMENTS], interval: u64) -> Walk
+pub(crate) fn farthest(
+    own: u64,
+    outgoing: &[Edge],
+    lengths: &[u64; MAX_STATEMENTS],
+    interval: u64,
+) -> Walk
     requires short { interval ≤ 16384 }
     requires own_small { own ≤ 1048576 }
     requires small { All (λ (e : Edge). (e.to < 128) × (slice_index lengths.now e.to ≤ 1048576)) outgoing.now }

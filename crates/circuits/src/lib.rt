@@ -2,8 +2,11 @@
 #![tactic(auto)]
 
 mod above;
+mod first_edges;
 mod laws;
 mod layer;
+mod sums;
+mod sweeps;
 
 pub use above::circuit_above;
 pub use laws::{bounds_have_circuits, circuits_bound_intervals};

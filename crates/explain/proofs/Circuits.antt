@@ -1,35 +1,20 @@
 -- The circuit that needs the bound of a problem.
-use Rattle.std.proofs.Common.{◌≡◌, ℕ, ◌+◌, ◌<◌, ◌≤◌, pos, ◌+ℤ◌, zero, suc, List, [], ◌∷◌, ◌++◌, length, get_or, take, refl, ap, ◌∙◌, subst, arith}
-use Rattle.std.specs.Prelude.{ℤ}
+use Rattle.std.proofs.Common.{◌≡◌, ℕ, ◌<◌, ◌≤◌, zero, suc, List, [], ◌∷◌, ◌++◌, length, get_or, refl, ap, ◌∙◌, subst, arith}
 use Rattle.std.specs.List.{All, Contains}
-use Rattle.std.proofs.lemmas.Int.{ints}
-use Rattle.std.proofs.lemmas.List.{take_more}
 use Rattle.std.proofs.lemmas.List.Elements.{All-contains}
 use Rattle.graph.specs.Dependences.{EdgeData, Dependence}
 use Rattle.graph.specs.Graphs.{GraphData}
-use Rattle.graph.specs.Walks.{IsWalk, delay_of, distance_of}
-use Rattle.graph.proofs.walks.Circuits.{delay_of-append, distance_of-append}
+use Rattle.graph.specs.Walks.{IsWalk}
 use Rattle.circuits.proofs.Rounds.{once-short}
+use Rattle.graph_text.specs.CircuitLines.{circuit_line}
 use Rattle.graph_text.specs.Drawings.{IsCritical}
 use Rattle.graph_text.specs.Edges.{edge_line}
 use Rattle.graph_text.specs.Kinds.{IsOfKind, IsTimed}
 use Rattle.graph_text.specs.Texts.{AreTexts}
-use Rattle.graph_text.proofs.Texts.{behind}
+use Rattle.writing.proofs.Beginnings.{two_pushed}
 use Rattle.loop_data.specs.Loops.{LoopData}
 use Rattle.ims.specs.Problems.{ProblemData, IsProblem}
-use Rattle.explain.specs.CircuitTexts.{IsCircuitText, circuit_line, sums_line}
-
-pub delay-more : (xs : List EdgeData) (i : ℕ) (d : EdgeData) → i < length xs → delay_of (take (i + 1) xs) ≡ (delay_of (take i xs) +ℤ (get_or xs i d).delay)
-delay-more xs i d h =
-    let e : delay_of (take (i + 1) xs) ≡ (delay_of (take i xs) +ℤ ((get_or xs i d).delay +ℤ pos 0))
-    = ap delay_of (take_more xs i d h) ∙ delay_of-append (take i xs) (get_or xs i d ∷ []) in
-    omega (arith, ints)
-
-pub distance-more : (xs : List EdgeData) (i : ℕ) (d : EdgeData) → i < length xs → distance_of (take (i + 1) xs) ≡ distance_of (take i xs) + (get_or xs i d).distance
-distance-more xs i d h =
-    let e : distance_of (take (i + 1) xs) ≡ distance_of (take i xs) + ((get_or xs i d).distance + 0)
-    = ap distance_of (take_more xs i d h) ∙ distance_of-append (take i xs) (get_or xs i d ∷ []) in
-    omega arith
+use Rattle.explain.specs.CircuitTexts.{IsCircuitText}
 
 -- the edges of a walk
 walked : (edges : List EdgeData) (p q : ℕ) (walk : List EdgeData) → IsWalk edges p walk q → (k : ℕ) (d : EdgeData) → k < length walk → Contains edges (get_or walk k d)
@@ -62,13 +47,6 @@ pub critical-of : (problem : ProblemData) (graph : GraphData) (bound : ℕ) (cir
 critical-of problem graph bound circuit same is c =
     subst (λ (g : GraphData). IsCritical g.edges problem.recurrences circuit) same (subst (λ (b : ℕ). IsCritical graph.edges b circuit) is c)
 
--- the line of a circuit that has edges
-pub line-of_sums : (circuit : List EdgeData) (bound distance : ℕ) (delay : ℤ) → 0 < length circuit → delay ≡ delay_of circuit → distance ≡ distance_of circuit
-    → sums_line delay distance bound ≡ circuit_line circuit bound
-line-of_sums [] bound distance delay some d n = absurd (omega arith)
-line-of_sums (e ∷ circuit) bound distance delay some d n =
-    ap (λ (x : ℤ). sums_line x distance bound) d ∙ ap (λ (x : ℕ). sums_line (delay_of (e ∷ circuit)) x bound) n
-
 -- the lines of the circuit that was found
 pub circuit-part : (p : ProblemData) (loop : LoopData) (graph : GraphData) (bound : ℕ) (items one circuit : List EdgeData) (old mid new : List ℕ) → loop ≡ p.loop → graph ≡ p.graph
     → bound ≡ p.recurrences → one ≡ items → circuit ≡ items → IsCritical graph.edges bound items → mid ≡ old ++ circuit_line one bound
@@ -85,6 +63,6 @@ circuit-part p loop graph bound items one circuit old mid new same_loop same_gra
         (subst (λ (es : List EdgeData). AreTexts (IsOfKind loop graph.latencies) (edge_line loop) es edges.0) second edges.1));
     is_text = refl;
   },
-  behind old (circuit_line items p.recurrences) mid edges.0 new
+  two_pushed old (circuit_line items p.recurrences) edges.0 mid new
       (head ∙ ap (λ (es : List EdgeData). old ++ circuit_line es bound) first ∙ ap (λ (b : ℕ). old ++ circuit_line items b) same_bound) edges.2,
 )

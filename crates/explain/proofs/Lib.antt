@@ -1,6 +1,5 @@
 pub mod Circuits
 pub mod Parts
 pub mod Reasoned
-pub mod Rows
 pub mod Showing
 pub mod Tried

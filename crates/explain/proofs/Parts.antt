@@ -14,7 +14,8 @@ use Rattle.graph_text.specs.declared.measuring.LowerBounds.{LowerBounds}
 use Rattle.graph_text.specs.Bounds.{bounds_line}
 use Rattle.graph_text.specs.Faults.{TextAnswers, lacking_in}
 use Rattle.graph_text.proofs.Lacking.{complete, first_lacking-append, refused_or}
-use Rattle.graph_text.proofs.Texts.{all_zip-push, behind, zipped-push}
+use Rattle.graph_text.proofs.Texts.{all_zip-push, zipped-push}
+use Rattle.writing.proofs.Beginnings.{two_pushed}
 use Rattle.resource_bound.specs.Choices.{AreUnitChoices}
 use Rattle.resource_bound.specs.UnitLines.{unit_lines_of}
 use Rattle.ims.specs.Problems.{ProblemData, IsProblemOf}
@@ -31,10 +32,10 @@ pub explained : (units : List ℕ) (p : ProblemData) (choice : Choice) (loop : L
 explained units p choice loop bounds old a u b new same_loop same_bounds head lines circuit tries =
     let line = bounds_line p.loop (bounds_of p) in
     let first : a ≡ old ++ line = head ∙ ap (λ (l : LoopData). old ++ bounds_line l bounds) same_loop ∙ ap (λ (x : LowerBounds). old ++ bounds_line p.loop x) same_bounds in
-    let both : u ≡ old ++ (line ++ units) = behind old line a units u first lines in (
+    let both : u ≡ old ++ (line ++ units) = two_pushed old line units a u first lines in (
       ((line ++ units) ++ circuit.0) ++ tries.0,
       record { circuit = circuit.0; is_circuit = circuit.1; tries = tries.0; are_tries = tries.1; is_text = refl },
-      behind old ((line ++ units) ++ circuit.0) b tries.0 new (behind old (line ++ units) u circuit.0 b both circuit.2) tries.2,
+      two_pushed old ((line ++ units) ++ circuit.0) tries.0 b new (two_pushed old (line ++ units) circuit.0 u b both circuit.2) tries.2,
     )
 
 -- what the preparation of a loop tells
@@ -136,7 +137,7 @@ done-more machine ratio ceiling all left rest old new newer met failed newer_met
   complete = first_lacking-append machine d.done (x ∷ []) d.complete ∙ none;
   text = d.text ++ part.0;
   parts = parts-push machine ratio ceiling d.done d.text met failed newer_met newer_failed x choice part.0 d.parts part.1 m f;
-  is_text = behind old d.text new part.0 newer d.is_text part.2;
+  is_text = two_pushed old d.text part.0 new newer d.is_text part.2;
 }
 
 -- the loop at hand lacks a table, or memory ran out

@@ -2,7 +2,7 @@
 use Rattle.std.proofs.Common.{◌≡◌, ℕ, zero, suc, ◌+◌, ◌-◌, ◌<◌, ◌≤◌, List, [], ◌++◌, refl, sym, subst, arith}
 use Rattle.std.specs.List.{range_with_len}
 use Rattle.graph_text.specs.Texts.{AreTexts}
-use Rattle.graph_text.proofs.Texts.{behind}
+use Rattle.writing.proofs.Beginnings.{two_pushed}
 use Rattle.ims.specs.Problems.{ProblemData, IsProblem, mii_of}
 use Rattle.kernel.specs.declared.kernels.parts.Parts.{Parts}
 use Rattle.candidates.specs.declared.outcomes.Cause.{Cause}
@@ -14,7 +14,7 @@ use Rattle.explain.specs.declared.intervals.reasons.Reason.{Reason}
 use Rattle.explain.specs.Holds.{IsHold}
 use Rattle.explain.specs.Reasons.{FailsFor, IsReason, cause_of}
 use Rattle.explain.specs.Tries.{AreTries, hold_line, kernel_line, try_line}
-use Rattle.explain.proofs.Rows.{row-more}
+use Rattle.graph_text.proofs.Texts.{row-more}
 
 -- the first `above` intervals were tried, none of which gives a kernel, and a line was written for each
 pub record AreTold (p : ProblemData) (above : ℕ) (last : Cause) (old new : List ℕ) : Type 0 where
@@ -68,5 +68,5 @@ told-more p m above last cause reason old new newer is same t fails by reasoned 
       lines = t.lines ++ try_line p.loop (m + above) reason;
       are_lines = subst (λ (n : ℕ). AreTexts (FailsFor p) (try_line p.loop) (range_with_len (mii_of p) (above + 1)) (t.lines ++ try_line p.loop (n + above) reason)) (sym same)
           (row-more (FailsFor p) (try_line p.loop) (mii_of p) above t.lines reason t.are_lines (record { fails = subst (FailsBy p (mii_of p + above)) (sym by) h; is = r }));
-      is_text = behind old t.lines new (try_line p.loop (m + above) reason) newer t.is_text e;
+      is_text = two_pushed old t.lines (try_line p.loop (m + above) reason) new newer t.is_text e;
     }

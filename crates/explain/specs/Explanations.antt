@@ -4,13 +4,14 @@ use Rattle.machine_data.specs.Machines.{MachineData}
 use Rattle.loop_data.specs.Loops.{LoopData}
 use Rattle.graph_text.specs.declared.measuring.LowerBounds.{LowerBounds}
 use Rattle.graph_text.specs.Bounds.{bounds_line}
-use Rattle.graph_text.specs.Texts.{AreTexts, told}
+use Rattle.graph_text.specs.Texts.{AreTexts}
 use Rattle.graph.specs.Units.{operations_of}
 use Rattle.resource_bound.specs.Choices.{AreUnitChoices}
 use Rattle.resource_bound.specs.UnitLines.{unit_lines_of}
 use Rattle.ims.specs.Problems.{ProblemData, IsProblemOf}
 use Rattle.candidates.specs.declared.choices.Choice.{Choice}
 use Rattle.candidates.specs.Listings.{is_met, is_failed}
+use Rattle.writing.specs.Words as words
 use Rattle.explain.specs.declared.file.Explained.{Explained}
 use Rattle.explain.specs.CircuitTexts.{IsCircuitText}
 use Rattle.explain.specs.Shown.{IsShown}
@@ -64,7 +65,7 @@ pub record ArePartsOf (machine : MachineData) (ratio ceiling : ℕ) (loops : Lis
 
 -- `loops A met B failed F`, with a line feed
 abbrev pub last_line : ℕ → ℕ → ℕ → List ℕ
-last_line loops met failed = ((told (codes "loops ") loops ++ told (codes " met ") met) ++ told (codes " failed ") failed) ++ codes "\n"
+last_line loops met failed = words.last_line (codes "loops ") loops met failed
 
 -- what is told of all loops of a file, with whether none is without a kernel
 pub record IsExplanationOf (machine : MachineData) (ratio ceiling : ℕ) (loops : List LoopData) (explained : Explained) : Type 0 where

@@ -3,7 +3,6 @@ use Rattle.std.specs.Prelude.{ℕ, codes, List, ◌++◌, Some}
 use Rattle.std.specs.List.{flat_map}
 use Rattle.loop_data.specs.Loops.{LoopData}
 use Rattle.graph_text.specs.Names.{op_name}
-use Rattle.graph_text.specs.Texts.{told}
 use Rattle.modulo.specs.declared.outcome.attempts.Culprit.{Culprit}
 use Rattle.modulo.specs.declared.outcome.attempts.Culprit.TheVariants.{Blocked, Unplaced, Late}
 use Rattle.modulo.specs.Culprits.{failure_of}
@@ -16,6 +15,7 @@ use Rattle.rotating.specs.Numberless.{HasNone}
 use Rattle.candidates.specs.declared.outcomes.Cause.{Cause}
 use Rattle.candidates.specs.declared.outcomes.Cause.TheVariants.{Registers}
 use Rattle.candidates.specs.Outcomes as outcomes
+use Rattle.writing.specs.Words.{told}
 use Rattle.explain.specs.declared.intervals.reasons.Reason.{Reason}
 use Rattle.explain.specs.declared.intervals.reasons.Reason.TheVariants.{Attempt, Register}
 

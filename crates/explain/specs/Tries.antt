@@ -2,12 +2,13 @@
 use Rattle.std.specs.Prelude.{◌≡◌, ℕ, ◌+◌, ◌-◌, codes, List, [], ◌++◌}
 use Rattle.std.specs.List.{range_with_len}
 use Rattle.loop_data.specs.Loops.{LoopData}
-use Rattle.graph_text.specs.Texts.{AreTexts, told}
+use Rattle.graph_text.specs.Texts.{AreTexts}
 use Rattle.ims.specs.Problems.{ProblemData, mii_of}
 use Rattle.candidates.specs.declared.choices.Choice.{Choice}
 use Rattle.candidates.specs.declared.choices.Choice.TheVariants.{Met, Failed}
 use Rattle.candidates.specs.Choices.{IsChoice}
 use Rattle.candidates.specs.Texts.{cause_word}
+use Rattle.writing.specs.Words.{told}
 use Rattle.explain.specs.declared.intervals.hold.Hold.{Hold}
 use Rattle.explain.specs.declared.intervals.reasons.Reason.{Reason}
 use Rattle.explain.specs.Holds.{IsHold, hold_word}

@@ -15,7 +15,7 @@ use crate::shown::push_shown;
 use crate::single::push_explanation;
 use candidates::{Choice, prepare};
 use graph::GraphFault;
-use graph_text::{TextFault, push_told};
+use graph_text::TextFault;
 use ims::Prepared;
 use loop_data::Loop;
 use machine_data::{Machine, OutOfMemory};
@@ -160,10 +160,7 @@ fn push_loops(
 pub fn push_last(text: &mut Vec<u8>, loops: u64, met: u64, failed: u64) -> Result<(), AllocError>
     ensures ok { OnOk result (text.new.items ≡ text.old.items ++ last_line loops met failed) }
 {
-    push_told(text, b"loops ", loops)?;
-    push_told(text, b" met ", met)?;
-    push_told(text, b" failed ", failed)?;
-    text.extend_from_slice(b"\n")
+    writing::push_last(text, "loops ", loops, met, failed)
 }
 
 /// Why each loop of a file has its interval, in order, with the ratio and the ceiling of the settings: what

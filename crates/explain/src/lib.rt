@@ -1,7 +1,7 @@
 //! Why each loop has the interval that it has, as text.
 #![tactic(auto)]
 
-mod bound;
+mod circuit;
 mod file;
 mod intervals;
 mod laws;

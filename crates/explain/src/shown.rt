@@ -7,11 +7,10 @@ ghost use Rattle.candidates.specs.Choices.{IsChoice, last_of};
 ghost use Rattle.candidates.specs.Outcomes.{GivesKernel};
 ghost use Rattle.explain.specs.Shown.{IsShown, IsShownAt};
 
-use crate::intervals::reasons::budget;
+use crate::intervals::reasons::schedule_at;
 use candidates::Choice;
-use ims::{Prepared, Try, attempt};
+use ims::Prepared;
 use machine_data::{Machine, OutOfMemory};
-use mrt::DefaultTable;
 use rotating::allot;
 use schedule_lines::push_schedule;
 use std::alloc::Global;
@@ -29,15 +28,10 @@ fn push_shown_at(
     requires gives { (kernel : Parts) × GivesKernel prepared.now ii kernel }
     ensures ok { OnOk result ((part : List ℕ) × IsShownAt machine.now prepared.now ii part × (text.new.items ≡ text.old.items ++ part)) }
 {
-    match attempt::<DefaultTable>(alloc, prepared, ii, budget(prepared))? {
-        Try::Placed(schedule) => {
-            let registers = u64::from(prepared.registers());
-            match allot(alloc, &schedule, registers)? {
-                Some(allotment) => push_schedule(alloc, text, machine, &schedule, &allotment),
-                None => unreachable!(),
-            }
-        }
-        Try::Failed(_) => unreachable!(),
+    let schedule = schedule_at(alloc, prepared, ii)?;
+    match allot(alloc, &schedule, u64::from(prepared.registers()))? {
+        Some(allotment) => push_schedule(alloc, text, machine, &schedule, &allotment),
+        None => unreachable!(),
     }
 }
 

@@ -3,7 +3,7 @@
 ghost use Rattle.std.specs.Prelude.{◌≡◌, ◌++◌, ℕ, List, IfOk};
 ghost use Rattle.explain.specs.Explanations.{IsExplained};
 
-use crate::bound::circuit::push_circuit;
+use crate::circuit::push_circuit;
 use crate::intervals::tries::push_tries;
 use candidates::Choice;
 use graph_text::{LowerBounds, push_bounds_line};

@@ -1,3 +1,4 @@
+pub mod CircuitSums
 pub mod Drawn
 pub mod KindRules
 pub mod Lacking

@@ -5,8 +5,9 @@ use Rattle.loop_data.specs.Loops.{LoopData}
 use Rattle.graph.specs.Graphs.{GraphData, IsGraphOf}
 use Rattle.graph.specs.Units.{IsUnitBound, operations_of}
 use Rattle.graph.specs.Walks.{IsRecurrenceBound}
-use Rattle.graph_text.specs.Texts.{AreTexts, told}
+use Rattle.graph_text.specs.Texts.{AreTexts}
 use Rattle.graph_text.specs.declared.measuring.LowerBounds.{LowerBounds}
+use Rattle.writing.specs.Words.{told}
 
 -- the dependences of a loop on a machine, and its lower bounds: by the units of the machine, and by these dependences
 pub record IsMeasured (machine : MachineData) (loop : LoopData) (bounds : LowerBounds) (graph : GraphData) : Type 0 where

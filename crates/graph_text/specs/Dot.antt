@@ -1,6 +1,5 @@
 -- The dependences of a loop as a graph in the language of Graphviz.
 use Rattle.std.specs.Prelude.{◌≡◌, ◌↔◌, ℕ, zero, suc, codes, Bool, IsTrue, if◌then◌else◌, List, [], ◌++◌}
-use Rattle.std.specs.Fmt.{signed_decimal}
 use Rattle.std.specs.List.{Contains, flat_map}
 use Rattle.loop_data.specs.Loops.{LoopData}
 use Rattle.graph.specs.Dependences.{EdgeData}
@@ -10,7 +9,8 @@ use Rattle.graph_text.specs.declared.measuring.LowerBounds.{LowerBounds}
 use Rattle.graph_text.specs.Bounds.{bounds_told}
 use Rattle.graph_text.specs.Kinds.{IsOfKind, kind_word}
 use Rattle.graph_text.specs.Names.{op_name, opcode_word}
-use Rattle.graph_text.specs.Texts.{AreTexts, numbers_of, told}
+use Rattle.graph_text.specs.Texts.{AreTexts, numbers_of}
+use Rattle.writing.specs.Words.{told, told_signed}
 
 -- `digraph "NAME" {`, the label `NAME res R rec C mii M`, and the shape of all operations, a line each
 abbrev pub graph_head : LoopData → LowerBounds → List ℕ
@@ -31,11 +31,17 @@ at_text (suc n) = told (codes " @") (suc n)
 abbrev pub style_text : Bool → List ℕ
 style_text bold = if bold then codes ",style=bold" else []
 
+-- `  P -> Q [label="`, before the word of an edge's label
+abbrev pub arrow_start : EdgeData → List ℕ
+arrow_start e = (told (codes "  ") e.from ++ told (codes " -> ") e.to) ++ codes " [label=\""
+
+-- ` D @N",style=bold]`, with a line feed, after it
+abbrev pub arrow_end : EdgeData → Bool → List ℕ
+arrow_end e bold = (((told_signed (codes " ") e.delay ++ at_text e.distance) ++ codes "\"") ++ style_text bold) ++ codes "]\n"
+
 -- `  P -> Q [label="KIND D @N",style=bold]`, with a line feed
 abbrev pub arrow_line : EdgeData → Stroke → List ℕ
-arrow_line e stroke =
-    ((((((told (codes "  ") e.from ++ told (codes " -> ") e.to) ++ (codes " [label=\"" ++ kind_word stroke.kind)) ++ (codes " " ++ signed_decimal e.delay))
-    ++ at_text e.distance) ++ codes "\"") ++ style_text stroke.bold) ++ codes "]\n"
+arrow_line e stroke = (arrow_start e ++ kind_word stroke.kind) ++ arrow_end e stroke.bold
 
 -- how an edge is drawn: by its kind, and bold if it is one of the circuit
 pub record IsStroke (loop : LoopData) (latencies : List ℕ) (circuit : List EdgeData) (e : EdgeData) (stroke : Stroke) : Type 0 where

@@ -1,6 +1,5 @@
 -- The text of the dependences of loops.
-use Rattle.std.specs.Prelude.{◌≡◌, ℕ, decimal, codes, List, ◌++◌, slice_index}
-use Rattle.std.specs.Fmt.{signed_decimal}
+use Rattle.std.specs.Prelude.{◌≡◌, ℕ, ℤ, decimal, codes, List, ◌++◌, slice_index}
 use Rattle.machine_data.specs.Machines.{MachineData}
 use Rattle.loop_data.specs.Loops.{LoopData}
 use Rattle.graph.specs.Dependences.{EdgeData}
@@ -11,11 +10,16 @@ use Rattle.graph_text.specs.declared.measuring.LowerBounds.{LowerBounds}
 use Rattle.graph_text.specs.Bounds.{IsMeasured, bounds_line, mii_of}
 use Rattle.graph_text.specs.Kinds.{IsOfKind, kind_word}
 use Rattle.graph_text.specs.Names.{op_name, opcode_word}
-use Rattle.graph_text.specs.Texts.{AreTexts, numbers_of, told}
+use Rattle.graph_text.specs.Texts.{AreTexts, numbers_of}
+use Rattle.writing.specs.Words.{told, told_signed}
 
 -- the number of an operation, and its name after a blank
 abbrev pub numbered : LoopData → ℕ → List ℕ
 numbered loop number = (decimal number ++ codes " ") ++ op_name loop number
+
+-- ` delay D distance N`
+abbrev pub sums_told : ℤ → ℕ → List ℕ
+sums_told delay distance = told_signed (codes " delay ") delay ++ told (codes " distance ") distance
 
 -- `op K NAME OPCODE latency L height H`, with a line feed
 abbrev pub op_line : LoopData → List ℕ → ℕ → ℕ → List ℕ
@@ -26,8 +30,7 @@ op_line loop latencies number height =
 -- `edge P NAME Q NAME KIND delay D distance N`, with a line feed
 abbrev pub edge_line : LoopData → EdgeData → Kind → List ℕ
 edge_line loop e kind =
-    (((((codes "edge " ++ numbered loop e.from) ++ (codes " " ++ numbered loop e.to)) ++ (codes " " ++ kind_word kind))
-    ++ (codes " delay " ++ signed_decimal e.delay)) ++ told (codes " distance ") e.distance) ++ codes "\n"
+    ((((codes "edge " ++ numbered loop e.from) ++ (codes " " ++ numbered loop e.to)) ++ (codes " " ++ kind_word kind)) ++ sums_told e.delay e.distance) ++ codes "\n"
 
 -- a loop's line of bounds, a line for each operation with its height at the lower bound of the interval, and a line for each
 -- dependence with its kind

@@ -1,4 +1,5 @@
 pub mod Bounds
+pub mod CircuitLines
 pub mod Dot
 pub mod Drawings
 pub mod Edges

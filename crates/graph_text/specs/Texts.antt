@@ -1,5 +1,5 @@
 -- Texts of several things, one after another.
-use Rattle.std.specs.Prelude.{◌≡◌, ℕ, decimal, List, ◌++◌, length}
+use Rattle.std.specs.Prelude.{◌≡◌, ℕ, List, length}
 use Rattle.std.specs.List.{flat_map, range_with_len, zip, AllZip}
 use Rattle.loop_data.specs.Loops.{LoopData}
 
@@ -8,10 +8,6 @@ pub record AreTexts {A B : Type 0} (IsRight : A → B → Type 0) (text_of : A �
   pub values : List B
   pub are_right : AllZip IsRight things values
   pub is_text : text ≡ flat_map (λ both. text_of both.0 both.1) (zip things values)
-
--- a word, and a number after it
-abbrev pub told : List ℕ → ℕ → List ℕ
-told word number = word ++ decimal number
 
 -- the numbers of a loop's operations
 abbrev pub numbers_of : LoopData → List ℕ

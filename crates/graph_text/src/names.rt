@@ -5,9 +5,9 @@ ghost use Rattle.loop_data.specs.Loops.{IsPlace};
 ghost use Rattle.loop_data.specs.NamedParts.{array_name, offset_text, place_word};
 ghost use Rattle.graph_text.specs.Names.{op_name, opcode_word};
 
-use crate::lines::{push_both, push_signed};
 use loop_data::{Loop, Place};
 use std::alloc::AllocError;
+use writing::{Text, push_both, push_with_sign};
 
 /// Appends the constant of a subscript with its sign, unless it is 0.
 fn push_offset(text: &mut Vec<u8>, offset: i8) -> Result<(), AllocError>
@@ -15,8 +15,7 @@ fn push_offset(text: &mut Vec<u8>, offset: i8) -> Result<(), AllocError>
 {
     match offset {
         0 => Ok(()),
-        1.. => push_signed(text, b"+", offset),
-        _ => push_signed(text, b"", offset),
+        _ => push_with_sign(text, i64::from(offset)),
     }
 }
 
@@ -33,9 +32,9 @@ fn push_place(text: &mut Vec<u8>, innermost: &Loop, place: Place) -> Result<(), 
     requires { IsPlace innermost.now place }
     ensures ok { OnOk result (text.new.items ≡ text.old.items ++ place_word innermost.now place) }
 {
-    push_both(text, array_name(innermost, place.array).as_bytes(), b"[i")?;
+    push_both(text, array_name(innermost, place.array), "[i")?;
     push_offset(text, place.offset)?;
-    text.extend_from_slice(b"]")
+    text.push_piece("]")
 }
 
 /// Appends the name of the operation of this number: that of its value, or for a store its place as it
@@ -46,7 +45,7 @@ pub fn push_name(text: &mut Vec<u8>, innermost: &Loop, number: u8) -> Result<(),
 {
     let statement = &innermost.statements()[usize::from(number)];
     match (&statement.name, statement.place) {
-        (Some(name), _) => text.extend_from_slice(name.as_str().as_bytes()),
+        (Some(name), _) => text.push_piece(name.as_str()),
         (None, Some(place)) => push_place(text, innermost, place),
         (None, None) => Ok(()),
     }

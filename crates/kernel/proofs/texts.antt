@@ -1,4 +1,3 @@
 -- The text of a kernel.
-pub mod Digits
 pub mod Joining
 pub mod Rows

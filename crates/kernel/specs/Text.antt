@@ -1,7 +1,8 @@
 -- A kernel as text.
-use Rattle.std.specs.Prelude.{ℕ, ℤ, pos, negsuc, zero, suc, ◌+◌, ◌*◌, ◌==◌, codes, decimal, if◌then◌else◌, List, [], ◌∷◌, ◌++◌, map, filter, length, Option, Some, None}
+use Rattle.std.specs.Prelude.{ℕ, zero, suc, ◌+◌, ◌*◌, ◌==◌, codes, decimal, if◌then◌else◌, List, [], ◌∷◌, ◌++◌, map, filter, length, Option, Some, None}
 use Rattle.std.specs.List.{flat_map, slice_index_or}
 use Rattle.std.specs.Fmt.{signed_decimal}
+use Rattle.writing.specs.Words.{told, with_sign}
 use Rattle.machine_data.specs.declared.opcode.Opcode.{Opcode}
 use Rattle.machine_data.specs.declared.opcode.Opcode.TheVariants.{Store}
 use Rattle.machine_data.specs.Opcodes.{word_of}
@@ -16,12 +17,7 @@ use Rattle.kernel.specs.declared.kernels.parts.Out.{Out}
 
 -- `rN`
 abbrev pub register_text : ℕ → List ℕ
-register_text register = codes "r" ++ decimal register
-
--- a number with its sign, also where it isn't negative
-abbrev pub with_sign : ℤ → List ℕ
-with_sign (pos n) = codes "+" ++ decimal n
-with_sign (negsuc n) = codes "-" ++ decimal (suc n)
+register_text register = told (codes "r") register
 
 -- `ARRAY[k+X]`
 abbrev pub address_text : Parts → Address → List ℕ
@@ -47,13 +43,13 @@ sources_text parts opcode sources = flat_map (λ source. spaced (source_text par
 
 -- ` !A` where the alternative isn't number 0
 abbrev pub alternative_text : ℕ → List ℕ
-alternative_text alternative = if alternative == 0 then [] else codes " !" ++ decimal alternative
+alternative_text alternative = if alternative == 0 then [] else told (codes " !") alternative
 
 -- the words of an operation: the opcode, the destination, the address, the sources, `?` with the stage and the alternative
 unfoldable pub operation_text : Parts → Operation → List ℕ
 operation_text parts op =
-    (((((word_of op.opcode ++ spaced_option register_text op.destination) ++ spaced_option (address_text parts) op.address)
-    ++ sources_text parts op.opcode op.sources) ++ codes " ?") ++ decimal op.stage) ++ alternative_text op.alternative
+    ((((word_of op.opcode ++ spaced_option register_text op.destination) ++ spaced_option (address_text parts) op.address)
+    ++ sources_text parts op.opcode op.sources) ++ told (codes " ?") op.stage) ++ alternative_text op.alternative
 
 -- some operations after the row's number: a blank before the first, and ` | ` between two
 abbrev pub joined : Parts → List ℕ → List Operation → List ℕ

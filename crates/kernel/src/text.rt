@@ -1,19 +1,18 @@
 //! Kernels as text.
 
-ghost use Rattle.std.specs.Prelude.{◌≡◌, ◌+◌, ◌<◌, ◌≤◌, ◌⊎◌, ◌==◌, ◌++◌, length, codes, filter, Some, IfOk, string_bytes};
+ghost use Rattle.std.specs.Prelude.{◌≡◌, ◌+◌, ◌<◌, ◌≤◌, ◌⊎◌, ◌==◌, ◌++◌, length, codes, filter, Some, decimal, IfOk, string_bytes};
 ghost use Rattle.std.specs.List.{All, Any, flat_map};
-ghost use Rattle.std.specs.Fmt.{decimal, signed_decimal};
 ghost use Rattle.kernel.specs.declared.kernels.operation.Address.{Address};
 ghost use Rattle.kernel.specs.declared.kernels.operation.Operation.{Operation};
 ghost use Rattle.kernel.specs.declared.kernels.operation.Source.{Source};
 ghost use Rattle.kernel.specs.Check.{ParameterIsThere, IsShaped, IsPlaced, IsWellFormed};
-ghost use Rattle.kernel.specs.Text.{with_sign, register_text, address_text, source_text, spaced, spaced_option, sources_text, alternative_text, operation_text, joined, kernel_row_text, rows_text, preload_text, out_text, kernel_text_of, room_of};
+ghost use Rattle.kernel.specs.Text.{register_text, address_text, source_text, spaced, spaced_option, sources_text, alternative_text, operation_text, joined, kernel_row_text, rows_text, preload_text, out_text, kernel_text_of, room_of};
 
 use crate::kernels::operation::{Address, Operation, Source};
 use crate::kernels::parts::{Kernel, Out, Parts, Preload};
-use itoa::Buffer;
 use machine_data::{Opcode, OutOfMemory};
 use std::alloc::Global;
+use writing::{push_both, push_number, push_signed, push_told, push_with_sign};
 
 /// The text of a kernel: a line for each preload, each row of a turn and each value that is live at
 /// the end. A row without operations has its line too.
@@ -63,10 +62,9 @@ fn write_preloads(text: &mut String, preloads: &[Preload]) -> Result<(), OutOfMe
 fn write_preload(text: &mut String, preload: Preload) -> Result<(), OutOfMemory>
     ensures { IfOk result (λ _. string_bytes text.new ≡ string_bytes text.old ++ preload_text preload) }
 {
-    write_number(text, "pre r", u64::from(preload.register))?;
-    write_value(text, " ", preload.value)?;
-    text.push_str("\n")?;
-    Ok(())
+    push_told(text, "pre r", u64::from(preload.register))?;
+    push_signed(text, " ", preload.value)?;
+    text.push_str("\n")
 }
 
 /// Writes the lines of the values that are live at the end.
@@ -83,11 +81,9 @@ fn write_outs(text: &mut String, outs: &[Out]) -> Result<(), OutOfMemory>
 fn write_out(text: &mut String, out: &Out) -> Result<(), OutOfMemory>
     ensures { IfOk result (λ _. string_bytes text.new ≡ string_bytes text.old ++ out_text out.now) }
 {
-    text.push_str("out ")?;
-    text.push_str(out.name.as_str())?;
-    write_number(text, " r", u64::from(out.register))?;
-    text.push_str("\n")?;
-    Ok(())
+    push_both(text, "out ", out.name.as_str())?;
+    push_told(text, " r", u64::from(out.register))?;
+    text.push_str("\n")
 }
 
 /// Writes the lines of the rows. There are many more rows than operations at times, so the operations
@@ -129,9 +125,8 @@ fn next_row(operations: &[Operation], from: u64, end: u64) -> u64
 fn write_empty_row(text: &mut String, row: u64) -> Result<(), OutOfMemory>
     ensures { IfOk result (λ _. string_bytes text.new ≡ string_bytes text.old ++ ((decimal row ++ codes ":") ++ codes "\n")) }
 {
-    write_number(text, "", row)?;
-    text.push_str(":\n")?;
-    Ok(())
+    push_number(text, row)?;
+    text.push_str(":\n")
 }
 
 /// Writes the line of a row.
@@ -140,11 +135,10 @@ fn write_row(text: &mut String, parts: &Parts, row: u64) -> Result<(), OutOfMemo
     requires { IsWellFormed parts.now }
     ensures { IfOk result (λ _. string_bytes text.new ≡ string_bytes text.old ++ kernel_row_text parts.now row) }
 {
-    write_number(text, "", row)?;
+    push_number(text, row)?;
     text.push_str(":")?;
     write_operations(text, parts, row)?;
-    text.push_str("\n")?;
-    Ok(())
+    text.push_str("\n")
 }
 
 /// Writes the operations of a row: a blank before the first, and a bar between two.
@@ -174,29 +168,28 @@ fn write_operation(text: &mut String, parts: &Parts, op: &Operation) -> Result<(
     write_destination(text, op.destination)?;
     write_place(text, parts, op.address)?;
     write_sources(text, parts, op.opcode, op.sources.as_slice())?;
-    write_number(text, " ?", u64::from(op.stage))?;
-    write_alternative(text, op.alternative)?;
-    Ok(())
+    push_told(text, " ?", u64::from(op.stage))?;
+    write_alternative(text, op.alternative)
 }
 
 /// Writes the register that is written, if there is one, after a blank.
 fn write_destination(text: &mut String, destination: Option<u16>) -> Result<(), OutOfMemory>
     ensures { IfOk result (λ _. string_bytes text.new ≡ string_bytes text.old ++ spaced_option register_text destination) }
 {
-    if let Some(register) = destination {
-        write_number(text, " r", u64::from(register))?;
+    match destination {
+        Some(register) => push_told(text, " r", u64::from(register)),
+        None => Ok(()),
     }
-    Ok(())
 }
 
 /// Writes the number of an alternative, unless it is 0.
 fn write_alternative(text: &mut String, alternative: u8) -> Result<(), OutOfMemory>
     ensures { IfOk result (λ _. string_bytes text.new ≡ string_bytes text.old ++ alternative_text alternative) }
 {
-    if alternative != 0 {
-        write_number(text, " !", u64::from(alternative))?;
+    if alternative == 0 {
+        return Ok(());
     }
-    Ok(())
+    push_told(text, " !", u64::from(alternative))
 }
 
 /// Writes an address, if there is one, after a blank.
@@ -208,10 +201,10 @@ fn write_place(
     requires { (a : Address) → address ≡ Some a → a.array < length parts.now.arrays }
     ensures { IfOk result (λ _. string_bytes text.new ≡ string_bytes text.old ++ spaced_option (address_text parts.now) address) }
 {
-    if let Some(address) = address {
-        write_address(text, parts, address)?;
+    match address {
+        Some(address) => write_address(text, parts, address),
+        None => Ok(()),
     }
-    Ok(())
 }
 
 /// Writes an address after a blank.
@@ -219,20 +212,11 @@ fn write_address(text: &mut String, parts: &Parts, address: Address) -> Result<(
     requires { address.array < length parts.now.arrays }
     ensures { IfOk result (λ _. string_bytes text.new ≡ string_bytes text.old ++ spaced (address_text parts.now address)) }
 {
-    text.push_str(" ")?;
-    text.push_str(parts.arrays.as_slice()[usize::from(address.array)].as_str())?;
+    let array = &parts.arrays.as_slice()[usize::from(address.array)];
+    push_both(text, " ", array.as_str())?;
     text.push_str("[k")?;
-    write_offset(text, address.offset)?;
-    text.push_str("]")?;
-    Ok(())
-}
-
-/// Writes an offset with its sign, also where it isn't negative.
-fn write_offset(text: &mut String, offset: i16) -> Result<(), OutOfMemory>
-    ensures { IfOk result (λ _. string_bytes text.new ≡ string_bytes text.old ++ with_sign offset) }
-{
-    let sign = if offset < 0 { "" } else { "+" };
-    write_value(text, sign, i64::from(offset))
+    push_with_sign(text, i64::from(address.offset))?;
+    text.push_str("]")
 }
 
 /// Writes what an operation reads; the guard of a store stands after `if`.
@@ -260,8 +244,7 @@ fn write_stored(text: &mut String, parts: &Parts, sources: &[Source]) -> Result<
         [value, guard] => {
             write_source(text, parts, *value)?;
             text.push_str(" if")?;
-            write_source(text, parts, *guard)?;
-            Ok(())
+            write_source(text, parts, *guard)
         }
         _ => write_plain(text, parts, sources),
     }
@@ -284,70 +267,11 @@ fn write_source(text: &mut String, parts: &Parts, source: Source) -> Result<(), 
     ensures { IfOk result (λ _. string_bytes text.new ≡ string_bytes text.old ++ spaced (source_text parts.now source)) }
 {
     match source {
-        Source::Register(name) => write_number(text, " r", u64::from(name)),
+        Source::Register(name) => push_told(text, " r", u64::from(name)),
         Source::Parameter(number) => {
-            text.push_str(" ")?;
-            text.push_str(parts.params.as_slice()[usize::from(number)].name.as_str())?;
-            Ok(())
+            let param = &parts.params.as_slice()[usize::from(number)];
+            push_both(text, " ", param.name.as_str())
         }
-        Source::Constant(value) => write_value(text, " ", value),
+        Source::Constant(value) => push_signed(text, " ", value),
     }
-}
-
-/// Writes a number after some text.
-#[inline(always)]
-fn write_number(text: &mut String, before: &str, number: u64) -> Result<(), OutOfMemory>
-    ensures { IfOk result (λ _. string_bytes text.new ≡ string_bytes text.old ++ (before.now ++ decimal number)) }
-{
-    text.push_str(before)?;
-    write_decimal(text, number)
-}
-
-/// Writes a signed number after some text.
-#[inline(always)]
-fn write_value(text: &mut String, before: &str, value: i64) -> Result<(), OutOfMemory>
-    ensures { IfOk result (λ _. string_bytes text.new ≡ string_bytes text.old ++ (before.now ++ signed_decimal value)) }
-{
-    text.push_str(before)?;
-    if value < 0 {
-        text.push_str("-")?;
-    }
-    write_decimal(text, value.unsigned_abs())
-}
-
-/// Writes a number. Nearly all have one digit or two, which need no buffer.
-#[tactic(auto, using(crate::proofs::texts::Digits::two_digits))]
-fn write_decimal(text: &mut String, number: u64) -> Result<(), OutOfMemory>
-    ensures { IfOk result (λ _. string_bytes text.new ≡ string_bytes text.old ++ decimal number) }
-{
-    if number < 10 {
-        return write_digit(text, number);
-    }
-    if number < 100 {
-        write_digit(text, number / 10)?;
-        return write_digit(text, number % 10);
-    }
-    write_long(text, number)
-}
-
-/// Writes a number of any length. Kept out of [`write_decimal`], which is short without it.
-#[cold]
-#[inline(never)]
-fn write_long(text: &mut String, number: u64) -> Result<(), OutOfMemory>
-    ensures { IfOk result (λ _. string_bytes text.new ≡ string_bytes text.old ++ decimal number) }
-{
-    let mut buffer = Buffer::new();
-    text.push_str(buffer.format(number))?;
-    Ok(())
-}
-
-/// Writes a digit.
-#[inline(always)]
-#[tactic(auto, using(std::proofs::lemmas::Fmt::decimal_digit))]
-fn write_digit(text: &mut String, digit: u64) -> Result<(), OutOfMemory>
-    requires { digit < 10 }
-    ensures { IfOk result (λ _. string_bytes text.new ≡ string_bytes text.old ++ decimal digit) }
-{
-    text.push(char::from(b'0' + digit as u8))?;
-    Ok(())
 }

@@ -4,11 +4,10 @@ ghost use Rattle.std.specs.Prelude.{◌≡◌, ◌≤◌, ◌+◌, IfOk, string_
 ghost use Rattle.std.specs.List.{All};
 ghost use Rattle.serde_json.specs.View.{view};
 ghost use Rattle.candidates.specs.Listings.{IsRow};
-ghost use Rattle.candidates.specs.Texts.{number_failed, number_met};
 ghost use Rattle.listing_json.specs.Documents.{document_of, document_text, list_value, row_value};
 
 use crate::kernels::told_kernel;
-use candidates::{Choice, Listing, Row};
+use candidates::{Choice, Listing, Row, number_failed, number_met};
 use machine_data::OutOfMemory;
 use serde_json::{Value, json};
 use std::alloc::Global;
@@ -84,18 +83,4 @@ fn told_row(alloc: Global, ceiling: u64, row: &Row) -> Result<Value, OutOfMemory
             "cause": cause.word()
         }),
     }
-}
-
-/// How many loops have a kernel.
-fn number_met(rows: &[Row]) -> usize
-    ensures { result ≡ number_met rows.now }
-{
-    rows.iter().filter(|row| row.choice.is_met()).count()
-}
-
-/// How many loops have none.
-fn number_failed(rows: &[Row]) -> usize
-    ensures { result ≡ number_failed rows.now }
-{
-    rows.iter().filter(|row| row.choice.is_failed()).count()
 }

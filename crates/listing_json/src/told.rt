@@ -5,10 +5,10 @@ ghost use Rattle.serde_json.specs.Data.{Data};
 ghost use Rattle.serde_json.specs.View.{view};
 ghost use Rattle.listing_json.specs.Documents.{digits_value, list_value};
 
-use itoa::Buffer;
 use machine_data::Name;
 use serde_json::{ToValue, Value};
 use std::alloc::{AllocError, Global};
+use writing::push_integer;
 
 /// A part of a listing that has a JSON value.
 pub(crate) trait Told {
@@ -44,6 +44,7 @@ pub(crate) fn told_all<T: Told>(alloc: Global, list: &[T]) -> Result<Value, Allo
 pub(crate) fn told_digits(alloc: Global, number: i64) -> Result<Value, AllocError>
     ensures { IfOk result (λ v. view v ≡ digits_value number) }
 {
-    let mut digits = Buffer::new();
-    digits.format(number).to_value(alloc)
+    let mut digits = String::new(alloc);
+    push_integer(&mut digits, number)?;
+    Ok(Value::String(digits))
 }

@@ -21,7 +21,8 @@ use Rattle.loop_data.specs.declared.language.statement.Operand.TheVariants.{Cons
 use Rattle.loop_data.specs.declared.language.statement.Place.{Place}
 use Rattle.loop_data.specs.declared.language.statement.Statement.{Statement}
 use Rattle.loop_data.specs.Loops.{LoopData, IsLoop, IsName, IsLong, IsBefore, IsPlace, MayRead, HasShape, GivesValue, HasInitial}
-use Rattle.loops.specs.Text.{array_name, value_name, at_distance, operand_word, place_word, place_words, offset_text, stored_words, array_words, param_words, init_words, words_by, statement_words, out_words, following, line_text, text_of}
+use Rattle.writing.specs.Words.{at}
+use Rattle.loops.specs.Text.{array_name, value_name, operand_word, place_word, place_words, offset_text, stored_words, array_words, param_words, init_words, words_by, statement_words, out_words, following, line_text, text_of}
 use Rattle.loops.proofs.spelling.LoopNames.{all-numbered, get-below, arrays-named, params-named, statement-named, array_name-named, param_name-named, value_name-named}
 use Rattle.loops.proofs.Texts.{text_of-is}
 use Rattle.loops.proofs.Parts.{all-both}
@@ -88,7 +89,7 @@ long-length (negsuc n) h =
     let r = length-decimal-le 19 (suc n) (omega arith) (omega (arith, ints)) (omega (arith, ints)) in
     omega arith
 
-distance-length : (name : List ℕ) (n : ℕ) → length name ≤ 16 → n ≤ 16 → length (at_distance name n) ≤ 19
+distance-length : (name : List ℕ) (n : ℕ) → length name ≤ 16 → n ≤ 16 → length (at name n) ≤ 19
 distance-length name zero short few = omega arith
 distance-length name (suc n) short few =
     let r = length-decimal-le 2 (suc n) (omega arith) (omega arith) (omega arith) in

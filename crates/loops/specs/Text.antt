@@ -1,7 +1,8 @@
 -- The canonical text of a loop: a line for each part, words parted by one blank, and a line feed at the end of each line.
-use Rattle.std.specs.Prelude.{ℕ, zero, suc, List, [], ◌∷◌, ◌++◌, map, codes, Option, Some, None}
+use Rattle.std.specs.Prelude.{ℕ, List, [], ◌∷◌, ◌++◌, map, codes, Option, Some, None}
 use Rattle.std.specs.List.{flat_map}
-use Rattle.std.specs.Fmt.{decimal, signed_decimal}
+use Rattle.std.specs.Fmt.{signed_decimal}
+use Rattle.writing.specs.Words.{at}
 use Rattle.machine_data.specs.declared.opcode.Opcode.{Opcode}
 use Rattle.machine_data.specs.Opcodes.{word_of}
 use Rattle.loop_data.specs.declared.language.lists.Array.{Array}
@@ -16,15 +17,10 @@ pub use Rattle.loop_data.specs.NamedParts.{array_name, param_name, value_name, o
 
 -- words
 
--- a name, and after an `@` a number above 0
-abbrev pub at_distance : List ℕ → ℕ → List ℕ
-at_distance name zero = name
-at_distance name (suc d) = name ++ 64 ∷ decimal (suc d)
-
 abbrev pub operand_word : LoopData → Operand → List ℕ
 operand_word loop (Constant value) = signed_decimal value
 operand_word loop (Parameter number) = param_name loop number
-operand_word loop (Value statement distance) = at_distance (value_name loop statement) distance
+operand_word loop (Value statement distance) = at (value_name loop statement) distance
 
 -- lines, by their words
 
@@ -35,7 +31,7 @@ abbrev pub param_words : Param → List (List ℕ)
 param_words p = codes "param" ∷ p.name ∷ codes "=" ∷ signed_decimal p.value ∷ []
 
 abbrev pub init_words : LoopData → Initial → List (List ℕ)
-init_words loop i = codes "init" ∷ at_distance (value_name loop i.statement) i.number ∷ codes "=" ∷ signed_decimal i.value ∷ []
+init_words loop i = codes "init" ∷ at (value_name loop i.statement) i.number ∷ codes "=" ∷ signed_decimal i.value ∷ []
 
 abbrev pub place_words : LoopData → Option Place → List (List ℕ)
 place_words loop None = []

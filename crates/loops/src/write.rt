@@ -6,13 +6,13 @@ ghost use Rattle.std.specs.Fmt.{signed_decimal};
 ghost use Rattle.loop_data.specs.declared.language.statement.Operand.{Operand};
 ghost use Rattle.loop_data.specs.Loops.{IsPlace, IsStatement, MayRead};
 ghost use Rattle.loop_reader.specs.Meaning.{loops_in};
-ghost use Rattle.loops.specs.Text.{array_name, param_name, value_name, at_distance, operand_word, offset_text, place_word, array_words, param_words, init_words, place_words, stored_words, statement_words, out_words, following, line_text, text_of};
+ghost use Rattle.loops.specs.Text.{array_name, param_name, value_name, operand_word, offset_text, place_word, array_words, param_words, init_words, place_words, stored_words, statement_words, out_words, following, line_text, text_of};
 
-use itoa::Buffer;
 use loop_data::{Array, Initial, Loop, Operand, Param, Place, Statement};
 use machine_data::OutOfMemory;
 use machine_data::limits::MAX_NAME;
 use std::alloc::Global;
+use writing::{push_at, push_both, push_signed, push_with_sign};
 
 /// The one canonical text of a loop: a line for its name, each array, parameter, initial value,
 /// statement and value that is live at the end, and `end`. A subscript constant and a distance of 0
@@ -71,10 +71,8 @@ fn capacity_for(innermost: &Loop) -> usize {
 fn write_head(text: &mut String, innermost: &Loop) -> Result<(), OutOfMemory>
     ensures { IfOk result (λ _. string_bytes text.new ≡ string_bytes text.old ++ line_text (codes "loop" ∷ innermost.now.name ∷ [])) }
 {
-    text.push_str("loop ")?;
-    text.push_str(innermost.name().as_str())?;
-    text.push_str("\n")?;
-    Ok(())
+    push_both(text, "loop ", innermost.name().as_str())?;
+    text.push_str("\n")
 }
 
 /// Writes the lines of the arrays.
@@ -91,12 +89,10 @@ fn write_arrays(text: &mut String, arrays: &[Array]) -> Result<(), OutOfMemory>
 fn write_array(text: &mut String, array: &Array) -> Result<(), OutOfMemory>
     ensures { IfOk result (λ _. string_bytes text.new ≡ string_bytes text.old ++ line_text (array_words array.now)) }
 {
-    text.push_str("array ")?;
-    text.push_str(array.name.as_str())?;
+    push_both(text, "array ", array.name.as_str())?;
     text.push_str(" =")?;
     write_numbers(text, array.cells.as_slice())?;
-    text.push_str("\n")?;
-    Ok(())
+    text.push_str("\n")
 }
 
 /// Writes numbers, each after a blank.
@@ -104,18 +100,8 @@ fn write_numbers(text: &mut String, numbers: &[i64]) -> Result<(), OutOfMemory>
     ensures { IfOk result (λ _. string_bytes text.new ≡ string_bytes text.old ++ following (map signed_decimal numbers.now)) }
 {
     for number in numbers {
-        write_number(text, " ", *number)?;
+        push_signed(text, " ", *number)?;
     }
-    Ok(())
-}
-
-/// Writes a number after some text.
-fn write_number(text: &mut String, before: &str, number: i64) -> Result<(), OutOfMemory>
-    ensures { IfOk result (λ _. string_bytes text.new ≡ string_bytes text.old ++ (before.now ++ signed_decimal number)) }
-{
-    text.push_str(before)?;
-    let mut buffer = Buffer::new();
-    text.push_str(buffer.format(number))?;
     Ok(())
 }
 
@@ -133,11 +119,9 @@ fn write_params(text: &mut String, params: &[Param]) -> Result<(), OutOfMemory>
 fn write_param(text: &mut String, param: &Param) -> Result<(), OutOfMemory>
     ensures { IfOk result (λ _. string_bytes text.new ≡ string_bytes text.old ++ line_text (param_words param.now)) }
 {
-    text.push_str("param ")?;
-    text.push_str(param.name.as_str())?;
-    write_number(text, " = ", param.value)?;
-    text.push_str("\n")?;
-    Ok(())
+    push_both(text, "param ", param.name.as_str())?;
+    push_signed(text, " = ", param.value)?;
+    text.push_str("\n")
 }
 
 /// Writes the lines of the initial values.
@@ -155,28 +139,10 @@ fn write_init(text: &mut String, innermost: &Loop, init: &Initial) -> Result<(),
     ensures { IfOk result (λ _. string_bytes text.new ≡ string_bytes text.old ++ line_text (init_words innermost.now init.now)) }
 {
     text.push_str("init ")?;
-    write_value(text, innermost, init.statement, init.number)?;
-    write_number(text, " = ", init.value)?;
-    text.push_str("\n")?;
-    Ok(())
-}
-
-/// Writes the name of a statement's value, and a distance above 0.
-fn write_value(
-    text: &mut String,
-    innermost: &Loop,
-    statement: u8,
-    distance: u8,
-) -> Result<(), OutOfMemory>
-    ensures { IfOk result (λ _. string_bytes text.new ≡ string_bytes text.old ++ at_distance (value_name innermost.now statement) distance) }
-{
-    text.push_str(value_name(innermost, statement))?;
-    if distance > 0 {
-        text.push_str("@")?;
-        let mut buffer = Buffer::new();
-        text.push_str(buffer.format(distance))?;
-    }
-    Ok(())
+    let name = value_name(innermost, init.statement);
+    push_at(text, name, u64::from(init.number))?;
+    push_signed(text, " = ", init.value)?;
+    text.push_str("\n")
 }
 
 /// The name of the value that a statement gives, by the statement's number in the loop. It is empty for a
@@ -231,8 +197,7 @@ fn write_statement(
     let operands = statement.operands.as_slice();
     match &statement.name {
         Some(name) => {
-            text.push_str(name.as_str())?;
-            text.push_str(" = ")?;
+            push_both(text, name.as_str(), " = ")?;
             text.push_str(statement.opcode.word())?;
             write_place(text, innermost, statement.place)?;
             write_operands(text, innermost, operands)?;
@@ -243,8 +208,7 @@ fn write_statement(
             write_stored(text, innermost, operands)?;
         }
     }
-    text.push_str("\n")?;
-    Ok(())
+    text.push_str("\n")
 }
 
 /// Writes a place, if there is one, after a blank.
@@ -252,10 +216,10 @@ fn write_place(text: &mut String, innermost: &Loop, place: Option<Place>) -> Res
     requires { (p : Place) → place ≡ Some p → IsPlace innermost.now p }
     ensures { IfOk result (λ _. string_bytes text.new ≡ string_bytes text.old ++ following (place_words innermost.now place)) }
 {
-    if let Some(place) = place {
-        write_cell(text, innermost, place)?;
+    match place {
+        Some(place) => write_cell(text, innermost, place),
+        None => Ok(()),
     }
-    Ok(())
 }
 
 /// Writes a place after a blank.
@@ -263,26 +227,21 @@ fn write_cell(text: &mut String, innermost: &Loop, place: Place) -> Result<(), O
     requires { IsPlace innermost.now place }
     ensures { IfOk result (λ _. string_bytes text.new ≡ string_bytes text.old ++ 32 ∷ place_word innermost.now place) }
 {
-    text.push_str(" ")?;
-    text.push_str(array_name(innermost, place.array))?;
+    push_both(text, " ", array_name(innermost, place.array))?;
     text.push_str("[i")?;
     write_offset(text, place.offset)?;
-    text.push_str("]")?;
-    Ok(())
+    text.push_str("]")
 }
 
 /// Writes the constant of a subscript with its sign, unless it is 0.
+#[tactic(auto, using(crate::proofs::Texts::signed_offset))]
 fn write_offset(text: &mut String, offset: i8) -> Result<(), OutOfMemory>
     ensures { IfOk result (λ _. string_bytes text.new ≡ string_bytes text.old ++ offset_text offset) }
 {
-    if offset > 0 {
-        text.push_str("+")?;
+    if offset == 0 {
+        return Ok(());
     }
-    if offset != 0 {
-        let mut buffer = Buffer::new();
-        text.push_str(buffer.format(offset))?;
-    }
-    Ok(())
+    push_with_sign(text, i64::from(offset))
 }
 
 /// Writes operands, each after a blank.
@@ -310,15 +269,14 @@ fn write_stored(
     ensures { IfOk result (λ _. string_bytes text.new ≡ string_bytes text.old ++ following (stored_words (map (operand_word innermost.now) operands.now))) }
 {
     match operands {
-        [] => {}
-        [value] => write_operand(text, innermost, *value)?,
+        [] => Ok(()),
+        [value] => write_operand(text, innermost, *value),
         [value, guards @ ..] => {
             write_operand(text, innermost, *value)?;
             text.push_str(" if")?;
-            write_operands(text, innermost, guards)?;
+            write_operands(text, innermost, guards)
         }
     }
-    Ok(())
 }
 
 /// Writes an operand after a blank.
@@ -327,20 +285,16 @@ fn write_operand(text: &mut String, innermost: &Loop, operand: Operand) -> Resul
     ensures { IfOk result (λ _. string_bytes text.new ≡ string_bytes text.old ++ 32 ∷ operand_word innermost.now operand) }
 {
     match operand {
-        Operand::Constant(value) => write_number(text, " ", value)?,
-        Operand::Parameter(number) => {
-            text.push_str(" ")?;
-            text.push_str(param_name(innermost, number))?;
-        }
+        Operand::Constant(value) => push_signed(text, " ", value),
+        Operand::Parameter(number) => push_both(text, " ", param_name(innermost, number)),
         Operand::Value {
             statement,
             distance,
         } => {
             text.push_str(" ")?;
-            write_value(text, innermost, statement, distance)?;
+            push_at(text, value_name(innermost, statement), u64::from(distance))
         }
     }
-    Ok(())
 }
 
 /// Writes the lines of the values that are live at the end.
@@ -357,8 +311,6 @@ fn write_outs(text: &mut String, innermost: &Loop) -> Result<(), OutOfMemory>
 fn write_out(text: &mut String, innermost: &Loop, statement: u8) -> Result<(), OutOfMemory>
     ensures { IfOk result (λ _. string_bytes text.new ≡ string_bytes text.old ++ line_text (out_words innermost.now statement)) }
 {
-    text.push_str("out ")?;
-    text.push_str(value_name(innermost, statement))?;
-    text.push_str("\n")?;
-    Ok(())
+    push_both(text, "out ", value_name(innermost, statement))?;
+    text.push_str("\n")
 }

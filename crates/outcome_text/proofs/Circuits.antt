@@ -1,26 +1,12 @@
--- The circuit that the recurrence-constrained bound is due to, and its sums.
-use Rattle.std.proofs.Common.{◌≡◌, ℕ, ◌+◌, ◌-◌, ◌<◌, ◌≤◌, pos, ◌+ℤ◌, List, [], ◌∷◌, length, get_or, take, ap, ◌∙◌, inl, inr, arith}
+-- The circuit that the recurrence-constrained bound is due to.
+use Rattle.std.proofs.Common.{ℕ, ◌-◌, ◌<◌, ◌≤◌, List, [], ◌∷◌, length, inl, inr, arith}
 use Rattle.std.proofs.lemmas.Int.{ints}
-use Rattle.std.proofs.lemmas.List.{take_more}
 use Rattle.graph.specs.Dependences.{EdgeData}
-use Rattle.graph.specs.Walks.{FitsCircuits, delay_of, distance_of}
-use Rattle.graph.proofs.walks.Circuits.{delay_of-append, distance_of-append}
+use Rattle.graph.specs.Walks.{FitsCircuits}
 use Rattle.circuits.specs.Circuits.{IsCircuitAbove}
 use Rattle.circuits.proofs.Rounds.{once-short}
 use Rattle.modulo.specs.Problems.{ProblemData as SchedulingData, IsProblem}
 use Rattle.outcome_text.specs.Notes.{IsCircuitOf}
-
-pub delay-more : (xs : List EdgeData) (i : ℕ) (d : EdgeData) → i < length xs → delay_of (take (i + 1) xs) ≡ (delay_of (take i xs) +ℤ (get_or xs i d).delay)
-delay-more xs i d h =
-    let e : delay_of (take (i + 1) xs) ≡ (delay_of (take i xs) +ℤ ((get_or xs i d).delay +ℤ pos 0))
-    = ap delay_of (take_more xs i d h) ∙ delay_of-append (take i xs) (get_or xs i d ∷ []) in
-    omega (arith, ints)
-
-pub distance-more : (xs : List EdgeData) (i : ℕ) (d : EdgeData) → i < length xs → distance_of (take (i + 1) xs) ≡ distance_of (take i xs) + (get_or xs i d).distance
-distance-more xs i d h =
-    let e : distance_of (take (i + 1) xs) ≡ distance_of (take i xs) + ((get_or xs i d).distance + 0)
-    = ap distance_of (take_more xs i d h) ∙ distance_of-append (take i xs) (get_or xs i d ∷ []) in
-    omega arith
 
 -- a walk that does not fit one cycle less than the bound
 pub is-circuit : (p : SchedulingData) (walk : List EdgeData) → 1 < p.recurrences → IsCircuitAbove p.graph.edges (p.recurrences - 1) walk → IsCircuitOf p walk

@@ -5,10 +5,8 @@ mod circuit;
 mod listed;
 mod notes;
 mod outcome;
-mod sums;
 mod units;
 
 pub use circuit::circuit_of;
 pub use outcome::{is_met, push_outcome};
-pub use sums::{Sums, sums_of};
 pub use units::{fullest_of, rows_at, rows_with, use_of};

@@ -1,5 +1,6 @@
 -- What subcommands do with their texts, and the line that the outputs of `bounds` and `plain` end with.
-use Rattle.std.specs.Prelude.{ℕ, Bool, decimal, codes, List, ◌++◌, Result}
+use Rattle.std.specs.Prelude.{ℕ, Bool, codes, List, Result}
+use Rattle.writing.specs.Words.{ended, told}
 use Rattle.file_faults.specs.declared.fault.FileFault.{FileFault}
 
 -- a text that is written, with whether every loop is met
@@ -13,4 +14,4 @@ Outcome = Result Written FileFault
 
 -- `loops A`, with a line feed
 abbrev pub last_line : ℕ → List ℕ
-last_line loops = (codes "loops " ++ decimal loops) ++ codes "\n"
+last_line loops = ended (told (codes "loops ") loops)

@@ -1,8 +1,8 @@
 -- What `plain` writes.
-use Rattle.std.specs.Prelude.{◌≡◌, ℕ, ℤ, pos, ◌+◌, ◌-ℤ◌, decimal, codes, Bool, true, not, if◌then◌else◌, List, [], ◌++◌, length, map}
+use Rattle.std.specs.Prelude.{◌≡◌, ℕ, ℤ, pos, ◌+◌, ◌-ℤ◌, codes, Bool, true, not, if◌then◌else◌, List, [], ◌++◌, length, map}
 use Rattle.std.specs.List.{enumerate_from, filter, flat_map, range_with_len, zip}
-use Rattle.std.specs.Fmt.{signed_decimal}
 use Rattle.std.specs.Ordering.{int_eq}
+use Rattle.writing.specs.Words.{ended, told, told_signed}
 use Rattle.loops.specs.Array.{Array}
 use Rattle.loops.specs.Loops.{LoopData}
 use Rattle.loops.specs.Run.{MemoryData, cell_of, opening_of, plain}
@@ -13,19 +13,19 @@ use Rattle.printouts.specs.Outcomes.{Written, last_line}
 
 -- `loop NAME trip N`
 abbrev pub run_line : List ℕ → ℕ → List ℕ
-run_line name trip = (((codes "loop " ++ name) ++ codes " trip ") ++ decimal trip) ++ codes "\n"
+run_line name trip = ended ((codes "loop " ++ name) ++ told (codes " trip ") trip)
 
 -- `ARRAY[CELL]`, without a line feed
 abbrev pub cell_text : List ℕ → ℤ → List ℕ
-cell_text name cell = ((name ++ codes "[") ++ signed_decimal cell) ++ codes "]"
+cell_text name cell = (name ++ told_signed (codes "[") cell) ++ codes "]"
 
 -- `ARRAY[CELL] VALUE`
 abbrev pub cell_line : List ℕ → ℤ → ℤ → List ℕ
-cell_line name cell value = ((cell_text name cell ++ codes " ") ++ signed_decimal value) ++ codes "\n"
+cell_line name cell value = ended (cell_text name cell ++ told_signed (codes " ") value)
 
 -- `out NAME VALUE`
 abbrev pub out_line : List ℕ → ℤ → List ℕ
-out_line name value = (((codes "out " ++ name) ++ codes " ") ++ signed_decimal value) ++ codes "\n"
+out_line name value = ended ((codes "out " ++ name) ++ told_signed (codes " ") value)
 
 -- the lines of a run
 

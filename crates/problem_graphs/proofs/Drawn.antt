@@ -1,12 +1,12 @@
 -- The arrows of a graph, one more at a time, and the whole graph.
-use Rattle.std.proofs.Common.{◌≡◌, ℕ, ◌+◌, ◌<◌, Bool, List, ◌++◌, length, get_or, take, refl, ap, ◌∙◌, subst}
+use Rattle.std.proofs.Common.{◌≡◌, Bool, List, ◌++◌, length, ℕ, refl, subst}
 use Rattle.std.specs.Prelude.{codes}
 use Rattle.std.specs.List.{flat_map, range_with_len}
 use Rattle.graph.specs.Dependences.{EdgeData}
 use Rattle.graph.specs.Graphs.{GraphData}
 use Rattle.graph_text.specs.Drawings.{IsCritical}
 use Rattle.graph_text.specs.Texts.{AreTexts}
-use Rattle.graph_text.proofs.Texts.{behind, texts-more}
+use Rattle.writing.proofs.Beginnings.{two_pushed}
 use Rattle.modulo.specs.Problems.{ProblemData as SchedulingData}
 use Rattle.registers.specs.declared.value.Read.{Read}
 use Rattle.problems.specs.declared.draft.Draft.{Draft}
@@ -15,18 +15,6 @@ use Rattle.problems.specs.Drafts.{order_edge, read_edge}
 use Rattle.problems.specs.Problems.{ProblemData}
 use Rattle.problem_graphs.specs.declared.whys.Why.TheVariants.{Value, Order}
 use Rattle.problem_graphs.specs.Dot.{IsBold, IsDotText, arrow_line, graph_head, node_line}
-
--- the step of a loop over things, which are those of another list
-pub text-next : {A B : Type 0} (R : A → B → Type 0) (f : A → B → List ℕ) (xs ys : List A) (i : ℕ) (d : A) (old mid new before : List ℕ) (y : B) → xs ≡ ys → i < length xs
-    → AreTexts R f (take i ys) before → mid ≡ old ++ before → R (get_or xs i d) y → new ≡ mid ++ f (get_or xs i d) y
-    → (part : List ℕ) × AreTexts R f (take (i + 1) ys) part × (new ≡ old ++ part)
-text-next {A = A} R f xs ys i d old mid new before y same within are e r n =
-    let at : get_or xs i d ≡ get_or ys i d = ap (λ (zs : List A). get_or zs i d) same in
-    let there : i < length ys = subst (λ (zs : List A). i < length zs) same within in (
-      before ++ f (get_or ys i d) y,
-      texts-more R f ys i d before y there are (subst (λ (x : A). R x y) at r),
-      behind old before mid (f (get_or ys i d) y) new e (n ∙ ap (λ (x : A). mid ++ f x y) at),
-    )
 
 -- the arrows of all reads, after a text
 abbrev pub HasReads : Draft → List EdgeData → List ℕ → List ℕ → Type 0
@@ -58,6 +46,6 @@ drawn name p circuit old first second third fourth new critical a b r o e =
     let nodes : List ℕ = nodes_of p.draft in (
       (((head ++ nodes) ++ r.0) ++ o.0) ++ codes "}\n",
       record { circuit = circuit; is_critical = critical; reads = r.0; are_reads = r.1; orders = o.0; are_orders = o.1; is_text = refl },
-      behind old (((head ++ nodes) ++ r.0) ++ o.0) fourth (codes "}\n") new
-          (behind old ((head ++ nodes) ++ r.0) third o.0 fourth (behind old (head ++ nodes) second r.0 third (behind old head first nodes second a b) r.2) o.2) e,
+      two_pushed old (((head ++ nodes) ++ r.0) ++ o.0) (codes "}\n") fourth new
+          (two_pushed old ((head ++ nodes) ++ r.0) o.0 third fourth (two_pushed old (head ++ nodes) r.0 second third (two_pushed old head nodes first second a b) r.2) o.2) e,
     )

@@ -1,4 +1,3 @@
 pub mod Drawn
-pub mod Loops
 pub mod Quotes
 pub mod Sizes

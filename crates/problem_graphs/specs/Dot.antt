@@ -1,7 +1,8 @@
 -- The operations of a problem and what they wait for, as a graph in the language of Graphviz.
-use Rattle.std.specs.Prelude.{◌≡◌, ◌↔◌, ℕ, zero, suc, codes, Bool, IsTrue, if◌then◌else◌, List, [], ◌++◌, length}
+use Rattle.std.specs.Prelude.{◌≡◌, ◌↔◌, ℕ, codes, Bool, IsTrue, List, ◌++◌, length}
 use Rattle.std.specs.List.{Contains, flat_map, range_with_len}
 use Rattle.graph.specs.Dependences.{EdgeData}
+use Rattle.graph_text.specs.Dot.{arrow_end, arrow_start}
 use Rattle.graph_text.specs.Drawings.{IsCritical}
 use Rattle.graph_text.specs.Texts.{AreTexts}
 use Rattle.modulo.specs.Problems.{ProblemData as SchedulingData}
@@ -10,7 +11,7 @@ use Rattle.problems.specs.declared.draft.Draft.{Draft}
 use Rattle.problems.specs.declared.draft.Order.{Order as OrderData}
 use Rattle.problems.specs.Drafts.{order_edge, read_edge}
 use Rattle.problems.specs.Problems.{ProblemData}
-use Rattle.writing.specs.Words.{told, told_signed}
+use Rattle.writing.specs.Words.{told}
 use Rattle.problem_graphs.specs.declared.whys.Why.{Why}
 use Rattle.problem_graphs.specs.declared.whys.Why.TheVariants.{Value, Order}
 use Rattle.problem_graphs.specs.Escapes.{escaped, escaped_in}
@@ -32,23 +33,9 @@ abbrev pub why_label : Draft → Why → List ℕ
 why_label draft (Value value) = codes "value " ++ escaped_in draft.names.values.items value
 why_label draft Order = codes "order"
 
--- after a blank and an `@`, a distance that is not 0
-abbrev pub at_text : ℕ → List ℕ
-at_text zero = []
-at_text (suc n) = told (codes " @") (suc n)
-
--- what makes an edge of the circuit bold
-abbrev pub style_text : Bool → List ℕ
-style_text bold = if bold then codes ",style=bold" else []
-
--- `WHY D @N`
-abbrev pub arrow_label : Draft → EdgeData → Why → List ℕ
-arrow_label draft e why = (why_label draft why ++ told_signed (codes " ") e.delay) ++ at_text e.distance
-
 -- `  P -> Q [label="WHY D @N",style=bold]`, with a line feed
 abbrev pub arrow_line : Draft → EdgeData → Why → Bool → List ℕ
-arrow_line draft e why bold =
-    ((((told (codes "  ") e.from ++ told (codes " -> ") e.to) ++ (codes " [label=\"" ++ arrow_label draft e why)) ++ codes "\"") ++ style_text bold) ++ codes "]\n"
+arrow_line draft e why bold = (arrow_start e ++ why_label draft why) ++ arrow_end e bold
 
 -- an edge is bold just where it is one of the circuit
 abbrev pub IsBold : List EdgeData → EdgeData → Bool → Type 0

@@ -3,13 +3,14 @@ use Rattle.std.specs.Prelude.{◌≡◌, ℕ, codes, List, ◌++◌, length, sli
 use Rattle.std.specs.List.{flat_map, range_with_len}
 use Rattle.graph.specs.Dependences.{EdgeData}
 use Rattle.graph.specs.Walks.{AreHeights}
+use Rattle.graph_text.specs.Edges.{sums_told}
 use Rattle.modulo.specs.Problems.{mii_of}
 use Rattle.registers.specs.declared.value.Read.{Read}
 use Rattle.problems.specs.declared.draft.Draft.{Draft}
 use Rattle.problems.specs.declared.draft.Order.{Order as OrderData}
 use Rattle.problems.specs.Drafts.{order_edge, read_edge}
 use Rattle.problems.specs.Problems.{ProblemData}
-use Rattle.writing.specs.Words.{told, told_signed}
+use Rattle.writing.specs.Words.{told}
 use Rattle.problem_graphs.specs.declared.whys.Why.{Why}
 use Rattle.problem_graphs.specs.declared.whys.Why.TheVariants.{Value, Order}
 use Rattle.problem_graphs.specs.Heads.{problem_line}
@@ -33,8 +34,7 @@ op_lines problem heights = flat_map (op_line problem heights) (range_with_len 0 
 -- `edge P NAME Q NAME WHY delay D distance N`, with a line feed
 abbrev pub edge_line : Draft → EdgeData → Why → List ℕ
 edge_line draft e why =
-    (((numbered (codes "edge ") draft e.from ++ numbered (codes " ") draft e.to) ++ (codes " " ++ why_text draft why))
-    ++ (told_signed (codes " delay ") e.delay ++ told (codes " distance ") e.distance)) ++ codes "\n"
+    (((numbered (codes "edge ") draft e.from ++ numbered (codes " ") draft e.to) ++ (codes " " ++ why_text draft why)) ++ sums_told e.delay e.distance) ++ codes "\n"
 
 -- the line of a read: its reader waits for its value to land
 abbrev pub read_line : Draft → Read → List ℕ

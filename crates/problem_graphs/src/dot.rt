@@ -8,7 +8,7 @@ ghost use Rattle.problems.specs.Drafts.{IsWellFormed, order_edge, read_edge};
 ghost use Rattle.problems.specs.declared.draft.Order.{Order};
 ghost use Rattle.registers.specs.declared.value.Read.{Read};
 ghost use Rattle.problem_graphs.specs.declared.whys.Why.TheVariants as why;
-ghost use Rattle.problem_graphs.specs.Dot.{IsBold, IsDotText, arrow_label, arrow_line, at_text, graph_head, node_line, style_text};
+ghost use Rattle.problem_graphs.specs.Dot.{IsBold, IsDotText, arrow_line, graph_head, node_line};
 
 use crate::demands::{order_edge, read_edge};
 use crate::escapes::{push_escaped, push_escaped_name};
@@ -16,11 +16,11 @@ use crate::heads::push_bounds;
 use crate::names::kind_of;
 use crate::whys::{Why, push_why_label};
 use graph::Edge;
-use graph_text::critical_circuit;
+use graph_text::{critical_circuit, push_arrow_end, push_arrow_start};
 use machine_data::OutOfMemory;
 use problems::{Draft, Problem};
 use std::alloc::{AllocError, Global};
-use writing::{Text, push_signed, push_told};
+use writing::{Text, push_told};
 
 /// Appends what stands before the operations.
 fn push_head(text: &mut Vec<u8>, name: &str, scheduling: &modulo::Problem) -> Result<(), AllocError>
@@ -57,35 +57,6 @@ fn push_nodes(text: &mut Vec<u8>, draft: &Draft) -> Result<(), AllocError>
     Ok(())
 }
 
-/// Appends a distance, unless it is 0.
-fn push_distance(text: &mut Vec<u8>, distance: u8) -> Result<(), AllocError>
-    ensures ok { OnOk result (text.new.items ≡ text.old.items ++ at_text distance) }
-{
-    match distance {
-        0 => Ok(()),
-        _ => push_told(text, " @", u64::from(distance)),
-    }
-}
-
-/// Appends what an arrow is labelled with.
-fn push_label(text: &mut Vec<u8>, draft: &Draft, edge: Edge, why: Why) -> Result<(), AllocError>
-    ensures ok { OnOk result (text.new.items ≡ text.old.items ++ arrow_label draft.now edge why) }
-{
-    push_why_label(text, draft, why)?;
-    push_signed(text, " ", i64::from(edge.delay))?;
-    push_distance(text, edge.distance)
-}
-
-/// Appends what makes an arrow bold.
-fn push_style(text: &mut Vec<u8>, bold: bool) -> Result<(), AllocError>
-    ensures ok { OnOk result (text.new.items ≡ text.old.items ++ style_text bold) }
-{
-    if bold {
-        text.push_piece(",style=bold")?;
-    }
-    Ok(())
-}
-
 /// Appends the line of an arrow.
 fn push_arrow(
     text: &mut Vec<u8>,
@@ -96,13 +67,9 @@ fn push_arrow(
 ) -> Result<(), AllocError>
     ensures ok { OnOk result (text.new.items ≡ text.old.items ++ arrow_line draft.now edge why bold) }
 {
-    push_told(text, "  ", u64::from(edge.from))?;
-    push_told(text, " -> ", u64::from(edge.to))?;
-    text.push_piece(" [label=\"")?;
-    push_label(text, draft, edge, why)?;
-    text.push_piece("\"")?;
-    push_style(text, bold)?;
-    text.push_piece("]\n")
+    push_arrow_start(text, &edge)?;
+    push_why_label(text, draft, why)?;
+    push_arrow_end(text, &edge, bold)
 }
 
 /// Whether an edge is one of a circuit.

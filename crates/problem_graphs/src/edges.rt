@@ -1,11 +1,10 @@
 //! The text of the edges of a problem.
 
-ghost use Rattle.std.specs.Prelude.{◌≡◌, ◌<◌, ◌≤◌, ◌++◌, ℕ, List, codes, length, IfOk, OnOk};
+ghost use Rattle.std.specs.Prelude.{◌≡◌, ◌<◌, ◌≤◌, ◌++◌, ℕ, List, length, IfOk, OnOk};
 ghost use Rattle.std.specs.List.{flat_map};
 ghost use Rattle.graph.specs.Walks.{AreHeights};
 ghost use Rattle.modulo.specs.Problems.{mii_of};
 ghost use Rattle.problems.specs.Drafts.{IsOrder, IsRead, IsWellFormed};
-ghost use Rattle.writing.specs.Words.{told, told_signed};
 ghost use Rattle.problem_graphs.specs.Edges.{IsEdgesText, edge_line, edge_lines, numbered, op_line, op_lines, order_line, read_line};
 
 use crate::demands::{order_edge, read_edge};
@@ -13,11 +12,12 @@ use crate::heads::push_problem_line;
 use crate::names::{push_kind_name, push_op_name};
 use crate::whys::{Why, push_why};
 use graph::{Edge, heights, longer_intervals_fit};
+use graph_text::push_sums;
 use machine_data::OutOfMemory;
 use problems::{Draft, Order, Problem};
 use registers::Read;
 use std::alloc::{AllocError, Global};
-use writing::{Text, push_signed, push_told};
+use writing::{Text, push_told};
 
 /// Appends a word, the number of an operation, and what it is called.
 fn push_numbered(text: &mut Vec<u8>, word: &str, draft: &Draft, op: usize) -> Result<(), AllocError>
@@ -60,14 +60,6 @@ fn push_ops(text: &mut Vec<u8>, problem: &Problem, heights: &[u64]) -> Result<()
     Ok(())
 }
 
-/// Appends the delay and the distance of an edge.
-fn push_sums(text: &mut Vec<u8>, edge: Edge) -> Result<(), AllocError>
-    ensures ok { OnOk result (text.new.items ≡ text.old.items ++ (told_signed (codes " delay ") edge.delay ++ told (codes " distance ") edge.distance)) }
-{
-    push_signed(text, " delay ", i64::from(edge.delay))?;
-    push_told(text, " distance ", u64::from(edge.distance))
-}
-
 /// Appends the line of an edge with why its second operation waits, `edge P NAME Q NAME WHY delay D distance N`: the numbers of
 /// both operations with what they are called, the delay in cycles and the distance in iterations.
 ///
@@ -80,7 +72,7 @@ pub fn push_edge(text: &mut Vec<u8>, draft: &Draft, edge: Edge, why: Why) -> Res
     push_numbered(text, " ", draft, usize::from(edge.to))?;
     text.push_piece(" ")?;
     push_why(text, draft, why)?;
-    push_sums(text, edge)?;
+    push_sums(text, i64::from(edge.delay), u64::from(edge.distance))?;
     text.push_piece("\n")
 }
 

@@ -1,11 +1,12 @@
 -- The drafts of a text's problems have no fault.
-use Rattle.std.proofs.Common.{◌≡◌, ◌≢◌, ℕ, zero, suc, ◌<◌, ◌≤◌, List, [], ◌∷◌, get_or, length, map, inr, sym, ap, ◌∙◌, arith, subst, None, Vec, Global}
+use Rattle.std.proofs.Common.{◌≡◌, ◌≢◌, ℕ, zero, suc, ◌<◌, ◌≤◌, List, [], ◌∷◌, get_or, length, map, inr, sym, ap, ◌∙◌, arith, subst, None}
 use Rattle.std.specs.Prelude.{IfOk, Result, Ok, Err}
 use Rattle.std.specs.List.{All, AllPairs}
 use Rattle.std.proofs.lemmas.Bool.{both_ways}
 use Rattle.std.proofs.lemmas.List.{get_or-map, length-map}
 use Rattle.std.proofs.lemmas.List.Elements.{All-weaker}
 use Rattle.std.proofs.lemmas.List.Folds.{list_any_at}
+use Rattle.smallvec.specs.SmallVec.{SmallVec}
 use Rattle.machine_data.specs.Opcodes.{same_word}
 use Rattle.problems.specs.Drafts.{AreNames, AreRows, IsKind, IsOrder, IsRead, IsValue, IsWellFormed, IsFile}
 use Rattle.problems.specs.Faults.{first_fault_of}
@@ -45,7 +46,7 @@ all-unmap P f xs h k d low = let size = length-map xs f in subst P (get_or-map f
 
 is-kind : (units : ℕ) (kind : Kind) → IsSoundKind units (kind_seen kind) → IsKind units kind
 is-kind units kind h =
-    let size = length-map kind.alternatives.items (λ (rows : Vec Hold Global). rows.items) in
+    let size = length-map kind.alternatives.items (λ (rows : SmallVec Hold). rows.items) in
     let some = h.some in
     let few = h.few in
     record {
@@ -53,7 +54,7 @@ is-kind units kind h =
       latency_few = h.latency_few;
       alternatives_some = omega (arith, size, some);
       alternatives_few = omega (arith, size, few);
-      alternatives = all-unmap (AreRows units) (λ (rows : Vec Hold Global). rows.items) kind.alternatives.items h.rows;
+      alternatives = all-unmap (AreRows units) (λ (rows : SmallVec Hold). rows.items) kind.alternatives.items h.rows;
     }
 
 -- a kind holds a unit

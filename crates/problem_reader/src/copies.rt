@@ -1,7 +1,7 @@
 //! Copies of what a text has, for drafts.
 
-ghost use Rattle.std.specs.Prelude.{◌≡◌, map, IfOk, Vec};
-ghost use Rattle.std.specs.Global.{Global};
+ghost use Rattle.std.specs.Prelude.{◌≡◌, map, IfOk};
+ghost use Rattle.smallvec.specs.SmallVec.{SmallVec as Items};
 ghost use Rattle.problems.specs.declared.draft.Hold.{Hold};
 ghost use Rattle.problem_tables.specs.Data.{kind_seen};
 ghost use Rattle.problem_tables.specs.Seen.{machine_seen, problem_seen};
@@ -10,6 +10,7 @@ ghost use Rattle.problem_reader.specs.Files.{IsDraftOf};
 use machine_data::OutOfMemory;
 use problem_tables::{TextMachine, TextProblem};
 use problems::{Draft, Hold, Kind, Label, Names};
+use smallvec::SmallVec;
 use std::alloc::Global;
 
 /// The same names once more.
@@ -24,12 +25,15 @@ fn labels_of(alloc: Global, labels: &[Label]) -> Result<Vec<Label>, OutOfMemory>
 }
 
 /// The same alternatives once more.
-fn alternatives_of(alloc: Global, alternatives: &[Vec<Hold>]) -> Result<Vec<Vec<Hold>>, OutOfMemory>
-    ensures { IfOk result (λ copies. map (λ (rows : Vec Hold Global). rows.items) copies.items ≡ map (λ (rows : Vec Hold Global). rows.items) alternatives.now) }
+fn alternatives_of(
+    alloc: Global,
+    alternatives: &[SmallVec<Hold, 2>],
+) -> Result<SmallVec<SmallVec<Hold, 2>, 2>, OutOfMemory>
+    ensures { IfOk result (λ copies. map (λ (rows : Items Hold). rows.items) copies.items ≡ map (λ (rows : Items Hold). rows.items) alternatives.now) }
 {
-    let mut copies = Vec::with_capacity(alloc, alternatives.len())?;
+    let mut copies = SmallVec::with_capacity(alloc, alternatives.len())?;
     for rows in alternatives {
-        copies.push(Vec::from_slice(alloc, rows.as_slice())?)?;
+        copies.push(SmallVec::from_slice(alloc, rows.as_slice())?)?;
     }
     Ok(copies)
 }

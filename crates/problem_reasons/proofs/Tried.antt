@@ -2,7 +2,7 @@
 use Rattle.std.proofs.Common.{◌≡◌, ℕ, zero, suc, ◌+◌, ◌-◌, ◌<◌, ◌≤◌, List, [], ◌++◌, refl, sym, subst, arith}
 use Rattle.std.specs.List.{range_with_len}
 use Rattle.graph_text.specs.Texts.{AreTexts}
-use Rattle.graph_text.proofs.Texts.{behind}
+use Rattle.writing.proofs.Beginnings.{two_pushed}
 use Rattle.modulo.specs.Schedules.{stages_of}
 use Rattle.problems.specs.Problems.{ProblemData, IsProblem}
 use Rattle.solutions.specs.declared.solving.outcome.Cause.{Cause}
@@ -13,7 +13,7 @@ use Rattle.solutions.proofs.Rising.{Risen, met_here, risen_on, unmet_here}
 use Rattle.problem_reasons.specs.declared.hold.Hold.{Hold}
 use Rattle.problem_reasons.specs.Failures.{FailsFor, FailureData}
 use Rattle.problem_reasons.specs.Holds.{IsHold}
-use Rattle.problem_reasons.proofs.Rows.{row-more}
+use Rattle.graph_text.proofs.Texts.{row-more}
 use Rattle.problem_reasons.specs.Tries.{AreTries, hold_line, met_line, try_line}
 
 -- the first `above` intervals were tried, none of which gives a solution, and a line was written for each
@@ -71,5 +71,5 @@ told-more p m above last cause failure old new newer is same t fails by e =
       lines = t.lines ++ try_line p.draft (m + above) failure;
       are_lines = subst (λ (n : ℕ). AreTexts (FailsFor p) (try_line p.draft) (range_with_len (first_of p) (above + 1)) (t.lines ++ try_line p.draft (n + above) failure)) (sym same)
           (row-more (FailsFor p) (try_line p.draft) (first_of p) above t.lines failure t.are_lines here);
-      is_text = behind old t.lines new (try_line p.draft (m + above) failure) newer t.is_text e;
+      is_text = two_pushed old t.lines (try_line p.draft (m + above) failure) new newer t.is_text e;
     }

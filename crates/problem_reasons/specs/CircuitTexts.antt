@@ -1,14 +1,13 @@
 -- The lines of a circuit that the recurrence-constrained bound is due to.
-use Rattle.std.specs.Prelude.{◌≡◌, ◌≢◌, ℕ, ℤ, codes, List, [], ◌∷◌, ◌++◌, take, Some, slice_get}
+use Rattle.std.specs.Prelude.{◌≡◌, ◌≢◌, ℕ, List, ◌++◌, take, Some, slice_get}
 use Rattle.std.specs.List.{All}
 use Rattle.graph.specs.Dependences.{EdgeData}
-use Rattle.graph.specs.Walks.{delay_of, distance_of}
+use Rattle.graph_text.specs.CircuitLines.{circuit_line}
 use Rattle.graph_text.specs.Texts.{AreTexts}
 use Rattle.registers.specs.declared.value.Read.{Read}
 use Rattle.problems.specs.declared.draft.Draft.{Draft}
 use Rattle.problems.specs.Drafts.{read_edge}
 use Rattle.problems.specs.Problems.{ProblemData}
-use Rattle.writing.specs.Words.{told, told_signed}
 use Rattle.outcome_text.specs.Notes.{IsCircuitOf}
 use Rattle.problem_graphs.specs.declared.whys.Why.{Why}
 use Rattle.problem_graphs.specs.declared.whys.Why.TheVariants.{Value, Order}
@@ -27,16 +26,6 @@ pub record IsFirstRead (draft : Draft) (e : EdgeData) (value : ℕ) : Type 0 whe
 abbrev pub IsWhy : Draft → EdgeData → Why → Type 0
 IsWhy draft e (Value value) = IsFirstRead draft e value
 IsWhy draft e Order = All (λ (r : Read). read_edge draft r ≢ e) draft.reads.items
-
--- `circuit delay D distance N needs C`, with a line feed
-abbrev pub sums_line : ℤ → ℕ → ℕ → List ℕ
-sums_line delay distance bound =
-    ((told_signed (codes "circuit delay ") delay ++ told (codes " distance ") distance) ++ told (codes " needs ") bound) ++ codes "\n"
-
--- the line of the sums of a circuit and of the bound, or `circuit none`, with a line feed
-abbrev pub circuit_line : List EdgeData → ℕ → List ℕ
-circuit_line [] bound = codes "circuit none\n"
-circuit_line (e ∷ circuit) bound = sums_line (delay_of (e ∷ circuit)) (distance_of (e ∷ circuit)) bound
 
 -- a circuit that the recurrence-constrained bound is due to: the line of its sums, and a line for each of its edges, in its order, with
 -- why it is demanded

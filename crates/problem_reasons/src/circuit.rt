@@ -1,20 +1,19 @@
 //! The lines of a circuit that the recurrence-constrained bound is due to.
 
-ghost use Rattle.std.specs.Prelude.{◌≡◌, ◌↔◌, ◌≤◌, ◌++◌, ℕ, IsTrue, List, codes, length, OnOk};
+ghost use Rattle.std.specs.Prelude.{◌≡◌, ◌↔◌, ◌++◌, ℕ, IsTrue, List, OnOk};
 ghost use Rattle.graph_text.specs.Texts.{AreTexts};
 ghost use Rattle.problems.specs.Drafts.{IsRead, IsWellFormed, read_edge};
-ghost use Rattle.writing.specs.Words.{told, told_signed};
 ghost use Rattle.problem_graphs.specs.Edges.{edge_line};
-ghost use Rattle.problem_reasons.specs.CircuitTexts.{IsCircuitText, IsWhy, circuit_line, sums_line};
+ghost use Rattle.problem_reasons.specs.CircuitTexts.{IsCircuitText, IsWhy};
 
 use graph::Edge;
+use graph_text::push_circuit_line;
 use machine_data::OutOfMemory;
-use outcome_text::{Sums, circuit_of, sums_of};
+use outcome_text::circuit_of;
 use problem_graphs::{Why, push_edge, read_edge};
 use problems::{Draft, Problem};
 use registers::Read;
 use std::alloc::{AllocError, Global};
-use writing::{Text, push_signed, push_told};
 
 /// Whether a read demands an edge.
 fn demands(draft: &Draft, read: Read, edge: Edge) -> bool
@@ -38,34 +37,6 @@ fn why_of(draft: &Draft, edge: Edge) -> Why
     Why::Order
 }
 
-/// Appends the sums of a circuit.
-fn push_totals(text: &mut Vec<u8>, sums: Sums) -> Result<(), AllocError>
-    ensures ok { OnOk result (text.new.items ≡ text.old.items ++ (told_signed (codes "circuit delay ") sums.delay ++ told (codes " distance ") sums.distance)) }
-{
-    push_signed(text, "circuit delay ", sums.delay)?;
-    push_told(text, " distance ", sums.distance)
-}
-
-/// Appends the line of the sums of a circuit and of the bound.
-fn push_sums(text: &mut Vec<u8>, sums: Sums, bound: u64) -> Result<(), AllocError>
-    ensures ok { OnOk result (text.new.items ≡ text.old.items ++ sums_line sums.delay sums.distance bound) }
-{
-    push_totals(text, sums)?;
-    push_told(text, " needs ", bound)?;
-    text.push_piece("\n")
-}
-
-/// Appends the line of a circuit.
-fn push_head(text: &mut Vec<u8>, circuit: &[Edge], bound: u64) -> Result<(), AllocError>
-    requires few { length circuit.now ≤ 128 }
-    ensures ok { OnOk result (text.new.items ≡ text.old.items ++ circuit_line circuit.now bound) }
-{
-    if circuit.is_empty() {
-        return text.push_piece("circuit none\n");
-    }
-    push_sums(text, sums_of(circuit), bound)
-}
-
 /// Appends the lines of the edges of a circuit.
 fn push_edges(text: &mut Vec<u8>, draft: &Draft, circuit: &[Edge]) -> Result<(), AllocError>
     requires { IsWellFormed draft.now }
@@ -87,6 +58,6 @@ pub(crate) fn push_circuit(
 {
     let scheduling = problem.scheduling();
     let circuit = circuit_of(alloc, scheduling)?;
-    push_head(text, circuit.as_slice(), scheduling.recurrences())?;
+    push_circuit_line(text, circuit.as_slice(), scheduling.recurrences())?;
     push_edges(text, problem.draft(), circuit.as_slice())
 }

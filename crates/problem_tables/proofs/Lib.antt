@@ -1,3 +1,4 @@
+pub mod Buckets
 pub mod Firsts
 pub mod Holding
 pub mod Naming

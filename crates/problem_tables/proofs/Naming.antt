@@ -1,19 +1,11 @@
 -- Names and their numbers.
-use Rattle.std.proofs.Common.{◌≡◌, ℕ, suc, ◌+◌, ◌<◌, Bool, true, false, cond, List, [], ◌∷◌, ◌++◌, length, refl, sym, ap, ◌∙◌, arith, Decides, if◌then◌else◌, Option, Some, None}
-use Rattle.std.specs.Prelude.{◌||◌, ◌==◌, is_some, nat_lt}
-use Rattle.std.specs.Borrow.{Bor}
-use Rattle.std.specs.BTreeMap.{BTreeMap, get_by}
-use Rattle.std.specs.Cmp.Lexicographic.{slice_cmp}
-use Rattle.std.specs.Map.{update}
-use Rattle.std.specs.Ordering.{nat_cmp}
-use Rattle.std.specs.Str.{bytes_eq}
+use Rattle.std.proofs.Common.{◌≡◌, ℕ, suc, ◌+◌, ◌<◌, Bool, true, false, List, [], ◌∷◌, ◌++◌, length, refl, sym, ap, ◌∙◌, arith, Decides, if◌then◌else◌}
+use Rattle.std.specs.Prelude.{◌||◌, ◌==◌, nat_lt}
 use Rattle.std.proofs.lemmas.Bool.{false≢true, false_from_ne_true, eq-eqb, eqb-true}
 use Rattle.std.proofs.lemmas.Bool.Decides.{same_from_decides, Decides-ltb}
-use Rattle.std.proofs.lemmas.List.Folds.{list_any-append}
 use Rattle.std.proofs.lemmas.Slice.Eq.{bytes_eq-Decides}
 use Rattle.machine_data.specs.Opcodes.{same_word}
 use Rattle.problem_tables.specs.Names.{has_name, index_of}
-use Rattle.problem_tables.specs.inner.Numbered.{number_in}
 
 -- texts
 
@@ -69,51 +61,6 @@ pub index-behind : (names more : List (List ℕ)) (q : List ℕ) → has_name na
 index-behind [] more q e = let z : index_of more q ≡ 0 + index_of more q = omega arith in z
 index-behind (x ∷ xs) more q e = behind-step (same_word q x) (has_name xs q) (index_of more q) (index_of (xs ++ more) q) (length xs) (index-behind xs more q) e
 
--- one more name, which is not there
-
-number-if : (here has : Bool) (h : Bool) (i j : ℕ) (count : ℕ) → h ≡ (has || (here || false))
-    → (has ≡ true → j ≡ i) → (has ≡ false → j ≡ count + (if here then 0 else 0 + 1)) → (here ≡ true → has ≡ false)
-    → (if h then Some j else None) ≡ cond here (Some count) (if has then Some i else None)
-number-if true true h i j count is same behind not = absurd (false≢true (sym (not refl)))
-number-if true false h i j count is same behind not = ap (λ b. if b then Some j else None) is ∙ ap Some (let k = behind refl in omega (arith, k))
-number-if false true h i j count is same behind not = ap (λ b. if b then Some j else None) is ∙ ap Some (same refl)
-number-if false false h i j count is same behind not = ap (λ b. if b then Some j else None) is
-
-pub number-push : (names : List (List ℕ)) (x q : List ℕ) → has_name names x ≡ false → number_in (names ++ x ∷ []) q ≡ cond (same_word q x) (Some (length names)) (number_in names q)
-number-push names x q absent =
-    number-if (same_word q x) (has_name names q) (has_name (names ++ x ∷ []) q) (index_of names q) (index_of (names ++ x ∷ []) q) (length names)
-    (list_any-append (same_word q) names (x ∷ []))
-    (index-more names (x ∷ []) q)
-    (index-behind names (x ∷ []) q)
-    (λ e. ap (has_name names) (same_word-yes q x e) ∙ absent)
-
--- the same by the map that has been changed
-pub numbers-push : (names : List (List ℕ)) (x : List ℕ) (old new : List ℕ → Option ℕ) → has_name names x ≡ false → ((q : List ℕ) → old q ≡ number_in names q)
-    → ((q : List ℕ) → new q ≡ update bytes_eq old x (Some (length names)) q) → (q : List ℕ) → new q ≡ number_in (names ++ x ∷ []) q
-numbers-push names x old new absent was is q =
-    is q ∙ ap (λ t. cond t (Some (length names)) (old q)) (same_word-sym x q) ∙ ap (cond (same_word q x) (Some (length names))) (was q) ∙ sym (number-push names x q absent)
-
-has-some : (has : Bool) (n : ℕ) → is_some (if has then Some n else None) ≡ has
-has-some true n = refl
-has-some false n = refl
-
-pub number-has : (names : List (List ℕ)) (q : List ℕ) → is_some (number_in names q) ≡ has_name names q
-number-has names q = has-some (has_name names q) (index_of names q)
-
-some-index : (has : Bool) (i n : ℕ) → (if has then Some i else None) ≡ Some n → i ≡ n
-some-index true i n e = cc
-some-index false i n e = cc
-
-pub number-some : (names : List (List ℕ)) (q : List ℕ) (n : ℕ) → number_in names q ≡ Some n → n ≡ index_of names q
-number-some names q n e = sym (some-index (has_name names q) (index_of names q) n e)
-
-none-has : (has : Bool) (i : ℕ) → (if has then Some i else None) ≡ None → has ≡ false
-none-has true i e = cc
-none-has false i e = refl
-
-pub number-none : (names : List (List ℕ)) (q : List ℕ) → number_in names q ≡ None → length names ≡ index_of names q
-number-none names q e = sym ((place names q).absent (none-has (has_name names q) (index_of names q) e))
-
 -- names that there are have different numbers
 
 same-step : (a b : Bool) (x y first : List ℕ) (hasx hasy : Bool) (i j : ℕ) → (a ≡ true → x ≡ first) → (b ≡ true → y ≡ first) → (a || hasx) ≡ true → (b || hasy) ≡ true
@@ -134,7 +81,3 @@ index-tells names x y hx hy =
     same_from_decides _ _
     ((λ h. index-same names x y hx hy (eqb-true (index_of names x) (index_of names y) h)), (λ e. eq-eqb (index_of names x) (index_of names y) (ap (index_of names) e)))
     (same_word-Decides x y)
-
--- what a map has at a name
-abbrev pub at : BTreeMap (Bor (List ℕ)) ℕ → List ℕ → Option ℕ
-at numbers q = get_by (λ k. slice_cmp nat_cmp q k.now) numbers

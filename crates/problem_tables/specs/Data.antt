@@ -1,6 +1,6 @@
 -- What is read of a text: machines, and problems with the numbers of their machines.
-use Rattle.std.specs.Prelude.{ℕ, List, map, Vec}
-use Rattle.std.specs.Global.{Global}
+use Rattle.std.specs.Prelude.{ℕ, List, map}
+use Rattle.smallvec.specs.SmallVec.{SmallVec}
 use Rattle.problem_lines.specs.Forms.{HoldForm}
 use Rattle.problem_lines.specs.declared.number.Number.{Number}
 use Rattle.problem_lines.specs.declared.number.Storage.{Storage}
@@ -54,4 +54,4 @@ abbrev pub kind_of : List (List ℕ) → Number → List (List HoldForm) → Kin
 kind_of units latency alternatives = record { latency = latency.value; alternatives = map (map (hold_in units)) alternatives }
 
 abbrev pub kind_seen : Kind → KindData
-kind_seen kind = record { latency = kind.latency; alternatives = map (λ (rows : Vec Hold Global). rows.items) kind.alternatives.items }
+kind_seen kind = record { latency = kind.latency; alternatives = map (λ (rows : SmallVec Hold). rows.items) kind.alternatives.items }

@@ -2,31 +2,54 @@
 
 ghost use Rattle.std.specs.Prelude.{◌≡◌, ◌<◌, ℕ, List, [], ◌∷◌, ◌++◌, length, false, OnOk};
 ghost use Rattle.problem_tables.specs.Names.{has_name, index_of, last_name};
+ghost use Rattle.problem_tables.specs.inner.Numbered.{bucket_of};
 
 use problem_lines::Word;
 use problems::Label;
 use std::alloc::{AllocError, Global};
-use std::collections::BTreeMap;
 use std::marker::Model;
 use std::mem;
 
-/// Names in order, each with its number, from 0. They stand in a map by their order, so that no choice of names makes
-/// a look-up long. Contracts see the list of them.
+/// Buckets of the names of one list.
+const BUCKETS: usize = 256;
+
+/// A name where the text has it.
+#[derive(Clone, Copy)]
+pub(crate) struct Place<'a> {
+    name: &'a [u8],
+    /// One more than the number of the name before it in the same bucket, or 0.
+    before: usize,
+}
+
+/// Names in order, each with its number, from 0. Those of a bucket lead from one to the one before, so that a look-up compares
+/// few of them; most lists have at most 256, so that no choice of names makes it long. Contracts see the list of them.
 #[derive(Drop)]
 pub(crate) struct Names<'a> {
     labels: Vec<Label>,
-    numbers: BTreeMap<&'a [u8], usize>,
+    places: Vec<Place<'a>>,
+    /// Of each bucket one more than the number of its last name, or 0.
+    last: [usize; BUCKETS],
 }
 
 impl<'a> Model for Names<'a> {
     ghost use Rattle.std.specs.Prelude.{ℕ, List};
-    ghost use Rattle.problem_tables.specs.inner.Numbered.{AreNumbers};
+    ghost use Rattle.problem_tables.specs.inner.Numbered.{AreInBuckets};
 
     ghost Value = { List (List ℕ) };
 
     ghost view = { λ n. n.labels.items };
 
-    ghost invariant = { λ n. AreNumbers n.labels.items n.numbers };
+    ghost invariant = { λ n. AreInBuckets n.labels.items n.places.items n.last };
+}
+
+/// The bucket of a name.
+fn bucket_of(name: &[u8]) -> u8
+    ensures { result ≡ bucket_of name.now }
+{
+    name.iter().fold(
+        0u8,
+        |bucket, byte| bucket.wrapping_mul(31).wrapping_add(*byte),
+    )
 }
 
 impl<'a> Names<'a> {
@@ -36,7 +59,8 @@ impl<'a> Names<'a> {
     {
         Names {
             labels: Vec::new(alloc),
-            numbers: BTreeMap::new(alloc),
+            places: Vec::new(alloc),
+            last: [0; BUCKETS],
         }
     }
 
@@ -51,17 +75,22 @@ impl<'a> Names<'a> {
     pub(crate) fn has(&self, name: &[u8]) -> bool
         ensures { result ≡ has_name self.now name.now }
     {
-        self.numbers.contains_key(name)
+        self.index(name) < self.labels.len()
     }
 
     /// The number of a name; how many names there are where it is none of them.
     pub(crate) fn index(&self, name: &[u8]) -> usize
         ensures { result ≡ index_of self.now name.now }
     {
-        match self.numbers.get(name) {
-            Some(number) => *number,
-            None => self.labels.len(),
+        let mut next = self.last[usize::from(bucket_of(name))];
+        while next > 0 {
+            let place = self.places[next - 1];
+            if place.name == name {
+                return next - 1;
+            }
+            next = place.before;
         }
+        self.len()
     }
 
     /// The last name.
@@ -77,10 +106,17 @@ impl<'a> Names<'a> {
         requires { has_name self.old name.bytes.now ≡ false }
         ensures { OnOk result (self.new ≡ self.old ++ name.entry.bytes.now ∷ []) }
     {
-        let number = self.labels.len();
+        let bucket = usize::from(bucket_of(name.bytes));
+        let place = Place {
+            name: name.bytes,
+            before: self.last[bucket],
+        };
         self.labels.push(name.label())?;
-        match self.numbers.insert(name.bytes, number) {
-            Ok(_) => Ok(()),
+        match self.places.push(place) {
+            Ok(()) => {
+                self.last[bucket] = self.labels.len();
+                Ok(())
+            }
             Err(failed) => {
                 self.labels.pop();
                 Err(AllocError::from(failed))
@@ -93,7 +129,8 @@ impl<'a> Names<'a> {
         ensures names { result.items ≡ self.old }
         ensures empty { self.new ≡ [] }
     {
-        self.numbers.clear();
+        self.places.clear();
+        self.last = [0; BUCKETS];
         mem::replace(&mut self.labels, Vec::new(alloc))
     }
 }

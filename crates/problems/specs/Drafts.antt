@@ -1,7 +1,7 @@
 -- Drafts of scheduling problems: when one is well formed, and what it comes to.
-use Rattle.std.specs.Prelude.{◌≡◌, ◌≢◌, ◌⊎◌, ℕ, pos, negsuc, ◌<◌, ◌≤◌, ◌-ℤ◌, ◌≤ℤ◌, List, [], ◌++◌, length, map, slice_index, Vec}
-use Rattle.std.specs.Global.{Global}
+use Rattle.std.specs.Prelude.{◌≡◌, ◌≢◌, ◌⊎◌, ℕ, pos, negsuc, ◌<◌, ◌≤◌, ◌-ℤ◌, ◌≤ℤ◌, List, [], ◌++◌, length, map, slice_index}
 use Rattle.std.specs.List.{All, AllPairs, slice_index_or}
+use Rattle.smallvec.specs.SmallVec.{SmallVec}
 use Rattle.machine_data.specs.declared.alternative.Row.{Row}
 use Rattle.graph.specs.Dependences.{EdgeData}
 use Rattle.registers.specs.declared.value.Read.{Read}
@@ -46,7 +46,7 @@ pub record IsKind (units : ℕ) (kind : Kind) : Type 0 where
   pub latency_few : kind.latency ≤ 64
   pub alternatives_some : 1 ≤ length kind.alternatives.items
   pub alternatives_few : length kind.alternatives.items ≤ 16
-  pub alternatives : All (λ (rows : Vec Hold Global). AreRows units rows.items) kind.alternatives.items
+  pub alternatives : All (λ (rows : SmallVec Hold). AreRows units rows.items) kind.alternatives.items
 
 pub record IsValue (operations files : ℕ) (value : Value) : Type 0 where
   pub maker : value.maker < operations
@@ -108,7 +108,7 @@ row_of hold = record { unit = hold.unit; offset = hold.offset }
 
 -- the alternatives of a kind
 abbrev pub alternatives_of : Kind → List (List Row)
-alternatives_of kind = map (λ (rows : Vec Hold Global). map row_of rows.items) kind.alternatives.items
+alternatives_of kind = map (λ (rows : SmallVec Hold). map row_of rows.items) kind.alternatives.items
 
 -- the alternatives of each operation: those of its kind
 abbrev pub operations_of : Draft → List (List (List Row))

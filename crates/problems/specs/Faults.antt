@@ -1,8 +1,8 @@
 -- The first thing that is wrong with a draft.
-use Rattle.std.specs.Prelude.{ℕ, pos, negsuc, ◌+◌, ◌==◌, ◌&&◌, ◌||◌, not, nat_lt, nat_le, int_le, Bool, true, false, List, [], ◌∷◌, length, take, Option, Some, None, Vec}
-use Rattle.std.specs.Global.{Global}
+use Rattle.std.specs.Prelude.{ℕ, pos, negsuc, ◌+◌, ◌==◌, ◌&&◌, ◌||◌, not, nat_lt, nat_le, int_le, Bool, true, false, List, [], ◌∷◌, length, take, Option, Some, None}
 use Rattle.std.specs.List.{list_any}
 use Rattle.std.specs.Option.{option_or}
+use Rattle.smallvec.specs.SmallVec.{SmallVec}
 use Rattle.machine_data.specs.Opcodes.{same_word}
 use Rattle.registers.specs.declared.value.Read.{Read}
 use Rattle.problems.specs.declared.draft.File.{File}
@@ -108,7 +108,7 @@ abbrev pub kind_fault : ℕ → ℕ → Kind → Option Fault
 kind_fault units number kind = first_of (
     unless (within 1 64 kind.latency) (Latency number)
     ∷ unless (within 1 16 (length kind.alternatives.items)) (Alternatives number)
-    ∷ first_in (λ alternative (rows : Vec Hold Global). alternative_fault units number alternative rows.items) kind.alternatives.items
+    ∷ first_in (λ alternative (rows : SmallVec Hold). alternative_fault units number alternative rows.items) kind.alternatives.items
     ∷ [])
 
 -- operations, values, reads and orders

@@ -2,6 +2,7 @@
 
 use crate::label::Label;
 use registers::Read;
+use smallvec::SmallVec;
 
 /// A register file.
 #[derive(Clone, Copy, Debug, PartialEq, Eq)]
@@ -13,7 +14,7 @@ pub enum File {
 }
 
 /// An operation holds a unit in one cycle.
-#[derive(Clone, Copy, Debug, PartialEq, Eq)]
+#[derive(Clone, Copy, Debug, Default, PartialEq, Eq)]
 pub struct Hold {
     /// The number of the unit, from 0.
     pub unit: usize,
@@ -26,8 +27,9 @@ pub struct Hold {
 pub struct Kind {
     /// Cycles from the issue to the landing of what the operation makes, 1 to 64.
     pub latency: u64,
-    /// The 1 to 16 ways to issue the operation, each by 1 to 16 different holds.
-    pub alternatives: Vec<Vec<Hold>>,
+    /// The 1 to 16 ways to issue the operation, each by 1 to 16 different holds. Up to two ways of up to two holds take no
+    /// memory.
+    pub alternatives: SmallVec<SmallVec<Hold, 2>, 2>,
 }
 
 /// A value of an iteration. An operation may make none, one or several.

@@ -1,14 +1,14 @@
 //! Scheduling problems.
 
-ghost use Rattle.std.specs.Prelude.{◌≡◌, map};
-ghost use Rattle.problems.specs.Drafts.{alternatives_of};
+ghost use Rattle.std.specs.Prelude.{◌≡◌, ◌<◌, [], length, map};
+ghost use Rattle.std.specs.List.{All, slice_index_or};
 ghost use Rattle.problems.specs.Problems.{IsProblem, AnswersDraft};
 
 use crate::checking::first::first_fault;
 use crate::draft::Draft;
 use crate::fault::Refusal;
 use crate::making::scheduling::scheduling_of;
-use crate::making::tables::tables_of;
+use crate::making::tables::{Tables, tables_of};
 use machine_data::Alternatives;
 use settings::Settings;
 use std::alloc::Global;
@@ -18,21 +18,20 @@ use std::marker::Model;
 #[derive(Drop)]
 pub struct Problem {
     draft: Draft,
-    /// The alternatives of each kind, which its operations share.
-    alternatives: Vec<Alternatives>,
+    /// The alternatives of the operations.
+    tables: Tables,
     scheduling: modulo::Problem,
 }
 
 impl Model for Problem {
-    ghost use Rattle.std.specs.Prelude.{◌≡◌, map};
-    ghost use Rattle.problems.specs.Drafts.{alternatives_of};
     ghost use Rattle.problems.specs.Problems.{ProblemData, IsProblem};
+    ghost use Rattle.problems.specs.inner.Listed.{AreListed};
 
     ghost Value = { ProblemData };
 
     ghost view = { λ p. record { draft = p.draft; scheduling = p.scheduling } };
 
-    ghost invariant = { λ p. IsProblem (record { draft = p.draft; scheduling = p.scheduling }) × (p.alternatives.items ≡ map alternatives_of p.draft.kinds.items) };
+    ghost invariant = { λ p. IsProblem (record { draft = p.draft; scheduling = p.scheduling }) × AreListed p.tables.lists.items p.tables.numbers.items p.scheduling.operations };
 }
 
 impl Problem {
@@ -47,18 +46,17 @@ impl Problem {
         if let Some(fault) = first_fault(alloc, &draft)? {
             return Err(Refusal::Fault(fault));
         }
-        let alternatives = tables_of(alloc, draft.units, draft.kinds.as_slice())?;
-        let tables = alternatives.as_slice();
+        let tables = tables_of(alloc, &draft)?;
         let scheduling = scheduling_of(
             alloc,
             &draft,
-            tables,
+            &tables,
             settings.ratio(),
             settings.ceiling(),
         )?;
         Ok(Problem {
             draft,
-            alternatives,
+            tables,
             scheduling,
         })
     }
@@ -71,12 +69,14 @@ impl Problem {
         &self.draft
     }
 
-    /// The alternatives of each kind, by its number.
-    pub fn alternatives(&self) -> &[Alternatives]
-        ensures value { result.now ≡ map alternatives_of self.now.draft.kinds.items }
+    /// The alternatives of the operations: lists of them, and of each operation the number of its list, from 0. Operations of one
+    /// kind have one list, and kinds after one another that have the same alternatives share theirs.
+    pub fn tables(&self) -> (&[Alternatives], &[usize])
+        ensures there { All (λ number. number < length result.0.now) result.1.now }
+        ensures same { map (λ number. slice_index_or result.0.now number []) result.1.now ≡ self.now.scheduling.operations }
         ensures well_formed { IsProblem self.now }
     {
-        self.alternatives.as_slice()
+        (self.tables.lists.as_slice(), self.tables.numbers.as_slice())
     }
 
     /// What is scheduled: the operations, each with the latency and the alternatives of its kind, and the edges that the

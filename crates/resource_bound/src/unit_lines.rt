@@ -8,10 +8,11 @@ ghost use Rattle.resource_bound.specs.Choices.{rows_at};
 ghost use Rattle.resource_bound.specs.UnitLines.{line_with, unit_lines_of, user_text, users_text, uses_text};
 
 use crate::tally::Tally;
-use graph_text::{push_both, push_name, push_told};
+use graph_text::push_name;
 use loop_data::Loop;
 use machine_data::{Machine, Row};
 use std::alloc::AllocError;
+use writing::{Text, push_both, push_told};
 
 /// The rows of the alternative of this place that the operation of this number takes, none where there is no
 /// such alternative.
@@ -64,10 +65,10 @@ fn push_user(
     if uses == 0 {
         return Ok(());
     }
-    text.extend_from_slice(b" ")?;
+    text.push_piece(" ")?;
     push_name(text, innermost, number)?;
     if uses > 1 {
-        push_told(text, b"*", uses as u64)?;
+        push_told(text, "*", uses as u64)?;
     }
     Ok(())
 }
@@ -101,14 +102,10 @@ fn push_uses(
     requires { unit < length machine.now.units }
     ensures ok { OnOk result (text.new.items ≡ text.old.items ++ uses_text machine.now unit uses full) }
 {
-    push_both(
-        text,
-        b"unit ",
-        machine.units()[usize::from(unit)].as_str().as_bytes(),
-    )?;
-    push_told(text, b" uses ", u64::from(uses))?;
+    push_both(text, "unit ", machine.units()[usize::from(unit)].as_str())?;
+    push_told(text, " uses ", u64::from(uses))?;
     if full {
-        text.extend_from_slice(b" full")?;
+        text.push_piece(" full")?;
     }
     Ok(())
 }
@@ -131,9 +128,9 @@ fn push_unit_line(
         return Ok(());
     }
     push_uses(text, machine, unit, uses, uses == greatest)?;
-    text.extend_from_slice(b":")?;
+    text.push_piece(":")?;
     push_users(text, machine, innermost, choices, unit)?;
-    text.extend_from_slice(b"\n")
+    text.push_piece("\n")
 }
 
 /// Appends a line for each unit of a machine that a loop uses by these choices, in the machine's order:

@@ -4,12 +4,12 @@ use Rattle.std.specs.List.{flat_map, range_with_len, slice_index_or}
 use Rattle.machine_data.specs.Machines.{MachineData}
 use Rattle.loop_data.specs.Loops.{LoopData}
 use Rattle.graph_text.specs.Names.{op_name}
-use Rattle.graph_text.specs.Texts.{told}
 use Rattle.ims.specs.Schedules.{ScheduleData}
 use Rattle.registers.specs.declared.lifetime.Lifetime.{Lifetime}
 use Rattle.overlap.specs.Allotments.{AllotmentData}
 use Rattle.overlap.specs.Lifetimes.{lifetimes_of}
 use Rattle.rotating.specs.Crowds.{nobody}
+use Rattle.writing.specs.Words.{told}
 use Rattle.schedule_lines.specs.Columns.{head_line, row_line, used_units}
 use Rattle.schedule_lines.specs.Slots.{rows_in}
 

@@ -4,12 +4,12 @@ use Rattle.std.specs.List.{list_any, range_with_len}
 use Rattle.machine_data.specs.declared.alternative.Row.{Row}
 use Rattle.graph.specs.Units.{greatest_of}
 use Rattle.graph_text.specs.Names.{op_name}
-use Rattle.graph_text.specs.Texts.{told}
 use Rattle.mrt.specs.Placements.{rows_of}
 use Rattle.mrt.specs.Taken.{takes}
 use Rattle.ims.specs.Schedules.{IsSchedule, ScheduleData, stage_of}
 use Rattle.overlap.specs.Lifetimes.{lifetimes_of}
 use Rattle.rotating.specs.Crowds.{crowd_in}
+use Rattle.writing.specs.Words.{told}
 
 -- the numbers of the operations, and of the rows
 abbrev pub operations_in : ScheduleData → List ℕ

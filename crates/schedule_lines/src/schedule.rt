@@ -6,11 +6,11 @@ ghost use Rattle.schedule_lines.specs.ScheduleTexts.{idle_line, schedule_text};
 
 use crate::grids::grid::{grid_of, push_grid};
 use crate::values::push_values;
-use graph_text::push_told;
 use ims::Schedule;
 use machine_data::{Machine, OutOfMemory};
 use rotating::{Allotment, lifetimes};
 use std::alloc::{AllocError, Global};
+use writing::{Text, push_told};
 
 /// Appends how many units no operation takes, where there are any.
 fn push_idle(text: &mut Vec<u8>, idle: usize) -> Result<(), AllocError>
@@ -19,8 +19,8 @@ fn push_idle(text: &mut Vec<u8>, idle: usize) -> Result<(), AllocError>
     if idle == 0 {
         return Ok(());
     }
-    push_told(text, b"idle units ", idle as u64)?;
-    text.extend_from_slice(b"\n")
+    push_told(text, "idle units ", idle as u64)?;
+    text.push_piece("\n")
 }
 
 /// Appends when each value of a schedule lives and in which register, and the schedule as a grid.

@@ -6,11 +6,12 @@ ghost use Rattle.schedule_lines.specs.Slots.{label_of};
 ghost use Rattle.schedule_lines.specs.inner.Tables.{AreSlots, labels_of, taker_in, text_at, texts_in};
 
 use crate::takers::takers_of;
-use graph_text::{push_name, push_told};
+use graph_text::push_name;
 use ims::Schedule;
 use machine_data::OutOfMemory;
 use machine_data::limits::MAX_UNITS;
 use std::alloc::Global;
+use writing::push_told;
 
 /// The text in each slot. Texts are made once for each operation, not for each slot.
 #[derive(Drop)]
@@ -28,7 +29,7 @@ fn label_of(alloc: Global, schedule: &Schedule, op: usize) -> Result<Vec<u8>, Ou
 {
     let mut text = Vec::new(alloc);
     push_name(&mut text, schedule.prepared().innermost(), op as u8)?;
-    push_told(&mut text, b"/", schedule.time(op) / schedule.ii())?;
+    push_told(&mut text, "/", schedule.time(op) / schedule.ii())?;
     Ok(text)
 }
 

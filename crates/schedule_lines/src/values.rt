@@ -4,11 +4,12 @@ ghost use Rattle.std.specs.Prelude.{◌≡◌, ◌<◌, ◌++◌, length, OnOk};
 ghost use Rattle.overlap.specs.Lifetimes.{lifetimes_of};
 ghost use Rattle.schedule_lines.specs.ScheduleTexts.{value_line, value_lines};
 
-use graph_text::{push_name, push_told};
+use graph_text::push_name;
 use ims::Schedule;
 use loop_data::Loop;
 use rotating::Lifetime;
 use std::alloc::AllocError;
+use writing::{Text, push_told};
 
 /// Appends the line of a value with this lifetime and the number of its register.
 fn push_value(
@@ -20,12 +21,12 @@ fn push_value(
     requires { life.operation < length innermost.now.statements }
     ensures ok { OnOk result (text.new.items ≡ text.old.items ++ value_line innermost.now life number) }
 {
-    text.extend_from_slice(b"value ")?;
+    text.push_piece("value ")?;
     push_name(text, innermost, life.operation)?;
-    push_told(text, b" lives ", life.first)?;
-    push_told(text, b" to ", life.last)?;
-    push_told(text, b" register ", number as u64)?;
-    text.extend_from_slice(b"\n")
+    push_told(text, " lives ", life.first)?;
+    push_told(text, " to ", life.last)?;
+    push_told(text, " register ", number as u64)?;
+    text.push_piece("\n")
 }
 
 /// Appends the lines of values, each with the number at its place.

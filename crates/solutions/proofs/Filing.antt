@@ -1,5 +1,5 @@
 -- The entries of the values of one file.
-use Rattle.std.proofs.Common.{◌≡◌, ◌≢◌, ℕ, suc, zero, ◌+◌, ◌<◌, Bool, true, false, List, [], ◌∷◌, ◌++◌, length, get_or, set, take, drop, filter, cond, refl, sym, ap, ◌∙◌, inl, inr, arith, append_assoc, append-nil}
+use Rattle.std.proofs.Common.{◌≡◌, ◌≢◌, ℕ, suc, zero, ◌+◌, ◌<◌, ◌≤◌, Bool, true, false, List, [], ◌∷◌, ◌++◌, length, get_or, set, take, drop, filter, cond, refl, sym, ap, ◌∙◌, inl, inr, arith, append_assoc, append-nil}
 use Rattle.std.specs.Prelude.{◌==◌, count_by, slice_get, slice_index}
 use Rattle.std.specs.List.{All}
 use Rattle.std.proofs.lemmas.Bool.{cases_Bool, cond-true, eqb-true, eq-eqb, ne_eqb}
@@ -212,3 +212,34 @@ taken_no files file k xs from lt long not before =
     ∙ ap (λ ys. in_file (take k files) file (take k xs) ++ ys) (in_file-no (get_or files k 0) [] file (get_or xs k 0) [] (ne_eqb (get_or files k 0) file not))
     ∙ append-nil (in_file (take k files) file (take k xs))
     ∙ before
+
+-- where all values are of the file
+
+pub all_in_file : {X : Type 0} (files : List ℕ) (file : ℕ) (xs : List X) → length xs ≡ length files → All (λ other. other ≡ file) files → in_file files file xs ≡ xs
+all_in_file [] file [] long all = refl
+all_in_file [] file (x ∷ xs) long all = absurd (omega arith)
+all_in_file (f ∷ files) file [] long all = absurd (omega arith)
+all_in_file (f ∷ files) file (x ∷ xs) long all =
+    in_file-yes f files file x xs (eq-eqb f file (All-head (λ other. other ≡ file) f files all))
+    ∙ ap (λ ys. x ∷ ys) (all_in_file files file xs (omega arith) (All-tail (λ other. other ≡ file) f files all))
+
+pub all_before : (files : List ℕ) (file value : ℕ) → value ≤ length files → All (λ other. other ≡ file) files → place_in files file value ≡ value
+all_before files file value le all = sym (rank-is files file value) ∙ ranked files value le all
+  where
+    ranked : (files : List ℕ) (value : ℕ) → value ≤ length files → All (λ other. other ≡ file) files → rank files file value ≡ value
+    ranked files zero le all = refl
+    ranked [] (suc value) le all = absurd (omega arith)
+    ranked (f ∷ files) (suc value) le all =
+        rw (eq-eqb f file (All-head (λ other. other ≡ file) f files all)) (ap suc (ranked files value (omega arith) (All-tail (λ other. other ≡ file) f files all)))
+
+-- an entry that no value of the file has stands after them all
+pub none_other : (files xs ys : List ℕ) (file : ℕ) → length xs ≡ length files → length ys ≡ length files → All (λ other. other ≡ file) files
+    → (value : ℕ) → slice_index files value ≢ file → slice_index xs value ≡ slice_index ys value
+none_other [] [] [] file xl yl all value not = refl
+none_other [] [] (y ∷ ys) file xl yl all value not = absurd (omega arith)
+none_other [] (x ∷ xs) ys file xl yl all value not = absurd (omega arith)
+none_other (f ∷ files) [] ys file xl yl all value not = absurd (omega arith)
+none_other (f ∷ files) (x ∷ xs) [] file xl yl all value not = absurd (omega arith)
+none_other (f ∷ files) (x ∷ xs) (y ∷ ys) file xl yl all zero not = absurd (not (All-head (λ other. other ≡ file) f files all))
+none_other (f ∷ files) (x ∷ xs) (y ∷ ys) file xl yl all (suc value) not =
+    none_other files xs ys file (omega arith) (omega arith) (All-tail (λ other. other ≡ file) f files all) value not

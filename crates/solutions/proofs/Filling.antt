@@ -1,6 +1,7 @@
 -- Numbers that are written file by file.
-use Rattle.std.proofs.Common.{◌≡◌, ◌≢◌, ◌⊎◌, ℕ, ◌+◌, ◌<◌, ◌≤◌, List, length, get_or, Some, sym, ap, ◌∙◌, subst, inl, inr, arith}
-use Rattle.std.specs.Prelude.{◌==◌, count_by, slice_get, slice_index}
+use Rattle.std.proofs.Common.{◌≡◌, ◌≢◌, ◌⊎◌, ℕ, ◌+◌, ◌<◌, ◌≤◌, List, length, get_or, Some, None, sym, ap, ◌∙◌, subst, inl, inr, arith}
+use Rattle.std.specs.Prelude.{◌==◌, count_by, slice_get, slice_index, Option, MatchOption, Result, Ok, Err, IfOk}
+use Rattle.std.specs.List.{All}
 use Rattle.std.proofs.lemmas.Bool.{cases_eq}
 use Rattle.std.proofs.lemmas.Option.{slice_get-get_or}
 use Rattle.problems.specs.declared.draft.File.{File}
@@ -11,7 +12,7 @@ use Rattle.registers.specs.Numberless.{HasNoneAt}
 use Rattle.registers.proofs.allotted.Least.{place-within}
 use Rattle.solutions.specs.Files.{in_file}
 use Rattle.solutions.specs.inner.Filling.{AreFilled, IsFilled, Lacks, LacksFirst}
-use Rattle.solutions.proofs.Filing.{same_in_file, length-in_file}
+use Rattle.solutions.proofs.Filing.{same_in_file, length-in_file, all_in_file, all_before}
 
 -- the numbers of the first `end` files are the least ones
 abbrev pub FilledBelow : ℕ → List File → List ℕ → List Lifetime → List ℕ → ℕ → Type 0
@@ -72,6 +73,26 @@ place-there ii registers files file place lives numbers long none =
     let l = place-within (in_file files file lives) none.life place none.is_life in
     let c = length-in_file files file lives long in
     omega arith
+
+-- where all values are of the file
+pub filled-all : {E : Type 0} (ii registers : ℕ) (files : List ℕ) (lives : List Lifetime) (numbers : List ℕ) (file : ℕ) (result : Result (Option ℕ) E)
+    → length lives ≡ length files → length numbers ≡ length files → All (λ other. other ≡ file) files
+    → IfOk result (λ found. MatchOption found (AreLeast ii registers lives numbers) (HasNoneAt ii registers lives numbers))
+    → IfOk result (λ found. MatchOption found (IsFilled ii files lives numbers file (Rotating registers)) (λ value. Lacks ii files lives file value (Rotating registers)))
+filled-all ii registers files lives numbers file (Ok None) each_life each all least =
+    subst (λ (ls : List Lifetime). AreLeast ii registers ls (in_file files file numbers)) (sym (all_in_file files file lives each_life all))
+    (subst (AreLeast ii registers lives) (sym (all_in_file files file numbers each all)) least)
+filled-all ii registers files lives numbers file (Ok (Some value)) each_life each all none =
+    let within : value < length lives = place-within lives none.life value none.is_life in
+    let there : value < length files = omega arith in
+    record {
+      there = there;
+      is_file = all value 0 there;
+      numbers = numbers;
+      has_none = subst (HasNoneAt ii registers (in_file files file lives) numbers) (sym (all_before files file value (omega arith) all))
+          (subst (λ (ls : List Lifetime). HasNoneAt ii registers ls numbers value) (sym (all_in_file files file lives each_life all)) none);
+    }
+filled-all ii registers files lives numbers file (Err error) each_life each all h = tt
 
 -- one file more, by what is written for it
 pub record IsMore (ii : ℕ) (kinds : List File) (files : List ℕ) (lives : List Lifetime) (numbers : List ℕ) (end : ℕ) : Type 0 where

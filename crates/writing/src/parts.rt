@@ -1,6 +1,6 @@
 //! Parts of lines.
 
-ghost use Rattle.std.specs.Prelude.{◌≡◌, ◌++◌, decimal, OnOk, OnErr};
+ghost use Rattle.std.specs.Prelude.{◌≡◌, ◌<◌, ◌≤◌, ◌++◌, decimal, OnOk, OnErr};
 ghost use Rattle.std.specs.Fmt.{signed_decimal};
 ghost use Rattle.writing.specs.Words.{at, told, told_signed, with_sign};
 ghost use Rattle.writing.specs.Texts.{HasPart};
@@ -26,6 +26,48 @@ pub fn push_both<T: Text>(text: &mut T, first: &str, second: &str) -> Result<(),
 /// # Errors
 /// [`AllocError`] where memory ran out. The text is what it was.
 pub fn push_number<T: Text>(text: &mut T, number: u64) -> Result<(), AllocError>
+    ensures ok { OnOk result (T.bytes text.new ≡ T.bytes text.old ++ decimal number) }
+    ensures err { OnErr result (T.bytes text.new ≡ T.bytes text.old) }
+{
+    // (most numbers have one digit or two, and need no buffer)
+    if number < 10 {
+        return text.push_piece(one_digit(number));
+    }
+    if number < 100 {
+        return text.push_piece(two_digits(number));
+    }
+    push_long(text, number)
+}
+
+/// The two digits of each number below 100.
+const PAIRS: &str =
+    "00010203040506070809101112131415161718192021222324252627282930313233343536373839404142434445464748495051525354555657585960616263646566676869707172737475767778798081828384858687888990919293949596979899";
+
+/// The digit of a number below 10.
+#[inline(always)]
+fn one_digit(number: u64) -> &'static str
+    requires { number < 10 }
+    ensures { result.now ≡ decimal number }
+{
+    let end = number as usize * 2 + 2;
+    &PAIRS[end - 1..end]
+}
+
+/// The digits of a number of 10 to 99.
+#[inline(always)]
+fn two_digits(number: u64) -> &'static str
+    requires low { 10 ≤ number }
+    requires high { number < 100 }
+    ensures { result.now ≡ decimal number }
+{
+    let start = number as usize * 2;
+    &PAIRS[start..start + 2]
+}
+
+/// Pushes a number of any length. Kept out of [`push_number`], which is short without it.
+#[cold]
+#[inline(never)]
+fn push_long<T: Text>(text: &mut T, number: u64) -> Result<(), AllocError>
     ensures ok { OnOk result (T.bytes text.new ≡ T.bytes text.old ++ decimal number) }
     ensures err { OnErr result (T.bytes text.new ≡ T.bytes text.old) }
 {

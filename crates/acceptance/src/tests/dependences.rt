@@ -1,177 +1,134 @@
-//! The edges, bounds, rounds and heights of worked loops, and the same by matrices.
+//! How many rounds settle the heights of worked loops, and the circuits that do not fit an interval, also where it is not the one
+//! below the bound, as it is for a graph that `dot` draws.
 
 ghost use Rattle.std.specs.Prelude.{◌≤◌};
 
-use super::given::{ACC, ALTS, CHAIN, FORCE, LATE, LONE, M1, M2, M3, M4, M5, M6, POW, TWO};
-use super::matrices::{closed, longest, weights};
-use graph::{Edge, Edges, GraphFault, edges, feasible, heights, mii, rec_mii, res_mii, rounds};
+use super::given::{ACC, CHAIN, LATE, LONE, M1, M2, M4};
+use circuits::circuit_above;
+use graph::{Edge, Edges, edges, rounds};
 use loops::read_loops;
-use machine::{Opcode, read_machine};
-use std::alloc::{AllocError, Global};
-use std::process::Abort;
+use machine::read_machine;
+use std::alloc::Global;
 use std::test::Fail;
 
 /// The edges of the loop of a text on the machine of a text.
-pub(super) fn dependences_of(alloc: Global, machine: &str, text: &str) -> Result<Edges, Fail> {
+fn dependences_of(alloc: Global, machine: &str, text: &str) -> Result<Edges, Fail> {
     let machine = read_machine(alloc, machine.as_bytes())?;
     let loops = read_loops(alloc, text.as_bytes())?;
     let innermost = loops.as_slice().first().ok_or("a loop")?;
     Ok(edges(alloc, &machine, innermost)?)
 }
 
-pub(super) fn edge(from: u8, to: u8, distance: u8, delay: i8) -> Edge {
-    Edge {
-        from,
-        to,
-        distance,
-        delay,
-    }
-}
-
-/// The heights where an interval is at or above the recurrence-constrained lower bound.
-fn heights_above(
-    alloc: Global,
-    dependences: &Edges,
-    ii: u64,
-) -> Result<Option<Vec<u64>>, AllocError>
-    requires from_one { 1 ≤ ii }
-    requires limit { ii ≤ 16384 }
-{
-    if !feasible(alloc, dependences, ii)? {
-        return Ok(None);
-    }
-    Ok(Some(heights(alloc, dependences, ii)?))
-}
-
-/// Compares a loop's edges, recurrence bound, and heights at an interval.
-fn expect_row(
-    rt: &impl Abort,
-    alloc: Global,
-    machine: &str,
-    text: &str,
-    list: &[Edge],
-    bound: u64,
-    ii: u64,
-    high: &[u64],
-) -> Result<(), Fail>
-    requires from_one { 1 ≤ ii }
-    requires limit { ii ≤ 16384 }
-{
+/// Whether an interval is at or above the recurrence bound, and how many rounds are made.
+fn rounds_of(alloc: Global, machine: &str, text: &str, ii: u16) -> Result<(bool, u64), Fail> {
     let dependences = dependences_of(alloc, machine, text)?;
-    assert_eq!(rt; dependences.all(), list);
-    assert_eq!(rt; rec_mii(alloc, &dependences)?, bound);
-    let found = heights_above(alloc, &dependences, ii)?.ok_or("heights")?;
-    assert_eq!(rt; found.as_slice(), high);
-    Ok(())
+    Ok(rounds(alloc, &dependences, u64::from(ii).clamp(1, 16384))?)
 }
 
-#[test]
-fn finds_dependences(rt: HostRuntime) -> Result<(), Fail> {
-    let alloc = rt.alloc();
-    let acc = [edge(0, 1, 0, 3), edge(1, 1, 1, 1), edge(1, 2, 0, 1)];
-    expect_row(
-        &rt,
-        alloc,
-        M1,
-        ACC,
-        acc.as_slice(),
-        1,
-        2,
-        [5, 2, 1].as_slice(),
-    )?;
-    let chain = [edge(0, 1, 0, 3), edge(1, 2, 0, 1), edge(2, 0, 1, 1)];
-    expect_row(
-        &rt,
-        alloc,
-        M1,
-        CHAIN,
-        chain.as_slice(),
-        5,
-        5,
-        [5, 2, 1].as_slice(),
-    )?;
-    let late = [edge(0, 1, 0, 1), edge(0, 2, 0, -3), edge(1, 1, 1, 1)];
-    expect_row(
-        &rt,
-        alloc,
-        M4,
-        LATE,
-        late.as_slice(),
-        1,
-        2,
-        [2, 1, 4].as_slice(),
-    )?;
-    let pow = [edge(0, 0, 2, 5), edge(0, 1, 0, 5)];
-    expect_row(&rt, alloc, M5, POW, pow.as_slice(), 3, 3, [6, 1].as_slice())?;
-    let two = [edge(1, 0, 1, 1)];
-    expect_row(&rt, alloc, M1, TWO, two.as_slice(), 1, 2, [1, 1].as_slice())?;
-    Ok(())
-}
-
+// The recurrence of `CHAIN` takes 5 cycles.
 #[test]
 fn settles_in_rounds(rt: HostRuntime) -> Result<(), Fail> {
-    let alloc = rt.alloc();
-    let chain = dependences_of(alloc, M1, CHAIN)?;
-    assert!(rt; !feasible(alloc, &chain, 4)?);
-    assert!(rt; feasible(alloc, &chain, 5)?);
-    assert_eq!(rt; rounds(alloc, &chain, 4)?, (false, 3));
-    assert_eq!(rt; rounds(alloc, &chain, 5)?, (true, 3));
-    assert_eq!(rt;
-        rounds(alloc, &dependences_of(alloc, M4, LATE)?, 2)?,
-        (true, 2)
-    );
-    assert_eq!(rt;
-        rounds(alloc, &dependences_of(alloc, M2, LONE)?, 1)?,
-        (true, 1)
-    );
-    Ok(())
-}
-
-#[test]
-fn bounds_units(rt: HostRuntime) -> Result<(), Fail> {
-    let alloc = rt.alloc();
-    for (machine, text, bound) in [(M2, FORCE, 4), (M6, ALTS, 2), (M1, ACC, 2)] {
-        let machine = read_machine(alloc, machine.as_bytes())?;
-        let loops = read_loops(alloc, text.as_bytes())?;
-        let innermost = loops.as_slice().first().ok_or("a loop")?;
-        assert_eq!(rt; res_mii(&machine, innermost)?, bound);
-    }
-    assert_eq!(rt; mii(2, 5), 5);
-    Ok(())
-}
-
-#[test]
-fn misses_a_table(rt: HostRuntime) -> Result<(), Fail> {
-    let alloc = rt.alloc();
-    let machine = read_machine(alloc, M3.as_bytes())?;
-    let loops = read_loops(alloc, ACC.as_bytes())?;
-    let innermost = loops.as_slice().first().ok_or("a loop")?;
-    match edges(alloc, &machine, innermost) {
-        Err(GraphFault::NoTable(opcode)) => assert_eq!(rt; opcode, Opcode::Load),
-        Err(GraphFault::Memory) => return Err(Fail::from("memory")),
-        Ok(_) => return Err(Fail::from("no fault")),
+    for (machine, text, ii, wanted) in [
+        (M1, CHAIN, 4, (false, 3)),
+        (M1, CHAIN, 5, (true, 3)),
+        (M4, LATE, 2, (true, 2)),
+        (M2, LONE, 1, (true, 1)),
+    ] {
+        let found = rounds_of(rt.alloc(), machine, text, ii)?;
+        assert_eq!(rt; found, wanted, "at {ii}: {text}");
     }
     Ok(())
 }
 
+/// Two operations, each of which needs the other's value.
+const TURNS: &str = "loop turns
+param p = 1
+init y@1 = 0
+x = add y@1 p
+y = add x p
+end
+";
+
+/// A loop whose operations need no value of an earlier iteration.
+const STRAIGHT: &str = "loop straight
+param p = 1
+x = add p p
+y = add x p
+end
+";
+
+/// The circuit of `TURNS`: four cycles within one iteration.
+const TURNS_CIRCUIT: &[Edge] = &[
+    Edge {
+        from: 0,
+        to: 1,
+        distance: 0,
+        delay: 2,
+    },
+    Edge {
+        from: 1,
+        to: 0,
+        distance: 1,
+        delay: 2,
+    },
+];
+
+/// The circuit of `CHAIN`: five cycles within one iteration, through memory.
+const CHAIN_CIRCUIT: &[Edge] = &[
+    Edge {
+        from: 0,
+        to: 1,
+        distance: 0,
+        delay: 3,
+    },
+    Edge {
+        from: 1,
+        to: 2,
+        distance: 0,
+        delay: 1,
+    },
+    Edge {
+        from: 2,
+        to: 0,
+        distance: 1,
+        delay: 1,
+    },
+];
+
+/// The circuit of `ACC`: the sum needs itself.
+const ACC_CIRCUIT: &[Edge] = &[Edge {
+    from: 1,
+    to: 1,
+    distance: 1,
+    delay: 1,
+}];
+
+/// The edges, in ascending order, of the circuit that a loop has above an interval; none where every circuit fits it.
+fn circuit_of(alloc: Global, machine: &str, text: &str, ii: u16) -> Result<Vec<Edge>, Fail> {
+    let dependences = dependences_of(alloc, machine, text)?;
+    let found = circuit_above(alloc, &dependences, u64::from(ii).min(16384))?;
+    let Some(mut circuit) = found else {
+        return Ok(Vec::new(alloc));
+    };
+    circuit.sort()?;
+    Ok(circuit)
+}
+
 #[test]
-fn agrees_with_matrices(rt: HostRuntime) -> Result<(), Fail> {
-    let alloc = rt.alloc();
-    for (machine, text) in [(M1, ACC), (M1, CHAIN), (M4, LATE), (M5, POW), (M1, TWO)] {
-        let dependences = dependences_of(alloc, machine, text)?;
-        for interval in 1..=12_u8 {
-            let ii = u64::from(interval);
-            let paths = closed(weights(&rt, &dependences, interval));
-            assert_eq!(rt; feasible(alloc, &dependences, ii)?, paths.is_some());
-            let found = heights_above(alloc, &dependences, ii)?;
-            assert_eq!(rt; found.is_some(), paths.is_some());
-            if let (Some(found), Some(paths)) = (found, paths) {
-                for operation in 0..found.len() {
-                    let height = longest(&rt, &dependences, &paths, operation);
-                    assert_eq!(rt; found.as_slice()[operation], height);
-                }
-            }
-        }
+fn finds_circuits(rt: HostRuntime) -> Result<(), Fail> {
+    for (machine, text, ii, wanted) in [
+        (M2, TURNS, 0, TURNS_CIRCUIT),
+        (M2, TURNS, 3, TURNS_CIRCUIT),
+        (M2, TURNS, 4, &[]),
+        (M1, CHAIN, 4, CHAIN_CIRCUIT),
+        (M1, CHAIN, 5, &[]),
+        (M1, ACC, 0, ACC_CIRCUIT),
+        (M1, ACC, 1, &[]),
+        (M2, STRAIGHT, 0, &[]),
+        (M2, STRAIGHT, 16384, &[]),
+    ] {
+        let found = circuit_of(rt.alloc(), machine, text, ii)?;
+        assert_eq!(rt; found.as_slice(), wanted, "above {ii}: {text}");
     }
     Ok(())
 }

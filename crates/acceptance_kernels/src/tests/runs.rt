@@ -1,209 +1,270 @@
-//! What emitted kernels leave: the cells that were worked by hand, and what the loop leaves.
+//! What kernels leave, by values that were worked by hand from what a kernel means.
 
-use super::*;
+use super::briefs::{BARE, Brief, BriefOperation, compute, kernel_of, lasting, load, store};
+use kernel::Source::{Constant, Register};
 use kernel::simulate;
-use loops::{Memory, opening, run_plain};
+use loops::{Memory, RunFault, opening, read_loops};
+use machine::Opcode;
+use std::alloc::Global;
+use std::process::Abort;
+use std::test::Fail;
+use worked_texts::SUM;
 
-/// A cell of an array that a run changed.
-#[derive(Clone, Copy, Debug, PartialEq, Eq)]
-struct Change {
-    array: usize,
-    cell: i64,
-    value: i64,
+/// The memory before the first iteration of the loop of this text.
+fn opened(alloc: Global, text: &str, trip: u64) -> Result<Memory, Fail> {
+    let loops = read_loops(alloc, text.as_bytes())?;
+    let first = loops.first().ok_or("no loop")?;
+    Ok(opening(alloc, first, trip)?)
 }
 
-/// The cell of an array, by the array's number, has this value now.
-fn cell(array: usize, cell: i64, value: i64) -> Change {
-    Change { array, cell, value }
-}
-
-/// The cells of two memories of one shape that differ, with their values in the second.
-fn changes(
-    rt: &impl Abort,
+/// What a kernel leaves of that memory.
+fn ran(
     alloc: Global,
-    before: &Memory,
-    after: &Memory,
-) -> Result<Vec<Change>, Fail> {
-    assert_eq!(rt; before.trip(), after.trip());
-    assert_eq!(rt; before.array_count(), after.array_count());
-    let count = after.trip() + 128;
-    let mut list = Vec::new(alloc);
-    for array in 0..after.array_count() {
-        for index in 0..count {
-            let cell = index as i64 - 64;
-            let value = after.cell(array, cell);
-            if before.cell(array, cell) != value {
-                list.push(Change { array, cell, value })?;
-            }
-        }
-    }
-    Ok(list)
-}
-
-/// What the kernel of the least numbers leaves of a memory.
-fn overlapped(
-    alloc: Global,
-    schedule: &Schedule,
+    brief: &Brief,
+    table: &[BriefOperation],
+    text: &str,
     trip: u64,
-    before: &Memory,
 ) -> Result<Memory, Fail> {
-    let allotment = allot(alloc, schedule, 8)?.ok_or("no allotment")?;
-    let kernel = emit(alloc, schedule.prepared().innermost(), schedule, &allotment)?;
-    Ok(simulate(alloc, &kernel, trip, before)?)
+    let kernel = kernel_of(alloc, brief, table)?;
+    let memory = opened(alloc, text, trip)?;
+    Ok(simulate(alloc, &kernel, trip, &memory)?)
 }
 
-/// A run has changed just these cells and leaves these live values.
-fn left(
+/// An array's cells from cell 0 on are these, and the one before them is 0.
+fn holds(rt: &impl Abort, memory: &Memory, array: usize, cells: &[i64]) {
+    assert!(rt; array < memory.array_count());
+    let row = memory.cells(array);
+    assert_eq!(rt; row.get(63), Some(&0));
+    assert_eq!(rt; row.get(64..64 + cells.len().min(64)), Some(cells));
+}
+
+/// A kernel leaves these cells in the last array of the loop of this text.
+fn leaves(
     rt: &impl Abort,
     alloc: Global,
-    before: &Memory,
-    after: &Memory,
-    expected: &[Change],
-    outs: &[i64],
+    brief: &Brief,
+    table: &[BriefOperation],
+    text: &str,
+    trip: u64,
+    cells: &[i64],
 ) -> Result<(), Fail> {
-    assert_eq!(rt; changes(rt, alloc, before, after)?.as_slice(), expected);
-    assert_eq!(rt; after.out_count(), outs.len());
-    for (index, value) in outs.iter().enumerate() {
-        assert_eq!(rt; after.out(index), *value);
+    let after = ran(alloc, brief, table, text, trip)?;
+    let count = after.array_count();
+    assert!(rt; count > 0);
+    holds(rt, &after, count - 1, cells);
+    Ok(())
+}
+
+/// A kernel of one stage in which two loads share a register.
+pub(super) const SHARING: Brief = Brief {
+    ii: 4,
+    registers: 4,
+    arrays: &["a", "c", "b"],
+    ..BARE
+};
+
+/// Its operations, with this offset in the first load.
+pub(super) fn sharing(offset: i16) -> [BriefOperation; 4] {
+    [
+        load(0, 0, 0, 0, offset),
+        load(1, 0, 0, 1, 0),
+        compute(2, 0, Opcode::Add, 1, &[Register(0), Register(0)]),
+        store(3, 0, 2, 0, &[Register(1)]),
+    ]
+}
+
+// The second load lands in the register of the first before the addition reads it.
+#[test]
+fn runs_a_shared_register(rt: HostRuntime) -> Result<(), Fail> {
+    let after = ran(rt.alloc(), &SHARING, &sharing(0), SUM, 2)?;
+    assert_eq!(rt; after.trip(), 2);
+    holds(&rt, &after, 0, &[1, 2, 0]);
+    holds(&rt, &after, 1, &[10, 20, 0]);
+    holds(&rt, &after, 2, &[20, 40, 0]);
+    Ok(())
+}
+
+const CELLS: &str = "loop cells\narray b = 9 9\nstore b[i] 0\nend\n";
+
+/// A kernel of one stage with one register and one array, at the interval 1.
+const STORING: Brief = Brief {
+    arrays: &["b"],
+    ..BARE
+};
+
+/// The same at the interval 2.
+const STORING_BY_2: Brief = Brief { ii: 2, ..STORING };
+
+// The stores are issued in the cycles 0, 1 and 2, the run's last, and land at 64, 65 and 66.
+#[test]
+fn lands_after_the_end(rt: HostRuntime) -> Result<(), Fail> {
+    let late = [lasting(store(0, 0, 0, 0, &[Constant(5)]), 64)];
+    leaves(&rt, rt.alloc(), &STORING, &late, CELLS, 3, &[5, 5, 5, 0])?;
+    leaves(&rt, rt.alloc(), &STORING, &late, CELLS, 0, &[9, 9, 0])
+}
+
+// Both land at the start of cycle 2, the first issued in cycle 0 and the second in cycle 1.
+#[test]
+fn lands_the_later_issue_last(rt: HostRuntime) -> Result<(), Fail> {
+    let stores = [
+        lasting(store(0, 0, 0, 0, &[Constant(1)]), 2),
+        store(1, 0, 0, 0, &[Constant(2)]),
+    ];
+    leaves(
+        &rt,
+        rt.alloc(),
+        &STORING_BY_2,
+        &stores,
+        CELLS,
+        1,
+        &[2, 9, 0],
+    )?;
+    leaves(
+        &rt,
+        rt.alloc(),
+        &STORING_BY_2,
+        &stores,
+        CELLS,
+        0,
+        &[9, 9, 0],
+    )
+}
+
+// Both are issued in cycle 0 and land at the start of cycle 1.
+#[test]
+fn lands_the_higher_number_last(rt: HostRuntime) -> Result<(), Fail> {
+    let stores = [
+        store(0, 0, 0, 0, &[Constant(1)]),
+        store(0, 0, 0, 0, &[Constant(2)]),
+    ];
+    leaves(&rt, rt.alloc(), &STORING, &stores, CELLS, 1, &[2, 9, 0])?;
+    leaves(&rt, rt.alloc(), &STORING, &stores, CELLS, 0, &[9, 9, 0])
+}
+
+const GUARD: &str =
+    "loop guard\narray a = 0 3\narray b = 9 9\nx = load a[i]\nstore b[i] 7 if x\nend\n";
+
+/// A load, and a turn later a store that it guards. What is loaded in turn `k` under name 0 has name 1 in
+/// turn `k + 1`, where iteration `k` is in stage 1.
+const GUARDED: Brief = Brief {
+    stages: 2,
+    registers: 2,
+    arrays: &["a", "b"],
+    preloads: &[(1, 1)],
+    ..BARE
+};
+
+// Iteration 0 loads 0, and so stores nothing; iteration 1 loads 3, and so stores 7. The preload would let a
+// store of turn 0 write cell -1, but stage 1 isn't active then.
+#[test]
+fn stores_where_the_guard_is_not_zero(rt: HostRuntime) -> Result<(), Fail> {
+    let table = [
+        load(0, 0, 0, 0, 0),
+        store(0, 1, 1, -1, &[Constant(7), Register(1)]),
+    ];
+    leaves(&rt, rt.alloc(), &GUARDED, &table, GUARD, 0, &[9, 9, 0])?;
+    leaves(&rt, rt.alloc(), &GUARDED, &table, GUARD, 1, &[9, 9, 0])?;
+    leaves(&rt, rt.alloc(), &GUARDED, &table, GUARD, 2, &[9, 7, 0])
+}
+
+const COUNT: &str = "loop count\ninit x@1 = 10\nx = add x@1 1\nout x\nend\n";
+
+/// A kernel that counts.
+const COUNTING: Brief = Brief {
+    registers: 2,
+    preloads: &[(1, 10)],
+    outs: &[("x", 0)],
+    ..BARE
+};
+
+/// Adds 1 to the value of the turn before, which then was name 0 and now is name 1.
+fn counting() -> [BriefOperation; 1] {
+    [compute(0, 0, Opcode::Add, 0, &[Register(1), Constant(1)])]
+}
+
+/// The value that is live at the end of a run.
+fn given(rt: &impl Abort, memory: &Memory) -> i64 {
+    assert!(rt; memory.out_count() == 1);
+    memory.out(0)
+}
+
+// With one stage the last of no turns would be turn -1, where name 0 is physical register 1, the preload. In
+// turn 0 name 0 is physical register 0 and in turn 1 it is physical register 1.
+#[test]
+fn gives_the_value_of_the_last_turn(rt: HostRuntime) -> Result<(), Fail> {
+    for (trip, value) in [(0, 10), (1, 11), (2, 12)] {
+        let after = ran(rt.alloc(), &COUNTING, &counting(), COUNT, trip)?;
+        assert_eq!(rt; given(&rt, &after), value);
     }
     Ok(())
 }
 
-/// The kernel of a case and its loop, run for `trip` iterations, change just these cells and leave
-/// these live values.
-fn leaves(
-    rt: &impl Abort,
-    alloc: Global,
-    case: Case<'_>,
-    trip: u64,
-    expected: &[Change],
-    outs: &[i64],
-) -> Result<(), Fail> {
-    let prepared = prepared(alloc, case)?;
-    let schedule = scheduled(alloc, &prepared, case)?;
-    let before = opening(alloc, prepared.innermost(), trip)?;
-    let after = overlapped(alloc, &schedule, trip, &before)?;
-    left(rt, alloc, &before, &after, expected, outs)?;
-    let plain = run_plain(alloc, prepared.innermost(), trip)?;
-    left(rt, alloc, &before, &plain, expected, outs)
+/// Why the counting kernel does not run for `trip` iterations on the memory that this loop has for one.
+fn fault(alloc: Global, text: &str, trip: u64) -> Result<Option<RunFault>, Fail> {
+    let kernel = kernel_of(alloc, &COUNTING, &counting())?;
+    let memory = opened(alloc, text, 1)?;
+    Ok(simulate(alloc, &kernel, trip, &memory).err())
 }
 
-#[test]
-fn runs_a_running_sum(rt: HostRuntime) -> Result<(), Fail> {
-    let cells = [cell(1, 0, 1), cell(1, 1, 3), cell(1, 2, 6)];
-    leaves(&rt, rt.alloc(), SUMMING, 0, &cells[..0], &[])?;
-    leaves(&rt, rt.alloc(), SUMMING, 1, &cells[..1], &[])?;
-    leaves(&rt, rt.alloc(), SUMMING, 2, &cells[..2], &[])?;
-    leaves(&rt, rt.alloc(), SUMMING, 3, &cells, &[])
-}
+const NO_OUT: &str = "loop none\ninit x@1 = 10\nx = add x@1 1\nend\n";
 
+const ONE_ARRAY: &str = "loop more\narray a =\ninit x@1 = 10\nx = add x@1 1\nout x\nend\n";
+
+// Too many iterations, another number of them, no live value, and an array too many.
 #[test]
-fn runs_a_hundred_iterations(rt: HostRuntime) -> Result<(), Fail> {
-    let mut cells = vec![in rt.alloc(); cell(1, 0, 1), cell(1, 1, 3)]?;
-    for k in 2..100 {
-        cells.push(cell(1, k, 6))?;
+fn refuses_to_run(rt: HostRuntime) -> Result<(), Fail> {
+    for (text, trip, wanted) in [
+        (COUNT, 100_001, RunFault::Trip),
+        (COUNT, 2, RunFault::Shape),
+        (NO_OUT, 1, RunFault::Shape),
+        (ONE_ARRAY, 1, RunFault::Shape),
+    ] {
+        assert_eq!(rt; fault(rt.alloc(), text, trip)?, Some(wanted), "{text}");
     }
-    leaves(&rt, rt.alloc(), SUMMING, 100, cells.as_slice(), &[])
+    Ok(())
 }
 
+/// The kernel of `y = mov 7; x = add x@1 1; store b[i] x`, with `x@1` 5, in which the first `y` has the register of that initial value.
+const MOVED: Brief = Brief {
+    ii: 2,
+    stages: 3,
+    registers: 8,
+    arrays: &["b"],
+    preloads: &[(1, 5)],
+    ..BARE
+};
+
+// `y` lands in cycle 1 in the register that the initial value of `x` leaves only in cycle 3: so the sums begin from 7. The loop's own
+// are 6, 7 and 8.
 #[test]
-fn runs_a_recurrence_through_memory(rt: HostRuntime) -> Result<(), Fail> {
-    let case = Case {
-        machine: PLAIN,
-        text: CHAIN,
-        ii: 5,
-        places: &[(0, 0), (3, 0), (4, 0)],
-    };
-    let cells = [cell(0, 1, 8), cell(0, 2, 9), cell(0, 3, 10)];
-    leaves(&rt, rt.alloc(), case, 3, &cells, &[])
+fn initial_values_live_from_the_first_cycle(rt: HostRuntime) -> Result<(), Fail> {
+    let table = [
+        compute(0, 0, Opcode::Mov, 1, &[Constant(7)]),
+        compute(1, 1, Opcode::Add, 1, &[Register(2), Constant(1)]),
+        store(1, 2, 0, -2, &[Register(2)]),
+    ];
+    leaves(&rt, rt.alloc(), &MOVED, &table, CELLS, 3, &[8, 9, 10])
 }
 
-#[test]
-fn runs_a_shift(rt: HostRuntime) -> Result<(), Fail> {
-    let case = Case {
-        machine: PLAIN,
-        text: SHIFT,
-        ii: 2,
-        places: &[(0, 0), (3, 0)],
-    };
-    let cells = [cell(0, 0, 6), cell(0, 1, 7), cell(0, 2, 0)];
-    leaves(&rt, rt.alloc(), case, 3, &cells, &[])
-}
+/// The kernel of `x = mov 1; y = add 2 0`, with `x@1` 0 and `x` live at the end, in which the first `y` has the register of the last `x`.
+const KEPT: Brief = Brief {
+    registers: 2,
+    preloads: &[(1, 0)],
+    outs: &[("x", 0)],
+    ..BARE
+};
 
-// Each store is issued a cycle before the load of its cell, and lands after it.
+// The additions land after the last turn, the first of them in the register of the last `x`. The loop leaves 1.
 #[test]
-fn runs_a_store_before_its_load(rt: HostRuntime) -> Result<(), Fail> {
-    let case = Case {
-        machine: LATE_STORES,
-        text: LATE,
-        ii: 2,
-        places: &[(1, 0), (2, 0), (0, 0)],
-    };
-    let cells = [cell(0, 0, 9), cell(0, 1, 9), cell(0, 2, 9)];
-    leaves(&rt, rt.alloc(), case, 3, &cells, &[])
-}
-
-#[test]
-fn runs_two_initial_values(rt: HostRuntime) -> Result<(), Fail> {
-    let case = Case {
-        machine: LONG,
-        text: POW,
-        ii: 3,
-        places: &[(0, 0), (5, 0)],
-    };
-    let cells = [cell(0, 0, 6), cell(0, 1, 3), cell(0, 2, 18), cell(0, 3, 9)];
-    leaves(&rt, rt.alloc(), case, 4, &cells, &[])
-}
-
-#[test]
-fn runs_a_guarded_store(rt: HostRuntime) -> Result<(), Fail> {
-    let case = Case {
-        machine: PLAIN,
-        text: KEEP,
-        ii: 2,
-        places: &[(0, 0), (3, 0), (5, 0)],
-    };
-    let cells = [cell(1, 0, 4), cell(1, 2, 6)];
-    leaves(&rt, rt.alloc(), case, 0, &cells[..0], &[])?;
-    leaves(&rt, rt.alloc(), case, 1, &cells[..1], &[])?;
-    leaves(&rt, rt.alloc(), case, 3, &cells, &[])
-}
-
-#[test]
-fn runs_a_guarded_recurrence(rt: HostRuntime) -> Result<(), Fail> {
-    let case = Case {
-        machine: PLAIN,
-        text: HOLD,
-        ii: 6,
-        places: &[(0, 0), (3, 0), (4, 0), (5, 0)],
-    };
-    let cells = [cell(0, 1, 2), cell(0, 2, 3), cell(0, 4, 1)];
-    leaves(&rt, rt.alloc(), case, 0, &cells[..0], &[])?;
-    leaves(&rt, rt.alloc(), case, 1, &cells[..1], &[])?;
-    leaves(&rt, rt.alloc(), case, 4, &cells, &[])
-}
-
-#[test]
-fn leaves_a_live_sum(rt: HostRuntime) -> Result<(), Fail> {
-    let case = Case {
-        machine: PLAIN,
-        text: ACCO,
-        ii: 2,
-        places: &[(0, 0), (3, 0), (5, 0)],
-    };
-    let cells = [cell(1, 0, 1), cell(1, 1, 3), cell(1, 2, 6)];
-    leaves(&rt, rt.alloc(), case, 0, &cells[..0], &[0])?;
-    leaves(&rt, rt.alloc(), case, 3, &cells, &[6])
-}
-
-#[test]
-fn leaves_a_live_load(rt: HostRuntime) -> Result<(), Fail> {
-    let case = Case {
-        machine: PLAIN,
-        text: LAST,
-        ii: 1,
-        places: &[(0, 0)],
-    };
-    leaves(&rt, rt.alloc(), case, 0, &[], &[9])?;
-    leaves(&rt, rt.alloc(), case, 2, &[], &[5])
+fn live_values_stay_until_the_last_landing(rt: HostRuntime) -> Result<(), Fail> {
+    let table = [
+        compute(0, 0, Opcode::Mov, 0, &[Constant(1)]),
+        lasting(
+            compute(0, 0, Opcode::Add, 1, &[Constant(2), Constant(0)]),
+            3,
+        ),
+    ];
+    let after = ran(rt.alloc(), &KEPT, &table, COUNT, 2)?;
+    assert_eq!(rt; given(&rt, &after), 2);
+    Ok(())
 }

@@ -1,25 +1,26 @@
 //! A small problem, and drafts with one fault each.
 
+use graph::Edge;
 use problems::{
     Draft, Fault, File, Hold, Kind, Label, Names, Order, Part, Problem, Value, first_fault,
 };
 use registers::Read;
 use settings::Settings;
+use smallvec::SmallVec;
 use std::alloc::{AllocError, Global};
-use std::process::Abort;
 use std::test::Fail;
 
 /// The parts of a draft.
 #[derive(Clone, Copy)]
-struct Parts<'a> {
-    units: usize,
-    files: &'a [File],
-    kinds: &'a [(u64, &'a [&'a [Hold]])],
-    operations: &'a [usize],
-    values: &'a [Value],
-    reads: &'a [Read],
-    orders: &'a [Order],
-    names: &'a [&'a str],
+pub(super) struct Parts<'a> {
+    pub(super) units: usize,
+    pub(super) files: &'a [File],
+    pub(super) kinds: &'a [(u64, &'a [&'a [Hold]])],
+    pub(super) operations: &'a [usize],
+    pub(super) values: &'a [Value],
+    pub(super) reads: &'a [Read],
+    pub(super) orders: &'a [Order],
+    pub(super) names: &'a [&'a str],
 }
 
 /// Each unit at the issue.
@@ -77,20 +78,31 @@ const SOUND: Parts<'static> = Parts {
     names: &["a", "b"],
 };
 
-/// The names of a list of texts.
-fn labels(alloc: Global, texts: &[&str]) -> Result<Vec<Label>, Fail> {
-    let mut labels = Vec::new(alloc);
-    for text in texts {
-        labels.push(Label::new(text).ok_or("a name")?)?;
+/// A draft without any part.
+fn empty(alloc: Global) -> Draft {
+    Draft {
+        units: 0,
+        files: Vec::new(alloc),
+        kinds: Vec::new(alloc),
+        operations: Vec::new(alloc),
+        values: Vec::new(alloc),
+        reads: Vec::new(alloc),
+        orders: Vec::new(alloc),
+        names: Names {
+            units: Vec::new(alloc),
+            files: Vec::new(alloc),
+            kinds: Vec::new(alloc),
+            operations: Vec::new(alloc),
+            values: Vec::new(alloc),
+        },
     }
-    Ok(labels)
 }
 
 /// A kind of operations.
 fn kind(alloc: Global, latency: u64, tables: &[&[Hold]]) -> Result<Kind, AllocError> {
-    let mut alternatives = Vec::new(alloc);
+    let mut alternatives = SmallVec::new(alloc);
     for rows in tables {
-        alternatives.push(Vec::from_slice(alloc, rows)?)?;
+        alternatives.push(SmallVec::from_slice(alloc, rows)?)?;
     }
     Ok(Kind {
         latency,
@@ -98,112 +110,66 @@ fn kind(alloc: Global, latency: u64, tables: &[&[Hold]]) -> Result<Kind, AllocEr
     })
 }
 
-/// The draft of these parts, whose files have the names.
-fn draft(alloc: Global, parts: Parts<'_>) -> Result<Draft, Fail> {
-    let mut kinds = Vec::new(alloc);
+/// Adds the kinds and the names of files to a draft.
+fn add_named(alloc: Global, draft: &mut Draft, parts: &Parts<'_>) -> Result<(), Fail> {
     for (latency, tables) in parts.kinds {
-        kinds.push(kind(alloc, *latency, tables)?)?;
+        draft.kinds.push(kind(alloc, *latency, tables)?)?;
     }
-    let names = Names {
-        units: Vec::new(alloc),
-        files: labels(alloc, parts.names)?,
-        kinds: Vec::new(alloc),
-        operations: Vec::new(alloc),
-        values: Vec::new(alloc),
-    };
-    Ok(Draft {
-        units: parts.units,
-        files: Vec::from_slice(alloc, parts.files)?,
-        kinds,
-        operations: Vec::from_slice(alloc, parts.operations)?,
-        values: Vec::from_slice(alloc, parts.values)?,
-        reads: Vec::from_slice(alloc, parts.reads)?,
-        orders: Vec::from_slice(alloc, parts.orders)?,
-        names,
-    })
+    for name in parts.names {
+        draft.names.files.push(Label::new(name).ok_or("a name")?)?;
+    }
+    Ok(())
 }
 
-/// The edges of a problem, by their ends, distances and delays.
-fn edges(alloc: Global, problem: &Problem) -> Result<Vec<(u8, u8, u8, i8)>, AllocError> {
-    let mut edges = Vec::new(alloc);
-    for edge in problem.scheduling().edges().all() {
-        edges.push((edge.from, edge.to, edge.distance, edge.delay))?;
-    }
-    Ok(edges)
+/// Adds the lists of numbers to a draft.
+fn add_lists(draft: &mut Draft, parts: &Parts<'_>) -> Result<(), AllocError> {
+    draft.files.extend_from_slice(parts.files)?;
+    draft.operations.extend_from_slice(parts.operations)?;
+    draft.values.extend_from_slice(parts.values)?;
+    draft.reads.extend_from_slice(parts.reads)?;
+    draft.orders.extend_from_slice(parts.orders)
 }
+
+/// The draft of these parts, whose files have the names.
+pub(super) fn draft(alloc: Global, parts: &Parts<'_>) -> Result<Draft, Fail> {
+    let mut draft = empty(alloc);
+    draft.units = parts.units;
+    add_named(alloc, &mut draft, parts)?;
+    add_lists(&mut draft, parts)?;
+    Ok(draft)
+}
+
+/// The edges of the problem: reads, then orders.
+const EDGES: &[Edge] = &[
+    Edge {
+        from: 0,
+        to: 1,
+        distance: 0,
+        delay: 1,
+    },
+    Edge {
+        from: 1,
+        to: 1,
+        distance: 1,
+        delay: 1,
+    },
+    Edge {
+        from: 1,
+        to: 2,
+        distance: 0,
+        delay: -1,
+    },
+];
 
 #[test]
 fn a_sound_draft_makes_a_problem(rt: HostRuntime) -> Result<(), Fail> {
     let settings = Settings::new(6, 32, 1, 1)?;
-    let problem = Problem::new(rt.alloc(), draft(rt.alloc(), SOUND)?, &settings)?;
-    let edges = edges(rt.alloc(), &problem)?;
-    assert_eq!(rt;
-        edges.as_slice(),
-        &[(0, 1, 0, 1), (1, 1, 1, 1), (1, 2, 0, -1)][..]
-    );
+    let problem = Problem::new(rt.alloc(), draft(rt.alloc(), &SOUND)?, &settings)?;
     let scheduling = problem.scheduling();
+    assert!(rt; scheduling.edges().all() == EDGES);
     assert!(rt; scheduling.resources() == 2 && scheduling.recurrences() == 1);
     assert!(rt; scheduling.ratio() == 6 && scheduling.ceiling() == 32);
     assert!(rt; problem.draft().units == 2 && scheduling.operations() == 3);
-    Ok(())
-}
-
-/// The first fault of the draft of these parts has to be this one.
-fn is_at_fault(rt: &impl Abort, alloc: Global, parts: Parts<'_>, fault: Fault) -> Result<(), Fail> {
-    let draft = draft(alloc, parts)?;
-    assert_eq!(rt; first_fault(alloc, &draft)?, Some(fault));
-    Ok(())
-}
-
-#[test]
-fn counts_and_names_at_fault(rt: HostRuntime) -> Result<(), Fail> {
-    for (parts, fault) in [
-        (Parts { units: 65, ..SOUND }, Fault::Count(Part::Units, 65)),
-        (
-            Parts {
-                kinds: &[],
-                ..SOUND
-            },
-            Fault::Count(Part::Kinds, 0),
-        ),
-        (
-            Parts {
-                operations: &[],
-                ..SOUND
-            },
-            Fault::Count(Part::Operations, 0),
-        ),
-        (
-            Parts {
-                names: &["a"],
-                ..SOUND
-            },
-            Fault::NameCount(Part::Files),
-        ),
-        (
-            Parts {
-                names: &["a", "a"],
-                ..SOUND
-            },
-            Fault::Repeated(Part::Files, 1),
-        ),
-        (
-            Parts {
-                files: &[File::Rotating(1), File::Rotating(257)],
-                ..SOUND
-            },
-            Fault::Registers(1),
-        ),
-        (
-            Parts {
-                operations: &[0, 1, 2],
-                ..SOUND
-            },
-            Fault::NoKind(2),
-        ),
-    ] {
-        is_at_fault(&rt, rt.alloc(), parts, fault)?;
-    }
     Ok(())
 }
 
@@ -217,138 +183,238 @@ const LATE: Hold = Hold {
 
 const ABSENT: Hold = Hold { unit: 2, offset: 0 };
 
-#[test]
-fn kinds_at_fault(rt: HostRuntime) -> Result<(), Fail> {
-    for (parts, fault) in [
-        (
-            Parts {
-                kinds: &[FINE, (0, &[&[SECOND]])],
-                ..SOUND
-            },
-            Fault::Latency(1),
-        ),
-        (
-            Parts {
-                kinds: &[FINE, (1, &[])],
-                ..SOUND
-            },
-            Fault::Alternatives(1),
-        ),
-        (
-            Parts {
-                kinds: &[FINE, (1, &[&[SECOND], &[]])],
-                ..SOUND
-            },
-            Fault::Rows(1, 1),
-        ),
-        (
-            Parts {
-                kinds: &[FINE, (1, &[&[ABSENT]])],
-                ..SOUND
-            },
-            Fault::NoUnit(1, 0, 0),
-        ),
-        (
-            Parts {
-                kinds: &[FINE, (1, &[&[LATE]])],
-                ..SOUND
-            },
-            Fault::Offset(1, 0, 0),
-        ),
-        (
-            Parts {
-                kinds: &[FINE, (1, &[&[SECOND, FIRST, SECOND]])],
-                ..SOUND
-            },
-            Fault::RepeatedRow(1, 0, 2),
-        ),
-    ] {
-        is_at_fault(&rt, rt.alloc(), parts, fault)?;
-    }
-    Ok(())
+/// Drafts with one thing changed, each with its first fault.
+const AT_FAULT: &[(Parts<'static>, Fault)] = &[
+    (Parts { units: 65, ..SOUND }, Fault::Count(Part::Units, 65)),
+    (
+        Parts {
+            kinds: &[],
+            ..SOUND
+        },
+        Fault::Count(Part::Kinds, 0),
+    ),
+    (
+        Parts {
+            operations: &[],
+            ..SOUND
+        },
+        Fault::Count(Part::Operations, 0),
+    ),
+    (
+        Parts {
+            names: &["a"],
+            ..SOUND
+        },
+        Fault::NameCount(Part::Files),
+    ),
+    (
+        Parts {
+            names: &["a", "a"],
+            ..SOUND
+        },
+        Fault::Repeated(Part::Files, 1),
+    ),
+    (
+        Parts {
+            files: &[File::Rotating(1), File::Rotating(257)],
+            ..SOUND
+        },
+        Fault::Registers(1),
+    ),
+    (
+        Parts {
+            operations: &[0, 1, 2],
+            ..SOUND
+        },
+        Fault::NoKind(2),
+    ),
+    (
+        Parts {
+            kinds: &[FINE, (0, &[&[SECOND]])],
+            ..SOUND
+        },
+        Fault::Latency(1),
+    ),
+    (
+        Parts {
+            kinds: &[FINE, (1, &[])],
+            ..SOUND
+        },
+        Fault::Alternatives(1),
+    ),
+    (
+        Parts {
+            kinds: &[FINE, (1, &[&[SECOND], &[]])],
+            ..SOUND
+        },
+        Fault::Rows(1, 1),
+    ),
+    (
+        Parts {
+            kinds: &[FINE, (1, &[&[ABSENT]])],
+            ..SOUND
+        },
+        Fault::NoUnit(1, 0, 0),
+    ),
+    (
+        Parts {
+            kinds: &[FINE, (1, &[&[LATE]])],
+            ..SOUND
+        },
+        Fault::Offset(1, 0, 0),
+    ),
+    (
+        Parts {
+            kinds: &[FINE, (1, &[&[SECOND, FIRST, SECOND]])],
+            ..SOUND
+        },
+        Fault::RepeatedRow(1, 0, 2),
+    ),
+    (
+        Parts {
+            values: &[
+                MADE,
+                Value {
+                    maker: 3,
+                    ..CARRIED
+                },
+            ],
+            ..SOUND
+        },
+        Fault::NoMaker(1),
+    ),
+    (
+        Parts {
+            values: &[
+                MADE,
+                Value {
+                    lands: 65,
+                    ..CARRIED
+                },
+            ],
+            ..SOUND
+        },
+        Fault::Lands(1),
+    ),
+    (
+        Parts {
+            values: &[MADE, Value { file: 2, ..CARRIED }],
+            ..SOUND
+        },
+        Fault::NoFile(1),
+    ),
+    (
+        Parts {
+            reads: &[READ, Read { value: 2, ..AGAIN }],
+            ..SOUND
+        },
+        Fault::NoValue(1),
+    ),
+    (
+        Parts {
+            reads: &[READ, Read { reader: 3, ..AGAIN }],
+            ..SOUND
+        },
+        Fault::NoReader(1),
+    ),
+    (
+        Parts {
+            reads: &[
+                READ,
+                Read {
+                    distance: 17,
+                    ..AGAIN
+                },
+            ],
+            ..SOUND
+        },
+        Fault::Distance(1),
+    ),
+    (
+        Parts {
+            reads: &[
+                READ,
+                Read {
+                    offset: 64,
+                    ..AGAIN
+                },
+            ],
+            ..SOUND
+        },
+        Fault::ReadOffset(1),
+    ),
+    (
+        Parts {
+            reads: &[
+                READ,
+                Read {
+                    distance: 0,
+                    ..AGAIN
+                },
+            ],
+            ..SOUND
+        },
+        Fault::ReadBackward(1),
+    ),
+    (
+        Parts {
+            orders: &[ORDER, Order { from: 3, ..ORDER }],
+            ..SOUND
+        },
+        Fault::NoFrom(1),
+    ),
+    (
+        Parts {
+            orders: &[ORDER, Order { to: 3, ..ORDER }],
+            ..SOUND
+        },
+        Fault::NoTo(1),
+    ),
+    (
+        Parts {
+            orders: &[
+                ORDER,
+                Order {
+                    delay: -65,
+                    ..ORDER
+                },
+            ],
+            ..SOUND
+        },
+        Fault::Delay(1),
+    ),
+    (
+        Parts {
+            orders: &[
+                ORDER,
+                Order {
+                    distance: 256,
+                    ..ORDER
+                },
+            ],
+            ..SOUND
+        },
+        Fault::OrderDistance(1),
+    ),
+    (
+        Parts {
+            orders: &[ORDER, Order { to: 1, ..ORDER }],
+            ..SOUND
+        },
+        Fault::OrderBackward(1),
+    ),
+];
+
+/// The first fault of the draft of these parts.
+fn fault_of(alloc: Global, parts: &Parts<'_>) -> Result<Option<Fault>, Fail> {
+    let draft = draft(alloc, parts)?;
+    Ok(first_fault(alloc, &draft)?)
 }
 
 #[test]
-fn values_at_fault(rt: HostRuntime) -> Result<(), Fail> {
-    for (value, fault) in [
-        (
-            Value {
-                maker: 3,
-                ..CARRIED
-            },
-            Fault::NoMaker(1),
-        ),
-        (
-            Value {
-                lands: 65,
-                ..CARRIED
-            },
-            Fault::Lands(1),
-        ),
-        (Value { file: 2, ..CARRIED }, Fault::NoFile(1)),
-    ] {
-        let values = &[MADE, value];
-        is_at_fault(&rt, rt.alloc(), Parts { values, ..SOUND }, fault)?;
-    }
-    Ok(())
-}
-
-#[test]
-fn reads_at_fault(rt: HostRuntime) -> Result<(), Fail> {
-    for (read, fault) in [
-        (Read { value: 2, ..AGAIN }, Fault::NoValue(1)),
-        (Read { reader: 3, ..AGAIN }, Fault::NoReader(1)),
-        (
-            Read {
-                distance: 17,
-                ..AGAIN
-            },
-            Fault::Distance(1),
-        ),
-        (
-            Read {
-                offset: 64,
-                ..AGAIN
-            },
-            Fault::ReadOffset(1),
-        ),
-        (
-            Read {
-                distance: 0,
-                ..AGAIN
-            },
-            Fault::ReadBackward(1),
-        ),
-    ] {
-        let reads = &[READ, read];
-        is_at_fault(&rt, rt.alloc(), Parts { reads, ..SOUND }, fault)?;
-    }
-    Ok(())
-}
-
-#[test]
-fn orders_at_fault(rt: HostRuntime) -> Result<(), Fail> {
-    for (order, fault) in [
-        (Order { from: 3, ..ORDER }, Fault::NoFrom(1)),
-        (Order { to: 3, ..ORDER }, Fault::NoTo(1)),
-        (
-            Order {
-                delay: -65,
-                ..ORDER
-            },
-            Fault::Delay(1),
-        ),
-        (
-            Order {
-                distance: 256,
-                ..ORDER
-            },
-            Fault::OrderDistance(1),
-        ),
-        (Order { to: 1, ..ORDER }, Fault::OrderBackward(1)),
-    ] {
-        let orders = &[ORDER, order];
-        is_at_fault(&rt, rt.alloc(), Parts { orders, ..SOUND }, fault)?;
+fn drafts_at_fault(rt: HostRuntime) -> Result<(), Fail> {
+    for (parts, fault) in AT_FAULT {
+        assert_eq!(rt; fault_of(rt.alloc(), parts)?, Some(*fault));
     }
     Ok(())
 }

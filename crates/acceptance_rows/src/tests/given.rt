@@ -1,26 +1,74 @@
-//! Texts that these tests give to the program.
+//! Lines, what their files hold and what they write.
 
-pub(super) use worked_texts::{ACC, M1};
+use worked_texts::{ACC, M1};
 
-/// A machine without registers.
-pub(super) const REGISTERS_0_MACHINE: &str = r#"registers = 0
-units = ["mem", "alu"]
+/// A line, what its inputs hold and what it writes for that, and what the input is told as that can't be read. A line that reads no
+/// first input has nothing there.
+#[derive(Clone, Copy)]
+pub(super) struct Line {
+    pub(super) words: &'static [&'static str],
+    pub(super) first: &'static str,
+    pub(super) last: &'static str,
+    pub(super) out: &'static str,
+    pub(super) unread_first: &'static str,
+    pub(super) unread_last: &'static str,
+}
 
-[ops.load]
-latency = 3
-alts = [["mem@0"]]
+pub(super) const LINES: [Line; 6] = [
+    Line {
+        words: &["bounds", "m.toml", "l.txt"],
+        first: M1,
+        last: ACC,
+        out: "loop acc ops 3 res 2 rec 1 mii 2\nloops 1\n",
+        unread_first: "machine",
+        unread_last: "loops",
+    },
+    Line {
+        words: &["plain", "l.txt", "--trip", "3"],
+        first: "",
+        last: ACC,
+        out: "loop acc trip 3\nb[0] 1\nb[1] 3\nb[2] 6\nloops 1\n",
+        unread_first: "",
+        unread_last: "loops",
+    },
+    Line {
+        words: &["schedule", "m.toml", "l.txt"],
+        first: M1,
+        last: ACC,
+        out: ACC_LISTING,
+        unread_first: "machine",
+        unread_last: "loops",
+    },
+    Line {
+        words: &["run", "m.toml", "l.txt", "--trip", "3"],
+        first: M1,
+        last: ACC,
+        out: "loop acc trip 3\nb[0] 1\nb[1] 3\nb[2] 6\nloops 1 met 1 failed 0\n",
+        unread_first: "machine",
+        unread_last: "loops",
+    },
+    Line {
+        words: SOLVE,
+        first: "",
+        last: SUM,
+        out: SUM_SOLVED,
+        unread_first: "",
+        unread_last: "problems",
+    },
+    Line {
+        words: &["check", "p.txt", "s.txt"],
+        first: SUM,
+        last: SUM_SOLUTION,
+        out: "sum ok ii 3 stages 1\n# problems 1 met 1 failed 0\n",
+        unread_first: "problems",
+        unread_last: "solutions",
+    },
+];
 
-[ops.store]
-latency = 1
-alts = [["mem@0"]]
-
-[ops.add]
-latency = 1
-alts = [["alu@0"]]
-"#;
+pub(super) const SOLVE: &[&str] = &["solve", "p.txt"];
 
 /// The listing of `ACC` on `M1`.
-pub(super) const ACC_LISTING: &str = "loop acc ops 3 res 2 rec 1 mii 2 ii 2 stages 3\n\
+const ACC_LISTING: &str = "loop acc ops 3 res 2 rec 1 mii 2 ii 2 stages 3\n\
     pre r2 0\n\
     0: load r0 a[k+0] ?0\n\
     1: add r2 r3 r1 ?1 | store b[k-2] r3 ?2\n\
@@ -52,20 +100,8 @@ end
 ";
 
 /// A solution of it.
-pub(super) const SUM_SOLUTION: &str = "solution sum ii 3
+const SUM_SOLUTION: &str = "solution sum ii 3
 op add time 0 by 0
 value s number 0
 end
 ";
-
-/// What a check says of that.
-pub(super) const SUM_OK: &str = "sum ok ii 3 stages 1\n# problems 1 met 1 failed 0\n";
-
-/// Its graph. The one edge is the critical circuit.
-pub(super) const SUM_DOT: &str = r#"digraph "sum" {
-  label="sum res 1 rec 3 mii 3"
-  node [shape=box]
-  0 [label="add short"]
-  0 -> 0 [label="value s 3 @1",style=bold]
-}
-"#;

@@ -1,12 +1,10 @@
 //! The standard output of a system whose writes are interrupted, take a part, or fail.
 
 use devices::{Output, StandardOutput, write_text};
-use std::alloc::{AllocError, Global};
-use std::cell::{Cell, RefCell};
+use std::cell::Cell;
 use std::fmt::Display;
 use std::io;
 use std::io::ErrorKind;
-use std::test::Fail;
 
 /// What a call of a write answers.
 #[derive(Clone, Copy)]
@@ -21,25 +19,40 @@ enum Answer {
 
 use Answer::{Fails, IsInterrupted, Takes};
 
-/// A system whose writes answer from a list, over and over.
+const TEXT: &[u8] = b"loop acc trip 3\n";
+
+/// A system whose writes answer from a list, over and over, and take the bytes of the text alone, in their order.
 #[derive(Drop)]
-struct Scripted<'a> {
-    answers: &'a [Answer],
+struct Scripted {
+    answers: &'static [Answer],
     calls: Cell<usize>,
-    taken: RefCell<Vec<u8>>,
+    taken: Cell<usize>,
 }
 
-impl<'a> Scripted<'a> {
-    fn new(alloc: Global, answers: &'a [Answer]) -> Result<Scripted<'a>, AllocError> {
-        Ok(Scripted {
-            answers,
-            calls: Cell::new(0),
-            taken: RefCell::new(Vec::with_capacity(alloc, 64)?),
-        })
+impl Scripted {
+    /// The answer of the next call.
+    fn next_answer(&self) -> Answer {
+        let call = self.calls.get();
+        self.calls.set(call.wrapping_add(1));
+        match self.answers.len() {
+            0 => Fails,
+            count => self.answers.get(call % count).copied().unwrap_or(Fails),
+        }
+    }
+
+    /// Takes the first of these bytes, `most` at most.
+    fn take(&self, bytes: &[u8], most: usize) -> io::Result<usize> {
+        let taken = self.taken.get();
+        if TEXT.get(taken..) != Some(bytes) {
+            return Err(io::Error::from(ErrorKind::InvalidData));
+        }
+        let count = bytes.len().min(most);
+        self.taken.set(taken.wrapping_add(count));
+        Ok(count)
     }
 }
 
-impl Print for Scripted<'_> {
+impl Print for Scripted {
     fn print<D: Display + Drop>(&self, _value: D) -> io::Result<()> {
         Err(io::Error::from(ErrorKind::Unsupported))
     }
@@ -53,75 +66,69 @@ impl Print for Scripted<'_> {
     }
 
     fn write_some(&self, bytes: &[u8]) -> io::Result<usize> {
-        let call = self.calls.get();
-        self.calls.set(call.wrapping_add(1));
-        let answer = match self.answers.len() {
-            0 => None,
-            count => self.answers.get(call % count),
-        };
-        match answer {
-            Some(Takes(most)) => {
-                let n = bytes.len().min(*most);
-                match self.taken.try_borrow_mut() {
-                    Ok(mut taken) => taken.extend_from_slice(&bytes[..n])?,
-                    Err(_) => return Err(io::Error::from(ErrorKind::Unsupported)),
-                }
-                Ok(n)
-            }
-            Some(IsInterrupted) => Err(io::Error::from(ErrorKind::Interrupted)),
-            Some(Fails) | None => Err(io::Error::from(ErrorKind::StorageFull)),
+        match self.next_answer() {
+            Takes(most) => self.take(bytes, most),
+            IsInterrupted => Err(io::Error::from(ErrorKind::Interrupted)),
+            Fails => Err(io::Error::from(ErrorKind::StorageFull)),
         }
     }
 }
 
-const TEXT: &[u8] = b"loop acc trip 3\n";
-
-#[test]
-fn writes_on_after_a_short_write(rt: HostRuntime) -> Result<(), Fail> {
-    let scripts: [(&[Answer], usize); 4] = [
-        (&[Takes(16)], 1),
-        (&[Takes(3)], 6),
-        (&[Takes(1), Takes(5)], 6),
-        (
-            &[
-                IsInterrupted,
-                Takes(3),
-                IsInterrupted,
-                IsInterrupted,
-                Takes(4),
-            ],
-            12,
-        ),
-    ];
-    for (i, (answers, calls)) in scripts.iter().enumerate() {
-        let system = Scripted::new(rt.alloc(), answers)?;
-        let mut output = StandardOutput::new(&system);
-        assert!(rt; write_text(&mut output, TEXT).is_ok(), "script {i}");
-        assert_eq!(rt; output.faults(), 0, "script {i}");
-        assert_eq!(rt; system.calls.get(), *calls, "script {i}");
-        assert!(rt; system.taken.try_borrow()?.as_slice() == TEXT, "script {i}");
-    }
-    Ok(())
+/// What a script comes to: how many calls there are, how many bytes they take, and how many writes of the output fail.
+fn written(answers: &'static [Answer]) -> (usize, usize, u64) {
+    let system = Scripted {
+        answers,
+        calls: Cell::new(0),
+        taken: Cell::new(0),
+    };
+    let mut output = StandardOutput::new(&system);
+    let is_written = write_text(&mut output, TEXT).is_ok();
+    let faults = output.faults();
+    // (a text is written where no write failed)
+    let told = if is_written == (faults == 0) {
+        faults
+    } else {
+        99
+    };
+    (system.calls.get(), system.taken.get(), told)
 }
 
+/// Scripts by which all 16 bytes are taken, with the number of calls.
+const SHORT: &[(&[Answer], usize)] = &[
+    (&[Takes(16)], 1),
+    (&[Takes(3)], 6),
+    (&[Takes(1), Takes(5)], 6),
+    (
+        &[
+            IsInterrupted,
+            Takes(3),
+            IsInterrupted,
+            IsInterrupted,
+            Takes(4),
+        ],
+        12,
+    ),
+];
+
 #[test]
-fn tells_of_a_failed_write(rt: HostRuntime) -> Result<(), Fail> {
-    let scripts: [(&[Answer], usize); 5] = [
-        (&[Fails], 0),
-        (&[Takes(0)], 0),
-        (&[IsInterrupted], 0),
-        (&[Takes(3), Takes(3), Fails], 6),
-        (&[Takes(9), IsInterrupted, Takes(0)], 9),
-    ];
-    for (i, (answers, taken)) in scripts.iter().enumerate() {
-        let system = Scripted::new(rt.alloc(), answers)?;
-        let mut output = StandardOutput::new(&system);
-        assert!(rt; write_text(&mut output, TEXT).is_err(), "script {i}");
-        assert_eq!(rt; output.faults(), 1, "script {i}");
-        assert!(rt;
-            Some(system.taken.try_borrow()?.as_slice()) == TEXT.get(..*taken),
-            "script {i}"
-        );
+fn writes_on_after_a_short_write(rt: HostRuntime) {
+    for (answers, calls) in SHORT {
+        assert_eq!(rt; written(answers), (*calls, 16, 0));
     }
-    Ok(())
+}
+
+/// Scripts with a write that fails, with the number of calls and of the bytes that are taken before. A write that is interrupted is tried 64 times.
+const FAILING: &[(&[Answer], usize, usize)] = &[
+    (&[Fails], 1, 0),
+    (&[Takes(0)], 1, 0),
+    (&[IsInterrupted], 64, 0),
+    (&[Takes(3), Takes(3), Fails], 3, 6),
+    (&[Takes(9), IsInterrupted, Takes(0)], 3, 9),
+];
+
+#[test]
+fn tells_of_a_failed_write(rt: HostRuntime) {
+    for (answers, calls, taken) in FAILING {
+        assert_eq!(rt; written(answers), (*calls, *taken, 1));
+    }
 }

@@ -1,10 +1,13 @@
 //! Whole texts, read and written.
 
+ghost use Rattle.std.specs.Prelude.{◌≡◌};
+
 use devices::{
     Bytes, FaultyInput, FaultyOutput, FileInput, Input, Output, ReadTextError, TakenBytes,
     read_text, read_text_of, write_text,
 };
 use std::alloc::{AllocError, Global};
+use std::process::Abort;
 use std::test::Fail;
 
 // bytes of which neighbours differ
@@ -16,144 +19,157 @@ fn pattern(alloc: Global, len: usize) -> Result<Vec<u8>, AllocError> {
     Ok(bytes)
 }
 
+/// How many bytes there are, how many a text may have, and how many are read: one past the limit at most. Of a buffer the first size is 65,536 bytes.
+const READ: &[(usize, usize, usize)] = &[
+    (0, 150_000, 0),
+    (1, 150_000, 1),
+    (65_535, 150_000, 65_535),
+    (65_536, 150_000, 65_536),
+    (65_537, 150_000, 65_537),
+    (149_999, 150_000, 149_999),
+    (150_000, 150_000, 150_000),
+    (150_001, 150_000, 150_001),
+    (150_002, 150_000, 150_001),
+    (200_000, 0, 1),
+    (200_000, 1, 2),
+    (200_000, 65_534, 65_535),
+    (200_000, 65_535, 65_536),
+    (200_000, 65_536, 65_537),
+    (200_000, 199_998, 199_999),
+    (200_000, 199_999, 200_000),
+    (200_000, 200_000, 200_000),
+    (200_000, 16_777_216, 200_000),
+];
+
+/// Of these bytes the first `want` are read, and the others are left.
+fn is_read(alloc: Global, bytes: &[u8], most: usize, want: usize) -> Result<bool, ReadTextError> {
+    let mut input = Bytes::new(bytes);
+    let text = read_text_of(alloc, &mut input, most)?;
+    Ok(bytes.split_at_checked(want) == Some((text.as_slice(), input.rest())))
+}
+
 #[test]
 fn reads_up_to_a_byte_past_the_limit(rt: HostRuntime) -> Result<(), Fail> {
-    let all = pattern(rt.alloc(), 1_100_000)?;
-    let all = all.as_slice();
-    for (len, want) in [
-        (0, 0),
-        (1, 1),
-        (65_535, 65_535),
-        (65_536, 65_536),
-        (65_537, 65_537),
-        (1_048_575, 1_048_575),
-        (1_048_576, 1_048_576),
-        (1_048_577, 1_048_577),
-        (1_048_578, 1_048_577),
-        (1_100_000, 1_048_577),
-    ] {
-        let bytes = all.get(..len).ok_or("a beginning")?;
-        let mut input = Bytes::new(bytes);
-        let text = read_text(rt.alloc(), &mut input)?;
-        assert!(rt; Some(text.as_slice()) == bytes.get(..want), "{len}");
-        assert!(rt; Some(input.rest()) == bytes.get(want..), "{len}");
+    let all = pattern(rt.alloc(), 200_000)?;
+    for (len, most, want) in READ {
+        let bytes = all.as_slice().get(..*len).ok_or("a beginning")?;
+        assert!(rt; is_read(rt.alloc(), bytes, *most, *want)?, "{len}, {most}");
     }
     Ok(())
 }
 
+/// A text of a machine or of loops has 1,048,576 bytes at most.
 #[test]
-fn reads_up_to_a_byte_past_any_limit(rt: HostRuntime) -> Result<(), Fail> {
-    let all = pattern(rt.alloc(), 1_100_000)?;
-    let all = all.as_slice();
-    for (most, want) in [
-        (0, 1),
-        (1, 2),
-        (65_534, 65_535),
-        (65_535, 65_536),
-        (65_536, 65_537),
-        (1_099_998, 1_099_999),
-        (1_099_999, 1_100_000),
-        (1_100_000, 1_100_000),
-        (16_777_216, 1_100_000),
-    ] {
-        let mut input = Bytes::new(all);
-        let text = read_text_of(rt.alloc(), &mut input, most)?;
-        assert!(rt; Some(text.as_slice()) == all.get(..want), "{most}");
-        assert!(rt; Some(input.rest()) == all.get(want..), "{most}");
-    }
+fn reads_a_byte_past_the_limit_of_texts(rt: HostRuntime) -> Result<(), Fail> {
+    let all = pattern(rt.alloc(), 1_048_578)?;
+    let mut input = Bytes::new(all.as_slice());
+    let text = read_text(rt.alloc(), &mut input)?;
+    assert_eq!(rt; (text.len(), input.rest().len()), (1_048_577, 1));
+    assert!(rt; all.as_slice().starts_with(text.as_slice()));
     Ok(())
 }
 
-#[test]
-fn reads_a_few_bytes_at_a_time(rt: HostRuntime) -> Result<(), Fail> {
-    let bytes = pattern(rt.alloc(), 200_000)?;
-    for stride in [1, 7, 4_096, 65_536, 199_999] {
-        let mut input = FaultyInput::new(bytes.as_slice(), stride, None);
-        let text = read_text(rt.alloc(), &mut input)?;
-        assert!(rt; text.as_slice() == bytes.as_slice(), "{stride}");
-    }
-    Ok(())
-}
+/// How many bytes of 30 a read gives at most, and after how many reads one fails, with how many bytes are left then, where it does.
+const IN_PARTS: &[(usize, Option<u64>, Option<usize>)] = &[
+    (1, None, None),
+    (7, None, None),
+    (29, None, None),
+    (10, Some(0), Some(30)),
+    (10, Some(1), Some(20)),
+    (10, Some(2), Some(10)),
+    (10, Some(3), Some(0)),
+    (10, Some(4), None),
+];
 
-#[test]
-fn tells_of_a_fault_in_mid_stream(rt: HostRuntime) -> Result<(), Fail> {
-    let bytes = pattern(rt.alloc(), 30)?;
-    for (reads, left) in [(0, 30), (1, 20), (2, 10), (3, 0)] {
-        let mut input = FaultyInput::new(bytes.as_slice(), 10, Some(reads));
-        match read_text(rt.alloc(), &mut input) {
-            Err(error) => assert_eq!(rt; error, ReadTextError::Fault),
-            Ok(_) => panic!(rt; "no fault after {reads} reads"),
+/// A text that is read in parts, and how many bytes are left where a read fails.
+fn left(
+    rt: &impl Abort,
+    alloc: Global,
+    bytes: &[u8],
+    stride: usize,
+    fault: Option<u64>,
+) -> Option<usize> {
+    assert!(rt; 0 < stride);
+    let mut input = FaultyInput::new(bytes, stride, fault);
+    let text = read_text(alloc, &mut input);
+    let left = input.rest().len();
+    match text {
+        Ok(text) => {
+            assert!(rt; text.as_slice() == bytes && input.faults() == 0);
+            None
         }
-        assert_eq!(rt; input.faults(), 1);
-        assert_eq!(rt; input.rest().len(), left);
+        Err(error) => {
+            assert!(rt; error == ReadTextError::Fault && input.faults() == 1);
+            Some(left)
+        }
     }
-    let mut input = FaultyInput::new(bytes.as_slice(), 10, Some(4));
-    assert_eq!(rt; read_text(rt.alloc(), &mut input)?.len(), 30);
-    assert_eq!(rt; input.faults(), 0);
-    Ok(())
 }
 
 #[test]
-fn reads_what_the_system_has(rt: HostRuntime) -> Result<(), Fail> {
-    let mut empty = FileInput::new(&rt, "/dev/null");
-    assert_eq!(rt; read_text(rt.alloc(), &mut empty)?.len(), 0);
-    let mut endless = FileInput::new(&rt, "/dev/zero");
-    assert_eq!(rt; read_text(rt.alloc(), &mut endless)?.len(), 1_048_577);
-    for (i, path) in ["/", "/no/such/file", "", "a\0b"].iter().enumerate() {
-        assert_eq!(rt; faults_of(&rt, path), (true, 1), "path {i}");
+fn reads_in_parts(rt: HostRuntime) -> Result<(), Fail> {
+    let bytes = pattern(rt.alloc(), 30)?;
+    for (stride, fault, wanted) in IN_PARTS {
+        let left = left(&rt, rt.alloc(), bytes.as_slice(), *stride, *fault);
+        assert_eq!(rt; left, *wanted);
     }
+    let many = pattern(rt.alloc(), 200_000)?;
+    let left = left(&rt, rt.alloc(), many.as_slice(), 4_096, None);
+    assert_eq!(rt; left, None);
     Ok(())
 }
 
-// whether a file can't be read, and how many calls of its input failed
-fn faults_of(rt: &HostRuntime, path: &str) -> (bool, u64) {
-    let mut input = FileInput::new(rt, path);
+/// A path that no file can have: it can't be read, and one call fails.
+#[test]
+fn tells_of_a_path_with_a_zero(rt: HostRuntime) {
+    let mut input = FileInput::new(&rt, "a\0b");
     let text = read_text(rt.alloc(), &mut input);
-    (matches!(text, Err(ReadTextError::Fault)), input.faults())
+    assert!(rt; matches!(text, Err(ReadTextError::Fault)) && input.faults() == 1);
+}
+
+/// How many bytes are written, how many of them the output takes a write and in all, whether it can flush, and how many are taken. A call fails where the room is too
+/// small or the output can't flush.
+const WRITTEN: &[(usize, usize, usize, bool, usize)] = &[
+    (1_000, 1, 1_000, true, 1_000),
+    (1_000, 7, 1_000, true, 1_000),
+    (1_000, 999, 1_000, true, 1_000),
+    (1_000, 1_000, 1_000, true, 1_000),
+    (1_000, 1_001, 1_000, true, 1_000),
+    (29, 4, 0, true, 0),
+    (29, 4, 1, true, 1),
+    (29, 4, 10, true, 10),
+    (29, 4, 28, true, 28),
+    (0, 4, 100, false, 0),
+    (8, 4, 100, false, 8),
+];
+
+/// What a write of a text to such an output has to leave: these bytes are taken, and are handed on where no call fails.
+fn is_written(rt: &impl Abort, text: &[u8], mut output: FaultyOutput, taken: usize, is_well: bool)
+    requires { output.1 ≡ 0 }
+{
+    let written = write_text(&mut output, text).is_ok();
+    let handed = if is_well { taken } else { 0 };
+    assert_eq!(rt; (written, output.faults()), (is_well, u64::from(!is_well)));
+    assert!(rt; text.get(..taken) == Some(output.as_slice()));
+    assert!(rt; text.get(..handed) == Some(output.handed()));
 }
 
 #[test]
-fn writes_all(rt: HostRuntime) -> Result<(), Fail> {
+fn writes_up_to_a_fault(rt: HostRuntime) -> Result<(), Fail> {
+    let all = pattern(rt.alloc(), 1_000)?;
+    for (len, stride, room, can_flush, taken) in WRITTEN {
+        assert!(rt; 0 < *stride);
+        let text = all.as_slice().get(..*len).ok_or("a beginning")?;
+        let output = FaultyOutput::new(rt.alloc(), *stride, *room, *can_flush)?;
+        is_written(&rt, text, output, *taken, *can_flush && len <= room);
+    }
+    Ok(())
+}
+
+#[test]
+fn writes_to_memory(rt: HostRuntime) -> Result<(), Fail> {
     let text = pattern(rt.alloc(), 1_000)?;
     let mut output = TakenBytes::with_capacity(rt.alloc(), 1_000)?;
     assert!(rt; write_text(&mut output, text.as_slice()).is_ok());
-    assert!(rt; output.as_slice() == text.as_slice());
-    assert!(rt; output.handed() == text.as_slice());
-    for stride in [1, 7, 999, 1_000, 1_001] {
-        let mut output = FaultyOutput::new(rt.alloc(), stride, 1_000, true)?;
-        assert!(rt; write_text(&mut output, text.as_slice()).is_ok());
-        assert!(rt; output.as_slice() == text.as_slice(), "{stride}");
-        assert!(rt; output.handed() == text.as_slice(), "{stride}");
-        assert_eq!(rt; output.faults(), 0);
-    }
-    Ok(())
-}
-
-#[test]
-fn tells_of_a_fault_while_writing(rt: HostRuntime) -> Result<(), Fail> {
-    let text = b"loop acc ops 3 res 2\nloops 1\n";
-    for (room, want) in [
-        (0, ""),
-        (1, "l"),
-        (10, "loop acc o"),
-        (28, "loop acc ops 3 res 2\nloops 1"),
-    ] {
-        let mut output = FaultyOutput::new(rt.alloc(), 4, room, true)?;
-        assert!(rt; write_text(&mut output, text).is_err());
-        assert!(rt; output.as_slice() == want.as_bytes(), "{room}");
-        assert_eq!(rt; output.faults(), 1);
-    }
-    Ok(())
-}
-
-#[test]
-fn tells_of_a_failed_flush(rt: HostRuntime) -> Result<(), Fail> {
-    for text in ["", "loops 0\n"] {
-        let mut output = FaultyOutput::new(rt.alloc(), 4, 100, false)?;
-        assert!(rt; write_text(&mut output, text.as_bytes()).is_err());
-        assert!(rt; output.as_slice() == text.as_bytes());
-        assert!(rt; output.handed().is_empty());
-        assert_eq!(rt; output.faults(), 1);
-    }
+    assert!(rt; output.as_slice() == text.as_slice() && output.handed() == text.as_slice());
     Ok(())
 }

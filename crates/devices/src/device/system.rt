@@ -11,7 +11,11 @@ use std::{fs, io};
 // how often a call that a signal interrupts is made before it counts as failed
 const TRIES: usize = 64;
 
-/// A file, which is opened at the first read. Contracts see its path and how many reads failed.
+// the path of the standard input
+const STANDARD_INPUT: &str = "-";
+
+/// A file, which is opened at the first read, or the standard input, whose path is `-`. Contracts see the path and how many
+/// reads failed.
 #[derive(Drop)]
 pub struct FileInput<'a, R: Files> {
     system: &'a R,
@@ -28,8 +32,8 @@ impl<'a, R: Files> Model for FileInput<'a, R> {
     ghost view = { λ i. (i.path.now, i.faults) };
 }
 
-impl<'a, R: Files> FileInput<'a, R> {
-    /// The file at this path. Nothing is opened yet.
+impl<'a, R: Files + io::Input> FileInput<'a, R> {
+    /// The file at this path, or the standard input. Nothing is opened yet.
     pub fn new(system: &'a R, path: &'a str) -> FileInput<'a, R>
         ensures { result ≡ (path.entry.now, 0) }
     {
@@ -47,6 +51,7 @@ impl<'a, R: Files> FileInput<'a, R> {
     {
         match &mut self.file {
             Some(file) => read_retrying(file, buffer),
+            None if self.path == STANDARD_INPUT => read_retrying(&mut self.system.reader(), buffer),
             None => {
                 let mut file = fs::open(self.system, self.path)?;
                 let n = read_retrying(&mut file, buffer)?;
@@ -69,7 +74,7 @@ fn read_retrying(file: &mut impl Read, buffer: &mut [u8]) -> io::Result<usize>
     Err(io::Error::from(ErrorKind::Interrupted))
 }
 
-impl<R: Files> Input for FileInput<'_, R> {
+impl<R: Files + io::Input> Input for FileInput<'_, R> {
     ghost left = { λ _. None };
 
     ghost failed = { λ i. i.1 };

@@ -7,12 +7,13 @@ ghost use Rattle.ims.specs.Problems.{budget_of};
 ghost use Rattle.explain.specs.Reasons.{IsReason, culprit_text, life_text, named, reason_text};
 
 use crate::intervals::reasons::Reason;
-use graph_text::{push_name, push_told};
+use graph_text::push_name;
 use ims::{Culprit, Prepared};
 use loop_data::Loop;
 use machine_data::limits::MAX_STATEMENTS;
 use rotating::Lifetime;
 use std::alloc::AllocError;
+use writing::{Text, push_told};
 
 /// Appends the name of an operation after a blank.
 fn push_named(text: &mut Vec<u8>, innermost: &Loop, op: usize) -> Result<(), AllocError>
@@ -20,7 +21,7 @@ fn push_named(text: &mut Vec<u8>, innermost: &Loop, op: usize) -> Result<(), All
     ensures ok { OnOk result (text.new.items ≡ text.old.items ++ named innermost.now op) }
 {
     prove!(innermost.statements().len() <= MAX_STATEMENTS);
-    text.extend_from_slice(b" ")?;
+    text.push_piece(" ")?;
     push_name(text, innermost, op as u8)
 }
 
@@ -41,7 +42,7 @@ fn push_late(text: &mut Vec<u8>, innermost: &Loop, op: usize, time: u64) -> Resu
     ensures ok { OnOk result (text.new.items ≡ text.old.items ++ culprit_text innermost.now (Culprit.Late op time)) }
 {
     push_named(text, innermost, op)?;
-    push_told(text, b" at ", time)
+    push_told(text, " at ", time)
 }
 
 /// Appends the name of a value and when it lives.
@@ -50,8 +51,8 @@ fn push_life(text: &mut Vec<u8>, innermost: &Loop, life: Lifetime) -> Result<(),
     ensures ok { OnOk result (text.new.items ≡ text.old.items ++ life_text innermost.now life) }
 {
     push_named(text, innermost, usize::from(life.operation))?;
-    push_told(text, b" lives ", life.first)?;
-    push_told(text, b" to ", life.last)
+    push_told(text, " lives ", life.first)?;
+    push_told(text, " to ", life.last)
 }
 
 /// Appends what keeps an attempt from a schedule.

@@ -3,12 +3,13 @@
 ghost use Rattle.std.specs.Prelude.{◌≡◌, ◌≢◌, ◌≤◌, IfOk, Some};
 ghost use Rattle.ims.specs.Culprits.{AnswersCulprit};
 ghost use Rattle.ims.specs.Problems.{IsProblem, budget_of, mii_of};
+ghost use Rattle.ims.specs.Schedules.{ScheduleData};
 ghost use Rattle.candidates.specs.Choices.{last_of};
-ghost use Rattle.candidates.specs.Outcomes.{FailsBy, LacksRegisters};
+ghost use Rattle.candidates.specs.Outcomes.{FailsBy, IsPlacedAs, LacksRegisters};
 ghost use Rattle.explain.specs.Reasons.{IsReason, LacksFor, cause_of};
 
 use candidates::Cause;
-use ims::{Culprit, Prepared, Try, attempt, culprit};
+use ims::{Culprit, Prepared, Schedule, Try, attempt, culprit};
 use machine_data::OutOfMemory;
 use mrt::DefaultTable;
 use rotating::{Lifetime, first_without_number};
@@ -54,6 +55,23 @@ fn culprit_of(
     }
 }
 
+/// The schedule of an interval, in cycles, whose attempt places all operations.
+pub(crate) fn schedule_at<'a>(
+    alloc: Global,
+    prepared: &'a Prepared,
+    ii: u64,
+) -> Result<Schedule<'a>, OutOfMemory>
+    requires from_mii { mii_of prepared.now ≤ ii }
+    requires to_last { ii ≤ last_of prepared.now }
+    requires placed { (schedule : ScheduleData) × IsPlacedAs prepared.now ii schedule }
+    ensures { IfOk result (IsPlacedAs prepared.now ii) }
+{
+    match attempt::<DefaultTable>(alloc, prepared, ii, budget(prepared))? {
+        Try::Placed(schedule) => Ok(schedule),
+        Try::Failed(_) => unreachable!(),
+    }
+}
+
 /// The first value that has no register, where an interval lacks registers.
 fn life_without(alloc: Global, prepared: &Prepared, ii: u64) -> Result<Lifetime, OutOfMemory>
     requires from_mii { mii_of prepared.now ≤ ii }
@@ -61,15 +79,10 @@ fn life_without(alloc: Global, prepared: &Prepared, ii: u64) -> Result<Lifetime,
     requires lacks { LacksRegisters prepared.now ii }
     ensures { IfOk result (LacksFor prepared.now ii) }
 {
-    match attempt::<DefaultTable>(alloc, prepared, ii, budget(prepared))? {
-        Try::Placed(schedule) => {
-            let registers = u64::from(prepared.registers());
-            match first_without_number(alloc, &schedule, registers)? {
-                Some(life) => Ok(life),
-                None => unreachable!(),
-            }
-        }
-        Try::Failed(_) => unreachable!(),
+    let schedule = schedule_at(alloc, prepared, ii)?;
+    match first_without_number(alloc, &schedule, u64::from(prepared.registers()))? {
+        Some(life) => Ok(life),
+        None => unreachable!(),
     }
 }
 

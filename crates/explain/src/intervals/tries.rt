@@ -8,10 +8,10 @@ use crate::intervals::hold::{Hold, hold_of};
 use crate::intervals::reason_texts::push_reason;
 use crate::intervals::reasons::{Reason, reason_of};
 use candidates::{Cause, Choice, Outcome, try_interval};
-use graph_text::{push_both, push_told};
 use ims::Prepared;
 use machine_data::OutOfMemory;
 use std::alloc::Global;
+use writing::{Text, push_both, push_told};
 
 /// Appends the line of an interval, in cycles, that gives no kernel, with the cause and its culprits.
 fn push_try(
@@ -25,28 +25,28 @@ fn push_try(
     requires is { IsReason prepared.now interval reason.now }
     ensures ok { OnOk result (text.new.items ≡ text.old.items ++ try_line prepared.now.loop interval reason.now) }
 {
-    push_told(text, b"try ", interval)?;
-    push_both(text, b" ", cause.word().as_bytes())?;
-    text.extend_from_slice(b":")?;
+    push_told(text, "try ", interval)?;
+    push_both(text, " ", cause.word())?;
+    text.push_piece(":")?;
     push_reason(text, prepared, interval, reason)?;
-    text.extend_from_slice(b"\n")
+    text.push_piece("\n")
 }
 
 /// Appends the line of an interval, in cycles, that gives a kernel of `stages` stages.
 fn push_kernel(text: &mut Vec<u8>, interval: u64, stages: u64) -> Result<(), OutOfMemory>
     ensures ok { OnOk result (text.new.items ≡ text.old.items ++ kernel_line interval stages) }
 {
-    push_told(text, b"try ", interval)?;
-    push_told(text, b" kernel stages ", stages)?;
-    text.extend_from_slice(b"\n")
+    push_told(text, "try ", interval)?;
+    push_told(text, " kernel stages ", stages)?;
+    text.push_piece("\n")
 }
 
 /// Appends the line of what holds an interval.
 fn push_hold(text: &mut Vec<u8>, hold: Hold) -> Result<(), OutOfMemory>
     ensures ok { OnOk result (text.new.items ≡ text.old.items ++ hold_line hold) }
 {
-    push_both(text, b"held by ", hold.word().as_bytes())?;
-    text.extend_from_slice(b"\n")
+    push_both(text, "held by ", hold.word())?;
+    text.push_piece("\n")
 }
 
 /// Appends the lines of an interval, in cycles, that gives a kernel of `stages` stages.

@@ -4,17 +4,17 @@ ghost use Rattle.std.specs.Prelude.{◌≡◌, ◌<◌, ◌++◌, ◌↔◌, ℕ
 ghost use Rattle.std.specs.List.{Contains, flat_map};
 ghost use Rattle.machine_data.specs.Machines.{MachineData};
 ghost use Rattle.graph.specs.Graphs.{IsGraphOf};
-ghost use Rattle.graph_text.specs.Dot.{IsDotText, IsStroke, arrow_line, at_text, graph_head, node_line, style_text};
+ghost use Rattle.graph_text.specs.Dot.{IsDotText, IsStroke, arrow_end, arrow_line, arrow_start, at_text, graph_head, node_line, style_text};
 ghost use Rattle.graph_text.specs.Texts.{AreTexts, numbers_of};
 
 use crate::kind::{Kind, kind_of};
-use crate::lines::{push_both, push_signed, push_told};
 use crate::listing::bounds::push_bounds_told;
 use crate::measuring::{LowerBounds, Measured};
 use crate::names::{opcode_word, push_name};
 use graph::{Edge, Edges};
 use loop_data::Loop;
 use std::alloc::AllocError;
+use writing::{Text, push_both, push_signed, push_told};
 
 /// How an edge is drawn.
 #[derive(Clone, Copy)]
@@ -28,11 +28,11 @@ pub(crate) struct Stroke {
 fn push_head(text: &mut Vec<u8>, innermost: &Loop, bounds: LowerBounds) -> Result<(), AllocError>
     ensures ok { OnOk result (text.new.items ≡ text.old.items ++ graph_head innermost.now bounds) }
 {
-    let name = innermost.name().as_str().as_bytes();
-    push_both(text, b"digraph \"", name)?;
-    push_both(text, b"\" {\n  label=\"", name)?;
+    let name = innermost.name().as_str();
+    push_both(text, "digraph \"", name)?;
+    push_both(text, "\" {\n  label=\"", name)?;
     push_bounds_told(text, bounds)?;
-    text.extend_from_slice(b"\"\n  node [shape=box]\n")
+    text.push_piece("\"\n  node [shape=box]\n")
 }
 
 /// Appends the line of an operation.
@@ -40,11 +40,11 @@ fn push_node(text: &mut Vec<u8>, innermost: &Loop, number: u8) -> Result<(), All
     requires { number < length innermost.now.statements }
     ensures ok { OnOk result (text.new.items ≡ text.old.items ++ node_line innermost.now number) }
 {
-    push_told(text, b"  ", u64::from(number))?;
-    text.extend_from_slice(b" [label=\"")?;
+    push_told(text, "  ", u64::from(number))?;
+    text.push_piece(" [label=\"")?;
     push_name(text, innermost, number)?;
-    push_both(text, b" ", opcode_word(innermost, number).as_bytes())?;
-    text.extend_from_slice(b"\"]\n")
+    push_both(text, " ", opcode_word(innermost, number))?;
+    text.push_piece("\"]\n")
 }
 
 /// Appends the lines of the operations.
@@ -63,32 +63,54 @@ fn push_distance(text: &mut Vec<u8>, distance: u8) -> Result<(), AllocError>
 {
     match distance {
         0 => Ok(()),
-        _ => push_told(text, b" @", u64::from(distance)),
+        _ => push_told(text, " @", u64::from(distance)),
     }
 }
 
-/// Appends what makes an edge bold, and ends its line.
+/// Appends what makes an edge bold.
 fn push_style(text: &mut Vec<u8>, bold: bool) -> Result<(), AllocError>
     ensures ok { OnOk result (text.new.items ≡ text.old.items ++ style_text bold) }
 {
     if bold {
-        text.extend_from_slice(b",style=bold")?;
+        text.push_piece(",style=bold")?;
     }
     Ok(())
+}
+
+/// Appends what the line of an edge has before its label's word: `  P -> Q [label="`.
+///
+/// # Errors
+/// [`AllocError`] where memory ran out. The text is left with a part of that.
+pub fn push_arrow_start(text: &mut Vec<u8>, edge: &Edge) -> Result<(), AllocError>
+    ensures ok { OnOk result (text.new.items ≡ text.old.items ++ arrow_start edge.now) }
+{
+    push_told(text, "  ", u64::from(edge.from))?;
+    push_told(text, " -> ", u64::from(edge.to))?;
+    text.push_piece(" [label=\"")
+}
+
+/// Appends what the line of an edge has after its label's word, ` D @N"]`: the delay in cycles, unless that is 0
+/// the distance in iterations, and what makes the edge bold, if it is.
+///
+/// # Errors
+/// [`AllocError`] where memory ran out. The text is left with a part of that.
+pub fn push_arrow_end(text: &mut Vec<u8>, edge: &Edge, bold: bool) -> Result<(), AllocError>
+    ensures ok { OnOk result (text.new.items ≡ text.old.items ++ arrow_end edge.now bold) }
+{
+    push_signed(text, " ", i64::from(edge.delay))?;
+    push_distance(text, edge.distance)?;
+    text.push_piece("\"")?;
+    push_style(text, bold)?;
+    text.push_piece("]\n")
 }
 
 /// Appends the line of an edge.
 fn push_arrow(text: &mut Vec<u8>, edge: &Edge, stroke: Stroke) -> Result<(), AllocError>
     ensures ok { OnOk result (text.new.items ≡ text.old.items ++ arrow_line edge.now stroke) }
 {
-    push_told(text, b"  ", u64::from(edge.from))?;
-    push_told(text, b" -> ", u64::from(edge.to))?;
-    push_both(text, b" [label=\"", stroke.kind.word().as_bytes())?;
-    push_signed(text, b" ", edge.delay)?;
-    push_distance(text, edge.distance)?;
-    text.extend_from_slice(b"\"")?;
-    push_style(text, stroke.bold)?;
-    text.extend_from_slice(b"]\n")
+    push_arrow_start(text, edge)?;
+    text.push_piece(stroke.kind.word())?;
+    push_arrow_end(text, edge, stroke.bold)
 }
 
 /// Whether an edge is one of a circuit.
@@ -138,5 +160,5 @@ pub fn push_dot(
     push_head(text, innermost, measured.bounds)?;
     push_nodes(text, innermost)?;
     push_arrows(text, innermost, &measured.graph, circuit)?;
-    text.extend_from_slice(b"}\n")
+    text.push_piece("}\n")
 }

@@ -7,12 +7,12 @@ ghost use Rattle.graph_text.specs.Bounds.{IsLines, bounds_line, bounds_told};
 ghost use Rattle.graph_text.specs.Faults.{TextAnswers};
 
 use crate::fault::TextFault;
-use crate::lines::{push_both, push_told};
 use crate::measuring::{LowerBounds, measure};
 use graph::mii;
 use loop_data::Loop;
 use machine_data::Machine;
 use std::alloc::{AllocError, Global};
+use writing::{Text, push_both, push_told};
 
 /// A guess of how many bytes a line takes, for the first reservation.
 const LINE: usize = 64;
@@ -21,9 +21,9 @@ const LINE: usize = 64;
 pub(crate) fn push_bounds_told(text: &mut Vec<u8>, bounds: LowerBounds) -> Result<(), AllocError>
     ensures ok { OnOk result (text.new.items ≡ text.old.items ++ bounds_told bounds) }
 {
-    push_told(text, b" res ", bounds.resources)?;
-    push_told(text, b" rec ", bounds.recurrences)?;
-    push_told(text, b" mii ", mii(bounds.resources, bounds.recurrences))
+    push_told(text, " res ", bounds.resources)?;
+    push_told(text, " rec ", bounds.recurrences)?;
+    push_told(text, " mii ", mii(bounds.resources, bounds.recurrences))
 }
 
 /// Appends the line of a loop with its lower bounds, as [`bounds_lines`] writes it.
@@ -37,10 +37,10 @@ pub fn push_bounds_line(
 ) -> Result<(), AllocError>
     ensures ok { OnOk result (text.new.items ≡ text.old.items ++ bounds_line innermost.now bounds) }
 {
-    push_both(text, b"loop ", innermost.name().as_str().as_bytes())?;
-    push_told(text, b" ops ", innermost.statements().len() as u64)?;
+    push_both(text, "loop ", innermost.name().as_str())?;
+    push_told(text, " ops ", innermost.statements().len() as u64)?;
     push_bounds_told(text, bounds)?;
-    text.extend_from_slice(b"\n")
+    text.push_piece("\n")
 }
 
 /// A line for each loop, in order, `loop NAME ops O res R rec C mii M`: the number of its statements, its

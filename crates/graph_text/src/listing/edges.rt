@@ -13,14 +13,15 @@ ghost use Rattle.graph_text.specs.Texts.{AreTexts, numbers_of};
 
 use crate::fault::TextFault;
 use crate::kind::{Kind, kind_of};
-use crate::lines::{push_both, push_signed, push_told};
 use crate::listing::bounds::push_bounds_line;
+use crate::listing::sums::push_sums;
 use crate::measuring::measure;
 use crate::names::{opcode_word, push_name};
 use graph::{Edge, Edges, heights, longer_intervals_fit, mii};
 use loop_data::Loop;
 use machine_data::Machine;
 use std::alloc::{AllocError, Global};
+use writing::{Text, push_both, push_told};
 
 /// A guess of how many bytes the lines of a loop take, for the first reservation.
 const PART: usize = 1024;
@@ -28,7 +29,7 @@ const PART: usize = 1024;
 /// Appends a word, the number of an operation, and its name after a blank.
 fn push_numbered(
     text: &mut Vec<u8>,
-    word: &[u8],
+    word: &str,
     innermost: &Loop,
     number: u8,
 ) -> Result<(), AllocError>
@@ -36,7 +37,7 @@ fn push_numbered(
     ensures ok { OnOk result (text.new.items ≡ text.old.items ++ (word.now ++ numbered innermost.now number)) }
 {
     push_told(text, word, u64::from(number))?;
-    text.extend_from_slice(b" ")?;
+    text.push_piece(" ")?;
     push_name(text, innermost, number)
 }
 
@@ -52,15 +53,15 @@ fn push_op(
     requires all { length graph.now.latencies ≡ length innermost.now.statements }
     ensures ok { OnOk result (text.new.items ≡ text.old.items ++ op_line innermost.now graph.now.latencies number height) }
 {
-    push_numbered(text, b"op ", innermost, number)?;
-    push_both(text, b" ", opcode_word(innermost, number).as_bytes())?;
+    push_numbered(text, "op ", innermost, number)?;
+    push_both(text, " ", opcode_word(innermost, number))?;
     push_told(
         text,
-        b" latency ",
+        " latency ",
         u64::from(graph.latency(usize::from(number))),
     )?;
-    push_told(text, b" height ", height)?;
-    text.extend_from_slice(b"\n")
+    push_told(text, " height ", height)?;
+    text.push_piece("\n")
 }
 
 /// Appends the lines of the operations, with their heights at an interval.
@@ -97,12 +98,11 @@ pub fn push_edge(
     requires to { edge.now.to < length innermost.now.statements }
     ensures ok { OnOk result (text.new.items ≡ text.old.items ++ edge_line innermost.now edge.now kind) }
 {
-    push_numbered(text, b"edge ", innermost, edge.from)?;
-    push_numbered(text, b" ", innermost, edge.to)?;
-    push_both(text, b" ", kind.word().as_bytes())?;
-    push_signed(text, b" delay ", edge.delay)?;
-    push_told(text, b" distance ", u64::from(edge.distance))?;
-    text.extend_from_slice(b"\n")
+    push_numbered(text, "edge ", innermost, edge.from)?;
+    push_numbered(text, " ", innermost, edge.to)?;
+    push_both(text, " ", kind.word())?;
+    push_sums(text, i64::from(edge.delay), u64::from(edge.distance))?;
+    text.push_piece("\n")
 }
 
 /// Appends the lines of the dependences.

@@ -12,7 +12,8 @@ use Rattle.machine_data.specs.declared.opcode.Opcode.TheVariants.{Load, Store, A
 use Rattle.machine_data.specs.Opcodes.{word_of}
 use Rattle.loop_lines.specs.Forms.{is_number}
 use Rattle.loop_data.specs.Loops.{IsLong}
-use Rattle.loops.specs.Text.{at_distance, offset_text}
+use Rattle.writing.specs.Words.{at}
+use Rattle.loops.specs.Text.{offset_text}
 use Rattle.loops.proofs.spelling.Numerals.{is_number-decimal}
 use Rattle.loops.proofs.spelling.Splitting.{is_plain_byte, is_plain, list_all-append}
 
@@ -61,7 +62,7 @@ is_plain-signed (negsuc n) fits =
 
 -- names at a distance, and places
 
-pub is_plain-distance : (name : List ℕ) (n : ℕ) → is_plain name ≡ true → n ≤ 16 → is_plain (at_distance name n) ≡ true
+pub is_plain-distance : (name : List ℕ) (n : ℕ) → is_plain name ≡ true → n ≤ 16 → is_plain (at name n) ≡ true
 is_plain-distance name zero h few = h
 is_plain-distance name (suc n) h few = plain_join name (64 ∷ decimal (suc n)) h (decimal_bytes (suc n) (omega arith))
 

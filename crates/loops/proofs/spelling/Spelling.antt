@@ -21,7 +21,8 @@ use Rattle.loop_data.specs.Names.{is_name}
 use Rattle.loop_data.specs.Arithmetic.{operands_of}
 use Rattle.loop_data.specs.Loops.{LoopData, IsLoop, IsName, IsLong, IsPlace, MayRead, HasShape, GivesValue, HasInitial}
 use Rattle.loop_reader.specs.Meaning.{forms_of}
-use Rattle.loops.specs.Text.{array_name, param_name, value_name, at_distance, operand_word, place_word, place_words, offset_text, array_words, param_words, init_words, words_by, statement_words, out_words, words_of_loop, text_of}
+use Rattle.writing.specs.Words.{at}
+use Rattle.loops.specs.Text.{array_name, param_name, value_name, operand_word, place_word, place_words, offset_text, array_words, param_words, init_words, words_by, statement_words, out_words, words_of_loop, text_of}
 use Rattle.loop_lines.specs.Words.{lines_of, words_of}
 use Rattle.loops.proofs.returned.Written.{array_form, param_form, init_form, use_form, place_form, statement_form, out_form, written_forms}
 use Rattle.loops.proofs.spelling.LoopNames.{all-numbered, arrays-named, params-named, statement-named, array_name-named, param_name-named, value_name-named}
@@ -92,7 +93,7 @@ written-param p named long =
     ((refl, (is_plain-name p.name named.formed, (refl, (is_plain-signed p.value fits, tt)))), ap Some (form_of-param p.name p.value named.formed fits))
 
 init-parts : (name : List ℕ) (n : ℕ) (value : ℤ) → is_name name ≡ true → 1 ≤ n → n ≤ 16 → FitsSigned w64 value
-    → IsWritten (codes "init" ∷ at_distance name n ∷ codes "=" ∷ signed_decimal value ∷ []) (InitLine name (Some n) (Some value))
+    → IsWritten (codes "init" ∷ at name n ∷ codes "=" ∷ signed_decimal value ∷ []) (InitLine name (Some n) (Some value))
 init-parts name zero value h some few fits = absurd (omega arith)
 init-parts name (suc n) value h some few fits =
     ((refl, (is_plain-distance name (suc n) (is_plain-name name h) few, (refl, (is_plain-signed value fits, tt)))), ap Some (form_of-init name (suc n) value h few fits))

@@ -5,9 +5,9 @@ ghost use Rattle.loops.specs.Run.{HasShapeOf};
 ghost use Rattle.printouts.specs.Plain.{run_line, out_line, array_lines, out_lines, run_lines};
 
 use crate::output::cell_lines::push_cells;
-use crate::output::lines::{push_number, push_signed};
 use loops::{Loop, Memory, RunFault, value_name};
 use std::alloc::AllocError;
+use writing::{Text, push_both, push_signed, push_told};
 
 /// The answer of a run that only lack of memory can refuse.
 pub(crate) fn within_limits(answer: Result<Memory, RunFault>) -> Result<Memory, AllocError>
@@ -45,11 +45,9 @@ pub(crate) fn push_run(
 fn push_head(text: &mut Vec<u8>, innermost: &Loop, trip: u64) -> Result<(), AllocError>
     ensures { OnOk result (text.new.items ≡ text.old.items ++ run_line innermost.now.name trip) }
 {
-    text.extend_from_slice(b"loop ")?;
-    text.extend_from_slice(innermost.name().as_str().as_bytes())?;
-    text.extend_from_slice(b" trip ")?;
-    push_number(text, trip)?;
-    text.extend_from_slice(b"\n")
+    push_both(text, "loop ", innermost.name().as_str())?;
+    push_told(text, " trip ", trip)?;
+    text.push_piece("\n")
 }
 
 /// Appends the lines of the changed cells of all arrays, in order.
@@ -89,9 +87,7 @@ fn push_outs(text: &mut Vec<u8>, innermost: &Loop, after: &Memory) -> Result<(),
 fn push_out(text: &mut Vec<u8>, name: &str, value: i64) -> Result<(), AllocError>
     ensures { OnOk result (text.new.items ≡ text.old.items ++ out_line name.now value) }
 {
-    text.extend_from_slice(b"out ")?;
-    text.extend_from_slice(name.as_bytes())?;
-    text.extend_from_slice(b" ")?;
-    push_signed(text, value)?;
-    text.extend_from_slice(b"\n")
+    push_both(text, "out ", name)?;
+    push_signed(text, " ", value)?;
+    text.push_piece("\n")
 }

@@ -1,15 +1,30 @@
--- Names with a map of their numbers.
-use Rattle.std.specs.Prelude.{◌≡◌, ℕ, if◌then◌else◌, List, Option, Some, None}
-use Rattle.std.specs.Borrow.{Bor}
-use Rattle.std.specs.BTreeMap.{BTreeMap, get_by}
-use Rattle.std.specs.Cmp.Lexicographic.{slice_cmp}
-use Rattle.std.specs.Ordering.{nat_cmp}
-use Rattle.problem_tables.specs.Names.{has_name, index_of}
+-- Names in buckets, those of each bucket leading from one to the one before.
+use Rattle.std.specs.Prelude.{◌≡◌, ◌≢◌, ℕ, ◌+◌, ◌-◌, ◌*◌, ◌%◌, ◌<◌, ◌≤◌, List, [], length, fold, map, slice_index}
+use Rattle.std.specs.List.{slice_index_or, AllPairs}
+use Rattle.problem_tables.specs.declared.names.Place.{Place}
 
--- the number of a name that there is
-abbrev pub number_in : List (List ℕ) → List ℕ → Option ℕ
-number_in names q = if has_name names q then Some (index_of names q) else None
+-- the bucket of a name
+abbrev pub bucket_of : List ℕ → ℕ
+bucket_of name = fold (λ (bucket byte : ℕ). ((bucket * 31) % 256 + byte) % 256) 0 name
 
--- the map has each name's number
-abbrev pub AreNumbers : List (List ℕ) → BTreeMap (Bor (List ℕ)) ℕ → Type 0
-AreNumbers names numbers = (q : List ℕ) → get_by (λ k. slice_cmp nat_cmp q k.now) numbers ≡ number_in names q
+-- the bucket of the name with this number
+abbrev pub bucket_at : List (List ℕ) → ℕ → ℕ
+bucket_at names k = bucket_of (slice_index_or names k [])
+
+-- one more than the number of the last name of a bucket below n, or 0
+pub record IsLastBelow (names : List (List ℕ)) (bucket n last : ℕ) : Type 0 where
+  pub within : last ≤ n
+  pub there : 0 < last → bucket_at names (last - 1) ≡ bucket
+  pub no_later : (k : ℕ) → last ≤ k → k < n → bucket_at names k ≢ bucket
+
+-- each name leads to the one before it in its bucket, and each bucket to its last name
+pub record AreLinked (names : List (List ℕ)) (before last : List ℕ) : Type 0 where
+  pub each : length before ≡ length names
+  pub distinct : AllPairs (λ (a b : List ℕ). a ≢ b) names
+  pub buckets : (b : ℕ) → b < 256 → IsLastBelow names b (length names) (slice_index last b)
+  pub links : (k : ℕ) → k < length names → IsLastBelow names (bucket_at names k) k (slice_index before k)
+
+-- the names of a list with their places
+pub record AreInBuckets (names : List (List ℕ)) (places : List Place) (last : List ℕ) : Type 0 where
+  pub same : map (λ (p : Place). p.name.now) places ≡ names
+  pub linked : AreLinked names (map (λ (p : Place). p.before) places) last

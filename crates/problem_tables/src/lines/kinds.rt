@@ -1,8 +1,8 @@
 //! The alternatives of a `kind` line.
 
-ghost use Rattle.std.specs.Prelude.{◌≡◌, ◌∷◌, [], ◌++◌, ℕ, List, length, map, IfOk, OnOk, Vec};
-ghost use Rattle.std.specs.Global.{Global};
+ghost use Rattle.std.specs.Prelude.{◌≡◌, ◌∷◌, [], ◌++◌, ℕ, List, length, map, IfOk, OnOk};
 ghost use Rattle.std.specs.List.{list_any};
+ghost use Rattle.smallvec.specs.SmallVec.{SmallVec as Items};
 ghost use Rattle.problem_lines.specs.Seen.{hold_seen, word_seen};
 ghost use Rattle.problems.specs.declared.draft.Hold.{Hold};
 ghost use Rattle.problem_tables.specs.Data.{hold_in};
@@ -17,6 +17,7 @@ use crate::names::Names;
 use machine_data::limits::{MAX_OFFSET, MAX_OPERATION_ALTERNATIVES, MAX_ROWS};
 use problem_lines::{Alternatives, HoldWord, Holds};
 use problems::Hold;
+use smallvec::SmallVec;
 use std::alloc::Global;
 
 /// What a hold says.
@@ -88,7 +89,7 @@ fn hold_fault(
 fn take_hold(
     units: &Names<'_>,
     count: usize,
-    rows: &mut Vec<Hold>,
+    rows: &mut SmallVec<Hold, 2>,
     word: HoldWord<'_>,
 ) -> Result<(), Refusal>
     ensures fault { Refuses result (hold_fault units.now count rows.old.items (hold_seen word.entry)) }
@@ -106,7 +107,7 @@ fn take_hold(
 fn take_holds(
     units: &Names<'_>,
     count: usize,
-    rows: &mut Vec<Hold>,
+    rows: &mut SmallVec<Hold, 2>,
     mut holds: Holds<'_>,
 ) -> Result<(), Refusal>
     requires { rows.old.items ≡ [] }
@@ -125,13 +126,13 @@ fn take_holds(
 fn take_alternative(
     alloc: Global,
     units: &Names<'_>,
-    alternatives: &mut Vec<Vec<Hold>>,
+    alternatives: &mut SmallVec<SmallVec<Hold, 2>, 2>,
     holds: Holds<'_>,
 ) -> Result<(), Refusal>
     ensures fault { Refuses result (rest_fault units.now (length alternatives.old.items) [] holds.entry) }
-    ensures taken { OnOk result (map (λ (rows : Vec Hold Global). rows.items) alternatives.new.items ≡ map (λ (rows : Vec Hold Global). rows.items) alternatives.old.items ++ map (hold_in units.now) holds.entry ∷ []) }
+    ensures taken { OnOk result (map (λ (rows : Items Hold). rows.items) alternatives.new.items ≡ map (λ (rows : Items Hold). rows.items) alternatives.old.items ++ map (hold_in units.now) holds.entry ∷ []) }
 {
-    let mut rows = Vec::new(alloc);
+    let mut rows = SmallVec::new(alloc);
     take_holds(units, alternatives.len(), &mut rows, holds)?;
     alternatives.push(rows)?;
     Ok(())
@@ -142,11 +143,11 @@ pub(crate) fn take_alternatives(
     alloc: Global,
     units: &Names<'_>,
     mut left: Alternatives<'_>,
-) -> Result<Vec<Vec<Hold>>, Refusal>
+) -> Result<SmallVec<SmallVec<Hold, 2>, 2>, Refusal>
     ensures fault { Refuses result (alternatives_fault units.now 0 left.entry) }
-    ensures taken { IfOk result (λ alternatives. map (λ (rows : Vec Hold Global). rows.items) alternatives.items ≡ map (map (hold_in units.now)) left.entry) }
+    ensures taken { IfOk result (λ alternatives. map (λ (rows : Items Hold). rows.items) alternatives.items ≡ map (map (hold_in units.now)) left.entry) }
 {
-    let mut alternatives = Vec::new(alloc);
+    let mut alternatives = SmallVec::new(alloc);
     while let Some(holds) = left.next_alternative() {
         if let Err(refusal) = take_alternative(alloc, units, &mut alternatives, holds) {
             return Err(refusal);

@@ -1,9 +1,10 @@
 -- A draft without a fault is well formed, and the other way round.
-use Rattle.std.proofs.Common.{◌≡◌, ℕ, pos, negsuc, ◌<◌, ◌≤◌, ◌⊎◌, true, false, List, length, take, get_or, refl, ap, ◌∙◌, Vec, Global}
+use Rattle.std.proofs.Common.{◌≡◌, ℕ, pos, negsuc, ◌<◌, ◌≤◌, ◌⊎◌, true, false, List, length, take, get_or, refl, ap, ◌∙◌}
 use Rattle.std.specs.Prelude.{◌≤ℤ◌, ◌==◌, Option}
 use Rattle.std.specs.List.{All, list_any}
 use Rattle.std.proofs.lemmas.Bool.{eqb-true, eq-eqb, and_parts, and_from}
 use Rattle.std.proofs.lemmas.Slice.Eq.{bytes_eq-Decides}
+use Rattle.smallvec.specs.SmallVec.{SmallVec}
 use Rattle.machine_data.specs.Opcodes.{same_word}
 use Rattle.registers.specs.declared.value.Read.{Read}
 use Rattle.problems.specs.declared.draft.File.{File}
@@ -69,7 +70,7 @@ file-says number Unallotted = (λ h. tt, λ h. refl)
 
 -- kinds
 
-hold-equal : (a b : Hold) → same_hold a b ≡ true → a ≡ b
+pub hold-equal : (a b : Hold) → same_hold a b ≡ true → a ≡ b
 hold-equal a b h =
     let both = and_parts (a.unit == b.unit) (a.offset == b.offset) h in
     ap (λ n. record { unit = n; offset = a.offset }) (eqb-true a.unit b.unit both.0) ∙ ap (λ n. record { unit = b.unit; offset = n }) (eqb-true a.offset b.offset both.1)
@@ -107,13 +108,13 @@ kind-says : (units number : ℕ) (kind : Kind) → Says (kind_fault units number
 kind-says units number kind =
     said (kind_fault units number kind)
     (((1 ≤ kind.latency) × (kind.latency ≤ 64)) × (((1 ≤ length kind.alternatives.items) × (length kind.alternatives.items ≤ 16))
-    × All (λ (rows : Vec Hold Global). AreRows units rows.items) kind.alternatives.items))
+    × All (λ (rows : SmallVec Hold). AreRows units rows.items) kind.alternatives.items))
     (IsKind units kind)
     (λ h. record { latency_some = h.0.0; latency_few = h.0.1; alternatives_some = h.1.0.0; alternatives_few = h.1.0.1; alternatives = h.1.1 })
     (λ h. ((h.latency_some, h.latency_few), ((h.alternatives_some, h.alternatives_few), h.alternatives)))
     (says-both _ _ _ _ (says-within 1 64 kind.latency (Latency number))
     (says-both _ _ _ _ (says-within 1 16 (length kind.alternatives.items) (Alternatives number))
-    (says-last _ _ (says-in (λ alternative (rows : Vec Hold Global). alternative_fault units number alternative rows.items) (λ alternative rows. AreRows units rows.items)
+    (says-last _ _ (says-in (λ alternative (rows : SmallVec Hold). alternative_fault units number alternative rows.items) (λ alternative rows. AreRows units rows.items)
     kind.alternatives.items (λ alternative rows. alternative-says units number alternative rows.items)))))
 
 -- names

@@ -1,8 +1,9 @@
 -- The alternatives of a well-formed draft.
-use Rattle.std.proofs.Common.{◌≡◌, ◌≢◌, ℕ, suc, zero, ◌<◌, ◌≤◌, List, [], ◌∷◌, length, map, take, get_or, refl, sym, ap, ◌∙◌, Vec, Global, arith}
+use Rattle.std.proofs.Common.{◌≡◌, ◌≢◌, ℕ, suc, zero, ◌<◌, ◌≤◌, List, [], ◌∷◌, length, map, take, get_or, refl, sym, ap, ◌∙◌, arith}
 use Rattle.std.specs.List.{AllPairs}
 use Rattle.std.proofs.lemmas.List.{length-map, get_or-map}
 use Rattle.std.proofs.lemmas.List.Elements.{All-map}
+use Rattle.smallvec.specs.SmallVec.{SmallVec}
 use Rattle.machine_data.specs.declared.alternative.Row.{Row}
 use Rattle.machine_data.specs.Alternative.{IsAlternative, AreAlternatives}
 use Rattle.problems.specs.declared.draft.Hold.{Hold}
@@ -46,7 +47,7 @@ alternative-made units rows few are =
 
 pub alternatives-made : (units : ℕ) (kind : Kind) → units ≤ 64 → IsKind units kind → AreAlternatives (alternatives_of kind)
 alternatives-made units kind few is =
-    let made : Vec Hold Global → List Row = λ rows. map row_of rows.items in
+    let made : SmallVec Hold → List Row = λ rows. map row_of rows.items in
     let size : length (alternatives_of kind) ≡ length kind.alternatives.items = length-map kind.alternatives.items made in
     let some = is.alternatives_some in
     let many = is.alternatives_few in

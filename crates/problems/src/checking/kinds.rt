@@ -1,14 +1,15 @@
 //! The first fault of the kinds of operations.
 
-ghost use Rattle.std.specs.Prelude.{◌≡◌, ◌<◌, length, Vec};
-ghost use Rattle.std.specs.Global.{Global};
+ghost use Rattle.std.specs.Prelude.{◌≡◌, ◌<◌, length};
 ghost use Rattle.std.specs.List.{list_any};
+ghost use Rattle.smallvec.specs.SmallVec.{SmallVec as Items};
 ghost use Rattle.problems.specs.declared.draft.Hold.{Hold};
 ghost use Rattle.problems.specs.Faults.{first_in, same_hold, row_fault, alternative_fault, kind_fault};
 
 use crate::draft::{Hold, Kind};
 use crate::fault::Fault;
 use machine_data::limits::{MAX_LATENCY, MAX_OFFSET, MAX_OPERATION_ALTERNATIVES, MAX_ROWS};
+use smallvec::SmallVec;
 
 /// Whether the two rows are the same.
 fn same_hold(row: Hold, other: Hold) -> bool
@@ -65,8 +66,12 @@ fn alternative_fault(units: usize, kind: usize, alternative: usize, rows: &[Hold
 }
 
 /// The first fault of the alternatives of a kind, by its number.
-fn first_in_alternatives(units: usize, kind: usize, alternatives: &[Vec<Hold>]) -> Option<Fault>
-    ensures { result ≡ first_in (λ alternative (rows : Vec Hold Global). alternative_fault units kind alternative rows.items) alternatives.now }
+fn first_in_alternatives(
+    units: usize,
+    kind: usize,
+    alternatives: &[SmallVec<Hold, 2>],
+) -> Option<Fault>
+    ensures { result ≡ first_in (λ alternative (rows : Items Hold). alternative_fault units kind alternative rows.items) alternatives.now }
 {
     for (alternative, rows) in alternatives.iter().enumerate() {
         if let Some(fault) = alternative_fault(units, kind, alternative, rows.as_slice()) {

@@ -42,7 +42,10 @@ fn name_fault(
 ) -> Result<Option<Fault>, OutOfMemory>
     ensures { IfOk result (λ found. found ≡ name_fault part count names.now) }
 {
-    if !names.is_empty() && names.len() != count {
+    if names.is_empty() {
+        return Ok(None);
+    }
+    if names.len() != count {
         return Ok(Some(Fault::NameCount(part)));
     }
     first_repeated(alloc, part, names)

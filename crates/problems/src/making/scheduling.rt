@@ -1,15 +1,16 @@
 //! What is scheduled of a draft.
 
-ghost use Rattle.std.specs.Prelude.{◌≡◌, ◌≤◌, map, IfOk};
+ghost use Rattle.std.specs.Prelude.{◌≡◌, ◌≤◌, IfOk};
 ghost use Rattle.graph.specs.Graphs.{IsGraphWith};
-ghost use Rattle.problems.specs.Drafts.{IsWellFormed, alternatives_of, edges_of, latencies_of};
+ghost use Rattle.problems.specs.Drafts.{IsWellFormed, edges_of, latencies_of, operations_of};
 ghost use Rattle.problems.specs.Problems.{IsSchedulingOf};
+ghost use Rattle.problems.specs.inner.Listed.{AreListed};
 
 use crate::draft::Draft;
 use crate::making::edges::edges_of;
-use crate::making::tables::{latencies_of, operations_of};
+use crate::making::tables::{Tables, latencies_of, operations_of};
 use graph::Edges;
-use machine_data::{Alternatives, OutOfMemory};
+use machine_data::OutOfMemory;
 use std::alloc::Global;
 
 /// The graph of a draft's edges.
@@ -25,21 +26,21 @@ fn graph_of(alloc: Global, draft: &Draft) -> Result<Edges, OutOfMemory>
     }
 }
 
-/// What is scheduled of a draft, with this budget ratio and ceiling; `tables` has the alternatives of each kind.
+/// What is scheduled of a draft, with this budget ratio and ceiling; `tables` has the alternatives of its operations.
 pub(crate) fn scheduling_of(
     alloc: Global,
     draft: &Draft,
-    tables: &[Alternatives],
+    tables: &Tables,
     ratio: u64,
     ceiling: u64,
 ) -> Result<modulo::Problem, OutOfMemory>
     requires well_formed { IsWellFormed draft.now }
-    requires tables { tables.now ≡ map alternatives_of draft.now.kinds.items }
+    requires tables { AreListed tables.now.lists.items tables.now.numbers.items (operations_of draft.now) }
     requires ratio { (1 ≤ ratio) × (ratio ≤ 64) }
     requires ceiling { ceiling ≤ 255 }
     ensures { IfOk result (λ made. IsSchedulingOf draft.now made × (made.ratio ≡ ratio) × (made.ceiling ≡ ceiling)) }
 {
-    let operations = operations_of(alloc, draft, tables)?;
+    let operations = operations_of(alloc, tables)?;
     let graph = graph_of(alloc, draft)?;
     modulo::Problem::new(alloc, graph, operations, ratio, ceiling)
 }

@@ -5,6 +5,7 @@ ghost use Rattle.schedule_lines.specs.Columns.{cell_behind, padded};
 
 use itoa::Buffer;
 use std::alloc::AllocError;
+use writing::Text;
 
 /// How many digits a number has.
 pub(crate) fn digits_of(number: u64) -> usize
@@ -19,7 +20,7 @@ fn push_blanks(text: &mut Vec<u8>, blanks: usize) -> Result<(), AllocError>
     ensures ok { OnOk result (text.new.items ≡ text.old.items ++ replicate blanks 32) }
 {
     for _blank in 0..blanks {
-        text.extend_from_slice(b" ")?;
+        text.push_piece(" ")?;
     }
     Ok(())
 }
@@ -48,6 +49,6 @@ pub(crate) fn push_padded_number(
 pub(crate) fn push_cell(text: &mut Vec<u8>, width: usize, cell: &[u8]) -> Result<(), AllocError>
     ensures ok { OnOk result (text.new.items ≡ text.old.items ++ cell_behind width cell.now) }
 {
-    text.extend_from_slice(b" ")?;
+    text.push_piece(" ")?;
     push_padded(text, width, cell)
 }

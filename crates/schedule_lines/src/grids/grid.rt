@@ -15,6 +15,7 @@ use ims::Schedule;
 use machine_data::{Machine, OutOfMemory};
 use rotating::Lifetime;
 use std::alloc::{AllocError, Global};
+use writing::Text;
 
 /// What the lines of a grid are written from.
 #[derive(Drop)]
@@ -92,7 +93,7 @@ fn push_head(text: &mut Vec<u8>, machine: &Machine, grid: &Grid) -> Result<(), A
     push_padded(text, grid.row_width, b"row")?;
     push_names(text, machine, grid.columns.as_slice())?;
     push_cell(text, grid.live_width, b"live")?;
-    text.extend_from_slice(b"\n")
+    text.push_piece("\n")
 }
 
 /// Appends the end of the line of a row with `count` live registers; the fullest row has `greatest`.
@@ -100,9 +101,9 @@ fn push_end(text: &mut Vec<u8>, count: u64, greatest: u64) -> Result<(), AllocEr
     ensures ok { OnOk result (text.new.items ≡ text.old.items ++ (full_mark count greatest ++ codes "\n")) }
 {
     if count > 0 && count == greatest {
-        text.extend_from_slice(b" full")?;
+        text.push_piece(" full")?;
     }
-    text.extend_from_slice(b"\n")
+    text.push_piece("\n")
 }
 
 /// Appends the line of a row.
@@ -114,7 +115,7 @@ fn push_row(text: &mut Vec<u8>, grid: &Grid, row: u64) -> Result<(), AllocError>
     let count = grid.counts[row as usize];
     push_padded_number(text, grid.row_width, row)?;
     push_cells(text, &grid.slots, grid.columns.as_slice(), row)?;
-    text.extend_from_slice(b" ")?;
+    text.push_piece(" ")?;
     push_padded_number(text, grid.live_width, count)?;
     push_end(text, count, grid.greatest)
 }

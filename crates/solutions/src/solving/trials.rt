@@ -111,9 +111,8 @@ fn empty_table(alloc: Global, problem: &Problem, ii: u64) -> Result<DefaultTable
     ensures empty { IfOk result (λ table. table.placed ≡ replicate (length problem.now.scheduling.operations) None) }
     ensures interval { IfOk result (λ table. table.interval ≡ ii) }
 {
-    let draft = problem.draft();
-    let kinds = draft.operations.as_slice();
-    DefaultTable::of_kinds(alloc, problem.alternatives(), kinds, ii)
+    let (lists, numbers) = problem.tables();
+    DefaultTable::of_kinds(alloc, lists, numbers, ii)
 }
 
 /// The solution of a schedule and the least numbers, where each value has one. `values` are those of the problem, as registers

@@ -2,6 +2,7 @@
 
 ghost use Rattle.std.specs.Prelude.{true, false};
 
+use std::process::Abort;
 use std::sync::atomic::{AtomicBool, AtomicU64, Ordering};
 use std::thread;
 use workers::Gate;
@@ -10,37 +11,24 @@ use workers::Gate;
 /// the second thread.
 const TURNS: u64 = 10_000_000;
 
-/// A gate that holds its first call until a second one has come.
+/// Holds its first call until a second one has come.
 #[derive(Drop)]
-pub(super) struct Meeting {
+struct Meeting {
     calls: AtomicU64,
     met: AtomicBool,
 }
 
 impl Meeting {
     /// No call yet.
-    pub(super) fn new() -> Meeting {
+    fn new() -> Meeting {
         Meeting {
             calls: AtomicU64::new(0),
             met: AtomicBool::new(false),
         }
     }
 
-    /// How often it was called.
-    pub(super) fn calls(&self) -> u64 {
-        self.calls.load(Ordering::SeqCst)
-    }
-
-    /// Whether the second call came while the first was held.
-    pub(super) fn met(&self) -> bool {
-        self.met.load(Ordering::SeqCst)
-    }
-}
-
-impl Gate for Meeting {
-    ghost always_goes_on = { λ _. true };
-
-    fn at_piece(&self, _worker: usize, _piece: u64) {
+    /// A call.
+    fn come(&self) {
         if self.calls.fetch_add(1, Ordering::SeqCst) > 0 {
             return;
         }
@@ -100,9 +88,10 @@ impl Calls {
     }
 }
 
-/// A gate that keeps apart what workers 0 and 1 call it with.
+/// A gate that keeps apart what workers 0 and 1 call it with, and holds the first call at a piece until a second one has come.
 #[derive(Drop)]
 pub(super) struct Roll {
+    meeting: Meeting,
     first: Calls,
     second: Calls,
     /// Calls in another worker's name, or with a piece past the twelfth.
@@ -113,6 +102,7 @@ impl Roll {
     /// No call yet.
     pub(super) fn new() -> Roll {
         Roll {
+            meeting: Meeting::new(),
             first: Calls::new(),
             second: Calls::new(),
             strange: AtomicU64::new(0),
@@ -137,7 +127,7 @@ impl Roll {
     }
 
     /// How often they asked whether they go on.
-    pub(super) fn asked(&self) -> (u64, u64) {
+    fn asked(&self) -> (u64, u64) {
         (
             self.first.asked.load(Ordering::SeqCst),
             self.second.asked.load(Ordering::SeqCst),
@@ -145,9 +135,27 @@ impl Roll {
     }
 
     /// How many calls were of no such worker or piece.
-    pub(super) fn strange(&self) -> u64 {
+    fn strange(&self) -> u64 {
         self.strange.load(Ordering::SeqCst)
     }
+
+    /// Whether the second call at a piece came while the first was held.
+    fn met(&self) -> bool {
+        self.meeting.met.load(Ordering::SeqCst)
+    }
+}
+
+/// Two workers were at work at once. They called the gate by their own numbers, at each of these pieces once, and once more than that
+/// before their draws.
+pub(super) fn came(rt: &impl Abort, gate: &Roll, pieces: u64) {
+    let (first, second) = gate.pieces();
+    assert!(rt; gate.met());
+    assert_eq!(rt; (first.wrapping_add(second), gate.strange()), (pieces, 0));
+    let draws = (
+        u64::from(first.count_ones()) + 1,
+        u64::from(second.count_ones()) + 1,
+    );
+    assert_eq!(rt; gate.asked(), draws);
 }
 
 /// One time, in the four bits of a piece; none for a piece past the twelfth.
@@ -167,6 +175,7 @@ impl Gate for Roll {
                 self.strange.fetch_add(1, Ordering::SeqCst);
             }
         }
+        self.meeting.come();
     }
 
     fn go_on(&self, worker: usize) -> bool {

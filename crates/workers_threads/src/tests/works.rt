@@ -8,12 +8,13 @@ ghost use Rattle.board.specs.Names.{terms_of};
 ghost use Rattle.workers.specs.Entries.{HasNoRefusal};
 
 use super::boards::{Count, FirstPiece, NoPiece, ZeroLooks};
-use super::gates::{Limited, Meeting, Roll, once};
+use super::gates::{Limited, Roll, came, once};
 use super::given::{LISTING, LOOPS, MACHINE};
 use board::{Board, Closed, WordBoard, WordPass};
 use candidates::{Listing, Pieces, Settings, listing_text};
 use ims::Prepared;
 use std::alloc::Global;
+use std::process::Abort;
 use std::test::Fail;
 use std::thread::{Threads, join};
 use workers::{
@@ -99,10 +100,7 @@ fn have_ceiling(loops: &[Prepared]) -> bool
 }
 
 // Each interval is beaten, and the choices are the same. Of the first loop 3 intervals are tried, of the others 1 each.
-#[test]
-fn a_board_of_zeros_leaves_all_to_try(rt: HostRuntime) -> Result<(), Fail> {
-    let alloc = rt.alloc();
-    let three = Three::new(&rt, alloc)?;
+fn zeros(rt: &impl Abort, alloc: Global, three: &Three) -> Result<(), Fail> {
     let (count, report) = three.work(alloc, 0, &ZeroLooks, Count::new(), &OpenGate);
     assert_eq!(rt;
         (count.draws, report.entries().len(), report.is_dry()),
@@ -112,10 +110,7 @@ fn a_board_of_zeros_leaves_all_to_try(rt: HostRuntime) -> Result<(), Fail> {
     Ok(())
 }
 
-#[test]
-fn a_board_without_pieces_leaves_all_to_try(rt: HostRuntime) -> Result<(), Fail> {
-    let alloc = rt.alloc();
-    let three = Three::new(&rt, alloc)?;
+fn no_piece(rt: &impl Abort, alloc: Global, three: &Three) -> Result<(), Fail> {
     let (_, report) = three.work(alloc, 0, &NoPiece, Count::new(), &OpenGate);
     assert_eq!(rt; three.retried(alloc, vec![in alloc; report]?)?, 5);
     Ok(())
@@ -123,20 +118,21 @@ fn a_board_without_pieces_leaves_all_to_try(rt: HostRuntime) -> Result<(), Fail>
 
 // A worker ends after one draw more than there are pieces, though its board always has another. The first loop has no kernel at its
 // first interval: the other four are left to try.
-#[test]
-fn a_board_that_repeats_itself_ends_the_worker(rt: HostRuntime) -> Result<(), Fail> {
-    let alloc = rt.alloc();
-    let three = Three::new(&rt, alloc)?;
+fn first_piece(rt: &impl Abort, alloc: Global, three: &Three) -> Result<(), Fail> {
     let (count, report) = three.work(alloc, 0, &FirstPiece, Count::new(), &OpenGate);
     assert_eq!(rt; (count.draws, report.is_dry()), (13, false));
     assert_eq!(rt; three.retried(alloc, vec![in alloc; report]?)?, 4);
     Ok(())
 }
 
+// Boards that tell nothing true; and no report leaves all to try, too.
 #[test]
-fn no_reports_leave_all_to_try(rt: HostRuntime) -> Result<(), Fail> {
+fn strange_boards_change_no_choice(rt: HostRuntime) -> Result<(), Fail> {
     let alloc = rt.alloc();
     let three = Three::new(&rt, alloc)?;
+    zeros(&rt, alloc, &three)?;
+    no_piece(&rt, alloc, &three)?;
+    first_piece(&rt, alloc, &three)?;
     assert_eq!(rt; three.retried(alloc, Vec::new(alloc))?, 5);
     Ok(())
 }
@@ -166,32 +162,31 @@ fn close(alloc: Global, board: WordBoard, one: WordPass, two: WordPass) -> Resul
     Ok(closed)
 }
 
+/// What is left to try where a worker stops after `most` pieces: the number of intervals, and the board as it is closed.
+fn stopped(alloc: Global, three: &Three, most: u64) -> Result<(u64, Closed), Fail>
+    ensures loops { IfOk result (λ r. loops_of r.1 ≡ 3) }
+{
+    let (board, one, two) = shared(alloc)?;
+    let (one, report) = three.work(alloc, 0, &board, one, &Limited::new(most));
+    if report.is_dry() {
+        return Err(Fail::new("a worker that stops is not dry"));
+    }
+    let retried = three.retried(alloc, vec![in alloc; report]?)?;
+    Ok((retried, close(alloc, board, one, two)?))
+}
+
 // The worker stops after the first interval of each loop. The first loop has no kernel there, and the others have one, so two
-// intervals are left to try. The other pass comes back unused.
+// intervals are left to try. One that stops at once leaves all. The other pass comes back unused.
 #[test]
 fn a_pass_comes_back_early(rt: HostRuntime) -> Result<(), Fail> {
     let alloc = rt.alloc();
     let three = Three::new(&rt, alloc)?;
-    let (board, one, two) = shared(alloc)?;
-    let (one, report) = three.work(alloc, 0, &board, one, &Limited::new(3));
-    let dry = report.is_dry();
-    let retried = three.retried(alloc, vec![in alloc; report]?)?;
-    let closed = close(alloc, board, one, two)?;
-    assert_eq!(rt; (dry, retried, closed.drawn()), (false, 2, 3));
+    let (retried, closed) = stopped(alloc, &three, 3)?;
+    assert_eq!(rt; (retried, closed.drawn()), (2, 3));
     assert!(rt;
         closed.least(0) == None && closed.least(1) == Some(5) && closed.least(2) == Some(2)
     );
-    Ok(())
-}
-
-#[test]
-fn a_worker_that_stops_at_once_leaves_all_to_try(rt: HostRuntime) -> Result<(), Fail> {
-    let alloc = rt.alloc();
-    let three = Three::new(&rt, alloc)?;
-    let (board, one, two) = shared(alloc)?;
-    let (one, report) = three.work(alloc, 0, &board, one, &Limited::new(0));
-    let retried = three.retried(alloc, vec![in alloc; report]?)?;
-    let closed = close(alloc, board, one, two)?;
+    let (retried, closed) = stopped(alloc, &three, 0)?;
     assert_eq!(rt; (retried, closed.drawn()), (5, 0));
     Ok(())
 }
@@ -264,11 +259,9 @@ fn by_two<R: Threads + Sync, G: Gate + Sync>(
 }
 
 // Twelve pieces and two dry draws. Nothing is left to try, and each loop's word is its interval.
-#[test]
-fn two_threads_leave_nothing_to_try(rt: HostRuntime) -> Result<(), Fail> {
-    let alloc = rt.alloc();
-    let three = Three::new(&rt, alloc)?;
-    let all = by_two(&rt, alloc, &three, &OpenGate)?;
+fn left_nothing(rt: &impl Abort, all: &Together)
+    requires { loops_of all.now.closed ≡ 3 }
+{
     assert!(rt; all.both_dry);
     assert_eq!(rt; (all.lost, all.retried, all.closed.drawn()), (0, 0, 14));
     assert_eq!(rt;
@@ -279,38 +272,20 @@ fn two_threads_leave_nothing_to_try(rt: HostRuntime) -> Result<(), Fail> {
         ),
         (Some(4), Some(5), Some(2))
     );
-    Ok(())
 }
 
+// The gate is called by the number of the worker whose report tells of the piece.
 #[test]
 fn two_threads_of_a_caller_are_at_work_at_once(rt: HostRuntime) -> Result<(), Fail> {
     let alloc = rt.alloc();
     let three = Three::new(&rt, alloc)?;
-    let gate = Meeting::new();
-    let all = by_two(&rt, alloc, &three, &gate)?;
-    assert!(rt; gate.met());
-    assert_eq!(rt;
-        (gate.calls(), all.retried, all.closed.drawn()),
-        (12, 0, 14)
-    );
-    Ok(())
-}
-
-// The gate is called by the number of the worker whose report tells of the piece, once for each piece, and before each draw.
-#[test]
-fn a_gate_is_told_who_came_to_which_piece(rt: HostRuntime) -> Result<(), Fail> {
-    let alloc = rt.alloc();
-    let three = Three::new(&rt, alloc)?;
+    let all = by_two(&rt, alloc, &three, &OpenGate)?;
+    left_nothing(&rt, &all);
     let gate = Roll::new();
     let all = by_two(&rt, alloc, &three, &gate)?;
-    let (first, second) = all.pieces;
-    assert_eq!(rt; (gate.pieces(), gate.strange()), (all.pieces, 0));
-    assert_eq!(rt; first.wrapping_add(second), 0x1111_1111_1111);
-    let draws = (
-        u64::from(first.count_ones()) + 1,
-        u64::from(second.count_ones()) + 1,
-    );
-    assert_eq!(rt; gate.asked(), draws);
+    left_nothing(&rt, &all);
+    assert_eq!(rt; gate.pieces(), all.pieces);
+    came(&rt, &gate, 0x1111_1111_1111);
     Ok(())
 }
 

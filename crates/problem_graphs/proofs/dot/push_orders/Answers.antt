@@ -4,7 +4,7 @@ use Rattle.problems.specs.declared.draft.Order.{Order}
 use Rattle.problems.specs.Drafts.{order_edge}
 use Rattle.problem_graphs.specs.declared.whys.Why.TheVariants as why
 use Rattle.problem_graphs.specs.Dot.{IsBold, arrow_line}
-use Rattle.problem_graphs.proofs.Drawn.{text-next}
+use Rattle.graph_text.proofs.Texts.{text-next}
 use Rattle.problem_graphs.proofs.dot.push_orders.Goals as goal
 
 pub loop-order-preserved : goal.loop-order-preserved

@@ -1,8 +1,8 @@
-use Rattle.std.proofs.Common.{◌≡◌, ℕ, List, ◌++◌, ap, ◌∙◌}
+use Rattle.std.proofs.Common.{rules, ◌≡◌, ℕ, List, ◌++◌, ap, ◌∙◌}
 use Rattle.std.specs.Prelude.{codes}
 use Rattle.std.proofs.lemmas.Result.{on_ok_weaker}
-use Rattle.graph_text.proofs.Texts.{behind}
-use Rattle.writing.specs.Words.{told, told_signed}
+use Rattle.graph_text.specs.Edges.{sums_told}
+use Rattle.writing.proofs.Beginnings.{two_pushed}
 use Rattle.problem_graphs.specs.Edges.{numbered}
 use Rattle.problem_graphs.specs.Whys.{why_text}
 use Rattle.problem_graphs.proofs.edges.push_edge.Goals as goal
@@ -15,20 +15,22 @@ returns c =
     let from : List ℕ = numbered (codes "edge ") draft edge.from in
     let to : List ℕ = numbered (codes " ") draft edge.to in
     let why : List ℕ = why_text draft c.args.why in
-    let sums : List ℕ = told_signed (codes " delay ") edge.delay ++ told (codes " distance ") edge.distance in
+    let sums : List ℕ = sums_told edge.delay edge.distance in
     let one : c.push_numbered.new.text.items ≡ old ++ from
     = c.in_ok-push_numbered.ensures.ok ∙ ap (λ (n : ℕ). old ++ numbered (codes "edge ") draft n) c.from.ensures in
     let two : c.push_numbered-2.new.text.items ≡ old ++ (from ++ to)
-    = behind old from c.push_numbered.new.text.items to c.push_numbered-2.new.text.items one
+    = two_pushed old from to c.push_numbered.new.text.items c.push_numbered-2.new.text.items one
     (c.in_ok-push_numbered-2.ensures.ok ∙ ap (λ (n : ℕ). c.push_numbered.new.text.items ++ numbered (codes " ") draft n) c.from-2.ensures) in
     let word : c.push_why.new.text.items ≡ c.push_numbered-2.new.text.items ++ (codes " " ++ why)
-    = behind c.push_numbered-2.new.text.items (codes " ") c.push_piece.new.self.items why c.push_why.new.text.items c.in_ok-push_piece.ensures.ok c.in_ok-push_why.ensures.ok in
+    = two_pushed c.push_numbered-2.new.text.items (codes " ") why c.push_piece.new.self.items c.push_why.new.text.items c.in_ok-push_piece.ensures.ok c.in_ok-push_why.ensures.ok in
     let three : c.push_why.new.text.items ≡ old ++ ((from ++ to) ++ (codes " " ++ why))
-    = behind old (from ++ to) c.push_numbered-2.new.text.items (codes " " ++ why) c.push_why.new.text.items two word in
+    = two_pushed old (from ++ to) (codes " " ++ why) c.push_numbered-2.new.text.items c.push_why.new.text.items two word in
+    let both : c.push_sums.new.text.items ≡ c.push_why.new.text.items ++ sums
+    = search rules in
     let four : c.push_sums.new.text.items ≡ old ++ (((from ++ to) ++ (codes " " ++ why)) ++ sums)
-    = behind old ((from ++ to) ++ (codes " " ++ why)) c.push_why.new.text.items sums c.push_sums.new.text.items three c.in_ok-push_sums.ensures.ok in
+    = two_pushed old ((from ++ to) ++ (codes " " ++ why)) sums c.push_why.new.text.items c.push_sums.new.text.items three both in
     record {
       ok = on_ok_weaker c.push_piece-2.result
-          (λ last. behind old (((from ++ to) ++ (codes " " ++ why)) ++ sums) c.push_sums.new.text.items (codes "\n") c.push_piece-2.new.self.items four last)
+          (λ last. two_pushed old (((from ++ to) ++ (codes " " ++ why)) ++ sums) (codes "\n") c.push_sums.new.text.items c.push_piece-2.new.self.items four last)
           c.push_piece-2.ensures.ok;
     }

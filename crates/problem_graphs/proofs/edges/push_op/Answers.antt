@@ -2,7 +2,7 @@ use Rattle.std.proofs.Common.{◌≡◌, ℕ, List, ◌++◌, ap, ◌∙◌}
 use Rattle.std.specs.Prelude.{codes, slice_index}
 use Rattle.std.proofs.lemmas.Result.{on_ok_weaker}
 use Rattle.graph.specs.Graphs.{GraphData}
-use Rattle.graph_text.proofs.Texts.{behind}
+use Rattle.writing.proofs.Beginnings.{two_pushed}
 use Rattle.modulo.specs.Problems.{ProblemData as SchedulingData}
 use Rattle.problems.specs.declared.draft.Draft.{Draft}
 use Rattle.writing.specs.Words.{told}
@@ -22,20 +22,20 @@ returns c =
     let one : c.push_numbered.new.text.items ≡ old ++ head
     = c.in_ok-push_numbered.ensures.ok ∙ ap (λ (d : Draft). old ++ numbered (codes "op ") d op) c.draft-draft.ensures.value in
     let named : c.push_kind_name.new.text.items ≡ c.push_numbered.new.text.items ++ (codes " " ++ kind)
-    = behind c.push_numbered.new.text.items (codes " ") c.push_piece.new.self.items kind c.push_kind_name.new.text.items c.in_ok-push_piece.ensures.ok
+    = two_pushed c.push_numbered.new.text.items (codes " ") kind c.push_piece.new.self.items c.push_kind_name.new.text.items c.in_ok-push_piece.ensures.ok
     (c.in_ok-push_kind_name.ensures.ok ∙ ap (λ (d : Draft). c.push_piece.new.self.items ++ kind_name d op) c.draft-draft.ensures.value) in
     let two : c.push_kind_name.new.text.items ≡ old ++ (head ++ (codes " " ++ kind))
-    = behind old head c.push_numbered.new.text.items (codes " " ++ kind) c.push_kind_name.new.text.items one named in
+    = two_pushed old head (codes " " ++ kind) c.push_numbered.new.text.items c.push_kind_name.new.text.items one named in
     let cycles : c.from.result ≡ slice_index p.scheduling.graph.latencies op
     = c.from.ensures ∙ c.latency-latency.ensures.value ∙ ap (λ (g : GraphData). slice_index g.latencies op) c.edges.ensures.value
     ∙ ap (λ (s : SchedulingData). slice_index s.graph.latencies op) c.scheduling.ensures.value in
     let three : c.push_told.new.text.items ≡ old ++ ((head ++ (codes " " ++ kind)) ++ latency)
-    = behind old (head ++ (codes " " ++ kind)) c.push_kind_name.new.text.items latency c.push_told.new.text.items two
+    = two_pushed old (head ++ (codes " " ++ kind)) latency c.push_kind_name.new.text.items c.push_told.new.text.items two
     (c.in_ok-push_told.ensures.ok ∙ ap (λ (n : ℕ). c.push_kind_name.new.text.items ++ told (codes " latency ") n) cycles) in
     let four : c.push_told-2.new.text.items ≡ old ++ (((head ++ (codes " " ++ kind)) ++ latency) ++ height)
-    = behind old ((head ++ (codes " " ++ kind)) ++ latency) c.push_told.new.text.items height c.push_told-2.new.text.items three c.in_ok-push_told-2.ensures.ok in
+    = two_pushed old ((head ++ (codes " " ++ kind)) ++ latency) height c.push_told.new.text.items c.push_told-2.new.text.items three c.in_ok-push_told-2.ensures.ok in
     record {
       ok = on_ok_weaker c.push_piece-2.result
-          (λ last. behind old (((head ++ (codes " " ++ kind)) ++ latency) ++ height) c.push_told-2.new.text.items (codes "\n") c.push_piece-2.new.self.items four last)
+          (λ last. two_pushed old (((head ++ (codes " " ++ kind)) ++ latency) ++ height) (codes "\n") c.push_told-2.new.text.items c.push_piece-2.new.self.items four last)
           c.push_piece-2.ensures.ok;
     }

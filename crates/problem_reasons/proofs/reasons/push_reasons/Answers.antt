@@ -1,5 +1,5 @@
 use Rattle.std.proofs.Common.{ℕ, List, ◌++◌, refl}
-use Rattle.graph_text.proofs.Texts.{behind}
+use Rattle.writing.proofs.Beginnings.{two_pushed}
 use Rattle.problem_graphs.specs.Heads.{problem_line}
 use Rattle.problem_reasons.proofs.reasons.push_reasons.Goals as goal
 
@@ -33,8 +33,8 @@ returns c =
           same_met = c.is_met.ensures;
           is_text = refl;
         },
-        behind old (((line ++ units.0) ++ circuit.0) ++ tries.0) fourth answer.0 new
-            (behind old ((line ++ units.0) ++ circuit.0) third tries.0 fourth
-            (behind old (line ++ units.0) second circuit.0 third (behind old line first units.0 second c.in_ok-push_problem_line.ensures.ok units.2) circuit.2) tries.2) answer.2,
+        two_pushed old (((line ++ units.0) ++ circuit.0) ++ tries.0) answer.0 fourth new
+            (two_pushed old ((line ++ units.0) ++ circuit.0) tries.0 third fourth
+            (two_pushed old (line ++ units.0) circuit.0 second third (two_pushed old line units.0 first second c.in_ok-push_problem_line.ensures.ok units.2) circuit.2) tries.2) answer.2,
       );
     }

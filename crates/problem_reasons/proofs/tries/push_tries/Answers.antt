@@ -1,6 +1,6 @@
 use Rattle.std.proofs.Common.{◌≡◌, ℕ, List, ◌+◌, ◌≤◌, ◌++◌, [], sym, ap, ◌∙◌, subst, arith}
 use Rattle.std.proofs.lemmas.List.{append-nil}
-use Rattle.graph_text.proofs.Texts.{behind}
+use Rattle.writing.proofs.Beginnings.{two_pushed}
 use Rattle.modulo.specs.Problems.{ProblemData as SchedulingData, mii_of}
 use Rattle.modulo.specs.Schedules.{stages_of}
 use Rattle.problems.specs.Problems.{ProblemData}
@@ -33,7 +33,7 @@ returns-in-Met c =
       exact = (
         told.lines ++ end,
         met-tries p c.mii-mii.result at.above at.last s c.hold_of-hold.result told.lines told.risen gives few first told.are_lines c.hold_of-hold.ensures,
-        behind c.args.text.now.items told.lines at.text.items end _ told.is_text
+        two_pushed c.args.text.now.items told.lines end at.text.items _ told.is_text
             (c.in_ok-push_met-in-Met.ensures.ok ∙ ap (λ (k : ℕ). at.text.items ++ (met_line ii k ++ hold_line c.hold_of-hold.result)) c.stages.ensures.value),
       );
     }

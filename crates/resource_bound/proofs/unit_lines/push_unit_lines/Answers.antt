@@ -1,9 +1,7 @@
-use Rattle.std.proofs.Common.{◌≡◌, ◌<◌, ◌≤◌, ℕ, List, ◌++◌, length, get_or, sym, ap, ◌∙◌, arith}
-use Rattle.std.specs.List.{flat_map, range_with_len}
-use Rattle.std.proofs.lemmas.List.{flat_map_more}
+use Rattle.std.proofs.Common.{◌≡◌, ◌<◌, ◌≤◌, List, ◌++◌, length, get_or, ap, ◌∙◌, arith}
 use Rattle.machine_data.specs.declared.alternative.Row.{Row}
 use Rattle.graph.specs.Units.{chosen_rows, greatest_use, operations_of, use_of}
-use Rattle.graph_text.proofs.Texts.{numbers-push}
+use Rattle.graph_text.proofs.Texts.{numbered-more}
 use Rattle.resource_bound.specs.UnitLines.{line_with, unit_line}
 use Rattle.resource_bound.proofs.unit_lines.push_unit_lines.Goals as goal
 
@@ -13,16 +11,14 @@ loop-unit-preserved c =
     let loop = c.args.innermost.now in
     let choices = c.args.choices.now in
     let rows : List Row = chosen_rows (operations_of machine loop) choices in
-    let f : ℕ → List ℕ = unit_line machine loop choices in
     let unit = c.loop-unit.unit in
-    let old = c.args.text.now.items in
     let here = c.loop-unit.text.items in
     let few : length machine.units ≤ 64 = c.units-unit-end.ensures.well_formed.units_few in
     let same = ap length c.units-unit-end.ensures.value in
     let below : unit < 64 = omega arith in
     let uses : get_or c.uses_of-tally.result.counts unit 0 ≡ use_of rows unit = c.uses_of-tally.ensures.each unit below in
     let most : c.uses_of-tally.result.greatest ≡ greatest_use rows = c.uses_of-tally.ensures.most in
-    c.in_ok-push_unit_line.ensures.ok
+    numbered-more (unit_line machine loop choices) c.args.text.now.items here c.push_unit_line.new.text.items unit c.loop-unit.invariant
+    (c.in_ok-push_unit_line.ensures.ok
     ∙ ap (λ n. here ++ line_with machine loop choices unit n c.uses_of-tally.result.greatest) uses
-    ∙ ap (λ n. here ++ line_with machine loop choices unit (use_of rows unit) n) most
-    ∙ ap (λ t. t ++ f unit) c.loop-unit.invariant ∙ flat_map_more f old (range_with_len 0 unit) unit ∙ ap (λ ns. old ++ flat_map f ns) (sym (numbers-push unit))
+    ∙ ap (λ n. here ++ line_with machine loop choices unit (use_of rows unit) n) most)

@@ -1,8 +1,7 @@
-use Rattle.std.proofs.Common.{◌≡◌, ◌<◌, ℕ, List, ◌++◌, length, get_or, sym, ap, ◌∙◌, subst}
-use Rattle.std.specs.List.{All, flat_map, range_with_len}
-use Rattle.std.proofs.lemmas.List.{flat_map_more}
+use Rattle.std.proofs.Common.{◌≡◌, ◌<◌, length, get_or, sym, ap, ◌∙◌, subst}
+use Rattle.std.specs.List.{All}
 use Rattle.loop_data.specs.Loops.{LoopData}
-use Rattle.graph_text.proofs.Texts.{numbers-push}
+use Rattle.graph_text.proofs.Texts.{numbered-more}
 use Rattle.ims.specs.Problems.{ProblemData}
 use Rattle.registers.specs.declared.lifetime.Lifetime.{Lifetime}
 use Rattle.rotating.specs.Crowds.{nobody}
@@ -21,7 +20,5 @@ push_value-requires c =
 
 pub loop-k-preserved : goal.loop-k-preserved
 loop-k-preserved c =
-    let k = c.loop-k.k in
-    let old = c.args.text.now.items in
-    let f : ℕ → List ℕ = λ i. value_line c.innermost-innermost.result.now (get_or c.args.lives.now i nobody) (get_or c.args.numbers.now i 0) in
-    c.in_ok-push_value.ensures.ok ∙ ap (λ t. t ++ f k) c.loop-k.invariant ∙ flat_map_more f old (range_with_len 0 k) k ∙ ap (λ ns. old ++ flat_map f ns) (sym (numbers-push k))
+    numbered-more (λ i. value_line c.innermost-innermost.result.now (get_or c.args.lives.now i nobody) (get_or c.args.numbers.now i 0)) c.args.text.now.items c.loop-k.text.items
+    c.push_value.new.text.items c.loop-k.k c.loop-k.invariant c.in_ok-push_value.ensures.ok

@@ -1,6 +1,7 @@
 use Rattle.std.proofs.Common.{◌+◌, ◌≤◌, ◌++◌, [], sym, ap, ◌∙◌, subst, arith}
 use Rattle.std.proofs.lemmas.List.{append-nil}
-use Rattle.graph_text.proofs.Texts.{behind, texts-none}
+use Rattle.graph_text.proofs.Texts.{texts-none}
+use Rattle.writing.proofs.Beginnings.{two_pushed}
 use Rattle.kernel.specs.declared.kernels.parts.Parts.{Parts}
 use Rattle.candidates.specs.Outcomes.{Gives}
 use Rattle.candidates.proofs.Rising.{risen_none}
@@ -36,7 +37,7 @@ returns-in-Met c =
         told.lines ++ end,
         met-tries p c.mii.result c.loop-above.above c.loop-above.last kernel c.hold_of-hold.result told.lines told.risen
             (subst (Gives p (c.mii.result + c.loop-above.above)) c.in-Met.is c.in_ok-kernel.ensures.exact) few c.mii.ensures.value told.are_lines c.hold_of-hold.ensures,
-        behind c.args.text.now.items told.lines c.loop-above.text.items end _ told.is_text
+        two_pushed c.args.text.now.items told.lines end c.loop-above.text.items _ told.is_text
             (c.in_ok-push_met-in-Met.ensures.ok
             ∙ ap (λ (k : Parts). c.loop-above.text.items ++ (kernel_line (c.mii.result + c.loop-above.above) k.stages ++ hold_line c.hold_of-hold.result)) c.parts.ensures.value),
       );

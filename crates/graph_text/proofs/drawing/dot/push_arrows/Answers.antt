@@ -3,7 +3,8 @@ use Rattle.graph.specs.Dependences.{EdgeData}
 use Rattle.graph_text.specs.Dot.{IsStroke, arrow_line}
 use Rattle.graph_text.specs.declared.drawing.dot.Stroke.{Stroke}
 use Rattle.graph_text.proofs.Drawn.{edge-timed}
-use Rattle.graph_text.proofs.Texts.{behind, texts-more}
+use Rattle.graph_text.proofs.Texts.{texts-more}
+use Rattle.writing.proofs.Beginnings.{two_pushed}
 use Rattle.graph_text.proofs.drawing.dot.push_arrows.Goals as goal
 
 pub kind_of-requires : goal.kind_of-requires
@@ -23,5 +24,5 @@ loop-edge-preserved c =
     = record { kind = c.kind_of.ensures c.args.graph.now.latencies timed; bold = c.is_in.ensures } in (
       c.loop-edge.invariant.0 ++ arrow_line (get_or edges i d) stroke,
       texts-more _ arrow_line edges i d c.loop-edge.invariant.0 stroke c.loop-edge-test.true c.loop-edge.invariant.1 drawn,
-      behind _ _ _ _ _ c.loop-edge.invariant.2 c.in_ok-push_arrow.ensures.ok,
+      two_pushed _ _ _ _ _ c.loop-edge.invariant.2 c.in_ok-push_arrow.ensures.ok,
     )

@@ -2,7 +2,8 @@ use Rattle.std.proofs.Common.{◌++◌, pos, get_or}
 use Rattle.graph.specs.Dependences.{EdgeData}
 use Rattle.graph_text.specs.Edges.{edge_line}
 use Rattle.graph_text.proofs.Drawn.{edge-timed}
-use Rattle.graph_text.proofs.Texts.{behind, texts-more}
+use Rattle.graph_text.proofs.Texts.{texts-more}
+use Rattle.writing.proofs.Beginnings.{two_pushed}
 use Rattle.graph_text.proofs.listing.edges.push_edges.Goals as goal
 
 pub kind_of-requires : goal.kind_of-requires
@@ -20,5 +21,5 @@ loop-edge-preserved c =
       c.loop-edge.invariant.0 ++ edge_line c.args.innermost.now (get_or edges i d) c.kind_of.result,
       texts-more _ (edge_line c.args.innermost.now) edges i d c.loop-edge.invariant.0 c.kind_of.result c.loop-edge-test.true c.loop-edge.invariant.1
           (c.kind_of.ensures c.args.graph.now.latencies timed),
-      behind _ _ _ _ _ c.loop-edge.invariant.2 c.in_ok-push_edge.ensures.ok,
+      two_pushed _ _ _ _ _ c.loop-edge.invariant.2 c.in_ok-push_edge.ensures.ok,
     )

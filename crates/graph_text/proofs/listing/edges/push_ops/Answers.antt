@@ -2,7 +2,8 @@ use Rattle.std.proofs.Common.{◌≡◌, ◌<◌, ◌++◌, length, get_or, sym,
 use Rattle.std.proofs.lemmas.List.{get_or_read}
 use Rattle.graph.specs.Walks.{IsHeight}
 use Rattle.graph_text.specs.Edges.{op_line}
-use Rattle.graph_text.proofs.Texts.{behind, texts-next}
+use Rattle.graph_text.proofs.Texts.{texts-next}
+use Rattle.writing.proofs.Beginnings.{two_pushed}
 use Rattle.graph_text.proofs.listing.edges.push_ops.Goals as goal
 
 pub loop-number-preserved : goal.loop-number-preserved
@@ -18,5 +19,5 @@ loop-number-preserved c =
     = subst (IsHeight graph.edges graph.latencies c.args.interval n) (sym is) (c.in_ok-heights.ensures.exact n within) in (
       c.loop-number.invariant.0 ++ op_line c.args.innermost.now graph.latencies n c.index.result.now,
       texts-next _ (op_line c.args.innermost.now graph.latencies) n c.loop-number.invariant.0 c.index.result.now c.loop-number.invariant.1 right,
-      behind _ _ _ _ _ c.loop-number.invariant.2 c.in_ok-push_op.ensures.ok,
+      two_pushed _ _ _ _ _ c.loop-number.invariant.2 c.in_ok-push_op.ensures.ok,
     )

@@ -6,7 +6,7 @@ use Rattle.graph_text.specs.Faults.{lacking_in}
 use Rattle.graph_text.specs.Texts.{AreTexts, numbers_of}
 use Rattle.graph_text.specs.declared.measuring.Measured.{Measured}
 use Rattle.graph_text.proofs.Lacking.{answered, complete}
-use Rattle.graph_text.proofs.Texts.{behind}
+use Rattle.writing.proofs.Beginnings.{two_pushed}
 use Rattle.graph_text.proofs.listing.edges.push_part.Goals as goal
 
 pub push_ops-requires-clause-fits : goal.push_ops-requires-clause-fits
@@ -42,7 +42,7 @@ returns c =
         are_edge_lines = edges.1;
         is_text = refl;
       },
-      behind old (head ++ ops.0) c.push_ops.new.text.items edges.0 c.push_edges.new.text.items
-          (behind old head c.push_bounds_line.new.text.items ops.0 c.push_ops.new.text.items c.in_ok-push_bounds_line.ensures.ok ops.2) edges.2,
+      two_pushed old (head ++ ops.0) edges.0 c.push_ops.new.text.items c.push_edges.new.text.items
+          (two_pushed old head ops.0 c.push_bounds_line.new.text.items c.push_ops.new.text.items c.in_ok-push_bounds_line.ensures.ok ops.2) edges.2,
     ) in
     record { exact = complete (lacking_in machine loop) _ tt answer.0 part }

@@ -1,4 +1,5 @@
-use Rattle.std.proofs.Common.{◌≡◌, ◌++◌, length, map, Vec, Global}
+use Rattle.std.proofs.Common.{◌≡◌, ◌++◌, length, map}
+use Rattle.smallvec.specs.SmallVec.{SmallVec}
 use Rattle.problems.specs.declared.draft.Hold.{Hold}
 use Rattle.problem_tables.specs.Data.{hold_in}
 use Rattle.problem_tables.specs.Faults.{alternatives_fault}
@@ -8,7 +9,7 @@ use Rattle.problem_tables.proofs.lines.kinds.take_alternatives.Given as goal
 abbrev pub invariant-loop-holds : goal.invariant-loop-holds
 invariant-loop-holds l = record {
   fault : alternatives_fault l.units 0 l.fn.left ≡ alternatives_fault l.units (length l.alternatives.items) l.left;
-  taken : map (map (hold_in l.units)) l.fn.left ≡ map (λ (rows : Vec Hold Global). rows.items) l.alternatives.items ++ map (map (hold_in l.units)) l.left;
+  taken : map (map (hold_in l.units)) l.fn.left ≡ map (λ (rows : SmallVec Hold). rows.items) l.alternatives.items ++ map (map (hold_in l.units)) l.left;
 }
 
 abbrev pub decreases-loop-holds : goal.decreases-loop-holds

@@ -1,7 +1,6 @@
 use Rattle.std.proofs.Common.{◌≡◌, [], map, take}
 use Rattle.std.specs.List.{slice_index_or}
-use Rattle.problems.specs.Drafts.{alternatives_of}
 use Rattle.problems.proofs.making.tables.operations_of.Given as goal
 
-abbrev pub invariant-loop-kind : goal.invariant-loop-kind
-invariant-loop-kind l = l.operations.items ≡ map (λ kind. slice_index_or (map alternatives_of l.draft.kinds.items) kind []) (take l.kind-index l.draft.operations.items)
+abbrev pub invariant-loop-number : goal.invariant-loop-number
+invariant-loop-number l = l.operations.items ≡ map (λ number. slice_index_or l.tables.lists.items number []) (take l.number-index l.tables.numbers.items)

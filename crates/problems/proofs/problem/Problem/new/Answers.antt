@@ -1,14 +1,14 @@
-use Rattle.std.proofs.Common.{◌≡◌, map, sym, ap, ◌∙◌}
+use Rattle.std.proofs.Common.{◌≡◌, sym, ◌∙◌, subst}
 use Rattle.std.specs.Prelude.{None}
-use Rattle.problems.specs.Drafts.{alternatives_of}
 use Rattle.problems.specs.Faults.{first_fault_of}
+use Rattle.problems.specs.inner.Listed.{AreListed}
 use Rattle.problems.proofs.made.Whole.{is-well_formed, is-problem, is-problem_of}
 use Rattle.problems.proofs.problem.Problem.new.Goals as goal
 
-pub tables_of-requires-clause-kinds : goal.tables_of-requires-clause-kinds
-tables_of-requires-clause-kinds c =
+pub tables_of-requires : goal.tables_of-requires
+tables_of-requires c =
     let none : first_fault_of c.args.draft ≡ None = sym c.in_ok-fault.ensures ∙ c.in_default.is in
-    rw c.as_slice.ensures.value (is-well_formed c.args.draft none).kinds
+    is-well_formed c.args.draft none
 
 pub scheduling_of-requires-clause-well_formed : goal.scheduling_of-requires-clause-well_formed
 scheduling_of-requires-clause-well_formed c =
@@ -17,8 +17,10 @@ scheduling_of-requires-clause-well_formed c =
 
 pub invariant_of-result : goal.invariant_of-result
 invariant_of-result c =
-    let none : first_fault_of c.args.draft ≡ None = sym c.in_ok-fault.ensures ∙ c.in_default.is in
-    (is-problem c.args.draft c.in_ok-scheduling.scheduling none c.in_ok-scheduling.ensures.0, c.in_ok-alternatives.ensures ∙ ap (map alternatives_of) c.as_slice.ensures.value)
+    let none : first_fault_of c.args.draft ≡ None = sym c.in_ok-fault.ensures ∙ c.in_default.is in (
+      is-problem c.args.draft c.in_ok-scheduling.scheduling none c.in_ok-scheduling.ensures.0,
+      subst (AreListed c.in_ok-tables.tables.lists.items c.in_ok-tables.tables.numbers.items) (sym c.in_ok-scheduling.ensures.0.same_operations) c.in_ok-tables.ensures,
+    )
 
 pub returns : goal.returns
 returns c =

@@ -1,7 +1,6 @@
 use Rattle.std.proofs.Common.{◌≡◌, ◌<◌, ◌++◌, ℕ, List, length, sym, ap, ◌∙◌, subst, append_assoc, arith}
 use Rattle.std.specs.List.{All, flat_map, range_with_len}
-use Rattle.std.proofs.lemmas.List.{flat_map_more}
-use Rattle.graph_text.proofs.Texts.{numbers-push}
+use Rattle.graph_text.proofs.Texts.{numbered-more}
 use Rattle.schedule_lines.specs.declared.grids.columns.Column.{Column}
 use Rattle.schedule_lines.specs.Columns.{head_line, row_line}
 use Rattle.schedule_lines.specs.Slots.{rows_in}
@@ -32,11 +31,9 @@ loop-row-preserved c =
     let grid = c.args.grid.now in
     let row = c.loop-row.row in
     let lt : row < schedule.ii = omega (arith, c.loop-row-test.true, c.ii-row-end.ensures.value) in
-    let f : ℕ → List ℕ = row_line machine schedule in
-    let old : List ℕ = c.push_head.new.text.items in
     let here : List ℕ = c.loop-row.text.items in
-    c.in_ok-push_row.ensures.ok ∙ ap (λ t. here ++ t) (row-is machine schedule grid c.requires c.requires.few row lt) ∙ ap (λ t. t ++ f row) c.loop-row.invariant
-    ∙ flat_map_more f old (range_with_len 0 row) row ∙ ap (λ ns. old ++ flat_map f ns) (sym (numbers-push row))
+    numbered-more (row_line machine schedule) c.push_head.new.text.items here c.push_row.new.text.items row c.loop-row.invariant
+    (c.in_ok-push_row.ensures.ok ∙ ap (λ t. here ++ t) (row-is machine schedule grid c.requires c.requires.few row lt))
 
 pub returns : goal.returns
 returns c =

@@ -1,5 +1,0 @@
-//! What is told of loops on machines.
-
-mod explanations;
-mod schedules;
-mod uses;

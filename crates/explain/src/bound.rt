@@ -1,4 +1,0 @@
-//! A critical circuit, as text.
-
-pub(crate) mod circuit;
-pub(crate) mod sums;

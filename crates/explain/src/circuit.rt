@@ -1,0 +1,47 @@
+//! The lines of a circuit that needs the recurrence-constrained lower bound.
+
+ghost use Rattle.std.specs.Prelude.{◌≡◌, ◌++◌, ℕ, List, OnOk};
+ghost use Rattle.std.specs.List.{All};
+ghost use Rattle.loop_data.specs.Loops.{IsLoop};
+ghost use Rattle.graph_text.specs.Edges.{edge_line};
+ghost use Rattle.graph_text.specs.Kinds.{IsOfKind, IsTimed};
+ghost use Rattle.graph_text.specs.Texts.{AreTexts};
+ghost use Rattle.explain.specs.CircuitTexts.{IsCircuitText};
+
+use graph::{Edge, Edges};
+use graph_text::{critical_circuit, kind_of, push_circuit_line, push_edge};
+use ims::Prepared;
+use loop_data::Loop;
+use std::alloc::{AllocError, Global};
+
+/// Appends the lines of the edges of a circuit, in its order.
+fn push_circuit_edges(
+    text: &mut Vec<u8>,
+    innermost: &Loop,
+    _graph: &Edges,
+    circuit: &[Edge],
+) -> Result<(), AllocError>
+    requires whole { IsLoop innermost.now }
+    requires timed { All (IsTimed innermost.now _graph.now.latencies) circuit.now }
+    ensures ok { OnOk result ((lines : List ℕ) × AreTexts (IsOfKind innermost.now _graph.now.latencies) (edge_line innermost.now) circuit.now lines × (text.new.items ≡ text.old.items ++ lines)) }
+{
+    for edge in circuit {
+        push_edge(text, innermost, edge, kind_of(innermost, edge))?;
+    }
+    Ok(())
+}
+
+/// Appends the lines of a circuit that needs the recurrence-constrained lower bound.
+pub(crate) fn push_circuit(
+    alloc: Global,
+    text: &mut Vec<u8>,
+    prepared: &Prepared,
+) -> Result<(), AllocError>
+    ensures ok { OnOk result ((part : List ℕ) × IsCircuitText prepared.now part × (text.new.items ≡ text.old.items ++ part)) }
+{
+    let graph = prepared.edges();
+    let bound = prepared.recurrences();
+    let circuit = critical_circuit(alloc, graph, bound)?;
+    push_circuit_line(text, circuit.as_slice(), bound)?;
+    push_circuit_edges(text, prepared.innermost(), graph, circuit.as_slice())
+}
