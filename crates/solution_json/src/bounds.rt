@@ -8,7 +8,7 @@ ghost use Rattle.solution_json.specs.Parts.{op_names};
 
 use crate::told::told_names;
 use graph::Edge;
-use outcome_text::sums_of;
+use graph_text::sums_of;
 use problems::Draft;
 use serde_json::{Value, json};
 use std::alloc::{AllocError, Global};
