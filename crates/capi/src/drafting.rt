@@ -32,10 +32,7 @@ fn files_of(alloc: Global, files: &[u32]) -> Result<Vec<File>, OutOfMemory>
 }
 
 /// The rows of an alternative.
-fn holds_of(
-    alloc: Global,
-    holds: &[Hold],
-) -> Result<SmallVec<problems::Hold, 2>, OutOfMemory>
+fn holds_of(alloc: Global, holds: &[Hold]) -> Result<SmallVec<problems::Hold, 2>, OutOfMemory>
     ensures { IfOk result (λ v. v.items ≡ map hold_of holds.now) }
 {
     let mut made = SmallVec::with_capacity(alloc, holds.len())?;

@@ -1,14 +1,15 @@
--- Names in buckets: what is met on the way back through one.
-use Rattle.std.proofs.Common.{◌≡◌, ◌≢◌, ℕ, zero, suc, ◌+◌, ◌-◌, ◌<◌, ◌≤◌, true, false, List, [], ◌∷◌, ◌++◌, length, get_or, map, set, take, refl, sym, ap, ◌∙◌, subst, inl, inr, arith, if◌then◌else◌, get_or-set_other, get_or-set_same}
-use Rattle.std.specs.List.{AllPairs}
-use Rattle.std.proofs.lemmas.Bool.{false≢true, false_from_ne_true, cases_lt, cases_eq, or_parts}
-use Rattle.std.proofs.lemmas.List.{get_or_append_left, get_or_default, get_or_push, get_or-map, get_or-replicate, length-append, length-map, take-append-le, take_all}
+-- Names with their numbers, and one name more.
+use Rattle.std.proofs.Common.{◌≡◌, ◌≢◌, ◌⊎◌, ℕ, zero, suc, ◌+◌, ◌-◌, ◌<◌, ◌≤◌, Bool, true, false, cond, List, [], ◌∷◌, ◌++◌, length, get_or, set, take, refl, sym, ap, ◌∙◌, subst, inl, inr, arith, if◌then◌else◌, get_or-set_other, get_or-set_same, Option, Some, None}
+use Rattle.std.specs.List.{slice_index, slice_index_or, AllPairs}
+use Rattle.std.specs.Map.{update}
+use Rattle.std.specs.Str.{bytes_eq}
+use Rattle.std.proofs.lemmas.Bool.{false≢true, false_from_ne_true, cases_lt, cases_eq, cases_Bool, or_parts}
+use Rattle.std.proofs.lemmas.List.{get_or_append_left, get_or_default, get_or_past, get_or_push, get_or-replicate, length-append, length-replicate, take-append-le, take_all}
 use Rattle.std.proofs.lemmas.List.Quantifiers.{all_pairs_push}
 use Rattle.std.proofs.Math.ListN.{replicate}
 use Rattle.machine_data.specs.Opcodes.{same_word}
-use Rattle.problem_tables.specs.declared.names.Place.{Place}
 use Rattle.problem_tables.specs.Names.{index_of, has_name}
-use Rattle.problem_tables.specs.inner.Numbered.{bucket_of, bucket_at, IsLastBelow, AreLinked, AreInBuckets}
+use Rattle.problem_tables.specs.inner.Numbered.{bucket_of, name_at, AreNumbered}
 use Rattle.problem_tables.proofs.Naming.{same_word-here, same_word-yes}
 
 abbrev pub AreDistinct : List (List ℕ) → Type 0
@@ -46,155 +47,124 @@ new-absent (first ∷ names) q absent (suc k) below =
     let parts = or_parts (same_word q first) (has_name names q) absent in
     new-absent names q parts.1 k (omega arith)
 
--- none of the names from a number on
-abbrev pub IsNewFrom : List (List ℕ) → ℕ → List ℕ → Type 0
-IsNewFrom names next q = (k : ℕ) → next ≤ k → k < length names → get_or names k [] ≢ q
-
--- the way back through a bucket, as far as a number
-pub record IsBack (names : List (List ℕ)) (next : ℕ) (q : List ℕ) : Type 0 where
-  pub within : next ≤ length names
-  pub there : 0 < next → bucket_at names (next - 1) ≡ bucket_of q
-  pub new : IsNewFrom names next q
-
-pub back-begins : (names : List (List ℕ)) (before last : List ℕ) (q : List ℕ) → AreLinked names before last → bucket_of q < 256 → IsBack names (get_or last (bucket_of q) 0) q
-back-begins names before last q linked below =
-    let l : IsLastBelow names (bucket_of q) (length names) (get_or last (bucket_of q) 0) = linked.buckets (bucket_of q) below in
-    record {
-      within = l.within;
-      there = l.there;
-      new = λ k past short same. l.no_later k past short (ap bucket_of same);
-    }
-
-pub back-more : (names : List (List ℕ)) (before last : List ℕ) (next : ℕ) (q : List ℕ) → AreLinked names before last → 0 < next → IsBack names next q
-    → get_or names (next - 1) [] ≢ q → IsBack names (get_or before (next - 1) 0) q
-back-more names before last next q linked some back other =
-    let within : next ≤ length names = back.within in
-    let l : IsLastBelow names (bucket_at names (next - 1)) (next - 1) (get_or before (next - 1) 0) = linked.links (next - 1) (omega arith) in
-    let low : get_or before (next - 1) 0 ≤ next - 1 = l.within in
-    record {
-      within = omega arith;
-      there = λ more. l.there more ∙ back.there some;
-      new = λ k past short. elim (cases_lt k (next - 1)) [
-        | inl earlier ↦ λ same. l.no_later k past earlier (ap bucket_of same ∙ sym (back.there some))
-        | inr later ↦ elim (cases_eq k (next - 1)) [
-          | inl here ↦ subst (λ n. get_or names n [] ≢ q) (sym here) other
-          | inr on ↦ back.new k (omega arith) short
-        ]
-      ];
-    }
-
-pub back-ends : (names : List (List ℕ)) (next : ℕ) (q : List ℕ) → next ≤ 0 → IsBack names next q → IsNew names q
-back-ends names next q none back k below = back.new k (omega arith) below
-
-abbrev pub no_last : List ℕ
-no_last = replicate 256 0
+-- a name that is neither the first one of its bucket nor one of the others
+pub new-missed : (names : List (List ℕ)) (firsts : List ℕ) (others : List ℕ → Option ℕ) (q : List ℕ) → AreNumbered names firsts others
+    → (0 < get_or firsts (bucket_of q) 0 → get_or names (get_or firsts (bucket_of q) 0 - 1) [] ≢ q) → others q ≡ None → IsNew names q
+new-missed names firsts others q numbered missed none k below same = elim (numbered.found k below) [
+  | inl first ↦ (let at : get_or firsts (bucket_of q) 0 ≡ k + 1 = ap (λ x. get_or firsts (bucket_of x) 0) (sym same) ∙ first in
+      let here : get_or firsts (bucket_of q) 0 - 1 ≡ k = omega arith in
+      missed (omega arith) (ap (λ n. get_or names n []) here ∙ same))
+  | inr other ↦ (let is : others q ≡ Some k = ap others (sym same) ∙ other in
+      let wrong : None ≡ Some k = sym none ∙ is in
+      cc)
+]
 
 -- no names
-pub linked-none : AreLinked [] [] no_last
-linked-none = record {
-  each = refl;
+abbrev pub no_firsts : List ℕ
+no_firsts = replicate 256 0
+
+pub zero-firsts : (b : ℕ) → get_or no_firsts b 0 ≡ 0
+zero-firsts b = elim (cases_lt b 256) [
+  | inl below ↦ get_or-replicate 256 b 0 0 below
+  | inr past ↦ get_or_past no_firsts b 0 (let long : length no_firsts ≡ 256 = length-replicate {A = ℕ} 256 0 in omega arith)
+]
+
+pub numbered-none : (names : List (List ℕ)) (others : List ℕ → Option ℕ) → names ≡ [] → ((q : List ℕ) → others q ≡ None) → AreNumbered names no_firsts others
+numbered-none names others none empty = subst (λ ns. AreNumbered ns no_firsts others) (sym none) (record {
   distinct = λ i j d less short. absurd (omega arith);
-  buckets = λ b below.
-      let zero : get_or no_last b 0 ≡ 0 = get_or-replicate 256 b 0 0 below in
-      record { within = omega arith; there = λ some. absurd (omega arith); no_later = λ k past short. absurd (omega arith) };
-  links = λ k below. absurd (omega arith);
+  within = λ b. let zero : get_or no_firsts b 0 ≡ 0 = zero-firsts b in omega arith;
+  found = λ k below. absurd (omega arith);
+  known = λ q k is. (let wrong : None ≡ Some k = sym (empty q) ∙ is in cc);
+})
+
+-- one name more: the first one of its bucket
+pub numbered-first : (names : List (List ℕ)) (firsts : List ℕ) (others : List ℕ → Option ℕ) (x : List ℕ) → AreNumbered names firsts others → IsNew names x
+    → length firsts ≡ 256 → bucket_of x < 256 → get_or firsts (bucket_of x) 0 ≡ 0
+    → AreNumbered (names ++ x ∷ []) (set firsts (bucket_of x) (length names + 1)) others
+numbered-first names firsts others x numbered new all below free =
+    let longer : length (names ++ x ∷ []) ≡ length names + 1 = length-append names (x ∷ []) in
+    let here : get_or (set firsts (bucket_of x) (length names + 1)) (bucket_of x) 0 ≡ length names + 1
+    = get_or-set_same firsts (bucket_of x) (length names + 1) 0 (omega arith) in
+    record {
+      distinct = all_pairs_push (λ (a b : List ℕ). a ≢ b) names x numbered.distinct (λ k d short same. new k short (get_or_default names k [] d short ∙ same));
+      within = λ b. elim (cases_eq b (bucket_of x)) [
+        | inl same ↦ subst (λ n. get_or (set firsts (bucket_of x) (length names + 1)) n 0 ≤ length (names ++ x ∷ [])) (sym same) (omega arith)
+        | inr other ↦ (let old : get_or (set firsts (bucket_of x) (length names + 1)) b 0 ≡ get_or firsts b 0 = get_or-set_other firsts (bucket_of x) b (length names + 1) 0 other in
+            let low : get_or firsts b 0 ≤ length names = numbered.within b in
+            omega arith)
+      ];
+      found = λ k within. elim (cases_lt k (length names)) [
+        | inl earlier ↦ subst (λ n. (get_or (set firsts (bucket_of x) (length names + 1)) (bucket_of n) 0 ≡ k + 1) ⊎ (others n ≡ Some k))
+            (sym (get_or_append_left names (x ∷ []) [] k earlier))
+            (elim (numbered.found k earlier) [
+              | inl first ↦ inl (get_or-set_other firsts (bucket_of x) (bucket_of (name_at names k)) (length names + 1) 0
+                  (λ same. absurd (let at : get_or firsts (bucket_of x) 0 ≡ k + 1 = ap (λ n. get_or firsts n 0) (sym same) ∙ first in omega arith)) ∙ first)
+              | inr other ↦ inr other
+            ])
+        | inr after ↦ (let at : k ≡ length names = omega arith in
+            subst (λ n. (get_or (set firsts (bucket_of x) (length names + 1)) (bucket_of n) 0 ≡ k + 1) ⊎ (others n ≡ Some k))
+            (sym (get_or_push names x [] k (sym at))) (inl (here ∙ omega arith)))
+      ];
+      known = λ q k is. (let old = numbered.known q k is in
+          let within : k < length names = old.0 in
+          (omega arith, get_or_append_left names (x ∷ []) [] k within ∙ old.1));
+    }
+
+-- one name more: one of the others
+pub numbered-other : (names : List (List ℕ)) (firsts : List ℕ) (others more : List ℕ → Option ℕ) (x : List ℕ) → AreNumbered names firsts others → IsNew names x
+    → ((q : List ℕ) → more q ≡ update bytes_eq others x (Some (length names)) q) → AreNumbered (names ++ x ∷ []) firsts more
+numbered-other names firsts others more x numbered new is =
+    let longer : length (names ++ x ∷ []) ≡ length names + 1 = length-append names (x ∷ []) in
+    let here : more x ≡ Some (length names) = is x ∙ ap (λ b. cond b (Some (length names)) (others x)) (same_word-here x) in
+    let apart : (q : List ℕ) → q ≢ x → more q ≡ others q = λ q ne. is q ∙ ap (λ b. cond b (Some (length names)) (others q)) (other-word x q ne) in
+    record {
+      distinct = all_pairs_push (λ (a b : List ℕ). a ≢ b) names x numbered.distinct (λ k d short same. new k short (get_or_default names k [] d short ∙ same));
+      within = λ b. (let low : get_or firsts b 0 ≤ length names = numbered.within b in omega arith);
+      found = λ k within. elim (cases_lt k (length names)) [
+        | inl earlier ↦ subst (λ n. (get_or firsts (bucket_of n) 0 ≡ k + 1) ⊎ (more n ≡ Some k)) (sym (get_or_append_left names (x ∷ []) [] k earlier))
+            (elim (numbered.found k earlier) [
+              | inl first ↦ inl first
+              | inr other ↦ inr (apart (name_at names k) (new k earlier) ∙ other)
+            ])
+        | inr after ↦ (let at : k ≡ length names = omega arith in
+            subst (λ n. (get_or firsts (bucket_of n) 0 ≡ k + 1) ⊎ (more n ≡ Some k)) (sym (get_or_push names x [] k (sym at))) (inr (here ∙ ap Some (sym at))))
+      ];
+      known = λ q k told. elim (cases_Bool (same_word x q)) [
+        | inl same ↦ (let at : x ≡ q = same_word-yes x q same in
+            let one : Some (length names) ≡ Some k = sym here ∙ ap more at ∙ told in
+            let number : length names ≡ k = cc in
+            (omega arith, get_or_push names x [] k number ∙ at))
+        | inr other ↦ (let old = numbered.known q k (sym (is q ∙ ap (λ b. cond b (Some (length names)) (others q)) other) ∙ told) in
+            let within : k < length names = old.0 in
+            (omega arith, get_or_append_left names (x ∷ []) [] k within ∙ old.1))
+      ];
+    }
+
+-- the same by another function with the same values
+pub numbered-same : (names : List (List ℕ)) (firsts : List ℕ) (others more : List ℕ → Option ℕ) → ((q : List ℕ) → more q ≡ others q) → AreNumbered names firsts others
+    → AreNumbered names firsts more
+numbered-same names firsts others more same numbered = record {
+  distinct = numbered.distinct;
+  within = numbered.within;
+  found = λ k below. elim (numbered.found k below) [
+    | inl first ↦ inl first
+    | inr other ↦ inr (same (name_at names k) ∙ other)
+  ];
+  known = λ q k is. numbered.known q k (sym (same q) ∙ is);
 }
 
-same-before : (names : List (List ℕ)) (x : List ℕ) (k : ℕ) → k < length names → bucket_at (names ++ x ∷ []) k ≡ bucket_at names k
-same-before names x k below = ap bucket_of (get_or_append_left names (x ∷ []) [] k below)
+-- a name that is not the one that is looked at
+pub other-name : (names : List (List ℕ)) (next : ℕ) (seen bytes q : List ℕ) → 0 < next → next ≤ length names → seen ≡ get_or names (next - 1) seen → bytes ≡ seen
+    → same_word bytes q ≡ false → get_or names (next - 1) [] ≢ q
+other-name names next seen bytes q some within at is differs same =
+    let here : get_or names (next - 1) [] ≡ seen = get_or_default names (next - 1) [] seen (omega arith) ∙ sym at in
+    false≢true (sym differs ∙ subst (λ x. same_word x q ≡ true) (sym same ∙ here ∙ sym is) (same_word-here q))
 
-last-kept : (names : List (List ℕ)) (x : List ℕ) (bucket n last : ℕ) → n ≤ length names → IsLastBelow names bucket n last → IsLastBelow (names ++ x ∷ []) bucket n last
-last-kept names x bucket n last short l =
-    let within : last ≤ n = l.within in
-    record {
-      within = l.within;
-      there = λ some. same-before names x (last - 1) (omega arith) ∙ l.there some;
-      no_later = λ k past below same. l.no_later k past below (sym (same-before names x k (omega arith)) ∙ same);
-    }
-
--- one name more
-pub linked-push : (names : List (List ℕ)) (before last : List ℕ) (x : List ℕ) → AreLinked names before last → IsNew names x → length last ≡ 256 → bucket_of x < 256
-    → AreLinked (names ++ x ∷ []) (before ++ get_or last (bucket_of x) 0 ∷ []) (set last (bucket_of x) (length names + 1))
-linked-push names before last x linked new all below =
-    let n : ℕ = length names in
-    let each : length before ≡ length names = linked.each in
-    let longer : length (names ++ x ∷ []) ≡ length names + 1 = length-append names (x ∷ []) in
-    let more : length (before ++ get_or last (bucket_of x) 0 ∷ []) ≡ length before + 1 = length-append before (get_or last (bucket_of x) 0 ∷ []) in
-    let here : bucket_at (names ++ x ∷ []) (length names) ≡ bucket_of x = ap bucket_of (get_or_push names x [] (length names) refl) in
-    record {
-      each = omega arith;
-      distinct = all_pairs_push (λ (a b : List ℕ). a ≢ b) names x linked.distinct (λ k d short same. new k short (get_or_default names k [] d short ∙ same));
-      buckets = λ b within. elim (cases_eq b (bucket_of x)) [
-        | inl same ↦ (let new : get_or (set last (bucket_of x) (length names + 1)) (bucket_of x) 0 ≡ length names + 1
-            = get_or-set_same last (bucket_of x) (length names + 1) 0 (omega arith) in
-            subst (λ n. IsLastBelow (names ++ x ∷ []) n (length (names ++ x ∷ [])) (get_or (set last (bucket_of x) (length names + 1)) n 0)) (sym same)
-            (record {
-              within = omega arith;
-              there = λ some. subst (λ n. bucket_at (names ++ x ∷ []) n ≡ bucket_of x) (omega arith) here;
-              no_later = λ k past short. absurd (omega arith);
-            }))
-        | inr other ↦ (let old : get_or (set last (bucket_of x) (length names + 1)) b 0 ≡ get_or last b 0
-            = get_or-set_other last (bucket_of x) b (length names + 1) 0 other in
-            let l : IsLastBelow (names ++ x ∷ []) b (length names) (get_or last b 0)
-            = last-kept names x b (length names) (get_or last b 0) (omega arith) (linked.buckets b within) in
-            let low : get_or last b 0 ≤ length names = l.within in
-            subst (IsLastBelow (names ++ x ∷ []) b (length (names ++ x ∷ []))) (sym old)
-            (record {
-              within = omega arith;
-              there = l.there;
-              no_later = λ k past short. elim (cases_lt k (length names)) [
-                | inl earlier ↦ l.no_later k past earlier
-                | inr after ↦ (let at : length names ≡ k = omega arith in
-                    λ same. other (sym same ∙ subst (λ n. bucket_at (names ++ x ∷ []) n ≡ bucket_of x) at here))
-              ];
-            }))
-      ];
-      links = λ k within. elim (cases_lt k (length names)) [
-        | inl earlier ↦ (let old : get_or (before ++ get_or last (bucket_of x) 0 ∷ []) k 0 ≡ get_or before k 0
-            = get_or_append_left before (get_or last (bucket_of x) 0 ∷ []) 0 k (omega arith) in
-            subst (IsLastBelow (names ++ x ∷ []) (bucket_at (names ++ x ∷ []) k) k) (sym old)
-            (subst (λ b. IsLastBelow (names ++ x ∷ []) b k (get_or before k 0)) (sym (same-before names x k earlier))
-            (last-kept names x (bucket_at names k) k (get_or before k 0) (omega arith) (linked.links k earlier))))
-        | inr after ↦ (let at : length names ≡ k = omega arith in
-            let link : get_or (before ++ get_or last (bucket_of x) 0 ∷ []) k 0 ≡ get_or last (bucket_of x) 0
-            = get_or_push before (get_or last (bucket_of x) 0) 0 k (omega arith) in
-            subst (IsLastBelow (names ++ x ∷ []) (bucket_at (names ++ x ∷ []) k) k) (sym link)
-            (subst (λ n. IsLastBelow (names ++ x ∷ []) (bucket_at (names ++ x ∷ []) n) n (get_or last (bucket_of x) 0)) at
-            (subst (λ b. IsLastBelow (names ++ x ∷ []) b (length names) (get_or last (bucket_of x) 0)) (sym here)
-            (last-kept names x (bucket_of x) (length names) (get_or last (bucket_of x) 0) (omega arith) (linked.buckets (bucket_of x) below)))))
-      ];
-    }
-
--- what stands at a number
-pub record NamesAt (names : List (List ℕ)) (before : List ℕ) (k : ℕ) (place : Place) : Type 0 where
-  pub below : k < length names
-  pub name : get_or names k [] ≡ place.name.now
-  pub link : get_or before k 0 ≡ place.before
-  pub back : place.before ≤ k
-  pub distinct : AreDistinct names
-
-pub names-at : (labels names : List (List ℕ)) (places : List Place) (last : List ℕ) (k : ℕ) (place : Place) → AreInBuckets labels places last → labels ≡ names
-    → place ≡ get_or places k place → k < length names → NamesAt names (map (λ (p : Place). p.before) places) k place
-names-at labels names places last k place is view at below =
-    let same : map (λ (p : Place). p.name.now) places ≡ names = is.same ∙ view in
-    let count : length places ≡ length names = sym (length-map places (λ (p : Place). p.name.now)) ∙ ap length same in
-    let short : k < length places = omega arith in
-    let link : get_or (map (λ (p : Place). p.before) places) k 0 ≡ place.before
-    = get_or-map (λ (p : Place). p.before) places k place 0 short ∙ ap (λ (p : Place). p.before) (sym at) in
-    let linked : AreLinked names (map (λ (p : Place). p.before) places) last = subst (λ ns. AreLinked ns (map (λ (p : Place). p.before) places) last) view is.linked in
-    let l : IsLastBelow names (bucket_at names k) k (get_or (map (λ (p : Place). p.before) places) k 0) = linked.links k below in
-    record {
-      below = below;
-      name = ap (λ ns. get_or ns k []) (sym same) ∙ get_or-map (λ (p : Place). p.name.now) places k place [] short ∙ ap (λ (p : Place). p.name.now) (sym at);
-      link = link;
-      back = subst (λ n. n ≤ k) link l.within;
-      distinct = linked.distinct;
-    }
-
-pub in_buckets-none : (names : List (List ℕ)) (places : List Place) → names ≡ [] → places ≡ [] → AreInBuckets names places no_last
-in_buckets-none names places none empty =
-    subst (λ ns. AreInBuckets ns places no_last) (sym none)
-    (subst (λ ps. AreInBuckets [] ps no_last) (sym empty) (record { same = refl; linked = linked-none }))
+pub that-name : (names : List (List ℕ)) (next : ℕ) (seen bytes q : List ℕ) → AreDistinct names → 0 < next → next ≤ length names → seen ≡ get_or names (next - 1) seen
+    → bytes ≡ seen → same_word bytes q ≡ true → index_of names q ≡ next - 1
+that-name names next seen bytes q apart some within at is equal =
+    let here : get_or names (next - 1) [] ≡ seen = get_or_default names (next - 1) [] seen (omega arith) ∙ sym at in
+    index-at names (next - 1) q apart (omega arith) (here ∙ sym is ∙ same_word-yes bytes q equal)
 
 -- a list without the last item that was pushed
 pub pop-push : {X : Type 0} (xs : List X) (x : X) (ys : List X) (n : ℕ) → ys ≡ xs ++ x ∷ [] → n ≡ length ys → take (n - 1) ys ≡ xs

@@ -7,39 +7,32 @@ ghost use Rattle.problem_tables.specs.inner.Numbered.{bucket_of};
 use problem_lines::Word;
 use problems::Label;
 use std::alloc::{AllocError, Global};
+use std::collections::BTreeMap;
 use std::marker::Model;
 use std::mem;
 
-/// Buckets of the names of one list.
+/// Buckets for the names of one list.
 const BUCKETS: usize = 256;
 
-/// A name where the text has it.
-#[derive(Clone, Copy)]
-pub(crate) struct Place<'a> {
-    name: &'a [u8],
-    /// One more than the number of the name before it in the same bucket, or 0.
-    before: usize,
-}
-
-/// Names in order, each with its number, from 0. Those of a bucket lead from one to the one before, so that a look-up compares
-/// few of them; most lists have at most 256, so that no choice of names makes it long. Contracts see the list of them.
+/// Names in order, each with its number, from 0. The first name of a bucket is found there. The others stand in a map by their
+/// order, so that no choice of names makes a look-up long. Contracts see the list of them.
 #[derive(Drop)]
 pub(crate) struct Names<'a> {
     labels: Vec<Label>,
-    places: Vec<Place<'a>>,
-    /// Of each bucket one more than the number of its last name, or 0.
-    last: [usize; BUCKETS],
+    /// Of each bucket one more than the number of its first name, or 0.
+    firsts: [usize; BUCKETS],
+    others: BTreeMap<&'a [u8], usize>,
 }
 
 impl<'a> Model for Names<'a> {
     ghost use Rattle.std.specs.Prelude.{ℕ, List};
-    ghost use Rattle.problem_tables.specs.inner.Numbered.{AreInBuckets};
+    ghost use Rattle.problem_tables.specs.inner.Numbered.{AreNumbered, number_in};
 
     ghost Value = { List (List ℕ) };
 
     ghost view = { λ n. n.labels.items };
 
-    ghost invariant = { λ n. AreInBuckets n.labels.items n.places.items n.last };
+    ghost invariant = { λ n. AreNumbered n.labels.items n.firsts (number_in n.others) };
 }
 
 /// The bucket of a name.
@@ -59,8 +52,8 @@ impl<'a> Names<'a> {
     {
         Names {
             labels: Vec::new(alloc),
-            places: Vec::new(alloc),
-            last: [0; BUCKETS],
+            firsts: [0; BUCKETS],
+            others: BTreeMap::new(alloc),
         }
     }
 
@@ -82,15 +75,14 @@ impl<'a> Names<'a> {
     pub(crate) fn index(&self, name: &[u8]) -> usize
         ensures { result ≡ index_of self.now name.now }
     {
-        let mut next = self.last[usize::from(bucket_of(name))];
-        while next > 0 {
-            let place = self.places[next - 1];
-            if place.name == name {
-                return next - 1;
-            }
-            next = place.before;
+        let first = self.firsts[usize::from(bucket_of(name))];
+        if first > 0 && self.labels[first - 1].as_str().as_bytes() == name {
+            return first - 1;
         }
-        self.len()
+        match self.others.get(name) {
+            Some(number) => *number,
+            None => self.labels.len(),
+        }
     }
 
     /// The last name.
@@ -107,16 +99,14 @@ impl<'a> Names<'a> {
         ensures { OnOk result (self.new ≡ self.old ++ name.entry.bytes.now ∷ []) }
     {
         let bucket = usize::from(bucket_of(name.bytes));
-        let place = Place {
-            name: name.bytes,
-            before: self.last[bucket],
-        };
+        let number = self.labels.len();
         self.labels.push(name.label())?;
-        match self.places.push(place) {
-            Ok(()) => {
-                self.last[bucket] = self.labels.len();
-                Ok(())
-            }
+        if self.firsts[bucket] == 0 {
+            self.firsts[bucket] = number + 1;
+            return Ok(());
+        }
+        match self.others.insert(name.bytes, number) {
+            Ok(_) => Ok(()),
             Err(failed) => {
                 self.labels.pop();
                 Err(AllocError::from(failed))
@@ -129,8 +119,8 @@ impl<'a> Names<'a> {
         ensures names { result.items ≡ self.old }
         ensures empty { self.new ≡ [] }
     {
-        self.places.clear();
-        self.last = [0; BUCKETS];
+        self.firsts = [0; BUCKETS];
+        self.others.clear();
         mem::replace(&mut self.labels, Vec::new(alloc))
     }
 }

@@ -23,7 +23,9 @@ fn main(rt: HostRuntime) -> ExitCode {
 }
 
 /// Reads the command line and carries it out.
-fn run<R: AllocGlobal + Env + Files + Input + Print + Threads + Sync>(rt: &R) -> Result<Status, Usage>
+fn run<R: AllocGlobal + Env + Files + Input + Print + Threads + Sync>(
+    rt: &R,
+) -> Result<Status, Usage>
     ensures { IfErr result IsNoRequest }
 {
     let given = words(rt)?;
@@ -62,7 +64,10 @@ fn answer<R: AllocGlobal + Files + Input + Print + Threads + Sync>(
 }
 
 /// Does the work of a command over its files and the standard output.
-fn work<R: AllocGlobal + Files + Input + Print + Threads + Sync>(rt: &R, command: &Command) -> Status {
+fn work<R: AllocGlobal + Files + Input + Print + Threads + Sync>(
+    rt: &R,
+    command: &Command,
+) -> Status {
     let (mut first, mut last) = files(rt, command);
     let mut output = StandardOutput::new(rt);
     engine(rt, rt.alloc(), command, &mut first, &mut last, &mut output)
@@ -70,7 +75,10 @@ fn work<R: AllocGlobal + Files + Input + Print + Threads + Sync>(rt: &R, command
 
 /// The file that a command reads first and the one that it reads last, each of which may be the standard input. Nothing is
 /// opened yet: a file is opened where it is first read, so that the first one only for a command that reads two.
-fn files<'a, R: Files + Input>(rt: &'a R, command: &'a Command) -> (FileInput<'a, R>, FileInput<'a, R>)
+fn files<'a, R: Files + Input>(
+    rt: &'a R,
+    command: &'a Command,
+) -> (FileInput<'a, R>, FileInput<'a, R>)
     ensures first { result.0 ≡ (first_file command.entry.now, 0) }
     ensures last { result.1 ≡ (last_path command.entry.now, 0) }
 {

@@ -41,7 +41,11 @@ fn last_culprit(alloc: Global, problem: &Problem) -> Result<Option<Culprit>, Out
 ///
 /// # Errors
 /// [`OutOfMemory`] where memory ran out.
-pub fn evidence(alloc: Global, problem: &Problem, cause: Cause) -> Result<Option<Culprit>, OutOfMemory>
+pub fn evidence(
+    alloc: Global,
+    problem: &Problem,
+    cause: Cause,
+) -> Result<Option<Culprit>, OutOfMemory>
     requires { FailsBy problem.now (last_of problem.now) cause }
     ensures { IfOk result (IsEvidence problem.now cause) }
 {

@@ -1,30 +1,26 @@
--- Names in buckets, those of each bucket leading from one to the one before.
-use Rattle.std.specs.Prelude.{◌≡◌, ◌≢◌, ℕ, ◌+◌, ◌-◌, ◌*◌, ◌%◌, ◌<◌, ◌≤◌, List, [], length, fold, map, slice_index}
+-- Names with their numbers: the first one of each bucket, and a map of the others.
+use Rattle.std.specs.Prelude.{◌≡◌, ◌≢◌, ◌⊎◌, ℕ, ◌+◌, ◌*◌, ◌%◌, ◌<◌, ◌≤◌, List, [], length, fold, slice_index, Option, Some}
+use Rattle.std.specs.Borrow.{Bor}
+use Rattle.std.specs.BTreeMap.{BTreeMap, get_by}
+use Rattle.std.specs.Cmp.Lexicographic.{slice_cmp}
 use Rattle.std.specs.List.{slice_index_or, AllPairs}
-use Rattle.problem_tables.specs.declared.names.Place.{Place}
+use Rattle.std.specs.Ordering.{nat_cmp}
 
 -- the bucket of a name
 abbrev pub bucket_of : List ℕ → ℕ
 bucket_of name = fold (λ (bucket byte : ℕ). ((bucket * 31) % 256 + byte) % 256) 0 name
 
--- the bucket of the name with this number
-abbrev pub bucket_at : List (List ℕ) → ℕ → ℕ
-bucket_at names k = bucket_of (slice_index_or names k [])
+-- what a map has at a name
+abbrev pub number_in : BTreeMap (Bor (List ℕ)) ℕ → List ℕ → Option ℕ
+number_in numbers q = get_by (λ k. slice_cmp nat_cmp q k.now) numbers
 
--- one more than the number of the last name of a bucket below n, or 0
-pub record IsLastBelow (names : List (List ℕ)) (bucket n last : ℕ) : Type 0 where
-  pub within : last ≤ n
-  pub there : 0 < last → bucket_at names (last - 1) ≡ bucket
-  pub no_later : (k : ℕ) → last ≤ k → k < n → bucket_at names k ≢ bucket
+-- the name with this number
+abbrev pub name_at : List (List ℕ) → ℕ → List ℕ
+name_at names k = slice_index_or names k []
 
--- each name leads to the one before it in its bucket, and each bucket to its last name
-pub record AreLinked (names : List (List ℕ)) (before last : List ℕ) : Type 0 where
-  pub each : length before ≡ length names
+-- each name is the first one of its bucket or one of the others
+pub record AreNumbered (names : List (List ℕ)) (firsts : List ℕ) (others : List ℕ → Option ℕ) : Type 0 where
   pub distinct : AllPairs (λ (a b : List ℕ). a ≢ b) names
-  pub buckets : (b : ℕ) → b < 256 → IsLastBelow names b (length names) (slice_index last b)
-  pub links : (k : ℕ) → k < length names → IsLastBelow names (bucket_at names k) k (slice_index before k)
-
--- the names of a list with their places
-pub record AreInBuckets (names : List (List ℕ)) (places : List Place) (last : List ℕ) : Type 0 where
-  pub same : map (λ (p : Place). p.name.now) places ≡ names
-  pub linked : AreLinked names (map (λ (p : Place). p.before) places) last
+  pub within : (b : ℕ) → slice_index firsts b ≤ length names
+  pub found : (k : ℕ) → k < length names → (slice_index firsts (bucket_of (name_at names k)) ≡ k + 1) ⊎ (others (name_at names k) ≡ Some k)
+  pub known : (q : List ℕ) (k : ℕ) → others q ≡ Some k → (k < length names) × (name_at names k ≡ q)

@@ -1,53 +1,39 @@
-use Rattle.std.proofs.Common.{rules, ◌≡◌, ◌-◌, ◌<◌, ◌≤◌, true, length, get_or, map, subst, sym, ◌∙◌, arith}
-use Rattle.std.proofs.lemmas.Bool.{false≢true}
+use Rattle.std.proofs.Common.{rules, ◌≡◌, ◌≢◌, ℕ, ◌-◌, ◌<◌, ◌≤◌, false, List, [], length, get_or, subst, sym, ap, ◌∙◌, arith, Option, Some, None}
 use Rattle.machine_data.specs.Opcodes.{same_word}
-use Rattle.problem_tables.specs.declared.names.Place.{Place}
-use Rattle.problem_tables.specs.inner.Numbered.{AreLinked, bucket_of}
-use Rattle.problem_tables.proofs.Buckets.{IsBack, NamesAt, names-at, back-begins, back-more, back-ends, index-at, index-new}
-use Rattle.problem_tables.proofs.Naming.{same_word-here, same_word-yes}
+use Rattle.problem_tables.specs.Names.{index_of}
+use Rattle.problem_tables.specs.inner.Numbered.{AreNumbered, bucket_of, number_in}
+use Rattle.problem_tables.proofs.Buckets.{index-at, index-new, new-missed, other-name, that-name}
 use Rattle.problem_tables.proofs.names.Names.index.Goals as goal
-
-pub loop-next-init : goal.loop-next-init
-loop-next-init c =
-    let spot : c.from.result ≡ bucket_of c.args.name.now = c.from.ensures ∙ c.bucket_of.ensures in
-    let linked : AreLinked c.args.self.now (map (λ (p : Place). p.before) c.self.inside.places.items) c.self.inside.last
-    = subst (λ ns. AreLinked ns (map (λ (p : Place). p.before) c.self.inside.places.items) c.self.inside.last) c.self.view_is c.self.invariant.linked in
-    subst (λ n. IsBack c.args.self.now (get_or c.self.inside.last n 0) c.args.name.now) (sym spot)
-    (back-begins c.args.self.now (map (λ (p : Place). p.before) c.self.inside.places.items) c.self.inside.last c.args.name.now linked
-    (subst (λ n. n < 256) c.bucket_of.ensures c.bucket_of.type_inv))
+use Rattle.problem_tables.proofs.names.Names.index.Goals.{else-first-gt0-via-then-first-gt0+else-eq, else-first-gt0-via-else-first-gt0}
 
 pub returns-then-eq : goal.returns-then-eq
 returns-then-eq c =
-    let at : NamesAt c.args.self.now (map (λ (p : Place). p.before) c.self.inside.places.items) (c.loop-next.next - 1) c.index.result.now
-    = names-at c.self.inside.labels.items c.args.self.now c.self.inside.places.items c.self.inside.last (c.loop-next.next - 1) c.index.result.now c.self.invariant c.self.view_is
-    c.index.ensures (let some : 0 < c.loop-next.next = c.loop-next-test.true in let within : c.loop-next.next ≤ length c.args.self.now = c.loop-next.invariant.within in omega arith) in
-    let same : c.index.result.now.name.now ≡ c.args.name.now = same_word-yes c.index.result.now.name.now c.args.name.now (sym c.eq.ensures ∙ c.if-eq.true) in
-    sym (index-at c.args.self.now (c.loop-next.next - 1) c.args.name.now at.distinct at.below (at.name ∙ same))
+    let names : List (List ℕ) = c.self.inside.labels.items in
+    let q : List ℕ = c.args.name.now in
+    let within : get_or c.self.inside.firsts c.from.result 0 ≤ length names = c.self.invariant.within c.from.result in
+    sym (that-name names (get_or c.self.inside.firsts c.from.result 0) c.index.result.now c.as_bytes.result.now q c.self.invariant.distinct c.if-first-gt0.true within c.index.ensures
+    (cc) (sym c.eq.ensures ∙ c.if-eq.true)) ∙ ap (λ ns. index_of ns q) c.self.view_is
 
-pub loop-next-preserved : goal.loop-next-preserved
-loop-next-preserved c =
-    let at : NamesAt c.args.self.now (map (λ (p : Place). p.before) c.self.inside.places.items) (c.loop-next.next - 1) c.index.result.now
-    = names-at c.self.inside.labels.items c.args.self.now c.self.inside.places.items c.self.inside.last (c.loop-next.next - 1) c.index.result.now c.self.invariant c.self.view_is
-    c.index.ensures (let some : 0 < c.loop-next.next = c.loop-next-test.true in let within : c.loop-next.next ≤ length c.args.self.now = c.loop-next.invariant.within in omega arith) in
-    let linked : AreLinked c.args.self.now (map (λ (p : Place). p.before) c.self.inside.places.items) c.self.inside.last
-    = subst (λ ns. AreLinked ns (map (λ (p : Place). p.before) c.self.inside.places.items) c.self.inside.last) c.self.view_is c.self.invariant.linked in
-    subst (λ n. IsBack c.args.self.now n c.args.name.now) at.link
-    (back-more c.args.self.now (map (λ (p : Place). p.before) c.self.inside.places.items) c.self.inside.last c.loop-next.next c.args.name.now linked c.loop-next-test.true
-    c.loop-next.invariant
-    (λ is. false≢true (sym c.if-eq.false ∙ c.eq.ensures ∙ subst (λ x. same_word x c.args.name.now ≡ true) (sym (sym at.name ∙ is)) (same_word-here c.args.name.now))))
+pub returns-in-None : goal.returns-in-None
+returns-in-None c =
+    let names : List (List ℕ) = c.self.inside.labels.items in
+    let q : List ℕ = c.args.name.now in
+    let size : c.len.result ≡ length names = search rules in
+    let spot : c.from.result ≡ bucket_of q = c.from.ensures ∙ c.bucket_of.ensures in
+    let within : get_or c.self.inside.firsts c.from.result 0 ≤ length names = c.self.invariant.within c.from.result in
+    let none : number_in c.self.inside.others q ≡ None = sym c.in-None.ensures.value in
+    let missed : 0 < get_or c.self.inside.firsts c.from.result 0 → get_or names (get_or c.self.inside.firsts c.from.result 0 - 1) [] ≢ q = elim c.else-first-gt0.branch [
+      | else-first-gt0-via-then-first-gt0+else-eq w ↦ λ some. other-name names (get_or c.self.inside.firsts c.from.result 0) w.index.result.now w.as_bytes.result.now q some within w.index.ensures
+          (cc) (sym w.eq.ensures ∙ w.if-eq.false)
+      | else-first-gt0-via-else-first-gt0 w ↦ λ some. absurd (let none : get_or c.self.inside.firsts c.from.result 0 ≤ 0 = w.if-first-gt0.false in omega arith)
+    ] in
+    size ∙ sym (index-new names q (new-missed names c.self.inside.firsts (number_in c.self.inside.others) q c.self.invariant
+    (subst (λ n. 0 < get_or c.self.inside.firsts n 0 → get_or names (get_or c.self.inside.firsts n 0 - 1) [] ≢ q) spot missed) none)) ∙ ap (λ ns. index_of ns q) c.self.view_is
 
-pub loop-next-smaller : goal.loop-next-smaller
-loop-next-smaller c =
-    let some : 0 < c.loop-next.next = c.loop-next-test.true in
-    let within : c.loop-next.next ≤ length c.args.self.now = c.loop-next.invariant.within in
-    let at : NamesAt c.args.self.now (map (λ (p : Place). p.before) c.self.inside.places.items) (c.loop-next.next - 1) c.index.result.now
-    = names-at c.self.inside.labels.items c.args.self.now c.self.inside.places.items c.self.inside.last (c.loop-next.next - 1) c.index.result.now c.self.invariant c.self.view_is
-    c.index.ensures (omega arith) in
-    let less : c.index.result.now.before ≤ c.loop-next.next - 1 = at.back in
-    omega arith
-
-pub returns : goal.returns
-returns c =
-    let none : c.loop-next.next ≤ 0 = c.loop-next-test.false in
-    let size : c.len.result ≡ length c.args.self.now = search rules in
-    size ∙ sym (index-new c.args.self.now c.args.name.now (back-ends c.args.self.now c.loop-next.next c.args.name.now none c.loop-next.invariant))
+pub returns-in-Some : goal.returns-in-Some
+returns-in-Some c =
+    let names : List (List ℕ) = c.self.inside.labels.items in
+    let q : List ℕ = c.args.name.now in
+    let is : number_in c.self.inside.others q ≡ Some c.in-Some.number.now = sym c.in-Some.ensures.value in
+    let known = c.self.invariant.known q c.in-Some.number.now is in
+    sym (index-at names c.in-Some.number.now q c.self.invariant.distinct known.0 known.1) ∙ ap (λ ns. index_of ns q) c.self.view_is
