@@ -32,9 +32,9 @@ use Rattle.solution_text.specs.Values.{file_of}
 use Rattle.solution_json.specs.Bounds.{circuit_value}
 use Rattle.solution_json.specs.Failures.{culprit_object, culprit_value, found_value}
 use Rattle.solution_json.specs.Operations.{hold_object, operation_object, registers_read, registers_written}
-use Rattle.solution_json.specs.Outcomes.{IsObjectOf, failed_object, met_object}
+use Rattle.solution_json.specs.Outcomes.{IsObjectOf, failed_object, head_members, met_object}
 use Rattle.solution_json.specs.Parts.{array_of, count_value, op_names, register_object, unit_names}
-use Rattle.solution_json.specs.Solutions.{solution_object, unroll_value}
+use Rattle.solution_json.specs.Solutions.{solution_object}
 use Rattle.solution_json.specs.Values.{copies_value, file_object, initial_at, initial_object, initials, initials_of, number_value, size_value, value_object}
 
 -- a value, or each of some, has whole numbers alone
@@ -157,13 +157,13 @@ unit_names-whole : (draft : Draft) (units : List ℕ) → IsWhole (unit_names dr
 unit_names-whole draft units = array-whole (λ unit. string (unit_name draft unit)) units (λ _. refl)
 
 met-whole : (name : List ℕ) (problem : ProblemData) (circuit : List EdgeData) (units : List ℕ) (s : SolutionData) → IsWhole (met_object name problem circuit units s)
-unfolding met_object
+unfolding met_object head_members
 met-whole name problem circuit units s =
     neither _ _ (circuit-whole problem.draft circuit) (neither _ _ (unit_names-whole problem.draft units) (neither _ _ (solution-whole s) refl))
 
 failed-whole : (name : List ℕ) (problem : ProblemData) (circuit : List EdgeData) (units : List ℕ) (cause : Cause) (found : Option Culprit)
     → IsWhole (failed_object name problem circuit units cause found)
-unfolding failed_object
+unfolding failed_object head_members
 failed-whole name problem circuit units cause found =
     neither _ _ (circuit-whole problem.draft circuit) (neither _ _ (culprit-whole problem.draft cause found) (neither _ _ (unit_names-whole problem.draft units) refl))
 

@@ -1,6 +1,6 @@
 -- What a problem comes to, as JSON.
 use Rattle.std.specs.Prelude.{◌≡◌, ℕ, codes, Bool, List, length, Option}
-use Rattle.serde_json.specs.Data.{Data, string, object, member, no_members}
+use Rattle.serde_json.specs.Data.{Data, Members, string, object, member, no_members, put}
 use Rattle.serde_json.specs.Written.{compact_text}
 use Rattle.graph.specs.Dependences.{EdgeData}
 use Rattle.modulo.specs.declared.outcome.attempts.Culprit.{Culprit}
@@ -20,32 +20,28 @@ use Rattle.solution_json.specs.Failures.{cause_word, culprit_value}
 use Rattle.solution_json.specs.Parts.{count_value, unit_names}
 use Rattle.solution_json.specs.Solutions.{solution_object}
 
--- a problem that is solved: its name, how many operations there are, the two lower bounds of the interval and the greater one, what
--- the two are due to, and the solution
-unfoldable pub met_object : List ℕ → ProblemData → List EdgeData → List ℕ → SolutionData → Data
-met_object name problem circuit units s =
-    object (member (codes "circuit") (circuit_value problem.draft circuit)
+-- what is told of each problem: its name, how many operations there are, the two lower bounds of the interval and the greater one, and
+-- what the two are due to
+unfoldable pub head_members : List ℕ → ProblemData → List EdgeData → List ℕ → Members
+head_members name problem circuit units =
+    member (codes "circuit") (circuit_value problem.draft circuit)
     (member (codes "full") (unit_names problem.draft units)
     (member (codes "mii") (count_value (mii_of problem.scheduling))
     (member (codes "name") (string name)
     (member (codes "operations") (count_value (length problem.scheduling.operations))
     (member (codes "recurrences") (count_value problem.scheduling.recurrences)
-    (member (codes "resources") (count_value problem.scheduling.resources)
-    (member (codes "solution") (solution_object s) no_members))))))))
+    (member (codes "resources") (count_value problem.scheduling.resources) no_members))))))
 
--- a problem that has no solution: the same of its bounds, the last interval that is tried, and why it gives none
+-- a problem that is solved: the solution besides
+unfoldable pub met_object : List ℕ → ProblemData → List EdgeData → List ℕ → SolutionData → Data
+met_object name problem circuit units s = object (put (codes "solution") (solution_object s) (head_members name problem circuit units))
+
+-- a problem that has no solution: the last interval that is tried, and why it gives none
 unfoldable pub failed_object : List ℕ → ProblemData → List EdgeData → List ℕ → Cause → Option Culprit → Data
 failed_object name problem circuit units cause found =
-    object (member (codes "cause") (string (cause_word cause))
-    (member (codes "circuit") (circuit_value problem.draft circuit)
-    (member (codes "culprit") (culprit_value problem.draft cause found)
-    (member (codes "failed_to") (count_value (last_of problem))
-    (member (codes "full") (unit_names problem.draft units)
-    (member (codes "mii") (count_value (mii_of problem.scheduling))
-    (member (codes "name") (string name)
-    (member (codes "operations") (count_value (length problem.scheduling.operations))
-    (member (codes "recurrences") (count_value problem.scheduling.recurrences)
-    (member (codes "resources") (count_value problem.scheduling.resources) no_members))))))))))
+    object (put (codes "culprit") (culprit_value problem.draft cause found)
+    (put (codes "cause") (string (cause_word cause))
+    (put (codes "failed_to") (count_value (last_of problem)) (head_members name problem circuit units))))
 
 -- what is told of an outcome of a problem; of one that has no solution with the culprits of the cause
 abbrev pub IsObjectOf : List ℕ → ProblemData → List EdgeData → List ℕ → Outcome → Data → Type 0

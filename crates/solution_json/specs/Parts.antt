@@ -1,6 +1,6 @@
 -- What the parts of a problem are told by as JSON: counts, names and registers, and lists of them.
-use Rattle.std.specs.Prelude.{ℕ, codes, List, map, Option, Some, None}
-use Rattle.serde_json.specs.Data.{Data, null, number, string, array, object, unsigned, member, no_members}
+use Rattle.std.specs.Prelude.{ℕ, codes, List, map}
+use Rattle.serde_json.specs.Data.{Data, number, string, array, object, unsigned, member, no_members}
 use Rattle.serde_json.specs.View.{items_of}
 use Rattle.problems.specs.declared.draft.Draft.{Draft}
 use Rattle.solution_text.specs.declared.named.Register.{Register}

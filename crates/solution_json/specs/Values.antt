@@ -1,5 +1,5 @@
 -- The values of a solution, its register files, and the registers that hold values of before the first iteration, as JSON.
-use Rattle.std.specs.Prelude.{ℕ, ◌+◌, codes, List, length, map, Option, Some, None, option_map, slice_get, slice_index}
+use Rattle.std.specs.Prelude.{ℕ, ◌+◌, codes, List, length, Option, Some, None, option_map, slice_get, slice_index}
 use Rattle.std.specs.List.{filter_map, flat_map, range_with_len}
 use Rattle.serde_json.specs.Data.{Data, null, string, object, member, no_members}
 use Rattle.instances.specs.Runs.{carried_by}

@@ -5,6 +5,7 @@
 mod bounds;
 mod failures;
 mod initials;
+mod members;
 mod named;
 mod operations;
 mod outcome;

@@ -2,14 +2,15 @@
 
 ghost use Rattle.std.specs.Prelude.{◌≡◌, ◌≤◌, ◌++◌, ℕ, List, false, length, IfOk, OnOk};
 ghost use Rattle.std.specs.Option.{option_copied};
-ghost use Rattle.serde_json.specs.View.{view};
+ghost use Rattle.serde_json.specs.View.{members_view, view};
 ghost use Rattle.serde_json.specs.Written.{compact_text, has_float};
 ghost use Rattle.solutions.specs.Outcomes.{FailsBy, IsSolved, last_of};
 ghost use Rattle.solutions.specs.declared.solving.outcome.Outcome.TheVariants.{Failed};
-ghost use Rattle.solution_json.specs.Outcomes.{IsObjectOf, IsOutcomeJson, IsTold, failed_object, met_object};
+ghost use Rattle.solution_json.specs.Outcomes.{IsObjectOf, IsOutcomeJson, IsTold, failed_object, head_members, met_object};
 
 use crate::bounds::told_circuit;
 use crate::failures::{cause_word, told_evidence};
+use crate::members::{object_of, with};
 use crate::solved::told_solution;
 use crate::told::told_names;
 use graph::Edge;
@@ -17,13 +18,40 @@ use machine_data::OutOfMemory;
 use modulo::Culprit;
 use outcome_text::{circuit_of, fullest_of, is_met};
 use problems::Problem;
-use serde_json::{Value, json};
+use serde_json::{Map, ToValue, Value};
 use solution_text::evidence;
 use solutions::{Cause, Outcome, Solution, solve};
 use std::alloc::{AllocError, Global};
 
+/// The members that tell the bounds of a problem, and what they are due to.
+fn head_of(
+    alloc: Global,
+    name: &str,
+    problem: &Problem,
+    circuit: &[Edge],
+    units: &[usize],
+) -> Result<Map<String, Value>, AllocError>
+    requires few { length circuit.now ≤ 128 }
+    ensures { IfOk result (λ m. members_view m.entries ≡ head_members name.now problem.now circuit.now units.now) }
+{
+    let draft = problem.draft();
+    let scheduling = problem.scheduling();
+    let operations = Value::from(scheduling.operations());
+    let resources = Value::from(scheduling.resources());
+    let recurrences = Value::from(scheduling.recurrences());
+    let mii = Value::from(scheduling.mii());
+    let circuit = told_circuit(alloc, draft, circuit);
+    let full = told_names(alloc, draft.names.units.as_slice(), units);
+    let members = with(alloc, Ok(Map::new(alloc)), "name", name.to_value(alloc));
+    let members = with(alloc, members, "operations", Ok(operations));
+    let members = with(alloc, members, "resources", Ok(resources));
+    let members = with(alloc, members, "recurrences", Ok(recurrences));
+    let members = with(alloc, members, "mii", Ok(mii));
+    let members = with(alloc, members, "circuit", circuit);
+    with(alloc, members, "full", full)
+}
+
 /// A problem that is solved.
-#[tactic(auto, unfolding(crate::specs::Outcomes::met_object))]
 fn told_met(
     alloc: Global,
     name: &str,
@@ -35,22 +63,12 @@ fn told_met(
     requires few { length circuit.now ≤ 128 }
     ensures { IfOk result (λ v. view v ≡ met_object name.now problem.now circuit.now units.now solution.now) }
 {
-    let draft = problem.draft();
-    let scheduling = problem.scheduling();
-    json!(in alloc; {
-        "name": name,
-        "operations": scheduling.operations(),
-        "resources": scheduling.resources(),
-        "recurrences": scheduling.recurrences(),
-        "mii": scheduling.mii(),
-        "circuit": told_circuit(alloc, draft, circuit)?,
-        "full": told_names(alloc, draft.names.units.as_slice(), units)?,
-        "solution": told_solution(alloc, solution)?
-    })
+    let head = head_of(alloc, name, problem, circuit, units);
+    let solution = told_solution(alloc, solution);
+    object_of(with(alloc, head, "solution", solution))
 }
 
 /// A problem that has no solution.
-#[tactic(auto, unfolding(crate::specs::Outcomes::failed_object))]
 fn told_failed(
     alloc: Global,
     name: &str,
@@ -63,20 +81,13 @@ fn told_failed(
     requires few { length circuit.now ≤ 128 }
     ensures { IfOk result (λ v. view v ≡ failed_object name.now problem.now circuit.now units.now cause (option_copied culprit.entry)) }
 {
-    let draft = problem.draft();
     let scheduling = problem.scheduling();
-    json!(in alloc; {
-        "name": name,
-        "operations": scheduling.operations(),
-        "resources": scheduling.resources(),
-        "recurrences": scheduling.recurrences(),
-        "mii": scheduling.mii(),
-        "circuit": told_circuit(alloc, draft, circuit)?,
-        "full": told_names(alloc, draft.names.units.as_slice(), units)?,
-        "failed_to": scheduling.mii() + scheduling.ceiling(),
-        "cause": cause_word(cause),
-        "culprit": told_evidence(alloc, draft, cause, culprit)?
-    })
+    let last = Value::from(scheduling.mii() + scheduling.ceiling());
+    let culprit = told_evidence(alloc, problem.draft(), cause, culprit);
+    let members = head_of(alloc, name, problem, circuit, units);
+    let members = with(alloc, members, "failed_to", Ok(last));
+    let members = with(alloc, members, "cause", cause_word(cause).to_value(alloc));
+    object_of(with(alloc, members, "culprit", culprit))
 }
 
 /// A problem that has no solution, with the culprits of the cause.

@@ -92,19 +92,28 @@ pub(crate) fn told_values(alloc: Global, solution: &Solution) -> Result<Value, A
     Ok(Value::Array(values))
 }
 
-/// How many registers a file has, where it is rotating.
+/// How many registers a file of this kind has, where it is rotating.
+fn told_registers(kind: File) -> Value
+    ensures { view result ≡ size_value (Some kind) }
+{
+    match kind {
+        File::Rotating(registers) => Value::from(registers),
+        File::Unallotted => Value::Null,
+    }
+}
+
+/// How many registers the file with a number has, where it is rotating.
 fn told_size(draft: &Draft, file: usize) -> Value
+    requires { file < length draft.now.files.items }
     ensures { view result ≡ size_value (slice_get draft.now.files.items file) }
 {
-    match draft.files.get(file) {
-        Some(File::Rotating(registers)) => Value::from(*registers),
-        _ => Value::Null,
-    }
+    told_registers(draft.files[file])
 }
 
 /// A file.
 #[tactic(auto, unfolding(crate::specs::Values::file_object))]
 fn told_file(alloc: Global, solution: &Solution, file: usize) -> Result<Value, AllocError>
+    requires { file < length solution.now.problem.draft.files.items }
     ensures { IfOk result (λ v. view v ≡ file_object solution.now file) }
 {
     let draft = solution.problem().draft();
