@@ -8,7 +8,7 @@ use Rattle.command_line.specs.declared.line.Usage.{Usage}
 use Rattle.command_line.specs.declared.line.Usage.TheVariants.{Help, Refused, Memory}
 use Rattle.clap.proofs.OnLiterals.{clap_on_literals}
 use Rattle.clap.specs.declared.error.kind.ErrorKind.TheVariants.{OutOfMemory}
-use Rattle.command_line.specs.Lines.{IsRead, IsRequest, IsSearchGiven, IsTaskGiven, IsToldBy, IsWorkGiven, AreLoopsGiven, AreProblemsGiven, IsReportGiven, Means, MeansNamed, SaysNumber, SaySettings}
+use Rattle.command_line.specs.Lines.{IsRead, IsRequest, IsSearchGiven, IsTaskGiven, IsToldBy, IsWorkGiven, AreLoopsGiven, AreProblemsGiven, IsReportGiven, Means, MeansNamed, SaysFormat, SaysNumber, SaySettings}
 use Rattle.command_line.specs.Lines.{program_line, search_line, run_line, plain_line, explain_line, either_line, solve_line, check_line}
 use Rattle.settings.specs.Settings.{AreSettings, SettingsData}
 use Rattle.clap.specs.declared.builder.command.Command.TheViews.{out-Command}
@@ -16,6 +16,7 @@ use Rattle.command_line.specs.inner.Made.{IsAdded}
 use Rattle.std.proofs.lemmas.Bool.{and_parts}
 use Rattle.command_line.specs.declared.command.Command.{Command}
 use Rattle.command_line.specs.declared.command.Command.TheVariants as command
+use Rattle.command_line.specs.declared.command.Format.{Format}
 use Rattle.command_line.specs.declared.command.Report.{Report}
 use Rattle.command_line.specs.declared.command.Report.TheVariants as report
 use Rattle.command_line.specs.declared.command.Search.{Search}
@@ -117,16 +118,23 @@ other-report (report.Explain settings) name rows h = (other-word 0 name (codes "
 pub solve-none : (rows : List Row) → (first_of (codes "problems") rows ≡ None) ⊎ ((s : SettingsData) → ¬ SaySettings s rows)
     → (c : Command) → MeansNamed c (codes "solve") rows → ⊥
 solve-none rows missing (command.Loops loops work) h = (other-work work (codes "solve") rows h.1).0 refl
-solve-none rows (inl none) (command.Solve problems settings) h = let there = h.1 in absurd (cc)
-solve-none rows (inr none) (command.Solve problems settings) h = none settings h.2
+solve-none rows (inl none) (command.Solve problems settings format) h = let there = h.1 in absurd (cc)
+solve-none rows (inr none) (command.Solve problems settings format) h = none settings h.2
 solve-none rows missing (command.Problems problems told) h = (other-report told (codes "solve") rows h.2).0 refl
 solve-none rows missing (command.Check problems solutions) h = other-word 0 (codes "solve") (codes "solve") (codes "check") (λ e. omega arith) refl h.0
+
+-- .. or its option says no format
+pub solve-formless : (rows : List Row) → ((f : Format) → ¬ SaysFormat (first_of (codes "format") rows) f) → (c : Command) → MeansNamed c (codes "solve") rows → ⊥
+solve-formless rows none (command.Loops loops work) h = (other-work work (codes "solve") rows h.1).0 refl
+solve-formless rows none (command.Solve problems settings format) h = none format h.3
+solve-formless rows none (command.Problems problems told) h = (other-report told (codes "solve") rows h.2).0 refl
+solve-formless rows none (command.Check problems solutions) h = other-word 0 (codes "solve") (codes "solve") (codes "check") (λ e. omega arith) refl h.0
 
 -- .. by `check` where a path is missing
 pub check-none : (rows : List Row) → (first_of (codes "problems") rows ≡ None) ⊎ (first_of (codes "solutions") rows ≡ None)
     → (c : Command) → MeansNamed c (codes "check") rows → ⊥
 check-none rows missing (command.Loops loops work) h = (other-work work (codes "check") rows h.1).1 refl
-check-none rows missing (command.Solve problems settings) h = other-word 0 (codes "check") (codes "check") (codes "solve") (λ e. omega arith) refl h.0
+check-none rows missing (command.Solve problems settings format) h = other-word 0 (codes "check") (codes "check") (codes "solve") (λ e. omega arith) refl h.0
 check-none rows missing (command.Problems problems told) h = (other-report told (codes "check") rows h.2).1 refl
 check-none rows (inl none) (command.Check problems solutions) h = let there = h.1 in absurd (cc)
 check-none rows (inr none) (command.Check problems solutions) h = let there = h.2 in absurd (cc)
@@ -137,7 +145,7 @@ pub loops-none : (rows : List Row) (name : Text) → (name ≡ codes "solve" →
     → (c : Command) → MeansNamed c name rows → ⊥
 loops-none rows name solve check none alone (command.Loops loops work) h = none _ work h
 loops-none rows name solve check none alone (command.Problems problems told) h = alone _ told h
-loops-none rows name solve check none alone (command.Solve problems settings) h = solve h.0
+loops-none rows name solve check none alone (command.Solve problems settings format) h = solve h.0
 loops-none rows name solve check none alone (command.Check problems solutions) h = check h.0
 
 -- .. where loops are given, or none, what needs the other is not meant

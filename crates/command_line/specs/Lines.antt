@@ -7,6 +7,8 @@ use Rattle.clap.specs.declared.error.kind.ErrorKind.{ErrorKind}
 use Rattle.clap.specs.declared.error.kind.ErrorKind.TheVariants as kind
 use Rattle.command_line.specs.declared.command.Command.{Command}
 use Rattle.command_line.specs.declared.command.Command.TheVariants as command
+use Rattle.command_line.specs.declared.command.Format.{Format}
+use Rattle.command_line.specs.declared.command.Format.TheVariants as format
 use Rattle.command_line.specs.declared.command.Report.{Report}
 use Rattle.command_line.specs.declared.command.Report.TheVariants as report
 use Rattle.command_line.specs.declared.command.Work.{Work}
@@ -104,9 +106,13 @@ abbrev pub with_reports : App → App
 with_reports app =
     with_subcommand (with_subcommand (with_subcommand (with_subcommand app (with_paths (codes "bounds")).top) (either_line (codes "edges")).top) (either_line (codes "dot")).top) plain_line.top
 
--- `solve PROBLEMS`, and the four
+-- `--format FORMAT`, which is looked at where the command is made
+abbrev pub format_rule : Rule
+format_rule = option_rule (codes "format") (codes "text")
+
+-- `solve PROBLEMS`, the four, and `--format FORMAT`
 unfoldable pub solve_line : App
-solve_line = with_search (with_rule (new_app (codes "solve")) (path_rule (codes "problems")))
+solve_line = with_rule (with_search (with_rule (new_app (codes "solve")) (path_rule (codes "problems")))) format_rule
 
 -- `check PROBLEMS SOLUTIONS`
 unfoldable pub check_line : App
@@ -128,14 +134,14 @@ machine_of_work (OnMachine machine task) = Some (string_bytes machine)
 -- the path of the file that is read first, where a command reads two: the machine's, or the problems' of a check
 abbrev pub first_path : Command → Option Text
 first_path (command.Loops loops work) = machine_of_work work
-first_path (command.Solve problems settings) = None
+first_path (command.Solve problems settings format) = None
 first_path (command.Problems problems told) = None
 first_path (command.Check problems solutions) = Some (string_bytes problems)
 
 -- the path of the file that is read last: the loops', the problems' where they are not checked, or the solutions' of a check
 abbrev pub last_path : Command → Text
 last_path (command.Loops loops work) = string_bytes loops
-last_path (command.Solve problems settings) = string_bytes problems
+last_path (command.Solve problems settings format) = string_bytes problems
 last_path (command.Problems problems told) = string_bytes problems
 last_path (command.Check problems solutions) = string_bytes solutions
 
@@ -163,6 +169,14 @@ SaySettings settings given = SaysNumber (first_of (codes "ratio") given) setting
     × SaysNumber (first_of (codes "workers") given) settings.workers
     × SaysNumber (first_of (codes "cut") given) settings.cut
     × AreSettings settings
+
+-- the word that an option was given, or that stands for it, is `text` or `json`
+abbrev pub format_word : Format → Text
+format_word format.Text = codes "text"
+format_word format.Json = codes "json"
+
+abbrev pub SaysFormat : Option Text → Format → Type 0
+SaysFormat word format = word ≡ Some (format_word format)
 
 -- the subcommand of this name tells that of the kernels, and was given what it needs
 abbrev pub IsSearchGiven : Search → Text → List Row → Type 0
@@ -204,9 +218,10 @@ AreProblemsGiven path told name given = (first_of (codes "machine") given ≡ So
 -- a command is of a subcommand of this name, and has what that was given
 abbrev pub MeansNamed : Command → Text → List Row → Type 0
 MeansNamed (command.Loops loops work) name given = AreLoopsGiven (string_bytes loops) work name given
-MeansNamed (command.Solve problems settings) name given = (name ≡ codes "solve")
+MeansNamed (command.Solve problems settings format) name given = (name ≡ codes "solve")
     × (first_of (codes "problems") given ≡ Some (string_bytes problems))
     × SaySettings settings given
+    × SaysFormat (first_of (codes "format") given) format
 MeansNamed (command.Problems problems told) name given = AreProblemsGiven (string_bytes problems) told name given
 MeansNamed (command.Check problems solutions) name given = (name ≡ codes "check")
     × (first_of (codes "problems") given ≡ Some (string_bytes problems))

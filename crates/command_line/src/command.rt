@@ -1,7 +1,7 @@
 //! Commands.
 
-ghost use Rattle.std.specs.Prelude.{◌≡◌, option_map};
-ghost use Rattle.command_line.specs.Lines.{first_path, last_path, machine_of_work};
+ghost use Rattle.std.specs.Prelude.{◌≡◌, ◌≢◌, option_map, IfSome, IfNone};
+ghost use Rattle.command_line.specs.Lines.{first_path, format_word, last_path, machine_of_work};
 
 use crate::trip::Trip;
 use settings::Settings;
@@ -22,6 +22,8 @@ pub enum Command {
         problems: String,
         /// How hard it is tried, and by how many workers.
         settings: Settings,
+        /// In which format what each problem comes to is told.
+        format: Format,
     },
     /// Tell something of each problem of a text.
     Problems {
@@ -37,6 +39,29 @@ pub enum Command {
         /// The path of the solutions' file.
         solutions: String,
     },
+}
+
+/// The formats in which what problems come to is told.
+#[derive(Clone, Copy, Debug, PartialEq, Eq)]
+pub enum Format {
+    /// Lines for people, which a check reads again.
+    Text,
+    /// One JSON document, for programs.
+    Json,
+}
+
+impl Format {
+    /// The format that a word names.
+    pub(crate) fn named(word: &str) -> Option<Format>
+        ensures says { IfSome result (λ format. word.now ≡ format_word format) }
+        ensures none { IfNone result ((format : _) → word.now ≢ format_word format) }
+    {
+        match word {
+            "text" => Some(Format::Text),
+            "json" => Some(Format::Json),
+            _ => None,
+        }
+    }
 }
 
 /// What is done with loops.

@@ -231,6 +231,11 @@ For a problem that is not solved these lines stand after the bounds and what ask
 The last line, # problems P met A failed B, has the numbers of problems, of those that are solved and of
 those that are not. Whatever follows a # is for people: `modsched check` reads the rest.
 
+With --format json the same is printed as one JSON document, on one line: an object with `failed`, `met`,
+`problems` and `version`, which is 1. A problem is an object with `circuit`, `full`, `mii`, `name`,
+`operations`, `recurrences` and `resources`, and then `solution`, or else `cause`, `culprit` and
+`failed_to`.
+
 A thread takes one problem after another, so the cut changes nothing here.";
 
 pub(crate) const CHECK_ABOUT: &str = "Judge solutions of scheduling problems";
@@ -280,6 +285,10 @@ a loop that has none at all takes longer";
 pub(crate) const WORKERS: &str =
     "How many threads share the work, from 1 to 64. More may take less time. The output is the same with any
 number";
+
+pub(crate) const FORMAT: &str =
+    "In which format the solutions are printed: `text`, for people and for `modsched check`, or `json`, for
+programs";
 
 pub(crate) const CUT: &str =
     "How many intervals of a loop a thread takes at once, from 1 to 256. With fewer, more threads can share

@@ -54,7 +54,7 @@ pub fn parse_line<'a>(alloc: Global, words: &'a [&'a str]) -> Result<Command, Us
             Some(command) => Ok(command),
             None => Err(Usage::Refused(String::from_str(
                 alloc,
-                "error: an argument is missing\n",
+                "error: an argument is missing, or '--format' is neither 'text' nor 'json'\n\nFor more information, try '--help'.\n",
             )?)),
         },
         Err(error) => Err(usage_of(alloc, &error)),

@@ -29,6 +29,7 @@ use Rattle.solution_reader.specs.declared.fault.SolutionFault.{SolutionFault}
 use Rattle.solution_reader.specs.Data.{SolutionData as TextSolution}
 use Rattle.solution_reader.specs.Meaning.{size_fault, solutions_in_text}
 use Rattle.problem_printouts.specs.Solving.{AnswersSolve}
+use Rattle.command_line.specs.declared.command.Format.{Format}
 use Rattle.problem_printouts.specs.Judging.{AnswersCheck, IsFaultOf}
 use Rattle.problem_printouts.specs.declared.answers.Answers.{Answers}
 use Rattle.problem_printouts.specs.declared.fault.ProblemsFault.{ProblemsFault}
@@ -178,12 +179,12 @@ work_brings-take : (work : Work) (machine loops : List ℕ) (outcome : Outcome) 
 work_brings-take (Plain trip workers) machine loops outcome h = rw (loops_in-take loops) at h
 work_brings-take (OnMachine path task) machine loops outcome h = rw (machine_of-take machine, loops_in-take loops) at h
 
-solve-take : (settings : SettingsData) (text : List ℕ) (outcome : Result Answers ProblemsFault)
-    → AnswersSolve settings (take most_problems_read text) outcome → AnswersSolve settings text outcome
-solve-take settings text (Ok told) h = rw (forms_in-take text) at h
-solve-take settings text (Err (problems.Problems fault)) h = rw (forms_in-take text) at h
-solve-take settings text (Err (problems.Solutions fault)) h = h
-solve-take settings text (Err problems.Memory) h = h
+solve-take : (settings : SettingsData) (format : Format) (text : List ℕ) (outcome : Result Answers ProblemsFault)
+    → AnswersSolve settings format (take most_problems_read text) outcome → AnswersSolve settings format text outcome
+solve-take settings format text (Ok told) h = rw (forms_in-take text) at h
+solve-take settings format text (Err (problems.Problems fault)) h = rw (forms_in-take text) at h
+solve-take settings format text (Err (problems.Solutions fault)) h = h
+solve-take settings format text (Err problems.Memory) h = h
 
 report-take : (told : Report) (text : List ℕ) (outcome : Result Answers ProblemsFault)
     → AnswersReport told (take most_problems_read text) outcome → AnswersReport told text outcome
@@ -221,7 +222,7 @@ check-take first last (Err problems.Memory) h = h
 
 brings-take : (c : Command) (first last : List ℕ) (ending : Ending) → Brings c (take (most_read_by c) first) (take (most_read_by c) last) ending → Brings c first last ending
 brings-take (command.Loops path work) first last ending h = (h.0, work_brings-take work first last h.0 h.1, h.2)
-brings-take (command.Solve path settings) first last ending h = (h.0, solve-take settings last h.0 h.1, h.2)
+brings-take (command.Solve path settings format) first last ending h = (h.0, solve-take settings format last h.0 h.1, h.2)
 brings-take (command.Problems path told) first last ending h = (h.0, report-take told last h.0 h.1, h.2)
 brings-take (command.Check path other) first last ending h = (h.0, check-take first last h.0 h.1, h.2)
 

@@ -37,14 +37,14 @@ use Rattle.exit_status.specs.declared.status.Status.TheVariants.{MachineUnread, 
 -- the status where the text that a command reads first can't be read. A command that reads one text never ends so
 abbrev pub first_unread : Command → Status
 first_unread (command.Loops path work) = MachineUnread
-first_unread (command.Solve path settings) = MachineUnread
+first_unread (command.Solve path settings format) = MachineUnread
 first_unread (command.Problems path told) = MachineUnread
 first_unread (command.Check path other) = ProblemsUnread
 
 -- .. the text that it reads last
 abbrev pub last_unread : Command → Status
 last_unread (command.Loops path work) = LoopsUnread
-last_unread (command.Solve path settings) = ProblemsUnread
+last_unread (command.Solve path settings format) = ProblemsUnread
 last_unread (command.Problems path told) = ProblemsUnread
 last_unread (command.Check path other) = SolutionsUnread
 
@@ -55,7 +55,7 @@ most_problems_read = 16777217
 -- as much of each of its texts as a command reads, in bytes
 abbrev pub most_read_by : Command → ℕ
 most_read_by (command.Loops path work) = most_read
-most_read_by (command.Solve path settings) = most_problems_read
+most_read_by (command.Solve path settings format) = most_problems_read
 most_read_by (command.Problems path told) = most_problems_read
 most_read_by (command.Check path other) = most_problems_read
 
@@ -66,7 +66,7 @@ work_reads_machine (OnMachine machine task) = true
 
 abbrev pub reads_first : Command → Bool
 reads_first (command.Loops path work) = work_reads_machine work
-reads_first (command.Solve path settings) = false
+reads_first (command.Solve path settings format) = false
 reads_first (command.Problems path told) = false
 reads_first (command.Check path other) = true
 
@@ -77,7 +77,7 @@ machine_for_work (OnMachine machine task) left = left
 
 abbrev pub first_for : Command → Option (List ℕ) → Option (List ℕ)
 first_for (command.Loops path work) left = machine_for_work work left
-first_for (command.Solve path settings) left = Some []
+first_for (command.Solve path settings format) left = Some []
 first_for (command.Problems path told) left = Some []
 first_for (command.Check path other) left = left
 
@@ -129,7 +129,7 @@ AnswersReport (report.Explain settings) text outcome = AnswersExplain settings t
 -- what a command comes to for the bytes of its texts
 abbrev pub Brings : Command → List ℕ → List ℕ → Ending → Type 0
 Brings (command.Loops path work) first last ending = (outcome : Outcome) × WorkBrings work first last outcome × (ending ≡ loops_ending outcome)
-Brings (command.Solve path settings) first last ending = ProblemsBring (AnswersSolve settings last) ending
+Brings (command.Solve path settings format) first last ending = ProblemsBring (AnswersSolve settings format last) ending
 Brings (command.Problems path told) first last ending = ProblemsBring (AnswersReport told last) ending
 Brings (command.Check path other) first last ending = ProblemsBring (AnswersCheck first last) ending
 

@@ -36,7 +36,11 @@ pub(crate) fn printout_of<R: Threads + Sync>(
 {
     match command {
         Command::Loops { work, .. } => loops_ending(work_text(rt, alloc, work, first, last)),
-        Command::Solve { settings, .. } => solve_text(rt, alloc, settings, last),
+        Command::Solve {
+            settings,
+            format,
+            ..
+        } => solve_text(rt, alloc, settings, *format, last),
         Command::Problems { told, .. } => report_text(alloc, told, last),
         Command::Check { .. } => check_text(alloc, first, last),
     }

@@ -4,7 +4,9 @@
 mod commands;
 mod subcommand;
 
-pub use command_line::{Command, Report, Search, TRIP_LIMIT, Task, Trip, Usage, Work, parse_line};
+pub use command_line::{
+    Command, Format, Report, Search, TRIP_LIMIT, Task, Trip, Usage, Work, parse_line,
+};
 pub use devices::{
     Bytes, Fault, FaultyInput, FaultyOutput, FileInput, Input, Output, ReadTextError,
     StandardOutput, TEXT_LIMIT, TakenBytes, read_text, write_text,

@@ -21,7 +21,7 @@ zip-push R [] (b ∷ ys) x y all r = absurd all
 zip-push R (a ∷ xs) [] x y all r = absurd all
 zip-push R (a ∷ xs) (b ∷ ys) x y all r = (all.0, zip-push R xs ys x y all.1 r)
 
-zip-long : {A B : Type 0} (R : A → B → Type 0) (xs : List A) (ys : List B) → AllZip R xs ys → length ys ≡ length xs
+pub zip-long : {A B : Type 0} (R : A → B → Type 0) (xs : List A) (ys : List B) → AllZip R xs ys → length ys ≡ length xs
 zip-long R [] [] all = refl
 zip-long R [] (b ∷ ys) all = absurd all
 zip-long R (a ∷ xs) [] all = absurd all
@@ -29,7 +29,7 @@ zip-long R (a ∷ xs) (b ∷ ys) all = ap suc (zip-long R xs ys all.1)
 
 -- counts
 
-abbrev met-one : Answer → ℕ
+abbrev pub met-one : Answer → ℕ
 met-one answer = cond answer.met 1 0
 
 abbrev failed-one : Answer → ℕ
@@ -47,7 +47,7 @@ either : (b : Bool) → cond b 1 0 + cond (not b) 1 0 ≡ 1
 either true = refl
 either false = refl
 
-met-or-failed : (answers : List Answer) → met_in answers + failed_in answers ≡ length answers
+pub met-or-failed : (answers : List Answer) → met_in answers + failed_in answers ≡ length answers
 met-or-failed [] = refl
 met-or-failed (answer ∷ answers) =
     let met = sum_by-cons met-one answer answers in

@@ -2,6 +2,7 @@
 use Rattle.std.proofs.Common.{◌≡◌, ◌≢◌, ℕ, List, refl, sym, subst, ap, ◌∙◌}
 use Rattle.std.specs.Prelude.{Result, Ok, Err, ◌⊎◌}
 use Rattle.std.proofs.Common.{inl, inr}
+use Rattle.command_line.specs.declared.command.Format.{Format}
 use Rattle.settings.specs.Settings.{SettingsData}
 use Rattle.problem_tables.specs.Data.{FileData}
 use Rattle.problem_tables.specs.declared.fault.Wrong.{Wrong as ProblemWrong}
@@ -17,7 +18,7 @@ use Rattle.problem_printouts.specs.declared.answers.Answers.{Answers}
 use Rattle.problem_printouts.specs.declared.fault.ProblemsFault.{ProblemsFault}
 use Rattle.problem_printouts.specs.declared.fault.ProblemsFault.TheVariants.{Problems, Solutions, Memory}
 use Rattle.problem_printouts.specs.Faults.{of_problems, of_problem_wrong, of_solutions, of_solution_wrong}
-use Rattle.problem_printouts.specs.Solving.{AnswersSolve, IsSolveText}
+use Rattle.problem_printouts.specs.Solving.{AnswersSolve, IsSolveIn}
 use Rattle.problem_printouts.specs.Judging.{AnswersCheck, IsFaultOf}
 use Rattle.problem_printouts.specs.inner.Judged.{AnswersLists}
 use Rattle.problem_printouts.proofs.Strangers.{unknown-is-no-memory}
@@ -40,16 +41,17 @@ refused-at F text fault what is so a =
     let other : fault.what ≢ problem_wrong.Memory = λ bad. let never : what ≡ problem_wrong.Memory = sym is ∙ bad in cc in
     so.problems fault (is-fault text fault a other) other
 
-pub solve_refused : (settings : SettingsData) (text : List ℕ) (fault : TextFault) → ProblemsAnswer (Err fault) (file_in_text text) → AnswersSolve settings text (Err (of_problems fault))
-solve_refused settings text fault a = refused-at (AnswersSolve settings text) text fault fault.what refl (record { memory = tt; problems = λ f is other. (is, other) }) a
+pub solve_refused : (settings : SettingsData) (format : Format) (text : List ℕ) (fault : TextFault) → ProblemsAnswer (Err fault) (file_in_text text) → AnswersSolve settings format text (Err (of_problems fault))
+solve_refused settings format text fault a = refused-at (AnswersSolve settings format text) text fault fault.what refl (record { memory = tt; problems = λ f is other. (is, other) }) a
 
 pub check_refused : (problems solutions : List ℕ) (fault : TextFault) → ProblemsAnswer (Err fault) (file_in_text problems) → AnswersCheck problems solutions (Err (of_problems fault))
 check_refused problems solutions fault a = refused-at (AnswersCheck problems solutions) problems fault fault.what refl (record { memory = tt; problems = λ f is other. (is, other) }) a
 
 -- the problems are solved
 
-pub solve_told : (settings : SettingsData) (text : List ℕ) (file : FileData) (told : Answers) → Ok file ≡ file_in_text text → IsSolveText file settings told → AnswersSolve settings text (Ok told)
-solve_told settings text file told is a = (file, sym is, a)
+pub solve_told : (settings : SettingsData) (format : Format) (text : List ℕ) (file : FileData) (told : Answers) → Ok file ≡ file_in_text text → IsSolveIn format file settings told
+    → AnswersSolve settings format text (Ok told)
+solve_told settings format text file told is a = (file, sym is, a)
 
 -- the text of solutions is refused
 

@@ -2,5 +2,6 @@
 pub mod Asked
 pub mod Judged
 pub mod Known
+pub mod Listed
 pub mod Pieces
 pub mod Sofar

@@ -3,6 +3,7 @@
 #![tactic(auto)]
 
 mod answers;
+mod documents;
 mod explaining;
 mod fault;
 mod graphing;

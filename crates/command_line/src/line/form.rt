@@ -3,7 +3,7 @@
 ghost use Rattle.std.specs.Prelude.{◌≡◌, codes, false, IfOk};
 ghost use Rattle.clap.specs.Words.{app_of, new_app, new_rule, rule_of};
 ghost use Rattle.clap.specs.declared.builder.command.Command.TheViews.{out-Command};
-ghost use Rattle.command_line.specs.Lines.{program_line, bare_line, with_kernels, with_reports, with_problems, plain_line, search_line, explain_line, either_line, run_line, solve_line, check_line, with_paths, with_search, path_rule, trip_rule, option_rule, ratio_rule, ceiling_rule, workers_rule, cut_rule};
+ghost use Rattle.command_line.specs.Lines.{program_line, bare_line, with_kernels, with_reports, with_problems, plain_line, search_line, explain_line, either_line, run_line, solve_line, check_line, with_paths, with_search, path_rule, trip_rule, option_rule, ratio_rule, ceiling_rule, workers_rule, cut_rule, format_rule};
 ghost use Rattle.command_line.specs.inner.Made.{IsAdded};
 
 use crate::help;
@@ -181,7 +181,7 @@ fn solve<'a>(alloc: Global) -> Result<Command<'a>, AllocError>
     ensures local { IfOk result (λ c. (out-Command c).has_globals ≡ false) }
 {
     let command = bare(alloc, "solve", help::SOLVE_ABOUT, help::SOLVE_LONG_ABOUT);
-    with_search(alloc, command.arg(problems(alloc))?)
+    with_search(alloc, command.arg(problems(alloc))?)?.arg(format(alloc))
 }
 
 // The subcommand `check`.
@@ -319,6 +319,14 @@ fn cut<'a>(alloc: Global) -> Arg<'a>
 {
     let range = ValueParser::unsigned(1, MAX_CUT);
     option(alloc, "cut", "N", "4", help::CUT).value_parser(range)
+}
+
+// In which format what problems come to is told.
+fn format<'a>(alloc: Global) -> Arg<'a>
+    ensures rule { rule_of result ≡ format_rule }
+    ensures local { result.global ≡ false }
+{
+    option(alloc, "format", "FORMAT", "text", help::FORMAT)
 }
 
 // An option that may be left out.

@@ -2,10 +2,11 @@
 
 ghost use Rattle.std.specs.Prelude.{◌≡◌, ◌≢◌, ◌<◌, ◌^◌, ℕ, codes, None, IfOk, IfSome, IfNone};
 ghost use Rattle.clap.specs.Words.{Text, first_of, found_of, rows_of, subcommand_rows_of};
-ghost use Rattle.command_line.specs.Lines.{Says, SaysTrip, SaysWorkers, SaysNumber, SaySettings, Means, MeansNamed, AreLoopsGiven, AreProblemsGiven, IsReportGiven, IsWorkGiven, IsTaskGiven, IsSearchGiven};
+ghost use Rattle.command_line.specs.declared.command.Format.{Format};
+ghost use Rattle.command_line.specs.Lines.{Says, SaysFormat, SaysTrip, SaysWorkers, SaysNumber, SaySettings, Means, MeansNamed, AreLoopsGiven, AreProblemsGiven, IsReportGiven, IsWorkGiven, IsTaskGiven, IsSearchGiven};
 ghost use Rattle.settings.specs.Settings.{SettingsData};
 
-use crate::command::{Command, Report, Search, Task, Work};
+use crate::command::{Command, Format, Report, Search, Task, Work};
 use crate::trip::Trip;
 use clap::ArgMatches;
 use machine_data::limits::MAX_WORKERS;
@@ -92,13 +93,25 @@ fn solve_given(alloc: Global, values: &ArgMatches<'_>) -> Result<Option<Command>
     ensures meant { IfOk result (λ found. IfSome found (λ c. MeansNamed c (codes "solve") (rows_of (found_of values.now)))) }
     ensures none { IfOk result (λ found. IfNone found ((c : Command) → ¬ MeansNamed c (codes "solve") (rows_of (found_of values.now)))) }
 {
+    let Some(format) = format_given(values) else {
+        return Ok(None);
+    };
     match (values.get_str("problems"), settings_given(values)) {
         (Some(problems), Some(settings)) => Ok(Some(Command::Solve {
             problems: String::from_str(alloc, problems)?,
             settings,
+            format,
         })),
         _ => Ok(None),
     }
+}
+
+// The format that its option says.
+fn format_given(values: &ArgMatches<'_>) -> Option<Format>
+    ensures says { IfSome result (λ format. SaysFormat (first_of (codes "format") (rows_of (found_of values.now))) format) }
+    ensures none { IfNone result ((format : Format) → ¬ SaysFormat (first_of (codes "format") (rows_of (found_of values.now))) format) }
+{
+    Format::named(values.get_str("format")?)
 }
 
 // The command `check`, where it was given both paths.

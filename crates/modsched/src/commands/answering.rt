@@ -6,7 +6,7 @@ ghost use Rattle.problem_printouts.specs.Judging.{AnswersCheck};
 ghost use Rattle.modsched.specs.Engine.{AnswersReport, ProblemsBring, problems_ending};
 ghost use Rattle.modsched.specs.inner.Refusals.{IsRefusal};
 
-use command_line::Report;
+use command_line::{Format, Report};
 use exit_status::Status;
 use printouts::Printout;
 use problem_printouts::{
@@ -22,12 +22,13 @@ pub(crate) fn solve_text<R: Threads + Sync>(
     rt: &R,
     alloc: Global,
     settings: &Settings,
+    format: Format,
     problems: &[u8],
 ) -> Result<Printout, Status>
-    ensures brings { ProblemsBring (AnswersSolve settings.now problems.now) result }
+    ensures brings { ProblemsBring (AnswersSolve settings.now format problems.now) result }
     ensures kind { IfErr result IsRefusal }
 {
-    problems_ending(solve_printout(rt, alloc, problems, settings))
+    problems_ending(solve_printout(rt, alloc, problems, settings, format))
 }
 
 /// What is written of the problems of a text, or the status of a refusal.

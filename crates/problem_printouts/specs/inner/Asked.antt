@@ -1,5 +1,6 @@
 -- What may be asked of the problems of a file.
 use Rattle.std.specs.Prelude.{List}
+use Rattle.command_line.specs.declared.command.Format.TheVariants.{Text, Json}
 use Rattle.settings.specs.Settings.{SettingsData}
 use Rattle.problem_graphs.specs.Dot.{IsDotText}
 use Rattle.problem_graphs.specs.Edges.{IsEdgesText}
@@ -10,9 +11,11 @@ use Rattle.problem_printouts.specs.Graphing.{IsGraphAnswer}
 use Rattle.problem_printouts.specs.Judging.{IsVerdict}
 use Rattle.problem_printouts.specs.Solving.{IsAnswer}
 use Rattle.problem_printouts.specs.Told.{Answer}
+use Rattle.problem_printouts.specs.inner.Listed.{IsAfterComma}
 
 pub data Question : Type 0 where
   Solve : SettingsData → Question
+  Document : SettingsData → Question
   Check : List TextSolution → Question
   Edges : Question
   Draw : Question
@@ -24,7 +27,8 @@ pub record Asked : Type 0 where
   pub question : Question
 
 abbrev pub IsAnswerTo : FileData → Question → TextProblem → Answer → Type 0
-IsAnswerTo file (Solve settings) problem answer = IsAnswer file settings problem answer
+IsAnswerTo file (Solve settings) problem answer = IsAnswer file settings Text problem answer
+IsAnswerTo file (Document settings) problem answer = IsAfterComma (IsAnswer file settings Json problem) answer
 IsAnswerTo file (Check list) problem answer = IsVerdict file list problem answer
 IsAnswerTo file Edges problem answer = IsGraphAnswer IsEdgesText file problem answer
 IsAnswerTo file Draw problem answer = IsGraphAnswer IsDotText file problem answer

@@ -1,0 +1,8 @@
+use Rattle.solution_json.specs.Operations.{operation_object}
+use Rattle.solution_json.proofs.Lists.{numbered-more}
+use Rattle.solution_json.proofs.operations.told_operations.Goals as goal
+
+pub loop-op-preserved : goal.loop-op-preserved
+loop-op-preserved c =
+    numbered-more (operation_object c.args.solution.now) c.loop-op.values.items c.push.new.self.items c.in_ok-told_operation.field-0 c.loop-op.op c.loop-op.invariant c.in_ok-told_operation.ensures
+    c.in_ok-push.ensures.items

@@ -1,0 +1,16 @@
+use Rattle.solution_json.proofs.outcome.push_outcome_json.Goals as goal
+
+pub returns : goal.returns
+returns c = record {
+  told = (
+    c.in_ok-push_told.ensures.0,
+    c.in_ok-push_told.ensures.1,
+    record {
+      outcome = c.in_ok-outcome.outcome;
+      is_solved = c.in_ok-outcome.ensures.exact;
+      is_right = c.in_ok-outcome.ensures.right;
+      same_met = c.is_met.ensures;
+      is_told = c.in_ok-push_told.ensures.2;
+    },
+  );
+}

@@ -1,0 +1,16 @@
+//! What a scheduling problem comes to, as JSON for programs that read it: it is solved on the spot, and told with what its bounds are
+//! due to.
+#![tactic(auto)]
+
+mod bounds;
+mod failures;
+mod initials;
+mod members;
+mod named;
+mod operations;
+mod outcome;
+mod solved;
+mod told;
+mod values;
+
+pub use outcome::push_outcome_json;

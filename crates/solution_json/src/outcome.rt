@@ -1,0 +1,185 @@
+//! What a problem comes to.
+
+ghost use Rattle.std.specs.Prelude.{◌≡◌, ◌≤◌, ◌++◌, ℕ, List, false, length, IfOk, OnOk};
+ghost use Rattle.std.specs.Option.{option_copied};
+ghost use Rattle.serde_json.specs.View.{members_view, view};
+ghost use Rattle.serde_json.specs.Written.{compact_text, has_float};
+ghost use Rattle.solutions.specs.Outcomes.{FailsBy, IsSolved, last_of};
+ghost use Rattle.solutions.specs.declared.solving.outcome.Outcome.TheVariants.{Failed};
+ghost use Rattle.solution_json.specs.Outcomes.{IsObjectOf, IsOutcomeJson, IsTold, failed_object, head_members, met_object};
+
+use crate::bounds::told_circuit;
+use crate::failures::{cause_word, told_evidence};
+use crate::members::{object_of, with};
+use crate::solved::told_solution;
+use crate::told::told_names;
+use graph::Edge;
+use machine_data::OutOfMemory;
+use modulo::Culprit;
+use outcome_text::{circuit_of, fullest_of, is_met};
+use problems::Problem;
+use serde_json::{Map, ToValue, Value};
+use solution_text::evidence;
+use solutions::{Cause, Outcome, Solution, solve};
+use std::alloc::{AllocError, Global};
+
+/// The members that tell the bounds of a problem, and what they are due to.
+fn head_of(
+    alloc: Global,
+    name: &str,
+    problem: &Problem,
+    circuit: &[Edge],
+    units: &[usize],
+) -> Result<Map<String, Value>, AllocError>
+    requires few { length circuit.now ≤ 128 }
+    ensures { IfOk result (λ m. members_view m.entries ≡ head_members name.now problem.now circuit.now units.now) }
+{
+    let draft = problem.draft();
+    let scheduling = problem.scheduling();
+    let operations = Value::from(scheduling.operations());
+    let resources = Value::from(scheduling.resources());
+    let recurrences = Value::from(scheduling.recurrences());
+    let mii = Value::from(scheduling.mii());
+    let circuit = told_circuit(alloc, draft, circuit);
+    let full = told_names(alloc, draft.names.units.as_slice(), units);
+    let members = with(alloc, Ok(Map::new(alloc)), "name", name.to_value(alloc));
+    let members = with(alloc, members, "operations", Ok(operations));
+    let members = with(alloc, members, "resources", Ok(resources));
+    let members = with(alloc, members, "recurrences", Ok(recurrences));
+    let members = with(alloc, members, "mii", Ok(mii));
+    let members = with(alloc, members, "circuit", circuit);
+    with(alloc, members, "full", full)
+}
+
+/// A problem that is solved.
+fn told_met(
+    alloc: Global,
+    name: &str,
+    problem: &Problem,
+    circuit: &[Edge],
+    units: &[usize],
+    solution: &Solution,
+) -> Result<Value, AllocError>
+    requires few { length circuit.now ≤ 128 }
+    ensures { IfOk result (λ v. view v ≡ met_object name.now problem.now circuit.now units.now solution.now) }
+{
+    let head = head_of(alloc, name, problem, circuit, units);
+    let solution = told_solution(alloc, solution);
+    object_of(with(alloc, head, "solution", solution))
+}
+
+/// A problem that has no solution.
+fn told_failed(
+    alloc: Global,
+    name: &str,
+    problem: &Problem,
+    circuit: &[Edge],
+    units: &[usize],
+    cause: Cause,
+    culprit: Option<&Culprit>,
+) -> Result<Value, AllocError>
+    requires few { length circuit.now ≤ 128 }
+    ensures { IfOk result (λ v. view v ≡ failed_object name.now problem.now circuit.now units.now cause (option_copied culprit.entry)) }
+{
+    let scheduling = problem.scheduling();
+    let last = Value::from(scheduling.mii() + scheduling.ceiling());
+    let culprit = told_evidence(alloc, problem.draft(), cause, culprit);
+    let members = head_of(alloc, name, problem, circuit, units);
+    let members = with(alloc, members, "failed_to", Ok(last));
+    let members = with(alloc, members, "cause", cause_word(cause).to_value(alloc));
+    object_of(with(alloc, members, "culprit", culprit))
+}
+
+/// A problem that has no solution, with the culprits of the cause.
+fn told_without(
+    alloc: Global,
+    name: &str,
+    problem: &Problem,
+    circuit: &[Edge],
+    units: &[usize],
+    cause: Cause,
+) -> Result<Value, OutOfMemory>
+    requires few { length circuit.now ≤ 128 }
+    requires fails { FailsBy problem.now (last_of problem.now) cause }
+    ensures { IfOk result (λ v. IsObjectOf name.now problem.now circuit.now units.now (Failed cause) (view v)) }
+{
+    let culprit = evidence(alloc, problem, cause)?;
+    told_failed(
+        alloc,
+        name,
+        problem,
+        circuit,
+        units,
+        cause,
+        culprit.as_ref(),
+    )
+}
+
+/// An outcome of a problem.
+fn told_outcome(
+    alloc: Global,
+    name: &str,
+    problem: &Problem,
+    circuit: &[Edge],
+    units: &[usize],
+    outcome: &Outcome,
+) -> Result<Value, OutOfMemory>
+    requires few { length circuit.now ≤ 128 }
+    requires solved { IsSolved problem.now outcome.now }
+    ensures { IfOk result (λ v. IsObjectOf name.now problem.now circuit.now units.now outcome.now (view v)) }
+{
+    match outcome {
+        Outcome::Met(solution) => told_met(alloc, name, problem, circuit, units, solution),
+        Outcome::Failed(cause) => told_without(alloc, name, problem, circuit, units, *cause),
+    }
+}
+
+/// Appends a value as JSON without blanks.
+fn push_value(alloc: Global, text: &mut Vec<u8>, value: &Value) -> Result<(), AllocError>
+    ensures { OnOk result (has_float (view value.now) ≡ false → text.new.items ≡ text.old.items ++ compact_text (view value.now)) }
+{
+    let bytes = value.to_vec(alloc)?;
+    text.extend_from_slice(bytes.as_slice())
+}
+
+/// Appends an outcome of a problem, with what the bounds are due to.
+fn push_told(
+    alloc: Global,
+    text: &mut Vec<u8>,
+    name: &str,
+    problem: &Problem,
+    outcome: &Outcome,
+) -> Result<(), OutOfMemory>
+    requires { IsSolved problem.now outcome.now }
+    ensures { OnOk result ((answer : List ℕ) × (text.new.items ≡ text.old.items ++ answer) × IsTold name.now problem.now outcome.now answer) }
+{
+    let circuit = circuit_of(alloc, problem.scheduling())?;
+    let units = fullest_of(alloc, problem)?;
+    let told = told_outcome(
+        alloc,
+        name,
+        problem,
+        circuit.as_slice(),
+        units.as_slice(),
+        outcome,
+    )?;
+    push_value(alloc, text, &told)
+}
+
+/// Solves a problem, and appends what that comes to as a JSON object without blanks: its bounds with a critical circuit and the
+/// fullest units, and its solution, or why there is none. The result is whether it is solved.
+///
+/// # Errors
+/// Memory ran out. The text is left with a part of all that.
+pub fn push_outcome_json(
+    alloc: Global,
+    text: &mut Vec<u8>,
+    name: &str,
+    problem: &Problem,
+) -> Result<bool, OutOfMemory>
+    ensures told { IfOk result (λ met. (answer : List ℕ) × (text.new.items ≡ text.old.items ++ answer) × IsOutcomeJson name.now problem.now met answer) }
+{
+    let outcome = solve(alloc, problem)?;
+    push_told(alloc, text, name, problem, &outcome)?;
+    Ok(is_met(&outcome))
+}
