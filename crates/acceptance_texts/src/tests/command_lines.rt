@@ -56,7 +56,7 @@ const LINES: &[(&[&str], &str)] = &[
     ),
     (
         &["solve", "p"],
-        "Solve { problems: \"p\", settings: Settings { ratio: 6, ceiling: 32, workers: 4, cut: 4 } }",
+        "Solve { problems: \"p\", settings: Settings { ratio: 6, ceiling: 32, workers: 4, cut: 4 }, format: Text }",
     ),
     (
         &[
@@ -69,8 +69,10 @@ const LINES: &[(&[&str], &str)] = &[
             "256",
             "--workers",
             "1",
+            "--format",
+            "json",
         ],
-        "Solve { problems: \"p\", settings: Settings { ratio: 2, ceiling: 0, workers: 1, cut: 256 } }",
+        "Solve { problems: \"p\", settings: Settings { ratio: 2, ceiling: 0, workers: 1, cut: 256 }, format: Json }",
     ),
     (
         &["check", "--", "check", "--cut"],
