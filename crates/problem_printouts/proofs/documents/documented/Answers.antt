@@ -1,4 +1,4 @@
-use Rattle.std.proofs.Common.{subst, arith}
+use Rattle.std.proofs.Common.{[], subst, sym, arith}
 use Rattle.command_line.specs.declared.command.Format.TheVariants.{Json}
 use Rattle.problem_tables.specs.Data.{ProblemData as TextProblem}
 use Rattle.problem_printouts.specs.Solving.{IsAnswer}
@@ -19,6 +19,7 @@ answers_of-requires g c =
 pub returns : goal.returns
 returns g c =
     let is = λ (problem : TextProblem) (answer : Answer). IsAfterComma (IsAnswer c.args.file.now c.args.settings.now Json problem) answer in
-    let so = subst (λ old. AreAnswered is c.args.file.now.problems old c.push_all.new.text.items c.in_ok-met.met) c.new-list.ensures.items c.in_ok-met.ensures in
-    document-ok c.args.file.now c.args.settings.now c.push_all.new.text.items c.problems.result c.in_ok-met.met so c.problems.ensures c.answers_of.result c.answers_of.ensures.text c.answers_of.ensures.met
+    let answered = subst (λ old. AreAnswered is c.args.file.now.problems old c.push_all.new.text.items c.in_ok-met.met) c.new-list.ensures.items c.in_ok-met.ensures in
+    let so = subst (λ list. AreAnswered is c.args.file.now.problems [] list c.in_ok-met.met) (sym c.as_slice.ensures.value) answered in
+    document-ok c.args.file.now c.args.settings.now c.as_slice.result.now c.problems.result c.in_ok-met.met so c.problems.ensures c.answers_of.result c.answers_of.ensures.text c.answers_of.ensures.met
     c.answers_of.ensures.failed
