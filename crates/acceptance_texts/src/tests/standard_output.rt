@@ -1,5 +1,7 @@
 //! The standard output of a system whose writes are interrupted, take a part, or fail.
 
+ghost use Rattle.std.specs.Prelude.{◌≤◌, length, IfOk};
+
 use devices::{Output, StandardOutput, write_text};
 use std::cell::Cell;
 use std::fmt::Display;
@@ -41,7 +43,9 @@ impl Scripted {
     }
 
     /// Takes the first of these bytes, `most` at most.
-    fn take(&self, bytes: &[u8], most: usize) -> io::Result<usize> {
+    fn take(&self, bytes: &[u8], most: usize) -> io::Result<usize>
+        ensures { IfOk result (λ n. n ≤ length bytes.now) }
+    {
         let taken = self.taken.get();
         if TEXT.get(taken..) != Some(bytes) {
             return Err(io::Error::from(ErrorKind::InvalidData));

@@ -20,7 +20,7 @@ fn pattern(alloc: Global, len: usize) -> Result<Vec<u8>, AllocError> {
 }
 
 /// How many bytes there are, how many a text may have, and how many are read: one past the limit at most. Of a buffer the first size is 65,536 bytes.
-const READ: &[(usize, usize, usize)] = &[
+const READ: &[(usize, u32, usize)] = &[
     (0, 150_000, 0),
     (1, 150_000, 1),
     (65_535, 150_000, 65_535),
@@ -42,9 +42,9 @@ const READ: &[(usize, usize, usize)] = &[
 ];
 
 /// Of these bytes the first `want` are read, and the others are left.
-fn is_read(alloc: Global, bytes: &[u8], most: usize, want: usize) -> Result<bool, ReadTextError> {
+fn is_read(alloc: Global, bytes: &[u8], most: u32, want: usize) -> Result<bool, ReadTextError> {
     let mut input = Bytes::new(bytes);
-    let text = read_text_of(alloc, &mut input, most)?;
+    let text = read_text_of(alloc, &mut input, most as usize)?;
     Ok(bytes.split_at_checked(want) == Some((text.as_slice(), input.rest())))
 }
 
