@@ -9,8 +9,9 @@ ghost use Rattle.ims.specs.Problems.{mii_of};
 use ims::{Failure, Prepared, Schedule, Try, attempt};
 use loops::read_loops;
 use machine::read_machine;
+use machine_data::OutOfMemory;
 use mrt::{MaskTable, ModuloTable, OwnerTable, TimelineTable};
-use std::alloc::{AllocError, Global};
+use std::alloc::Global;
 use std::process::Abort;
 use std::test::Fail;
 use worked_texts::{
@@ -27,7 +28,7 @@ fn prepare(alloc: Global, machine: &str, text: &str) -> Result<Prepared, Fail> {
 }
 
 /// The time and alternative of each operation.
-fn places_of(alloc: Global, schedule: &Schedule<'_>) -> Result<Vec<(u64, usize)>, AllocError> {
+fn places_of(alloc: Global, schedule: &Schedule<'_>) -> Result<Vec<(u64, usize)>, OutOfMemory> {
     let mut places = Vec::new(alloc);
     for op in 0..schedule.prepared().operations() {
         places.push((schedule.time(op), schedule.alternative(op)))?;
@@ -170,7 +171,7 @@ fn stages_of(
     alloc: Global,
     prepared: &Prepared,
     places: &[(u64, usize)],
-) -> Result<Option<u64>, AllocError> {
+) -> Result<Option<u64>, OutOfMemory> {
     let schedule = Schedule::check(alloc, prepared, 2, places)?;
     Ok(schedule.map(|schedule| schedule.stages()))
 }

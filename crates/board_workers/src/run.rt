@@ -7,6 +7,7 @@ ghost use Rattle.ims.specs.Problems.{IsProblem};
 ghost use Rattle.candidates.specs.Pieces.{piece_count};
 ghost use Rattle.board_workers.specs.inner.Places.{IsDonePlace, IsReadyPlace, IsReportOn};
 ghost use Rattle.board_workers.specs.Settled.{AreOfOneBoard, LeaveNothing};
+ghost use Rattle.machine_data.specs.declared.limits.TheConstants.{MAX_WORKERS};
 
 use crate::gate::Gate;
 use crate::places::{Place, run_all};
@@ -35,7 +36,7 @@ pub fn run_workers<'a, R: Threads + Sync, G: Gate + Sync>(
     requires each_loop { pieces.now.loops ≡ length loops.now }
     requires ceilings { All (λ p. p.ceiling ≡ pieces.now.ceiling) loops.now }
     requires some { 1 ≤ workers }
-    requires few { workers ≤ 64 }
+    requires few { workers ≤ MAX_WORKERS }
     ensures same { IfOk result (λ rs. All (λ (r : _). r.loops ≡ loops.entry.now) rs.items) }
     ensures worked { IfOk result (λ rs. AreOfOneBoard pieces.now workers rs.items) }
     ensures ends_dry { IsTrue (G.always_goes_on gate.now) → IfOk result (λ rs. All (λ (r : _). IsTrue r.dry) rs.items) }

@@ -6,6 +6,7 @@ ghost use Rattle.board.specs.Views.{with_posted};
 ghost use Rattle.candidates.specs.Choices.{last_of};
 ghost use Rattle.reports.specs.Entries.{IsTrueAt};
 ghost use Rattle.board_workers.specs.inner.Turns.{EntersOne, Takes, TakesOrPasses, Turned};
+ghost use Rattle.machine_data.specs.declared.limits.TheConstants.{MAX_INTERVAL};
 
 use board::Board;
 use candidates::{Outcome, Piece, Trials};
@@ -76,7 +77,7 @@ fn enter_one<B: Board>(
     requires small { number < 1024 }
     requires from_mii { mii_of trials.old ≤ interval }
     requires to_last { interval ≤ last_of trials.old }
-    requires few { interval ≤ 16384 }
+    requires few { interval ≤ MAX_INTERVAL }
     requires room { 0 < report.old.room }
     ensures of { B.is_of board.now pass.new }
     ensures same_loop { trials.new ≡ trials.old }
@@ -110,7 +111,7 @@ fn found_at<B: Board>(
     requires number { number < B.loops board.now }
     requires from_mii { mii_of trials.old ≤ interval }
     requires to_last { interval ≤ last_of trials.old }
-    requires few { interval ≤ 16384 }
+    requires few { interval ≤ MAX_INTERVAL }
     ensures of { B.is_of board.now pass.new }
     ensures same_loop { trials.new ≡ trials.old }
     ensures truth { IsTrueAt trials.old interval result }
@@ -136,7 +137,7 @@ fn one<B: Board>(
     requires number { number < B.loops board.now }
     requires from_mii { mii_of trials.old ≤ interval }
     requires to_last { interval ≤ last_of trials.old }
-    requires few { interval ≤ 16384 }
+    requires few { interval ≤ MAX_INTERVAL }
     ensures of { B.is_of board.now pass.new }
     ensures same_loop { trials.new ≡ trials.old }
     ensures truth { IsTrueAt trials.old interval result }
@@ -169,7 +170,7 @@ fn win<B: Board>(
 ) -> Found
     requires of { B.is_of board.now pass.old }
     requires number { number < B.loops board.now }
-    requires few { interval ≤ 16384 }
+    requires few { interval ≤ MAX_INTERVAL }
     ensures of { B.is_of board.now pass.new }
     ensures won { result ≡ Found.Won kernel }
     ensures same_dryness { B.dry pass.new ≡ B.dry pass.old }

@@ -1,4 +1,5 @@
 pub mod Covering
+pub mod Evidenced
 pub mod OneChoices
 pub mod OneOutcomes
 pub mod Promised

@@ -6,4 +6,5 @@ pub mod Listings
 pub mod Outcomes
 pub mod Pieces
 pub mod Promises
+pub mod Reasons
 pub mod Texts

@@ -1,5 +1,6 @@
 -- A listing: what is told of each loop of a file.
 use Rattle.std.specs.Prelude.{ℕ, ◌≤◌, Bool, true, false, List, [], ◌∷◌, length}
+use Rattle.machine_data.specs.declared.limits.TheConstants.{MAX_CEILING}
 use Rattle.std.specs.List.{All}
 use Rattle.ims.specs.Problems.{ProblemData}
 use Rattle.candidates.specs.declared.choices.Choice.{Choice}
@@ -45,5 +46,5 @@ pub record IsRow (row : Row) : Type 0 where
   pub recurrences_few : row.recurrences ≤ 8192
 
 pub record IsListing (listing : ListingData) : Type 0 where
-  pub ceiling_few : listing.ceiling ≤ 255
+  pub ceiling_few : listing.ceiling ≤ MAX_CEILING
   pub rows : All IsRow listing.rows

@@ -4,6 +4,7 @@ ghost use Rattle.candidates.specs.Pieces.{PiecesData, IsCutting, EachInOnePiece,
 ghost use Rattle.candidates.specs.Outcomes.{OneOutcome};
 ghost use Rattle.candidates.specs.Choices.{OneChoice};
 ghost use Rattle.candidates.specs.Promises.{KernelsKeepLoops, KernelsRunAsLoops, ListingsAreRight, OneListing};
+ghost use Rattle.candidates.specs.Reasons.{TriedIsGiven};
 
 /// Every interval of every loop is in exactly one piece, and no piece is empty.
 pub fn pieces_cover()
@@ -14,6 +15,12 @@ pub fn pieces_cover()
 /// An interval gives one thing.
 pub fn interval_laws()
     ensures one { OneOutcome }
+{}
+
+/// What is told of an interval with its evidence is what the interval gives: its kernel, or the cause of the reason for
+/// which there is none.
+pub fn tried_is_given()
+    ensures { TriedIsGiven }
 {}
 
 /// A loop has one choice.

@@ -2,6 +2,7 @@
 #![tactic(auto)]
 
 mod choices;
+mod evidence;
 mod laws;
 mod listings;
 mod outcomes;
@@ -11,9 +12,10 @@ mod texts;
 mod trials;
 
 pub use choices::{Choice, first_success};
+pub use evidence::{Met, Reason, Tried};
 pub use laws::{
     choice_laws, interval_laws, kernels_keep_loops, kernels_run_as_loops, listings_are_right,
-    one_listing, pieces_cover,
+    one_listing, pieces_cover, tried_is_given,
 };
 pub use listings::{Listing, Row};
 pub use outcomes::{Cause, Outcome, try_interval};

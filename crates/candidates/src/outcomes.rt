@@ -88,7 +88,7 @@ pub(crate) fn outcome_on(
 }
 
 /// How many placements an attempt may make.
-fn budget(prepared: &Prepared) -> u64
+pub(crate) fn budget(prepared: &Prepared) -> u64
     ensures value { result ≡ budget_of prepared.now }
     ensures few { result ≤ 8192 }
     ensures well_formed { IsProblem prepared.now }

@@ -1,6 +1,7 @@
 //! How the intervals of loops are cut into pieces.
 ghost use Rattle.std.specs.Prelude.{◌≡◌, ◌≤◌, ◌<◌, ◌+◌, ◌*◌, ◌/◌};
 ghost use Rattle.candidates.specs.Pieces.{PiecesData, IsCutting, piece_count, loop_of_piece, start_of_piece, end_of_piece};
+ghost use Rattle.machine_data.specs.declared.limits.TheConstants.{MAX_CEILING, MAX_CUT, MAX_LOOPS};
 
 use std::marker::Model;
 
@@ -37,9 +38,9 @@ impl Pieces {
     /// `loops` loops, 0 to 1,024, each with the intervals from its least one to the one `ceiling` above
     /// it, 0 to 255. A piece has `cut` intervals of a loop, 1 to 256, or those that are left.
     pub fn of(loops: usize, ceiling: u64, cut: u64) -> Pieces
-        requires loops { loops ≤ 1024 }
-        requires ceiling { ceiling ≤ 255 }
-        requires cut { (1 ≤ cut) × (cut ≤ 256) }
+        requires loops { loops ≤ MAX_LOOPS }
+        requires ceiling { ceiling ≤ MAX_CEILING }
+        requires cut { (1 ≤ cut) × (cut ≤ MAX_CUT) }
         ensures { result ≡ record { loops = loops; ceiling = ceiling; cut = cut } }
     {
         Pieces {

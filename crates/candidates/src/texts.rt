@@ -6,6 +6,7 @@ ghost use Rattle.candidates.specs.declared.choices.Choice.TheVariants.{Failed, M
 ghost use Rattle.writing.specs.Words.{ended};
 ghost use Rattle.candidates.specs.Listings.{IsRow};
 ghost use Rattle.candidates.specs.Texts.{cause_word, choice_text, has_outs, head_of, counts_line, listing_text_of, mii_in, number_failed, number_met, row_text, version_text};
+ghost use Rattle.machine_data.specs.declared.limits.TheConstants.{MAX_CEILING};
 
 use crate::choices::Choice;
 use crate::listings::{Listing, Row};
@@ -70,7 +71,7 @@ fn has_outs(rows: &[Row]) -> bool
 
 /// Writes what is told of each loop.
 fn write_rows(text: &mut String, ceiling: u64, rows: &[Row]) -> Result<(), OutOfMemory>
-    requires ceiling { ceiling ≤ 255 }
+    requires ceiling { ceiling ≤ MAX_CEILING }
     requires rows { All IsRow rows.now }
     ensures { IfOk result (λ _. string_bytes text.new ≡ string_bytes text.old ++ flat_map (row_text ceiling) rows.now) }
 {
@@ -83,7 +84,7 @@ fn write_rows(text: &mut String, ceiling: u64, rows: &[Row]) -> Result<(), OutOf
 /// Appends what is told of a loop: its line, and its kernel's text. The ceiling, 0 to 255, is how many
 /// intervals above the least one were tried. Where memory runs out the text is left with a part of it.
 pub fn write_row(text: &mut String, ceiling: u64, row: &Row) -> Result<(), OutOfMemory>
-    requires ceiling { ceiling ≤ 255 }
+    requires ceiling { ceiling ≤ MAX_CEILING }
     requires row { IsRow row.now }
     ensures text { IfOk result (λ _. string_bytes text.new ≡ string_bytes text.old ++ row_text ceiling row.now) }
 {

@@ -4,7 +4,9 @@ ghost use Rattle.std.specs.Prelude.{◌≡◌, ◌≤◌, length, replicate, Non
 ghost use Rattle.ims.specs.Problems.{mii_of};
 ghost use Rattle.candidates.specs.Choices.{last_of};
 ghost use Rattle.candidates.specs.Outcomes.{Gives};
+ghost use Rattle.candidates.specs.Reasons.{IsTried};
 
+use crate::evidence::{Tried, tried_on};
 use crate::outcomes::{Outcome, outcome_on};
 use ims::Prepared;
 use machine_data::OutOfMemory;
@@ -57,6 +59,23 @@ impl<'a> Trials<'a> {
         let outcome = outcome_on(alloc, self.prepared, &mut table);
         self.table = Some(table);
         outcome
+    }
+
+    /// What the loop gives at an interval, with the evidence of it: the schedule and the registers of its kernel, or what
+    /// keeps it from one. The limits are those of [`Trials::try_interval`], and so is what it gives.
+    ///
+    /// # Errors
+    /// Memory ran out.
+    pub fn try_told(&mut self, alloc: Global, ii: u64) -> Result<Tried<'a>, OutOfMemory>
+        requires from_mii { mii_of self.old ≤ ii }
+        requires to_last { ii ≤ last_of self.old }
+        ensures same { self.new ≡ self.old }
+        ensures exact { IfOk result (IsTried self.old ii) }
+    {
+        let mut table = self.table_at(alloc, ii)?;
+        let tried = tried_on(alloc, self.prepared, &mut table);
+        self.table = Some(table);
+        tried
     }
 
     /// The loop's table at an interval, with nothing placed, made from the last one where there is one.

@@ -1,5 +1,5 @@
 -- What calls with texts hand over.
-use Rattle.std.proofs.Common.{◌≡◌, ◌<◌, ℕ, List, refl, inl, inr, lit<}
+use Rattle.std.proofs.Common.{◌≡◌, ℕ, List, refl, inl, inr, true}
 use Rattle.std.specs.Prelude.{◌⊎◌, Err}
 use Rattle.machine.specs.declared.fault.MachineFault.{MachineFault}
 use Rattle.machine.specs.declared.fault.MachineFault.TheVariants as machine_fault
@@ -8,40 +8,40 @@ use Rattle.loops.specs.LoopFaultKind.{LoopFaultKind}
 use Rattle.loops.specs.LoopFaultKind.TheVariants as kinds
 use Rattle.file_faults.specs.declared.fault.FileFault.{FileFault}
 use Rattle.file_faults.specs.declared.fault.FileFault.TheVariants.{Machine, Loops, NoTable, Memory}
-use Rattle.exit_status.specs.Statuses.{loops_status, refusal_of_file, refusal_of_machine, status_number}
+use Rattle.exit_status.specs.Statuses.{has_line, loops_status, refusal_of_file, refusal_of_machine}
 use Rattle.printouts.specs.Outcomes.{Outcome}
 use Rattle.capi.specs.declared.telling.Told.{Told}
 use Rattle.capi.specs.Texts.{Hands, HandsBrought, HandsNothing, HandsRefusal}
 
 -- each refusal has a line
-loud_machine : (f : MachineFault) → 1 < status_number (refusal_of_machine f)
-loud_machine machine_fault.Memory = lit< tt
-loud_machine machine_fault.NotUtf8 = lit< tt
-loud_machine machine_fault.NotToml = lit< tt
-loud_machine (machine_fault.MissingKey k) = lit< tt
-loud_machine (machine_fault.WrongType k) = lit< tt
-loud_machine (machine_fault.UnknownKey k) = lit< tt
-loud_machine (machine_fault.UnknownUnit k) = lit< tt
-loud_machine (machine_fault.UnknownOpcode k) = lit< tt
-loud_machine (machine_fault.RepeatedUnit k) = lit< tt
-loud_machine (machine_fault.RepeatedRow k) = lit< tt
-loud_machine (machine_fault.Limit k) = lit< tt
+loud_machine : (f : MachineFault) → has_line (refusal_of_machine f) ≡ true
+loud_machine machine_fault.Memory = refl
+loud_machine machine_fault.NotUtf8 = refl
+loud_machine machine_fault.NotToml = refl
+loud_machine (machine_fault.MissingKey k) = refl
+loud_machine (machine_fault.WrongType k) = refl
+loud_machine (machine_fault.UnknownKey k) = refl
+loud_machine (machine_fault.UnknownUnit k) = refl
+loud_machine (machine_fault.UnknownOpcode k) = refl
+loud_machine (machine_fault.RepeatedUnit k) = refl
+loud_machine (machine_fault.RepeatedRow k) = refl
+loud_machine (machine_fault.Limit k) = refl
 
-loud_loops : (kind : LoopFaultKind) (f : LoopFault) → f.kind ≡ kind → 1 < status_number (loops_status kind f)
-loud_loops kinds.Memory f is = lit< tt
-loud_loops kinds.Syntax f is = rw is (lit< tt)
-loud_loops kinds.Limit f is = rw is (lit< tt)
-loud_loops kinds.RepeatedName f is = rw is (lit< tt)
-loud_loops kinds.UnknownName f is = rw is (lit< tt)
-loud_loops kinds.UseBeforeDefinition f is = rw is (lit< tt)
-loud_loops kinds.MissingInit f is = rw is (lit< tt)
-loud_loops kinds.NoEnd f is = rw is (lit< tt)
+loud_loops : (kind : LoopFaultKind) (f : LoopFault) → has_line (loops_status kind f) ≡ true
+loud_loops kinds.Memory f = refl
+loud_loops kinds.Syntax f = refl
+loud_loops kinds.Limit f = refl
+loud_loops kinds.RepeatedName f = refl
+loud_loops kinds.UnknownName f = refl
+loud_loops kinds.UseBeforeDefinition f = refl
+loud_loops kinds.MissingInit f = refl
+loud_loops kinds.NoEnd f = refl
 
-pub loud : (fault : FileFault) → 1 < status_number (refusal_of_file fault)
+pub loud : (fault : FileFault) → has_line (refusal_of_file fault) ≡ true
 loud (Machine f) = loud_machine f
-loud (Loops f) = loud_loops f.kind f refl
-loud (NoTable name opcode) = lit< tt
-loud Memory = lit< tt
+loud (Loops f) = loud_loops f.kind f
+loud (NoTable name opcode) = refl
+loud Memory = refl
 
 -- a refusal is handed over by its line, or memory ran out
 pub refused : (fault : FileFault) (before after : List ℕ) (told : Told) (status : ℕ) → ¬ (fault ≡ Memory)

@@ -1,14 +1,15 @@
 //! What calls with texts tell.
 
-ghost use Rattle.std.specs.Prelude.{◌≡◌, ◌<◌, ◌⊎◌, Err, IfOk, string_bytes};
+ghost use Rattle.std.specs.Prelude.{◌≡◌, ◌⊎◌, true, Err, IfOk, string_bytes};
 ghost use Rattle.file_faults.specs.declared.fault.FileFault.TheVariants.{Memory};
-ghost use Rattle.exit_status.specs.Statuses.{line_of, refusal_of_file, status_number};
+ghost use Rattle.exit_status.specs.Statuses.{has_line, line_of, refusal_of_file};
 ghost use Rattle.capi.specs.Texts.{Hands, HandsNothing, HandsRefusal, filled, line_at, told_misfit, told_text};
 
 use exit_status::Status;
 use file_faults::FileFault;
+use machine_data::OutOfMemory;
 use printouts::Printout;
-use std::alloc::{AllocError, Global};
+use std::alloc::Global;
 
 /// What a call tells beside its text. What does not belong to its status is 0.
 #[repr(C)]
@@ -93,8 +94,8 @@ fn line_at(fault: &FileFault) -> u64
 }
 
 /// The line that tells of the status of a fault.
-fn line_text(alloc: Global, status: &Status) -> Result<String, AllocError>
-    requires { 1 < status_number status.now }
+fn line_text(alloc: Global, status: &Status) -> Result<String, OutOfMemory>
+    requires { has_line status.now ≡ true }
     ensures { IfOk result (λ text. string_bytes text ≡ line_of status.now) }
 {
     match status.line() {

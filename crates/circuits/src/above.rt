@@ -6,11 +6,13 @@ ghost use Rattle.graph.specs.declared.dependence.edge.Edge.{Edge};
 ghost use Rattle.graph.specs.Walks.{FitsCircuits};
 ghost use Rattle.circuits.specs.Circuits.{IsCircuitAbove};
 ghost use Rattle.circuits.specs.inner.Layers.{IsReturn};
+ghost use Rattle.machine_data.specs.declared.limits.TheConstants.{MAX_INTERVAL};
 
 use crate::layer::{longer_walks, without_edges};
 use crate::sweeps::{Swept, sweep_all};
 use graph::{Edge, Edges};
-use std::alloc::{AllocError, Global};
+use machine_data::OutOfMemory;
+use std::alloc::Global;
 
 /// Where a walk first goes on from an operation.
 fn place_of(walk: &[Edge], operation: u8) -> Option<usize>
@@ -36,8 +38,12 @@ fn first_return(walk: &[Edge]) -> Option<&[Edge]>
 /// The longest walks of at most 0, 1, 2 edges and so on are found until no walk gets longer: then every circuit fits. A walk that
 /// still gets longer with one edge more than there are operations comes to some operation twice, and what it does in between is such a
 /// circuit, since the rest is no longer than the walks before.
-fn circuit_by_layers(alloc: Global, edges: &Edges, ii: u64) -> Result<Option<Vec<Edge>>, AllocError>
-    requires limit { ii ≤ 16384 }
+fn circuit_by_layers(
+    alloc: Global,
+    edges: &Edges,
+    ii: u64,
+) -> Result<Option<Vec<Edge>>, OutOfMemory>
+    requires limit { ii ≤ MAX_INTERVAL }
     ensures exact { IfOk result (λ found. MatchOption found (FitsCircuits edges.now.edges ii) (λ walk. IsCircuitAbove edges.now.edges ii walk.items)) }
 {
     let most = edges.operations() + 1;
@@ -74,10 +80,14 @@ fn circuit_by_layers(alloc: Global, edges: &Edges, ii: u64) -> Result<Option<Vec
 /// either, walks are made by layers.
 ///
 /// # Errors
-/// An `AllocError` where memory runs out: the circuit is all that sweeps take memory for, and layers take
+/// [`OutOfMemory`] where memory runs out: the circuit is all that sweeps take memory for, and layers take
 /// some 2 KiB for each operation.
-pub fn circuit_above(alloc: Global, edges: &Edges, ii: u64) -> Result<Option<Vec<Edge>>, AllocError>
-    requires limit { ii ≤ 16384 }
+pub fn circuit_above(
+    alloc: Global,
+    edges: &Edges,
+    ii: u64,
+) -> Result<Option<Vec<Edge>>, OutOfMemory>
+    requires limit { ii ≤ MAX_INTERVAL }
     ensures exact { IfOk result (λ found. MatchOption found (FitsCircuits edges.now.edges ii) (λ walk. IsCircuitAbove edges.now.edges ii walk.items)) }
 {
     match sweep_all(alloc, edges, ii)? {

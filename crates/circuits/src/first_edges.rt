@@ -3,11 +3,13 @@
 ghost use Rattle.std.specs.Prelude.{◌<◌, ◌≤◌, length, IfOk, IfSome};
 ghost use Rattle.circuits.specs.Circuits.{IsCircuitAbove};
 ghost use Rattle.circuits.specs.inner.Sweeps.{AreFirst, GoesRoundOnce};
+ghost use Rattle.machine_data.specs.declared.limits.TheConstants.{MAX_INTERVAL};
 
 use crate::sums::exceeds;
 use graph::{Edge, Edges};
+use machine_data::OutOfMemory;
 use machine_data::limits::MAX_STATEMENTS;
-use std::alloc::{AllocError, Global};
+use std::alloc::Global;
 
 /// The operation that first edges come to again on the way from `start`, where none on the way is marked yet. All on the way are
 /// marked by `start`.
@@ -55,7 +57,7 @@ fn around(
     edges: &Edges,
     first: &[Option<Edge>; MAX_STATEMENTS],
     start: usize,
-) -> Result<Option<Vec<Edge>>, AllocError>
+) -> Result<Option<Vec<Edge>>, OutOfMemory>
     requires there { start < length edges.now.latencies }
     requires first { AreFirst edges.now first.now }
     ensures { IfOk result (λ found. IfSome found (λ walk. GoesRoundOnce edges.now.edges walk.items)) }
@@ -84,8 +86,8 @@ pub(crate) fn circuit_through(
     interval: u64,
     first: &[Option<Edge>; MAX_STATEMENTS],
     start: usize,
-) -> Result<Option<Vec<Edge>>, AllocError>
-    requires short { interval ≤ 16384 }
+) -> Result<Option<Vec<Edge>>, OutOfMemory>
+    requires short { interval ≤ MAX_INTERVAL }
     requires there { start < length edges.now.latencies }
     requires first { AreFirst edges.now first.now }
     ensures { IfOk result (λ found. IfSome found (λ walk. IsCircuitAbove edges.now.edges interval walk.items)) }

@@ -5,6 +5,7 @@ ghost use Rattle.std.specs.List.{All};
 ghost use Rattle.graph.specs.declared.dependence.edge.Edge.{Edge};
 ghost use Rattle.graph.specs.Graphs.{IsGraph};
 ghost use Rattle.circuits.specs.inner.Layers.{IsFarthest, IsLayer};
+ghost use Rattle.machine_data.specs.declared.limits.TheConstants.{MAX_INTERVAL};
 
 use graph::{Edge, Edges};
 use machine_data::limits::MAX_STATEMENTS;
@@ -38,7 +39,7 @@ pub(crate) struct Longer {
 ///
 /// Walks stay below 2^20 cycles: they have some hundred edges of at most 64.
 fn through(edge: Edge, rest: u64, interval: u64) -> i64
-    requires short { interval ≤ 16384 }
+    requires short { interval ≤ MAX_INTERVAL }
     requires small { rest ≤ 1048576 }
     ensures exact { result ≡ ((pos rest +ℤ edge.delay) -ℤ pos (interval * edge.distance)) }
     ensures near { result ≤ℤ pos (rest + 127) }
@@ -53,7 +54,7 @@ pub(crate) fn farthest(
     lengths: &[u64; MAX_STATEMENTS],
     interval: u64,
 ) -> Walk
-    requires short { interval ≤ 16384 }
+    requires short { interval ≤ MAX_INTERVAL }
     requires own_small { own ≤ 1048576 }
     requires small { All (λ (e : Edge). (e.to < 128) × (slice_index lengths.now e.to ≤ 1048576)) outgoing.now }
     ensures { IsFarthest outgoing.now interval lengths.now own result.reach result.first }
@@ -82,7 +83,7 @@ pub(crate) fn without_edges() -> Layer
 
 /// The walks that may have one edge more than those of these lengths.
 pub(crate) fn longer_walks(edges: &Edges, interval: u64, before: &[u64; MAX_STATEMENTS]) -> Longer
-    requires short { interval ≤ 16384 }
+    requires short { interval ≤ MAX_INTERVAL }
     requires small { (p : ℕ) → p < length edges.now.latencies → slice_index before.now p ≤ 1048576 }
     ensures layer { IsLayer edges.now interval before.now result.layer.lengths result.layer.first }
     ensures at { MatchOption result.at ((p : ℕ) → p < length edges.now.latencies → slice_index result.layer.lengths p ≡ slice_index before.now p) (λ p. (p < length edges.now.latencies) × (slice_index before.now p < slice_index result.layer.lengths p)) }

@@ -3,6 +3,7 @@
 ghost use Rattle.std.specs.Prelude.{◌≡◌, ◌≤◌, ◌+◌, ◌*◌, pos, ◌+ℤ◌, ◌-ℤ◌, ◌≤ℤ◌, ◌<ℤ◌, length};
 ghost use Rattle.std.specs.Bool.{OnTrue};
 ghost use Rattle.graph.specs.Walks.{delay_of, distance_of};
+ghost use Rattle.machine_data.specs.declared.limits.TheConstants.{MAX_INTERVAL};
 
 use graph::Edge;
 
@@ -18,8 +19,8 @@ struct Sums {
 impl Sums {
     /// The sums with one edge more.
     fn with(self, edge: Edge) -> Sums
-        requires early { self.delay ≤ℤ pos 16384 }
-        requires late { (pos 0 -ℤ pos 16384) ≤ℤ self.delay }
+        requires early { self.delay ≤ℤ pos MAX_INTERVAL }
+        requires late { (pos 0 -ℤ pos MAX_INTERVAL) ≤ℤ self.delay }
         requires near { self.distance ≤ 32768 }
         ensures delay { result.delay ≡ (self.delay +ℤ edge.delay) }
         ensures distance { result.distance ≡ self.distance + edge.distance }
@@ -53,7 +54,7 @@ fn sums_of(edges: &[Edge]) -> Sums
 
 /// Whether a walk of at most 128 edges takes more cycles than its distance times the interval.
 pub(crate) fn exceeds(walk: &[Edge], interval: u64) -> bool
-    requires short { interval ≤ 16384 }
+    requires short { interval ≤ MAX_INTERVAL }
     requires few { length walk.now ≤ 128 }
     ensures { OnTrue result (pos (interval * distance_of walk.now) <ℤ delay_of walk.now) }
 {

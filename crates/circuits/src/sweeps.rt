@@ -4,12 +4,14 @@ ghost use Rattle.std.specs.Prelude.{◌≡◌, ◌+◌, ◌*◌, ◌<◌, ◌≤
 ghost use Rattle.graph.specs.Graphs.{IsGraph};
 ghost use Rattle.graph.specs.Walks.{FitsCircuits};
 ghost use Rattle.circuits.specs.inner.Sweeps.{AreFirst, AreShort, IsSwept};
+ghost use Rattle.machine_data.specs.declared.limits.TheConstants.{MAX_INTERVAL};
 
 use crate::first_edges::{circuit_through, returning};
 use crate::layer::farthest;
 use graph::{Edge, Edges};
+use machine_data::OutOfMemory;
 use machine_data::limits::MAX_STATEMENTS;
-use std::alloc::{AllocError, Global};
+use std::alloc::Global;
 
 /// What sweeps over the edges come to at an interval.
 #[derive(Drop)]
@@ -33,7 +35,7 @@ fn sweep(
     lengths: &mut [u64; MAX_STATEMENTS],
     first: &mut [Option<Edge>; MAX_STATEMENTS],
 ) -> bool
-    requires short { interval ≤ 16384 }
+    requires short { interval ≤ MAX_INTERVAL }
     requires few { made < 128 }
     requires lengths { AreShort edges.now (8192 * made) lengths.old }
     requires first { AreFirst edges.now first.old }
@@ -61,8 +63,8 @@ fn circuit_from(
     interval: u64,
     first: &[Option<Edge>; MAX_STATEMENTS],
     start: usize,
-) -> Result<Swept, AllocError>
-    requires short { interval ≤ 16384 }
+) -> Result<Swept, OutOfMemory>
+    requires short { interval ≤ MAX_INTERVAL }
     requires there { start < length edges.now.latencies }
     requires first { AreFirst edges.now first.now }
     ensures { IfOk result (IsSwept edges.now.edges interval) }
@@ -76,8 +78,8 @@ fn circuit_from(
 /// Makes sweeps until no walk gets longer, and then every circuit fits, or until the edges that walks begin with go round.
 ///
 /// There are no more sweeps than operations. They come to one or the other, mostly after two or three.
-pub(crate) fn sweep_all(alloc: Global, edges: &Edges, interval: u64) -> Result<Swept, AllocError>
-    requires short { interval ≤ 16384 }
+pub(crate) fn sweep_all(alloc: Global, edges: &Edges, interval: u64) -> Result<Swept, OutOfMemory>
+    requires short { interval ≤ MAX_INTERVAL }
     ensures { IfOk result (IsSwept edges.now.edges interval) }
 {
     let mut lengths = [0; MAX_STATEMENTS];

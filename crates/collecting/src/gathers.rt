@@ -4,6 +4,7 @@ ghost use Rattle.std.specs.List.{All, AllZip};
 ghost use Rattle.candidates.specs.Choices.{IsChoice};
 ghost use Rattle.reports.specs.Gathered.{retried_from};
 ghost use Rattle.collecting.specs.inner.Cells.{AddsChoice, ChosenData, IsFirst, AreCellsOf};
+ghost use Rattle.machine_data.specs.declared.limits.TheConstants.{MAX_LOOPS};
 
 use crate::cells::{LoopCells, empty_cells, fill};
 use crate::climbs::climb;
@@ -97,7 +98,7 @@ fn choose_all(
     loops: &[Prepared],
     rows: &mut [LoopCells],
 ) -> Result<Chosen, OutOfMemory>
-    requires few { length loops.now ≤ 1024 }
+    requires few { length loops.now ≤ MAX_LOOPS }
     requires rows { AllZip AreCellsOf loops.now rows.old }
     ensures all { IfOk result (λ c. length c.choices ≡ length loops.now) }
     ensures first { IfOk result (λ c. IsFirst loops.now rows.old c.choices c.retried) }
@@ -121,7 +122,7 @@ pub fn gather(
     loops: &[Prepared],
     reports: Vec<Report<'_>>,
 ) -> Result<Chosen, OutOfMemory>
-    requires few { length loops.now ≤ 1024 }
+    requires few { length loops.now ≤ MAX_LOOPS }
     requires same { All (λ r. r.loops ≡ loops.now) reports.items }
     ensures choices { IfOk result (λ c. AllZip IsChoice loops.now c.choices) }
     ensures retried { IfOk result (λ c. c.retried ≡ retried_from reports.entry.items 0 loops.now c.choices) }

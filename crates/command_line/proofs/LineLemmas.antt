@@ -8,8 +8,8 @@ use Rattle.command_line.specs.declared.line.Usage.{Usage}
 use Rattle.command_line.specs.declared.line.Usage.TheVariants.{Help, Refused, Memory}
 use Rattle.clap.proofs.OnLiterals.{clap_on_literals}
 use Rattle.clap.specs.declared.error.kind.ErrorKind.TheVariants.{OutOfMemory}
-use Rattle.command_line.specs.Lines.{IsRead, IsRequest, IsSearchGiven, IsTaskGiven, IsToldBy, IsWorkGiven, AreLoopsGiven, AreProblemsGiven, IsReportGiven, Means, MeansNamed, SaysFormat, SaysNumber, SaySettings}
-use Rattle.command_line.specs.Lines.{program_line, search_line, run_line, plain_line, explain_line, either_line, solve_line, check_line}
+use Rattle.command_line.specs.Lines.{IsRead, IsRequest, IsSearchGiven, IsTaskGiven, IsToldBy, IsWorkGiven, AreLoopsGiven, AreProblemsGiven, AreTexts, AreTextsGiven, IsReportGiven, Means, MeansNamed, SaysFormat, SaysNumber, SaysSwitch, SaySettings, switch_word}
+use Rattle.command_line.specs.Lines.{program_line, search_line, run_line, plain_line, explain_line, either_line, lint_line, solve_line, check_line}
 use Rattle.settings.specs.Settings.{AreSettings, SettingsData}
 use Rattle.clap.specs.declared.builder.command.Command.TheViews.{out-Command}
 use Rattle.command_line.specs.inner.Made.{IsAdded}
@@ -17,17 +17,18 @@ use Rattle.std.proofs.lemmas.Bool.{and_parts}
 use Rattle.command_line.specs.declared.command.Command.{Command}
 use Rattle.command_line.specs.declared.command.Command.TheVariants as command
 use Rattle.command_line.specs.declared.command.Format.{Format}
+use Rattle.command_line.specs.declared.command.LintTexts.{LintTexts}
 use Rattle.command_line.specs.declared.command.Report.{Report}
 use Rattle.command_line.specs.declared.command.Report.TheVariants as report
 use Rattle.command_line.specs.declared.command.Search.{Search}
-use Rattle.command_line.specs.declared.command.Search.TheVariants.{Schedule, Json, Explain, Run}
+use Rattle.command_line.specs.declared.command.Search.TheVariants.{Schedule, Json, Explain, Vary, Run}
 use Rattle.command_line.specs.declared.command.Task.{Task}
 use Rattle.command_line.specs.declared.command.Task.TheVariants as task
 use Rattle.command_line.specs.declared.command.Work.{Work}
 use Rattle.command_line.specs.declared.command.Work.TheVariants.{Plain, OnMachine}
 
 pub program_is_free : is_simple_and_free program_line ≡ true
-unfolding program_line search_line explain_line either_line run_line plain_line solve_line check_line clap_on_literals
+unfolding program_line search_line explain_line either_line run_line plain_line lint_line solve_line check_line clap_on_literals
 program_is_free = refl
 
 -- of which this is a part, so that it is not computed again
@@ -77,6 +78,15 @@ say-one given ratio ceiling workers cut settings r c w u h =
       cut_few = subst (λ (n : ℕ). n ≤ 256) same_cut h.4.cut_few;
     }
 
+-- a word that an option was given names what it says, or nothing
+pub some-says : {T : Type 0} (word_of : T → Text) (found : Option T) (word : Text) → IfSome found (λ x. word ≡ word_of x) → IfSome found (λ x. Some word ≡ Some (word_of x))
+some-says word_of None word h = tt
+some-says word_of (Some x) word h = ap (λ (t : Text). Some t) h
+
+pub none-says : {T : Type 0} (word_of : T → Text) (found : Option T) (word : Text) → IfNone found ((x : T) → ¬ (word ≡ word_of x)) → IfNone found ((x : T) → ¬ (Some word ≡ Some (word_of x)))
+none-says word_of None word h = λ x says. let same : word ≡ word_of x = cc in h x same
+none-says word_of (Some x) word h = tt
+
 -- no work is given by a subcommand but `plain`, where the path of the machine is missing or no task is given
 pub work-none : (rows : List Row) (name : Text) → (name ≡ codes "plain" → ⊥) → (first_of (codes "machine") rows ≡ None) ⊎ ((t : Task) → ¬ IsTaskGiven t name rows)
     → (w : Work) → IsWorkGiven w name rows → ⊥
@@ -88,31 +98,42 @@ work-none rows name other (inr none) (OnMachine machine task) h = none task h.1
 other-word : (place : ℕ) (name word other : Text) → (get_or word place 0 ≡ get_or other place 0 → ⊥) → name ≡ word → name ≡ other → ⊥
 other-word place name word other apart is same = apart (ap (λ (t : Text). get_or t place 0) (sym is ∙ same))
 
--- it is neither of the subcommands that take problems
+-- it is none of the subcommands that take neither a machine with loops nor a report
 abbrev IsOther : Text → Type 0
-IsOther name = (name ≡ codes "solve" → ⊥) × (name ≡ codes "check" → ⊥)
+IsOther name = (name ≡ codes "solve" → ⊥) × (name ≡ codes "check" → ⊥) × (name ≡ codes "lint" → ⊥)
 
 -- what is done with loops is given by other subcommands
 other-search : (s : Search) (name : Text) (rows : List Row) → IsSearchGiven s name rows → IsOther name
-other-search Schedule name rows h = (other-word 1 name (codes "schedule") (codes "solve") (λ e. omega arith) h, other-word 0 name (codes "schedule") (codes "check") (λ e. omega arith) h)
-other-search Json name rows h = (other-word 0 name (codes "json") (codes "solve") (λ e. omega arith) h, other-word 0 name (codes "json") (codes "check") (λ e. omega arith) h)
-other-search Explain name rows h = (other-word 0 name (codes "explain") (codes "solve") (λ e. omega arith) h, other-word 0 name (codes "explain") (codes "check") (λ e. omega arith) h)
-other-search (Run trip) name rows h = (other-word 0 name (codes "run") (codes "solve") (λ e. omega arith) h.0, other-word 0 name (codes "run") (codes "check") (λ e. omega arith) h.0)
+other-search Schedule name rows h = (other-word 1 name (codes "schedule") (codes "solve") (λ e. omega arith) h, other-word 0 name (codes "schedule") (codes "check") (λ e. omega arith) h, other-word 0 name (codes "schedule") (codes "lint") (λ e. omega arith) h)
+other-search Json name rows h = (other-word 0 name (codes "json") (codes "solve") (λ e. omega arith) h, other-word 0 name (codes "json") (codes "check") (λ e. omega arith) h, other-word 0 name (codes "json") (codes "lint") (λ e. omega arith) h)
+other-search Explain name rows h = (other-word 0 name (codes "explain") (codes "solve") (λ e. omega arith) h, other-word 0 name (codes "explain") (codes "check") (λ e. omega arith) h, other-word 0 name (codes "explain") (codes "lint") (λ e. omega arith) h)
+other-search Vary name rows h = (other-word 0 name (codes "vary") (codes "solve") (λ e. omega arith) h, other-word 0 name (codes "vary") (codes "check") (λ e. omega arith) h, other-word 0 name (codes "vary") (codes "lint") (λ e. omega arith) h)
+other-search (Run trip) name rows h = (other-word 0 name (codes "run") (codes "solve") (λ e. omega arith) h.0, other-word 0 name (codes "run") (codes "check") (λ e. omega arith) h.0, other-word 0 name (codes "run") (codes "lint") (λ e. omega arith) h.0)
 
 other-task : (t : Task) (name : Text) (rows : List Row) → IsTaskGiven t name rows → IsOther name
-other-task task.Bounds name rows h = (other-word 0 name (codes "bounds") (codes "solve") (λ e. omega arith) h, other-word 0 name (codes "bounds") (codes "check") (λ e. omega arith) h)
-other-task task.Edges name rows h = (other-word 0 name (codes "edges") (codes "solve") (λ e. omega arith) h, other-word 0 name (codes "edges") (codes "check") (λ e. omega arith) h)
-other-task task.Dot name rows h = (other-word 0 name (codes "dot") (codes "solve") (λ e. omega arith) h, other-word 0 name (codes "dot") (codes "check") (λ e. omega arith) h)
+other-task task.Bounds name rows h = (other-word 0 name (codes "bounds") (codes "solve") (λ e. omega arith) h, other-word 0 name (codes "bounds") (codes "check") (λ e. omega arith) h, other-word 0 name (codes "bounds") (codes "lint") (λ e. omega arith) h)
+other-task task.Edges name rows h = (other-word 0 name (codes "edges") (codes "solve") (λ e. omega arith) h, other-word 0 name (codes "edges") (codes "check") (λ e. omega arith) h, other-word 0 name (codes "edges") (codes "lint") (λ e. omega arith) h)
+other-task task.Dot name rows h = (other-word 0 name (codes "dot") (codes "solve") (λ e. omega arith) h, other-word 0 name (codes "dot") (codes "check") (λ e. omega arith) h, other-word 0 name (codes "dot") (codes "lint") (λ e. omega arith) h)
 other-task (task.Search settings search) name rows h = other-search search name rows h.1
 
 other-work : (w : Work) (name : Text) (rows : List Row) → IsWorkGiven w name rows → IsOther name
-other-work (Plain trip workers) name rows h = (other-word 0 name (codes "plain") (codes "solve") (λ e. omega arith) h.0, other-word 0 name (codes "plain") (codes "check") (λ e. omega arith) h.0)
+other-work (Plain trip workers) name rows h = (other-word 0 name (codes "plain") (codes "solve") (λ e. omega arith) h.0, other-word 0 name (codes "plain") (codes "check") (λ e. omega arith) h.0, other-word 0 name (codes "plain") (codes "lint") (λ e. omega arith) h.0)
 other-work (OnMachine machine t) name rows h = other-task t name rows h.1
 
 other-report : (told : Report) (name : Text) (rows : List Row) → IsReportGiven told name rows → IsOther name
-other-report report.Edges name rows h = (other-word 0 name (codes "edges") (codes "solve") (λ e. omega arith) h, other-word 0 name (codes "edges") (codes "check") (λ e. omega arith) h)
-other-report report.Dot name rows h = (other-word 0 name (codes "dot") (codes "solve") (λ e. omega arith) h, other-word 0 name (codes "dot") (codes "check") (λ e. omega arith) h)
-other-report (report.Explain settings) name rows h = (other-word 0 name (codes "explain") (codes "solve") (λ e. omega arith) h.0, other-word 0 name (codes "explain") (codes "check") (λ e. omega arith) h.0)
+other-report report.Edges name rows h = (other-word 0 name (codes "edges") (codes "solve") (λ e. omega arith) h, other-word 0 name (codes "edges") (codes "check") (λ e. omega arith) h, other-word 0 name (codes "edges") (codes "lint") (λ e. omega arith) h)
+other-report report.Dot name rows h = (other-word 0 name (codes "dot") (codes "solve") (λ e. omega arith) h, other-word 0 name (codes "dot") (codes "check") (λ e. omega arith) h, other-word 0 name (codes "dot") (codes "lint") (λ e. omega arith) h)
+other-report (report.Explain settings) name rows h = (other-word 0 name (codes "explain") (codes "solve") (λ e. omega arith) h.0, other-word 0 name (codes "explain") (codes "check") (λ e. omega arith) h.0, other-word 0 name (codes "explain") (codes "lint") (λ e. omega arith) h.0)
+
+-- `solve`, `check` and `lint` are three words
+apart-solve-check : codes "solve" ≡ codes "check" → ⊥
+apart-solve-check same = other-word 0 (codes "solve") (codes "solve") (codes "check") (λ e. omega arith) refl same
+
+apart-solve-lint : codes "solve" ≡ codes "lint" → ⊥
+apart-solve-lint same = other-word 0 (codes "solve") (codes "solve") (codes "lint") (λ e. omega arith) refl same
+
+apart-check-lint : codes "check" ≡ codes "lint" → ⊥
+apart-check-lint same = other-word 0 (codes "check") (codes "check") (codes "lint") (λ e. omega arith) refl same
 
 -- no command is given by `solve` where the path is missing, or the options say no settings
 pub solve-none : (rows : List Row) → (first_of (codes "problems") rows ≡ None) ⊎ ((s : SettingsData) → ¬ SaySettings s rows)
@@ -121,32 +142,69 @@ solve-none rows missing (command.Loops loops work) h = (other-work work (codes "
 solve-none rows (inl none) (command.Solve problems settings format) h = let there = h.1 in absurd (cc)
 solve-none rows (inr none) (command.Solve problems settings format) h = none settings h.2
 solve-none rows missing (command.Problems problems told) h = (other-report told (codes "solve") rows h.2).0 refl
-solve-none rows missing (command.Check problems solutions) h = other-word 0 (codes "solve") (codes "solve") (codes "check") (λ e. omega arith) refl h.0
+solve-none rows missing (command.Check problems solutions) h = apart-solve-check h.0
+solve-none rows missing (command.Lint texts) h = apart-solve-lint h.0
 
 -- .. or its option says no format
 pub solve-formless : (rows : List Row) → ((f : Format) → ¬ SaysFormat (first_of (codes "format") rows) f) → (c : Command) → MeansNamed c (codes "solve") rows → ⊥
 solve-formless rows none (command.Loops loops work) h = (other-work work (codes "solve") rows h.1).0 refl
 solve-formless rows none (command.Solve problems settings format) h = none format h.3
 solve-formless rows none (command.Problems problems told) h = (other-report told (codes "solve") rows h.2).0 refl
-solve-formless rows none (command.Check problems solutions) h = other-word 0 (codes "solve") (codes "solve") (codes "check") (λ e. omega arith) refl h.0
+solve-formless rows none (command.Check problems solutions) h = apart-solve-check h.0
+solve-formless rows none (command.Lint texts) h = apart-solve-lint h.0
 
 -- .. by `check` where a path is missing
 pub check-none : (rows : List Row) → (first_of (codes "problems") rows ≡ None) ⊎ (first_of (codes "solutions") rows ≡ None)
     → (c : Command) → MeansNamed c (codes "check") rows → ⊥
 check-none rows missing (command.Loops loops work) h = (other-work work (codes "check") rows h.1).1 refl
-check-none rows missing (command.Solve problems settings format) h = other-word 0 (codes "check") (codes "check") (codes "solve") (λ e. omega arith) refl h.0
+check-none rows missing (command.Solve problems settings format) h = apart-solve-check (sym h.0)
 check-none rows missing (command.Problems problems told) h = (other-report told (codes "check") rows h.2).1 refl
 check-none rows (inl none) (command.Check problems solutions) h = let there = h.1 in absurd (cc)
 check-none rows (inr none) (command.Check problems solutions) h = let there = h.2 in absurd (cc)
+check-none rows missing (command.Lint texts) h = apart-check-lint h.0
+
+-- .. by `lint` where it was given no texts
+pub lint-none : (rows : List Row) → ((texts : LintTexts) → ¬ AreTextsGiven texts rows) → (c : Command) → MeansNamed c (codes "lint") rows → ⊥
+lint-none rows none (command.Loops loops work) h = (other-work work (codes "lint") rows h.1).2 refl
+lint-none rows none (command.Solve problems settings format) h = apart-solve-lint (sym h.0)
+lint-none rows none (command.Problems problems told) h = (other-report told (codes "lint") rows h.2).2 refl
+lint-none rows none (command.Check problems solutions) h = apart-check-lint (sym h.0)
+lint-none rows none (command.Lint texts) h = none texts h.1
+
+-- the word that stands for a switch says one thing
+one-switch : (a b : Bool) → Some (switch_word a) ≡ Some (switch_word b) → a ≡ b
+one-switch true true same = refl
+one-switch false false same = refl
+one-switch true false same = let words : codes "true" ≡ codes "false" = cc in absurd (other-word 0 (codes "true") (codes "true") (codes "false") (λ e. omega arith) refl words)
+one-switch false true same = let words : codes "false" ≡ codes "true" = cc in absurd (other-word 0 (codes "false") (codes "false") (codes "true") (λ e. omega arith) refl words)
+
+-- the texts that `lint` was given are those of the paths and the option that were found
+pub no-texts : (rows : List Row) (path : Text) (is_given : Bool) (second : Option Text) → Some path ≡ first_of (codes "machine") rows
+    → SaysSwitch (first_of (codes "machine-only") rows) is_given → second ≡ first_of (codes "loops") rows
+    → ((texts : LintTexts) → ¬ AreTexts texts path second is_given) → (texts : LintTexts) → ¬ AreTextsGiven texts rows
+no-texts rows path is_given second at says same none texts (first, machine_only, there, said, are) =
+    let paths : first ≡ path = cc in
+    let switches : machine_only ≡ is_given = one-switch machine_only is_given (sym said ∙ says) in
+    let at_path : AreTexts texts path (first_of (codes "loops") rows) machine_only = subst (λ (t : Text). AreTexts texts t (first_of (codes "loops") rows) machine_only) paths are in
+    let at_second : AreTexts texts path second machine_only = subst (λ (t : Option Text). AreTexts texts path t machine_only) (sym same) at_path in
+    none texts (subst (λ (is_only : Bool). AreTexts texts path second is_only) switches at_second)
+
+-- there are none where the path is missing, or the word of the option says nothing
+pub no-machine : (rows : List Row) → first_of (codes "machine") rows ≡ None → (texts : LintTexts) → ¬ AreTextsGiven texts rows
+no-machine rows none texts (first, machine_only, there, said, are) = absurd (cc)
+
+pub no-switch : (rows : List Row) → ((is_given : Bool) → ¬ SaysSwitch (first_of (codes "machine-only") rows) is_given) → (texts : LintTexts) → ¬ AreTextsGiven texts rows
+no-switch rows none texts (first, machine_only, there, said, are) = none machine_only said
 
 -- .. by another subcommand where what loops need is missing
-pub loops-none : (rows : List Row) (name : Text) → (name ≡ codes "solve" → ⊥) → (name ≡ codes "check" → ⊥)
+pub loops-none : (rows : List Row) (name : Text) → (name ≡ codes "solve" → ⊥) → (name ≡ codes "check" → ⊥) → (name ≡ codes "lint" → ⊥)
     → ((path : Text) (w : Work) → ¬ AreLoopsGiven path w name rows) → ((path : Text) (told : Report) → ¬ AreProblemsGiven path told name rows)
     → (c : Command) → MeansNamed c name rows → ⊥
-loops-none rows name solve check none alone (command.Loops loops work) h = none _ work h
-loops-none rows name solve check none alone (command.Problems problems told) h = alone _ told h
-loops-none rows name solve check none alone (command.Solve problems settings format) h = solve h.0
-loops-none rows name solve check none alone (command.Check problems solutions) h = check h.0
+loops-none rows name solve check lint none alone (command.Loops loops work) h = none _ work h
+loops-none rows name solve check lint none alone (command.Problems problems told) h = alone _ told h
+loops-none rows name solve check lint none alone (command.Solve problems settings format) h = solve h.0
+loops-none rows name solve check lint none alone (command.Check problems solutions) h = check h.0
+loops-none rows name solve check lint none alone (command.Lint texts) h = lint h.0
 
 -- .. where loops are given, or none, what needs the other is not meant
 pub no-problems : (rows : List Row) (name : Text) (loops : Text) → Some loops ≡ first_of (codes "loops") rows → (path : Text) (told : Report) → ¬ AreProblemsGiven path told name rows

@@ -1,7 +1,8 @@
 -- What the words of a command line mean. The words themselves are read as `clap` reads them.
-use Rattle.std.specs.Prelude.{◌≡◌, ◌≢◌, ◌⊎◌, ℕ, ◌≤◌, List, [], ◌∷◌, Option, Some, None, Result, Ok, Err, true, codes, string_bytes, ⊤}
+use Rattle.std.specs.Prelude.{◌≡◌, ◌≢◌, ◌⊎◌, ℕ, ◌≤◌, List, [], ◌∷◌, Option, Some, None, Result, Ok, Err, Bool, true, false, codes, string_bytes, ⊤}
 use Rattle.std.specs.Str.Parse.{IsNumeral, digits_value, without_leading_plus}
 use Rattle.clap.specs.Words.{App, IsAmong, Kinds, Row, Rule, Text, first_of, new_app, new_rule, with_rule, with_subcommand}
+use Rattle.clap.specs.declared.builder.action.ArgAction.TheVariants.{SetTrue}
 use Rattle.clap.specs.declared.builder.value_parser.ValueParser.TheVariants.{Unsigned}
 use Rattle.clap.specs.declared.error.kind.ErrorKind.{ErrorKind}
 use Rattle.clap.specs.declared.error.kind.ErrorKind.TheVariants as kind
@@ -9,6 +10,8 @@ use Rattle.command_line.specs.declared.command.Command.{Command}
 use Rattle.command_line.specs.declared.command.Command.TheVariants as command
 use Rattle.command_line.specs.declared.command.Format.{Format}
 use Rattle.command_line.specs.declared.command.Format.TheVariants as format
+use Rattle.command_line.specs.declared.command.LintTexts.{LintTexts}
+use Rattle.command_line.specs.declared.command.LintTexts.TheVariants as lint
 use Rattle.command_line.specs.declared.command.Report.{Report}
 use Rattle.command_line.specs.declared.command.Report.TheVariants as report
 use Rattle.command_line.specs.declared.command.Work.{Work}
@@ -16,7 +19,7 @@ use Rattle.command_line.specs.declared.command.Work.TheVariants.{Plain, OnMachin
 use Rattle.command_line.specs.declared.command.Task.{Task}
 use Rattle.command_line.specs.declared.command.Task.TheVariants as task
 use Rattle.command_line.specs.declared.command.Search.{Search}
-use Rattle.command_line.specs.declared.command.Search.TheVariants.{Schedule, Json, Explain, Run}
+use Rattle.command_line.specs.declared.command.Search.TheVariants.{Schedule, Json, Explain, Vary, Run}
 use Rattle.command_line.specs.declared.line.Usage.{Usage}
 use Rattle.command_line.specs.declared.line.Usage.TheVariants.{Help, Refused, Memory}
 use Rattle.settings.specs.Settings.{AreSettings, SettingsData}
@@ -25,13 +28,17 @@ use Rattle.settings.specs.Settings.{AreSettings, SettingsData}
 abbrev pub path_rule : Text → Rule
 path_rule id = record (new_rule id) { value_names = 1; required = true }
 
+-- one that may be left out
+abbrev pub spare_rule : Text → Rule
+spare_rule id = record (new_rule id) { value_names = 1 }
+
 -- a subcommand with the paths of both files: `NAME MACHINE LOOPS`
 abbrev pub with_paths : Text → App
 with_paths name = with_rule (with_rule (new_app name) (path_rule (codes "machine"))) (path_rule (codes "loops"))
 
--- a subcommand with the paths of both files, or with that of problems alone: `NAME MACHINE LOOPS`, `NAME PROBLEMS`
+-- a subcommand with the paths of both files, or with one path alone: `NAME MACHINE LOOPS`, `NAME PROBLEMS`
 unfoldable pub either_line : Text → App
-either_line name = with_rule (with_rule (new_app name) (path_rule (codes "machine"))) (record (new_rule (codes "loops")) { value_names = 1 })
+either_line name = with_rule (with_rule (new_app name) (path_rule (codes "machine"))) (spare_rule (codes "loops"))
 
 -- `--trip N`, which has to be given: a number from 0 to 100,000
 abbrev pub trip_rule : Rule
@@ -99,12 +106,20 @@ bare_line =
 -- a line with the subcommands that look for kernels
 abbrev pub with_kernels : App → App
 with_kernels app =
-    with_subcommand (with_subcommand (with_subcommand (with_subcommand app (search_line (codes "schedule")).top) run_line.top) (search_line (codes "json")).top) explain_line.top
+    with_subcommand (with_subcommand (with_subcommand (with_subcommand (with_subcommand app (search_line (codes "schedule")).top) run_line.top) (search_line (codes "json")).top) explain_line.top) (search_line (codes "vary")).top
+
+-- `--machine-only`, which has no value
+abbrev pub machine_only_rule : Rule
+machine_only_rule = record (new_rule (codes "machine-only")) { long = Some (codes "machine-only"); action = Some SetTrue }
+
+-- `lint MACHINE LOOPS` and `lint LOOPS`, and `--machine-only` for `lint MACHINE --machine-only`
+unfoldable pub lint_line : App
+lint_line = with_rule (either_line (codes "lint")) machine_only_rule
 
 -- a line with those that look for none
 abbrev pub with_reports : App → App
 with_reports app =
-    with_subcommand (with_subcommand (with_subcommand (with_subcommand app (with_paths (codes "bounds")).top) (either_line (codes "edges")).top) (either_line (codes "dot")).top) plain_line.top
+    with_subcommand (with_subcommand (with_subcommand (with_subcommand (with_subcommand app (with_paths (codes "bounds")).top) (either_line (codes "edges")).top) (either_line (codes "dot")).top) plain_line.top) lint_line.top
 
 -- `--format FORMAT`, which is looked at where the command is made
 abbrev pub format_rule : Rule
@@ -131,19 +146,34 @@ abbrev pub machine_of_work : Work → Option Text
 machine_of_work (Plain trip workers) = None
 machine_of_work (OnMachine machine task) = Some (string_bytes machine)
 
+-- the path of the machine's file, where its faults and those of loops are told
+abbrev pub first_lint_path : LintTexts → Option Text
+first_lint_path (lint.Machine machine) = None
+first_lint_path (lint.Loops loops) = None
+first_lint_path (lint.Both machine loops) = Some (string_bytes machine)
+
+-- the path of the loops' file, or of a machine's whose faults alone are told
+abbrev pub last_lint_path : LintTexts → Text
+last_lint_path (lint.Machine machine) = string_bytes machine
+last_lint_path (lint.Loops loops) = string_bytes loops
+last_lint_path (lint.Both machine loops) = string_bytes loops
+
 -- the path of the file that is read first, where a command reads two: the machine's, or the problems' of a check
 abbrev pub first_path : Command → Option Text
 first_path (command.Loops loops work) = machine_of_work work
 first_path (command.Solve problems settings format) = None
 first_path (command.Problems problems told) = None
 first_path (command.Check problems solutions) = Some (string_bytes problems)
+first_path (command.Lint texts) = first_lint_path texts
 
--- the path of the file that is read last: the loops', the problems' where they are not checked, or the solutions' of a check
+-- the path of the file that is read last: the loops', the problems' where they are not checked, the solutions' of a check, or that of a machine
+-- whose faults alone are told
 abbrev pub last_path : Command → Text
 last_path (command.Loops loops work) = string_bytes loops
 last_path (command.Solve problems settings format) = string_bytes problems
 last_path (command.Problems problems told) = string_bytes problems
 last_path (command.Check problems solutions) = string_bytes solutions
+last_path (command.Lint texts) = last_lint_path texts
 
 -- a word is a number in decimal digits, with or without a plus before them
 abbrev pub Says : Text → ℕ → Type 0
@@ -183,6 +213,7 @@ abbrev pub IsSearchGiven : Search → Text → List Row → Type 0
 IsSearchGiven Schedule name given = name ≡ codes "schedule"
 IsSearchGiven Json name given = name ≡ codes "json"
 IsSearchGiven Explain name given = name ≡ codes "explain"
+IsSearchGiven Vary name given = name ≡ codes "vary"
 IsSearchGiven (Run trip) name given = (name ≡ codes "run") × SaysTrip (first_of (codes "trip") given) trip
 
 -- .. tells that of the loops on a machine: where it looks for kernels, by the settings that it was given
@@ -215,6 +246,27 @@ AreProblemsGiven path told name given = (first_of (codes "machine") given ≡ So
     × (first_of (codes "loops") given ≡ None)
     × IsReportGiven told name given
 
+-- the word that stands for an option without a value: it was given, or left out
+abbrev pub switch_word : Bool → Text
+switch_word true = codes "true"
+switch_word false = codes "false"
+
+abbrev pub SaysSwitch : Option Text → Bool → Type 0
+SaysSwitch word is_given = word ≡ Some (switch_word is_given)
+
+-- two paths are those of a machine and of loops. One path is that of loops, or with `--machine-only` that of a machine
+abbrev pub AreTexts : LintTexts → Text → Option Text → Bool → Type 0
+AreTexts (lint.Machine machine) first second machine_only = (string_bytes machine ≡ first) × (second ≡ None) × (machine_only ≡ true)
+AreTexts (lint.Loops loops) first second machine_only = (string_bytes loops ≡ first) × (second ≡ None) × (machine_only ≡ false)
+AreTexts (lint.Both machine loops) first second machine_only = (string_bytes machine ≡ first) × (second ≡ Some (string_bytes loops)) × (machine_only ≡ false)
+
+-- .. was given these texts, whose faults are to be told
+abbrev pub AreTextsGiven : LintTexts → List Row → Type 0
+AreTextsGiven texts given = (first : Text) × (machine_only : Bool)
+    × (first_of (codes "machine") given ≡ Some first)
+    × SaysSwitch (first_of (codes "machine-only") given) machine_only
+    × AreTexts texts first (first_of (codes "loops") given) machine_only
+
 -- a command is of a subcommand of this name, and has what that was given
 abbrev pub MeansNamed : Command → Text → List Row → Type 0
 MeansNamed (command.Loops loops work) name given = AreLoopsGiven (string_bytes loops) work name given
@@ -226,6 +278,7 @@ MeansNamed (command.Problems problems told) name given = AreProblemsGiven (strin
 MeansNamed (command.Check problems solutions) name given = (name ≡ codes "check")
     × (first_of (codes "problems") given ≡ Some (string_bytes problems))
     × (first_of (codes "solutions") given ≡ Some (string_bytes solutions))
+MeansNamed (command.Lint texts) name given = (name ≡ codes "lint") × AreTextsGiven texts given
 
 abbrev pub Means : Command → Option (Text × List Row) → Type 0
 Means command None = ⊥
@@ -244,7 +297,7 @@ IsToldBy (Refused text) k = (¬ IsRequest k) × (k ≢ kind.OutOfMemory)
 IsToldBy Memory k = ⊤
 
 -- a line gives the command that its subcommand means; it is answered with help or the version, or refused, as `clap` does; or
--- refused where `clap` takes it and a path is missing
+-- refused where `clap` takes it and no command is meant
 abbrev pub IsRead : Result Command Usage → Kinds → Option (Text × List Row) → Type 0
 IsRead (Ok c) kinds subcommand = (kinds ≡ []) × Means c subcommand
 IsRead (Err (Help text)) kinds subcommand = (k : ErrorKind) × IsAmong k kinds × IsRequest k

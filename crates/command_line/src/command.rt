@@ -1,7 +1,7 @@
 //! Commands.
 
 ghost use Rattle.std.specs.Prelude.{◌≡◌, ◌≢◌, option_map, IfSome, IfNone};
-ghost use Rattle.command_line.specs.Lines.{first_path, format_word, last_path, machine_of_work};
+ghost use Rattle.command_line.specs.Lines.{first_lint_path, first_path, format_word, last_lint_path, last_path, machine_of_work};
 
 use crate::trip::Trip;
 use settings::Settings;
@@ -38,6 +38,30 @@ pub enum Command {
         problems: String,
         /// The path of the solutions' file.
         solutions: String,
+    },
+    /// Tell the faults of texts: of loops all of them, and of a machine the first.
+    Lint(LintTexts),
+}
+
+/// The texts whose faults are told.
+#[derive(Debug, Drop)]
+pub enum LintTexts {
+    /// A machine's alone.
+    Machine {
+        /// The path of the machine's file.
+        machine: String,
+    },
+    /// That of loops alone.
+    Loops {
+        /// The path of the loops' file.
+        loops: String,
+    },
+    /// A machine's and that of loops.
+    Both {
+        /// The path of the machine's file.
+        machine: String,
+        /// The path of the loops' file.
+        loops: String,
     },
 }
 
@@ -105,6 +129,8 @@ pub enum Search {
     Json,
     /// Why each loop has its interval.
     Explain,
+    /// What variants of the machine bring each loop.
+    Vary,
     /// What the run of each kernel changes, with this trip count.
     Run(Trip),
 }
@@ -129,10 +155,12 @@ impl Command {
             Command::Loops { work, .. } => machine_of(work),
             Command::Solve { .. } | Command::Problems { .. } => None,
             Command::Check { problems, .. } => Some(problems.as_str()),
+            Command::Lint(texts) => texts.first_path(),
         }
     }
 
-    /// The path of the file that is read last: the loops', the problems' where they are not checked, or the solutions' of a check.
+    /// The path of the file that is read last: the loops', the problems' where they are not checked, the solutions' of a check, or that of a machine
+    /// whose faults alone are told.
     pub fn last_path(&self) -> &str
         ensures { result.now ≡ last_path self.now }
     {
@@ -141,6 +169,29 @@ impl Command {
             Command::Solve { problems, .. } => problems.as_str(),
             Command::Problems { problems, .. } => problems.as_str(),
             Command::Check { solutions, .. } => solutions.as_str(),
+            Command::Lint(texts) => texts.last_path(),
+        }
+    }
+}
+
+impl LintTexts {
+    /// The path of the machine's file, where the loops' is read after it.
+    fn first_path(&self) -> Option<&str>
+        ensures { option_map (λ path. path.now) result ≡ first_lint_path self.now }
+    {
+        match self {
+            LintTexts::Machine { .. } | LintTexts::Loops { .. } => None,
+            LintTexts::Both { machine, .. } => Some(machine.as_str()),
+        }
+    }
+
+    /// The path of the loops' file, or that of a machine alone.
+    fn last_path(&self) -> &str
+        ensures { result.now ≡ last_lint_path self.now }
+    {
+        match self {
+            LintTexts::Machine { machine } => machine.as_str(),
+            LintTexts::Loops { loops } | LintTexts::Both { loops, .. } => loops.as_str(),
         }
     }
 }

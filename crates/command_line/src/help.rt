@@ -23,11 +23,15 @@ each of 1 to 128 operations, with at most 256 values, 2,048 reads and 16,384 edg
 bytes; 64 units, 8 files and 256 kinds of a machine; 1 to 16 alternatives of a kind, each of 1 to 16
 holds.
 
+A path that is `-` is the standard input, and `./-` a file of that name. Where a command takes two texts,
+one of them may come from it.
+
 Exit status: 0 done; 1 done, but some loop has no kernel at any interval that was tried, some problem is
 not solved, or some problem has no solution that holds; 2 the line is refused; 3 a file can't be read;
 4 the machine is refused, or the text of problems; 5 the loops are refused, or an opcode has no
 reservation table, or the text of solutions is refused; 6 the output can't be written; 7 out of memory.
-A fault is told in one line on the standard error.";
+A fault is told in one line on the standard error. Only `lint` prints the faults of texts to the standard
+output; it ends with 4 where one is of the machine, and else with 5.";
 
 pub(crate) const SCHEDULE_ABOUT: &str = "Find a kernel for each loop, and print the listing";
 
@@ -130,6 +134,31 @@ after another, so the cut changes nothing here.
 With one path alone, that of scheduling problems, tells the same of each problem, up to what holds its interval,
 and then its solution, as `modsched solve` prints it.";
 
+pub(crate) const VARY_ABOUT: &str = "Tell what variants of the machine bring each loop";
+
+pub(crate) const VARY_LONG_ABOUT: &str = "Tell what variants of the machine bring each loop.
+
+Finds for each loop, in the order of the file, the interval that `modsched schedule` lists with the same
+options, on the machine and on variants of it, and prints
+
+  loop NAME ops O mii M ii I registers N  the interval on the machine as it is, in cycles, and the least number
+                                          of registers with which the loop still has it
+  loop NAME ops O mii M failed            in place of it, where the loop has no kernel there
+  unit U doubled RESULT                   for each unit that the loop may take: it is there twice
+  latency OPCODE L RESULT                 for each opcode of the loop with a latency above 1: it is L, one
+                                          cycle less
+  registers R RESULT                      for other numbers of registers: half as many, one less, one more,
+                                          twice as many and 256
+
+  ii J shorter, longer, same or new       RESULT: the interval there, against the one on the machine as it is;
+                                          `new` where there was none
+  failed                                  the loop has no kernel there
+  -                                       such a machine would pass a limit
+
+A variant that has no line leaves the interval of the loop as it is. The last line, loops A met B failed F,
+has the numbers of loops, of those with a kernel on the machine as it is and of those without. One thread does
+the work, so that workers and the cut change nothing here.";
+
 pub(crate) const BOUNDS_ABOUT: &str = "Print lower bounds on each loop's initiation interval";
 
 pub(crate) const BOUNDS_LONG_ABOUT: &str = "Print lower bounds on each loop's initiation interval.
@@ -196,6 +225,24 @@ No machine is read. Prints for each loop, in the order of the file:
   out NAME VALUE       for each out of the loop, in order, changed or not
 
 The last line, loops A, has the number of loops.";
+
+pub(crate) const LINT_ABOUT: &str =
+    "Tell the faults of a machine and of loops, each with its place";
+
+pub(crate) const LINT_LONG_ABOUT: &str =
+    "Tell the faults of a machine and of loops, each with its place.
+
+Prints lines as editors and build tools read them, the machine's before those of the loops, and nothing
+where no text has a fault:
+
+  PATH:LINE:COLUMN: WORD: WHAT   what is wrong, and what is expected there; WORD has the bytes of the loops that
+                                 the fault is about, and is left out where there are none
+
+Of the loops every fault is told, and of a machine the first, without a WORD. Lines and columns are counted
+from 1; a fault that has no place is told of line 0 and column 0.
+
+One path is that of loops, or with --machine-only that of a machine. No kernel is searched for, and whether
+the machine has a table for each opcode of the loops is not looked at.";
 
 pub(crate) const SOLVE_ABOUT: &str = "Find a schedule and registers for each scheduling problem";
 
@@ -267,6 +314,14 @@ problems";
 
 pub(crate) const SPARE_LOOPS: &str =
     "The file with the loops' text; left out where scheduling problems are given";
+
+pub(crate) const MACHINE_OR_LOOPS: &str =
+    "The file with the machine's text; or, where no other file is given, that with the loops' text";
+
+pub(crate) const LOOPS_OF_TWO: &str =
+    "The file with the loops' text; left out where one text is judged by itself";
+
+pub(crate) const MACHINE_ONLY: &str = "The one file that is given has the machine's text";
 
 pub(crate) const PROBLEMS: &str = "The file with the text of scheduling problems";
 

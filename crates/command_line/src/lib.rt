@@ -6,7 +6,7 @@ mod help;
 mod line;
 mod trip;
 
-pub use command::{Command, Format, Report, Search, Task, Work};
+pub use command::{Command, Format, LintTexts, Report, Search, Task, Work};
 pub use line::{Usage, parse_line};
 pub use settings::Settings;
 pub use trip::{TRIP_LIMIT, Trip};

@@ -9,10 +9,12 @@ mod form;
 mod given;
 
 use crate::command::Command;
+use clap::ArgMatches;
 use clap::error::ErrorKind;
 use form::program;
 use given::command_of;
-use std::alloc::{AllocError, Global};
+use machine_data::OutOfMemory;
+use std::alloc::Global;
 
 /// Why a line gives no command.
 #[derive(Debug, Drop)]
@@ -25,10 +27,10 @@ pub enum Usage {
     Memory,
 }
 
-impl From<AllocError> for Usage {
+impl From<OutOfMemory> for Usage {
     ghost from_gives = { λ _ e. e ≡ Memory };
 
-    fn from(_e: AllocError) -> Usage {
+    fn from(_e: OutOfMemory) -> Usage {
         Usage::Memory
     }
 }
@@ -52,11 +54,21 @@ pub fn parse_line<'a>(alloc: Global, words: &'a [&'a str]) -> Result<Command, Us
     match program(alloc)?.try_get_matches_from(words) {
         Ok(matches) => match command_of(alloc, &matches)? {
             Some(command) => Ok(command),
-            None => Err(Usage::Refused(String::from_str(
-                alloc,
-                "error: an argument is missing, or '--format' is neither 'text' nor 'json'\n\nFor more information, try '--help'.\n",
-            )?)),
+            None => Err(Usage::Refused(String::from_str(alloc, refusal(&matches))?)),
         },
         Err(error) => Err(usage_of(alloc, &error)),
+    }
+}
+
+// What is wrong where words have the form of a line, and mean no command.
+fn refusal(matches: &ArgMatches<'_>) -> &'static str {
+    match matches.subcommand() {
+        Some(("solve", _)) => {
+            "error: '--format' is neither 'text' nor 'json'\n\nFor more information, try '--help'.\n"
+        }
+        Some(("lint", _)) => {
+            "error: '--machine-only' takes one path, that of the machine\n\nFor more information, try '--help'.\n"
+        }
+        _ => "error: an argument is missing\n\nFor more information, try '--help'.\n",
     }
 }

@@ -5,8 +5,9 @@ ghost use Rattle.std.specs.Prelude.{IfOk, IfSome, OnOk, OnErr, IsErrOf};
 ghost use Rattle.devices.specs.Devices.{Reads, TakesBeginning, most_read, HoldsText};
 ghost use Rattle.devices.specs.declared.text.ReadTextError.TheVariants.{Fault as FaultError, Memory};
 
+use crate::OutOfMemory;
 use crate::device::{Fault, Input, Output};
-use std::alloc::{AllocError, Global};
+use std::alloc::Global;
 use std::fmt;
 use thiserror::Error;
 
@@ -47,10 +48,10 @@ impl From<Fault> for ReadTextError {
     }
 }
 
-impl From<AllocError> for ReadTextError {
+impl From<OutOfMemory> for ReadTextError {
     ghost from_gives = { λ _ e. e ≡ Memory };
 
-    fn from(_e: AllocError) -> ReadTextError {
+    fn from(_e: OutOfMemory) -> ReadTextError {
         ReadTextError::Memory
     }
 }
@@ -69,7 +70,7 @@ fn read_behind<I: Input>(input: &mut I, buffer: &mut [u8], filled: usize) -> Res
 }
 
 // Doubles a buffer that is full, up to what is read at most.
-fn make_room(buffer: &mut Vec<u8>, filled: usize, most: usize) -> Result<(), AllocError>
+fn make_room(buffer: &mut Vec<u8>, filled: usize, most: usize) -> Result<(), OutOfMemory>
     requires some { 0 < vec_len buffer.old }
     requires within { filled ≤ vec_len buffer.old }
     requires below { filled < most }

@@ -1,5 +1,5 @@
 -- The numbers by which a run of the program exits, and the lines that tell of a fault.
-use Rattle.std.specs.Prelude.{ℕ, codes, List, [], ◌++◌}
+use Rattle.std.specs.Prelude.{ℕ, Bool, true, false, codes, List, [], ◌++◌}
 use Rattle.loops.specs.Faults.{loop_fault_text}
 use Rattle.loops.specs.LoopFault.{LoopFault}
 use Rattle.loops.specs.LoopFaultKind.{LoopFaultKind}
@@ -21,7 +21,7 @@ use Rattle.solution_reader.specs.declared.fault.Wrong.TheVariants as solutions_w
 use Rattle.problem_printouts.specs.declared.fault.ProblemsFault.{ProblemsFault}
 use Rattle.problem_printouts.specs.declared.fault.ProblemsFault.TheVariants as problems
 use Rattle.exit_status.specs.declared.status.Status.{Status}
-use Rattle.exit_status.specs.declared.status.Status.TheVariants.{Done, Unmet, MachineUnread, LoopsUnread, ProblemsUnread, SolutionsUnread}
+use Rattle.exit_status.specs.declared.status.Status.TheVariants.{Done, Unmet, MachineFaulty, LoopsFaulty, MachineUnread, LoopsUnread, ProblemsUnread, SolutionsUnread}
 use Rattle.exit_status.specs.declared.status.Status.TheVariants.{Machine, Loops, NoTable, Problems, Solutions, Unwritten}
 use Rattle.exit_status.specs.declared.status.Status.TheVariants.{OutOfMemory}
 
@@ -45,11 +45,13 @@ abbrev pub solutions_number : SolutionsWrong → ℕ
 solutions_number solutions_wrong.Memory = 7
 solutions_number _ = 5
 
--- 0 done, 1 a loop or a problem is not met, 3 a file can't be read, 4 machine or problems refused, 5 loops or solutions refused,
--- 6 output can't be written, 7 out of memory
+-- 0 done, 1 a loop or a problem is not met, 3 a file can't be read, 4 machine or problems refused, or faults of the machine told, 5 loops or
+-- solutions refused, or faults of the loops told, 6 output can't be written, 7 out of memory
 abbrev pub status_number : Status → ℕ
 status_number Done = 0
 status_number Unmet = 1
+status_number MachineFaulty = 4
+status_number LoopsFaulty = 5
 status_number MachineUnread = 3
 status_number LoopsUnread = 3
 status_number ProblemsUnread = 3
@@ -66,12 +68,16 @@ status_number OutOfMemory = 7
 abbrev pub IsComplete : Status → Type 0
 IsComplete Done = Unit {0}
 IsComplete Unmet = Unit {0}
+IsComplete MachineFaulty = Unit {0}
+IsComplete LoopsFaulty = Unit {0}
 IsComplete _ = ⊥
 
 -- the output was written, whole or, where it failed, a beginning of it
 abbrev pub HasWritten : Status → Type 0
 HasWritten Done = Unit {0}
 HasWritten Unmet = Unit {0}
+HasWritten MachineFaulty = Unit {0}
+HasWritten LoopsFaulty = Unit {0}
 HasWritten Unwritten = Unit {0}
 HasWritten _ = ⊥
 
@@ -146,10 +152,20 @@ abbrev pub solutions_line : SolutionsWrong → SolutionFault → List ℕ
 solutions_line solutions_wrong.Memory f = codes "out of memory"
 solutions_line _ f = codes "solutions: " ++ solutions_fault_text f
 
+-- a status has a line on the standard error, but where the output was written whole
+abbrev pub has_line : Status → Bool
+has_line Done = false
+has_line Unmet = false
+has_line MachineFaulty = false
+has_line LoopsFaulty = false
+has_line _ = true
+
 -- the line for the standard error
 abbrev pub line_of : Status → List ℕ
 line_of Done = []
 line_of Unmet = []
+line_of MachineFaulty = []
+line_of LoopsFaulty = []
 line_of MachineUnread = codes "machine: cannot read"
 line_of LoopsUnread = codes "loops: cannot read"
 line_of ProblemsUnread = codes "problems: cannot read"

@@ -4,8 +4,10 @@
 
 mod exit;
 mod status;
+mod verdict;
 mod written;
 
 pub use exit::{Told, exit_number};
 pub use status::{Line, Status};
+pub use verdict::Verdict;
 pub use written::{finish, show};

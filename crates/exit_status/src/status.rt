@@ -1,7 +1,7 @@
 //! How a run of the program ends.
 
-ghost use Rattle.std.specs.Prelude.{◌≡◌, ◌<◌, ◌↔◌, IsSome, IfSome};
-ghost use Rattle.exit_status.specs.Statuses.{status_number, problems_number, solutions_number, refusal_of_file, refusal_of_machine, refusal_of_loops};
+ghost use Rattle.std.specs.Prelude.{◌≡◌, is_some, IfSome};
+ghost use Rattle.exit_status.specs.Statuses.{has_line, status_number, problems_number, solutions_number, refusal_of_file, refusal_of_machine, refusal_of_loops};
 ghost use Rattle.exit_status.specs.Statuses.{refusal_of_problems, refusal_of_problem_text, refusal_of_solution_text};
 
 use file_faults::FileFault;
@@ -21,6 +21,10 @@ pub enum Status {
     Done,
     /// The output is written, and it tells of a loop or a problem that is not met.
     Unmet,
+    /// The output is written, and it tells of faults of the machine's text.
+    MachineFaulty,
+    /// The output is written, and it tells of faults of the loops' text alone.
+    LoopsFaulty,
     /// The machine's file can't be read.
     MachineUnread,
     /// The loops' file can't be read.
@@ -53,6 +57,8 @@ impl Status {
         match self {
             Status::Done => 0,
             Status::Unmet => 1,
+            Status::MachineFaulty => 4,
+            Status::LoopsFaulty => 5,
             Status::MachineUnread | Status::LoopsUnread => 3,
             Status::ProblemsUnread | Status::SolutionsUnread => 3,
             Status::Machine(MachineFault::Memory) => 7,
@@ -70,13 +76,13 @@ impl Status {
     }
 
     /// The line for the standard error, without the program's name before it and the line feed after
-    /// it, where the status is a fault.
+    /// it, where the status is a fault. What an output tells that is written whole has no such line.
     pub fn line(&self) -> Option<Line<'_>>
-        ensures there { IsSome result ↔ (1 < status_number self.now) }
+        ensures there { is_some result ≡ has_line self.now }
         ensures own { IfSome result (λ line. line ≡ self.now) }
     {
         match self {
-            Status::Done | Status::Unmet => None,
+            Status::Done | Status::Unmet | Status::MachineFaulty | Status::LoopsFaulty => None,
             _ => Some(Line { status: self }),
         }
     }
@@ -200,6 +206,7 @@ impl fmt::Display for Line<'_> {
     fn fmt<W: fmt::Write>(&self, f: &mut fmt::Formatter<W>) -> fmt::Result {
         match self.status {
             Status::Done | Status::Unmet => Ok(()),
+            Status::MachineFaulty | Status::LoopsFaulty => Ok(()),
             Status::MachineUnread => f.write_str("machine: cannot read"),
             Status::LoopsUnread => f.write_str("loops: cannot read"),
             Status::ProblemsUnread => f.write_str("problems: cannot read"),

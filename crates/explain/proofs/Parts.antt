@@ -23,6 +23,7 @@ use Rattle.candidates.specs.declared.choices.Choice.{Choice}
 use Rattle.candidates.specs.Listings.{is_met, is_failed}
 use Rattle.explain.specs.CircuitTexts.{IsCircuitText}
 use Rattle.explain.specs.Explanations.{ArePartsOf, IsExplained, IsPartOf, IsTold, IsToldOn, PartData, bounds_of}
+use Rattle.explain.specs.Shown.{IsShown}
 use Rattle.explain.specs.Tries.{AreTries}
 
 -- the parts of what is told of a loop
@@ -36,6 +37,17 @@ explained units p choice loop bounds old a u b new same_loop same_bounds head li
       ((line ++ units) ++ circuit.0) ++ tries.0,
       record { circuit = circuit.0; is_circuit = circuit.1; tries = tries.0; are_tries = tries.1; is_text = refl },
       two_pushed old ((line ++ units) ++ circuit.0) tries.0 b new (two_pushed old (line ++ units) circuit.0 u b both circuit.2) tries.2,
+    )
+
+-- the schedule and the registers after that
+pub told-of : (machine : MachineData) (units : List ℕ) (p : ProblemData) (choice same : Choice) (old middle new : List ℕ) → choice ≡ same
+    → ((part : List ℕ) × IsExplained units p same part × (middle ≡ old ++ part)) → ((part : List ℕ) × IsShown machine p same part × (new ≡ middle ++ part))
+    → (part : List ℕ) × IsTold machine units p choice part × (new ≡ old ++ part)
+told-of machine units p choice same old middle new e explanation shown =
+    subst (λ (c : Choice). (part : List ℕ) × IsTold machine units p c part × (new ≡ old ++ part)) (sym e) (
+      explanation.0 ++ shown.0,
+      record { explanation = explanation.0; is_explanation = explanation.1; shown = shown.0; is_shown = shown.1; is_text = refl },
+      two_pushed old explanation.0 shown.0 middle new explanation.2 shown.2,
     )
 
 -- what the preparation of a loop tells

@@ -7,12 +7,12 @@ use Rattle.ims.specs.Problems.{ProblemData, IsProblem, mii_of}
 use Rattle.kernel.specs.declared.kernels.parts.Parts.{Parts}
 use Rattle.candidates.specs.declared.outcomes.Cause.{Cause}
 use Rattle.candidates.specs.declared.choices.Choice.TheVariants.{Met, Failed}
+use Rattle.candidates.specs.declared.evidence.Reason.{Reason}
 use Rattle.candidates.specs.Outcomes.{FailsBy, GivesKernel}
+use Rattle.candidates.specs.Reasons.{FailsFor, reason_cause}
 use Rattle.candidates.proofs.Rising.{Risen, met_here, risen_on, unmet_here}
 use Rattle.explain.specs.declared.intervals.hold.Hold.{Hold}
-use Rattle.explain.specs.declared.intervals.reasons.Reason.{Reason}
 use Rattle.explain.specs.Holds.{IsHold}
-use Rattle.explain.specs.Reasons.{FailsFor, IsReason, cause_of}
 use Rattle.explain.specs.Tries.{AreTries, hold_line, kernel_line, try_line}
 use Rattle.graph_text.proofs.Texts.{row-more}
 
@@ -59,14 +59,13 @@ unmet-tries p above last lines r at are = record {
 
 -- one interval more
 pub told-more : (p : ProblemData) (m above : ℕ) (last cause : Cause) (reason : Reason) (old new newer : List ℕ) → IsProblem p → m ≡ mii_of p → AreTold p above last old new
-    → FailsBy p (m + above) cause → cause_of reason ≡ cause → IsReason p (m + above) reason → newer ≡ new ++ try_line p.loop (m + above) reason → AreTold p (above + 1) cause old newer
-told-more p m above last cause reason old new newer is same t fails by reasoned e =
-    let h : FailsBy p (mii_of p + above) cause = subst (λ (n : ℕ). FailsBy p (n + above) cause) same fails in
-    let r : IsReason p (mii_of p + above) reason = subst (λ (n : ℕ). IsReason p (n + above) reason) same reasoned in
+    → FailsFor p (m + above) reason → cause ≡ reason_cause reason → newer ≡ new ++ try_line p.loop (m + above) reason → AreTold p (above + 1) cause old newer
+told-more p m above last cause reason old new newer is same t fails by e =
+    let h : FailsFor p (mii_of p + above) reason = subst (λ (n : ℕ). FailsFor p (n + above) reason) same fails in
     record {
-      risen = risen_on p above last cause is t.risen h;
+      risen = risen_on p above last cause is t.risen (subst (FailsBy p (mii_of p + above)) (sym by) h.fails);
       lines = t.lines ++ try_line p.loop (m + above) reason;
       are_lines = subst (λ (n : ℕ). AreTexts (FailsFor p) (try_line p.loop) (range_with_len (mii_of p) (above + 1)) (t.lines ++ try_line p.loop (n + above) reason)) (sym same)
-          (row-more (FailsFor p) (try_line p.loop) (mii_of p) above t.lines reason t.are_lines (record { fails = subst (FailsBy p (mii_of p + above)) (sym by) h; is = r }));
+          (row-more (FailsFor p) (try_line p.loop) (mii_of p) above t.lines reason t.are_lines h);
       is_text = two_pushed old t.lines (try_line p.loop (m + above) reason) new newer t.is_text e;
     }

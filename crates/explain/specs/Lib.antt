@@ -4,3 +4,4 @@ pub mod Holds
 pub mod Reasons
 pub mod Shown
 pub mod Tries
+pub mod inner

@@ -6,17 +6,18 @@ use Rattle.graph_text.specs.Texts.{AreTexts}
 use Rattle.ims.specs.Problems.{ProblemData, mii_of}
 use Rattle.candidates.specs.declared.choices.Choice.{Choice}
 use Rattle.candidates.specs.declared.choices.Choice.TheVariants.{Met, Failed}
+use Rattle.candidates.specs.declared.evidence.Reason.{Reason}
 use Rattle.candidates.specs.Choices.{IsChoice}
+use Rattle.candidates.specs.Reasons.{FailsFor, reason_cause}
 use Rattle.candidates.specs.Texts.{cause_word}
 use Rattle.writing.specs.Words.{told}
 use Rattle.explain.specs.declared.intervals.hold.Hold.{Hold}
-use Rattle.explain.specs.declared.intervals.reasons.Reason.{Reason}
 use Rattle.explain.specs.Holds.{IsHold, hold_word}
-use Rattle.explain.specs.Reasons.{FailsFor, cause_of, reason_text}
+use Rattle.explain.specs.Reasons.{reason_text}
 
 -- `try I CAUSE:`, and its culprits, with a line feed
 abbrev pub try_line : LoopData → ℕ → Reason → List ℕ
-try_line loop ii reason = (((told (codes "try ") ii ++ (codes " " ++ cause_word (cause_of reason))) ++ codes ":") ++ reason_text loop reason) ++ codes "\n"
+try_line loop ii reason = (((told (codes "try ") ii ++ (codes " " ++ cause_word (reason_cause reason))) ++ codes ":") ++ reason_text loop reason) ++ codes "\n"
 
 -- `try I kernel stages S`, with a line feed
 abbrev pub kernel_line : ℕ → ℕ → List ℕ

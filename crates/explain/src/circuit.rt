@@ -12,7 +12,8 @@ use graph::{Edge, Edges};
 use graph_text::{critical_circuit, kind_of, push_circuit_line, push_edge};
 use ims::Prepared;
 use loop_data::Loop;
-use std::alloc::{AllocError, Global};
+use machine_data::OutOfMemory;
+use std::alloc::Global;
 
 /// Appends the lines of the edges of a circuit, in its order.
 fn push_circuit_edges(
@@ -20,7 +21,7 @@ fn push_circuit_edges(
     innermost: &Loop,
     _graph: &Edges,
     circuit: &[Edge],
-) -> Result<(), AllocError>
+) -> Result<(), OutOfMemory>
     requires whole { IsLoop innermost.now }
     requires timed { All (IsTimed innermost.now _graph.now.latencies) circuit.now }
     ensures ok { OnOk result ((lines : List ℕ) × AreTexts (IsOfKind innermost.now _graph.now.latencies) (edge_line innermost.now) circuit.now lines × (text.new.items ≡ text.old.items ++ lines)) }
@@ -36,7 +37,7 @@ pub(crate) fn push_circuit(
     alloc: Global,
     text: &mut Vec<u8>,
     prepared: &Prepared,
-) -> Result<(), AllocError>
+) -> Result<(), OutOfMemory>
     ensures ok { OnOk result ((part : List ℕ) × IsCircuitText prepared.now part × (text.new.items ≡ text.old.items ++ part)) }
 {
     let graph = prepared.edges();

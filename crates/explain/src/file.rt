@@ -12,7 +12,7 @@ ghost use Rattle.resource_bound.specs.UnitLines.{unit_lines_of};
 ghost use Rattle.explain.specs.declared.file.Tally.{Tally};
 
 use crate::shown::push_shown;
-use crate::single::push_explanation;
+use crate::single::push_chosen;
 use candidates::{Choice, prepare};
 use graph::GraphFault;
 use graph_text::TextFault;
@@ -21,7 +21,7 @@ use loop_data::Loop;
 use machine_data::{Machine, OutOfMemory};
 use resource_bound::{push_unit_lines, unit_choices};
 use settings::Settings;
-use std::alloc::{AllocError, Global};
+use std::alloc::Global;
 
 /// A guess of how many bytes are told of a loop, for the first reservation.
 const PART: usize = 512;
@@ -89,9 +89,9 @@ fn push_part(
 ) -> Result<Choice, OutOfMemory>
     ensures exact { IfOk result (λ choice. (part : List ℕ) × IsTold machine.now units.now prepared.now choice part × (text.new.items ≡ text.old.items ++ part)) }
 {
-    let choice = push_explanation(alloc, text, units, prepared)?;
-    push_shown(alloc, text, machine, prepared, &choice)?;
-    Ok(choice)
+    let chosen = push_chosen(alloc, text, units, prepared)?;
+    push_shown(alloc, text, machine, prepared, &chosen)?;
+    Ok(chosen.into_choice())
 }
 
 /// Appends what is told of a loop that is prepared for the machine: what [`push_explanation`](crate::push_explanation)
@@ -157,7 +157,7 @@ fn push_loops(
 ///
 /// # Errors
 /// Memory ran out. The text is left with a part of that.
-pub fn push_last(text: &mut Vec<u8>, loops: u64, met: u64, failed: u64) -> Result<(), AllocError>
+pub fn push_last(text: &mut Vec<u8>, loops: u64, met: u64, failed: u64) -> Result<(), OutOfMemory>
     ensures ok { OnOk result (text.new.items ≡ text.old.items ++ last_line loops met failed) }
 {
     writing::push_last(text, "loops ", loops, met, failed)

@@ -1,6 +1,6 @@
 //! The intervals that are tried, why they fail, and what holds the one that is taken.
 
+pub(crate) mod chosen;
 pub(crate) mod hold;
 pub(crate) mod reason_texts;
-pub(crate) mod reasons;
 pub(crate) mod tries;

@@ -1,15 +1,37 @@
 //! What is told of a loop.
 
 ghost use Rattle.std.specs.Prelude.{◌≡◌, ◌++◌, ℕ, List, IfOk};
+ghost use Rattle.explain.specs.inner.Evidence.{HasEvidence, choice_of};
 ghost use Rattle.explain.specs.Explanations.{IsExplained};
 
 use crate::circuit::push_circuit;
+use crate::intervals::chosen::Chosen;
 use crate::intervals::tries::push_tries;
 use candidates::Choice;
 use graph_text::{LowerBounds, push_bounds_line};
 use ims::Prepared;
 use machine_data::OutOfMemory;
 use std::alloc::Global;
+
+/// Appends what [`push_explanation`] does, and hands out what is chosen with the evidence of it.
+pub(crate) fn push_chosen<'a>(
+    alloc: Global,
+    text: &mut Vec<u8>,
+    units: &[u8],
+    prepared: &'a Prepared,
+) -> Result<Chosen<'a>, OutOfMemory>
+    ensures exact { IfOk result (λ chosen. (part : List ℕ) × IsExplained units.now prepared.now (choice_of chosen) part × (text.new.items ≡ text.old.items ++ part)) }
+    ensures evidence { IfOk result (HasEvidence prepared.now) }
+{
+    let bounds = LowerBounds {
+        resources: prepared.resources(),
+        recurrences: prepared.recurrences(),
+    };
+    push_bounds_line(text, prepared.innermost(), bounds)?;
+    text.extend_from_slice(units)?;
+    push_circuit(alloc, text, prepared)?;
+    push_tries(alloc, text, prepared)
+}
 
 /// Appends why a loop has its interval: the line of its lower bounds, the lines of the units that are given, a
 /// circuit that needs the recurrence-constrained bound, each interval that is tried with its cause, and what
@@ -25,12 +47,6 @@ pub fn push_explanation(
 ) -> Result<Choice, OutOfMemory>
     ensures exact { IfOk result (λ choice. (part : List ℕ) × IsExplained units.now prepared.now choice part × (text.new.items ≡ text.old.items ++ part)) }
 {
-    let bounds = LowerBounds {
-        resources: prepared.resources(),
-        recurrences: prepared.recurrences(),
-    };
-    push_bounds_line(text, prepared.innermost(), bounds)?;
-    text.extend_from_slice(units)?;
-    push_circuit(alloc, text, prepared)?;
-    push_tries(alloc, text, prepared)
+    let chosen = push_chosen(alloc, text, units, prepared)?;
+    Ok(chosen.into_choice())
 }

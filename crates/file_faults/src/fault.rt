@@ -6,8 +6,8 @@ ghost use Rattle.file_faults.specs.Faults.{of_loops, of_machine, of_text};
 
 use graph_text::TextFault;
 use loops::{LoopFault, LoopFaultKind};
-use machine::{MachineFault, Name, Opcode};
-use std::alloc::{AllocError, AllocFailed};
+use machine::{MachineFault, Name, Opcode, OutOfMemory};
+use std::alloc::AllocFailed;
 use std::fmt;
 use thiserror::Error;
 
@@ -77,10 +77,10 @@ impl From<TextFault> for FileFault {
     }
 }
 
-impl From<AllocError> for FileFault {
+impl From<OutOfMemory> for FileFault {
     ghost from_gives = { λ _ e. e ≡ Memory };
 
-    fn from(_e: AllocError) -> FileFault {
+    fn from(_e: OutOfMemory) -> FileFault {
         FileFault::Memory
     }
 }

@@ -1,5 +1,6 @@
 -- Dependences told by statements alone: by the subscripts of their cells and by their operands.
 use Rattle.std.specs.Prelude.{◌≡◌, ◌⊎◌, ℕ, ℤ, pos, ◌+ℤ◌, ◌-ℤ◌, ◌<◌, ◌≤◌, List, ◌++◌, Some, slice_index, slice_get}
+use Rattle.machine_data.specs.declared.limits.TheConstants.{MAX_LATENCY}
 use Rattle.std.specs.List.{All, Contains}
 use Rattle.machine_data.specs.declared.opcode.Opcode.{Opcode}
 use Rattle.machine_data.specs.declared.opcode.Opcode.TheVariants.{Load, Store}
@@ -11,7 +12,7 @@ use Rattle.graph.specs.Dependences.{EdgeData}
 
 -- latencies are 1 to 64 cycles
 abbrev pub AreLatencies : List ℕ → Type 0
-AreLatencies latencies = All (λ l. (0 < l) × (l ≤ 64)) latencies
+AreLatencies latencies = All (λ l. (0 < l) × (l ≤ MAX_LATENCY)) latencies
 
 -- the delay of a dependence through memory, by the opcodes and the latencies of the two operations
 abbrev pub IsDelay : Opcode → Opcode → ℕ → ℕ → ℤ → Type 0

@@ -1,5 +1,6 @@
 -- Counters of the uses of units, and what they tell of the choices made so far.
 use Rattle.std.specs.Prelude.{◌≡◌, ℕ, ◌<◌, ◌≤◌, List, [], ◌++◌, length, slice_index}
+use Rattle.machine_data.specs.declared.limits.TheConstants.{MAX_UNITS}
 use Rattle.std.specs.List.{slice_index_or, All}
 use Rattle.machine_data.specs.declared.alternative.Row.{Row}
 use Rattle.graph.specs.Units.{use_of, greatest_use, IsBest, AreBest, chosen_rows}
@@ -12,7 +13,7 @@ AtMost bound counts = (unit : ℕ) → slice_index counts unit ≤ bound
 -- the counters, one for each of 64 units, and the greatest use are those of the rows taken
 pub record Tallies (taken : List Row) (counts : List ℕ) (greatest : ℕ) : Type 0 where
   pub all : length counts ≡ 64
-  pub each : (unit : ℕ) → unit < 64 → slice_index counts unit ≡ use_of taken unit
+  pub each : (unit : ℕ) → unit < MAX_UNITS → slice_index counts unit ≡ use_of taken unit
   pub most : greatest ≡ greatest_use taken
 
 -- the counters are those of the rows taken and of the best alternative after them

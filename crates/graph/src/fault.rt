@@ -3,8 +3,8 @@
 ghost use Rattle.std.specs.Prelude.{◌≡◌};
 ghost use Rattle.graph.specs.declared.fault.GraphFault.TheVariants.{Memory};
 
-use machine_data::Opcode;
-use std::alloc::{AllocError, AllocFailed};
+use machine_data::{Opcode, OutOfMemory};
+use std::alloc::AllocFailed;
 use std::fmt;
 use thiserror::Error;
 
@@ -34,10 +34,10 @@ impl fmt::Display for GraphFault {
     }
 }
 
-impl From<AllocError> for GraphFault {
+impl From<OutOfMemory> for GraphFault {
     ghost from_gives = { λ _ e. e ≡ Memory };
 
-    fn from(_e: AllocError) -> GraphFault {
+    fn from(_e: OutOfMemory) -> GraphFault {
         GraphFault::Memory
     }
 }

@@ -7,6 +7,7 @@ ghost use Rattle.machine_data.specs.Alternative.{AreAlternatives};
 ghost use Rattle.graph.specs.TablesAnswer.{TablesAnswer};
 ghost use Rattle.graph.specs.Units.{first_without_table, operations_of, greatest_of, greatest_use, IsBest, IsUnitBound};
 ghost use Rattle.graph.specs.Uses.{AtMost, Tallies, TakesBest, CountsRows, IsBelowLawful};
+ghost use Rattle.machine_data.specs.declared.limits.TheConstants.{MAX_ROWS};
 
 use crate::fault::GraphFault;
 use crate::offers::{OfList, OfLoop, Offers};
@@ -27,8 +28,8 @@ struct Uses {
 impl Uses {
     /// These uses with the rows taken on.
     fn with(self, rows: &[Row]) -> Uses
-        requires units { All (λ r. r.unit < 64) rows.now }
-        requires few { length rows.now ≤ 16 }
+        requires units { All (λ r. r.unit < MAX_UNITS) rows.now }
+        requires few { length rows.now ≤ MAX_ROWS }
         requires room { AtMost 60000 self.counts }
         ensures tallied { (taken : List Row) → Tallies taken self.counts self.greatest → Tallies (taken ++ rows.now) result.counts result.greatest }
         ensures grown { (bound : ℕ) → AtMost bound self.counts → AtMost (bound + 16) result.counts }
@@ -47,8 +48,8 @@ impl Uses {
     /// The use of the most used unit with these rows taken on. Most alternatives have one row, which is
     /// counted without a copy of the counters.
     fn greatest_with(&self, rows: &[Row]) -> u16
-        requires units { All (λ r. r.unit < 64) rows.now }
-        requires few { length rows.now ≤ 16 }
+        requires units { All (λ r. r.unit < MAX_UNITS) rows.now }
+        requires few { length rows.now ≤ MAX_ROWS }
         requires room { AtMost 60000 self.now.counts }
         ensures { (taken : List Row) → Tallies taken self.now.counts self.now.greatest → result ≡ greatest_use (taken ++ rows.now) }
     {
@@ -185,7 +186,7 @@ pub fn res_mii(machine: &Machine, innermost: &Loop) -> Result<u64, GraphFault>
 /// [`res_mii`] of operations that are given by the alternatives of each, 1 to 128 of them. No memory is taken.
 pub fn res_mii_of(operations: &[Alternatives]) -> u64
     requires some { 0 < length operations.now }
-    requires few { length operations.now ≤ 128 }
+    requires few { length operations.now ≤ MAX_STATEMENTS }
     ensures exact { IsUnitBound operations.now result }
     ensures below { IsBelowLawful operations.now result }
     ensures from_one { 1 ≤ result }

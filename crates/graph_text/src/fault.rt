@@ -6,8 +6,7 @@ ghost use Rattle.graph_text.specs.Faults.{fault_of};
 
 use graph::GraphFault;
 use loop_data::Loop;
-use machine_data::{Name, Opcode};
-use std::alloc::AllocError;
+use machine_data::{Name, Opcode, OutOfMemory};
 use std::fmt;
 use thiserror::Error;
 
@@ -48,10 +47,10 @@ impl fmt::Display for TextFault {
     }
 }
 
-impl From<AllocError> for TextFault {
+impl From<OutOfMemory> for TextFault {
     ghost from_gives = { λ _ e. e ≡ Memory };
 
-    fn from(_e: AllocError) -> TextFault {
+    fn from(_e: OutOfMemory) -> TextFault {
         TextFault::Memory
     }
 }

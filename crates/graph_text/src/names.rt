@@ -6,11 +6,11 @@ ghost use Rattle.loop_data.specs.NamedParts.{array_name, offset_text, place_word
 ghost use Rattle.graph_text.specs.Names.{op_name, opcode_word};
 
 use loop_data::{Loop, Place};
-use std::alloc::AllocError;
+use machine_data::OutOfMemory;
 use writing::{Text, push_both, push_with_sign};
 
 /// Appends the constant of a subscript with its sign, unless it is 0.
-fn push_offset(text: &mut Vec<u8>, offset: i8) -> Result<(), AllocError>
+fn push_offset(text: &mut Vec<u8>, offset: i8) -> Result<(), OutOfMemory>
     ensures ok { OnOk result (text.new.items ≡ text.old.items ++ offset_text offset) }
 {
     match offset {
@@ -28,7 +28,7 @@ fn array_name(innermost: &Loop, array: u8) -> &str
 }
 
 /// Appends a place as it stands in a loop text.
-fn push_place(text: &mut Vec<u8>, innermost: &Loop, place: Place) -> Result<(), AllocError>
+fn push_place(text: &mut Vec<u8>, innermost: &Loop, place: Place) -> Result<(), OutOfMemory>
     requires { IsPlace innermost.now place }
     ensures ok { OnOk result (text.new.items ≡ text.old.items ++ place_word innermost.now place) }
 {
@@ -39,7 +39,7 @@ fn push_place(text: &mut Vec<u8>, innermost: &Loop, place: Place) -> Result<(), 
 
 /// Appends the name of the operation of this number: that of its value, or for a store its place as it
 /// stands in a loop text.
-pub fn push_name(text: &mut Vec<u8>, innermost: &Loop, number: u8) -> Result<(), AllocError>
+pub fn push_name(text: &mut Vec<u8>, innermost: &Loop, number: u8) -> Result<(), OutOfMemory>
     requires { number < length innermost.now.statements }
     ensures ok { OnOk result (text.new.items ≡ text.old.items ++ op_name innermost.now number) }
 {

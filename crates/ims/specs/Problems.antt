@@ -1,5 +1,6 @@
 -- What is scheduled: a loop, with the dependences between its operations and what a machine offers for each of them.
 use Rattle.std.specs.Prelude.{◌≡◌, ℕ, ◌*◌, ◌≤◌, max, List, length}
+use Rattle.machine_data.specs.declared.limits.TheConstants.{MAX_REGISTERS}
 use Rattle.std.specs.List.{All, Contains}
 use Rattle.machine_data.specs.declared.alternative.Row.{Row}
 use Rattle.machine_data.specs.Machines.{MachineData}
@@ -41,7 +42,7 @@ pub record IsProblem (problem : ProblemData) : Type 0 where
   pub sound : All (Dependence problem.loop problem.graph.latencies) problem.graph.edges
   pub complete : (e : EdgeData) → Dependence problem.loop problem.graph.latencies e → Contains problem.graph.edges e
   pub registers_some : 1 ≤ problem.registers
-  pub registers_few : problem.registers ≤ 256
+  pub registers_few : problem.registers ≤ MAX_REGISTERS
 
 -- the problem of a loop on a machine
 pub record IsProblemOf (machine : MachineData) (loop : LoopData) (ratio ceiling : ℕ) (problem : ProblemData) : Type 0 where

@@ -11,6 +11,7 @@ pub use laws::{
     schedules_keep_dependences, stages_are_few,
 };
 pub use modulo::{Culprit, Failure};
+pub use outcome::answers::{Answer, answer_on};
 pub use outcome::attempts::{Try, attempt, attempt_on};
 pub use outcome::culprits::culprit;
 pub use problem::prepared::Prepared;

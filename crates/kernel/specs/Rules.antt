@@ -1,5 +1,6 @@
 -- The rules of well-formed kernels one by one, and what the check answers.
 use Rattle.std.specs.Prelude.{◌≡◌, ℕ, codes, List, ◌<◌, ◌≤◌, length, Result, Ok, Err}
+use Rattle.machine_data.specs.declared.limits.TheConstants.{MAX_LATENCY}
 use Rattle.std.specs.List.{All}
 use Rattle.kernel.specs.declared.kernels.check.Rule.{Rule}
 use Rattle.kernel.specs.declared.kernels.check.Rule.TheVariants as rule
@@ -14,7 +15,7 @@ abbrev pub Keeps : Rule → Parts → Type 0
 Keeps rule.Size parts = HasSize parts
 Keeps rule.Row parts = All (λ (op : Operation). op.row < parts.ii) parts.operations
 Keeps rule.Stage parts = All (λ (op : Operation). op.stage < parts.stages) parts.operations
-Keeps rule.Latency parts = All (λ (op : Operation). (1 ≤ op.latency) × (op.latency ≤ 64)) parts.operations
+Keeps rule.Latency parts = All (λ (op : Operation). (1 ≤ op.latency) × (op.latency ≤ MAX_LATENCY)) parts.operations
 Keeps rule.Register parts = All (RegistersAreThere parts.registers) parts.operations
 Keeps rule.Shape parts = All (IsShaped (length parts.params)) parts.operations
 Keeps rule.Place parts = All (IsPlaced (length parts.arrays)) parts.operations

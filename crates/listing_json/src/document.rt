@@ -5,6 +5,7 @@ ghost use Rattle.std.specs.List.{All};
 ghost use Rattle.serde_json.specs.View.{view};
 ghost use Rattle.candidates.specs.Listings.{IsRow};
 ghost use Rattle.listing_json.specs.Documents.{document_of, document_text, list_value, row_value};
+ghost use Rattle.machine_data.specs.declared.limits.TheConstants.{MAX_CEILING};
 
 use crate::kernels::told_kernel;
 use candidates::{Choice, Listing, Row, number_failed, number_met};
@@ -44,7 +45,7 @@ fn document(alloc: Global, listing: &Listing) -> Result<Value, OutOfMemory>
 
 /// The values of all loops.
 fn told_rows(alloc: Global, ceiling: u64, rows: &[Row]) -> Result<Value, OutOfMemory>
-    requires ceiling { ceiling ≤ 255 }
+    requires ceiling { ceiling ≤ MAX_CEILING }
     requires rows { All IsRow rows.now }
     ensures { IfOk result (λ v. view v ≡ list_value (row_value ceiling) rows.now) }
 {
@@ -57,7 +58,7 @@ fn told_rows(alloc: Global, ceiling: u64, rows: &[Row]) -> Result<Value, OutOfMe
 
 /// The value of a loop.
 fn told_row(alloc: Global, ceiling: u64, row: &Row) -> Result<Value, OutOfMemory>
-    requires ceiling { ceiling ≤ 255 }
+    requires ceiling { ceiling ≤ MAX_CEILING }
     requires row { IsRow row.now }
     ensures { IfOk result (λ v. view v ≡ row_value ceiling row.now) }
 {

@@ -8,15 +8,16 @@ ghost use Rattle.listing_json.specs.Documents.{address_value, count_value, kerne
 use crate::told::{Told, told_all, told_digits};
 use kernel::{Address, Operation, Out, Parts, Preload, Source};
 use loop_data::Param;
+use machine_data::OutOfMemory;
 use serde_json::{Value, json};
-use std::alloc::{AllocError, Global};
+use std::alloc::Global;
 
 impl Told for Source {
     ghost use Rattle.listing_json.specs.Documents.{source_value};
 
     ghost value = { source_value };
 
-    fn told(&self, alloc: Global) -> Result<Value, AllocError> {
+    fn told(&self, alloc: Global) -> Result<Value, OutOfMemory> {
         match *self {
             Source::Register(name) => json!(in alloc; {"register": name}),
             Source::Parameter(index) => json!(in alloc; {"parameter": index}),
@@ -26,7 +27,7 @@ impl Told for Source {
 }
 
 /// The value of a cell's address, and `null` where there is none.
-fn told_address(alloc: Global, address: Option<Address>) -> Result<Value, AllocError>
+fn told_address(alloc: Global, address: Option<Address>) -> Result<Value, OutOfMemory>
     ensures { IfOk result (λ v. view v ≡ option_value address_value address) }
 {
     match address {
@@ -50,7 +51,7 @@ impl Told for Operation {
 
     ghost value = { operation_value };
 
-    fn told(&self, alloc: Global) -> Result<Value, AllocError> {
+    fn told(&self, alloc: Global) -> Result<Value, OutOfMemory> {
         json!(in alloc; {
             "row": self.row,
             "stage": self.stage,
@@ -69,7 +70,7 @@ impl Told for Param {
 
     ghost value = { param_value };
 
-    fn told(&self, alloc: Global) -> Result<Value, AllocError> {
+    fn told(&self, alloc: Global) -> Result<Value, OutOfMemory> {
         json!(in alloc; {"name": self.name.as_str(), "value": told_digits(alloc, self.value)?})
     }
 }
@@ -79,7 +80,7 @@ impl Told for Preload {
 
     ghost value = { preload_value };
 
-    fn told(&self, alloc: Global) -> Result<Value, AllocError> {
+    fn told(&self, alloc: Global) -> Result<Value, OutOfMemory> {
         json!(in alloc; {"register": self.register, "value": told_digits(alloc, self.value)?})
     }
 }
@@ -89,13 +90,13 @@ impl Told for Out {
 
     ghost value = { out_value };
 
-    fn told(&self, alloc: Global) -> Result<Value, AllocError> {
+    fn told(&self, alloc: Global) -> Result<Value, OutOfMemory> {
         json!(in alloc; {"name": self.name.as_str(), "register": self.register})
     }
 }
 
 /// The value of a kernel.
-pub(crate) fn told_kernel(alloc: Global, parts: &Parts) -> Result<Value, AllocError>
+pub(crate) fn told_kernel(alloc: Global, parts: &Parts) -> Result<Value, OutOfMemory>
     ensures { IfOk result (λ v. view v ≡ kernel_value parts.now) }
 {
     json!(in alloc; {

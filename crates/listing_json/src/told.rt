@@ -5,9 +5,9 @@ ghost use Rattle.serde_json.specs.Data.{Data};
 ghost use Rattle.serde_json.specs.View.{view};
 ghost use Rattle.listing_json.specs.Documents.{digits_value, list_value};
 
-use machine_data::Name;
+use machine_data::{Name, OutOfMemory};
 use serde_json::{ToValue, Value};
-use std::alloc::{AllocError, Global};
+use std::alloc::Global;
 use writing::push_integer;
 
 /// A part of a listing that has a JSON value.
@@ -15,7 +15,7 @@ pub(crate) trait Told {
     ghost value: { Self → Data };
 
     /// Its value.
-    fn told(&self, alloc: Global) -> Result<Value, AllocError>
+    fn told(&self, alloc: Global) -> Result<Value, OutOfMemory>
         ensures { IfOk result (λ v. view v ≡ value self.now) };
 }
 
@@ -24,13 +24,13 @@ impl Told for Name {
 
     ghost value = { string_value };
 
-    fn told(&self, alloc: Global) -> Result<Value, AllocError> {
+    fn told(&self, alloc: Global) -> Result<Value, OutOfMemory> {
         self.as_str().to_value(alloc)
     }
 }
 
 /// The values of a list, in order.
-pub(crate) fn told_all<T: Told>(alloc: Global, list: &[T]) -> Result<Value, AllocError>
+pub(crate) fn told_all<T: Told>(alloc: Global, list: &[T]) -> Result<Value, OutOfMemory>
     ensures { IfOk result (λ v. view v ≡ list_value T.Told.value list.now) }
 {
     let mut values = Vec::with_capacity(alloc, list.len())?;
@@ -41,7 +41,7 @@ pub(crate) fn told_all<T: Told>(alloc: Global, list: &[T]) -> Result<Value, Allo
 }
 
 /// The digits of a number of 64 bits, as a string.
-pub(crate) fn told_digits(alloc: Global, number: i64) -> Result<Value, AllocError>
+pub(crate) fn told_digits(alloc: Global, number: i64) -> Result<Value, OutOfMemory>
     ensures { IfOk result (λ v. view v ≡ digits_value number) }
 {
     let mut digits = String::new(alloc);

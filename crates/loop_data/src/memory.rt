@@ -3,8 +3,9 @@
 ghost use Rattle.std.specs.Prelude.{◌≡◌, ◌+◌, ◌-◌, ◌<◌, ◌≤◌, ◌≤ℤ◌, ◌<ℤ◌, ℤ, pos, neg_ℤ, [], length, slice_index_or, slice_set, IfOk};
 ghost use Rattle.loop_data.specs.Run.{MemoryData, IsMemory, cell_of, with_cell};
 
+use machine_data::OutOfMemory;
 use machine_data::limits::MAX_SUBSCRIPT;
-use std::alloc::{AllocError, Global};
+use std::alloc::Global;
 use std::marker::Model;
 
 /// The cells of some arrays, each from -64 to 63 more than the number of iterations, and the values
@@ -116,7 +117,7 @@ impl Memory {
     }
 
     /// A copy of the memory.
-    pub fn copied(&self, alloc: Global) -> Result<Memory, AllocError>
+    pub fn copied(&self, alloc: Global) -> Result<Memory, OutOfMemory>
         ensures { IfOk result (λ copy. copy ≡ self.now) }
     {
         Ok(Memory {
@@ -128,7 +129,7 @@ impl Memory {
 }
 
 /// A copy of the cells of some arrays.
-fn copied_arrays(alloc: Global, arrays: &[ArrayCells]) -> Result<Vec<ArrayCells>, AllocError>
+fn copied_arrays(alloc: Global, arrays: &[ArrayCells]) -> Result<Vec<ArrayCells>, OutOfMemory>
     ensures { IfOk result (λ copies. copies.items ≡ arrays.now) }
 {
     let mut copies = Vec::with_capacity(alloc, arrays.len())?;

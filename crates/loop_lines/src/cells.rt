@@ -9,8 +9,9 @@ ghost use Rattle.loop_lines.specs.Words.{words_of};
 use crate::feeds::count_digits;
 use crate::number::{int_of, short_int};
 use crate::words::{after_byte, begins_stop, next_word, without_space};
+use machine_data::OutOfMemory;
 use machine_data::limits::MAX_CELLS;
-use std::alloc::{AllocError, Global};
+use std::alloc::Global;
 
 /// The words of an array line after `=`. They are marked where they are wide, so that the others are
 /// not looked through again.
@@ -105,7 +106,7 @@ pub fn are_wide(cells: CellWords<'_>) -> bool
 }
 
 /// The cells.
-pub fn cells_of(alloc: Global, words: CellWords<'_>) -> Result<Vec<i64>, AllocError>
+pub fn cells_of(alloc: Global, words: CellWords<'_>) -> Result<Vec<i64>, OutOfMemory>
     ensures { IfOk result (λ cells. cells.items ≡ map (λ cell. unwrap_or cell (pos 0)) (cells_seen words.entry)) }
 {
     let mut cells = Vec::with_capacity(alloc, words.count)?;

@@ -2,6 +2,7 @@
 --
 -- Without their words they are the faults of the text, as its meaning lists them: a clause says so.
 use Rattle.std.specs.Prelude.{◌≡◌, ℕ, ◌+◌, nat_lt, if◌then◌else◌, List, [], ◌∷◌, ◌++◌, length, map, Option, Some, None, Result, Ok, Err}
+use Rattle.machine_data.specs.declared.limits.TheConstants.{MAX_TEXT}
 use Rattle.loop_lines.specs.Forms.{Form, LoopLine, EndLine, line_form}
 use Rattle.loop_lines.specs.Words.{lines_of, words_of}
 use Rattle.loop_data.specs.Loops.{LoopData}
@@ -78,11 +79,11 @@ too_long = record { line = 0; column = 0; width = 0; kind = Limit }
 
 -- all faults of a text, with the words that they are about
 unfoldable pub lints_in : List ℕ → List LintFault
-lints_in text = if nat_lt 1048576 (length text) then too_long ∷ [] else outside_lints 1 [] (text_lines text)
+lints_in text = if nat_lt MAX_TEXT (length text) then too_long ∷ [] else outside_lints 1 [] (text_lines text)
 
 -- all faults of a text
 unfoldable pub faults_in : List ℕ → List LoopFault
-faults_in text = if nat_lt 1048576 (length text) then record { line = 0; kind = Limit } ∷ [] else outside_faults 1 [] (forms_of text)
+faults_in text = if nat_lt MAX_TEXT (length text) then record { line = 0; kind = Limit } ∷ [] else outside_faults 1 [] (forms_of text)
 
 -- a fault without its word
 abbrev pub plain : LintFault → LoopFault

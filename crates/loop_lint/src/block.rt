@@ -7,9 +7,11 @@ ghost use Rattle.loop_lines.specs.Parsed.{form_seen};
 ghost use Rattle.loop_reader.specs.Meaning.{is_array, is_out, is_param, is_statement, stands};
 ghost use Rattle.loop_lint.specs.inner.Near.{one_if, IsNear, IsNearForm};
 ghost use Rattle.loop_lint.specs.inner.Tables.{covers, known_at, known_with, place_of, with_declared, with_init, with_out, IsTable};
+ghost use Rattle.machine_data.specs.declared.limits.TheConstants.{MAX_DISTANCE};
 
 use loop_lines::Form;
-use std::alloc::{AllocError, Global};
+use machine_data::OutOfMemory;
+use std::alloc::Global;
 use std::collections::BTreeMap;
 
 /// How many numbers an initial value may be told: 0 to 16, and one too great.
@@ -56,7 +58,7 @@ impl Known {
 
     /// All initial values from 1 to a distance are there.
     pub(crate) fn covers(&self, distance: u8) -> bool
-        requires { distance ≤ 16 }
+        requires { distance ≤ MAX_DISTANCE }
         ensures { result ≡ covers self.now.inits distance }
     {
         for before in 0..distance as usize {
@@ -118,7 +120,7 @@ impl<'a> Table<'a> {
     }
 
     /// The lines and one more.
-    pub(crate) fn add(&mut self, form: &Form<'a>) -> Result<(), AllocError>
+    pub(crate) fn add(&mut self, form: &Form<'a>) -> Result<(), OutOfMemory>
         requires near { IsNearForm (form_seen form.now) }
         requires room { self.old.arrays + self.old.params + self.old.statements + 1 < 2 ^ 64 }
         ensures names { OnOk result ((q : List ℕ) → known_at self.new.names q ≡ known_with q self.old.arrays self.old.params self.old.statements (form_seen form.now) (known_at self.old.names q)) }
@@ -171,7 +173,7 @@ fn put<'a>(
     names: &mut BTreeMap<&'a [u8], Known>,
     name: &'a [u8],
     known: Known,
-) -> Result<(), AllocError>
+) -> Result<(), OutOfMemory>
     ensures { OnOk result ((q : List ℕ) → known_at names.new q ≡ (if same_word q name.now then known else known_at names.old q)) }
 {
     names.insert(name, known)?;
@@ -183,7 +185,7 @@ fn declare<'a>(
     names: &mut BTreeMap<&'a [u8], Known>,
     name: &'a [u8],
     what: Declared,
-) -> Result<(), AllocError>
+) -> Result<(), OutOfMemory>
     ensures { OnOk result ((q : List ℕ) → known_at names.new q ≡ (if same_word q name.now then with_declared what (known_at names.old q) else known_at names.old q)) }
 {
     let mut known = look_up(names, name);
@@ -197,7 +199,7 @@ fn give<'a>(
     names: &mut BTreeMap<&'a [u8], Known>,
     name: &'a [u8],
     number: Option<u8>,
-) -> Result<(), AllocError>
+) -> Result<(), OutOfMemory>
     requires { IsNear number }
     ensures { OnOk result ((q : List ℕ) → known_at names.new q ≡ (if same_word q name.now then with_init number (known_at names.old q) else known_at names.old q)) }
 {
@@ -208,7 +210,7 @@ fn give<'a>(
 }
 
 /// A line is an `out` of a name.
-fn mark<'a>(names: &mut BTreeMap<&'a [u8], Known>, name: &'a [u8]) -> Result<(), AllocError>
+fn mark<'a>(names: &mut BTreeMap<&'a [u8], Known>, name: &'a [u8]) -> Result<(), OutOfMemory>
     ensures { OnOk result ((q : List ℕ) → known_at names.new q ≡ (if same_word q name.now then with_out (known_at names.old q) else known_at names.old q)) }
 {
     let mut known = look_up(names, name);

@@ -16,11 +16,11 @@ use loop_lines::{Form, form_of, next_line};
 use loop_reader::LoopFaultKind;
 use machine_data::OutOfMemory;
 use machine_data::limits::{MAX_LOOPS, MAX_TEXT};
-use std::alloc::{AllocError, Global};
+use std::alloc::Global;
 use std::collections::BTreeSet;
 
 /// Adds a name, which may be there already. The result is whether it was.
-fn add_name<'a>(names: &mut BTreeSet<&'a [u8]>, name: &'a [u8]) -> Result<bool, AllocError>
+fn add_name<'a>(names: &mut BTreeSet<&'a [u8]>, name: &'a [u8]) -> Result<bool, OutOfMemory>
     ensures names { OnOk result ((q : List ℕ) → is_among names.new q ≡ (is_among names.old q || same_word q name.now)) }
     ensures there { IfOk result (λ there. there ≡ is_among names.old name.now) }
 {
@@ -35,7 +35,7 @@ fn tell_opening<'a>(
     loops: usize,
     line: Line<'_>,
     name: &'a [u8],
-) -> Result<(), AllocError>
+) -> Result<(), OutOfMemory>
     ensures told { OnOk result ((before : List (List ℕ)) → AreNames before names.old loops
         → faults.new.items ≡ faults.old.items ++ told line.entry.number (placed_words line.entry.bytes.now) (word_of_opening before name.now) (opening_faults before name.now)) }
     ensures names { OnOk result ((q : List ℕ) → is_among names.new q ≡ (is_among names.old q || same_word q name.now)) }
@@ -62,7 +62,7 @@ fn tell_outside<'a>(
     faults: &mut Vec<LintFault>,
     names: &mut BTreeSet<&'a [u8]>,
     at: Left<'a>,
-) -> Result<Left<'a>, AllocError>
+) -> Result<Left<'a>, OutOfMemory>
     requires some { 0 < length at.rest.now }
     requires room { at.number + length at.rest.now < 2 ^ 32 }
     requires few { at.loops < at.number }
@@ -100,8 +100,8 @@ fn tell_outside<'a>(
 }
 
 /// Tells the faults of a text.
-fn tell_text(alloc: Global, faults: &mut Vec<LintFault>, text: &[u8]) -> Result<(), AllocError>
-    requires { length text.now ≤ 1048576 }
+fn tell_text(alloc: Global, faults: &mut Vec<LintFault>, text: &[u8]) -> Result<(), OutOfMemory>
+    requires { length text.now ≤ MAX_TEXT }
     ensures { OnOk result (faults.new.items ≡ faults.old.items ++ outside_lints 1 [] (text_lines text.now)) }
 {
     let mut names = BTreeSet::new(alloc);

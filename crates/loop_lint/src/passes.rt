@@ -17,7 +17,8 @@ use crate::misfit::misfit;
 use crate::tell::{Line, tell, tell_all};
 use loop_lines::{Form, form_of, next_line};
 use loop_reader::LoopFaultKind;
-use std::alloc::{AllocError, Global};
+use machine_data::OutOfMemory;
+use std::alloc::Global;
 
 /// The word at which a line that may not stand where it stands is told so.
 pub(crate) fn syntax_word(line: &[u8], form: &Form<'_>) -> usize
@@ -37,7 +38,7 @@ fn is_end(form: &Form<'_>) -> bool
 
 /// Takes in what a line of a block says. The result is whether it ends the block.
 #[tactic(auto, using(crate::proofs::Passing::gathers_none, crate::proofs::Passing::gathers_last, crate::proofs::Passing::gathers_no))]
-fn gather_line<'a>(table: &mut Table<'a>, line: &'a [u8]) -> Result<bool, AllocError>
+fn gather_line<'a>(table: &mut Table<'a>, line: &'a [u8]) -> Result<bool, OutOfMemory>
     requires room { table.old.arrays + table.old.params + table.old.statements + 1 < 2 ^ 64 }
     ensures table { IfOk result (λ end. (before : List spec.Form) → IsTable before table.old → Gathers before line.now table.new end) }
     ensures count { IfOk result (λ end. table.new.arrays + table.new.params + table.new.statements ≤ table.old.arrays + table.old.params + table.old.statements + 1) }
@@ -57,7 +58,7 @@ fn gather_line<'a>(table: &mut Table<'a>, line: &'a [u8]) -> Result<bool, AllocE
 
 /// What the standing lines of the block say that a text goes on with.
 #[tactic(auto, using(crate::proofs::Passing::gathered_first, crate::proofs::Passing::gathered_next, crate::proofs::Passing::gathered_end, crate::proofs::Passing::gathered_all))]
-fn gather(alloc: Global, text: &[u8]) -> Result<Table<'_>, AllocError>
+fn gather(alloc: Global, text: &[u8]) -> Result<Table<'_>, OutOfMemory>
     ensures { IfOk result (λ table. IsTable (whole [] (forms_of text.now)) table) }
 {
     let mut table = Table::new(alloc);
@@ -78,7 +79,7 @@ fn tell_line<'a>(
     before: &mut Table<'a>,
     block: &Table<'_>,
     line: Line<'a>,
-) -> Result<bool, AllocError>
+) -> Result<bool, OutOfMemory>
     requires room { before.old.arrays + before.old.params + before.old.statements + 1 < 2 ^ 64 }
     ensures told { IfOk result (λ end. (lines forms : List spec.Form) → IsTable lines before.old → IsTable forms block.now
         → Tells line.entry.number lines line.entry.bytes.now before.new faults.old.items faults.new.items forms end) }
@@ -105,7 +106,7 @@ pub(crate) fn tell_block<'a>(
     faults: &mut Vec<LintFault>,
     text: &'a [u8],
     number: usize,
-) -> Result<(usize, &'a [u8]), AllocError>
+) -> Result<(usize, &'a [u8]), OutOfMemory>
     requires { number + length text.now < 2 ^ 32 }
     ensures told { IfOk result (λ r. (names : List (List ℕ)) → faults.old.items ++ inside_lints number names [] (text_lines text.now)
         ≡ faults.new.items ++ outside_lints r.0 names (text_lines r.1.now)) }

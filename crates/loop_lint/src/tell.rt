@@ -7,7 +7,7 @@ ghost use Rattle.loop_lint.specs.inner.Founds.{told_all, told_if};
 use crate::fault::LintFault;
 use crate::spots::spot_at;
 use loop_reader::LoopFaultKind;
-use std::alloc::AllocError;
+use machine_data::OutOfMemory;
 
 /// For each kind of faults of a standing line the number of the word, from 0, that the fault is about, where the line has it.
 #[derive(Clone, Copy)]
@@ -43,7 +43,7 @@ pub(crate) fn tell(
     line: Line<'_>,
     kind: LoopFaultKind,
     word: Option<usize>,
-) -> Result<(), AllocError>
+) -> Result<(), OutOfMemory>
     ensures { OnOk result (faults.new.items ≡ faults.old.items ++ told_if line.entry.number (placed_words line.entry.bytes.now) kind word) }
 {
     if let Some(word) = word {
@@ -63,7 +63,7 @@ pub(crate) fn tell_all(
     faults: &mut Vec<LintFault>,
     line: Line<'_>,
     found: Found,
-) -> Result<(), AllocError>
+) -> Result<(), OutOfMemory>
     ensures { OnOk result (faults.new.items ≡ faults.old.items ++ told_all line.entry.number (placed_words line.entry.bytes.now) found) }
 {
     tell(faults, line, LoopFaultKind::Limit, found.limit)?;

@@ -3,6 +3,7 @@
 -- A line with a syntax fault declares nothing and counts as no line of its form. The others stand. All look-ups go over the
 -- standing lines of a block: over those before the line where a rule says "earlier", and else over all of them.
 use Rattle.std.specs.Prelude.{◌≡◌, ℕ, zero, suc, ℤ, pos, ◌+◌, ◌==◌, ◌||◌, ◌&&◌, nat_lt, nat_le, not, Bool, true, false, if◌then◌else◌, List, [], ◌∷◌, ◌++◌, length, map, Option, Some, None, is_some, is_none, unwrap_or, option_map, Result, Ok, Err, Vec}
+use Rattle.machine_data.specs.declared.limits.TheConstants.{MAX_ARRAYS, MAX_CELLS, MAX_LOOPS, MAX_NAME, MAX_PARAMETERS, MAX_STATEMENTS, MAX_TEXT}
 use Rattle.std.specs.Global.{Global}
 use Rattle.std.specs.Option.{option_or}
 use Rattle.std.specs.List.{list_any, filter_map, count_by}
@@ -153,7 +154,7 @@ when true kind = kind ∷ []
 when false kind = []
 
 abbrev pub is_long : List ℕ → Bool
-is_long name = nat_lt 16 (length name)
+is_long name = nat_lt MAX_NAME (length name)
 
 abbrev pub is_outside : Option ℕ → Bool
 is_outside None = true
@@ -193,17 +194,17 @@ is_uncovered block _ = false
 -- the faults of a standing line, in order, after the lines before it, in its block
 abbrev pub faults_of : List Form → List Form → Form → Kinds
 faults_of before block (ArrayLine name cells) =
-    when (is_long name || list_any is_none cells || nat_lt 1024 (length cells) || nat_le 32 (how_many is_array before)) Limit
+    when (is_long name || list_any is_none cells || nat_lt MAX_CELLS (length cells) || nat_le MAX_ARRAYS (how_many is_array before)) Limit
     ++ when (is_some (declared before name)) RepeatedName
 faults_of before block (ParamLine name value) =
-    when (is_long name || is_none value || nat_le 64 (how_many is_param before)) Limit
+    when (is_long name || is_none value || nat_le MAX_PARAMETERS (how_many is_param before)) Limit
     ++ when (is_some (declared before name)) RepeatedName
 faults_of before block (InitLine name number value) =
     when (is_long name || is_outside number || is_none value) Limit
     ++ when (list_any (is_init name number) before) RepeatedName
     ++ when (not (is_value (declared block name))) UnknownName
 faults_of before block (StatementLine source) =
-    when (any_name is_long source.name || is_wide_place source.place || list_any is_wide source.uses || nat_le 128 (how_many is_statement before)) Limit
+    when (any_name is_long source.name || is_wide_place source.place || list_any is_wide source.uses || nat_le MAX_STATEMENTS (how_many is_statement before)) Limit
     ++ when (any_name (λ name. is_some (declared before name)) source.name) RepeatedName
     ++ when (is_unknown_place block source.place || list_any (is_unknown block) source.uses) UnknownName
     ++ when (list_any (is_early block (how_many is_statement before)) source.uses) UseBeforeDefinition
@@ -220,7 +221,7 @@ faults_of before block Malformed = []
 -- the faults of a line that opens a block, after those that opened the blocks before it
 abbrev pub opening_faults : List (List ℕ) → List ℕ → Kinds
 opening_faults names name =
-    when (is_long name || nat_le 1024 (length names)) Limit ++ when (list_any (same_word name) names) RepeatedName
+    when (is_long name || nat_le MAX_LOOPS (length names)) Limit ++ when (list_any (same_word name) names) RepeatedName
 
 -- the faults of a line in a block
 abbrev pub line_faults : List Form → List Form → Form → Kinds
@@ -357,7 +358,7 @@ first_fault (fault ∷ faults) loops = Err fault
 -- what a text means; the text is limited to 1,048,576 bytes
 unfoldable pub loops_in : List ℕ → Result (List LoopData) LoopFault
 loops_in text =
-    if nat_lt 1048576 (length text) then Err (record { line = 0; kind = Limit })
+    if nat_lt MAX_TEXT (length text) then Err (record { line = 0; kind = Limit })
     else first_fault (outside_faults 1 [] (forms_of text)) (map loop_of (blocks_of (forms_of text)))
 
 -- the loops that a call answers, as a list

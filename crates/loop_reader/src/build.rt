@@ -15,10 +15,10 @@ use crate::names::found::{Target, Targets};
 use crate::names::index::{Counts, Index};
 use loop_data::{Array, Cells, Initial, Loop, Operand, Operands, Param, Place, Statement};
 use loop_lines::{Form, StatementWords, Subscript, Use, cells_of};
-use machine_data::Name;
 use machine_data::limits::MAX_DISTANCE;
+use machine_data::{Name, OutOfMemory};
 use smallvec::SmallVec;
-use std::alloc::{AllocError, Global};
+use std::alloc::Global;
 
 /// The name that these bytes are.
 fn name_of(bytes: &[u8]) -> Name
@@ -64,7 +64,7 @@ fn push_operand(
     operands: &mut SmallVec<Operand, 3>,
     read: &Option<Use<'_>>,
     target: Target,
-) -> Result<(), AllocError>
+) -> Result<(), OutOfMemory>
     ensures { OnOk result (operands.new.items ≡ operands.old.items ++ operand_if read.now target) }
 {
     if let Some(read) = read {
@@ -90,7 +90,7 @@ fn statement(
     alloc: Global,
     source: &StatementWords<'_>,
     found: &Targets,
-) -> Result<Statement, AllocError>
+) -> Result<Statement, OutOfMemory>
     requires name { IsNamed (statement_seen source.now).name }
     ensures { IfOk result (λ s. s ≡ statement_with source.now found.now) }
 {
@@ -107,7 +107,7 @@ fn statement(
 }
 
 /// Appends the initial values of a statement's value, by number.
-fn push_inits(inits: &mut Vec<Initial>, given: &Given, statement: u8) -> Result<(), AllocError>
+fn push_inits(inits: &mut Vec<Initial>, given: &Given, statement: u8) -> Result<(), OutOfMemory>
     requires room { 16 * statement + 16 ≤ length given.now.inits }
     ensures { OnOk result (inits.new.items ≡ inits.old.items ++ row_of given.now.inits statement 16) }
 {
@@ -143,7 +143,7 @@ impl Parts {
         given: &Given,
         form: &Form<'_>,
         found: &Targets,
-    ) -> Result<(), AllocError>
+    ) -> Result<(), OutOfMemory>
         requires name { IsNamed (name_in (form_seen form.now)) }
         requires few { length self.old.statements.items + one_if (is_statement (form_seen form.now)) ≤ 128 }
         requires room { 16 * (length self.old.statements.items + one_if (is_statement (form_seen form.now))) ≤ length given.now.inits }
@@ -184,7 +184,7 @@ pub(crate) fn build<'a>(
     counts: Counts,
     given: &Given,
     found: &[Targets],
-) -> Result<Loop, AllocError>
+) -> Result<Loop, OutOfMemory>
     requires name { IsName name.now }
     requires block { IsBlock (forms_in index.now) }
     requires some { has_statement (forms_in index.now) ≡ true }

@@ -4,7 +4,8 @@ ghost use Rattle.std.specs.Prelude.{◌≡◌};
 ghost use Rattle.loop_reader.specs.inner.Checks.{line_at};
 ghost use Rattle.loop_reader.specs.declared.fault.LoopFaultKind.TheVariants.{Memory};
 
-use std::alloc::{AllocError, AllocFailed};
+use machine_data::OutOfMemory;
+use std::alloc::AllocFailed;
 use std::fmt;
 use thiserror::Error;
 
@@ -91,10 +92,10 @@ impl fmt::Display for LoopFault {
 
 impl std::error::Error for LoopFault {}
 
-impl From<AllocError> for LoopFaultKind {
+impl From<OutOfMemory> for LoopFaultKind {
     ghost from_gives = { λ _ kind. kind ≡ Memory };
 
-    fn from(_error: AllocError) -> LoopFaultKind {
+    fn from(_error: OutOfMemory) -> LoopFaultKind {
         LoopFaultKind::Memory
     }
 }
@@ -107,10 +108,10 @@ impl<T: Drop> From<AllocFailed<T>> for LoopFaultKind {
     }
 }
 
-impl From<AllocError> for LoopFault {
+impl From<OutOfMemory> for LoopFault {
     ghost from_gives = { λ _ fault. fault ≡ record { line = 0; kind = Memory } };
 
-    fn from(_error: AllocError) -> LoopFault {
+    fn from(_error: OutOfMemory) -> LoopFault {
         LoopFault {
             line: 0,
             kind: LoopFaultKind::Memory,

@@ -21,8 +21,9 @@ use crate::names::index::{Declared, Index, index_names};
 use crate::names::known::Names;
 use loop_data::Loop;
 use loop_lines::{Form, form_of, next_line};
+use machine_data::OutOfMemory;
 use machine_data::limits::{MAX_LOOPS, MAX_TEXT};
-use std::alloc::{AllocError, Global};
+use std::alloc::Global;
 
 /// What is kept from block to block.
 #[derive(Drop)]
@@ -34,7 +35,7 @@ struct Buffers<'a> {
 }
 
 impl<'a> Buffers<'a> {
-    fn new(alloc: Global) -> Result<Buffers<'a>, AllocError> {
+    fn new(alloc: Global) -> Result<Buffers<'a>, OutOfMemory> {
         let names = Names::new(alloc)?;
         Ok(Buffers {
             lines: Vec::new(alloc),
@@ -133,7 +134,7 @@ fn open<'a>(names: &mut Names<'a>, loops: usize, name: &'a [u8]) -> Result<(), L
 /// the first in the order of [`LoopFaultKind`].
 pub fn read_loops(alloc: Global, text: &[u8]) -> Result<Vec<Loop>, LoopFault>
     ensures exact { LoopsAnswer (seen result) (loops_in text.now) }
-    ensures well_formed { IfOk result (λ loops. All IsLoop loops.items × (length loops.items ≤ 1024)) }
+    ensures well_formed { IfOk result (λ loops. All IsLoop loops.items × (length loops.items ≤ MAX_LOOPS)) }
 {
     if text.len() > MAX_TEXT {
         return Err(LoopFault {

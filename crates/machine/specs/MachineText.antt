@@ -3,6 +3,7 @@
 -- Each check is a list of faults, and the checks stand one after another in the order in which they are made. The first
 -- fault of the whole list is the answer. After it the list may hold more, which nobody sees.
 use Rattle.std.specs.Prelude.{ℕ, pos, ◌==◌, nat_lt, not, ◌&&◌, Bool, true, false, if◌then◌else◌, codes, List, [], ◌∷◌, ◌++◌, length, map, Option, Some, None, option_map, is_some, unwrap_or, Result, Ok, Err, position}
+use Rattle.machine_data.specs.declared.limits.TheConstants.{MAX_LATENCY, MAX_NAME, MAX_REGISTERS, MAX_ROWS, MAX_TEXT, MAX_UNITS}
 use Rattle.std.specs.Prelude.{negsuc}
 use Rattle.std.specs.List.{list_any, flat_map, before_first, after_first}
 use Rattle.std.specs.Str.{all_ascii_digits}
@@ -56,7 +57,7 @@ text_of _ = []
 
 -- a text that has the form of a unit's name
 abbrev pub is_unit_name : List ℕ → Bool
-is_unit_name text = is_unit_word text && within 1 16 (length text)
+is_unit_name text = is_unit_word text && within 1 MAX_NAME (length text)
 
 -- an element of `units`, after the names before it
 unfoldable pub unit_faults : List (List ℕ) → Data → Faults
@@ -73,7 +74,7 @@ faults_in_turn check written before (d ∷ ds) = check before d ++ faults_in_tur
 unfoldable pub faults_of_units : Option Data → Faults
 faults_of_units None = MissingKey (codes "units") ∷ []
 faults_of_units (Some (array units)) =
-    unless (within 1 64 (length (data_of units))) (Limit (codes "units"))
+    unless (within 1 MAX_UNITS (length (data_of units))) (Limit (codes "units"))
     ++ faults_in_turn unit_faults text_of [] (data_of units)
 faults_of_units (Some _) = WrongType (codes "units") ∷ []
 
@@ -138,7 +139,7 @@ row_faults path units before d = faults_of_words path units before (words_in d)
 -- an alternative
 unfoldable pub alternative_faults : List ℕ → List (List ℕ) → Data → Faults
 alternative_faults path units (array rows) =
-    unless (within 1 16 (length (data_of rows))) (Limit (codes "rows"))
+    unless (within 1 MAX_ROWS (length (data_of rows))) (Limit (codes "rows"))
     ++ faults_in_turn (row_faults path units) (row_in units) [] (data_of rows)
 alternative_faults path units _ = WrongType path ∷ []
 
@@ -171,7 +172,7 @@ path_in opcode key = (path_of opcode ++ codes ".") ++ key
 unfoldable pub table_faults : List (List ℕ) → List ℕ → Data → Faults
 table_faults units opcode (table keys) =
     unknown_keys (path_in opcode []) (codes "alts" ∷ codes "latency" ∷ []) keys
-    ++ faults_of_number (path_in opcode (codes "latency")) (codes "latency") 1 64 (get_member (codes "latency") keys)
+    ++ faults_of_number (path_in opcode (codes "latency")) (codes "latency") 1 MAX_LATENCY (get_member (codes "latency") keys)
     ++ faults_of_alternatives (path_in opcode (codes "alts")) units (get_member (codes "alts") keys)
 table_faults units opcode _ = WrongType (path_of opcode) ∷ []
 
@@ -206,7 +207,7 @@ unfoldable pub tree_faults : Members → Faults
 tree_faults top =
     unknown_keys [] (codes "ops" ∷ codes "registers" ∷ codes "units" ∷ []) top
     ++ faults_of_units (get_member (codes "units") top)
-    ++ faults_of_number (codes "registers") (codes "registers") 1 256 (get_member (codes "registers") top)
+    ++ faults_of_number (codes "registers") (codes "registers") 1 MAX_REGISTERS (get_member (codes "registers") top)
     ++ faults_of_tables (names_of (get_member (codes "units") top)) (get_member (codes "ops") top)
 
 -- the machine that a TOML tree without a fault describes
@@ -225,6 +226,6 @@ of_tree (Some top) = answer (tree_faults top) (tree_machine top)
 -- what a text means; the text is limited to 1,048,576 bytes
 unfoldable pub machine_of : List ℕ → Result MachineData MachineFault
 machine_of text =
-    if nat_lt 1048576 (length text) then Err (Limit (codes "text"))
+    if nat_lt MAX_TEXT (length text) then Err (Limit (codes "text"))
     else if not (utf8_valid_len text == length text) then Err NotUtf8
     else of_tree (parse_document text)

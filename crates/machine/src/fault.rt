@@ -5,7 +5,8 @@ ghost use Rattle.std.specs.Fmt.{WritesOnOk};
 ghost use Rattle.machine.specs.Faults.{byte_text};
 ghost use Rattle.machine.specs.declared.fault.MachineFault.TheVariants.{Memory};
 
-use std::alloc::{AllocError, AllocFailed, Global};
+use machine_data::OutOfMemory;
+use std::alloc::{AllocFailed, Global};
 use std::fmt;
 use std::marker::Model;
 use thiserror::Error;
@@ -33,7 +34,7 @@ impl Key {
     }
 
     /// A key with a copy of this text.
-    pub(crate) fn of(alloc: Global, text: &str) -> Result<Key, AllocError>
+    pub(crate) fn of(alloc: Global, text: &str) -> Result<Key, OutOfMemory>
         ensures { IfOk result (λ key. key ≡ text.now) }
     {
         Ok(Key::new(String::from_str(alloc, text)?))
@@ -136,10 +137,10 @@ impl fmt::Display for MachineFault {
     }
 }
 
-impl From<AllocError> for MachineFault {
+impl From<OutOfMemory> for MachineFault {
     ghost from_gives = { λ _ e. e ≡ Memory };
 
-    fn from(_e: AllocError) -> MachineFault {
+    fn from(_e: OutOfMemory) -> MachineFault {
         MachineFault::Memory
     }
 }

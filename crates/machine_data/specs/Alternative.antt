@@ -1,20 +1,21 @@
 -- Reservation tables: the rows of an alternative, and the slots of the modulo reservation table that they take.
 use Rattle.std.specs.Prelude.{◌≢◌, ℕ, ◌+◌, ◌%◌, ◌<◌, ◌≤◌, ◌==◌, ◌&&◌, ◌||◌, Bool, false, List, [], ◌∷◌, length}
+use Rattle.machine_data.specs.declared.limits.TheConstants.{MAX_OPERATION_ALTERNATIVES, MAX_ROWS, MAX_UNITS}
 use Rattle.std.specs.List.{All, AllPairs, list_any}
 use Rattle.machine_data.specs.declared.alternative.Row.{Row}
 
 -- 1 to 16 different rows, of units below 64 and at offsets of 0 to 63 cycles
 pub record IsAlternative (rows : List Row) : Type 0 where
   pub some : 0 < length rows
-  pub few : length rows ≤ 16
-  pub units : All (λ r. r.unit < 64) rows
+  pub few : length rows ≤ MAX_ROWS
+  pub units : All (λ r. r.unit < MAX_UNITS) rows
   pub offsets : All (λ r. r.offset < 64) rows
   pub different : AllPairs (λ r s. r ≢ s) rows
 
 -- 1 to 16 alternatives
 pub record AreAlternatives (alternatives : List (List Row)) : Type 0 where
   pub some : 0 < length alternatives
-  pub few : length alternatives ≤ 16
+  pub few : length alternatives ≤ MAX_OPERATION_ALTERNATIVES
   pub each : All IsAlternative alternatives
 
 -- the residue, which is the row of the modulo reservation table, that a row takes at an interval,

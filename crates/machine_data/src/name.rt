@@ -26,7 +26,7 @@ impl Model for Name {
 impl Name {
     /// The name with this text, where it has 1 to 16 bytes.
     pub fn new(text: &str) -> Option<Name>
-        ensures fits { IsSome result ↔ ((0 < length text.now) × (length text.now ≤ 16)) }
+        ensures fits { IsSome result ↔ ((0 < length text.now) × (length text.now ≤ MAX_NAME)) }
         ensures value { IfSome result (λ n. n ≡ text.now) }
     {
         if text.is_empty() {
@@ -42,7 +42,7 @@ impl Name {
     pub fn as_str(&self) -> &str
         ensures value { result.now ≡ self.now }
         ensures some { 0 < length self.now }
-        ensures short { length self.now ≤ 16 }
+        ensures short { length self.now ≤ MAX_NAME }
     {
         self.text.as_str()
     }

@@ -1,6 +1,7 @@
 //! How operations of one opcode are issued.
 
 ghost use Rattle.std.specs.Prelude.{◌≡◌, ◌<◌, ◌≤◌};
+ghost use Rattle.machine_data.specs.declared.limits.TheConstants.{MAX_LATENCY};
 
 use crate::alternative::Alternatives;
 use std::marker::Model;
@@ -28,7 +29,7 @@ impl OpcodeTable {
     /// Operations that take `latency` cycles, by these alternatives.
     pub fn new(latency: u8, alternatives: Alternatives) -> OpcodeTable
         requires some { 0 < latency }
-        requires few { latency ≤ 64 }
+        requires few { latency ≤ MAX_LATENCY }
         ensures { result ≡ record { latency = latency; alternatives = alternatives } }
     {
         OpcodeTable {

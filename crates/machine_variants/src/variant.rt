@@ -8,6 +8,7 @@ ghost use Rattle.loop_data.specs.declared.language.statement.Statement as statem
 ghost use Rattle.graph.specs.Dependences.{latency_in};
 ghost use Rattle.graph.specs.Units.{alternatives_in};
 ghost use Rattle.machine_variants.specs.Variants.{IsVariantOf, concerns, is_opcode, is_other_number, numbers_to, takes, variants_of};
+ghost use Rattle.machine_data.specs.declared.limits.TheConstants.{MAX_UNITS};
 
 use crate::opcodes::{all_opcodes, alternatives_of, latency_of};
 use loop_data::{Loop, Statement};
@@ -81,7 +82,7 @@ fn concerns(machine: &Machine, innermost: &Loop, variant: Variant) -> bool
 
 /// Whether a number of registers is one of those that are looked at beside the machine's own.
 fn is_other_number(registers: u16, number: u16) -> bool
-    requires own { registers ≤ 256 }
+    requires own { registers ≤ MAX_REGISTERS }
     requires other { number ≤ 256 }
     ensures { result ≡ is_other_number registers number }
 {
@@ -105,7 +106,7 @@ fn push_where(list: &mut Vec<Variant>, is_so: bool, variant: Variant) -> Result<
 
 /// Appends each unit twice.
 fn push_doubled(list: &mut Vec<Variant>, units: usize) -> Result<(), OutOfMemory>
-    requires { units ≤ 64 }
+    requires { units ≤ MAX_UNITS }
     ensures { OnOk result (list.new.items ≡ list.old.items ++ map Variant.Doubled (range_with_len 0 units)) }
 {
     for unit in 0..units {
@@ -128,7 +129,7 @@ fn push_shortened(list: &mut Vec<Variant>, machine: &Machine) -> Result<(), OutO
 
 /// Appends the other numbers of registers.
 fn push_registers(list: &mut Vec<Variant>, registers: u16) -> Result<(), OutOfMemory>
-    requires { registers ≤ 256 }
+    requires { registers ≤ MAX_REGISTERS }
     ensures { OnOk result (list.new.items ≡ list.old.items ++ map Variant.Registers (filter (is_other_number registers) (numbers_to 256))) }
 {
     for above in 0..MAX_REGISTERS {

@@ -1,15 +1,13 @@
 -- How runs of subcommands end.
 use Rattle.std.proofs.Common.{◌≡◌, ℕ, ◌<◌, List, refl, sym, ap, subst, ◌∙◌, arith, length, take, inl, inr}
-use Rattle.std.specs.Prelude.{Result, Ok, Err, codes}
+use Rattle.std.specs.Prelude.{Result, Ok, Err}
 use Rattle.std.proofs.lemmas.List.{take_all, length-take-le}
 use Rattle.std.proofs.lemmas.Bool.{cases_lt, lt-ltb}
 use Rattle.machine.specs.declared.fault.MachineFault.{MachineFault}
 use Rattle.machine.specs.declared.fault.MachineFault.TheVariants as machine_fault
-use Rattle.machine.specs.MachineText.{machine_of}
 use Rattle.loops.specs.LoopFault.{LoopFault}
 use Rattle.loops.specs.LoopFaultKind.{LoopFaultKind}
 use Rattle.loops.specs.LoopFaultKind.TheVariants as kinds
-use Rattle.loops.specs.Meaning.{loops_in}
 use Rattle.command_line.specs.declared.command.Command.{Command}
 use Rattle.command_line.specs.declared.command.Command.TheVariants as command
 use Rattle.command_line.specs.declared.command.Report.{Report}
@@ -39,9 +37,11 @@ use Rattle.printouts.specs.Outcomes.{Outcome}
 use Rattle.modsched.specs.Devices.{most_read}
 use Rattle.modsched.specs.Engine.{AnswersReport, Brings, Ending, WorkBrings, most_problems_read, most_read_by}
 use Rattle.modsched.specs.inner.Refusals.{IsRefusal}
+use Rattle.modsched.proofs.Lengths.{loops_in-take, machine_of-take}
+use Rattle.modsched.proofs.Linting.{lint-take}
 use Rattle.exit_status.specs.Statuses.{status_number, loops_status, problems_status, solutions_status, refusal_of_file, refusal_of_machine, refusal_of_problems}
 use Rattle.exit_status.specs.declared.status.Status.{Status}
-use Rattle.exit_status.specs.declared.status.Status.TheVariants.{Done, Unmet, MachineUnread, LoopsUnread, ProblemsUnread, SolutionsUnread}
+use Rattle.exit_status.specs.declared.status.Status.TheVariants.{Done, Unmet, MachineFaulty, LoopsFaulty, MachineUnread, LoopsUnread, ProblemsUnread, SolutionsUnread}
 use Rattle.exit_status.specs.declared.status.Status.TheVariants.{Machine, Loops, NoTable, Problems, Solutions, Unwritten, OutOfMemory}
 
 -- the status of each refusal is one
@@ -111,37 +111,13 @@ refusal_memory (Solutions f) is seven = absurd (omega (arith, is, seven))
 refusal_memory OutOfMemory is seven = refl
 refusal_memory Done is seven = absurd is
 refusal_memory Unmet is seven = absurd is
+refusal_memory MachineFaulty is seven = absurd is
+refusal_memory LoopsFaulty is seven = absurd is
 refusal_memory MachineUnread is seven = absurd is
 refusal_memory LoopsUnread is seven = absurd is
 refusal_memory ProblemsUnread is seven = absurd is
 refusal_memory SolutionsUnread is seven = absurd is
 refusal_memory Unwritten is seven = absurd is
-
-machine_too_long : (text : List ℕ) → 1048576 < length text → machine_of text ≡ Err (machine_fault.Limit (codes "text"))
-unfolding machine_of
-machine_too_long text h = rw (lt-ltb 1048576 (length text) h) refl
-
-loops_too_long : (text : List ℕ) → 1048576 < length text → loops_in text ≡ Err (record { line = 0; kind = kinds.Limit })
-unfolding loops_in
-loops_too_long text h = rw (lt-ltb 1048576 (length text) h) refl
-
--- as much of a long text as is read is too long
-taken_too_long : (text : List ℕ) → most_read < length text → (1048576 < length (take most_read text)) × (1048576 < length text)
-unfolding most_read
-taken_too_long text h = let e : length (take 1048577 text) ≡ 1048577 = length-take-le 1048577 text (omega arith) in (omega (arith, e), omega arith)
-
--- reading one byte past what a text may have is enough to tell what it means
-pub machine_of-take : (bytes : List ℕ) → machine_of (take most_read bytes) ≡ machine_of bytes
-machine_of-take bytes = elim (cases_lt most_read (length bytes)) [
-  | inl h ↦ let long = taken_too_long bytes h in machine_too_long (take most_read bytes) long.0 ∙ sym (machine_too_long bytes long.1)
-  | inr h ↦ ap machine_of (take_all most_read bytes h)
-]
-
-pub loops_in-take : (bytes : List ℕ) → loops_in (take most_read bytes) ≡ loops_in bytes
-loops_in-take bytes = elim (cases_lt most_read (length bytes)) [
-  | inl h ↦ let long = taken_too_long bytes h in loops_too_long (take most_read bytes) long.0 ∙ sym (loops_too_long bytes long.1)
-  | inr h ↦ ap loops_in (take_all most_read bytes h)
-]
 
 problems_too_long : (text : List ℕ) → 16777216 < length text → forms_in text ≡ Err (record { line = 0; column = 0; width = 0; what = problems_wrong.TextSize })
 unfolding forms_in
@@ -225,6 +201,7 @@ brings-take (command.Loops path work) first last ending h = (h.0, work_brings-ta
 brings-take (command.Solve path settings format) first last ending h = (h.0, solve-take settings format last h.0 h.1, h.2)
 brings-take (command.Problems path told) first last ending h = (h.0, report-take told last h.0 h.1, h.2)
 brings-take (command.Check path other) first last ending h = (h.0, check-take first last h.0 h.1, h.2)
+brings-take (command.Lint texts) first last ending h = lint-take texts first last ending h
 
 -- what was read of texts brings about what the whole texts do
 pub brings-read : (c : Command) (first last first_read last_read : List ℕ) (ending : Ending)

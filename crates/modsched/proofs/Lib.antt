@@ -1,1 +1,3 @@
 pub mod Ending
+mod Lengths
+mod Linting

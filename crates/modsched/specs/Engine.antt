@@ -1,7 +1,9 @@
 -- What a command does with its texts, and how a run of it ends.
-use Rattle.std.specs.Prelude.{◌≡◌, ◌==◌, ℕ, Bool, true, false, List, [], Option, Some, Result, Ok, Err}
+use Rattle.std.specs.Prelude.{◌≡◌, ◌==◌, ℕ, Bool, if◌then◌else◌, string_bytes, List, [], Option, Some, None, is_some, option_map, Result, Ok, Err}
 use Rattle.command_line.specs.declared.command.Command.{Command}
 use Rattle.command_line.specs.declared.command.Command.TheVariants as command
+use Rattle.command_line.specs.declared.command.LintTexts.{LintTexts}
+use Rattle.command_line.specs.declared.command.LintTexts.TheVariants as lint
 use Rattle.command_line.specs.declared.command.Report.{Report}
 use Rattle.command_line.specs.declared.command.Report.TheVariants as report
 use Rattle.command_line.specs.declared.command.Work.{Work}
@@ -9,7 +11,8 @@ use Rattle.command_line.specs.declared.command.Work.TheVariants.{Plain, OnMachin
 use Rattle.command_line.specs.declared.command.Task.{Task}
 use Rattle.command_line.specs.declared.command.Task.TheVariants as task
 use Rattle.command_line.specs.declared.command.Search as search
-use Rattle.command_line.specs.declared.command.Search.TheVariants.{Schedule, Json, Explain, Run}
+use Rattle.command_line.specs.declared.command.Search.TheVariants.{Schedule, Json, Explain, Vary, Run}
+use Rattle.command_line.specs.Lines.{first_path}
 use Rattle.devices.specs.Devices.{most_read}
 use Rattle.file_faults.specs.Answers.{AnswersAlone, AnswersFile}
 use Rattle.machine.specs.MachineText.{machine_of}
@@ -23,6 +26,10 @@ use Rattle.printouts.specs.Outcomes.{Outcome, Written}
 use Rattle.printouts.specs.Plain.{IsPlainText}
 use Rattle.printouts.specs.Run.{IsRunText}
 use Rattle.printouts.specs.Schedule.{IsListingText, IsListingDocument}
+use Rattle.variants.specs.Texts.{IsVaryText}
+use Rattle.lint_text.specs.Printout.{IsLintText}
+use Rattle.lint_text.specs.declared.printout.LintText.{LintText}
+use Rattle.lint_text.specs.declared.printout.Named.{Named}
 use Rattle.problem_printouts.specs.Solving.{AnswersSolve}
 use Rattle.problem_printouts.specs.Judging.{AnswersCheck}
 use Rattle.problem_printouts.specs.Graphing.{AnswersDot, AnswersEdges}
@@ -30,9 +37,22 @@ use Rattle.problem_printouts.specs.Explaining.{AnswersExplain}
 use Rattle.problem_printouts.specs.declared.answers.Answers.{Answers}
 use Rattle.problem_printouts.specs.declared.fault.ProblemsFault.{ProblemsFault}
 use Rattle.exit_status.specs.Statuses.{refusal_of_file, refusal_of_problems}
-use Rattle.exit_status.specs.Writing.{EndsWritten}
+use Rattle.exit_status.specs.Writing.{EndsWritten, verdict_of_met}
+use Rattle.exit_status.specs.declared.verdict.Verdict.{Verdict}
+use Rattle.exit_status.specs.declared.verdict.Verdict.TheVariants.{Fine, MachineFaulty, LoopsFaulty}
 use Rattle.exit_status.specs.declared.status.Status.{Status}
-use Rattle.exit_status.specs.declared.status.Status.TheVariants.{MachineUnread, LoopsUnread, ProblemsUnread, SolutionsUnread}
+use Rattle.exit_status.specs.declared.status.Status.TheVariants.{MachineUnread, LoopsUnread, ProblemsUnread, SolutionsUnread, OutOfMemory}
+
+-- the status where the text that `lint` reads first can't be read, and the one that it reads last
+abbrev pub first_lint_unread : LintTexts → Status
+first_lint_unread (lint.Machine path) = LoopsUnread
+first_lint_unread (lint.Loops path) = MachineUnread
+first_lint_unread (lint.Both machine loops) = MachineUnread
+
+abbrev pub last_lint_unread : LintTexts → Status
+last_lint_unread (lint.Machine path) = MachineUnread
+last_lint_unread (lint.Loops path) = LoopsUnread
+last_lint_unread (lint.Both machine loops) = LoopsUnread
 
 -- the status where the text that a command reads first can't be read. A command that reads one text never ends so
 abbrev pub first_unread : Command → Status
@@ -40,6 +60,7 @@ first_unread (command.Loops path work) = MachineUnread
 first_unread (command.Solve path settings format) = MachineUnread
 first_unread (command.Problems path told) = MachineUnread
 first_unread (command.Check path other) = ProblemsUnread
+first_unread (command.Lint texts) = first_lint_unread texts
 
 -- .. the text that it reads last
 abbrev pub last_unread : Command → Status
@@ -47,6 +68,7 @@ last_unread (command.Loops path work) = LoopsUnread
 last_unread (command.Solve path settings format) = ProblemsUnread
 last_unread (command.Problems path told) = ProblemsUnread
 last_unread (command.Check path other) = SolutionsUnread
+last_unread (command.Lint texts) = last_lint_unread texts
 
 -- as much of a text of problems or of solutions as is read, in bytes: one more than such a text may have
 unfoldable pub most_problems_read : ℕ
@@ -58,34 +80,22 @@ most_read_by (command.Loops path work) = most_read
 most_read_by (command.Solve path settings format) = most_problems_read
 most_read_by (command.Problems path told) = most_problems_read
 most_read_by (command.Check path other) = most_problems_read
+most_read_by (command.Lint texts) = most_read
 
--- a command reads a first text: a machine's, or that of problems before that of solutions; each reads a last text
-abbrev pub work_reads_machine : Work → Bool
-work_reads_machine (Plain trip workers) = false
-work_reads_machine (OnMachine machine task) = true
-
+-- a command reads a first text where it has a path for it: a machine's, or that of problems before that of solutions; each reads a last text
 abbrev pub reads_first : Command → Bool
-reads_first (command.Loops path work) = work_reads_machine work
-reads_first (command.Solve path settings format) = false
-reads_first (command.Problems path told) = false
-reads_first (command.Check path other) = true
+reads_first command = is_some (first_path command)
 
 -- what a command has of a first text: what the input had left, or nothing where it reads none
-abbrev pub machine_for_work : Work → Option (List ℕ) → Option (List ℕ)
-machine_for_work (Plain trip workers) left = Some []
-machine_for_work (OnMachine machine task) left = left
-
 abbrev pub first_for : Command → Option (List ℕ) → Option (List ℕ)
-first_for (command.Loops path work) left = machine_for_work work left
-first_for (command.Solve path settings format) left = Some []
-first_for (command.Problems path told) left = Some []
-first_for (command.Check path other) left = left
+first_for command left = if reads_first command then left else Some []
 
 -- what is written of a search for kernels: the ratio and the ceiling settle it, whatever the workers and the cut
 abbrev pub IsSearchText : ℕ → ℕ → search.Search → MachineData → List LoopData → Written → Type 0
 IsSearchText ratio ceiling Schedule machine loops written = IsListingText ratio ceiling machine loops written
 IsSearchText ratio ceiling Json machine loops written = IsListingDocument ratio ceiling machine loops written
 IsSearchText ratio ceiling Explain machine loops written = IsExplainText ratio ceiling machine loops written
+IsSearchText ratio ceiling Vary machine loops written = IsVaryText ratio ceiling machine loops written
 IsSearchText ratio ceiling (Run trip) machine loops written = IsRunText trip ratio ceiling machine loops written
 
 -- what is written of loops on a machine
@@ -100,12 +110,21 @@ abbrev pub WorkBrings : Work → List ℕ → List ℕ → Outcome → Type 0
 WorkBrings (Plain trip workers) machine loops outcome = AnswersAlone (IsPlainText trip) (loops_in loops) outcome
 WorkBrings (OnMachine path task) machine loops outcome = AnswersFile (IsTaskText task) (machine_of machine) (loops_in loops) outcome
 
--- what a command comes to: a text that is written, with whether every loop or problem is met, or the status of a refusal
+-- a text that is written, with what it tells
+pub record AnswerData : Type 0 where
+  pub text : List ℕ
+  pub verdict : Verdict
+
+-- what a command comes to: a text that is written, or the status of a refusal
 abbrev pub Ending : Type 0
-Ending = Result Written Status
+Ending = Result AnswerData Status
+
+-- a text of loops or problems that are all met, or not
+abbrev pub answer_of : Written → AnswerData
+answer_of written = record { text = written.text; verdict = verdict_of_met written.all_met }
 
 abbrev pub loops_ending : Outcome → Ending
-loops_ending (Ok written) = Ok written
+loops_ending (Ok written) = Ok (answer_of written)
 loops_ending (Err fault) = Err (refusal_of_file fault)
 
 -- the text of answers to problems: all are met where none has failed
@@ -113,7 +132,7 @@ abbrev pub written_of : Answers → Written
 written_of told = record { text = told.text.items; all_met = told.failed == 0 }
 
 abbrev pub problems_ending : Result Answers ProblemsFault → Ending
-problems_ending (Ok told) = Ok (written_of told)
+problems_ending (Ok told) = Ok (answer_of (written_of told))
 problems_ending (Err fault) = Err (refusal_of_problems fault)
 
 -- what is done with problems comes to this, by an outcome like that
@@ -126,12 +145,51 @@ AnswersReport report.Edges text outcome = AnswersEdges text outcome
 AnswersReport report.Dot text outcome = AnswersDot text outcome
 AnswersReport (report.Explain settings) text outcome = AnswersExplain settings text outcome
 
+-- the machine's text whose faults are told, with its path: the first text where loops are read after it, and else the last
+abbrev pub machine_to_lint : LintTexts → List ℕ → List ℕ → Option (List ℕ × List ℕ)
+machine_to_lint (lint.Machine machine) first last = Some (string_bytes machine, last)
+machine_to_lint (lint.Loops loops) first last = None
+machine_to_lint (lint.Both machine loops) first last = Some (string_bytes machine, first)
+
+-- .. the loops'
+abbrev pub loops_to_lint : LintTexts → List ℕ → Option (List ℕ × List ℕ)
+loops_to_lint (lint.Machine machine) last = None
+loops_to_lint (lint.Loops loops) last = Some (string_bytes loops, last)
+loops_to_lint (lint.Both machine loops) last = Some (string_bytes loops, last)
+
+-- a text with its path is this, or there is none
+abbrev pub IsNamed : Option (List ℕ × List ℕ) → Option Named → Type 0
+IsNamed wanted named = option_map (λ (n : Named). (n.path.now, n.text.now)) named ≡ wanted
+
+-- of which text faults are told: of the machine's, if there are any of it, and else of the loops'
+abbrev pub lint_verdict : LintText → Verdict
+lint_verdict printed = if printed.machine_faults then MachineFaulty else if printed.loop_faults then LoopsFaulty else Fine
+
+abbrev pub lint_answer : LintText → AnswerData
+lint_answer printed = record { text = printed.text.items; verdict = lint_verdict printed }
+
+-- the lines of the faults of these texts are told: of loops all of them, and of a machine those that `lint_machine` answers
+pub record LintsTold (texts : LintTexts) (first last : List ℕ) (answer : AnswerData) : Type 0 where
+  pub machine : Option Named
+  pub loops : Option Named
+  pub printed : LintText
+  pub is_machine : IsNamed (machine_to_lint texts first last) machine
+  pub is_loops : IsNamed (loops_to_lint texts last) loops
+  pub is_text : IsLintText machine loops printed
+  pub is_answer : answer ≡ lint_answer printed
+
+-- `lint` refuses no text, so that only memory can run out
+abbrev pub LintBrings : LintTexts → List ℕ → List ℕ → Ending → Type 0
+LintBrings texts first last (Ok answer) = LintsTold texts first last answer
+LintBrings texts first last (Err status) = status ≡ OutOfMemory
+
 -- what a command comes to for the bytes of its texts
 abbrev pub Brings : Command → List ℕ → List ℕ → Ending → Type 0
 Brings (command.Loops path work) first last ending = (outcome : Outcome) × WorkBrings work first last outcome × (ending ≡ loops_ending outcome)
 Brings (command.Solve path settings format) first last ending = ProblemsBring (AnswersSolve settings format last) ending
 Brings (command.Problems path told) first last ending = ProblemsBring (AnswersReport told last) ending
 Brings (command.Check path other) first last ending = ProblemsBring (AnswersCheck first last) ending
+Brings (command.Lint texts) first last ending = LintBrings texts first last ending
 
 -- a command comes to an ending like that, for the bytes that its inputs had left
 abbrev pub Does : Command → Option (List ℕ) → Option (List ℕ) → (Ending → Type 0) → Type 0
@@ -141,5 +199,5 @@ Does command first last IsBrought =
 
 -- the run ended as its ending says: with a text that is written, or with the status of a refusal and nothing written
 abbrev pub Ends : Ending → Option (List ℕ) → Option (List ℕ) → Status → Type 0
-Ends (Ok written) before after ended = EndsWritten written.text written.all_met before after ended
+Ends (Ok answer) before after ended = EndsWritten answer.text answer.verdict before after ended
 Ends (Err refusal) before after ended = (ended ≡ refusal) × (after ≡ before)

@@ -10,5 +10,7 @@ pub use Rattle.printouts.specs.Outcomes
 pub use Rattle.printouts.specs.Plain
 pub use Rattle.printouts.specs.Run
 pub use Rattle.printouts.specs.Schedule
+pub use Rattle.lint_text.specs.Printout
+pub use Rattle.variants.specs.Texts as VaryTexts
 pub mod Engine
 pub mod inner

@@ -4,15 +4,20 @@ ghost use Rattle.std.specs.Prelude.{◌≡◌, ◌≤◌, vec_len, IfErr};
 ghost use Rattle.graph.specs.Units.{first_lacking};
 ghost use Rattle.file_faults.specs.Answers.{AnswersOn};
 ghost use Rattle.modsched.specs.Engine.{Brings, IsSearchText, IsTaskText, WorkBrings, loops_ending};
+ghost use Rattle.modsched.specs.inner.Answers.{ending_of};
 ghost use Rattle.modsched.specs.inner.Refusals.{IsRefusal};
 
+mod answer;
 mod answering;
+mod linting;
 mod searches;
 
+pub(crate) use answer::Answer;
 use answering::{check_text, report_text, solve_text};
 use command_line::{Command, Search, Task, Work};
 use exit_status::Status;
 use file_faults::FileFault;
+use linting::lint_text;
 use loops::{Loop, read_loops};
 use machine::{Machine, read_machine};
 use printouts::{Printout, bounds_text, dot_text, edges_text};
@@ -21,17 +26,18 @@ use settings::Settings;
 use side_by_side::{explain_text_on, plain_text_on};
 use std::alloc::Global;
 use std::thread::Threads;
+use variants::vary_text;
 
 /// What a command writes for the bytes of its texts, each of which is read once, or the status of a refusal. A command that reads
 /// one text ignores the first bytes.
-pub(crate) fn printout_of<R: Threads + Sync>(
+pub(crate) fn answer_of<R: Threads + Sync>(
     rt: &R,
     alloc: Global,
     command: &Command,
     first: &[u8],
     last: &[u8],
-) -> Result<Printout, Status>
-    ensures brings { Brings command.now first.now last.now result }
+) -> Result<Answer, Status>
+    ensures brings { Brings command.now first.now last.now (ending_of result) }
     ensures kind { IfErr result IsRefusal }
 {
     match command {
@@ -43,16 +49,17 @@ pub(crate) fn printout_of<R: Threads + Sync>(
         } => solve_text(rt, alloc, settings, *format, last),
         Command::Problems { told, .. } => report_text(alloc, told, last),
         Command::Check { .. } => check_text(alloc, first, last),
+        Command::Lint(texts) => lint_text(alloc, texts, first, last),
     }
 }
 
 /// What loops come to, with the status of a refusal.
-fn loops_ending(outcome: Result<Printout, FileFault>) -> Result<Printout, Status>
-    ensures ending { result ≡ loops_ending outcome }
+fn loops_ending(outcome: Result<Printout, FileFault>) -> Result<Answer, Status>
+    ensures ending { ending_of result ≡ loops_ending outcome }
     ensures kind { IfErr result IsRefusal }
 {
     match outcome {
-        Ok(printout) => Ok(printout),
+        Ok(printout) => Ok(Answer::Printout(printout)),
         Err(fault) => Err(Status::from(fault)),
     }
 }
@@ -115,6 +122,7 @@ fn search_text<R: Threads + Sync>(
         Search::Schedule => schedule_text(rt, alloc, machine, loops, settings),
         Search::Json => json_text(rt, alloc, machine, loops, settings),
         Search::Explain => explain_text_on(rt, alloc, machine, loops, settings),
+        Search::Vary => vary_text(alloc, machine, loops, settings),
         Search::Run(trip) => run_text(rt, alloc, machine, loops, *trip, settings),
     }
 }

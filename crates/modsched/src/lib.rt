@@ -5,13 +5,13 @@ mod commands;
 mod subcommand;
 
 pub use command_line::{
-    Command, Format, Report, Search, TRIP_LIMIT, Task, Trip, Usage, Work, parse_line,
+    Command, Format, LintTexts, Report, Search, TRIP_LIMIT, Task, Trip, Usage, Work, parse_line,
 };
 pub use devices::{
     Bytes, Fault, FaultyInput, FaultyOutput, FileInput, Input, Output, ReadTextError,
     StandardOutput, TEXT_LIMIT, TakenBytes, read_text, write_text,
 };
-pub use exit_status::{Line, Status, Told, exit_number, finish, show};
+pub use exit_status::{Line, Status, Told, Verdict, exit_number, finish, show};
 pub use printouts::kernels_tell_plain_lines;
 pub use settings::{OutOfRange, Settings};
 pub use subcommand::engine;

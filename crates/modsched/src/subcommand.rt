@@ -7,8 +7,8 @@ ghost use Rattle.exit_status.specs.Statuses.{HasAnswered, HasWritten, IsComplete
 
 mod texts;
 
-use crate::commands::printout_of;
-use command_line::Command;
+use crate::commands::answer_of;
+use command_line::{Command, LintTexts};
 use devices::{Input, Output, ReadTextError};
 use exit_status::{Status, finish};
 use std::alloc::Global;
@@ -71,8 +71,8 @@ pub fn engine<R: Threads + Sync, M: Input, L: Input, O: Output>(
         Err(ReadTextError::Fault) => return last_unread(command),
         Err(ReadTextError::Memory) => return Status::OutOfMemory,
     };
-    match printout_of(rt, alloc, command, first.as_slice(), last.as_slice()) {
-        Ok(printout) => finish(output, printout.text(), printout.all_met()),
+    match answer_of(rt, alloc, command, first.as_slice(), last.as_slice()) {
+        Ok(answer) => finish(output, answer.text(), answer.verdict()),
         Err(refusal) => refusal,
     }
 }
@@ -86,6 +86,8 @@ fn first_unread(command: &Command) -> Status
             Status::MachineUnread
         }
         Command::Check { .. } => Status::ProblemsUnread,
+        Command::Lint(LintTexts::Machine { .. }) => Status::LoopsUnread,
+        Command::Lint(_) => Status::MachineUnread,
     }
 }
 
@@ -97,5 +99,7 @@ fn last_unread(command: &Command) -> Status
         Command::Loops { .. } => Status::LoopsUnread,
         Command::Solve { .. } | Command::Problems { .. } => Status::ProblemsUnread,
         Command::Check { .. } => Status::SolutionsUnread,
+        Command::Lint(LintTexts::Machine { .. }) => Status::MachineUnread,
+        Command::Lint(_) => Status::LoopsUnread,
     }
 }

@@ -1,6 +1,7 @@
 -- What a list of times and alternatives breaks first, where it is no schedule. The numbers of each operation are tested first, then the
 -- rows of all operations, then the edges, and last the stages.
 use Rattle.std.specs.Prelude.{◌≡◌, ◌≢◌, ◌⊎◌, ℕ, pos, ◌+◌, ◌*◌, ◌/◌, ◌<◌, ◌≤◌, ◌+ℤ◌, true, List, [], length, map, Some, slice_get, slice_index}
+use Rattle.machine_data.specs.declared.limits.TheConstants.{MAX_STAGES}
 use Rattle.std.specs.List.{All, slice_index_or}
 use Rattle.machine_data.specs.declared.alternative.Row.{Row}
 use Rattle.machine_data.specs.Alternative.{residue_of, rows_meet}
@@ -92,8 +93,8 @@ pub record BreaksStage (problem : ProblemData) (ii : ℕ) (places : List (ℕ ×
   pub units : KeepsUnits ii problem.operations (times_in places) (choices_in places)
   pub edges : All (KeepsEdge ii (times_in places)) problem.graph.edges
   pub there : op < length problem.operations
-  pub late : 64 ≤ slice_index (times_in places) op / ii
-  pub before : (sooner : ℕ) → sooner < op → slice_index (times_in places) sooner / ii < 64
+  pub late : MAX_STAGES ≤ slice_index (times_in places) op / ii
+  pub before : (sooner : ℕ) → sooner < op → slice_index (times_in places) sooner / ii < MAX_STAGES
 
 -- ---- the first of all
 -- a list of times and alternatives breaks this first

@@ -1,5 +1,6 @@
 -- What is scheduled: operations, with the edges between them and the alternatives of each.
 use Rattle.std.specs.Prelude.{◌≡◌, ℕ, ◌*◌, ◌≤◌, max, List, length}
+use Rattle.machine_data.specs.declared.limits.TheConstants.{MAX_CEILING, MAX_RATIO}
 use Rattle.std.specs.List.{All}
 use Rattle.machine_data.specs.declared.alternative.Row.{Row}
 use Rattle.machine_data.specs.Alternative.{AreAlternatives}
@@ -35,8 +36,8 @@ pub record IsProblem (problem : ProblemData) : Type 0 where
   pub resources_few : problem.resources ≤ 2048
   pub recurrences_few : problem.recurrences ≤ 8192
   pub ratio_some : 1 ≤ problem.ratio
-  pub ratio_few : problem.ratio ≤ 64
-  pub ceiling_few : problem.ceiling ≤ 255
+  pub ratio_few : problem.ratio ≤ MAX_RATIO
+  pub ceiling_few : problem.ceiling ≤ MAX_CEILING
 
 -- the problem of these edges, latencies and alternatives
 pub record IsProblemOf (graph : GraphData) (operations : List (List (List Row))) (ratio ceiling : ℕ) (problem : ProblemData) : Type 0 where

@@ -1,5 +1,6 @@
 -- Laws of attempts and schedules.
 use Rattle.std.specs.Prelude.{◌≡◌, ℕ, ◌<◌, ◌≤◌, List, length}
+use Rattle.machine_data.specs.declared.limits.TheConstants.{MAX_INTERVAL}
 use Rattle.machine_data.specs.declared.alternative.Row.{Row}
 use Rattle.graph.specs.Graphs.{GraphData}
 use Rattle.graph.specs.Schedules.{IsLawfulSchedule}
@@ -33,7 +34,7 @@ StagesAreFew = (schedule : ScheduleData) → IsSchedule schedule
 
 -- a list of times and alternatives that breaks something is no schedule
 abbrev pub BreachesBreak : Type 0
-BreachesBreak = (problem : ProblemData) (ii : ℕ) (places : List (ℕ × ℕ)) (breach : Breach) → 1 ≤ ii → ii ≤ 16384
+BreachesBreak = (problem : ProblemData) (ii : ℕ) (places : List (ℕ × ℕ)) (breach : Breach) → 1 ≤ ii → ii ≤ MAX_INTERVAL
     → IsFirstBreach problem ii places breach → IsSchedule (as_listed problem ii places) → ⊥
 
 -- a list of times and alternatives breaks one thing first

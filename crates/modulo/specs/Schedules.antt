@@ -1,5 +1,6 @@
 -- Schedules as data.
 use Rattle.std.specs.Prelude.{ℕ, ◌/◌, ◌+◌, ◌<◌, ◌≤◌, List, map, slice_index}
+use Rattle.machine_data.specs.declared.limits.TheConstants.{MAX_INTERVAL, MAX_STAGES}
 use Rattle.std.specs.List.{All}
 use Rattle.graph.specs.Schedules.{IsLawfulSchedule}
 use Rattle.graph.specs.Units.{greatest_of}
@@ -24,9 +25,9 @@ stages_of schedule = greatest_of (map (λ time. time / schedule.ii) schedule.tim
 pub record IsSchedule (schedule : ScheduleData) : Type 0 where
   pub problem : IsProblem schedule.problem
   pub ii_some : 1 ≤ schedule.ii
-  pub ii_few : schedule.ii ≤ 16384
+  pub ii_few : schedule.ii ≤ MAX_INTERVAL
   pub lawful : IsLawfulSchedule schedule.ii schedule.problem.operations schedule.problem.graph.edges schedule.times schedule.choices
-  pub stages : All (λ time. time / schedule.ii < 64) schedule.times
+  pub stages : All (λ time. time / schedule.ii < MAX_STAGES) schedule.times
 
 -- what a list of times and alternatives says
 abbrev pub as_listed : ProblemData → ℕ → List (ℕ × ℕ) → ScheduleData

@@ -7,6 +7,7 @@ ghost use Rattle.mrt.specs.Placements.{alternatives_of, IsFree};
 ghost use Rattle.mrt.specs.inner.Slots.{IsSlot, rows_in, meets_held};
 ghost use Rattle.mrt.specs.Taken.{takes};
 ghost use Rattle.mrt.specs.inner.OwnerTables.{owner_at, is_owned};
+ghost use Rattle.machine_data.specs.declared.limits.TheConstants.{MAX_INTERVAL, MAX_UNITS};
 
 use crate::memory::refill;
 use crate::rosters::roster::{Issue, Roster};
@@ -168,9 +169,9 @@ impl ModuloTable for OwnerTable {
 fn place(slot: &Slot, ii: usize, units: usize, base: usize) -> usize
     requires slot { IsSlot ii slot.now }
     requires unit { slot.now.row.unit < units }
-    requires few_units { units ≤ 64 }
+    requires few_units { units ≤ MAX_UNITS }
     requires base { base < ii }
-    requires few { ii ≤ 16384 }
+    requires few { ii ≤ MAX_INTERVAL }
     ensures within { result < ii * units }
     ensures value { (time : ℕ) → time % ii ≡ base → result ≡ residue_of ii slot.now.row time * units + slot.now.row.unit }
 {
@@ -182,9 +183,9 @@ fn is_met(owners: &[usize], slots: &[Slot], ii: usize, units: usize, base: usize
     requires long { length owners.now ≡ ii * units }
     requires slots { All (IsSlot ii) slots.now }
     requires covered { All (λ s. s.row.unit < units) slots.now }
-    requires few_units { units ≤ 64 }
+    requires few_units { units ≤ MAX_UNITS }
     requires base { base < ii }
-    requires few { ii ≤ 16384 }
+    requires few { ii ≤ MAX_INTERVAL }
     ensures { (time : ℕ) → time % ii ≡ base → result ≡ meets_held ii (is_owned units owners.now) (rows_in slots.now) time }
 {
     for slot in slots {
@@ -200,9 +201,9 @@ fn mark(owners: &mut [usize], slots: &[Slot], ii: usize, units: usize, base: usi
     requires long { length owners.old ≡ ii * units }
     requires slots { All (IsSlot ii) slots.now }
     requires covered { All (λ s. s.row.unit < units) slots.now }
-    requires few_units { units ≤ 64 }
+    requires few_units { units ≤ MAX_UNITS }
     requires base { base < ii }
-    requires few { ii ≤ 16384 }
+    requires few { ii ≤ MAX_INTERVAL }
     ensures { (time unit residue : ℕ) → time % ii ≡ base → unit < units → residue < ii
         → owner_at units owners.new unit residue ≡ (if takes ii (rows_in slots.now) time unit residue then owner else owner_at units owners.old unit residue) }
 {

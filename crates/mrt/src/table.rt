@@ -4,6 +4,7 @@ ghost use Rattle.std.specs.Prelude.{◌≡◌, ◌+◌, ◌^◌, ◌<◌, ◌≤
 ghost use Rattle.std.specs.List.{All};
 ghost use Rattle.machine_data.specs.declared.alternative.Row.{Row};
 ghost use Rattle.mrt.specs.Placements.{OperationAlternatives, Placements, placement_of, alternatives_of, rows_of, IsFree, IsFirstFree, IsFirstSlot, IsHolder};
+ghost use Rattle.machine_data.specs.declared.limits.TheConstants.{MAX_INTERVAL};
 
 use machine_data::{Alternatives, OutOfMemory};
 use std::alloc::Global;
@@ -26,7 +27,7 @@ pub trait ModuloTable: Drop {
     /// needs of the alternatives.
     fn make(alloc: Global, alternatives: &[Alternatives], ii: u64) -> Result<Self, OutOfMemory>
         requires some { 0 < ii }
-        requires few { ii ≤ 16384 }
+        requires few { ii ≤ MAX_INTERVAL }
         ensures empty { IfOk result (λ table. placed table ≡ replicate (length alternatives.now) None) }
         ensures operations { IfOk result (λ table. operations table ≡ alternatives.now) }
         ensures interval { IfOk result (λ table. interval table ≡ ii) };
@@ -41,7 +42,7 @@ pub trait ModuloTable: Drop {
         ii: u64,
     ) -> Result<Self, OutOfMemory>
         requires some { 0 < ii }
-        requires few { ii ≤ 16384 }
+        requires few { ii ≤ MAX_INTERVAL }
         requires kinds { All (λ kind. kind < length alternatives.now) kinds.now }
         ensures empty { IfOk result (λ table. placed table ≡ replicate (length kinds.now) None) }
         ensures operations { IfOk result (λ table. operations table ≡ map (λ kind. slice_index_or alternatives.now kind []) kinds.now) }
@@ -51,7 +52,7 @@ pub trait ModuloTable: Drop {
     /// of this one again, and less is computed than by [`ModuloTable::make`].
     fn at(self, ii: u64) -> Result<Self, OutOfMemory>
         requires some { 0 < ii }
-        requires few { ii ≤ 16384 }
+        requires few { ii ≤ MAX_INTERVAL }
         ensures empty { IfOk result (λ table. placed table ≡ replicate (length (operations self)) None) }
         ensures operations { IfOk result (λ table. operations table ≡ operations self) }
         ensures interval { IfOk result (λ table. interval table ≡ ii) };

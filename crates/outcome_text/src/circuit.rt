@@ -10,7 +10,7 @@ use graph::Edge;
 use graph_text::{Sums, sums_of};
 use machine_data::OutOfMemory;
 use problems::{Draft, Problem};
-use std::alloc::{AllocError, Global};
+use std::alloc::Global;
 use writing::{Text, push_signed, push_told};
 
 /// A circuit that the recurrence-constrained bound is due to, without edges just where the bound is 1: it does not fit an interval
@@ -33,7 +33,7 @@ pub fn circuit_of(alloc: Global, scheduling: &modulo::Problem) -> Result<Vec<Edg
 }
 
 /// The operations that a walk goes on from.
-fn stops_of(alloc: Global, walk: &[Edge]) -> Result<Vec<usize>, AllocError>
+fn stops_of(alloc: Global, walk: &[Edge]) -> Result<Vec<usize>, OutOfMemory>
     ensures { IfOk result (λ stops. stops.items ≡ stops_of walk.now) }
 {
     walk.iter()
@@ -42,7 +42,7 @@ fn stops_of(alloc: Global, walk: &[Edge]) -> Result<Vec<usize>, AllocError>
 }
 
 /// Appends the sums of a circuit.
-fn push_sums(text: &mut Vec<u8>, sums: Sums) -> Result<(), AllocError>
+fn push_sums(text: &mut Vec<u8>, sums: Sums) -> Result<(), OutOfMemory>
     ensures ok { OnOk result (text.new.items ≡ text.old.items ++ sums_text sums.delay sums.distance) }
 {
     push_signed(text, " takes ", sums.delay)?;
@@ -56,7 +56,7 @@ fn push_circuit_line(
     text: &mut Vec<u8>,
     draft: &Draft,
     circuit: &[Edge],
-) -> Result<(), AllocError>
+) -> Result<(), OutOfMemory>
     requires few { length circuit.now ≤ 128 }
     ensures ok { OnOk result (text.new.items ≡ text.old.items ++ circuit_line draft.now circuit.now) }
 {

@@ -4,12 +4,12 @@ ghost use Rattle.std.specs.Prelude.{◌≡◌, ◌++◌, OnOk};
 ghost use Rattle.std.specs.List.{flat_map};
 ghost use Rattle.outcome_text.specs.Notes.{listed, spaced};
 
+use machine_data::OutOfMemory;
 use problems::Label;
-use std::alloc::AllocError;
 use writing::{Text, push_number};
 
 /// Appends a blank and the name with a number, or where there is none the number.
-fn push_spaced(text: &mut Vec<u8>, names: &[Label], number: usize) -> Result<(), AllocError>
+fn push_spaced(text: &mut Vec<u8>, names: &[Label], number: usize) -> Result<(), OutOfMemory>
     ensures ok { OnOk result (text.new.items ≡ text.old.items ++ spaced names.now number) }
 {
     text.push_piece(" ")?;
@@ -20,7 +20,7 @@ fn push_spaced(text: &mut Vec<u8>, names: &[Label], number: usize) -> Result<(),
 }
 
 /// Appends the names with these numbers, each after a blank.
-fn push_names(text: &mut Vec<u8>, names: &[Label], numbers: &[usize]) -> Result<(), AllocError>
+fn push_names(text: &mut Vec<u8>, names: &[Label], numbers: &[usize]) -> Result<(), OutOfMemory>
     ensures ok { OnOk result (text.new.items ≡ text.old.items ++ flat_map (spaced names.now) numbers.now) }
 {
     for number in numbers {
@@ -35,7 +35,7 @@ pub(crate) fn push_listed(
     words: &str,
     names: &[Label],
     numbers: &[usize],
-) -> Result<(), AllocError>
+) -> Result<(), OutOfMemory>
     ensures ok { OnOk result (text.new.items ≡ text.old.items ++ listed words.now names.now numbers.now) }
 {
     text.push_piece(words)?;

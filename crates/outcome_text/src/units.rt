@@ -12,7 +12,7 @@ use crate::listed::push_listed;
 use machine_data::{Alternatives, OutOfMemory, Row};
 use problems::{Draft, Problem};
 use resource_bound::unit_choices_of;
-use std::alloc::{AllocError, Global};
+use std::alloc::Global;
 use writing::Text;
 
 /// The rows of the alternative that an operation takes by these choices, at most 16; none where there is no such alternative.
@@ -59,7 +59,7 @@ fn units_with(
     operations: &[Alternatives],
     choices: &[u8],
     uses: u64,
-) -> Result<Vec<usize>, AllocError>
+) -> Result<Vec<usize>, OutOfMemory>
     requires each { length choices.now ≡ length operations.now }
     requires few { length operations.now ≤ 128 }
     ensures { IfOk result (λ full. full.items ≡ units_with units (chosen_rows operations.now choices.now) uses) }
@@ -96,7 +96,7 @@ pub fn fullest_of(alloc: Global, problem: &Problem) -> Result<Vec<usize>, OutOfM
 }
 
 /// Appends the line of full units; nothing where there are none.
-fn push_full_line(text: &mut Vec<u8>, draft: &Draft, units: &[usize]) -> Result<(), AllocError>
+fn push_full_line(text: &mut Vec<u8>, draft: &Draft, units: &[usize]) -> Result<(), OutOfMemory>
     ensures ok { OnOk result (text.new.items ≡ text.old.items ++ full_line draft.now units.now) }
 {
     if units.is_empty() {

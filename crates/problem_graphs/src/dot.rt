@@ -19,11 +19,15 @@ use graph::Edge;
 use graph_text::{critical_circuit, push_arrow_end, push_arrow_start};
 use machine_data::OutOfMemory;
 use problems::{Draft, Problem};
-use std::alloc::{AllocError, Global};
+use std::alloc::Global;
 use writing::{Text, push_told};
 
 /// Appends what stands before the operations.
-fn push_head(text: &mut Vec<u8>, name: &str, scheduling: &modulo::Problem) -> Result<(), AllocError>
+fn push_head(
+    text: &mut Vec<u8>,
+    name: &str,
+    scheduling: &modulo::Problem,
+) -> Result<(), OutOfMemory>
     ensures ok { OnOk result (text.new.items ≡ text.old.items ++ graph_head name.now scheduling.now) }
 {
     text.push_piece("digraph \"")?;
@@ -35,7 +39,7 @@ fn push_head(text: &mut Vec<u8>, name: &str, scheduling: &modulo::Problem) -> Re
 }
 
 /// Appends the line of an operation.
-fn push_node(text: &mut Vec<u8>, draft: &Draft, op: usize) -> Result<(), AllocError>
+fn push_node(text: &mut Vec<u8>, draft: &Draft, op: usize) -> Result<(), OutOfMemory>
     requires { op < length draft.now.operations.items }
     ensures ok { OnOk result (text.new.items ≡ text.old.items ++ node_line draft.now op) }
 {
@@ -48,7 +52,7 @@ fn push_node(text: &mut Vec<u8>, draft: &Draft, op: usize) -> Result<(), AllocEr
 }
 
 /// Appends the lines of the operations.
-fn push_nodes(text: &mut Vec<u8>, draft: &Draft) -> Result<(), AllocError>
+fn push_nodes(text: &mut Vec<u8>, draft: &Draft) -> Result<(), OutOfMemory>
     ensures ok { OnOk result (text.new.items ≡ text.old.items ++ flat_map (node_line draft.now) (range_with_len 0 (length draft.now.operations.items))) }
 {
     for op in 0..draft.operations.len() {
@@ -64,7 +68,7 @@ fn push_arrow(
     edge: Edge,
     why: Why,
     bold: bool,
-) -> Result<(), AllocError>
+) -> Result<(), OutOfMemory>
     ensures ok { OnOk result (text.new.items ≡ text.old.items ++ arrow_line draft.now edge why bold) }
 {
     push_arrow_start(text, &edge)?;
@@ -80,7 +84,7 @@ fn is_bold(circuit: &[Edge], edge: Edge) -> bool
 }
 
 /// Appends the arrows of the reads.
-fn push_reads(text: &mut Vec<u8>, draft: &Draft, circuit: &[Edge]) -> Result<(), AllocError>
+fn push_reads(text: &mut Vec<u8>, draft: &Draft, circuit: &[Edge]) -> Result<(), OutOfMemory>
     requires { IsWellFormed draft.now }
     ensures ok { OnOk result ((arrows : List ℕ) × AreTexts (λ (r : Read) (bold : Bool). IsBold circuit.now (read_edge draft.now r) bold) (λ (r : Read) (bold : Bool). arrow_line draft.now (read_edge draft.now r) (why.Value r.value) bold) draft.now.reads.items arrows × (text.new.items ≡ text.old.items ++ arrows)) }
 {
@@ -93,7 +97,7 @@ fn push_reads(text: &mut Vec<u8>, draft: &Draft, circuit: &[Edge]) -> Result<(),
 }
 
 /// Appends the arrows of the orders.
-fn push_orders(text: &mut Vec<u8>, draft: &Draft, circuit: &[Edge]) -> Result<(), AllocError>
+fn push_orders(text: &mut Vec<u8>, draft: &Draft, circuit: &[Edge]) -> Result<(), OutOfMemory>
     requires { IsWellFormed draft.now }
     ensures ok { OnOk result ((arrows : List ℕ) × AreTexts (λ (o : Order) (bold : Bool). IsBold circuit.now (order_edge o) bold) (λ (o : Order) (bold : Bool). arrow_line draft.now (order_edge o) why.Order bold) draft.now.orders.items arrows × (text.new.items ≡ text.old.items ++ arrows)) }
 {
@@ -113,7 +117,7 @@ fn push_orders(text: &mut Vec<u8>, draft: &Draft, circuit: &[Edge]) -> Result<()
 /// backslash. A part that has no name is told by its number.
 ///
 /// # Errors
-/// [`AllocError`] where memory ran out. The text is left with a part of the graph.
+/// [`OutOfMemory`] where memory ran out. The text is left with a part of the graph.
 pub fn push_dot(
     alloc: Global,
     text: &mut Vec<u8>,

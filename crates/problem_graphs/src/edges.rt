@@ -16,11 +16,16 @@ use graph_text::push_sums;
 use machine_data::OutOfMemory;
 use problems::{Draft, Order, Problem};
 use registers::Read;
-use std::alloc::{AllocError, Global};
+use std::alloc::Global;
 use writing::{Text, push_told};
 
 /// Appends a word, the number of an operation, and what it is called.
-fn push_numbered(text: &mut Vec<u8>, word: &str, draft: &Draft, op: usize) -> Result<(), AllocError>
+fn push_numbered(
+    text: &mut Vec<u8>,
+    word: &str,
+    draft: &Draft,
+    op: usize,
+) -> Result<(), OutOfMemory>
     ensures ok { OnOk result (text.new.items ≡ text.old.items ++ numbered word.now draft.now op) }
 {
     push_told(text, word, op as u64)?;
@@ -34,7 +39,7 @@ fn push_op(
     problem: &Problem,
     heights: &[u64],
     op: usize,
-) -> Result<(), AllocError>
+) -> Result<(), OutOfMemory>
     requires there { op < length problem.now.draft.operations.items }
     requires each { length heights.now ≡ length problem.now.draft.operations.items }
     ensures ok { OnOk result (text.new.items ≡ text.old.items ++ op_line problem.now heights.now op) }
@@ -50,7 +55,7 @@ fn push_op(
 }
 
 /// Appends the lines of all operations.
-fn push_ops(text: &mut Vec<u8>, problem: &Problem, heights: &[u64]) -> Result<(), AllocError>
+fn push_ops(text: &mut Vec<u8>, problem: &Problem, heights: &[u64]) -> Result<(), OutOfMemory>
     requires { length heights.now ≡ length problem.now.draft.operations.items }
     ensures ok { OnOk result (text.new.items ≡ text.old.items ++ op_lines problem.now heights.now) }
 {
@@ -64,8 +69,8 @@ fn push_ops(text: &mut Vec<u8>, problem: &Problem, heights: &[u64]) -> Result<()
 /// both operations with what they are called, the delay in cycles and the distance in iterations.
 ///
 /// # Errors
-/// [`AllocError`] where memory ran out. The text is left with a part of the line.
-pub fn push_edge(text: &mut Vec<u8>, draft: &Draft, edge: Edge, why: Why) -> Result<(), AllocError>
+/// [`OutOfMemory`] where memory ran out. The text is left with a part of the line.
+pub fn push_edge(text: &mut Vec<u8>, draft: &Draft, edge: Edge, why: Why) -> Result<(), OutOfMemory>
     ensures ok { OnOk result (text.new.items ≡ text.old.items ++ edge_line draft.now edge why) }
 {
     push_numbered(text, "edge ", draft, usize::from(edge.from))?;
@@ -77,7 +82,7 @@ pub fn push_edge(text: &mut Vec<u8>, draft: &Draft, edge: Edge, why: Why) -> Res
 }
 
 /// Appends the line of a read.
-fn push_read(text: &mut Vec<u8>, draft: &Draft, read: Read) -> Result<(), AllocError>
+fn push_read(text: &mut Vec<u8>, draft: &Draft, read: Read) -> Result<(), OutOfMemory>
     requires well_formed { IsWellFormed draft.now }
     requires read { IsRead draft.now read }
     ensures ok { OnOk result (text.new.items ≡ text.old.items ++ read_line draft.now read) }
@@ -86,7 +91,7 @@ fn push_read(text: &mut Vec<u8>, draft: &Draft, read: Read) -> Result<(), AllocE
 }
 
 /// Appends the lines of all reads.
-fn push_reads(text: &mut Vec<u8>, draft: &Draft) -> Result<(), AllocError>
+fn push_reads(text: &mut Vec<u8>, draft: &Draft) -> Result<(), OutOfMemory>
     requires { IsWellFormed draft.now }
     ensures ok { OnOk result (text.new.items ≡ text.old.items ++ flat_map (read_line draft.now) draft.now.reads.items) }
 {
@@ -97,7 +102,7 @@ fn push_reads(text: &mut Vec<u8>, draft: &Draft) -> Result<(), AllocError>
 }
 
 /// Appends the line of an order.
-fn push_order(text: &mut Vec<u8>, draft: &Draft, order: Order) -> Result<(), AllocError>
+fn push_order(text: &mut Vec<u8>, draft: &Draft, order: Order) -> Result<(), OutOfMemory>
     requires few { length draft.now.operations.items ≤ 128 }
     requires order { IsOrder (length draft.now.operations.items) order }
     ensures ok { OnOk result (text.new.items ≡ text.old.items ++ order_line draft.now order) }
@@ -107,7 +112,7 @@ fn push_order(text: &mut Vec<u8>, draft: &Draft, order: Order) -> Result<(), All
 }
 
 /// Appends the lines of all orders.
-fn push_orders(text: &mut Vec<u8>, draft: &Draft) -> Result<(), AllocError>
+fn push_orders(text: &mut Vec<u8>, draft: &Draft) -> Result<(), OutOfMemory>
     requires { IsWellFormed draft.now }
     ensures ok { OnOk result (text.new.items ≡ text.old.items ++ flat_map (order_line draft.now) draft.now.orders.items) }
 {
@@ -118,7 +123,7 @@ fn push_orders(text: &mut Vec<u8>, draft: &Draft) -> Result<(), AllocError>
 }
 
 /// The height of each operation at the lower bound of the interval, in cycles.
-fn heights_of(alloc: Global, problem: &Problem) -> Result<Vec<u64>, AllocError>
+fn heights_of(alloc: Global, problem: &Problem) -> Result<Vec<u64>, OutOfMemory>
     ensures each { IfOk result (λ heights. length heights.items ≡ length problem.now.draft.operations.items) }
     ensures exact { IfOk result (λ heights. AreHeights problem.now.scheduling.graph (mii_of problem.now.scheduling) heights.items) }
 {
@@ -134,7 +139,7 @@ fn heights_of(alloc: Global, problem: &Problem) -> Result<Vec<u64>, AllocError>
 /// `order`), the delay in cycles and the distance in iterations. A part that has no name is told by its number.
 ///
 /// # Errors
-/// [`AllocError`] where memory ran out. The text is left with a part of all that.
+/// [`OutOfMemory`] where memory ran out. The text is left with a part of all that.
 pub fn push_edges(
     alloc: Global,
     text: &mut Vec<u8>,

@@ -3,12 +3,12 @@
 ghost use Rattle.std.specs.Prelude.{◌≡◌, ◌++◌, OnOk};
 ghost use Rattle.problem_graphs.specs.Escapes.{escaped, escaped_byte, escaped_in};
 
+use machine_data::OutOfMemory;
 use problems::Label;
-use std::alloc::AllocError;
 use writing::push_number;
 
 /// Appends a byte, after a backslash where it is a quote or a backslash.
-fn push_escaped_byte(text: &mut Vec<u8>, byte: u8) -> Result<(), AllocError>
+fn push_escaped_byte(text: &mut Vec<u8>, byte: u8) -> Result<(), OutOfMemory>
     ensures ok { OnOk result (text.new.items ≡ text.old.items ++ escaped_byte byte) }
 {
     if byte == b'"' || byte == b'\\' {
@@ -19,7 +19,7 @@ fn push_escaped_byte(text: &mut Vec<u8>, byte: u8) -> Result<(), AllocError>
 }
 
 /// Appends a name as it stands between quotes.
-pub(crate) fn push_escaped(text: &mut Vec<u8>, name: &str) -> Result<(), AllocError>
+pub(crate) fn push_escaped(text: &mut Vec<u8>, name: &str) -> Result<(), OutOfMemory>
     ensures ok { OnOk result (text.new.items ≡ text.old.items ++ escaped name.now) }
 {
     for byte in name.as_bytes() {
@@ -33,7 +33,7 @@ pub(crate) fn push_escaped_name(
     text: &mut Vec<u8>,
     names: &[Label],
     number: usize,
-) -> Result<(), AllocError>
+) -> Result<(), OutOfMemory>
     ensures ok { OnOk result (text.new.items ≡ text.old.items ++ escaped_in names.now number) }
 {
     match names.get(number) {

@@ -3,15 +3,15 @@
 ghost use Rattle.std.specs.Prelude.{◌≡◌, ◌++◌, OnOk};
 ghost use Rattle.problem_graphs.specs.Heads.{bounds_told, problem_line};
 
+use machine_data::OutOfMemory;
 use problems::Problem;
-use std::alloc::AllocError;
 use writing::{Text, push_both, push_told};
 
 /// Appends the bounds, each after its word.
 pub(crate) fn push_bounds(
     text: &mut Vec<u8>,
     scheduling: &modulo::Problem,
-) -> Result<(), AllocError>
+) -> Result<(), OutOfMemory>
     ensures ok { OnOk result (text.new.items ≡ text.old.items ++ bounds_told scheduling.now) }
 {
     push_told(text, " res ", scheduling.resources())?;
@@ -23,12 +23,12 @@ pub(crate) fn push_bounds(
 /// its interval, by the units and by the recurrences, and the greater one, in cycles.
 ///
 /// # Errors
-/// [`AllocError`] where memory ran out. The text is left with a part of the line.
+/// [`OutOfMemory`] where memory ran out. The text is left with a part of the line.
 pub fn push_problem_line(
     text: &mut Vec<u8>,
     name: &str,
     problem: &Problem,
-) -> Result<(), AllocError>
+) -> Result<(), OutOfMemory>
     ensures ok { OnOk result (text.new.items ≡ text.old.items ++ problem_line name.now problem.now) }
 {
     let scheduling = problem.scheduling();

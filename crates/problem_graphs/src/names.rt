@@ -3,12 +3,12 @@
 ghost use Rattle.std.specs.Prelude.{◌≡◌, ◌<◌, ◌++◌, length, OnOk};
 ghost use Rattle.problem_graphs.specs.Names.{kind_name, kind_of, name_in, op_name, unit_name, value_name};
 
+use machine_data::OutOfMemory;
 use problems::{Draft, Label};
-use std::alloc::AllocError;
 use writing::{Text, push_number};
 
 /// Appends the name with a number, or where there is none the number.
-fn push_name(text: &mut Vec<u8>, names: &[Label], number: usize) -> Result<(), AllocError>
+fn push_name(text: &mut Vec<u8>, names: &[Label], number: usize) -> Result<(), OutOfMemory>
     ensures ok { OnOk result (text.new.items ≡ text.old.items ++ name_in names.now number) }
 {
     match names.get(number) {
@@ -20,8 +20,8 @@ fn push_name(text: &mut Vec<u8>, names: &[Label], number: usize) -> Result<(), A
 /// Appends what an operation is called: its name, or where the problem has no names of operations its number.
 ///
 /// # Errors
-/// [`AllocError`] where memory ran out. The text is what it was.
-pub fn push_op_name(text: &mut Vec<u8>, draft: &Draft, op: usize) -> Result<(), AllocError>
+/// [`OutOfMemory`] where memory ran out. The text is what it was.
+pub fn push_op_name(text: &mut Vec<u8>, draft: &Draft, op: usize) -> Result<(), OutOfMemory>
     ensures ok { OnOk result (text.new.items ≡ text.old.items ++ op_name draft.now op) }
 {
     push_name(text, draft.names.operations.as_slice(), op)
@@ -30,8 +30,8 @@ pub fn push_op_name(text: &mut Vec<u8>, draft: &Draft, op: usize) -> Result<(), 
 /// Appends what a unit is called: its name, or where the problem has no names of units its number.
 ///
 /// # Errors
-/// [`AllocError`] where memory ran out. The text is what it was.
-pub fn push_unit_name(text: &mut Vec<u8>, draft: &Draft, unit: usize) -> Result<(), AllocError>
+/// [`OutOfMemory`] where memory ran out. The text is what it was.
+pub fn push_unit_name(text: &mut Vec<u8>, draft: &Draft, unit: usize) -> Result<(), OutOfMemory>
     ensures ok { OnOk result (text.new.items ≡ text.old.items ++ unit_name draft.now unit) }
 {
     push_name(text, draft.names.units.as_slice(), unit)
@@ -42,7 +42,7 @@ pub(crate) fn push_value_name(
     text: &mut Vec<u8>,
     draft: &Draft,
     value: usize,
-) -> Result<(), AllocError>
+) -> Result<(), OutOfMemory>
     ensures ok { OnOk result (text.new.items ≡ text.old.items ++ value_name draft.now value) }
 {
     push_name(text, draft.names.values.as_slice(), value)
@@ -57,7 +57,11 @@ pub(crate) fn kind_of(draft: &Draft, op: usize) -> usize
 }
 
 /// Appends what an operation's kind is called.
-pub(crate) fn push_kind_name(text: &mut Vec<u8>, draft: &Draft, op: usize) -> Result<(), AllocError>
+pub(crate) fn push_kind_name(
+    text: &mut Vec<u8>,
+    draft: &Draft,
+    op: usize,
+) -> Result<(), OutOfMemory>
     requires { op < length draft.now.operations.items }
     ensures ok { OnOk result (text.new.items ≡ text.old.items ++ kind_name draft.now op) }
 {

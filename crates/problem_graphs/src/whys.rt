@@ -6,8 +6,8 @@ ghost use Rattle.problem_graphs.specs.Whys.{why_text};
 
 use crate::escapes::push_escaped_name;
 use crate::names::push_value_name;
+use machine_data::OutOfMemory;
 use problems::Draft;
-use std::alloc::AllocError;
 use writing::Text;
 
 /// Why one operation waits for another one.
@@ -20,7 +20,7 @@ pub enum Why {
 }
 
 /// Appends why an operation waits.
-pub(crate) fn push_why(text: &mut Vec<u8>, draft: &Draft, why: Why) -> Result<(), AllocError>
+pub(crate) fn push_why(text: &mut Vec<u8>, draft: &Draft, why: Why) -> Result<(), OutOfMemory>
     ensures ok { OnOk result (text.new.items ≡ text.old.items ++ why_text draft.now why) }
 {
     match why {
@@ -33,7 +33,7 @@ pub(crate) fn push_why(text: &mut Vec<u8>, draft: &Draft, why: Why) -> Result<()
 }
 
 /// Appends the same between quotes.
-pub(crate) fn push_why_label(text: &mut Vec<u8>, draft: &Draft, why: Why) -> Result<(), AllocError>
+pub(crate) fn push_why_label(text: &mut Vec<u8>, draft: &Draft, why: Why) -> Result<(), OutOfMemory>
     ensures ok { OnOk result (text.new.items ≡ text.old.items ++ why_label draft.now why) }
 {
     match why {

@@ -1,14 +1,28 @@
 -- How a line falls into words with their columns, at a cut.
 use Rattle.std.proofs.Common.{◌≡◌, ◌==◌, ℕ, suc, ◌+◌, ◌-◌, ◌<◌, Bool, true, false, List, [], ◌∷◌, length, get_or, map, take, drop, refl, sym, ◌∙◌, ap, arith}
+use Rattle.std.specs.Prelude.{◌&&◌}
 use Rattle.std.specs.List.{before_first, position_or_len}
 use Rattle.std.proofs.lemmas.Bool.Decides.{nat_tests}
 use Rattle.loop_lines.specs.Words.{is_blank, starts_blank, stops_word, ends_word, pieces_of, words_of}
 use Rattle.loop_lines.specs.Words as loops
+use Rattle.problem_lines.specs.Names.{is_printable}
 use Rattle.loop_lines.proofs.Cuts.{before_next, head_and_rest}
 use Rattle.problem_lines.specs.Words.{Placed, onto_first, pieces_from, words_from, placed_words}
 
 blank_no_hash : (c : ℕ) → is_blank c ≡ true → (c == 35) ≡ false
 blank_no_hash c h = grind (arith, nat_tests)
+
+-- a byte of a name ends no word
+pub printable_goes_on : (c : ℕ) → is_printable c ≡ true → stops_word c ≡ false
+printable_goes_on c h = grind (arith, nat_tests)
+
+pub both_kept : (before here after : Bool) → after ≡ (before && here) → here ≡ true → after ≡ before
+both_kept true here after e h = e ∙ h
+both_kept false here after e h = e
+
+pub both_false : (before here after : Bool) → after ≡ (before && here) → here ≡ false → after ≡ false
+both_false true here after e h = e ∙ h
+both_false false here after e h = e
 
 position_next : (p : ℕ → Bool) (c : ℕ) (cs : List ℕ) → p c ≡ false → position_or_len p (c ∷ cs) ≡ 1 + position_or_len p cs
 position_next p c cs h = rw h refl

@@ -1,12 +1,9 @@
 -- Names and labels are the same.
-use Rattle.std.proofs.Common.{◌≡◌, ◌≢◌, ◌↔◌, ℕ, ◌<◌, ◌≤◌, true, List, [], ◌∷◌, length, get_or, zero, suc, refl, arith, lit<, MatchResult, Result, Ok, Err}
+use Rattle.std.proofs.Common.{◌≡◌, ◌≢◌, ◌↔◌, ℕ, ◌<◌, ◌≤◌, true, List, [], ◌∷◌, length, refl, arith}
 use Rattle.std.proofs.lemmas.Bool.{and_parts}
 use Rattle.std.proofs.lemmas.Bool.Decides.{nat_tests}
 use Rattle.std.proofs.lemmas.List.Elements.{All-nil, All-cons, All-head, All-tail}
 use Rattle.std.specs.List.{All, list_all}
-use Rattle.std.specs.Result.{IsOk}
-use Rattle.std.specs.Str.{IsUtf8}
-use Rattle.std.proofs.lemmas.Str.{IsUtf8-from_ascii}
 use Rattle.problems.specs.Labels.{IsLabel, IsPrintable}
 use Rattle.problem_lines.specs.Names.{is_name, is_printable}
 
@@ -44,24 +41,3 @@ label-from word some few all = grind (arith, nat_tests)
 
 pub name-label : (word : List ℕ) → (is_name word ≡ true) ↔ IsLabel word
 name-label word = (label-to word, λ h. label-from word h.some h.few (all-from word h.printable))
-
--- names are UTF-8
-
-ascii-at : (cs : List ℕ) → list_all is_printable cs ≡ true → (i : ℕ) → get_or cs i 0 < 128
-ascii-at [] h i = lit< tt
-ascii-at (c ∷ cs) h zero =
-    let parts = and_parts (is_printable c) (list_all is_printable cs) h in
-    let within = (printable-to c parts.0).high in
-    omega (arith, within)
-ascii-at (c ∷ cs) h (suc i) =
-    let parts = and_parts (is_printable c) (list_all is_printable cs) h in
-    ascii-at cs parts.1 i
-
-pub name-utf8 : (word : List ℕ) → is_name word ≡ true → IsUtf8 word
-name-utf8 word h =
-    let all : list_all is_printable word ≡ true = grind (arith, nat_tests) in
-    IsUtf8-from_ascii word (ascii-at word all)
-
-pub ok-where : {T E : Type 0} (r : Result T E) (U : Type 0) (P : T → Type 0) (Q : E → Type 0) → U → MatchResult r P (λ e. (U → ⊥) × Q e) → IsOk r
-ok-where (Ok x) U P Q u h = refl
-ok-where (Err e) U P Q u h = absurd (h.0 u)

@@ -13,7 +13,7 @@ ghost use Rattle.problem_lines.specs.inner.Pieces.{fault_seen, placed};
 use crate::fault::{Expected, LineFault};
 use crate::keyword::{is_text, keyword_of, solution_keyword_of};
 use crate::names::{is_hold, is_name, is_unit_name};
-use crate::number::{Integer, Number, digits_of, int_of, integer_in, number_in};
+use crate::number::{Integer, Number, digits_of, int_of, integer_in};
 use crate::piece::Piece;
 use crate::scan::first_word;
 use crate::word::Word;
@@ -64,6 +64,17 @@ fn fits(what: Expected, word: &[u8]) -> bool
         Expected::By => is_text(word, "by"),
         Expected::NumberWord => is_text(word, "number"),
         Expected::Nothing => false,
+    }
+}
+
+/// The fault that this has to stand at a column where no word is left.
+fn missing(column: usize, what: Expected) -> LineFault
+    ensures { result ≡ record { column = column; width = 0; what = what } }
+{
+    LineFault {
+        column,
+        width: 0,
+        what,
     }
 }
 
@@ -118,19 +129,11 @@ impl<'a> Left<'a> {
     {
         let column = self.column;
         match self.next() {
-            None => Err(LineFault {
-                column,
-                width: 0,
-                what,
-            }),
+            None => Err(missing(column, what)),
             Some(piece) => if fits(what, piece.bytes) {
                 Ok(piece)
             } else {
-                Err(LineFault {
-                    column: piece.column,
-                    width: piece.bytes.len(),
-                    what,
-                })
+                Err(piece.misfit(what))
             },
         }
     }
@@ -141,11 +144,18 @@ impl<'a> Left<'a> {
         ensures word { IfOk result (λ w. self.old.words ≡ word_seen w ∷ self.new.words) }
         ensures after { IfOk result (λ w. self.new.after ≡ behind (word_seen w)) }
     {
-        let piece = self.take(Expected::Name)?;
-        Ok(Word {
-            bytes: piece.bytes,
-            column: piece.column,
-        })
+        let column = self.column;
+        match self.next() {
+            None => Err(missing(column, Expected::Name)),
+            Some(piece) => if piece.is_name() {
+                Ok(Word {
+                    bytes: piece.bytes,
+                    column: piece.column,
+                })
+            } else {
+                Err(piece.misfit(Expected::Name))
+            },
+        }
     }
 
     /// Takes the next word, which has to be a number.
@@ -153,8 +163,18 @@ impl<'a> Left<'a> {
         ensures fault { fault_seen result ≡ misfit self.old.after expected.Number self.old.words }
         ensures word { IfOk result (λ n. (w : Placed) × (self.old.words ≡ w ∷ self.new.words) × (n ≡ number_of w) × (self.new.after ≡ behind w)) }
     {
-        let piece = self.take(Expected::Number)?;
-        Ok(number_in(piece.bytes, piece.column))
+        let column = self.column;
+        let Some(piece) = self.next() else {
+            return Err(missing(column, Expected::Number));
+        };
+        match digits_of(piece.bytes) {
+            Some(value) => Ok(Number {
+                value,
+                column: piece.column,
+                width: piece.bytes.len(),
+            }),
+            None => Err(piece.misfit(Expected::Number)),
+        }
     }
 
     /// Takes the next word, which has to be an integer.

@@ -8,10 +8,11 @@ use crate::number::digits_of;
 use machine_data::limits::MAX_LABEL;
 
 /// Whether a name may have this byte.
-fn is_printable(byte: u8) -> bool
+pub(crate) fn is_printable(byte: u8) -> bool
     ensures { result ≡ is_printable byte }
 {
-    byte >= 33 && byte <= 126 && byte != b'#'
+    // (most are above `#`)
+    (byte > b'#' && byte <= 126) || byte == b'"' || byte == b'!'
 }
 
 /// All bytes of a word may stand in a name.

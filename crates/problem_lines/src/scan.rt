@@ -1,11 +1,13 @@
 //! The first word of a rest of a line.
 
-ghost use Rattle.std.specs.Prelude.{◌≡◌, ◌+◌, ◌<◌, ◌≤◌, ◌^◌, [], ◌∷◌, length, false, IfSome, MatchOption};
-ghost use Rattle.std.specs.List.{position_or_len};
+ghost use Rattle.std.specs.Prelude.{◌≡◌, ◌+◌, ◌<◌, ◌≤◌, ◌^◌, [], ◌∷◌, length, take, false, IfSome, MatchOption};
+ghost use Rattle.std.specs.List.{list_all, position_or_len};
 ghost use Rattle.loop_lines.specs.Words.{is_blank, starts_blank, stops_word};
+ghost use Rattle.problem_lines.specs.Names.{is_printable};
 ghost use Rattle.problem_lines.specs.Words.{behind, words_from};
 ghost use Rattle.problem_lines.specs.inner.Pieces.{placed};
 
+use crate::names::is_printable;
 use crate::piece::Piece;
 
 /// A space, a tab or a carriage return.
@@ -42,16 +44,37 @@ fn without_blanks(text: &[u8], column: usize) -> (&[u8], usize)
     (rest, at)
 }
 
-/// How many bytes stand before the first blank or `#`.
-fn count_word(text: &[u8]) -> usize
-    ensures { result ≡ position_or_len stops_word text.now }
+/// How far a word goes.
+#[derive(Clone, Copy)]
+struct Extent {
+    count: usize,
+    /// Whether all its bytes may stand in a name.
+    printable: bool,
+}
+
+/// How many bytes stand before the first blank or `#`, and whether all of them may stand in a name.
+///
+/// Most words are names, so that the test for these comes first.
+fn count_word(text: &[u8]) -> Extent
+    ensures count { result.count ≡ position_or_len stops_word text.now }
+    ensures printable { result.printable ≡ list_all is_printable (take result.count text.now) }
 {
+    let mut printable = true;
     for (i, byte) in text.iter().enumerate() {
-        if ends_word(*byte) {
-            return i;
+        if !is_printable(*byte) {
+            if ends_word(*byte) {
+                return Extent {
+                    count: i,
+                    printable,
+                };
+            }
+            printable = false;
         }
     }
-    text.len()
+    Extent {
+        count: text.len(),
+        printable,
+    }
 }
 
 /// The first word of a rest of a line that begins at a column, and what follows it.
@@ -62,15 +85,16 @@ pub(crate) fn first_word(rest: &[u8], column: usize) -> Option<(Piece<'_>, &[u8]
     ensures room { IfSome result (λ x. behind (placed x.0) + length x.1.now < 2 ^ 64) }
 {
     let (text, start) = without_blanks(rest, column);
-    let count = count_word(text);
-    if count == 0 {
+    let word = count_word(text);
+    if word.count == 0 {
         return None;
     }
-    let (bytes, after) = text.split_at(count);
+    let (bytes, after) = text.split_at(word.count);
     Some((
         Piece {
             bytes,
             column: start,
+            printable: word.printable,
         },
         after,
     ))

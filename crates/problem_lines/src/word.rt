@@ -21,7 +21,6 @@ impl<'a> Word<'a> {
     pub fn label(self) -> Label
         ensures { result ≡ self.entry.bytes.now }
     {
-        let text = std::str::from_utf8(self.bytes).unwrap();
-        Label::new(text).unwrap()
+        Label::of_name(self.bytes)
     }
 }

@@ -17,7 +17,7 @@ use command_line::Format;
 use machine_data::OutOfMemory;
 use problem_reader::ProblemFile;
 use settings::Settings;
-use std::alloc::{AllocError, Global};
+use std::alloc::Global;
 use std::thread::Threads;
 use writing::{Text, push_told};
 
@@ -84,7 +84,7 @@ fn without_comma(list: &[u8]) -> &[u8]
 }
 
 /// The document of a list that begins with a comma, if it has anything.
-fn document(alloc: Global, list: &[u8], met: u64, failed: u64) -> Result<Vec<u8>, AllocError>
+fn document(alloc: Global, list: &[u8], met: u64, failed: u64) -> Result<Vec<u8>, OutOfMemory>
     ensures { IfOk result (λ text. text.items ≡ ((told (codes "{\"failed\":") failed ++ told (codes ",\"met\":") met) ++ codes ",\"problems\":[") ++ (drop 1 list.now ++ codes "],\"version\":1}\n")) }
 {
     let mut text = Vec::new(alloc);

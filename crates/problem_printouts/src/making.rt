@@ -6,7 +6,7 @@ ghost use Rattle.problem_printouts.specs.Problems.{IsProblemIn};
 
 use machine_data::OutOfMemory;
 use problem_reader::ProblemFile;
-use problems::{Problem, Refusal};
+use problems::Problem;
 use settings::Settings;
 use std::alloc::Global;
 
@@ -21,9 +21,6 @@ pub(crate) fn problem_in(
     ensures { IfOk result (IsProblemIn file.now settings.now.ratio settings.now.ceiling (problem_at file.now number)) }
 {
     let draft = file.draft(alloc, number)?;
-    match Problem::new(alloc, draft, settings) {
-        Ok(problem) => Ok(problem),
-        Err(Refusal::Memory(cause)) => Err(cause),
-        Err(Refusal::Fault(_)) => unreachable!(),
-    }
+    let problem = Problem::of_faultless(alloc, draft, settings)?;
+    Ok(problem)
 }

@@ -13,7 +13,7 @@ use outcome_text::circuit_of;
 use problem_graphs::{Why, push_edge, read_edge};
 use problems::{Draft, Problem};
 use registers::Read;
-use std::alloc::{AllocError, Global};
+use std::alloc::Global;
 
 /// Whether a read demands an edge.
 fn demands(draft: &Draft, read: Read, edge: Edge) -> bool
@@ -38,7 +38,7 @@ fn why_of(draft: &Draft, edge: Edge) -> Why
 }
 
 /// Appends the lines of the edges of a circuit.
-fn push_edges(text: &mut Vec<u8>, draft: &Draft, circuit: &[Edge]) -> Result<(), AllocError>
+fn push_edges(text: &mut Vec<u8>, draft: &Draft, circuit: &[Edge]) -> Result<(), OutOfMemory>
     requires { IsWellFormed draft.now }
     ensures ok { OnOk result ((lines : List ℕ) × AreTexts (IsWhy draft.now) (edge_line draft.now) circuit.now lines × (text.new.items ≡ text.old.items ++ lines)) }
 {

@@ -13,7 +13,7 @@ use modulo::Culprit;
 use problems::{Draft, Problem};
 use solution_text::push_cause;
 use solutions::{Cause, Outcome, Trials};
-use std::alloc::{AllocError, Global};
+use std::alloc::Global;
 use writing::{Text, push_both, push_told};
 
 /// Appends the line of an interval, in cycles, that gives no solution, with the cause and its culprits.
@@ -23,7 +23,7 @@ fn push_try(
     interval: u64,
     cause: Cause,
     found: Option<&Culprit>,
-) -> Result<(), AllocError>
+) -> Result<(), OutOfMemory>
     ensures ok { OnOk result (text.new.items ≡ text.old.items ++ try_line draft.now interval (record { cause = cause; found = option_copied found.entry })) }
 {
     push_told(text, "try ", interval)?;
@@ -33,7 +33,7 @@ fn push_try(
 }
 
 /// Appends the line of an interval, in cycles, that gives a solution of `stages` stages.
-fn push_met_line(text: &mut Vec<u8>, interval: u64, stages: u64) -> Result<(), AllocError>
+fn push_met_line(text: &mut Vec<u8>, interval: u64, stages: u64) -> Result<(), OutOfMemory>
     ensures ok { OnOk result (text.new.items ≡ text.old.items ++ met_line interval stages) }
 {
     push_told(text, "try ", interval)?;
@@ -42,7 +42,7 @@ fn push_met_line(text: &mut Vec<u8>, interval: u64, stages: u64) -> Result<(), A
 }
 
 /// Appends the line of what holds an interval.
-fn push_hold(text: &mut Vec<u8>, hold: Hold) -> Result<(), AllocError>
+fn push_hold(text: &mut Vec<u8>, hold: Hold) -> Result<(), OutOfMemory>
     ensures ok { OnOk result (text.new.items ≡ text.old.items ++ hold_line hold) }
 {
     push_both(text, "held by ", hold.word())?;
@@ -50,7 +50,7 @@ fn push_hold(text: &mut Vec<u8>, hold: Hold) -> Result<(), AllocError>
 }
 
 /// Appends the lines of an interval, in cycles, that gives a solution of `stages` stages.
-fn push_met(text: &mut Vec<u8>, interval: u64, stages: u64, hold: Hold) -> Result<(), AllocError>
+fn push_met(text: &mut Vec<u8>, interval: u64, stages: u64, hold: Hold) -> Result<(), OutOfMemory>
     ensures ok { OnOk result (text.new.items ≡ text.old.items ++ (met_line interval stages ++ hold_line hold)) }
 {
     push_met_line(text, interval, stages)?;

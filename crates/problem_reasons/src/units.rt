@@ -12,11 +12,11 @@ use outcome_text::{rows_at, rows_with, use_of};
 use problem_graphs::{push_op_name, push_unit_name};
 use problems::{Draft, Problem};
 use resource_bound::unit_choices_of;
-use std::alloc::{AllocError, Global};
+use std::alloc::Global;
 use writing::{Text, push_told};
 
 /// Appends an operation with how often it uses a unit, if it does.
-fn push_user(text: &mut Vec<u8>, draft: &Draft, op: usize, uses: u64) -> Result<(), AllocError>
+fn push_user(text: &mut Vec<u8>, draft: &Draft, op: usize, uses: u64) -> Result<(), OutOfMemory>
     ensures ok { OnOk result (text.new.items ≡ text.old.items ++ user_text draft.now op uses) }
 {
     if uses == 0 {
@@ -36,7 +36,7 @@ fn push_users(
     problem: &Problem,
     choices: &[u8],
     unit: usize,
-) -> Result<(), AllocError>
+) -> Result<(), OutOfMemory>
     requires { length choices.now ≡ length problem.now.scheduling.operations }
     ensures ok { OnOk result (text.new.items ≡ text.old.items ++ users_text problem.now choices.now unit) }
 {
@@ -55,7 +55,7 @@ fn push_uses(
     unit: usize,
     uses: u64,
     full: bool,
-) -> Result<(), AllocError>
+) -> Result<(), OutOfMemory>
     ensures ok { OnOk result (text.new.items ≡ text.old.items ++ ((((codes "unit " ++ unit_name draft.now unit) ++ told (codes " uses ") uses) ++ full_text full) ++ codes ":")) }
 {
     text.push_piece("unit ")?;
@@ -74,7 +74,7 @@ fn push_unit_line(
     choices: &[u8],
     unit: usize,
     uses: u64,
-) -> Result<(), AllocError>
+) -> Result<(), OutOfMemory>
     requires { length choices.now ≡ length problem.now.scheduling.operations }
     ensures ok { OnOk result (text.new.items ≡ text.old.items ++ line_with problem.now choices.now unit uses) }
 {
@@ -88,7 +88,7 @@ fn push_unit_line(
 }
 
 /// Appends the lines of the units that a problem uses by these choices.
-fn push_unit_lines(text: &mut Vec<u8>, problem: &Problem, choices: &[u8]) -> Result<(), AllocError>
+fn push_unit_lines(text: &mut Vec<u8>, problem: &Problem, choices: &[u8]) -> Result<(), OutOfMemory>
     requires { length choices.now ≡ length problem.now.scheduling.operations }
     ensures ok { OnOk result (text.new.items ≡ text.old.items ++ flat_map (unit_line problem.now choices.now) (range_with_len 0 problem.now.draft.units)) }
 {

@@ -3,8 +3,9 @@
 ghost use Rattle.std.specs.Prelude.{◌≡◌};
 ghost use Rattle.problem_tables.specs.declared.fault.Refusal.TheVariants.{Memory};
 
+use machine_data::OutOfMemory;
 use problem_lines::Expected;
-use std::alloc::{AllocError, AllocFailed};
+use std::alloc::AllocFailed;
 use std::fmt;
 
 /// What there may be too many of, or what a name stands for.
@@ -111,10 +112,10 @@ pub enum Refusal {
     Memory,
 }
 
-impl From<AllocError> for Refusal {
+impl From<OutOfMemory> for Refusal {
     ghost from_gives = { λ _ refusal. refusal ≡ Memory };
 
-    fn from(_error: AllocError) -> Refusal {
+    fn from(_error: OutOfMemory) -> Refusal {
         Refusal::Memory
     }
 }

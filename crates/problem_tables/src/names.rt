@@ -4,9 +4,10 @@ ghost use Rattle.std.specs.Prelude.{◌≡◌, ◌<◌, ℕ, List, [], ◌∷◌
 ghost use Rattle.problem_tables.specs.Names.{has_name, index_of, last_name};
 ghost use Rattle.problem_tables.specs.inner.Numbered.{bucket_of};
 
+use machine_data::OutOfMemory;
 use problem_lines::Word;
 use problems::Label;
-use std::alloc::{AllocError, Global};
+use std::alloc::Global;
 use std::collections::BTreeMap;
 use std::marker::Model;
 use std::mem;
@@ -94,7 +95,7 @@ impl<'a> Names<'a> {
     }
 
     /// Adds a name that is not there. Where memory runs out, all is as before.
-    pub(crate) fn add(&mut self, name: Word<'a>) -> Result<(), AllocError>
+    pub(crate) fn add(&mut self, name: Word<'a>) -> Result<(), OutOfMemory>
         requires { has_name self.old name.bytes.now ≡ false }
         ensures { OnOk result (self.new ≡ self.old ++ name.entry.bytes.now ∷ []) }
     {
@@ -109,7 +110,7 @@ impl<'a> Names<'a> {
             Ok(_) => Ok(()),
             Err(failed) => {
                 self.labels.pop();
-                Err(AllocError::from(failed))
+                Err(OutOfMemory::from(failed))
             }
         }
     }

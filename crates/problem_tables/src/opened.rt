@@ -4,9 +4,10 @@ ghost use Rattle.std.specs.Prelude.{◌≡◌, ◌<◌, [], ◌∷◌, ◌++◌,
 ghost use Rattle.problem_tables.specs.Names.{has_name, last_name};
 
 use crate::names::Names;
+use machine_data::OutOfMemory;
 use problem_lines::Word;
 use problems::Label;
-use std::alloc::{AllocError, Global};
+use std::alloc::Global;
 
 /// The names of the problems so far.
 #[derive(Drop)]
@@ -31,7 +32,7 @@ impl<'a> Opened<'a> {
     }
 
     /// Begins a problem.
-    pub(crate) fn open(&mut self, name: Word<'a>) -> Result<(), AllocError>
+    pub(crate) fn open(&mut self, name: Word<'a>) -> Result<(), OutOfMemory>
         requires absent { has_name self.old.names name.bytes.now ≡ false }
         requires outside { self.old.inside ≡ false }
         ensures names { OnOk result (self.new.names ≡ self.old.names ++ name.entry.bytes.now ∷ []) }

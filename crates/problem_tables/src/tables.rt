@@ -20,8 +20,9 @@ use crate::lines::orders::{EdgeWords, ReadWords};
 use crate::lines::problem::{ProblemTables, ValueWords};
 use crate::names::Names;
 use crate::opened::Opened;
+use machine_data::OutOfMemory;
 use problem_lines::{Form, Line, Word};
-use std::alloc::{AllocError, Global};
+use std::alloc::Global;
 
 /// Problems of a text.
 const MAX_PROBLEMS: usize = 4_096;
@@ -83,7 +84,7 @@ impl<'a> Tables<'a> {
     }
 
     /// Ends the machine under way, if there is one.
-    fn end_machine(&mut self) -> Result<(), AllocError>
+    fn end_machine(&mut self) -> Result<(), OutOfMemory>
         ensures { OnOk result (tables_seen self.new ≡ with_machine_ended (tables_seen self.old)) }
     {
         if !self.has_machine() {
@@ -218,7 +219,7 @@ impl<'a> Tables<'a> {
     ///
     /// # Errors
     /// Memory ran out.
-    pub fn finish(mut self) -> Result<Ended, AllocError>
+    pub fn finish(mut self) -> Result<Ended, OutOfMemory>
         ensures { IfOk result (λ ended. ended_seen ended ≡ (with_machine_ended (tables_seen self.entry)).ended) }
     {
         self.end_machine()?;

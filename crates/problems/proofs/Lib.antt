@@ -1,3 +1,4 @@
+pub mod Labelled
 pub mod faults
 pub mod keeping
 pub mod made

@@ -1,5 +1,6 @@
 -- Drafts of scheduling problems: when one is well formed, and what it comes to.
 use Rattle.std.specs.Prelude.{◌≡◌, ◌≢◌, ◌⊎◌, ℕ, pos, negsuc, ◌<◌, ◌≤◌, ◌-ℤ◌, ◌≤ℤ◌, List, [], ◌++◌, length, map, slice_index}
+use Rattle.machine_data.specs.declared.limits.TheConstants.{MAX_DISTANCE, MAX_KINDS, MAX_LATENCY, MAX_OFFSET, MAX_OPERATION_ALTERNATIVES, MAX_ORDERS, MAX_ORDER_DISTANCE, MAX_READS, MAX_REGISTERS, MAX_ROWS, MAX_STATEMENTS, MAX_UNITS, MAX_VALUES}
 use Rattle.std.specs.List.{All, AllPairs, slice_index_or}
 use Rattle.smallvec.specs.SmallVec.{SmallVec}
 use Rattle.machine_data.specs.declared.alternative.Row.{Row}
@@ -30,34 +31,34 @@ pub record AreNames (count : ℕ) (names : List (List ℕ)) : Type 0 where
   pub different : AllPairs (λ a b. a ≢ b) names
 
 abbrev pub IsFile : File → Type 0
-IsFile (Rotating registers) = (1 ≤ registers) × (registers ≤ 256)
+IsFile (Rotating registers) = (1 ≤ registers) × (registers ≤ MAX_REGISTERS)
 IsFile Unallotted = Unit {0}
 
 -- 1 to 16 different rows, of the first `count` units and at offsets of 0 to 63 cycles
 pub record AreRows (count : ℕ) (rows : List Hold) : Type 0 where
   pub some : 1 ≤ length rows
-  pub few : length rows ≤ 16
+  pub few : length rows ≤ MAX_ROWS
   pub units : All (λ (row : Hold). row.unit < count) rows
-  pub offsets : All (λ (row : Hold). row.offset ≤ 63) rows
+  pub offsets : All (λ (row : Hold). row.offset ≤ MAX_OFFSET) rows
   pub different : AllPairs (λ a b. a ≢ b) rows
 
 pub record IsKind (units : ℕ) (kind : Kind) : Type 0 where
   pub latency_some : 1 ≤ kind.latency
-  pub latency_few : kind.latency ≤ 64
+  pub latency_few : kind.latency ≤ MAX_LATENCY
   pub alternatives_some : 1 ≤ length kind.alternatives.items
-  pub alternatives_few : length kind.alternatives.items ≤ 16
+  pub alternatives_few : length kind.alternatives.items ≤ MAX_OPERATION_ALTERNATIVES
   pub alternatives : All (λ (rows : SmallVec Hold). AreRows units rows.items) kind.alternatives.items
 
 pub record IsValue (operations files : ℕ) (value : Value) : Type 0 where
   pub maker : value.maker < operations
-  pub lands : value.lands ≤ 64
+  pub lands : value.lands ≤ MAX_LATENCY
   pub file : value.file < files
 
 pub record IsRead (draft : Draft) (reading : Read) : Type 0 where
   pub value : reading.value < length draft.values.items
   pub reader : reading.reader < length draft.operations.items
-  pub distance : reading.distance ≤ 16
-  pub offset : reading.offset ≤ 63
+  pub distance : reading.distance ≤ MAX_DISTANCE
+  pub offset : reading.offset ≤ MAX_OFFSET
   pub forward : reading.distance ≡ 0 → maker_of draft reading.value < reading.reader
 
 pub record IsOrder (operations : ℕ) (order : Order) : Type 0 where
@@ -65,20 +66,20 @@ pub record IsOrder (operations : ℕ) (order : Order) : Type 0 where
   pub to : order.to < operations
   pub delay_low : negsuc 63 ≤ℤ order.delay
   pub delay_high : order.delay ≤ℤ pos 64
-  pub distance : order.distance ≤ 255
+  pub distance : order.distance ≤ MAX_ORDER_DISTANCE
   pub forward : order.distance ≡ 0 → order.from < order.to
 
 pub record AreCounts (draft : Draft) : Type 0 where
   pub units_some : 1 ≤ draft.units
-  pub units_few : draft.units ≤ 64
+  pub units_few : draft.units ≤ MAX_UNITS
   pub files_few : length draft.files.items ≤ 8
   pub kinds_some : 1 ≤ length draft.kinds.items
-  pub kinds_few : length draft.kinds.items ≤ 256
+  pub kinds_few : length draft.kinds.items ≤ MAX_KINDS
   pub operations_some : 1 ≤ length draft.operations.items
-  pub operations_few : length draft.operations.items ≤ 128
-  pub values_few : length draft.values.items ≤ 256
-  pub reads_few : length draft.reads.items ≤ 2048
-  pub orders_few : length draft.orders.items ≤ 16384
+  pub operations_few : length draft.operations.items ≤ MAX_STATEMENTS
+  pub values_few : length draft.values.items ≤ MAX_VALUES
+  pub reads_few : length draft.reads.items ≤ MAX_READS
+  pub orders_few : length draft.orders.items ≤ MAX_ORDERS
 
 pub record AreAllNames (draft : Draft) : Type 0 where
   pub units : AreNames draft.units draft.names.units.items

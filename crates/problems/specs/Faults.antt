@@ -1,5 +1,6 @@
 -- The first thing that is wrong with a draft.
 use Rattle.std.specs.Prelude.{ℕ, pos, negsuc, ◌+◌, ◌==◌, ◌&&◌, ◌||◌, not, nat_lt, nat_le, int_le, Bool, true, false, List, [], ◌∷◌, length, take, Option, Some, None}
+use Rattle.machine_data.specs.declared.limits.TheConstants.{MAX_DISTANCE, MAX_KINDS, MAX_LATENCY, MAX_OFFSET, MAX_OPERATION_ALTERNATIVES, MAX_ORDERS, MAX_ORDER_DISTANCE, MAX_READS, MAX_REGISTERS, MAX_ROWS, MAX_STATEMENTS, MAX_UNITS, MAX_VALUES}
 use Rattle.std.specs.List.{list_any}
 use Rattle.std.specs.Option.{option_or}
 use Rattle.smallvec.specs.SmallVec.{SmallVec}
@@ -44,13 +45,13 @@ within least greatest n = nat_le least n && nat_le n greatest
 
 abbrev pub count_fault : Draft → Option Fault
 count_fault draft = first_of (
-    unless (within 1 64 draft.units) (Count Units draft.units)
+    unless (within 1 MAX_UNITS draft.units) (Count Units draft.units)
     ∷ unless (nat_le (length draft.files.items) 8) (Count Files (length draft.files.items))
-    ∷ unless (within 1 256 (length draft.kinds.items)) (Count Kinds (length draft.kinds.items))
-    ∷ unless (within 1 128 (length draft.operations.items)) (Count Operations (length draft.operations.items))
-    ∷ unless (nat_le (length draft.values.items) 256) (Count Values (length draft.values.items))
-    ∷ unless (nat_le (length draft.reads.items) 2048) (Count Reads (length draft.reads.items))
-    ∷ unless (nat_le (length draft.orders.items) 16384) (Count Orders (length draft.orders.items))
+    ∷ unless (within 1 MAX_KINDS (length draft.kinds.items)) (Count Kinds (length draft.kinds.items))
+    ∷ unless (within 1 MAX_STATEMENTS (length draft.operations.items)) (Count Operations (length draft.operations.items))
+    ∷ unless (nat_le (length draft.values.items) MAX_VALUES) (Count Values (length draft.values.items))
+    ∷ unless (nat_le (length draft.reads.items) MAX_READS) (Count Reads (length draft.reads.items))
+    ∷ unless (nat_le (length draft.orders.items) MAX_ORDERS) (Count Orders (length draft.orders.items))
     ∷ [])
 
 -- names
@@ -82,7 +83,7 @@ names_fault draft = first_of (
 -- register files
 
 abbrev pub file_fault : ℕ → File → Option Fault
-file_fault number (Rotating registers) = unless (within 1 256 registers) (Registers number)
+file_fault number (Rotating registers) = unless (within 1 MAX_REGISTERS registers) (Registers number)
 file_fault number Unallotted = None
 
 -- kinds
@@ -94,20 +95,20 @@ same_hold a b = (a.unit == b.unit) && (a.offset == b.offset)
 abbrev pub row_fault : ℕ → ℕ → ℕ → List Hold → ℕ → Hold → Option Fault
 row_fault units kind alternative rows number row = first_of (
     unless (nat_lt row.unit units) (NoUnit kind alternative number)
-    ∷ unless (nat_le row.offset 63) (Offset kind alternative number)
+    ∷ unless (nat_le row.offset MAX_OFFSET) (Offset kind alternative number)
     ∷ unless (not (list_any (same_hold row) (take number rows))) (RepeatedRow kind alternative number)
     ∷ [])
 
 abbrev pub alternative_fault : ℕ → ℕ → ℕ → List Hold → Option Fault
 alternative_fault units kind alternative rows = first_of (
-    unless (within 1 16 (length rows)) (Rows kind alternative)
+    unless (within 1 MAX_ROWS (length rows)) (Rows kind alternative)
     ∷ first_in (row_fault units kind alternative rows) rows
     ∷ [])
 
 abbrev pub kind_fault : ℕ → ℕ → Kind → Option Fault
 kind_fault units number kind = first_of (
-    unless (within 1 64 kind.latency) (Latency number)
-    ∷ unless (within 1 16 (length kind.alternatives.items)) (Alternatives number)
+    unless (within 1 MAX_LATENCY kind.latency) (Latency number)
+    ∷ unless (within 1 MAX_OPERATION_ALTERNATIVES (length kind.alternatives.items)) (Alternatives number)
     ∷ first_in (λ alternative (rows : SmallVec Hold). alternative_fault units number alternative rows.items) kind.alternatives.items
     ∷ [])
 
@@ -119,7 +120,7 @@ operation_fault kinds number kind = unless (nat_lt kind kinds) (NoKind number)
 abbrev pub value_fault : ℕ → ℕ → ℕ → Value → Option Fault
 value_fault operations files number value = first_of (
     unless (nat_lt value.maker operations) (NoMaker number)
-    ∷ unless (nat_le value.lands 64) (Lands number)
+    ∷ unless (nat_le value.lands MAX_LATENCY) (Lands number)
     ∷ unless (nat_lt value.file files) (NoFile number)
     ∷ [])
 
@@ -127,8 +128,8 @@ abbrev pub read_fault : Draft → ℕ → Read → Option Fault
 read_fault draft number reading = first_of (
     unless (nat_lt reading.value (length draft.values.items)) (NoValue number)
     ∷ unless (nat_lt reading.reader (length draft.operations.items)) (NoReader number)
-    ∷ unless (nat_le reading.distance 16) (Distance number)
-    ∷ unless (nat_le reading.offset 63) (ReadOffset number)
+    ∷ unless (nat_le reading.distance MAX_DISTANCE) (Distance number)
+    ∷ unless (nat_le reading.offset MAX_OFFSET) (ReadOffset number)
     ∷ unless (nat_lt 0 reading.distance || nat_lt (maker_of draft reading.value) reading.reader) (ReadBackward number)
     ∷ [])
 
@@ -137,7 +138,7 @@ order_fault operations number order = first_of (
     unless (nat_lt order.from operations) (NoFrom number)
     ∷ unless (nat_lt order.to operations) (NoTo number)
     ∷ unless (int_le (negsuc 63) order.delay && int_le order.delay (pos 64)) (Delay number)
-    ∷ unless (nat_le order.distance 255) (OrderDistance number)
+    ∷ unless (nat_le order.distance MAX_ORDER_DISTANCE) (OrderDistance number)
     ∷ unless (nat_lt 0 order.distance || nat_lt order.from order.to) (OrderBackward number)
     ∷ [])
 

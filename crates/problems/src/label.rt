@@ -48,6 +48,18 @@ impl Label {
         }
     }
 
+    /// The name with these bytes, which are known to be one: they are not tested again.
+    pub fn of_name(bytes: &[u8]) -> Label
+        requires { IsLabel bytes.now }
+        ensures { result ≡ bytes.now }
+    {
+        let text = std::str::from_utf8(bytes).unwrap();
+        match ArrayString::from(text) {
+            Ok(text) => Label { text },
+            Err(_) => unreachable!(),
+        }
+    }
+
     /// The name's text.
     pub fn as_str(&self) -> &str
         ensures value { result.now ≡ self.now }

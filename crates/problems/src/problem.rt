@@ -1,15 +1,16 @@
 //! Scheduling problems.
 
-ghost use Rattle.std.specs.Prelude.{◌≡◌, ◌<◌, [], length, map};
+ghost use Rattle.std.specs.Prelude.{◌≡◌, ◌<◌, [], length, map, None, IfOk};
 ghost use Rattle.std.specs.List.{All, slice_index_or};
-ghost use Rattle.problems.specs.Problems.{IsProblem, AnswersDraft};
+ghost use Rattle.problems.specs.Faults.{first_fault_of};
+ghost use Rattle.problems.specs.Problems.{IsProblem, IsProblemOf, AnswersDraft};
 
 use crate::checking::first::first_fault;
 use crate::draft::Draft;
 use crate::fault::Refusal;
 use crate::making::scheduling::scheduling_of;
 use crate::making::tables::{Tables, tables_of};
-use machine_data::Alternatives;
+use machine_data::{Alternatives, OutOfMemory};
 use settings::Settings;
 use std::alloc::Global;
 use std::marker::Model;
@@ -46,6 +47,21 @@ impl Problem {
         if let Some(fault) = first_fault(alloc, &draft)? {
             return Err(Refusal::Fault(fault));
         }
+        Ok(Problem::of_faultless(alloc, draft, settings)?)
+    }
+
+    /// The problem of a draft that is known to have no fault, as [`Problem::new`] gives it: the draft is not tested again.
+    ///
+    /// # Errors
+    /// Memory ran out.
+    pub fn of_faultless(
+        alloc: Global,
+        draft: Draft,
+        settings: &Settings,
+    ) -> Result<Problem, OutOfMemory>
+        requires { first_fault_of draft ≡ None }
+        ensures { IfOk result (IsProblemOf draft settings.now.ratio settings.now.ceiling) }
+    {
         let tables = tables_of(alloc, &draft)?;
         let scheduling = scheduling_of(
             alloc,

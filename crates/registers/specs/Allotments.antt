@@ -1,5 +1,6 @@
 -- Allotments of rotating registers to values that live for known times.
 use Rattle.std.specs.Prelude.{◌≡◌, ℕ, ℤ, ◌<◌, ◌≤◌, List, [], ◌∷◌, ◌++◌, length, take, Some, slice_index, slice_get}
+use Rattle.machine_data.specs.declared.limits.TheConstants.{MAX_REGISTERS}
 use Rattle.std.specs.List.{All}
 use Rattle.registers.specs.Physical.{physical}
 use Rattle.registers.specs.declared.lifetime.Lifetime.{Lifetime}
@@ -50,7 +51,7 @@ pub record HaveNone (ii registers : ℕ) (lives : List Lifetime) : Type 0 where
 -- an allotment of 1 to 256 registers
 pub record IsAllotment (allotment : AllotmentData) : Type 0 where
   pub some : 1 ≤ allotment.registers
-  pub few : allotment.registers ≤ 256
+  pub few : allotment.registers ≤ MAX_REGISTERS
   pub there : All (λ number. number < allotment.registers) allotment.numbers
 
 -- laws

@@ -1,5 +1,6 @@
 -- How long the values of a list live, in cycles, where each operation is issued at a known time in iteration 0.
 use Rattle.std.specs.Prelude.{◌≡◌, ℕ, ◌+◌, ◌*◌, ◌==◌, ◌<◌, ◌≤◌, min, max, Bool, if◌then◌else◌, List, [], ◌∷◌, Some, length, map, filter, slice_get, slice_index}
+use Rattle.machine_data.specs.declared.limits.TheConstants.{MAX_DISTANCE, MAX_INTERVAL, MAX_LATENCY, MAX_OFFSET}
 use Rattle.std.specs.List.{All}
 use Rattle.registers.specs.declared.lifetime.Lifetime.{Lifetime}
 use Rattle.registers.specs.declared.value.Value.{Value}
@@ -61,19 +62,19 @@ lives_of ii times end values reads = lives_from ii times end reads 0 values
 -- a value of one of `operations` operations
 pub record IsValue (operations : ℕ) (value : Value) : Type 0 where
   pub maker : value.maker < operations
-  pub lands : value.lands ≤ 64
+  pub lands : value.lands ≤ MAX_LATENCY
 
 -- a read of one of `values` values by one of `operations` operations
 pub record IsRead (operations values : ℕ) (reading : Read) : Type 0 where
   pub value : reading.value < values
   pub reader : reading.reader < operations
-  pub distance : reading.distance ≤ 16
-  pub offset : reading.offset ≤ 63
+  pub distance : reading.distance ≤ MAX_DISTANCE
+  pub offset : reading.offset ≤ MAX_OFFSET
 
 -- lists of values and of their reads, for an interval of 1 to 16,384 cycles and issue times within 64 intervals
 pub record AreValues (ii : ℕ) (times : List ℕ) (values : List Value) (reads : List Read) : Type 0 where
   pub some : 1 ≤ ii
-  pub few : ii ≤ 16384
+  pub few : ii ≤ MAX_INTERVAL
   pub operations : length times ≤ 256
   pub issued : All (λ time. time < 64 * ii) times
   pub size : length values ≤ 256

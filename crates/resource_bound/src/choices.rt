@@ -87,9 +87,9 @@ pub fn unit_choices(
 /// [`unit_choices`] of operations that are given by the alternatives of each, at most 128 of them.
 ///
 /// # Errors
-/// [`AllocError`](std::alloc::AllocError) where memory ran out.
+/// [`OutOfMemory`] where memory ran out.
 pub fn unit_choices_of(alloc: Global, operations: &[Alternatives]) -> Result<Vec<u8>, OutOfMemory>
-    requires few { length operations.now ≤ 128 }
+    requires few { length operations.now ≤ MAX_STATEMENTS }
     ensures exact { IfOk result (λ choices. AreUnitChoices operations.now choices.items) }
 {
     choices_of(alloc, &OfList { operations })

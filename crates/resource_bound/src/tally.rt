@@ -6,6 +6,7 @@ ghost use Rattle.machine_data.specs.declared.alternative.Row.{Row};
 ghost use Rattle.machine_data.specs.Alternative.{AreAlternatives};
 ghost use Rattle.graph.specs.Uses.{AtMost, Tallies};
 ghost use Rattle.resource_bound.specs.inner.Tallies.{TakesChoice};
+ghost use Rattle.machine_data.specs.declared.limits.TheConstants.{MAX_ROWS};
 
 use machine_data::limits::MAX_UNITS;
 use machine_data::{Alternative, Row};
@@ -41,8 +42,8 @@ impl Tally {
 
     /// These counters with the rows counted too.
     pub(crate) fn with(self, rows: &[Row]) -> Tally
-        requires units { All (λ r. r.unit < 64) rows.now }
-        requires few { length rows.now ≤ 16 }
+        requires units { All (λ r. r.unit < MAX_UNITS) rows.now }
+        requires few { length rows.now ≤ MAX_ROWS }
         requires room { AtMost 60000 self.counts }
         ensures tallied { (taken : List Row) → Tallies taken self.counts self.greatest → Tallies (taken ++ rows.now) result.counts result.greatest }
         ensures grown { (bound : ℕ) → AtMost bound self.counts → AtMost (bound + 16) result.counts }

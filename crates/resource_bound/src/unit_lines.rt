@@ -6,12 +6,12 @@ ghost use Rattle.graph.specs.Units.{chosen_rows, operations_of, use_of};
 ghost use Rattle.graph.specs.Uses.{Tallies};
 ghost use Rattle.resource_bound.specs.Choices.{rows_at};
 ghost use Rattle.resource_bound.specs.UnitLines.{line_with, unit_lines_of, user_text, users_text, uses_text};
+ghost use Rattle.machine_data.specs.declared.limits.TheConstants.{MAX_UNITS};
 
 use crate::tally::Tally;
 use graph_text::push_name;
 use loop_data::Loop;
-use machine_data::{Machine, Row};
-use std::alloc::AllocError;
+use machine_data::{Machine, OutOfMemory, Row};
 use writing::{Text, push_both, push_told};
 
 /// The rows of the alternative of this place that the operation of this number takes, none where there is no
@@ -20,7 +20,7 @@ fn rows_at<'a>(machine: &'a Machine, innermost: &Loop, choices: &[u8], number: u
     requires there { number < length innermost.now.statements }
     requires chosen { number < length choices.now }
     ensures value { result.now ≡ rows_at (operations_of machine.now innermost.now) choices.now number }
-    ensures units { All (λ r. r.unit < 64) result.now }
+    ensures units { All (λ r. r.unit < MAX_UNITS) result.now }
     ensures few { length result.now ≤ 16 }
 {
     let Some(table) = machine.table(innermost.statements()[number].opcode) else {
@@ -58,7 +58,7 @@ fn push_user(
     innermost: &Loop,
     number: u8,
     uses: usize,
-) -> Result<(), AllocError>
+) -> Result<(), OutOfMemory>
     requires { number < length innermost.now.statements }
     ensures ok { OnOk result (text.new.items ≡ text.old.items ++ user_text innermost.now number uses) }
 {
@@ -80,7 +80,7 @@ fn push_users(
     innermost: &Loop,
     choices: &[u8],
     unit: u8,
-) -> Result<(), AllocError>
+) -> Result<(), OutOfMemory>
     requires { length choices.now ≡ length innermost.now.statements }
     ensures ok { OnOk result (text.new.items ≡ text.old.items ++ users_text machine.now innermost.now choices.now unit) }
 {
@@ -98,7 +98,7 @@ fn push_uses(
     unit: u8,
     uses: u16,
     full: bool,
-) -> Result<(), AllocError>
+) -> Result<(), OutOfMemory>
     requires { unit < length machine.now.units }
     ensures ok { OnOk result (text.new.items ≡ text.old.items ++ uses_text machine.now unit uses full) }
 {
@@ -119,7 +119,7 @@ fn push_unit_line(
     unit: u8,
     uses: u16,
     greatest: u16,
-) -> Result<(), AllocError>
+) -> Result<(), OutOfMemory>
     requires there { unit < length machine.now.units }
     requires each { length choices.now ≡ length innermost.now.statements }
     ensures ok { OnOk result (text.new.items ≡ text.old.items ++ line_with machine.now innermost.now choices.now unit uses greatest) }
@@ -149,7 +149,7 @@ pub fn push_unit_lines(
     machine: &Machine,
     innermost: &Loop,
     choices: &[u8],
-) -> Result<(), AllocError>
+) -> Result<(), OutOfMemory>
     requires { length choices.now ≡ length innermost.now.statements }
     ensures ok { OnOk result (text.new.items ≡ text.old.items ++ unit_lines_of machine.now innermost.now choices.now) }
 {

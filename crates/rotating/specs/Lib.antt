@@ -7,5 +7,6 @@ pub use Rattle.overlap.specs.Overlap
 pub use Rattle.registers.specs.Crowds
 pub use Rattle.registers.specs.Numberless
 pub use Rattle.registers.specs.Residues
+pub mod Allotting
 pub mod CheckAnswers
 pub mod inner

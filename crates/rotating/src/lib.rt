@@ -6,7 +6,7 @@ mod numbers;
 mod values;
 
 pub use kernels::emission::emit;
-pub use numbers::allotment::{Allotment, allot, first_without_number};
+pub use numbers::allotment::{Allotment, Allotted, allot, allot_or_lack, first_without_number};
 pub use registers::{Lifetime, ages_are_between, forbids_between, lawful_more, shifts_are_between};
 pub use values::crowd::live_in;
 pub use values::lifetime::lifetimes;

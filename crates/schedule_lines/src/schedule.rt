@@ -9,11 +9,11 @@ use crate::values::push_values;
 use ims::Schedule;
 use machine_data::{Machine, OutOfMemory};
 use rotating::{Allotment, lifetimes};
-use std::alloc::{AllocError, Global};
+use std::alloc::Global;
 use writing::{Text, push_told};
 
 /// Appends how many units no operation takes, where there are any.
-fn push_idle(text: &mut Vec<u8>, idle: usize) -> Result<(), AllocError>
+fn push_idle(text: &mut Vec<u8>, idle: usize) -> Result<(), OutOfMemory>
     ensures ok { OnOk result (text.new.items ≡ text.old.items ++ idle_line idle) }
 {
     if idle == 0 {

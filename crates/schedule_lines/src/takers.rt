@@ -5,6 +5,7 @@ ghost use Rattle.std.specs.List.{All};
 ghost use Rattle.mrt.specs.Taken.{takes};
 ghost use Rattle.schedule_lines.specs.Slots.{rows_at};
 ghost use Rattle.schedule_lines.specs.inner.Tables.{AreTakersFrom, taker_in};
+ghost use Rattle.machine_data.specs.declared.limits.TheConstants.{MAX_INTERVAL};
 
 use ims::Schedule;
 use machine_data::limits::MAX_UNITS;
@@ -15,7 +16,7 @@ use std::alloc::Global;
 fn rows_at<'a>(schedule: &Schedule<'a>, op: usize) -> &'a [Row]
     requires { op < length schedule.now.problem.operations }
     ensures value { result.now ≡ rows_at schedule.now op }
-    ensures units { All (λ r. r.unit < 64) result.now }
+    ensures units { All (λ r. r.unit < MAX_UNITS) result.now }
 {
     let alternative = schedule.alternative(op);
     schedule.prepared().alternatives()[op].as_slice()[alternative].rows()
@@ -24,11 +25,11 @@ fn rows_at<'a>(schedule: &Schedule<'a>, op: usize) -> &'a [Row]
 /// Writes a place for each slot that these rows take, issued at this time.
 fn mark_rows(takers: &mut [u8], ii: u64, rows: &[Row], time: u64, place: u8)
     requires some { 1 ≤ ii }
-    requires few { ii ≤ 16384 }
+    requires few { ii ≤ MAX_INTERVAL }
     requires long { length takers.old ≡ ii * 64 }
-    requires units { All (λ r. r.unit < 64) rows.now }
+    requires units { All (λ r. r.unit < MAX_UNITS) rows.now }
     requires time { time < 2 ^ 32 }
-    ensures marked { (unit row : ℕ) → unit < 64 → row < ii → taker_in takers.new unit row ≡ (if takes ii rows.now time unit row then place else taker_in takers.old unit row) }
+    ensures marked { (unit row : ℕ) → unit < MAX_UNITS → row < ii → taker_in takers.new unit row ≡ (if takes ii rows.now time unit row then place else taker_in takers.old unit row) }
 {
     for held in rows {
         let residue = (time + u64::from(held.offset)) % ii;

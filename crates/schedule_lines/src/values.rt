@@ -7,8 +7,8 @@ ghost use Rattle.schedule_lines.specs.ScheduleTexts.{value_line, value_lines};
 use graph_text::push_name;
 use ims::Schedule;
 use loop_data::Loop;
+use machine_data::OutOfMemory;
 use rotating::Lifetime;
-use std::alloc::AllocError;
 use writing::{Text, push_told};
 
 /// Appends the line of a value with this lifetime and the number of its register.
@@ -17,7 +17,7 @@ fn push_value(
     innermost: &Loop,
     life: Lifetime,
     number: usize,
-) -> Result<(), AllocError>
+) -> Result<(), OutOfMemory>
     requires { life.operation < length innermost.now.statements }
     ensures ok { OnOk result (text.new.items ≡ text.old.items ++ value_line innermost.now life number) }
 {
@@ -35,7 +35,7 @@ pub(crate) fn push_values(
     schedule: &Schedule,
     lives: &[Lifetime],
     numbers: &[usize],
-) -> Result<(), AllocError>
+) -> Result<(), OutOfMemory>
     requires lives { lives.now ≡ lifetimes_of schedule.now }
     requires each { length numbers.now ≡ length lives.now }
     ensures ok { OnOk result (text.new.items ≡ text.old.items ++ value_lines schedule.now.problem.loop lives.now numbers.now) }

@@ -1,5 +1,6 @@
 -- The settings of a listing.
 use Rattle.std.specs.Prelude.{ℕ, ◌≤◌, List, codes}
+use Rattle.machine_data.specs.declared.limits.TheConstants.{MAX_CEILING, MAX_CUT, MAX_RATIO, MAX_WORKERS}
 use Rattle.settings.specs.declared.OutOfRange.{OutOfRange}
 use Rattle.settings.specs.declared.OutOfRange.TheVariants.{Ratio, Ceiling, Workers, Cut}
 
@@ -13,19 +14,19 @@ pub record SettingsData : Type 0 where
 
 pub record AreSettings (settings : SettingsData) : Type 0 where
   pub ratio_some : 1 ≤ settings.ratio
-  pub ratio_few : settings.ratio ≤ 64
-  pub ceiling_few : settings.ceiling ≤ 255
+  pub ratio_few : settings.ratio ≤ MAX_RATIO
+  pub ceiling_few : settings.ceiling ≤ MAX_CEILING
   pub workers_some : 1 ≤ settings.workers
-  pub workers_few : settings.workers ≤ 64
+  pub workers_few : settings.workers ≤ MAX_WORKERS
   pub cut_some : 1 ≤ settings.cut
-  pub cut_few : settings.cut ≤ 256
+  pub cut_few : settings.cut ≤ MAX_CUT
 
 -- this setting is out of its range
 abbrev pub IsOutside : SettingsData → OutOfRange → Type 0
-IsOutside settings Ratio = (1 ≤ settings.ratio) × (settings.ratio ≤ 64) → ⊥
-IsOutside settings Ceiling = settings.ceiling ≤ 255 → ⊥
-IsOutside settings Workers = (1 ≤ settings.workers) × (settings.workers ≤ 64) → ⊥
-IsOutside settings Cut = (1 ≤ settings.cut) × (settings.cut ≤ 256) → ⊥
+IsOutside settings Ratio = (1 ≤ settings.ratio) × (settings.ratio ≤ MAX_RATIO) → ⊥
+IsOutside settings Ceiling = settings.ceiling ≤ MAX_CEILING → ⊥
+IsOutside settings Workers = (1 ≤ settings.workers) × (settings.workers ≤ MAX_WORKERS) → ⊥
+IsOutside settings Cut = (1 ≤ settings.cut) × (settings.cut ≤ MAX_CUT) → ⊥
 
 -- what is told of a setting that is out of its range
 abbrev pub told_of : OutOfRange → List ℕ

@@ -9,12 +9,13 @@ ghost use Rattle.solution_json.specs.Parts.{op_names};
 use crate::told::told_names;
 use graph::Edge;
 use graph_text::sums_of;
+use machine_data::OutOfMemory;
 use problems::Draft;
 use serde_json::{Value, json};
-use std::alloc::{AllocError, Global};
+use std::alloc::Global;
 
 /// The operations that a walk goes on from.
-fn stops_of(alloc: Global, walk: &[Edge]) -> Result<Vec<usize>, AllocError>
+fn stops_of(alloc: Global, walk: &[Edge]) -> Result<Vec<usize>, OutOfMemory>
     ensures { IfOk result (λ stops. stops.items ≡ stops_of walk.now) }
 {
     walk.iter()
@@ -23,7 +24,7 @@ fn stops_of(alloc: Global, walk: &[Edge]) -> Result<Vec<usize>, AllocError>
 }
 
 /// The operations that a walk goes on from, by their names.
-fn told_stops(alloc: Global, draft: &Draft, walk: &[Edge]) -> Result<Value, AllocError>
+fn told_stops(alloc: Global, draft: &Draft, walk: &[Edge]) -> Result<Value, OutOfMemory>
     ensures { IfOk result (λ v. view v ≡ op_names draft.now (stops_of walk.now)) }
 {
     let stops = stops_of(alloc, walk)?;
@@ -35,7 +36,7 @@ pub(crate) fn told_circuit(
     alloc: Global,
     draft: &Draft,
     circuit: &[Edge],
-) -> Result<Value, AllocError>
+) -> Result<Value, OutOfMemory>
     requires few { length circuit.now ≤ 128 }
     ensures { IfOk result (λ v. view v ≡ circuit_value draft.now circuit.now) }
 {

@@ -9,11 +9,12 @@ ghost use Rattle.solution_json.specs.Failures.{cause_word, culprit_object, culpr
 ghost use Rattle.solution_json.specs.Parts.{op_names};
 
 use crate::told::{told_name, told_names};
+use machine_data::OutOfMemory;
 use modulo::Culprit;
 use problems::Draft;
 use serde_json::{Value, json};
 use solutions::Cause;
-use std::alloc::{AllocError, Global};
+use std::alloc::Global;
 
 /// The word of a cause.
 pub(crate) fn cause_word(cause: Cause) -> &'static str
@@ -28,14 +29,14 @@ pub(crate) fn cause_word(cause: Cause) -> &'static str
 }
 
 /// Operations alone.
-fn told_ops(alloc: Global, draft: &Draft, ops: &[usize]) -> Result<Value, AllocError>
+fn told_ops(alloc: Global, draft: &Draft, ops: &[usize]) -> Result<Value, OutOfMemory>
     ensures { IfOk result (λ v. view v ≡ object (member (codes "operations") (op_names draft.now ops.now) no_members)) }
 {
     json!(in alloc; {"operations": told_names(alloc, draft.names.operations.as_slice(), ops)?})
 }
 
 /// An operation that is too late, and when it is issued.
-fn told_late(alloc: Global, draft: &Draft, op: usize, time: u64) -> Result<Value, AllocError>
+fn told_late(alloc: Global, draft: &Draft, op: usize, time: u64) -> Result<Value, OutOfMemory>
     ensures { IfOk result (λ v. view v ≡ culprit_object draft.now (Late op time)) }
 {
     json!(in alloc; {
@@ -45,7 +46,7 @@ fn told_late(alloc: Global, draft: &Draft, op: usize, time: u64) -> Result<Value
 }
 
 /// The culprits of a failure.
-fn told_culprit(alloc: Global, draft: &Draft, culprit: &Culprit) -> Result<Value, AllocError>
+fn told_culprit(alloc: Global, draft: &Draft, culprit: &Culprit) -> Result<Value, OutOfMemory>
     ensures { IfOk result (λ v. view v ≡ culprit_object draft.now culprit.now) }
 {
     match culprit {
@@ -56,7 +57,7 @@ fn told_culprit(alloc: Global, draft: &Draft, culprit: &Culprit) -> Result<Value
 }
 
 /// The culprits of a failure, where they are known.
-fn told_found(alloc: Global, draft: &Draft, culprit: Option<&Culprit>) -> Result<Value, AllocError>
+fn told_found(alloc: Global, draft: &Draft, culprit: Option<&Culprit>) -> Result<Value, OutOfMemory>
     ensures { IfOk result (λ v. view v ≡ found_value draft.now (option_copied culprit.entry)) }
 {
     match culprit {
@@ -66,7 +67,7 @@ fn told_found(alloc: Global, draft: &Draft, culprit: Option<&Culprit>) -> Result
 }
 
 /// The file that has too few registers, and its first value that has none.
-fn told_lack(alloc: Global, draft: &Draft, file: usize, value: usize) -> Result<Value, AllocError>
+fn told_lack(alloc: Global, draft: &Draft, file: usize, value: usize) -> Result<Value, OutOfMemory>
     ensures { IfOk result (λ v. view v ≡ lack_object draft.now file value) }
 {
     json!(in alloc; {
@@ -81,7 +82,7 @@ pub(crate) fn told_evidence(
     draft: &Draft,
     cause: Cause,
     culprit: Option<&Culprit>,
-) -> Result<Value, AllocError>
+) -> Result<Value, OutOfMemory>
     ensures { IfOk result (λ v. view v ≡ culprit_value draft.now cause (option_copied culprit.entry)) }
 {
     match cause {

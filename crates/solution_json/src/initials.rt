@@ -8,11 +8,12 @@ ghost use Rattle.solution_json.specs.Values.{initial_at, initial_object, initial
 
 use crate::named::told_register;
 use crate::told::told_name;
+use machine_data::OutOfMemory;
 use problems::Draft;
 use serde_json::{Value, json};
 use solution_text::{Register, carried, register_behind};
 use solutions::Solution;
-use std::alloc::{AllocError, Global};
+use std::alloc::Global;
 
 /// The register of a value's instance of `iterations` iterations before the first one.
 fn told_initial(
@@ -21,7 +22,7 @@ fn told_initial(
     value: usize,
     iterations: u64,
     register: Register,
-) -> Result<Value, AllocError>
+) -> Result<Value, OutOfMemory>
     ensures { IfOk result (λ v. view v ≡ initial_object draft.now value iterations register) }
 {
     json!(in alloc; {
@@ -39,7 +40,7 @@ fn push_initial(
     solution: &Solution,
     value: usize,
     iterations: u64,
-) -> Result<(), AllocError>
+) -> Result<(), OutOfMemory>
     requires there { value < length solution.now.problem.draft.values.items }
     requires few { iterations ≤ 16 }
     ensures ok { OnOk result (map view values.new.items ≡ map view values.old.items ++ cons_option (initial_at solution.now value iterations) []) }
@@ -58,7 +59,7 @@ fn push_initials_of(
     values: &mut Vec<Value>,
     solution: &Solution,
     value: usize,
-) -> Result<(), AllocError>
+) -> Result<(), OutOfMemory>
     requires { value < length solution.now.problem.draft.values.items }
     ensures ok { OnOk result (map view values.new.items ≡ map view values.old.items ++ initials_of solution.now value) }
 {
@@ -69,7 +70,7 @@ fn push_initials_of(
 }
 
 /// All initial values, value by value.
-pub(crate) fn told_initials(alloc: Global, solution: &Solution) -> Result<Value, AllocError>
+pub(crate) fn told_initials(alloc: Global, solution: &Solution) -> Result<Value, OutOfMemory>
     ensures { IfOk result (λ v. view v ≡ array (items_of (initials solution.now))) }
 {
     let mut values = Vec::new(alloc);

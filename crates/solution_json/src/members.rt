@@ -4,17 +4,18 @@ ghost use Rattle.std.specs.Prelude.{◌≡◌, IfOk};
 ghost use Rattle.serde_json.specs.Data.{Data, Members, object, put};
 ghost use Rattle.serde_json.specs.View.{members_view, view};
 
+use machine_data::OutOfMemory;
 use serde_json::{Map, Value, put};
-use std::alloc::{AllocError, Global};
+use std::alloc::Global;
 
 /// These members and one more, with this value. Whether both were made is looked at here alone, since the checker goes through the
 /// drops after each `?`.
 pub(crate) fn with(
     alloc: Global,
-    members: Result<Map<String, Value>, AllocError>,
+    members: Result<Map<String, Value>, OutOfMemory>,
     key: &str,
-    value: Result<Value, AllocError>,
-) -> Result<Map<String, Value>, AllocError>
+    value: Result<Value, OutOfMemory>,
+) -> Result<Map<String, Value>, OutOfMemory>
     ensures { (ms : Members) (d : Data) → IfOk members (λ m. members_view m.entries ≡ ms) → IfOk value (λ v. view v ≡ d) → IfOk result (λ m. members_view m.entries ≡ put key.now d ms) }
 {
     let mut members = members?;
@@ -24,8 +25,8 @@ pub(crate) fn with(
 
 /// The object of these members.
 pub(crate) fn object_of(
-    members: Result<Map<String, Value>, AllocError>,
-) -> Result<Value, AllocError>
+    members: Result<Map<String, Value>, OutOfMemory>,
+) -> Result<Value, OutOfMemory>
     ensures { (ms : Members) → IfOk members (λ m. members_view m.entries ≡ ms) → IfOk result (λ v. view v ≡ object ms) }
 {
     Ok(Value::Object(members?))

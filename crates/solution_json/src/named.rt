@@ -6,17 +6,18 @@ ghost use Rattle.serde_json.specs.View.{view};
 ghost use Rattle.solution_json.specs.Parts.{register_object};
 
 use crate::told::told_name;
+use machine_data::OutOfMemory;
 use problems::Draft;
 use serde_json::{Value, json};
 use solution_text::Register;
-use std::alloc::{AllocError, Global};
+use std::alloc::Global;
 
 /// A register.
 pub(crate) fn told_register(
     alloc: Global,
     draft: &Draft,
     register: Register,
-) -> Result<Value, AllocError>
+) -> Result<Value, OutOfMemory>
     ensures { IfOk result (λ v. view v ≡ register_object draft.now register) }
 {
     json!(in alloc; {
@@ -31,7 +32,7 @@ pub(crate) fn push_register(
     values: &mut Vec<Value>,
     draft: &Draft,
     register: Option<Register>,
-) -> Result<(), AllocError>
+) -> Result<(), OutOfMemory>
     ensures { OnOk result (map view values.new.items ≡ map view values.old.items ++ map (register_object draft.now) (cons_option register [])) }
 {
     match register {

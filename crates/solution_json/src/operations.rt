@@ -10,16 +10,16 @@ ghost use Rattle.solution_json.specs.Parts.{array_of, register_object};
 
 use crate::named::push_register;
 use crate::told::told_name;
-use machine_data::Row;
+use machine_data::{OutOfMemory, Row};
 use problems::Draft;
 use registers::Read;
 use serde_json::{Value, json};
 use solution_text::register_behind;
 use solutions::Solution;
-use std::alloc::{AllocError, Global};
+use std::alloc::Global;
 
 /// A unit that an operation holds.
-fn told_hold(alloc: Global, draft: &Draft, row: Row) -> Result<Value, AllocError>
+fn told_hold(alloc: Global, draft: &Draft, row: Row) -> Result<Value, OutOfMemory>
     ensures { IfOk result (λ v. view v ≡ hold_object draft.now row) }
 {
     json!(in alloc; {
@@ -29,7 +29,7 @@ fn told_hold(alloc: Global, draft: &Draft, row: Row) -> Result<Value, AllocError
 }
 
 /// The units that an operation holds.
-fn told_rows(alloc: Global, draft: &Draft, rows: &[Row]) -> Result<Value, AllocError>
+fn told_rows(alloc: Global, draft: &Draft, rows: &[Row]) -> Result<Value, OutOfMemory>
     ensures { IfOk result (λ v. view v ≡ array_of (hold_object draft.now) rows.now) }
 {
     let mut values = Vec::with_capacity(alloc, rows.len())?;
@@ -40,7 +40,7 @@ fn told_rows(alloc: Global, draft: &Draft, rows: &[Row]) -> Result<Value, AllocE
 }
 
 /// The units that an operation holds by its alternative.
-fn told_holds(alloc: Global, solution: &Solution, op: usize) -> Result<Value, AllocError>
+fn told_holds(alloc: Global, solution: &Solution, op: usize) -> Result<Value, OutOfMemory>
     requires { op < length solution.now.problem.scheduling.operations }
     ensures { IfOk result (λ v. view v ≡ holds_array solution.now op) }
 {
@@ -61,7 +61,7 @@ fn push_read(
     op: usize,
     stage: u64,
     read: Read,
-) -> Result<(), AllocError>
+) -> Result<(), OutOfMemory>
     requires stage { stage ≡ stage_of (schedule_of solution.now) op }
     requires few { stage < 64 }
     requires value { read.value < length solution.now.problem.draft.values.items }
@@ -81,7 +81,7 @@ fn told_reads(
     solution: &Solution,
     op: usize,
     stage: u64,
-) -> Result<Value, AllocError>
+) -> Result<Value, OutOfMemory>
     requires stage { stage ≡ stage_of (schedule_of solution.now) op }
     requires few { stage < 64 }
     ensures { IfOk result (λ v. view v ≡ array_of (register_object solution.now.problem.draft) (registers_read solution.now op)) }
@@ -102,7 +102,7 @@ fn push_write(
     op: usize,
     stage: u64,
     value: usize,
-) -> Result<(), AllocError>
+) -> Result<(), OutOfMemory>
     requires stage { stage ≡ stage_of (schedule_of solution.now) op }
     requires few { stage < 64 }
     requires there { value < length solution.now.problem.draft.values.items }
@@ -126,7 +126,7 @@ fn told_writes(
     solution: &Solution,
     op: usize,
     stage: u64,
-) -> Result<Value, AllocError>
+) -> Result<Value, OutOfMemory>
     requires stage { stage ≡ stage_of (schedule_of solution.now) op }
     requires few { stage < 64 }
     ensures { IfOk result (λ v. view v ≡ array_of (register_object solution.now.problem.draft) (registers_written solution.now op)) }
@@ -149,7 +149,7 @@ fn stage_of(solution: &Solution, op: usize) -> u64
 
 /// An operation.
 #[tactic(auto, unfolding(crate::specs::Operations::operation_object))]
-fn told_operation(alloc: Global, solution: &Solution, op: usize) -> Result<Value, AllocError>
+fn told_operation(alloc: Global, solution: &Solution, op: usize) -> Result<Value, OutOfMemory>
     requires { op < length solution.now.problem.scheduling.operations }
     ensures { IfOk result (λ v. view v ≡ operation_object solution.now op) }
 {
@@ -168,7 +168,7 @@ fn told_operation(alloc: Global, solution: &Solution, op: usize) -> Result<Value
 }
 
 /// All operations, in order.
-pub(crate) fn told_operations(alloc: Global, solution: &Solution) -> Result<Value, AllocError>
+pub(crate) fn told_operations(alloc: Global, solution: &Solution) -> Result<Value, OutOfMemory>
     ensures { IfOk result (λ v. view v ≡ array_of (operation_object solution.now) (range_with_len 0 (length solution.now.problem.scheduling.operations))) }
 {
     let mut values = Vec::new(alloc);

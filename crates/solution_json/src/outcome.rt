@@ -21,7 +21,7 @@ use problems::Problem;
 use serde_json::{Map, ToValue, Value};
 use solution_text::evidence;
 use solutions::{Cause, Outcome, Solution, solve};
-use std::alloc::{AllocError, Global};
+use std::alloc::Global;
 
 /// The members that tell the bounds of a problem, and what they are due to.
 fn head_of(
@@ -30,7 +30,7 @@ fn head_of(
     problem: &Problem,
     circuit: &[Edge],
     units: &[usize],
-) -> Result<Map<String, Value>, AllocError>
+) -> Result<Map<String, Value>, OutOfMemory>
     requires few { length circuit.now ≤ 128 }
     ensures { IfOk result (λ m. members_view m.entries ≡ head_members name.now problem.now circuit.now units.now) }
 {
@@ -59,7 +59,7 @@ fn told_met(
     circuit: &[Edge],
     units: &[usize],
     solution: &Solution,
-) -> Result<Value, AllocError>
+) -> Result<Value, OutOfMemory>
     requires few { length circuit.now ≤ 128 }
     ensures { IfOk result (λ v. view v ≡ met_object name.now problem.now circuit.now units.now solution.now) }
 {
@@ -77,7 +77,7 @@ fn told_failed(
     units: &[usize],
     cause: Cause,
     culprit: Option<&Culprit>,
-) -> Result<Value, AllocError>
+) -> Result<Value, OutOfMemory>
     requires few { length circuit.now ≤ 128 }
     ensures { IfOk result (λ v. view v ≡ failed_object name.now problem.now circuit.now units.now cause (option_copied culprit.entry)) }
 {
@@ -135,7 +135,7 @@ fn told_outcome(
 }
 
 /// Appends a value as JSON without blanks.
-fn push_value(alloc: Global, text: &mut Vec<u8>, value: &Value) -> Result<(), AllocError>
+fn push_value(alloc: Global, text: &mut Vec<u8>, value: &Value) -> Result<(), OutOfMemory>
     ensures { OnOk result (has_float (view value.now) ≡ false → text.new.items ≡ text.old.items ++ compact_text (view value.now)) }
 {
     let bytes = value.to_vec(alloc)?;

@@ -7,10 +7,11 @@ ghost use Rattle.solution_json.specs.Solutions.{solution_object, unroll_value};
 use crate::initials::told_initials;
 use crate::operations::told_operations;
 use crate::values::{told_files, told_values};
+use machine_data::OutOfMemory;
 use serde_json::{Value, json};
 use solution_text::has_free;
 use solutions::Solution;
-use std::alloc::{AllocError, Global};
+use std::alloc::Global;
 
 /// How often the body of a loop is repeated, where some file is unallotted.
 fn told_unroll(solution: &Solution) -> Value
@@ -24,7 +25,7 @@ fn told_unroll(solution: &Solution) -> Value
 
 /// A solution.
 #[tactic(auto, unfolding(crate::specs::Solutions::solution_object))]
-pub(crate) fn told_solution(alloc: Global, solution: &Solution) -> Result<Value, AllocError>
+pub(crate) fn told_solution(alloc: Global, solution: &Solution) -> Result<Value, OutOfMemory>
     ensures { IfOk result (λ v. view v ≡ solution_object solution.now) }
 {
     json!(in alloc; {

@@ -7,12 +7,13 @@ ghost use Rattle.solution_text.specs.Names.{name_in};
 ghost use Rattle.solution_json.specs.Parts.{array_of};
 
 use itoa::Buffer;
+use machine_data::OutOfMemory;
 use problems::Label;
 use serde_json::{ToValue, Value};
-use std::alloc::{AllocError, Global};
+use std::alloc::Global;
 
 /// The digits of a number.
-fn told_digits(alloc: Global, number: usize) -> Result<Value, AllocError>
+fn told_digits(alloc: Global, number: usize) -> Result<Value, OutOfMemory>
     ensures { IfOk result (λ v. view v ≡ string (decimal number)) }
 {
     let mut digits = Buffer::new();
@@ -20,7 +21,7 @@ fn told_digits(alloc: Global, number: usize) -> Result<Value, AllocError>
 }
 
 /// The name with a number, or where there is none the number.
-pub(crate) fn told_name(alloc: Global, names: &[Label], number: usize) -> Result<Value, AllocError>
+pub(crate) fn told_name(alloc: Global, names: &[Label], number: usize) -> Result<Value, OutOfMemory>
     ensures { IfOk result (λ v. view v ≡ string (name_in names.now number)) }
 {
     match names.get(number) {
@@ -34,7 +35,7 @@ pub(crate) fn told_names(
     alloc: Global,
     names: &[Label],
     numbers: &[usize],
-) -> Result<Value, AllocError>
+) -> Result<Value, OutOfMemory>
     ensures { IfOk result (λ v. view v ≡ array_of (λ number. string (name_in names.now number)) numbers.now) }
 {
     let mut values = Vec::with_capacity(alloc, numbers.len())?;

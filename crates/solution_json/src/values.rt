@@ -8,11 +8,12 @@ ghost use Rattle.solution_json.specs.Parts.{array_of};
 ghost use Rattle.solution_json.specs.Values.{copies_value, file_object, number_value, size_value, value_object};
 
 use crate::told::told_name;
+use machine_data::OutOfMemory;
 use problems::{Draft, File};
 use registers::Lifetime;
 use serde_json::{Value, json};
 use solutions::Solution;
-use std::alloc::{AllocError, Global};
+use std::alloc::Global;
 
 /// The number of a value's file.
 fn file_of(solution: &Solution, value: usize) -> usize
@@ -64,7 +65,7 @@ fn told_number(solution: &Solution, value: usize, file: File) -> Value
 
 /// A value.
 #[tactic(auto, unfolding(crate::specs::Values::value_object))]
-fn told_value(alloc: Global, solution: &Solution, value: usize) -> Result<Value, AllocError>
+fn told_value(alloc: Global, solution: &Solution, value: usize) -> Result<Value, OutOfMemory>
     requires { value < length solution.now.problem.draft.values.items }
     ensures { IfOk result (λ v. view v ≡ value_object solution.now value) }
 {
@@ -82,7 +83,7 @@ fn told_value(alloc: Global, solution: &Solution, value: usize) -> Result<Value,
 }
 
 /// All values, in order.
-pub(crate) fn told_values(alloc: Global, solution: &Solution) -> Result<Value, AllocError>
+pub(crate) fn told_values(alloc: Global, solution: &Solution) -> Result<Value, OutOfMemory>
     ensures { IfOk result (λ v. view v ≡ array_of (value_object solution.now) (range_with_len 0 (length solution.now.problem.draft.values.items))) }
 {
     let mut values = Vec::new(alloc);
@@ -112,7 +113,7 @@ fn told_size(draft: &Draft, file: usize) -> Value
 
 /// A file.
 #[tactic(auto, unfolding(crate::specs::Values::file_object))]
-fn told_file(alloc: Global, solution: &Solution, file: usize) -> Result<Value, AllocError>
+fn told_file(alloc: Global, solution: &Solution, file: usize) -> Result<Value, OutOfMemory>
     requires { file < length solution.now.problem.draft.files.items }
     ensures { IfOk result (λ v. view v ≡ file_object solution.now file) }
 {
@@ -125,7 +126,7 @@ fn told_file(alloc: Global, solution: &Solution, file: usize) -> Result<Value, A
 }
 
 /// All files, in order.
-pub(crate) fn told_files(alloc: Global, solution: &Solution) -> Result<Value, AllocError>
+pub(crate) fn told_files(alloc: Global, solution: &Solution) -> Result<Value, OutOfMemory>
     ensures { IfOk result (λ v. view v ≡ array_of (file_object solution.now) (range_with_len 0 (length solution.now.problem.draft.files.items))) }
 {
     let mut values = Vec::new(alloc);

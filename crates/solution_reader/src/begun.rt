@@ -11,7 +11,8 @@ use crate::numbers::add_number;
 use crate::ops::Ops;
 use crate::rows::Head;
 use crate::values::Values;
-use std::alloc::{AllocError, Global};
+use machine_data::OutOfMemory;
+use std::alloc::Global;
 use std::collections::BTreeMap;
 use std::marker::Model;
 
@@ -71,7 +72,7 @@ impl<'a> Begun<'a> {
     }
 
     /// Begins a solution of a new name.
-    pub(crate) fn open(&mut self, head: Head<'a>) -> Result<(), AllocError>
+    pub(crate) fn open(&mut self, head: Head<'a>) -> Result<(), OutOfMemory>
         requires outside { self.old.head ≡ None }
         requires absent { has_name (begun_names self.old) head.name.bytes.now ≡ false }
         ensures { OnOk result (self.new ≡ record { ended = self.old.ended; head = Some (head_seen head.entry) }) }
@@ -83,7 +84,7 @@ impl<'a> Begun<'a> {
     }
 
     /// Ends the solution under way, if there is one, with these lines.
-    pub(crate) fn close(&mut self, ops: Ops<'a>, values: Values<'a>) -> Result<(), AllocError>
+    pub(crate) fn close(&mut self, ops: Ops<'a>, values: Values<'a>) -> Result<(), OutOfMemory>
         ensures { OnOk result (self.new ≡ record { ended = self.old.ended ++ solution_with ops.entry values.entry self.old.head; head = None }) }
     {
         if let Some(head) = self.head {

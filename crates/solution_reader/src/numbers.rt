@@ -5,7 +5,7 @@ ghost use Rattle.std.specs.Option.{option_or};
 ghost use Rattle.machine_data.specs.Opcodes.{same_word};
 ghost use Rattle.solution_reader.specs.inner.Numbered.{known_at};
 
-use std::alloc::AllocError;
+use machine_data::OutOfMemory;
 use std::collections::BTreeMap;
 
 /// Adds a name that is not there. Where memory runs out, all is as before.
@@ -13,13 +13,13 @@ pub(crate) fn add_number<'a>(
     numbers: &mut BTreeMap<&'a [u8], usize>,
     name: &'a [u8],
     number: usize,
-) -> Result<(), AllocError>
+) -> Result<(), OutOfMemory>
     requires { known_at numbers.old name.now ≡ None }
     ensures added { OnOk result ((q : List ℕ) → known_at numbers.new q ≡ option_or (known_at numbers.old q) (if same_word q name.now then Some number else None)) }
     ensures kept { OnErr result ((q : List ℕ) → known_at numbers.new q ≡ known_at numbers.old q) }
 {
     match numbers.insert(name, number) {
         Ok(_) => Ok(()),
-        Err(failed) => Err(AllocError::from(failed)),
+        Err(failed) => Err(OutOfMemory::from(failed)),
     }
 }

@@ -7,7 +7,8 @@ ghost use Rattle.solution_reader.specs.inner.Seen.{op_seen};
 
 use crate::numbers::add_number;
 use crate::rows::OpTime;
-use std::alloc::{AllocError, Global};
+use machine_data::OutOfMemory;
+use std::alloc::Global;
 use std::collections::BTreeMap;
 use std::marker::Model;
 
@@ -74,7 +75,7 @@ impl<'a> Ops<'a> {
     }
 
     /// Adds a line whose name has none. Where memory runs out, all is as before.
-    pub(crate) fn add(&mut self, row: OpTime<'a>) -> Result<(), AllocError>
+    pub(crate) fn add(&mut self, row: OpTime<'a>) -> Result<(), OutOfMemory>
         requires { has_name (op_names self.old) row.name.bytes.now ≡ false }
         ensures { OnOk result (self.new ≡ self.old ++ op_seen row.entry ∷ []) }
     {

@@ -17,9 +17,10 @@ use crate::ops::Ops;
 use crate::rows::{Head, OpTime, ValueNumber};
 use crate::spot::Spot;
 use crate::values::Values;
+use machine_data::OutOfMemory;
 use machine_data::limits::{MAX_STATEMENTS, MAX_VALUES};
 use problem_lines::{Number, SolutionForm, SolutionLine, Word};
-use std::alloc::{AllocError, Global};
+use std::alloc::Global;
 use std::mem;
 
 /// Solutions of a text.
@@ -167,7 +168,7 @@ impl<'a> Sofar<'a> {
     }
 
     /// Takes in a line that ends a solution.
-    fn take_end(&mut self, alloc: Global) -> Result<(), AllocError>
+    fn take_end(&mut self, alloc: Global) -> Result<(), OutOfMemory>
         ensures { OnOk result ((number : ℕ) → sofar_seen self.new ≡ with_form (sofar_seen self.old) number SolutionEnds) }
     {
         let ops = mem::replace(&mut self.ops, Ops::new(alloc));

@@ -7,7 +7,8 @@ ghost use Rattle.solution_reader.specs.inner.Seen.{value_seen};
 
 use crate::numbers::add_number;
 use crate::rows::ValueNumber;
-use std::alloc::{AllocError, Global};
+use machine_data::OutOfMemory;
+use std::alloc::Global;
 use std::collections::BTreeMap;
 use std::marker::Model;
 
@@ -74,7 +75,7 @@ impl<'a> Values<'a> {
     }
 
     /// Adds a line whose name has none. Where memory runs out, all is as before.
-    pub(crate) fn add(&mut self, row: ValueNumber<'a>) -> Result<(), AllocError>
+    pub(crate) fn add(&mut self, row: ValueNumber<'a>) -> Result<(), OutOfMemory>
         requires { has_name (value_names self.old) row.name.bytes.now ≡ false }
         ensures { OnOk result (self.new ≡ self.old ++ value_seen row.entry ∷ []) }
     {

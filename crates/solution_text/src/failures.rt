@@ -8,14 +8,14 @@ ghost use Rattle.solution_text.specs.Texts.{cause_text, culprit_text, evidence_t
 
 use crate::heads::push_head;
 use crate::names::push_name;
+use machine_data::OutOfMemory;
 use modulo::Culprit;
 use problems::{Draft, Problem};
 use solutions::Cause;
-use std::alloc::AllocError;
 use writing::{Text, push_both, push_told};
 
 /// Appends a blank, then an operation.
-fn push_named(text: &mut Vec<u8>, draft: &Draft, op: usize) -> Result<(), AllocError>
+fn push_named(text: &mut Vec<u8>, draft: &Draft, op: usize) -> Result<(), OutOfMemory>
     ensures ok { OnOk result (text.new.items ≡ text.old.items ++ named draft.now op) }
 {
     text.push_piece(" ")?;
@@ -23,7 +23,7 @@ fn push_named(text: &mut Vec<u8>, draft: &Draft, op: usize) -> Result<(), AllocE
 }
 
 /// Appends operations, each after a blank.
-fn push_all_named(text: &mut Vec<u8>, draft: &Draft, ops: &[usize]) -> Result<(), AllocError>
+fn push_all_named(text: &mut Vec<u8>, draft: &Draft, ops: &[usize]) -> Result<(), OutOfMemory>
     ensures ok { OnOk result (text.new.items ≡ text.old.items ++ flat_map (named draft.now) ops.now) }
 {
     for op in ops {
@@ -33,7 +33,7 @@ fn push_all_named(text: &mut Vec<u8>, draft: &Draft, ops: &[usize]) -> Result<()
 }
 
 /// Appends an operation and when it is issued.
-fn push_late(text: &mut Vec<u8>, draft: &Draft, op: usize, time: u64) -> Result<(), AllocError>
+fn push_late(text: &mut Vec<u8>, draft: &Draft, op: usize, time: u64) -> Result<(), OutOfMemory>
     ensures ok { OnOk result (text.new.items ≡ text.old.items ++ culprit_text draft.now (Late op time)) }
 {
     push_named(text, draft, op)?;
@@ -41,7 +41,7 @@ fn push_late(text: &mut Vec<u8>, draft: &Draft, op: usize, time: u64) -> Result<
 }
 
 /// Appends the culprits of a failure.
-fn push_culprit(text: &mut Vec<u8>, draft: &Draft, culprit: &Culprit) -> Result<(), AllocError>
+fn push_culprit(text: &mut Vec<u8>, draft: &Draft, culprit: &Culprit) -> Result<(), OutOfMemory>
     ensures ok { OnOk result (text.new.items ≡ text.old.items ++ culprit_text draft.now culprit.now) }
 {
     match culprit {
@@ -57,7 +57,7 @@ fn push_evidence(
     draft: &Draft,
     word: &str,
     culprit: Option<&Culprit>,
-) -> Result<(), AllocError>
+) -> Result<(), OutOfMemory>
     ensures ok { OnOk result (text.new.items ≡ text.old.items ++ (word.now ++ evidence_text draft.now (option_copied culprit.entry))) }
 {
     text.push_piece(word)?;
@@ -71,7 +71,12 @@ fn push_evidence(
 }
 
 /// Appends the file that has too few registers, and its first value that has none.
-fn push_lack(text: &mut Vec<u8>, draft: &Draft, file: usize, value: usize) -> Result<(), AllocError>
+fn push_lack(
+    text: &mut Vec<u8>,
+    draft: &Draft,
+    file: usize,
+    value: usize,
+) -> Result<(), OutOfMemory>
     ensures ok { OnOk result (text.new.items ≡ text.old.items ++ lack_text draft.now file value) }
 {
     text.push_piece("registers of ")?;
@@ -84,13 +89,13 @@ fn push_lack(text: &mut Vec<u8>, draft: &Draft, file: usize, value: usize) -> Re
 /// file and the value that has none, of the other causes the culprit that is given.
 ///
 /// # Errors
-/// [`AllocError`] where memory ran out. The text is left with a part of all that.
+/// [`OutOfMemory`] where memory ran out. The text is left with a part of all that.
 pub fn push_cause(
     text: &mut Vec<u8>,
     draft: &Draft,
     cause: Cause,
     culprit: Option<&Culprit>,
-) -> Result<(), AllocError>
+) -> Result<(), OutOfMemory>
     ensures ok { OnOk result (text.new.items ≡ text.old.items ++ cause_text draft.now cause (option_copied culprit.entry)) }
 {
     match cause {
@@ -108,7 +113,7 @@ fn push_failure(
     problem: &Problem,
     cause: Cause,
     culprit: Option<&Culprit>,
-) -> Result<(), AllocError>
+) -> Result<(), OutOfMemory>
     ensures ok { OnOk result (text.new.items ≡ text.old.items ++ failed_line name.now problem.now cause (option_copied culprit.entry)) }
 {
     let scheduling = problem.scheduling();
@@ -124,7 +129,7 @@ fn push_failure(
 /// that has none, of the other causes the culprit that is given.
 ///
 /// # Errors
-/// [`AllocError`] where memory ran out. The text is left with a part of all that.
+/// [`OutOfMemory`] where memory ran out. The text is left with a part of all that.
 pub fn push_failed(
     text: &mut Vec<u8>,
     name: &str,
@@ -132,7 +137,7 @@ pub fn push_failed(
     problem: &Problem,
     cause: Cause,
     culprit: Option<&Culprit>,
-) -> Result<(), AllocError>
+) -> Result<(), OutOfMemory>
     ensures ok { OnOk result (text.new.items ≡ text.old.items ++ failed_text name.now notes.now problem.now cause (option_copied culprit.entry)) }
 {
     push_head(text, name, notes, problem)?;

@@ -5,13 +5,13 @@ ghost use Rattle.std.specs.List.{list_any};
 ghost use Rattle.solution_text.specs.Files.{file_line, file_lines, is_free, size_text, unroll_line};
 
 use crate::names::push_name;
+use machine_data::OutOfMemory;
 use problems::{Draft, File};
 use solutions::Solution;
-use std::alloc::AllocError;
 use writing::{Text, push_told};
 
 /// Appends how many registers a file has, where it is rotating.
-fn push_size(text: &mut Vec<u8>, draft: &Draft, file: usize) -> Result<(), AllocError>
+fn push_size(text: &mut Vec<u8>, draft: &Draft, file: usize) -> Result<(), OutOfMemory>
     ensures ok { OnOk result (text.new.items ≡ text.old.items ++ size_text (slice_get draft.now.files.items file)) }
 {
     match draft.files.get(file) {
@@ -22,7 +22,7 @@ fn push_size(text: &mut Vec<u8>, draft: &Draft, file: usize) -> Result<(), Alloc
 
 /// Appends the line of a file.
 #[tactic(auto, unfolding(crate::specs::Files::file_line))]
-fn push_file(text: &mut Vec<u8>, solution: &Solution, file: usize) -> Result<(), AllocError>
+fn push_file(text: &mut Vec<u8>, solution: &Solution, file: usize) -> Result<(), OutOfMemory>
     ensures ok { OnOk result (text.new.items ≡ text.old.items ++ file_line solution.now file) }
 {
     let draft = solution.problem().draft();
@@ -34,7 +34,7 @@ fn push_file(text: &mut Vec<u8>, solution: &Solution, file: usize) -> Result<(),
 }
 
 /// Appends the lines of all files, in order.
-pub(crate) fn push_files(text: &mut Vec<u8>, solution: &Solution) -> Result<(), AllocError>
+pub(crate) fn push_files(text: &mut Vec<u8>, solution: &Solution) -> Result<(), OutOfMemory>
     ensures ok { OnOk result (text.new.items ≡ text.old.items ++ file_lines solution.now) }
 {
     for file in 0..solution.problem().draft().files.len() {
@@ -51,7 +51,7 @@ pub fn has_free(files: &[File]) -> bool
 }
 
 /// Appends how often the body of a loop is repeated, where some file is unallotted.
-pub(crate) fn push_unroll(text: &mut Vec<u8>, solution: &Solution) -> Result<(), AllocError>
+pub(crate) fn push_unroll(text: &mut Vec<u8>, solution: &Solution) -> Result<(), OutOfMemory>
     ensures ok { OnOk result (text.new.items ≡ text.old.items ++ unroll_line solution.now) }
 {
     if !has_free(solution.problem().draft().files.as_slice()) {

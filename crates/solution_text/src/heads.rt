@@ -3,12 +3,12 @@
 ghost use Rattle.std.specs.Prelude.{◌≡◌, ◌++◌, OnOk};
 ghost use Rattle.solution_text.specs.Heads.{bounds_line, head_text};
 
+use machine_data::OutOfMemory;
 use problems::Problem;
-use std::alloc::AllocError;
 use writing::{Text, push_both, push_told};
 
 /// Appends the line of a problem and its bounds.
-fn push_bounds(text: &mut Vec<u8>, name: &str, problem: &Problem) -> Result<(), AllocError>
+fn push_bounds(text: &mut Vec<u8>, name: &str, problem: &Problem) -> Result<(), OutOfMemory>
     ensures ok { OnOk result (text.new.items ≡ text.old.items ++ bounds_line name.now problem.now) }
 {
     let scheduling = problem.scheduling();
@@ -26,7 +26,7 @@ pub(crate) fn push_head(
     name: &str,
     notes: &[u8],
     problem: &Problem,
-) -> Result<(), AllocError>
+) -> Result<(), OutOfMemory>
     ensures ok { OnOk result (text.new.items ≡ text.old.items ++ head_text name.now notes.now problem.now) }
 {
     push_bounds(text, name, problem)?;

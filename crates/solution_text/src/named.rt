@@ -6,9 +6,9 @@ ghost use Rattle.solutions.specs.Runs.{run_of};
 ghost use Rattle.solution_text.specs.Registers.{register_behind, register_text, spaced_register};
 
 use crate::names::push_name;
+use machine_data::OutOfMemory;
 use problems::{Draft, File};
 use solutions::Solution;
-use std::alloc::AllocError;
 use writing::{Text, push_told};
 
 /// A register of a rotating file.
@@ -44,7 +44,7 @@ pub(crate) fn push_register(
     text: &mut Vec<u8>,
     draft: &Draft,
     register: Register,
-) -> Result<(), AllocError>
+) -> Result<(), OutOfMemory>
     ensures ok { OnOk result (text.new.items ≡ text.old.items ++ register_text draft.now register) }
 {
     push_name(text, draft.names.files.as_slice(), register.file)?;
@@ -56,7 +56,7 @@ pub(crate) fn push_spaced(
     text: &mut Vec<u8>,
     draft: &Draft,
     register: Option<Register>,
-) -> Result<(), AllocError>
+) -> Result<(), OutOfMemory>
     ensures ok { OnOk result (text.new.items ≡ text.old.items ++ spaced_register draft.now register) }
 {
     match register {

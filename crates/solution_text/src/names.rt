@@ -3,8 +3,8 @@
 ghost use Rattle.std.specs.Prelude.{◌≡◌, ◌++◌, OnOk};
 ghost use Rattle.solution_text.specs.Names.{name_in, op_name, unit_name, value_name};
 
+use machine_data::OutOfMemory;
 use problems::{Draft, Label};
-use std::alloc::AllocError;
 use writing::{Text, push_number};
 
 /// Appends the name with a number, or where there is none the number.
@@ -12,7 +12,7 @@ pub(crate) fn push_name(
     text: &mut Vec<u8>,
     names: &[Label],
     number: usize,
-) -> Result<(), AllocError>
+) -> Result<(), OutOfMemory>
     ensures ok { OnOk result (text.new.items ≡ text.old.items ++ name_in names.now number) }
 {
     match names.get(number) {
@@ -22,7 +22,7 @@ pub(crate) fn push_name(
 }
 
 /// Appends what an operation is called.
-pub(crate) fn push_op_name(text: &mut Vec<u8>, draft: &Draft, op: usize) -> Result<(), AllocError>
+pub(crate) fn push_op_name(text: &mut Vec<u8>, draft: &Draft, op: usize) -> Result<(), OutOfMemory>
     ensures ok { OnOk result (text.new.items ≡ text.old.items ++ op_name draft.now op) }
 {
     push_name(text, draft.names.operations.as_slice(), op)
@@ -33,7 +33,7 @@ pub(crate) fn push_unit_name(
     text: &mut Vec<u8>,
     draft: &Draft,
     unit: usize,
-) -> Result<(), AllocError>
+) -> Result<(), OutOfMemory>
     ensures ok { OnOk result (text.new.items ≡ text.old.items ++ unit_name draft.now unit) }
 {
     push_name(text, draft.names.units.as_slice(), unit)
@@ -44,7 +44,7 @@ pub(crate) fn push_value_name(
     text: &mut Vec<u8>,
     draft: &Draft,
     value: usize,
-) -> Result<(), AllocError>
+) -> Result<(), OutOfMemory>
     ensures ok { OnOk result (text.new.items ≡ text.old.items ++ value_name draft.now value) }
 {
     push_name(text, draft.names.values.as_slice(), value)

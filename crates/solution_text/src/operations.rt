@@ -8,14 +8,13 @@ ghost use Rattle.solution_text.specs.Operations.{hold_text, op_line, op_lines, p
 
 use crate::names::push_name;
 use crate::uses::push_uses;
-use machine_data::Row;
+use machine_data::{OutOfMemory, Row};
 use problems::Draft;
 use solutions::Solution;
-use std::alloc::AllocError;
 use writing::{Text, push_told};
 
 /// Appends when an operation is issued in iteration 0, and by which of its alternatives.
-fn push_placed(text: &mut Vec<u8>, solution: &Solution, op: usize) -> Result<(), AllocError>
+fn push_placed(text: &mut Vec<u8>, solution: &Solution, op: usize) -> Result<(), OutOfMemory>
     requires { op < length solution.now.problem.scheduling.operations }
     ensures ok { OnOk result (text.new.items ≡ text.old.items ++ placed_text solution.now op) }
 {
@@ -27,7 +26,7 @@ fn push_placed(text: &mut Vec<u8>, solution: &Solution, op: usize) -> Result<(),
 }
 
 /// Appends a blank, then a unit that an operation holds, and how many cycles after its issue.
-fn push_hold(text: &mut Vec<u8>, draft: &Draft, row: Row) -> Result<(), AllocError>
+fn push_hold(text: &mut Vec<u8>, draft: &Draft, row: Row) -> Result<(), OutOfMemory>
     ensures ok { OnOk result (text.new.items ≡ text.old.items ++ hold_text draft.now row) }
 {
     text.push_piece(" ")?;
@@ -39,7 +38,7 @@ fn push_hold(text: &mut Vec<u8>, draft: &Draft, row: Row) -> Result<(), AllocErr
 }
 
 /// Appends the units that an operation holds, each after a blank.
-fn push_holds(text: &mut Vec<u8>, draft: &Draft, rows: &[Row]) -> Result<(), AllocError>
+fn push_holds(text: &mut Vec<u8>, draft: &Draft, rows: &[Row]) -> Result<(), OutOfMemory>
     ensures ok { OnOk result (text.new.items ≡ text.old.items ++ flat_map (hold_text draft.now) rows.now) }
 {
     for row in rows {
@@ -49,7 +48,7 @@ fn push_holds(text: &mut Vec<u8>, draft: &Draft, rows: &[Row]) -> Result<(), All
 }
 
 /// Appends the row and the stage of an operation, and the units that it holds.
-fn push_slot(text: &mut Vec<u8>, solution: &Solution, op: usize) -> Result<(), AllocError>
+fn push_slot(text: &mut Vec<u8>, solution: &Solution, op: usize) -> Result<(), OutOfMemory>
     requires { op < length solution.now.problem.scheduling.operations }
     ensures ok { OnOk result (text.new.items ≡ text.old.items ++ slot_text solution.now op) }
 {
@@ -76,7 +75,7 @@ fn stage_of(solution: &Solution, op: usize) -> u64
 
 /// Appends the line of an operation.
 #[tactic(auto, unfolding(crate::specs::Operations::op_line))]
-fn push_op(text: &mut Vec<u8>, solution: &Solution, op: usize) -> Result<(), AllocError>
+fn push_op(text: &mut Vec<u8>, solution: &Solution, op: usize) -> Result<(), OutOfMemory>
     requires { op < length solution.now.problem.scheduling.operations }
     ensures ok { OnOk result (text.new.items ≡ text.old.items ++ op_line solution.now op) }
 {
@@ -87,7 +86,7 @@ fn push_op(text: &mut Vec<u8>, solution: &Solution, op: usize) -> Result<(), All
 }
 
 /// Appends the lines of all operations, in order.
-pub(crate) fn push_ops(text: &mut Vec<u8>, solution: &Solution) -> Result<(), AllocError>
+pub(crate) fn push_ops(text: &mut Vec<u8>, solution: &Solution) -> Result<(), OutOfMemory>
     ensures ok { OnOk result (text.new.items ≡ text.old.items ++ op_lines solution.now) }
 {
     for op in 0..solution.problem().scheduling().operations() {

@@ -7,12 +7,12 @@ use crate::files::{push_files, push_unroll};
 use crate::heads::push_head;
 use crate::operations::push_ops;
 use crate::values::{push_initials, push_values};
+use machine_data::OutOfMemory;
 use solutions::Solution;
-use std::alloc::AllocError;
 use writing::{Text, push_both, push_told};
 
 /// Appends the line that a solution begins with.
-fn push_first(text: &mut Vec<u8>, name: &str, solution: &Solution) -> Result<(), AllocError>
+fn push_first(text: &mut Vec<u8>, name: &str, solution: &Solution) -> Result<(), OutOfMemory>
     ensures ok { OnOk result (text.new.items ≡ text.old.items ++ solution_line name.now solution.now) }
 {
     push_both(text, "solution ", name)?;
@@ -23,7 +23,7 @@ fn push_first(text: &mut Vec<u8>, name: &str, solution: &Solution) -> Result<(),
 
 /// Appends the lines of a solution.
 #[tactic(auto, unfolding(crate::specs::Texts::solution_lines))]
-fn push_lines(text: &mut Vec<u8>, name: &str, solution: &Solution) -> Result<(), AllocError>
+fn push_lines(text: &mut Vec<u8>, name: &str, solution: &Solution) -> Result<(), OutOfMemory>
     ensures ok { OnOk result (text.new.items ≡ text.old.items ++ solution_lines name.now solution.now) }
 {
     push_first(text, name, solution)?;
@@ -39,13 +39,13 @@ fn push_lines(text: &mut Vec<u8>, name: &str, solution: &Solution) -> Result<(),
 /// A part of the problem that has no name is told by its number.
 ///
 /// # Errors
-/// [`AllocError`] where memory ran out. The text is left with a part of all that.
+/// [`OutOfMemory`] where memory ran out. The text is left with a part of all that.
 pub fn push_solution(
     text: &mut Vec<u8>,
     name: &str,
     notes: &[u8],
     solution: &Solution,
-) -> Result<(), AllocError>
+) -> Result<(), OutOfMemory>
     ensures ok { OnOk result (text.new.items ≡ text.old.items ++ solution_text name.now notes.now solution.now) }
 {
     push_head(text, name, notes, solution.problem())?;

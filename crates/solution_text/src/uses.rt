@@ -6,9 +6,9 @@ ghost use Rattle.solutions.specs.Solutions.{schedule_of};
 ghost use Rattle.solution_text.specs.Operations.{headed, read_text, reads_text, uses_text, write_text, writes_head, writes_text};
 
 use crate::named::{push_spaced, register_behind};
+use machine_data::OutOfMemory;
 use registers::Read;
 use solutions::Solution;
-use std::alloc::AllocError;
 use writing::Text;
 
 /// Appends the register that a read of an operation of this stage finds its value in; nothing of a read of another one.
@@ -18,7 +18,7 @@ fn push_read(
     op: usize,
     stage: u64,
     read: Read,
-) -> Result<(), AllocError>
+) -> Result<(), OutOfMemory>
     requires stage { stage ≡ stage_of (schedule_of solution.now) op }
     requires few { stage < 64 }
     requires value { read.value < length solution.now.problem.draft.values.items }
@@ -38,7 +38,7 @@ fn push_read_registers(
     solution: &Solution,
     op: usize,
     stage: u64,
-) -> Result<(), AllocError>
+) -> Result<(), OutOfMemory>
     requires stage { stage ≡ stage_of (schedule_of solution.now) op }
     requires few { stage < 64 }
     ensures ok { OnOk result (text.new.items ≡ text.old.items ++ reads_text solution.now op) }
@@ -57,7 +57,7 @@ fn push_write(
     op: usize,
     stage: u64,
     value: usize,
-) -> Result<(), AllocError>
+) -> Result<(), OutOfMemory>
     requires stage { stage ≡ stage_of (schedule_of solution.now) op }
     requires few { stage < 64 }
     requires there { value < length solution.now.problem.draft.values.items }
@@ -76,7 +76,7 @@ fn push_write_registers(
     solution: &Solution,
     op: usize,
     stage: u64,
-) -> Result<(), AllocError>
+) -> Result<(), OutOfMemory>
     requires stage { stage ≡ stage_of (schedule_of solution.now) op }
     requires few { stage < 64 }
     ensures ok { OnOk result (text.new.items ≡ text.old.items ++ writes_text solution.now op) }
@@ -102,7 +102,7 @@ fn push_reads(
     solution: &Solution,
     op: usize,
     stage: u64,
-) -> Result<(), AllocError>
+) -> Result<(), OutOfMemory>
     requires stage { stage ≡ stage_of (schedule_of solution.now) op }
     requires few { stage < 64 }
     ensures ok { OnOk result (text.new.items ≡ text.old.items ++ headed (codes "; reads") (reads_text solution.now op)) }
@@ -122,7 +122,7 @@ fn push_writes(
     op: usize,
     stage: u64,
     head: &str,
-) -> Result<(), AllocError>
+) -> Result<(), OutOfMemory>
     requires stage { stage ≡ stage_of (schedule_of solution.now) op }
     requires few { stage < 64 }
     ensures ok { OnOk result (text.new.items ≡ text.old.items ++ headed head.now (writes_text solution.now op)) }
@@ -148,7 +148,7 @@ pub(crate) fn push_uses(
     solution: &Solution,
     op: usize,
     stage: u64,
-) -> Result<(), AllocError>
+) -> Result<(), OutOfMemory>
     requires stage { stage ≡ stage_of (schedule_of solution.now) op }
     requires few { stage < 64 }
     ensures ok { OnOk result (text.new.items ≡ text.old.items ++ uses_text solution.now op) }

@@ -8,13 +8,13 @@ ghost use Rattle.solution_text.specs.Values.{initial_line, initial_lines, initia
 
 use crate::named::{push_register, register_behind};
 use crate::names::push_name;
+use machine_data::OutOfMemory;
 use problems::File;
 use solutions::Solution;
-use std::alloc::AllocError;
 use writing::{Text, push_told};
 
 /// Appends the file of a value and when the value lives.
-fn push_live(text: &mut Vec<u8>, solution: &Solution, value: usize) -> Result<(), AllocError>
+fn push_live(text: &mut Vec<u8>, solution: &Solution, value: usize) -> Result<(), OutOfMemory>
     requires { value < length solution.now.problem.draft.values.items }
     ensures ok { OnOk result (text.new.items ≡ text.old.items ++ live_text solution.now value) }
 {
@@ -31,7 +31,7 @@ fn push_allotted(
     solution: &Solution,
     value: usize,
     _registers: usize,
-) -> Result<(), AllocError>
+) -> Result<(), OutOfMemory>
     requires { value < length solution.now.problem.draft.values.items }
     ensures ok { OnOk result (text.new.items ≡ text.old.items ++ value_line_in solution.now value (Some (Rotating _registers))) }
 {
@@ -45,7 +45,7 @@ fn push_allotted(
 }
 
 /// Appends the line of a value of an unallotted file.
-fn push_unallotted(text: &mut Vec<u8>, solution: &Solution, value: usize) -> Result<(), AllocError>
+fn push_unallotted(text: &mut Vec<u8>, solution: &Solution, value: usize) -> Result<(), OutOfMemory>
     requires { value < length solution.now.problem.draft.values.items }
     ensures ok { OnOk result (text.new.items ≡ text.old.items ++ value_line_in solution.now value (Some Unallotted)) }
 {
@@ -60,7 +60,7 @@ fn push_unallotted(text: &mut Vec<u8>, solution: &Solution, value: usize) -> Res
 
 /// Appends the line of a value.
 #[tactic(auto, unfolding(crate::specs::Values::value_line))]
-fn push_value(text: &mut Vec<u8>, solution: &Solution, value: usize) -> Result<(), AllocError>
+fn push_value(text: &mut Vec<u8>, solution: &Solution, value: usize) -> Result<(), OutOfMemory>
     requires { value < length solution.now.problem.draft.values.items }
     ensures ok { OnOk result (text.new.items ≡ text.old.items ++ value_line solution.now value) }
 {
@@ -72,7 +72,7 @@ fn push_value(text: &mut Vec<u8>, solution: &Solution, value: usize) -> Result<(
 }
 
 /// Appends the lines of all values, in order.
-pub(crate) fn push_values(text: &mut Vec<u8>, solution: &Solution) -> Result<(), AllocError>
+pub(crate) fn push_values(text: &mut Vec<u8>, solution: &Solution) -> Result<(), OutOfMemory>
     ensures ok { OnOk result (text.new.items ≡ text.old.items ++ value_lines solution.now) }
 {
     for value in 0..solution.problem().draft().values.len() {
@@ -104,7 +104,7 @@ fn push_initial(
     solution: &Solution,
     value: usize,
     iterations: u64,
-) -> Result<(), AllocError>
+) -> Result<(), OutOfMemory>
     requires there { value < length solution.now.problem.draft.values.items }
     requires few { iterations ≤ 16 }
     ensures ok { OnOk result (text.new.items ≡ text.old.items ++ initial_line solution.now value iterations) }
@@ -123,7 +123,11 @@ fn push_initial(
 
 /// Appends the lines of the initial values of a value.
 #[tactic(auto, unfolding(crate::specs::Values::initials_of))]
-fn push_initials_of(text: &mut Vec<u8>, solution: &Solution, value: usize) -> Result<(), AllocError>
+fn push_initials_of(
+    text: &mut Vec<u8>,
+    solution: &Solution,
+    value: usize,
+) -> Result<(), OutOfMemory>
     requires { value < length solution.now.problem.draft.values.items }
     ensures ok { OnOk result (text.new.items ≡ text.old.items ++ initials_of solution.now value) }
 {
@@ -134,7 +138,7 @@ fn push_initials_of(text: &mut Vec<u8>, solution: &Solution, value: usize) -> Re
 }
 
 /// Appends the lines of all initial values, value by value.
-pub(crate) fn push_initials(text: &mut Vec<u8>, solution: &Solution) -> Result<(), AllocError>
+pub(crate) fn push_initials(text: &mut Vec<u8>, solution: &Solution) -> Result<(), OutOfMemory>
     ensures ok { OnOk result (text.new.items ≡ text.old.items ++ initial_lines solution.now) }
 {
     for value in 0..solution.problem().draft().values.len() {

@@ -8,10 +8,10 @@ ghost use Rattle.solution_text.specs.Verdicts.{breach_text, broken_line, broken_
 use crate::named::{Register, push_register};
 use crate::names::{push_op_name, push_unit_name, push_value_name};
 use graph::Edge;
+use machine_data::OutOfMemory;
 use modulo::Breach;
 use problems::Draft;
 use solutions::{Broken, Solution};
-use std::alloc::AllocError;
 use writing::{Text, push_both, push_signed, push_told};
 
 /// What a text of solutions lacks of a problem's solution. Numbers count from 0.
@@ -32,7 +32,7 @@ fn push_holders(
     earlier: usize,
     later: usize,
     unit: usize,
-) -> Result<(), AllocError>
+) -> Result<(), OutOfMemory>
     ensures ok { OnOk result (text.new.items ≡ text.old.items ++ holders_text draft.now earlier later unit) }
 {
     if earlier == later {
@@ -49,14 +49,14 @@ fn push_holders(
 }
 
 /// Appends the delay of an edge.
-fn push_delay(text: &mut Vec<u8>, delay: i8) -> Result<(), AllocError>
+fn push_delay(text: &mut Vec<u8>, delay: i8) -> Result<(), OutOfMemory>
     ensures ok { OnOk result (text.new.items ≡ text.old.items ++ told_signed (codes " with delay ") delay) }
 {
     push_signed(text, " with delay ", i64::from(delay))
 }
 
 /// Appends an edge.
-fn push_edge(text: &mut Vec<u8>, draft: &Draft, edge: Edge) -> Result<(), AllocError>
+fn push_edge(text: &mut Vec<u8>, draft: &Draft, edge: Edge) -> Result<(), OutOfMemory>
     ensures ok { OnOk result (text.new.items ≡ text.old.items ++ edge_text draft.now edge) }
 {
     push_op_name(text, draft, usize::from(edge.from))?;
@@ -67,7 +67,7 @@ fn push_edge(text: &mut Vec<u8>, draft: &Draft, edge: Edge) -> Result<(), AllocE
 }
 
 /// Appends by how many cycles an operation is too early.
-fn push_early(text: &mut Vec<u8>, cycles: u64) -> Result<(), AllocError>
+fn push_early(text: &mut Vec<u8>, cycles: u64) -> Result<(), OutOfMemory>
     ensures ok { OnOk result (text.new.items ≡ text.old.items ++ early_text cycles) }
 {
     push_told(text, ": ", cycles)?;
@@ -78,7 +78,7 @@ fn push_early(text: &mut Vec<u8>, cycles: u64) -> Result<(), AllocError>
 }
 
 /// Appends that the time of an operation is out of range.
-fn push_time(text: &mut Vec<u8>, draft: &Draft, op: usize) -> Result<(), AllocError>
+fn push_time(text: &mut Vec<u8>, draft: &Draft, op: usize) -> Result<(), OutOfMemory>
     ensures ok { OnOk result (text.new.items ≡ text.old.items ++ ((codes "the time of " ++ op_name draft.now op) ++ codes " is out of range")) }
 {
     text.push_piece("the time of ")?;
@@ -87,7 +87,7 @@ fn push_time(text: &mut Vec<u8>, draft: &Draft, op: usize) -> Result<(), AllocEr
 }
 
 /// Appends an operation, then what is wrong with it.
-fn push_wrong(text: &mut Vec<u8>, draft: &Draft, op: usize, wrong: &str) -> Result<(), AllocError>
+fn push_wrong(text: &mut Vec<u8>, draft: &Draft, op: usize, wrong: &str) -> Result<(), OutOfMemory>
     ensures ok { OnOk result (text.new.items ≡ text.old.items ++ (op_name draft.now op ++ wrong.now)) }
 {
     push_op_name(text, draft, op)?;
@@ -95,7 +95,7 @@ fn push_wrong(text: &mut Vec<u8>, draft: &Draft, op: usize, wrong: &str) -> Resu
 }
 
 /// Appends what places break, where they are no schedule.
-fn push_breach(text: &mut Vec<u8>, draft: &Draft, breach: Breach) -> Result<(), AllocError>
+fn push_breach(text: &mut Vec<u8>, draft: &Draft, breach: Breach) -> Result<(), OutOfMemory>
     ensures ok { OnOk result (text.new.items ≡ text.old.items ++ breach_text draft.now breach) }
 {
     match breach {
@@ -125,7 +125,7 @@ fn push_meeting(
     draft: &Draft,
     earlier: usize,
     later: usize,
-) -> Result<(), AllocError>
+) -> Result<(), OutOfMemory>
     ensures ok { OnOk result (text.new.items ≡ text.old.items ++ meeting_text draft.now earlier later) }
 {
     if earlier == later {
@@ -146,7 +146,7 @@ fn push_registers(
     later: usize,
     register: Register,
     cycle: u64,
-) -> Result<(), AllocError>
+) -> Result<(), OutOfMemory>
     ensures ok { OnOk result (text.new.items ≡ text.old.items ++ registers_text draft.now earlier later register cycle) }
 {
     push_meeting(text, draft, earlier, later)?;
@@ -156,7 +156,7 @@ fn push_registers(
 }
 
 /// Appends that the interval is out of range.
-fn push_interval(text: &mut Vec<u8>, ii: u64) -> Result<(), AllocError>
+fn push_interval(text: &mut Vec<u8>, ii: u64) -> Result<(), OutOfMemory>
     ensures ok { OnOk result (text.new.items ≡ text.old.items ++ (told (codes "interval ") ii ++ codes " is not 1 to 16384")) }
 {
     push_told(text, "interval ", ii)?;
@@ -164,7 +164,7 @@ fn push_interval(text: &mut Vec<u8>, ii: u64) -> Result<(), AllocError>
 }
 
 /// Appends that the number of a value is out of range.
-fn push_wrong_number(text: &mut Vec<u8>, draft: &Draft, value: usize) -> Result<(), AllocError>
+fn push_wrong_number(text: &mut Vec<u8>, draft: &Draft, value: usize) -> Result<(), OutOfMemory>
     ensures ok { OnOk result (text.new.items ≡ text.old.items ++ ((codes "the number of " ++ value_name draft.now value) ++ codes " is out of range")) }
 {
     text.push_piece("the number of ")?;
@@ -173,7 +173,7 @@ fn push_wrong_number(text: &mut Vec<u8>, draft: &Draft, value: usize) -> Result<
 }
 
 /// Appends what is broken.
-fn push_what(text: &mut Vec<u8>, draft: &Draft, ii: u64, broken: Broken) -> Result<(), AllocError>
+fn push_what(text: &mut Vec<u8>, draft: &Draft, ii: u64, broken: Broken) -> Result<(), OutOfMemory>
     ensures ok { OnOk result (text.new.items ≡ text.old.items ++ broken_text draft.now ii broken) }
 {
     match broken {
@@ -202,7 +202,7 @@ fn push_what(text: &mut Vec<u8>, draft: &Draft, ii: u64, broken: Broken) -> Resu
 }
 
 /// Appends that an operation has no time.
-fn push_no_time(text: &mut Vec<u8>, draft: &Draft, op: usize) -> Result<(), AllocError>
+fn push_no_time(text: &mut Vec<u8>, draft: &Draft, op: usize) -> Result<(), OutOfMemory>
     ensures ok { OnOk result (text.new.items ≡ text.old.items ++ (codes "no time of " ++ op_name draft.now op)) }
 {
     text.push_piece("no time of ")?;
@@ -210,7 +210,7 @@ fn push_no_time(text: &mut Vec<u8>, draft: &Draft, op: usize) -> Result<(), Allo
 }
 
 /// Appends that a value has no number.
-fn push_no_number(text: &mut Vec<u8>, draft: &Draft, value: usize) -> Result<(), AllocError>
+fn push_no_number(text: &mut Vec<u8>, draft: &Draft, value: usize) -> Result<(), OutOfMemory>
     ensures ok { OnOk result (text.new.items ≡ text.old.items ++ (codes "no number of " ++ value_name draft.now value)) }
 {
     text.push_piece("no number of ")?;
@@ -218,7 +218,7 @@ fn push_no_number(text: &mut Vec<u8>, draft: &Draft, value: usize) -> Result<(),
 }
 
 /// Appends what is missing.
-fn push_lacking(text: &mut Vec<u8>, draft: &Draft, missing: Missing) -> Result<(), AllocError>
+fn push_lacking(text: &mut Vec<u8>, draft: &Draft, missing: Missing) -> Result<(), OutOfMemory>
     ensures ok { OnOk result (text.new.items ≡ text.old.items ++ missing_text draft.now missing) }
 {
     match missing {
@@ -231,8 +231,8 @@ fn push_lacking(text: &mut Vec<u8>, draft: &Draft, missing: Missing) -> Result<(
 /// Appends the line of a problem whose solution is one: its interval in cycles, and its stages.
 ///
 /// # Errors
-/// [`AllocError`] where memory ran out. The text is left with a part of the line.
-pub fn push_ok(text: &mut Vec<u8>, name: &str, solution: &Solution) -> Result<(), AllocError>
+/// [`OutOfMemory`] where memory ran out. The text is left with a part of the line.
+pub fn push_ok(text: &mut Vec<u8>, name: &str, solution: &Solution) -> Result<(), OutOfMemory>
     ensures ok { OnOk result (text.new.items ≡ text.old.items ++ ok_line name.now solution.now) }
 {
     text.push_piece(name)?;
@@ -245,14 +245,14 @@ pub fn push_ok(text: &mut Vec<u8>, name: &str, solution: &Solution) -> Result<()
 /// problem that has no name is told by its number.
 ///
 /// # Errors
-/// [`AllocError`] where memory ran out. The text is left with a part of the line.
+/// [`OutOfMemory`] where memory ran out. The text is left with a part of the line.
 pub fn push_broken(
     text: &mut Vec<u8>,
     name: &str,
     draft: &Draft,
     ii: u64,
     broken: Broken,
-) -> Result<(), AllocError>
+) -> Result<(), OutOfMemory>
     ensures ok { OnOk result (text.new.items ≡ text.old.items ++ broken_line name.now (broken_text draft.now ii broken)) }
 {
     push_both(text, name, " broken: ")?;
@@ -264,13 +264,13 @@ pub fn push_broken(
 /// has no name is told by its number.
 ///
 /// # Errors
-/// [`AllocError`] where memory ran out. The text is left with a part of the line.
+/// [`OutOfMemory`] where memory ran out. The text is left with a part of the line.
 pub fn push_missing(
     text: &mut Vec<u8>,
     name: &str,
     draft: &Draft,
     missing: Missing,
-) -> Result<(), AllocError>
+) -> Result<(), OutOfMemory>
     ensures ok { OnOk result (text.new.items ≡ text.old.items ++ broken_line name.now (missing_text draft.now missing)) }
 {
     push_both(text, name, " broken: ")?;

@@ -4,6 +4,7 @@ ghost use Rattle.std.specs.Prelude.{◌≤◌, ◌<◌, ◌+◌, vec_len, IfOk, 
 ghost use Rattle.ims.specs.Problems.{mii_of};
 ghost use Rattle.variants.specs.Intervals.{IsIntervalOf};
 ghost use Rattle.variants.specs.inner.Tries.{AreTries, IsCovered, IsFailing, IsGiving, with_registers};
+ghost use Rattle.machine_data.specs.declared.limits.TheConstants.{MAX_REGISTERS};
 
 use crate::tries::{add_try, gives};
 use ims::{Prepared, Try};
@@ -19,7 +20,7 @@ fn gives_above<'a>(
     registers: u16,
 ) -> Result<bool, OutOfMemory>
     requires some { 1 ≤ registers }
-    requires few { registers ≤ 256 }
+    requires few { registers ≤ MAX_REGISTERS }
     requires above { above ≤ prepared.now.ceiling }
     requires next { above ≤ vec_len tries.old }
     requires are { AreTries prepared.now tries.old.items }
@@ -39,7 +40,7 @@ pub(crate) fn interval_with<'a>(
     registers: u16,
 ) -> Result<Option<u64>, OutOfMemory>
     requires some { 1 ≤ registers }
-    requires few { registers ≤ 256 }
+    requires few { registers ≤ MAX_REGISTERS }
     requires are { AreTries prepared.now tries.old.items }
     ensures are { AreTries prepared.now tries.new.items }
     ensures there { IfOk result (λ interval. IsCovered prepared.now interval (vec_len tries.new)) }

@@ -4,6 +4,7 @@ ghost use Rattle.std.specs.Prelude.{◌≤◌, ◌<◌, ◌+◌, ℕ, length, So
 ghost use Rattle.ims.specs.Problems.{mii_of};
 ghost use Rattle.variants.specs.Intervals.{IsIntervalOf, IsLeastNumber};
 ghost use Rattle.variants.specs.inner.Tries.{AreFailing, AreTries, IsGiving, IsOn, with_registers};
+ghost use Rattle.machine_data.specs.declared.limits.TheConstants.{MAX_REGISTERS};
 
 use crate::tries::gives;
 use ims::{Prepared, Try};
@@ -19,7 +20,7 @@ fn some_gives(
     registers: u16,
 ) -> Result<bool, OutOfMemory>
     requires some { 1 ≤ registers }
-    requires few { registers ≤ 256 }
+    requires few { registers ≤ MAX_REGISTERS }
     requires are { AreTries prepared.now tries.now }
     requires count { count ≤ length tries.now }
     ensures { IfOk result (λ some. MatchBool some ((above : ℕ) × (above < count) × IsGiving (with_registers registers prepared.now) (mii_of prepared.now + above)) (AreFailing (with_registers registers prepared.now) count)) }
@@ -46,7 +47,7 @@ fn has_interval(
     registers: u16,
 ) -> Result<bool, OutOfMemory>
     requires some { 1 ≤ registers }
-    requires few { registers ≤ 256 }
+    requires few { registers ≤ MAX_REGISTERS }
     requires are { AreTries prepared.now tries.now }
     requires there { above < length tries.now }
     requires within { above ≤ prepared.now.ceiling }

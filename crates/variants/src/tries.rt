@@ -4,6 +4,7 @@ ghost use Rattle.std.specs.Prelude.{◌≡◌, ◌≤◌, ◌<◌, ℕ, vec_len,
 ghost use Rattle.ims.specs.Attempts.{AnswersAttempt};
 ghost use Rattle.ims.specs.Problems.{ProblemData, IsProblem, budget_of};
 ghost use Rattle.variants.specs.inner.Tries.{AreTries, IsFailing, IsGiving, with_registers};
+ghost use Rattle.machine_data.specs.declared.limits.TheConstants.{MAX_REGISTERS};
 
 use ims::{Prepared, Try, attempt};
 use machine_data::OutOfMemory;
@@ -46,7 +47,7 @@ pub(crate) fn add_try<'a>(
 /// Whether an attempt gives a kernel with `registers` registers, 1 to 256.
 pub(crate) fn gives(alloc: Global, made: &Try, registers: u16) -> Result<bool, OutOfMemory>
     requires some { 1 ≤ registers }
-    requires few { registers ≤ 256 }
+    requires few { registers ≤ MAX_REGISTERS }
     ensures { (problem : ProblemData) (ii : ℕ) → AnswersAttempt problem ii (budget_of problem) made.now → IfOk result (λ gives. MatchBool gives (IsGiving (with_registers registers problem) ii) (IsFailing (with_registers registers problem) ii)) }
 {
     match made {

@@ -8,6 +8,7 @@ ghost use Rattle.machine_variants.specs.declared.variant.Variant.{Variant};
 ghost use Rattle.machine_variants.specs.Variants.{IsVariantOf};
 ghost use Rattle.variants.specs.Intervals.{IsFinding, IsIntervalOn, IsStanding};
 ghost use Rattle.variants.specs.inner.Tries.{AreTries, IsOn, found_of};
+ghost use Rattle.machine_data.specs.declared.limits.TheConstants.{MAX_REGISTERS};
 
 use crate::finding::{Finding, Standing};
 use crate::intervals::{interval_of, interval_with};
@@ -16,7 +17,7 @@ use graph::GraphFault;
 use ims::{Prepared, Try};
 use machine_data::{Machine, Opcode, OutOfMemory};
 use machine_variants::{Variant, copied_loop, doubled, shortened};
-use std::alloc::{AllocError, Global};
+use std::alloc::Global;
 
 /// What a loop has on the machine as it is.
 pub(crate) fn standing_of<'a>(
@@ -59,7 +60,7 @@ fn interval_on(
     ) {
         Ok(prepared) => interval_of(alloc, &prepared),
         Err(GraphFault::NoTable(_)) => unreachable!(),
-        Err(GraphFault::Memory) => Err(AllocError),
+        Err(GraphFault::Memory) => Err(std::alloc::AllocError),
     }
 }
 
@@ -113,7 +114,7 @@ fn finding_with<'a>(
     registers: u16,
 ) -> Result<Finding, OutOfMemory>
     requires some { 1 ≤ registers }
-    requires few { registers ≤ 256 }
+    requires few { registers ≤ MAX_REGISTERS }
     requires on { IsOn machine.now prepared.now }
     requires are { AreTries prepared.now tries.old.items }
     ensures are { AreTries prepared.now tries.new.items }

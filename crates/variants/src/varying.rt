@@ -12,15 +12,20 @@ use file_faults::FileFault;
 use ims::Prepared;
 use loops::Loop;
 use machine::Machine;
+use machine_data::OutOfMemory;
 use machine_variants::variants_of;
 use one_thread::prepare_all;
 use printouts::Printout;
 use settings::Settings;
-use std::alloc::{AllocError, Global};
+use std::alloc::Global;
 use writing::push_last;
 
 /// What is told of prepared loops.
-fn printout_of(alloc: Global, machine: &Machine, loops: &[Prepared]) -> Result<Printout, AllocError>
+fn printout_of(
+    alloc: Global,
+    machine: &Machine,
+    loops: &[Prepared],
+) -> Result<Printout, OutOfMemory>
     requires { All (IsOn machine.now) loops.now }
     ensures { IfOk result (IsTextOf machine.now loops.now) }
 {

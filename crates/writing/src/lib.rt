@@ -10,3 +10,6 @@ pub use parts::{
     push_at, push_both, push_integer, push_number, push_signed, push_told, push_with_sign,
 };
 pub use text::Text;
+
+/// The only error of calls that fail for lack of memory alone.
+pub type OutOfMemory = std::alloc::AllocError;

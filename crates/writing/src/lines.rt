@@ -4,15 +4,15 @@ ghost use Rattle.std.specs.Prelude.{◌≡◌, ◌++◌, OnOk, OnErr};
 ghost use Rattle.writing.specs.Words.{ended, last_line};
 ghost use Rattle.writing.specs.Texts.{HasPart};
 
+use crate::OutOfMemory;
 use crate::parts::{push_both, push_told};
 use crate::text::Text;
-use std::alloc::AllocError;
 
 /// Pushes a piece and a line feed.
 ///
 /// # Errors
-/// [`AllocError`] where memory ran out. The text has the beginning of both after it, or nothing of them.
-pub fn push_line<T: Text>(text: &mut T, piece: &str) -> Result<(), AllocError>
+/// [`OutOfMemory`] where memory ran out. The text has the beginning of both after it, or nothing of them.
+pub fn push_line<T: Text>(text: &mut T, piece: &str) -> Result<(), OutOfMemory>
     ensures ok { OnOk result (T.bytes text.new ≡ T.bytes text.old ++ ended piece.now) }
     ensures err { OnErr result (HasPart (T.bytes text.old) (ended piece.now) (T.bytes text.new)) }
 {
@@ -23,14 +23,14 @@ pub fn push_line<T: Text>(text: &mut T, piece: &str) -> Result<(), AllocError>
 /// have failed.
 ///
 /// # Errors
-/// [`AllocError`] where memory ran out. The text has the beginning of the line after it, or nothing of it.
+/// [`OutOfMemory`] where memory ran out. The text has the beginning of the line after it, or nothing of it.
 pub fn push_last<T: Text>(
     text: &mut T,
     word: &str,
     all: u64,
     met: u64,
     failed: u64,
-) -> Result<(), AllocError>
+) -> Result<(), OutOfMemory>
     ensures ok { OnOk result (T.bytes text.new ≡ T.bytes text.old ++ last_line word.now all met failed) }
     ensures err { OnErr result (HasPart (T.bytes text.old) (last_line word.now all met failed) (T.bytes text.new)) }
 {

@@ -5,15 +5,15 @@ ghost use Rattle.std.specs.Fmt.{signed_decimal};
 ghost use Rattle.writing.specs.Words.{at, told, told_signed, with_sign};
 ghost use Rattle.writing.specs.Texts.{HasPart};
 
+use crate::OutOfMemory;
 use crate::text::Text;
 use itoa::Buffer;
-use std::alloc::AllocError;
 
 /// Pushes two pieces.
 ///
 /// # Errors
-/// [`AllocError`] where memory ran out. The text has the beginning of both after it, or nothing of them.
-pub fn push_both<T: Text>(text: &mut T, first: &str, second: &str) -> Result<(), AllocError>
+/// [`OutOfMemory`] where memory ran out. The text has the beginning of both after it, or nothing of them.
+pub fn push_both<T: Text>(text: &mut T, first: &str, second: &str) -> Result<(), OutOfMemory>
     ensures ok { OnOk result (T.bytes text.new ≡ T.bytes text.old ++ (first.now ++ second.now)) }
     ensures err { OnErr result (HasPart (T.bytes text.old) (first.now ++ second.now) (T.bytes text.new)) }
 {
@@ -24,8 +24,8 @@ pub fn push_both<T: Text>(text: &mut T, first: &str, second: &str) -> Result<(),
 /// Pushes a number in decimal digits.
 ///
 /// # Errors
-/// [`AllocError`] where memory ran out. The text is what it was.
-pub fn push_number<T: Text>(text: &mut T, number: u64) -> Result<(), AllocError>
+/// [`OutOfMemory`] where memory ran out. The text is what it was.
+pub fn push_number<T: Text>(text: &mut T, number: u64) -> Result<(), OutOfMemory>
     ensures ok { OnOk result (T.bytes text.new ≡ T.bytes text.old ++ decimal number) }
     ensures err { OnErr result (T.bytes text.new ≡ T.bytes text.old) }
 {
@@ -67,7 +67,7 @@ fn two_digits(number: u64) -> &'static str
 /// Pushes a number of any length. Kept out of [`push_number`], which is short without it.
 #[cold]
 #[inline(never)]
-fn push_long<T: Text>(text: &mut T, number: u64) -> Result<(), AllocError>
+fn push_long<T: Text>(text: &mut T, number: u64) -> Result<(), OutOfMemory>
     ensures ok { OnOk result (T.bytes text.new ≡ T.bytes text.old ++ decimal number) }
     ensures err { OnErr result (T.bytes text.new ≡ T.bytes text.old) }
 {
@@ -78,8 +78,8 @@ fn push_long<T: Text>(text: &mut T, number: u64) -> Result<(), AllocError>
 /// Pushes a number in decimal digits, after a `-` where it is negative.
 ///
 /// # Errors
-/// [`AllocError`] where memory ran out. The text is what it was.
-pub fn push_integer<T: Text>(text: &mut T, number: i64) -> Result<(), AllocError>
+/// [`OutOfMemory`] where memory ran out. The text is what it was.
+pub fn push_integer<T: Text>(text: &mut T, number: i64) -> Result<(), OutOfMemory>
     ensures ok { OnOk result (T.bytes text.new ≡ T.bytes text.old ++ signed_decimal number) }
     ensures err { OnErr result (T.bytes text.new ≡ T.bytes text.old) }
 {
@@ -90,8 +90,8 @@ pub fn push_integer<T: Text>(text: &mut T, number: i64) -> Result<(), AllocError
 /// Pushes a word, then a number.
 ///
 /// # Errors
-/// [`AllocError`] where memory ran out. The text has the beginning of both after it, or nothing of them.
-pub fn push_told<T: Text>(text: &mut T, word: &str, number: u64) -> Result<(), AllocError>
+/// [`OutOfMemory`] where memory ran out. The text has the beginning of both after it, or nothing of them.
+pub fn push_told<T: Text>(text: &mut T, word: &str, number: u64) -> Result<(), OutOfMemory>
     ensures ok { OnOk result (T.bytes text.new ≡ T.bytes text.old ++ told word.now number) }
     ensures err { OnErr result (HasPart (T.bytes text.old) (told word.now number) (T.bytes text.new)) }
 {
@@ -102,8 +102,8 @@ pub fn push_told<T: Text>(text: &mut T, word: &str, number: u64) -> Result<(), A
 /// Pushes a word, then a number that may be negative.
 ///
 /// # Errors
-/// [`AllocError`] where memory ran out. The text has the beginning of both after it, or nothing of them.
-pub fn push_signed<T: Text>(text: &mut T, word: &str, number: i64) -> Result<(), AllocError>
+/// [`OutOfMemory`] where memory ran out. The text has the beginning of both after it, or nothing of them.
+pub fn push_signed<T: Text>(text: &mut T, word: &str, number: i64) -> Result<(), OutOfMemory>
     ensures ok { OnOk result (T.bytes text.new ≡ T.bytes text.old ++ told_signed word.now number) }
     ensures err { OnErr result (HasPart (T.bytes text.old) (told_signed word.now number) (T.bytes text.new)) }
 {
@@ -114,8 +114,8 @@ pub fn push_signed<T: Text>(text: &mut T, word: &str, number: i64) -> Result<(),
 /// Pushes a number after its sign, also where it isn't negative.
 ///
 /// # Errors
-/// [`AllocError`] where memory ran out. The text has the beginning of both after it, or nothing of them.
-pub fn push_with_sign<T: Text>(text: &mut T, number: i64) -> Result<(), AllocError>
+/// [`OutOfMemory`] where memory ran out. The text has the beginning of both after it, or nothing of them.
+pub fn push_with_sign<T: Text>(text: &mut T, number: i64) -> Result<(), OutOfMemory>
     ensures ok { OnOk result (T.bytes text.new ≡ T.bytes text.old ++ with_sign number) }
     ensures err { OnErr result (HasPart (T.bytes text.old) (with_sign number) (T.bytes text.new)) }
 {
@@ -126,8 +126,8 @@ pub fn push_with_sign<T: Text>(text: &mut T, number: i64) -> Result<(), AllocErr
 /// Pushes a name and, where the number isn't 0, an `@`, then the number.
 ///
 /// # Errors
-/// [`AllocError`] where memory ran out. The text has the beginning of all after it, or nothing of it.
-pub fn push_at<T: Text>(text: &mut T, name: &str, number: u64) -> Result<(), AllocError>
+/// [`OutOfMemory`] where memory ran out. The text has the beginning of all after it, or nothing of it.
+pub fn push_at<T: Text>(text: &mut T, name: &str, number: u64) -> Result<(), OutOfMemory>
     ensures ok { OnOk result (T.bytes text.new ≡ T.bytes text.old ++ at name.now number) }
     ensures err { OnErr result (HasPart (T.bytes text.old) (at name.now number) (T.bytes text.new)) }
 {

@@ -2,7 +2,7 @@
 
 ghost use Rattle.std.specs.Prelude.{◌≡◌, ℕ, List, ◌++◌, OnOk, OnErr};
 
-use std::alloc::AllocError;
+use crate::OutOfMemory;
 
 /// A text that grows. Contracts see its bytes.
 pub trait Text {
@@ -12,8 +12,8 @@ pub trait Text {
     /// Pushes a piece after the text.
     ///
     /// # Errors
-    /// [`AllocError`] where memory ran out. The text is what it was.
-    fn push_piece(&mut self, piece: &str) -> Result<(), AllocError>
+    /// [`OutOfMemory`] where memory ran out. The text is what it was.
+    fn push_piece(&mut self, piece: &str) -> Result<(), OutOfMemory>
         ensures ok { OnOk result (bytes self.new ≡ bytes self.old ++ piece.now) }
         ensures err { OnErr result (bytes self.new ≡ bytes self.old) };
 }
@@ -23,7 +23,7 @@ impl Text for String {
 
     ghost bytes = { λ s. string_bytes s };
 
-    fn push_piece(&mut self, piece: &str) -> Result<(), AllocError> {
+    fn push_piece(&mut self, piece: &str) -> Result<(), OutOfMemory> {
         self.push_str(piece)
     }
 }
@@ -31,7 +31,7 @@ impl Text for String {
 impl Text for Vec<u8> {
     ghost bytes = { λ v. v.items };
 
-    fn push_piece(&mut self, piece: &str) -> Result<(), AllocError> {
+    fn push_piece(&mut self, piece: &str) -> Result<(), OutOfMemory> {
         self.extend_from_slice(piece.as_bytes())
     }
 }

@@ -1,13 +1,14 @@
 //! A small problem, and drafts with one fault each.
 
 use graph::Edge;
+use machine_data::OutOfMemory;
 use problems::{
     Draft, Fault, File, Hold, Kind, Label, Names, Order, Part, Problem, Value, first_fault,
 };
 use registers::Read;
 use settings::Settings;
 use smallvec::SmallVec;
-use std::alloc::{AllocError, Global};
+use std::alloc::Global;
 use std::test::Fail;
 
 /// The parts of a draft.
@@ -99,7 +100,7 @@ fn empty(alloc: Global) -> Draft {
 }
 
 /// A kind of operations.
-fn kind(alloc: Global, latency: u64, tables: &[&[Hold]]) -> Result<Kind, AllocError> {
+fn kind(alloc: Global, latency: u64, tables: &[&[Hold]]) -> Result<Kind, OutOfMemory> {
     let mut alternatives = SmallVec::new(alloc);
     for rows in tables {
         alternatives.push(SmallVec::from_slice(alloc, rows)?)?;
@@ -122,7 +123,7 @@ fn add_named(alloc: Global, draft: &mut Draft, parts: &Parts<'_>) -> Result<(), 
 }
 
 /// Adds the lists of numbers to a draft.
-fn add_lists(draft: &mut Draft, parts: &Parts<'_>) -> Result<(), AllocError> {
+fn add_lists(draft: &mut Draft, parts: &Parts<'_>) -> Result<(), OutOfMemory> {
     draft.files.extend_from_slice(parts.files)?;
     draft.operations.extend_from_slice(parts.operations)?;
     draft.values.extend_from_slice(parts.values)?;

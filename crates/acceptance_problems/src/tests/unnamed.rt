@@ -4,6 +4,7 @@
 //! and two iterations later the value 2, which the operation 0 makes too, in a file that is not allotted. `tests/sessions/solutions.session` has the same problem with names.
 
 use graph::Edge;
+use machine_data::OutOfMemory;
 use modulo::{Breach, Culprit};
 use outcome_text::push_outcome;
 use problem_graphs::push_edges;
@@ -12,7 +13,7 @@ use problems::{Draft, Names, Problem};
 use settings::Settings;
 use solution_text::{Missing, push_broken, push_failed, push_missing};
 use solutions::{Broken, Cause};
-use std::alloc::{AllocError, Global};
+use std::alloc::Global;
 use std::test::Fail;
 
 const TEXT: &[u8] = b"machine m
@@ -89,7 +90,7 @@ fn edges_and_a_solution(rt: HostRuntime) -> Result<(), Fail> {
 }
 
 /// Appends what is told for some causes, with culprits and without one.
-fn push_failures(alloc: Global, text: &mut Vec<u8>, problem: &Problem) -> Result<(), AllocError> {
+fn push_failures(alloc: Global, text: &mut Vec<u8>, problem: &Problem) -> Result<(), OutOfMemory> {
     let blocked = Culprit::Blocked(1);
     push_failed(text, "a", b"", problem, Cause::Table, Some(&blocked))?;
     let late = Culprit::Late(0, 450);
@@ -180,7 +181,7 @@ const BROKEN: &[Broken] = &[
 const MISSING: &[Missing] = &[Missing::Solution, Missing::Time(1), Missing::Number(2)];
 
 /// Appends the lines of all that, for an interval that is one too long.
-fn push_verdicts(text: &mut Vec<u8>, draft: &Draft) -> Result<(), AllocError> {
+fn push_verdicts(text: &mut Vec<u8>, draft: &Draft) -> Result<(), OutOfMemory> {
     for broken in BROKEN {
         push_broken(text, "sum", draft, 16385, *broken)?;
     }

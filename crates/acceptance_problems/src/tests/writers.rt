@@ -1,11 +1,11 @@
-use std::alloc::AllocError;
+use machine_data::OutOfMemory;
 use writing::{
     Text, push_at, push_both, push_integer, push_last, push_line, push_number, push_signed,
     push_told, push_with_sign,
 };
 
 /// Each call once after `a`, onto one text.
-fn push_all<T: Text>(text: &mut T) -> Result<(), AllocError> {
+fn push_all<T: Text>(text: &mut T) -> Result<(), OutOfMemory> {
     text.push_piece("a")?;
     push_both(text, "b", " c")?;
     push_number(text, 18446744073709551615)?;

@@ -7,8 +7,9 @@ use super::{found, is_found};
 use ims::Prepared;
 use loops::read_loops;
 use machine::{Machine, read_machine};
+use machine_data::OutOfMemory;
 use mrt::{MaskTable, OwnerTable, TimelineTable};
-use std::alloc::{AllocError, Global};
+use std::alloc::Global;
 use std::process::Abort;
 use std::test::Fail;
 use worked_texts::{CLUSTERED, FEW, GALLERY_LOOPS, LOOPS, MACHINES, SMALL_DSP, WIDE};
@@ -101,7 +102,7 @@ impl Draws {
 }
 
 /// A statement that gives a value of those before it.
-fn statement(alloc: Global, draws: &mut Draws, number: u64) -> Result<String, AllocError>
+fn statement(alloc: Global, draws: &mut Draws, number: u64) -> Result<String, OutOfMemory>
     requires { 0 < number }
 {
     let first = draws.below(number);
@@ -115,7 +116,7 @@ fn statement(alloc: Global, draws: &mut Draws, number: u64) -> Result<String, Al
 }
 
 /// A loop of `count` values and a store, in the manner of the benchmarks.
-fn made(alloc: Global, seed: u64, count: u64) -> Result<String, AllocError>
+fn made(alloc: Global, seed: u64, count: u64) -> Result<String, OutOfMemory>
     requires { 0 < count }
 {
     let mut draws = Draws { last: seed };

@@ -51,6 +51,10 @@ const LINES: &[(&[&str], &str)] = &[
         "Loops { loops: \"l\", work: OnMachine { machine: \"m\", task: Search(Settings { ratio: 6, ceiling: 32, workers: 1, cut: 256 }, Explain) } }",
     ),
     (
+        &["vary", "m", "--ratio", "3", "l"],
+        "Loops { loops: \"l\", work: OnMachine { machine: \"m\", task: Search(Settings { ratio: 3, ceiling: 32, workers: 4, cut: 4 }, Vary) } }",
+    ),
+    (
         &["run", "--ceiling", "0", "m", "--trip", "+7", "--", "l"],
         "Loops { loops: \"l\", work: OnMachine { machine: \"m\", task: Search(Settings { ratio: 6, ceiling: 0, workers: 4, cut: 4 }, Run(7)) } }",
     ),
@@ -73,6 +77,15 @@ const LINES: &[(&[&str], &str)] = &[
             "json",
         ],
         "Solve { problems: \"p\", settings: Settings { ratio: 2, ceiling: 0, workers: 1, cut: 256 }, format: Json }",
+    ),
+    (&["lint", "l"], "Lint(Loops { loops: \"l\" })"),
+    (
+        &["lint", "m", "l"],
+        "Lint(Both { machine: \"m\", loops: \"l\" })",
+    ),
+    (
+        &["lint", "--machine-only", "m"],
+        "Lint(Machine { machine: \"m\" })",
     ),
     (
         &["check", "--", "check", "--cut"],

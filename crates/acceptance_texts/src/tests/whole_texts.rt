@@ -6,12 +6,13 @@ use devices::{
     Bytes, FaultyInput, FaultyOutput, FileInput, Input, Output, ReadTextError, TakenBytes,
     read_text, read_text_of, write_text,
 };
-use std::alloc::{AllocError, Global};
+use machine::OutOfMemory;
+use std::alloc::Global;
 use std::process::Abort;
 use std::test::Fail;
 
 // bytes of which neighbours differ
-fn pattern(alloc: Global, len: usize) -> Result<Vec<u8>, AllocError> {
+fn pattern(alloc: Global, len: usize) -> Result<Vec<u8>, OutOfMemory> {
     let mut bytes = Vec::with_capacity(alloc, len)?;
     for i in 0..len {
         bytes.push((i % 251) as u8)?;

@@ -1,21 +1,22 @@
 //! The form of the command line: its subcommands, their arguments and options.
 
 ghost use Rattle.std.specs.Prelude.{◌≡◌, codes, false, IfOk};
-ghost use Rattle.clap.specs.Words.{app_of, new_app, new_rule, rule_of};
+ghost use Rattle.clap.specs.Words.{app_of, new_app, rule_of};
 ghost use Rattle.clap.specs.declared.builder.command.Command.TheViews.{out-Command};
-ghost use Rattle.command_line.specs.Lines.{program_line, bare_line, with_kernels, with_reports, with_problems, plain_line, search_line, explain_line, either_line, run_line, solve_line, check_line, with_paths, with_search, path_rule, trip_rule, option_rule, ratio_rule, ceiling_rule, workers_rule, cut_rule, format_rule};
+ghost use Rattle.command_line.specs.Lines.{program_line, bare_line, with_kernels, with_reports, with_problems, plain_line, search_line, explain_line, either_line, run_line, lint_line, solve_line, check_line, with_paths, with_search, path_rule, spare_rule, machine_only_rule, trip_rule, option_rule, ratio_rule, ceiling_rule, workers_rule, cut_rule, format_rule};
 ghost use Rattle.command_line.specs.inner.Made.{IsAdded};
 
 use crate::help;
 use clap::builder::ValueParser;
-use clap::{Arg, Command};
+use clap::{Arg, ArgAction, Command};
+use machine_data::OutOfMemory;
 use machine_data::limits::{MAX_CEILING, MAX_CUT, MAX_RATIO, MAX_TRIP, MAX_WORKERS};
-use std::alloc::{AllocError, Global};
+use std::alloc::Global;
 
 const VERSION: &str = "0.1.0";
 
 /// The line of the program, without its own name.
-pub(super) fn program<'a>(alloc: Global) -> Result<Command<'a>, AllocError>
+pub(super) fn program<'a>(alloc: Global) -> Result<Command<'a>, OutOfMemory>
     ensures { IfOk result (λ c. app_of c ≡ program_line) }
 {
     let command = with_kernels(alloc, bare_program(alloc)?)?;
@@ -23,7 +24,7 @@ pub(super) fn program<'a>(alloc: Global) -> Result<Command<'a>, AllocError>
 }
 
 // The line of the program without a subcommand.
-fn bare_program<'a>(alloc: Global) -> Result<Command<'a>, AllocError>
+fn bare_program<'a>(alloc: Global) -> Result<Command<'a>, OutOfMemory>
     ensures { IfOk result (λ c. app_of c ≡ bare_line) }
 {
     let command = Command::new(alloc, "modsched")
@@ -39,21 +40,22 @@ fn bare_program<'a>(alloc: Global) -> Result<Command<'a>, AllocError>
 }
 
 // A line with the subcommands that look for kernels.
-fn with_kernels<'a>(alloc: Global, command: Command<'a>) -> Result<Command<'a>, AllocError>
+fn with_kernels<'a>(alloc: Global, command: Command<'a>) -> Result<Command<'a>, OutOfMemory>
     ensures { IfOk result (λ c. app_of c ≡ with_kernels (app_of command.entry)) }
 {
     use help::{JSON_ABOUT, JSON_LONG_ABOUT};
-    use help::{SCHEDULE_ABOUT, SCHEDULE_LONG_ABOUT};
+    use help::{SCHEDULE_ABOUT, SCHEDULE_LONG_ABOUT, VARY_ABOUT, VARY_LONG_ABOUT};
     let made = search(alloc, "schedule", SCHEDULE_ABOUT, SCHEDULE_LONG_ABOUT);
     let command = add(command, made)?;
     let command = add(command, run(alloc))?;
     let made = search(alloc, "json", JSON_ABOUT, JSON_LONG_ABOUT);
     let command = add(command, made)?;
-    add(command, explain(alloc))
+    let command = add(command, explain(alloc))?;
+    add(command, search(alloc, "vary", VARY_ABOUT, VARY_LONG_ABOUT))
 }
 
 // A line with those that look for none.
-fn with_reports<'a>(alloc: Global, command: Command<'a>) -> Result<Command<'a>, AllocError>
+fn with_reports<'a>(alloc: Global, command: Command<'a>) -> Result<Command<'a>, OutOfMemory>
     ensures { IfOk result (λ c. app_of c ≡ with_reports (app_of command.entry)) }
 {
     use help::{BOUNDS_ABOUT, BOUNDS_LONG_ABOUT, DOT_ABOUT, DOT_LONG_ABOUT};
@@ -64,11 +66,12 @@ fn with_reports<'a>(alloc: Global, command: Command<'a>) -> Result<Command<'a>, 
     let command = add(command, made)?;
     let made = over_either(alloc, "dot", DOT_ABOUT, DOT_LONG_ABOUT);
     let command = add(command, made)?;
-    add(command, plain(alloc))
+    let command = add(command, plain(alloc))?;
+    add(command, lint(alloc))
 }
 
 // A line with those that take problems.
-fn with_problems<'a>(alloc: Global, command: Command<'a>) -> Result<Command<'a>, AllocError>
+fn with_problems<'a>(alloc: Global, command: Command<'a>) -> Result<Command<'a>, OutOfMemory>
     ensures { IfOk result (λ c. app_of c ≡ with_problems (app_of command.entry)) }
 {
     let command = add(command, solve(alloc))?;
@@ -79,8 +82,8 @@ fn with_problems<'a>(alloc: Global, command: Command<'a>) -> Result<Command<'a>,
 // after each `?`.
 fn add<'a>(
     command: Command<'a>,
-    made: Result<Command<'a>, AllocError>,
-) -> Result<Command<'a>, AllocError>
+    made: Result<Command<'a>, OutOfMemory>,
+) -> Result<Command<'a>, OutOfMemory>
     ensures { IfOk result (λ c. IsAdded command.entry made.entry c) }
 {
     command.subcommand(made?)
@@ -103,7 +106,7 @@ fn over_files<'a>(
     name: &'a str,
     about: &'a str,
     long_about: &'a str,
-) -> Result<Command<'a>, AllocError>
+) -> Result<Command<'a>, OutOfMemory>
     ensures app { IfOk result (λ c. app_of c ≡ with_paths name.entry.now) }
     ensures local { IfOk result (λ c. (out-Command c).has_globals ≡ false) }
 {
@@ -118,17 +121,28 @@ fn over_either<'a>(
     name: &'a str,
     about: &'a str,
     long_about: &'a str,
-) -> Result<Command<'a>, AllocError>
+) -> Result<Command<'a>, OutOfMemory>
     ensures app { IfOk result (λ c. app_of c ≡ either_line name.entry.now) }
     ensures local { IfOk result (λ c. (out-Command c).has_globals ≡ false) }
 {
     bare(alloc, name, about, long_about)
         .arg(machine_or_problems(alloc))?
-        .arg(spare_loops(alloc))
+        .arg(spare_loops(alloc, help::SPARE_LOOPS))
+}
+
+// The subcommand `lint`.
+fn lint<'a>(alloc: Global) -> Result<Command<'a>, OutOfMemory>
+    ensures app { IfOk result (λ c. app_of c ≡ lint_line) }
+    ensures local { IfOk result (λ c. (out-Command c).has_globals ≡ false) }
+{
+    bare(alloc, "lint", help::LINT_ABOUT, help::LINT_LONG_ABOUT)
+        .arg(machine_or_loops(alloc))?
+        .arg(spare_loops(alloc, help::LOOPS_OF_TWO))?
+        .arg(machine_only(alloc))
 }
 
 // The subcommand `explain`.
-fn explain<'a>(alloc: Global) -> Result<Command<'a>, AllocError>
+fn explain<'a>(alloc: Global) -> Result<Command<'a>, OutOfMemory>
     ensures app { IfOk result (λ c. app_of c ≡ explain_line) }
     ensures local { IfOk result (λ c. (out-Command c).has_globals ≡ false) }
 {
@@ -147,7 +161,7 @@ fn search<'a>(
     name: &'a str,
     about: &'a str,
     long_about: &'a str,
-) -> Result<Command<'a>, AllocError>
+) -> Result<Command<'a>, OutOfMemory>
     ensures app { IfOk result (λ c. app_of c ≡ search_line name.entry.now) }
     ensures local { IfOk result (λ c. (out-Command c).has_globals ≡ false) }
 {
@@ -156,7 +170,7 @@ fn search<'a>(
 }
 
 // The subcommand `run`.
-fn run<'a>(alloc: Global) -> Result<Command<'a>, AllocError>
+fn run<'a>(alloc: Global) -> Result<Command<'a>, OutOfMemory>
     ensures app { IfOk result (λ c. app_of c ≡ run_line) }
     ensures local { IfOk result (λ c. (out-Command c).has_globals ≡ false) }
 {
@@ -165,7 +179,7 @@ fn run<'a>(alloc: Global) -> Result<Command<'a>, AllocError>
 }
 
 // The subcommand `plain`.
-fn plain<'a>(alloc: Global) -> Result<Command<'a>, AllocError>
+fn plain<'a>(alloc: Global) -> Result<Command<'a>, OutOfMemory>
     ensures app { IfOk result (λ c. app_of c ≡ plain_line) }
     ensures local { IfOk result (λ c. (out-Command c).has_globals ≡ false) }
 {
@@ -176,7 +190,7 @@ fn plain<'a>(alloc: Global) -> Result<Command<'a>, AllocError>
 }
 
 // The subcommand `solve`.
-fn solve<'a>(alloc: Global) -> Result<Command<'a>, AllocError>
+fn solve<'a>(alloc: Global) -> Result<Command<'a>, OutOfMemory>
     ensures app { IfOk result (λ c. app_of c ≡ solve_line) }
     ensures local { IfOk result (λ c. (out-Command c).has_globals ≡ false) }
 {
@@ -185,7 +199,7 @@ fn solve<'a>(alloc: Global) -> Result<Command<'a>, AllocError>
 }
 
 // The subcommand `check`.
-fn check<'a>(alloc: Global) -> Result<Command<'a>, AllocError>
+fn check<'a>(alloc: Global) -> Result<Command<'a>, OutOfMemory>
     ensures app { IfOk result (λ c. app_of c ≡ check_line) }
     ensures local { IfOk result (λ c. (out-Command c).has_globals ≡ false) }
 {
@@ -195,7 +209,7 @@ fn check<'a>(alloc: Global) -> Result<Command<'a>, AllocError>
 }
 
 // A subcommand with the options of a search.
-fn with_search<'a>(alloc: Global, command: Command<'a>) -> Result<Command<'a>, AllocError>
+fn with_search<'a>(alloc: Global, command: Command<'a>) -> Result<Command<'a>, OutOfMemory>
     ensures app { IfOk result (λ c. app_of c ≡ with_search (app_of command.entry)) }
     ensures local { IfOk result (λ c. (out-Command c).has_globals ≡ (out-Command command.entry).has_globals) }
 {
@@ -235,14 +249,31 @@ fn machine_or_problems<'a>(alloc: Global) -> Arg<'a>
     )
 }
 
-// The path of the loops' file, which may be left out.
-fn spare_loops<'a>(alloc: Global) -> Arg<'a>
-    ensures rule { rule_of result ≡ record (new_rule (codes "loops")) { value_names = 1 } }
+// The path of the machine's file, or that of the loops' where no other is given.
+fn machine_or_loops<'a>(alloc: Global) -> Arg<'a>
+    ensures rule { rule_of result ≡ path_rule (codes "machine") }
     ensures local { result.global ≡ false }
 {
-    Arg::new(alloc, "loops")
-        .value_name("LOOPS")
-        .help(help::SPARE_LOOPS)
+    path(alloc, "machine", "MACHINE_OR_LOOPS", help::MACHINE_OR_LOOPS)
+}
+
+// The path of the loops' file, which may be left out.
+fn spare_loops<'a>(alloc: Global, help: &'a str) -> Arg<'a>
+    ensures rule { rule_of result ≡ spare_rule (codes "loops") }
+    ensures local { result.global ≡ false }
+{
+    Arg::new(alloc, "loops").value_name("LOOPS").help(help)
+}
+
+// That the one path is the machine's.
+fn machine_only<'a>(alloc: Global) -> Arg<'a>
+    ensures rule { rule_of result ≡ machine_only_rule }
+    ensures local { result.global ≡ false }
+{
+    Arg::new(alloc, "machine-only")
+        .long("machine-only")
+        .action(ArgAction::SetTrue)
+        .help(help::MACHINE_ONLY)
 }
 
 // The path of the problems' file.

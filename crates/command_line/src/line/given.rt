@@ -1,23 +1,25 @@
 //! What the subcommand of a line was given, as a command.
 
-ghost use Rattle.std.specs.Prelude.{◌≡◌, ◌≢◌, ◌<◌, ◌^◌, ℕ, codes, None, IfOk, IfSome, IfNone};
+ghost use Rattle.std.specs.Prelude.{◌≡◌, ◌≢◌, ◌<◌, ◌^◌, ℕ, Bool, codes, option_map, None, IfOk, IfSome, IfNone};
 ghost use Rattle.clap.specs.Words.{Text, first_of, found_of, rows_of, subcommand_rows_of};
 ghost use Rattle.command_line.specs.declared.command.Format.{Format};
-ghost use Rattle.command_line.specs.Lines.{Says, SaysFormat, SaysTrip, SaysWorkers, SaysNumber, SaySettings, Means, MeansNamed, AreLoopsGiven, AreProblemsGiven, IsReportGiven, IsWorkGiven, IsTaskGiven, IsSearchGiven};
+ghost use Rattle.command_line.specs.declared.command.LintTexts.{LintTexts};
+ghost use Rattle.command_line.specs.Lines.{Says, SaysFormat, SaysSwitch, AreTexts, SaysTrip, SaysWorkers, SaysNumber, SaySettings, switch_word, Means, MeansNamed, AreLoopsGiven, AreProblemsGiven, IsReportGiven, IsWorkGiven, IsTaskGiven, IsSearchGiven};
 ghost use Rattle.settings.specs.Settings.{SettingsData};
 
-use crate::command::{Command, Format, Report, Search, Task, Work};
+use crate::command::{Command, Format, LintTexts, Report, Search, Task, Work};
 use crate::trip::Trip;
 use clap::ArgMatches;
+use machine_data::OutOfMemory;
 use machine_data::limits::MAX_WORKERS;
 use settings::Settings;
-use std::alloc::{AllocError, Global};
+use std::alloc::Global;
 
 /// The command that a subcommand and its values mean.
 pub(super) fn command_of(
     alloc: Global,
     matches: &ArgMatches<'_>,
-) -> Result<Option<Command>, AllocError>
+) -> Result<Option<Command>, OutOfMemory>
     ensures meant { IfOk result (λ found. IfSome found (λ c. Means c (subcommand_rows_of matches.now))) }
     ensures none { IfOk result (λ found. IfNone found ((c : Command) → ¬ Means c (subcommand_rows_of matches.now))) }
 {
@@ -28,13 +30,14 @@ pub(super) fn command_of(
 }
 
 // The command of the subcommand of this name.
-fn named(alloc: Global, name: &str, values: &ArgMatches<'_>) -> Result<Option<Command>, AllocError>
+fn named(alloc: Global, name: &str, values: &ArgMatches<'_>) -> Result<Option<Command>, OutOfMemory>
     ensures meant { IfOk result (λ found. IfSome found (λ c. MeansNamed c name.now (rows_of (found_of values.now)))) }
     ensures none { IfOk result (λ found. IfNone found ((c : Command) → ¬ MeansNamed c name.now (rows_of (found_of values.now)))) }
 {
     match name {
         "solve" => solve_given(alloc, values),
         "check" => check_given(alloc, values),
+        "lint" => lint_given(alloc, values),
         _ => other_given(alloc, name, values),
     }
 }
@@ -44,9 +47,9 @@ fn other_given(
     alloc: Global,
     name: &str,
     values: &ArgMatches<'_>,
-) -> Result<Option<Command>, AllocError>
+) -> Result<Option<Command>, OutOfMemory>
     ensures meant { IfOk result (λ found. IfSome found (λ c. MeansNamed c name.now (rows_of (found_of values.now)))) }
-    ensures none { name.now ≢ codes "solve" → name.now ≢ codes "check" → IfOk result (λ found. IfNone found ((c : Command) → ¬ MeansNamed c name.now (rows_of (found_of values.now)))) }
+    ensures none { name.now ≢ codes "solve" → name.now ≢ codes "check" → name.now ≢ codes "lint" → IfOk result (λ found. IfNone found ((c : Command) → ¬ MeansNamed c name.now (rows_of (found_of values.now)))) }
 {
     match values.get_str("loops") {
         Some(_) => loops_given(alloc, name, values),
@@ -59,7 +62,7 @@ fn problems_given(
     alloc: Global,
     name: &str,
     values: &ArgMatches<'_>,
-) -> Result<Option<Command>, AllocError>
+) -> Result<Option<Command>, OutOfMemory>
     ensures meant { first_of (codes "loops") (rows_of (found_of values.now)) ≡ None → IfOk result (λ found. IfSome found (λ c. MeansNamed c name.now (rows_of (found_of values.now)))) }
     ensures none { IfOk result (λ found. IfNone found ((path : Text) (told : Report) → ¬ AreProblemsGiven path told name.now (rows_of (found_of values.now)))) }
 {
@@ -89,7 +92,7 @@ fn report_given(name: &str, values: &ArgMatches<'_>) -> Option<Report>
 }
 
 // The command `solve`, where it was given what it needs.
-fn solve_given(alloc: Global, values: &ArgMatches<'_>) -> Result<Option<Command>, AllocError>
+fn solve_given(alloc: Global, values: &ArgMatches<'_>) -> Result<Option<Command>, OutOfMemory>
     ensures meant { IfOk result (λ found. IfSome found (λ c. MeansNamed c (codes "solve") (rows_of (found_of values.now)))) }
     ensures none { IfOk result (λ found. IfNone found ((c : Command) → ¬ MeansNamed c (codes "solve") (rows_of (found_of values.now)))) }
 {
@@ -115,7 +118,7 @@ fn format_given(values: &ArgMatches<'_>) -> Option<Format>
 }
 
 // The command `check`, where it was given both paths.
-fn check_given(alloc: Global, values: &ArgMatches<'_>) -> Result<Option<Command>, AllocError>
+fn check_given(alloc: Global, values: &ArgMatches<'_>) -> Result<Option<Command>, OutOfMemory>
     ensures meant { IfOk result (λ found. IfSome found (λ c. MeansNamed c (codes "check") (rows_of (found_of values.now)))) }
     ensures none { IfOk result (λ found. IfNone found ((c : Command) → ¬ MeansNamed c (codes "check") (rows_of (found_of values.now)))) }
 {
@@ -128,12 +131,70 @@ fn check_given(alloc: Global, values: &ArgMatches<'_>) -> Result<Option<Command>
     }
 }
 
+// The command `lint`, where it was given one path, or two without the option for one.
+fn lint_given(alloc: Global, values: &ArgMatches<'_>) -> Result<Option<Command>, OutOfMemory>
+    ensures meant { IfOk result (λ found. IfSome found (λ c. MeansNamed c (codes "lint") (rows_of (found_of values.now)))) }
+    ensures none { IfOk result (λ found. IfNone found ((c : Command) → ¬ MeansNamed c (codes "lint") (rows_of (found_of values.now)))) }
+{
+    match (values.get_str("machine"), machine_only_given(values)) {
+        (Some(first), Some(machine_only)) => {
+            match texts_of(alloc, first, values.get_str("loops"), machine_only)? {
+                Some(texts) => Ok(Some(Command::Lint(texts))),
+                None => Ok(None),
+            }
+        }
+        _ => Ok(None),
+    }
+}
+
+// The texts at these paths, where they are one, or two without the option for one.
+fn texts_of(
+    alloc: Global,
+    first: &str,
+    second: Option<&str>,
+    machine_only: bool,
+) -> Result<Option<LintTexts>, OutOfMemory>
+    ensures are { IfOk result (λ found. IfSome found (λ texts. AreTexts texts first.now (option_map (λ path. path.now) second.entry) machine_only)) }
+    ensures none { IfOk result (λ found. IfNone found ((texts : LintTexts) → ¬ AreTexts texts first.now (option_map (λ path. path.now) second.entry) machine_only)) }
+{
+    let first = String::from_str(alloc, first)?;
+    match (second, machine_only) {
+        (None, true) => Ok(Some(LintTexts::Machine { machine: first })),
+        (None, false) => Ok(Some(LintTexts::Loops { loops: first })),
+        (Some(loops), false) => Ok(Some(LintTexts::Both {
+            machine: first,
+            loops: String::from_str(alloc, loops)?,
+        })),
+        (Some(_), true) => Ok(None),
+    }
+}
+
+// Whether the option was given by which one path is that of a machine.
+fn machine_only_given(values: &ArgMatches<'_>) -> Option<bool>
+    ensures says { IfSome result (λ given. SaysSwitch (first_of (codes "machine-only") (rows_of (found_of values.now))) given) }
+    ensures none { IfNone result ((given : Bool) → ¬ SaysSwitch (first_of (codes "machine-only") (rows_of (found_of values.now))) given) }
+{
+    switch_of(values.get_str("machine-only")?)
+}
+
+// What the word of an option without a value says.
+fn switch_of(word: &str) -> Option<bool>
+    ensures says { IfSome result (λ given. word.now ≡ switch_word given) }
+    ensures none { IfNone result ((given : _) → word.now ≢ switch_word given) }
+{
+    match word {
+        "true" => Some(true),
+        "false" => Some(false),
+        _ => None,
+    }
+}
+
 // The command of a subcommand of this name that takes loops.
 fn loops_given(
     alloc: Global,
     name: &str,
     values: &ArgMatches<'_>,
-) -> Result<Option<Command>, AllocError>
+) -> Result<Option<Command>, OutOfMemory>
     ensures meant { IfOk result (λ found. IfSome found (λ c. MeansNamed c name.now (rows_of (found_of values.now)))) }
     ensures none { IfOk result (λ found. IfNone found ((path : Text) (work : Work) → ¬ AreLoopsGiven path work name.now (rows_of (found_of values.now)))) }
 {
@@ -154,7 +215,7 @@ fn work_given(
     alloc: Global,
     name: &str,
     values: &ArgMatches<'_>,
-) -> Result<Option<Work>, AllocError>
+) -> Result<Option<Work>, OutOfMemory>
     ensures meant { IfOk result (λ found. IfSome found (λ w. IsWorkGiven w name.now (rows_of (found_of values.now)))) }
     ensures none { IfOk result (λ found. IfNone found ((w : Work) → ¬ IsWorkGiven w name.now (rows_of (found_of values.now)))) }
 {
@@ -206,6 +267,7 @@ fn search_given(name: &str, values: &ArgMatches<'_>) -> Option<Search>
         "schedule" => Some(Search::Schedule),
         "json" => Some(Search::Json),
         "explain" => Some(Search::Explain),
+        "vary" => Some(Search::Vary),
         "run" => match trip_given(values) {
             Some(trip) => Some(Search::Run(trip)),
             None => None,

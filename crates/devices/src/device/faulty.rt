@@ -4,7 +4,8 @@ ghost use Rattle.std.specs.Prelude.{◌≡◌, ◌+◌, ◌-◌, ◌^◌, ◌<�
 ghost use Rattle.devices.specs.Devices.{FaultyFlushes, FaultyReads, FaultyWrites, Reads, Writes};
 
 use super::{Fault, Input, Output};
-use std::alloc::{AllocError, Global};
+use crate::OutOfMemory;
+use std::alloc::Global;
 use std::marker::Model;
 
 /// An input over bytes in memory that gives a few bytes a read, and of whose reads one may fail.
@@ -116,7 +117,7 @@ impl FaultyOutput {
         stride: usize,
         room: usize,
         can_flush: bool,
-    ) -> Result<FaultyOutput, AllocError>
+    ) -> Result<FaultyOutput, OutOfMemory>
         requires { 0 < stride }
         ensures { IfOk result (λ o. o ≡ ([], 0, 0, record { most = stride; space = room; flushes = can_flush })) }
     {

@@ -4,7 +4,8 @@ ghost use Rattle.std.specs.Prelude.{◌≡◌, ◌+◌, ◌-◌, ◌^◌, ◌<�
 ghost use Rattle.devices.specs.Devices.{Reads, Writes};
 
 use super::{Fault, Input, Output};
-use std::alloc::{AllocError, Global};
+use crate::OutOfMemory;
+use std::alloc::Global;
 use std::marker::Model;
 
 /// An input over bytes in memory. None of its calls fails. Contracts see the bytes that are left.
@@ -80,7 +81,7 @@ impl Model for TakenBytes {
 
 impl TakenBytes {
     /// An output that took nothing yet, with room for this many bytes.
-    pub fn with_capacity(alloc: Global, capacity: usize) -> Result<TakenBytes, AllocError>
+    pub fn with_capacity(alloc: Global, capacity: usize) -> Result<TakenBytes, OutOfMemory>
         ensures { IfOk result (λ t. t ≡ ([], 0, 0)) }
     {
         Ok(TakenBytes {
@@ -122,7 +123,7 @@ impl Output for TakenBytes {
     {
         match self.bytes.extend_from_slice(bytes) {
             Ok(()) => Ok(bytes.len()),
-            Err(AllocError) => {
+            Err(std::alloc::AllocError) => {
                 self.faults += 1;
                 Err(Fault)
             }

@@ -4,19 +4,20 @@ ghost use Rattle.std.specs.Prelude.{◌≡◌, ◌<◌, ◌++◌, length, Some, 
 ghost use Rattle.std.specs.List.{All, flat_map};
 ghost use Rattle.ims.specs.Culprits.{AnswersCulprit};
 ghost use Rattle.ims.specs.Problems.{budget_of};
-ghost use Rattle.explain.specs.Reasons.{IsReason, culprit_text, life_text, named, reason_text};
+ghost use Rattle.candidates.specs.Reasons.{IsReason};
+ghost use Rattle.explain.specs.Reasons.{culprit_text, life_text, named, reason_text};
 
-use crate::intervals::reasons::Reason;
+use candidates::Reason;
 use graph_text::push_name;
 use ims::{Culprit, Prepared};
 use loop_data::Loop;
+use machine_data::OutOfMemory;
 use machine_data::limits::MAX_STATEMENTS;
 use rotating::Lifetime;
-use std::alloc::AllocError;
 use writing::{Text, push_told};
 
 /// Appends the name of an operation after a blank.
-fn push_named(text: &mut Vec<u8>, innermost: &Loop, op: usize) -> Result<(), AllocError>
+fn push_named(text: &mut Vec<u8>, innermost: &Loop, op: usize) -> Result<(), OutOfMemory>
     requires { op < length innermost.now.statements }
     ensures ok { OnOk result (text.new.items ≡ text.old.items ++ named innermost.now op) }
 {
@@ -26,7 +27,7 @@ fn push_named(text: &mut Vec<u8>, innermost: &Loop, op: usize) -> Result<(), All
 }
 
 /// Appends the names of operations, each after a blank.
-fn push_all_named(text: &mut Vec<u8>, innermost: &Loop, ops: &[usize]) -> Result<(), AllocError>
+fn push_all_named(text: &mut Vec<u8>, innermost: &Loop, ops: &[usize]) -> Result<(), OutOfMemory>
     requires { All (λ op. op < length innermost.now.statements) ops.now }
     ensures ok { OnOk result (text.new.items ≡ text.old.items ++ flat_map (named innermost.now) ops.now) }
 {
@@ -37,7 +38,7 @@ fn push_all_named(text: &mut Vec<u8>, innermost: &Loop, ops: &[usize]) -> Result
 }
 
 /// Appends the name of an operation and when it is issued.
-fn push_late(text: &mut Vec<u8>, innermost: &Loop, op: usize, time: u64) -> Result<(), AllocError>
+fn push_late(text: &mut Vec<u8>, innermost: &Loop, op: usize, time: u64) -> Result<(), OutOfMemory>
     requires { op < length innermost.now.statements }
     ensures ok { OnOk result (text.new.items ≡ text.old.items ++ culprit_text innermost.now (Culprit.Late op time)) }
 {
@@ -46,7 +47,7 @@ fn push_late(text: &mut Vec<u8>, innermost: &Loop, op: usize, time: u64) -> Resu
 }
 
 /// Appends the name of a value and when it lives.
-fn push_life(text: &mut Vec<u8>, innermost: &Loop, life: Lifetime) -> Result<(), AllocError>
+fn push_life(text: &mut Vec<u8>, innermost: &Loop, life: Lifetime) -> Result<(), OutOfMemory>
     requires { life.operation < length innermost.now.statements }
     ensures ok { OnOk result (text.new.items ≡ text.old.items ++ life_text innermost.now life) }
 {
@@ -61,7 +62,7 @@ fn push_culprit(
     prepared: &Prepared,
     _interval: u64,
     culprit: &Culprit,
-) -> Result<(), AllocError>
+) -> Result<(), OutOfMemory>
     requires is { AnswersCulprit prepared.now _interval (budget_of prepared.now) (Some culprit.now) }
     ensures ok { OnOk result (text.new.items ≡ text.old.items ++ culprit_text prepared.now.loop culprit.now) }
 {
@@ -79,7 +80,7 @@ pub(crate) fn push_reason(
     prepared: &Prepared,
     interval: u64,
     reason: &Reason,
-) -> Result<(), AllocError>
+) -> Result<(), OutOfMemory>
     requires is { IsReason prepared.now interval reason.now }
     ensures ok { OnOk result (text.new.items ≡ text.old.items ++ reason_text prepared.now.loop reason.now) }
 {

@@ -1,13 +1,14 @@
 //! The lines of the intervals that are tried.
 
 ghost use Rattle.std.specs.Prelude.{◌≡◌, ◌++◌, ℕ, List, IfOk, OnOk};
-ghost use Rattle.explain.specs.Reasons.{IsReason, cause_of};
+ghost use Rattle.candidates.specs.Reasons.{IsReason};
+ghost use Rattle.explain.specs.inner.Evidence.{HasEvidence, choice_of};
 ghost use Rattle.explain.specs.Tries.{AreTries, hold_line, kernel_line, try_line};
 
+use crate::intervals::chosen::Chosen;
 use crate::intervals::hold::{Hold, hold_of};
 use crate::intervals::reason_texts::push_reason;
-use crate::intervals::reasons::{Reason, reason_of};
-use candidates::{Cause, Choice, Outcome, try_interval};
+use candidates::{Cause, Reason, Trials, Tried};
 use ims::Prepared;
 use machine_data::OutOfMemory;
 use std::alloc::Global;
@@ -18,13 +19,12 @@ fn push_try(
     text: &mut Vec<u8>,
     prepared: &Prepared,
     interval: u64,
-    cause: Cause,
     reason: &Reason,
 ) -> Result<(), OutOfMemory>
-    requires cause { cause_of reason.now ≡ cause }
     requires is { IsReason prepared.now interval reason.now }
     ensures ok { OnOk result (text.new.items ≡ text.old.items ++ try_line prepared.now.loop interval reason.now) }
 {
+    let cause = reason.cause();
     push_told(text, "try ", interval)?;
     push_both(text, " ", cause.word())?;
     text.push_piece(":")?;
@@ -57,30 +57,31 @@ fn push_met(text: &mut Vec<u8>, interval: u64, stages: u64, hold: Hold) -> Resul
     push_hold(text, hold)
 }
 
-/// Tries a loop's intervals one after another until one gives a kernel, and appends what each gives. The
-/// choice is that of the loop.
-pub(crate) fn push_tries(
+/// Tries a loop's intervals one after another until one gives a kernel, and appends what each gives. What is
+/// chosen is that of the loop.
+pub(crate) fn push_tries<'a>(
     alloc: Global,
     text: &mut Vec<u8>,
-    prepared: &Prepared,
-) -> Result<Choice, OutOfMemory>
-    ensures exact { IfOk result (λ choice. (tries : List ℕ) × AreTries prepared.now choice tries × (text.new.items ≡ text.old.items ++ tries)) }
+    prepared: &'a Prepared,
+) -> Result<Chosen<'a>, OutOfMemory>
+    ensures exact { IfOk result (λ chosen. (tries : List ℕ) × AreTries prepared.now (choice_of chosen) tries × (text.new.items ≡ text.old.items ++ tries)) }
+    ensures evidence { IfOk result (HasEvidence prepared.now) }
 {
+    let mut trials = Trials::of(prepared);
     let mut last = Cause::Table;
     for above in 0..prepared.ceiling() + 1 {
         let interval = prepared.mii() + above;
-        match try_interval(alloc, prepared, interval)? {
-            Outcome::Met(kernel) => {
+        match trials.try_told(alloc, interval)? {
+            Tried::Met(met) => {
                 let hold = hold_of(prepared, interval, last);
-                push_met(text, interval, kernel.parts().stages, hold)?;
-                return Ok(Choice::Met(interval, kernel));
+                push_met(text, interval, met.kernel.parts().stages, hold)?;
+                return Ok(Chosen::Met(interval, met));
             }
-            Outcome::Failed(cause) => {
-                let reason = reason_of(alloc, prepared, interval, cause)?;
-                push_try(text, prepared, interval, cause, &reason)?;
-                last = cause;
+            Tried::Failed(reason) => {
+                push_try(text, prepared, interval, &reason)?;
+                last = reason.cause();
             }
         }
     }
-    Ok(Choice::Failed(last))
+    Ok(Chosen::Failed(last))
 }

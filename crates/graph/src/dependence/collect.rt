@@ -6,17 +6,18 @@ ghost use Rattle.std.specs.List.{All, Contains};
 ghost use Rattle.graph.specs.Dependences.{EdgeData};
 ghost use Rattle.graph.specs.Subscripts.{IsDelay, IsMemoryEdge, ReadsBelow, AreLatencies, IsFound, GainsEdges, HasUses, HasMeetings};
 ghost use Rattle.graph.specs.inner.SameArrays.{AreLinked};
+ghost use Rattle.machine_data.specs.declared.limits.TheConstants.{MAX_LATENCY};
 
 use crate::dependence::edge::Edge;
 use loop_data::{Operand, Statement};
-use machine_data::Opcode;
 use machine_data::limits::MAX_STATEMENTS;
-use std::alloc::{AllocError, Global};
+use machine_data::{Opcode, OutOfMemory};
+use std::alloc::Global;
 
 /// The delay of a dependence through memory, of the operation with the second opcode on the one with
 /// the first, by their latencies.
 fn memory_delay(from: Opcode, to: Opcode, latency: u8, later: u8) -> Option<i8>
-    requires short { latency ≤ 64 }
+    requires short { latency ≤ MAX_LATENCY }
     requires later_short { later ≤ 64 }
     ensures sound { IfSome result (λ delay. IsDelay from to latency later delay) }
     ensures complete { (delay : ℤ) → IsDelay from to latency later delay → result ≡ Some delay }
@@ -82,8 +83,8 @@ fn push_uses(
     to: usize,
     latencies: &[u8],
     list: &mut Vec<Edge>,
-) -> Result<(), AllocError>
-    requires few { length statements.now ≤ 128 }
+) -> Result<(), OutOfMemory>
+    requires few { length statements.now ≤ MAX_STATEMENTS }
     requires to_in { to < length statements.now }
     requires reads { All (λ (s : Statement). All (ReadsBelow (length latencies.now)) s.operands) statements.now }
     requires latencies { AreLatencies latencies.now }
@@ -117,7 +118,7 @@ struct SameArrays {
 
 /// The statements that touch each array.
 fn same_arrays(statements: &[Statement]) -> SameArrays
-    requires few { length statements.now ≤ 128 }
+    requires few { length statements.now ≤ MAX_STATEMENTS }
     ensures { AreLinked statements.now 0 result.first result.next }
 {
     let end = statements.len() as u8;
@@ -140,8 +141,8 @@ fn push_meetings(
     latencies: &[u8],
     same: &SameArrays,
     list: &mut Vec<Edge>,
-) -> Result<(), AllocError>
-    requires few { length statements.now ≤ 128 }
+) -> Result<(), OutOfMemory>
+    requires few { length statements.now ≤ MAX_STATEMENTS }
     requires to_in { to < length statements.now }
     requires latencies { AreLatencies latencies.now }
     requires same { length latencies.now ≡ length statements.now }
@@ -169,8 +170,8 @@ pub fn collect(
     alloc: Global,
     statements: &[Statement],
     latencies: &[u8],
-) -> Result<Vec<Edge>, AllocError>
-    requires few { length statements.now ≤ 128 }
+) -> Result<Vec<Edge>, OutOfMemory>
+    requires few { length statements.now ≤ MAX_STATEMENTS }
     requires reads { All (λ (s : Statement). All (ReadsBelow (length latencies.now)) s.operands) statements.now }
     requires latencies { AreLatencies latencies.now }
     requires same { length latencies.now ≡ length statements.now }

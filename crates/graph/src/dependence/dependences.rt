@@ -8,6 +8,7 @@ ghost use Rattle.graph.specs.Units.{first_without_table};
 ghost use Rattle.graph.specs.Dependences.{EdgeData, Precedes, latencies_of};
 ghost use Rattle.graph.specs.Graphs.{IsGraphOf};
 ghost use Rattle.graph.specs.Subscripts.{AreLatencies};
+ghost use Rattle.machine_data.specs.declared.limits.TheConstants.{MAX_STATEMENTS};
 
 use crate::dependence::collect::collect;
 use crate::dependence::edge::Edge;
@@ -16,8 +17,8 @@ use crate::layout::graph::Edges;
 use crate::layout::groups::by_end;
 use crate::layout::starts::End;
 use loop_data::Loop;
-use machine_data::Machine;
-use std::alloc::{AllocError, Global};
+use machine_data::{Machine, OutOfMemory};
+use std::alloc::Global;
 
 /// The latency of each operation of a loop.
 fn latencies(alloc: Global, machine: &Machine, innermost: &Loop) -> Result<Vec<u8>, GraphFault>
@@ -40,8 +41,8 @@ pub(crate) fn in_order(
     alloc: Global,
     list: &[Edge],
     operations: usize,
-) -> Result<Vec<Edge>, AllocError>
-    requires few { operations ≤ 128 }
+) -> Result<Vec<Edge>, OutOfMemory>
+    requires few { operations ≤ MAX_STATEMENTS }
     requires ends { All (λ (e : EdgeData). e.from < operations) list.now }
     ensures ascending { IfOk result (λ v. AllPairs Precedes v.items) }
     ensures kept { IfOk result (λ v. (e : EdgeData) → Contains list.now e → Contains v.items e) }

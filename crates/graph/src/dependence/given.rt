@@ -4,15 +4,17 @@ ghost use Rattle.std.specs.Prelude.{◌≡◌, ◌<◌, ◌≤◌, ◌↔◌, �
 ghost use Rattle.std.specs.List.{All};
 ghost use Rattle.graph.specs.Dependences.{EdgeData};
 ghost use Rattle.graph.specs.Graphs.{AreEdges, IsGraphWith};
+ghost use Rattle.machine_data.specs.declared.limits.TheConstants.{MAX_LATENCY};
 
 use crate::dependence::dependences::in_order;
 use crate::dependence::edge::Edge;
 use crate::layout::graph::Edges;
-use std::alloc::{AllocError, Global};
+use machine_data::OutOfMemory;
+use std::alloc::Global;
 
 /// Whether each latency is 1 to 64.
 fn are_latencies(cycles: &[u8]) -> bool
-    ensures { IsTrue result ↔ All (λ l. (0 < l) × (l ≤ 64)) cycles.now }
+    ensures { IsTrue result ↔ All (λ l. (0 < l) × (l ≤ MAX_LATENCY)) cycles.now }
 {
     cycles.iter().all(|cycle| 0 < *cycle && *cycle <= 64)
 }
@@ -54,8 +56,8 @@ fn are_edges(list: &[Edge], cycles: &[u8]) -> bool
 /// operation, an edge of distance 0 does not go to a later operation, or a delay is above 64 cycles.
 ///
 /// # Errors
-/// [`AllocError`] where memory ran out.
-pub fn given(alloc: Global, list: &[Edge], cycles: Vec<u8>) -> Result<Option<Edges>, AllocError>
+/// [`OutOfMemory`] where memory ran out.
+pub fn given(alloc: Global, list: &[Edge], cycles: Vec<u8>) -> Result<Option<Edges>, OutOfMemory>
     ensures exact { IfOk result (λ found. MatchOption found (¬ AreEdges list.now cycles.items) (IsGraphWith list.now cycles.items)) }
 {
     if !are_edges(list, cycles.as_slice()) {

@@ -3,9 +3,11 @@
 ghost use Rattle.std.specs.Prelude.{◌≡◌, ◌+◌, ◌<◌, ◌≤◌, IfOk};
 ghost use Rattle.std.specs.List.Sorted.{IsNonDecreasingBy};
 ghost use Rattle.graph.specs.inner.Layout.{operation_at, AreStarts};
+ghost use Rattle.machine_data.specs.declared.limits.TheConstants.{MAX_STATEMENTS};
 
 use crate::dependence::edge::Edge;
-use std::alloc::{AllocError, Global};
+use machine_data::OutOfMemory;
+use std::alloc::Global;
 
 /// One of the two operations of an edge.
 #[derive(Clone, Copy)]
@@ -33,8 +35,8 @@ pub(crate) fn starts(
     list: &[Edge],
     end: End,
     operations: usize,
-) -> Result<Vec<usize>, AllocError>
-    requires few { operations ≤ 128 }
+) -> Result<Vec<usize>, OutOfMemory>
+    requires few { operations ≤ MAX_STATEMENTS }
     requires sorted { IsNonDecreasingBy (operation_at end) list.now }
     ensures { IfOk result (λ v. AreStarts end list.now operations v.items) }
 {

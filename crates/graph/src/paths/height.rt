@@ -3,11 +3,13 @@
 ghost use Rattle.std.specs.Prelude.{◌≡◌, ℕ, ◌*◌, ◌<◌, ◌≤◌, length, slice_index, IfOk};
 ghost use Rattle.std.specs.List.{All};
 ghost use Rattle.graph.specs.Walks.{FitsCircuits, IsHeight};
+ghost use Rattle.machine_data.specs.declared.limits.TheConstants.{MAX_INTERVAL};
 
 use crate::layout::graph::Edges;
 use crate::paths::relaxation::{Relaxed, relax};
+use machine_data::OutOfMemory;
 use machine_data::limits::MAX_STATEMENTS;
-use std::alloc::{AllocError, Global};
+use std::alloc::Global;
 
 /// The height of each operation at an interval, in cycles, 1 to 64 for each operation: HeightR of
 /// B. R. Rau, "Iterative Modulo Scheduling", HPL-94-115.
@@ -19,10 +21,10 @@ use std::alloc::{AllocError, Global};
 /// a bound that is known.
 ///
 /// # Errors
-/// [`AllocError`] where memory ran out.
-pub fn heights(alloc: Global, edges: &Edges, ii: u64) -> Result<Vec<u64>, AllocError>
+/// [`OutOfMemory`] where memory ran out.
+pub fn heights(alloc: Global, edges: &Edges, ii: u64) -> Result<Vec<u64>, OutOfMemory>
     requires fits { FitsCircuits edges.now.edges ii }
-    requires limit { ii ≤ 16384 }
+    requires limit { ii ≤ MAX_INTERVAL }
     ensures each { IfOk result (λ v. length v.items ≡ length edges.now.latencies) }
     ensures exact { IfOk result (λ v. (p : ℕ) → p < length edges.now.latencies → IsHeight edges.now.edges edges.now.latencies ii p (slice_index v.items p)) }
     ensures range { IfOk result (λ v. All (λ h. (1 ≤ h) × (h ≤ 64 * length edges.now.latencies)) v.items) }

@@ -4,20 +4,22 @@ ghost use Rattle.std.specs.Prelude.{◌≡◌, ◌⊎◌, ◌-◌, ◌*◌, ◌�
 ghost use Rattle.graph.specs.Graphs.{IsGraph};
 ghost use Rattle.graph.specs.Walks.{FitsCircuits, Exceeds, IsRecurrenceBound};
 ghost use Rattle.graph.specs.Rounds.{TellsFeasible};
+ghost use Rattle.machine_data.specs.declared.limits.TheConstants.{MAX_INTERVAL};
 
 use crate::layout::graph::Edges;
 use crate::paths::relaxation::{Relaxed, longer_interval, relax};
+use machine_data::OutOfMemory;
 use machine_data::limits::MAX_STATEMENTS;
-use std::alloc::{AllocError, Global};
+use std::alloc::Global;
 
 /// Whether an interval, in cycles, is at or above the recurrence-constrained lower bound: whether no
 /// circuit of the edges takes more cycles than it has intervals.
 ///
 /// # Errors
 /// None: no memory is taken.
-pub fn feasible(_alloc: Global, edges: &Edges, ii: u64) -> Result<bool, AllocError>
+pub fn feasible(_alloc: Global, edges: &Edges, ii: u64) -> Result<bool, OutOfMemory>
     requires from_one { 1 ≤ ii }
-    requires limit { ii ≤ 16384 }
+    requires limit { ii ≤ MAX_INTERVAL }
     ensures exact { IfOk result (λ answer. TellsFeasible edges.now.edges ii answer) }
     ensures fits { IfOk result (λ answer. answer ≡ true → FitsCircuits edges.now.edges ii) }
     ensures no_memory { IsOk result }
@@ -59,7 +61,7 @@ fn interval_of_self_edges(edges: &Edges) -> u64
 ///
 /// # Errors
 /// None: no memory is taken.
-pub fn rec_mii(_alloc: Global, edges: &Edges) -> Result<u64, AllocError>
+pub fn rec_mii(_alloc: Global, edges: &Edges) -> Result<u64, OutOfMemory>
     ensures exact { IfOk result (λ bound. IsRecurrenceBound edges.now.edges bound) }
     ensures range { IfOk result (λ bound. bound ≤ 64 * length edges.now.latencies) }
     ensures no_memory { IsOk result }

@@ -8,6 +8,7 @@ ghost use Rattle.graph.specs.Graphs.{IsGraph};
 ghost use Rattle.std.specs.Bool.{OnTrue};
 ghost use Rattle.graph.specs.inner.Reaches.{AreReaches, AreVias, IsRaised, IsRise, KeepsNumbers, IsAbove, Relaxes};
 ghost use Rattle.graph.specs.inner.Sweeps.{KeepsBack, KeepsOnward};
+ghost use Rattle.machine_data.specs.declared.limits.TheConstants.{MAX_INTERVAL};
 
 use crate::dependence::edge::Edge;
 use crate::layout::graph::Edges;
@@ -35,7 +36,7 @@ pub(crate) enum Relaxed {
 /// Numbers stay below 2^21: each edge adds 64 cycles at most, and 128 sweeps raise each of 128
 /// operations.
 fn through(edge: Edge, number: u64, interval: u64) -> i64
-    requires short { interval ≤ 16384 }
+    requires short { interval ≤ MAX_INTERVAL }
     requires small { number ≤ 2097152 }
     ensures exact { result ≡ ((pos number +ℤ edge.delay) -ℤ pos (interval * edge.distance)) }
     ensures near { result ≤ℤ pos (number + 127) }
@@ -51,7 +52,7 @@ pub(crate) fn raised(
     numbers: &[u64; MAX_STATEMENTS],
     interval: u64,
 ) -> Climb
-    requires short { interval ≤ 16384 }
+    requires short { interval ≤ MAX_INTERVAL }
     requires own_small { own ≤ 2097152 }
     requires small { All (λ (e : Edge). (e.to < 128) × (slice_index numbers.now e.to ≤ 2097152)) outgoing.now }
     ensures raised { IsRaised outgoing.now interval numbers.now own result.number }
@@ -88,7 +89,7 @@ fn raise_all(
     numbers: &mut [u64; MAX_STATEMENTS],
     via: &mut [Option<Edge>; MAX_STATEMENTS],
 ) -> Option<usize>
-    requires short { interval ≤ 16384 }
+    requires short { interval ≤ MAX_INTERVAL }
     requires few { made < length edges.now.latencies }
     requires reaches { AreReaches edges.now interval (128 * made) made numbers.old }
     requires via { AreVias edges.now via.old }
@@ -115,7 +116,7 @@ fn raise_all(
 
 /// Whether no edge that leads to its own operation or to one before it raises a number.
 fn keeps_back(edges: &Edges, interval: u64, numbers: &[u64; MAX_STATEMENTS]) -> bool
-    requires short { interval ≤ 16384 }
+    requires short { interval ≤ MAX_INTERVAL }
     requires small { (p : ℕ) → p < length edges.now.latencies → slice_index numbers.now p ≤ 2097152 }
     ensures { OnTrue result (KeepsBack edges.now interval numbers.now) }
 {
@@ -139,7 +140,7 @@ fn sweep(
     numbers: &mut [u64; MAX_STATEMENTS],
     via: &mut [Option<Edge>; MAX_STATEMENTS],
 ) -> Option<usize>
-    requires short { interval ≤ 16384 }
+    requires short { interval ≤ MAX_INTERVAL }
     requires few { made < length edges.now.latencies }
     requires reaches { AreReaches edges.now interval (128 * made) made numbers.old }
     requires via { AreVias edges.now via.old }
@@ -178,7 +179,7 @@ fn far_along(edges: &Edges, via: &[Option<Edge>; MAX_STATEMENTS], start: usize) 
 /// A circuit is of at most 128 edges, each over at most 255 iterations: the bound on its distance only
 /// keeps the product within 64 bits.
 pub(crate) fn longer_interval(delay: i64, distance: u64, interval: u64) -> Option<u64>
-    requires short { interval ≤ 16384 }
+    requires short { interval ≤ MAX_INTERVAL }
     requires near { distance ≤ 32768 }
     ensures { IfSome result (λ next. (interval < next) × (pos ((next - 1) * distance) <ℤ delay)) }
 {
@@ -196,7 +197,7 @@ fn around(
     via: &[Option<Edge>; MAX_STATEMENTS],
     start: usize,
 ) -> Option<u64>
-    requires short { interval ≤ 16384 }
+    requires short { interval ≤ MAX_INTERVAL }
     requires there { start < length edges.now.latencies }
     requires via { AreVias edges.now via.now }
     ensures { IfSome result (IsAbove edges.now.edges interval) }
@@ -226,7 +227,7 @@ fn circuit(
     via: &[Option<Edge>; MAX_STATEMENTS],
     start: usize,
 ) -> Option<u64>
-    requires short { interval ≤ 16384 }
+    requires short { interval ≤ MAX_INTERVAL }
     requires there { start < length edges.now.latencies }
     requires via { AreVias edges.now via.now }
     ensures { IfSome result (IsAbove edges.now.edges interval) }
@@ -246,7 +247,7 @@ fn circuit(
 /// for each of its iterations is the bound. If no such circuit is found, the sweeps end after one for
 /// each operation, and only this interval is known to be too short.
 pub(crate) fn relax(edges: &Edges, interval: u64, numbers: &mut [u64; MAX_STATEMENTS]) -> Relaxed
-    requires short { interval ≤ 16384 }
+    requires short { interval ≤ MAX_INTERVAL }
     ensures exact { Relaxes edges.now interval numbers.new result }
     ensures well_formed { IsGraph edges.now }
 {

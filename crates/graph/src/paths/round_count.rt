@@ -5,11 +5,13 @@ ghost use Rattle.graph.specs.declared.dependence.edge.Edge.{Edge};
 ghost use Rattle.graph.specs.Walks.{FitsCircuits};
 ghost use Rattle.graph.specs.Rounds.{IsRounds, TellsFeasible};
 ghost use Rattle.graph.specs.inner.Reaches.{IsRaised};
+ghost use Rattle.machine_data.specs.declared.limits.TheConstants.{MAX_INTERVAL};
 
 use crate::layout::graph::Edges;
 use crate::paths::relaxation::{Relaxed, raised, relax, set_first};
+use machine_data::OutOfMemory;
 use machine_data::limits::MAX_STATEMENTS;
-use std::alloc::{AllocError, Global};
+use std::alloc::Global;
 
 /// Raises the number of each operation into the next row. The last operation whose number rises, if any.
 fn round(
@@ -18,7 +20,7 @@ fn round(
     numbers: &[u64; MAX_STATEMENTS],
     next: &mut [u64; MAX_STATEMENTS],
 ) -> Option<usize>
-    requires short { interval ≤ 16384 }
+    requires short { interval ≤ MAX_INTERVAL }
     requires small { (p : ℕ) → p < length edges.now.latencies → slice_index numbers.now p ≤ 2097152 }
     ensures raised { (p : ℕ) → p < length edges.now.latencies → IsRaised (filter (λ (e : Edge). e.from == p) edges.now.edges) interval numbers.now (slice_index numbers.now p) (slice_index next.new p) }
     ensures rises { (p : ℕ) → result ≡ Some p → (p < length edges.now.latencies) × (slice_index numbers.now p < slice_index next.new p) }
@@ -38,7 +40,7 @@ fn round(
 
 /// How many rounds are made at an interval that every circuit fits.
 fn rounds_to_settle(edges: &Edges, interval: u64) -> usize
-    requires short { interval ≤ 16384 }
+    requires short { interval ≤ MAX_INTERVAL }
     requires fits { FitsCircuits edges.now.edges interval }
     ensures exact { IsRounds edges.now interval true result }
 {
@@ -66,9 +68,9 @@ fn rounds_to_settle(edges: &Edges, interval: u64) -> usize
 ///
 /// # Errors
 /// None: no memory is taken.
-pub fn rounds(_alloc: Global, edges: &Edges, ii: u64) -> Result<(bool, u64), AllocError>
+pub fn rounds(_alloc: Global, edges: &Edges, ii: u64) -> Result<(bool, u64), OutOfMemory>
     requires from_one { 1 ≤ ii }
-    requires limit { ii ≤ 16384 }
+    requires limit { ii ≤ MAX_INTERVAL }
     ensures exact { IfOk result (λ r. IsRounds edges.now ii r.0 r.1) }
     ensures feasible { IfOk result (λ r. TellsFeasible edges.now.edges ii r.0) }
     ensures fits { IfOk result (λ r. r.0 ≡ true → FitsCircuits edges.now.edges ii) }

@@ -13,7 +13,7 @@ use crate::measuring::{LowerBounds, Measured};
 use crate::names::{opcode_word, push_name};
 use graph::{Edge, Edges};
 use loop_data::Loop;
-use std::alloc::AllocError;
+use machine_data::OutOfMemory;
 use writing::{Text, push_both, push_signed, push_told};
 
 /// How an edge is drawn.
@@ -25,7 +25,7 @@ pub(crate) struct Stroke {
 }
 
 /// Appends what stands before the operations.
-fn push_head(text: &mut Vec<u8>, innermost: &Loop, bounds: LowerBounds) -> Result<(), AllocError>
+fn push_head(text: &mut Vec<u8>, innermost: &Loop, bounds: LowerBounds) -> Result<(), OutOfMemory>
     ensures ok { OnOk result (text.new.items ≡ text.old.items ++ graph_head innermost.now bounds) }
 {
     let name = innermost.name().as_str();
@@ -36,7 +36,7 @@ fn push_head(text: &mut Vec<u8>, innermost: &Loop, bounds: LowerBounds) -> Resul
 }
 
 /// Appends the line of an operation.
-fn push_node(text: &mut Vec<u8>, innermost: &Loop, number: u8) -> Result<(), AllocError>
+fn push_node(text: &mut Vec<u8>, innermost: &Loop, number: u8) -> Result<(), OutOfMemory>
     requires { number < length innermost.now.statements }
     ensures ok { OnOk result (text.new.items ≡ text.old.items ++ node_line innermost.now number) }
 {
@@ -48,7 +48,7 @@ fn push_node(text: &mut Vec<u8>, innermost: &Loop, number: u8) -> Result<(), All
 }
 
 /// Appends the lines of the operations.
-fn push_nodes(text: &mut Vec<u8>, innermost: &Loop) -> Result<(), AllocError>
+fn push_nodes(text: &mut Vec<u8>, innermost: &Loop) -> Result<(), OutOfMemory>
     ensures ok { OnOk result (text.new.items ≡ text.old.items ++ flat_map (node_line innermost.now) (numbers_of innermost.now)) }
 {
     for number in 0..innermost.statements().len() {
@@ -58,7 +58,7 @@ fn push_nodes(text: &mut Vec<u8>, innermost: &Loop) -> Result<(), AllocError>
 }
 
 /// Appends a distance, unless it is 0.
-fn push_distance(text: &mut Vec<u8>, distance: u8) -> Result<(), AllocError>
+fn push_distance(text: &mut Vec<u8>, distance: u8) -> Result<(), OutOfMemory>
     ensures ok { OnOk result (text.new.items ≡ text.old.items ++ at_text distance) }
 {
     match distance {
@@ -68,7 +68,7 @@ fn push_distance(text: &mut Vec<u8>, distance: u8) -> Result<(), AllocError>
 }
 
 /// Appends what makes an edge bold.
-fn push_style(text: &mut Vec<u8>, bold: bool) -> Result<(), AllocError>
+fn push_style(text: &mut Vec<u8>, bold: bool) -> Result<(), OutOfMemory>
     ensures ok { OnOk result (text.new.items ≡ text.old.items ++ style_text bold) }
 {
     if bold {
@@ -80,8 +80,8 @@ fn push_style(text: &mut Vec<u8>, bold: bool) -> Result<(), AllocError>
 /// Appends what the line of an edge has before its label's word: `  P -> Q [label="`.
 ///
 /// # Errors
-/// [`AllocError`] where memory ran out. The text is left with a part of that.
-pub fn push_arrow_start(text: &mut Vec<u8>, edge: &Edge) -> Result<(), AllocError>
+/// [`OutOfMemory`] where memory ran out. The text is left with a part of that.
+pub fn push_arrow_start(text: &mut Vec<u8>, edge: &Edge) -> Result<(), OutOfMemory>
     ensures ok { OnOk result (text.new.items ≡ text.old.items ++ arrow_start edge.now) }
 {
     push_told(text, "  ", u64::from(edge.from))?;
@@ -93,8 +93,8 @@ pub fn push_arrow_start(text: &mut Vec<u8>, edge: &Edge) -> Result<(), AllocErro
 /// the distance in iterations, and what makes the edge bold, if it is.
 ///
 /// # Errors
-/// [`AllocError`] where memory ran out. The text is left with a part of that.
-pub fn push_arrow_end(text: &mut Vec<u8>, edge: &Edge, bold: bool) -> Result<(), AllocError>
+/// [`OutOfMemory`] where memory ran out. The text is left with a part of that.
+pub fn push_arrow_end(text: &mut Vec<u8>, edge: &Edge, bold: bool) -> Result<(), OutOfMemory>
     ensures ok { OnOk result (text.new.items ≡ text.old.items ++ arrow_end edge.now bold) }
 {
     push_signed(text, " ", i64::from(edge.delay))?;
@@ -105,7 +105,7 @@ pub fn push_arrow_end(text: &mut Vec<u8>, edge: &Edge, bold: bool) -> Result<(),
 }
 
 /// Appends the line of an edge.
-fn push_arrow(text: &mut Vec<u8>, edge: &Edge, stroke: Stroke) -> Result<(), AllocError>
+fn push_arrow(text: &mut Vec<u8>, edge: &Edge, stroke: Stroke) -> Result<(), OutOfMemory>
     ensures ok { OnOk result (text.new.items ≡ text.old.items ++ arrow_line edge.now stroke) }
 {
     push_arrow_start(text, edge)?;
@@ -126,7 +126,7 @@ fn push_arrows(
     innermost: &Loop,
     graph: &Edges,
     circuit: &[Edge],
-) -> Result<(), AllocError>
+) -> Result<(), OutOfMemory>
     requires { (machine : MachineData) × IsGraphOf machine innermost.now graph.now }
     ensures ok { OnOk result ((arrows : List ℕ) × AreTexts (IsStroke innermost.now graph.now.latencies circuit.now) arrow_line graph.now.edges arrows × (text.new.items ≡ text.old.items ++ arrows)) }
 {
@@ -147,13 +147,13 @@ fn push_arrows(
 /// The edges of the circuit are bold; a circuit without edges makes none bold.
 ///
 /// # Errors
-/// [`AllocError`] where memory ran out. The text is left with a part of the graph.
+/// [`OutOfMemory`] where memory ran out. The text is left with a part of the graph.
 pub fn push_dot(
     text: &mut Vec<u8>,
     innermost: &Loop,
     measured: &Measured,
     circuit: &[Edge],
-) -> Result<(), AllocError>
+) -> Result<(), OutOfMemory>
     requires { (machine : MachineData) × IsGraphOf machine innermost.now measured.now.graph }
     ensures ok { OnOk result ((part : List ℕ) × IsDotText innermost.now measured.now.bounds measured.now.graph circuit.now part × (text.new.items ≡ text.old.items ++ part)) }
 {

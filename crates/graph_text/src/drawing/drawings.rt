@@ -13,8 +13,8 @@ use crate::measuring::measure;
 use circuits::circuit_above;
 use graph::{Edge, Edges};
 use loop_data::Loop;
-use machine_data::Machine;
-use std::alloc::{AllocError, Global};
+use machine_data::{Machine, OutOfMemory};
+use std::alloc::Global;
 
 /// A guess of how many bytes the graph of a loop takes, for the first reservation.
 const PART: usize = 1024;
@@ -24,8 +24,8 @@ const PART: usize = 1024;
 /// then 1.
 ///
 /// # Errors
-/// An [`AllocError`] where memory ran out.
-pub fn critical_circuit(alloc: Global, edges: &Edges, bound: u64) -> Result<Vec<Edge>, AllocError>
+/// [`OutOfMemory`] where memory ran out.
+pub fn critical_circuit(alloc: Global, edges: &Edges, bound: u64) -> Result<Vec<Edge>, OutOfMemory>
     requires bound { IsRecurrenceBound edges.now.edges bound }
     requires limit { bound ≤ 8192 }
     ensures exact { IfOk result (λ circuit. IsCritical edges.now.edges bound circuit.items) }

@@ -10,15 +10,15 @@ use crate::fault::TextFault;
 use crate::measuring::{LowerBounds, measure};
 use graph::mii;
 use loop_data::Loop;
-use machine_data::Machine;
-use std::alloc::{AllocError, Global};
+use machine_data::{Machine, OutOfMemory};
+use std::alloc::Global;
 use writing::{Text, push_both, push_told};
 
 /// A guess of how many bytes a line takes, for the first reservation.
 const LINE: usize = 64;
 
 /// Appends the bounds, each after its word.
-pub(crate) fn push_bounds_told(text: &mut Vec<u8>, bounds: LowerBounds) -> Result<(), AllocError>
+pub(crate) fn push_bounds_told(text: &mut Vec<u8>, bounds: LowerBounds) -> Result<(), OutOfMemory>
     ensures ok { OnOk result (text.new.items ≡ text.old.items ++ bounds_told bounds) }
 {
     push_told(text, " res ", bounds.resources)?;
@@ -29,12 +29,12 @@ pub(crate) fn push_bounds_told(text: &mut Vec<u8>, bounds: LowerBounds) -> Resul
 /// Appends the line of a loop with its lower bounds, as [`bounds_lines`] writes it.
 ///
 /// # Errors
-/// [`AllocError`] where memory ran out. The text is left with a part of the line.
+/// [`OutOfMemory`] where memory ran out. The text is left with a part of the line.
 pub fn push_bounds_line(
     text: &mut Vec<u8>,
     innermost: &Loop,
     bounds: LowerBounds,
-) -> Result<(), AllocError>
+) -> Result<(), OutOfMemory>
     ensures ok { OnOk result (text.new.items ≡ text.old.items ++ bounds_line innermost.now bounds) }
 {
     push_both(text, "loop ", innermost.name().as_str())?;

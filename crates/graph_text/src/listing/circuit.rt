@@ -5,11 +5,11 @@ ghost use Rattle.graph_text.specs.CircuitLines.{circuit_line, sums_line};
 
 use crate::listing::sums::{Sums, push_sums, sums_of};
 use graph::Edge;
-use std::alloc::AllocError;
+use machine_data::OutOfMemory;
 use writing::{Text, push_told};
 
 /// Appends the line of the sums of a circuit and of the bound that it needs, in cycles.
-fn push_sums_line(text: &mut Vec<u8>, sums: Sums, bound: u64) -> Result<(), AllocError>
+fn push_sums_line(text: &mut Vec<u8>, sums: Sums, bound: u64) -> Result<(), OutOfMemory>
     ensures ok { OnOk result (text.new.items ≡ text.old.items ++ sums_line sums.delay sums.distance bound) }
 {
     text.push_piece("circuit")?;
@@ -23,8 +23,12 @@ fn push_sums_line(text: &mut Vec<u8>, sums: Sums, bound: u64) -> Result<(), Allo
 /// edges has the line `circuit none`.
 ///
 /// # Errors
-/// [`AllocError`] where memory ran out. The text is left with a part of the line.
-pub fn push_circuit_line(text: &mut Vec<u8>, circuit: &[Edge], bound: u64) -> Result<(), AllocError>
+/// [`OutOfMemory`] where memory ran out. The text is left with a part of the line.
+pub fn push_circuit_line(
+    text: &mut Vec<u8>,
+    circuit: &[Edge],
+    bound: u64,
+) -> Result<(), OutOfMemory>
     requires few { length circuit.now ≤ 128 }
     ensures ok { OnOk result (text.new.items ≡ text.old.items ++ circuit_line circuit.now bound) }
 {

@@ -10,6 +10,7 @@ ghost use Rattle.graph_text.specs.Edges.{AreEdgesParts, IsEdgesPart, edge_line, 
 ghost use Rattle.graph_text.specs.Faults.{TextAnswers, lacking_in};
 ghost use Rattle.graph_text.specs.Kinds.{IsOfKind};
 ghost use Rattle.graph_text.specs.Texts.{AreTexts, numbers_of};
+ghost use Rattle.machine_data.specs.declared.limits.TheConstants.{MAX_INTERVAL};
 
 use crate::fault::TextFault;
 use crate::kind::{Kind, kind_of};
@@ -19,8 +20,8 @@ use crate::measuring::measure;
 use crate::names::{opcode_word, push_name};
 use graph::{Edge, Edges, heights, longer_intervals_fit, mii};
 use loop_data::Loop;
-use machine_data::Machine;
-use std::alloc::{AllocError, Global};
+use machine_data::{Machine, OutOfMemory};
+use std::alloc::Global;
 use writing::{Text, push_both, push_told};
 
 /// A guess of how many bytes the lines of a loop take, for the first reservation.
@@ -32,7 +33,7 @@ fn push_numbered(
     word: &str,
     innermost: &Loop,
     number: u8,
-) -> Result<(), AllocError>
+) -> Result<(), OutOfMemory>
     requires { number < length innermost.now.statements }
     ensures ok { OnOk result (text.new.items ≡ text.old.items ++ (word.now ++ numbered innermost.now number)) }
 {
@@ -48,7 +49,7 @@ fn push_op(
     graph: &Edges,
     number: u8,
     height: u64,
-) -> Result<(), AllocError>
+) -> Result<(), OutOfMemory>
     requires there { number < length innermost.now.statements }
     requires all { length graph.now.latencies ≡ length innermost.now.statements }
     ensures ok { OnOk result (text.new.items ≡ text.old.items ++ op_line innermost.now graph.now.latencies number height) }
@@ -71,10 +72,10 @@ fn push_ops(
     innermost: &Loop,
     graph: &Edges,
     interval: u64,
-) -> Result<(), AllocError>
+) -> Result<(), OutOfMemory>
     requires all { length graph.now.latencies ≡ length innermost.now.statements }
     requires fits { FitsCircuits graph.now.edges interval }
-    requires limit { interval ≤ 16384 }
+    requires limit { interval ≤ MAX_INTERVAL }
     ensures ok { OnOk result ((lines : List ℕ) × AreTexts (IsHeight graph.now.edges graph.now.latencies interval) (op_line innermost.now graph.now.latencies) (numbers_of innermost.now) lines × (text.new.items ≡ text.old.items ++ lines)) }
 {
     let heights = heights(alloc, graph, interval)?;
@@ -87,13 +88,13 @@ fn push_ops(
 /// Appends the line of a dependence of this kind, as [`edges_lines`] writes it.
 ///
 /// # Errors
-/// [`AllocError`] where memory ran out. The text is left with a part of the line.
+/// [`OutOfMemory`] where memory ran out. The text is left with a part of the line.
 pub fn push_edge(
     text: &mut Vec<u8>,
     innermost: &Loop,
     edge: &Edge,
     kind: Kind,
-) -> Result<(), AllocError>
+) -> Result<(), OutOfMemory>
     requires from { edge.now.from < length innermost.now.statements }
     requires to { edge.now.to < length innermost.now.statements }
     ensures ok { OnOk result (text.new.items ≡ text.old.items ++ edge_line innermost.now edge.now kind) }
@@ -106,7 +107,7 @@ pub fn push_edge(
 }
 
 /// Appends the lines of the dependences.
-fn push_edges(text: &mut Vec<u8>, innermost: &Loop, graph: &Edges) -> Result<(), AllocError>
+fn push_edges(text: &mut Vec<u8>, innermost: &Loop, graph: &Edges) -> Result<(), OutOfMemory>
     requires { (machine : MachineData) × IsGraphOf machine innermost.now graph.now }
     ensures ok { OnOk result ((lines : List ℕ) × AreTexts (IsOfKind innermost.now graph.now.latencies) (edge_line innermost.now) graph.now.edges lines × (text.new.items ≡ text.old.items ++ lines)) }
 {

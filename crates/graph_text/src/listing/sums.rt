@@ -3,9 +3,10 @@
 ghost use Rattle.std.specs.Prelude.{◌≡◌, ◌≤◌, ◌+◌, ◌++◌, pos, ◌+ℤ◌, ◌-ℤ◌, ◌≤ℤ◌, length, OnOk};
 ghost use Rattle.graph.specs.Walks.{delay_of, distance_of};
 ghost use Rattle.graph_text.specs.Edges.{sums_told};
+ghost use Rattle.machine_data.specs.declared.limits.TheConstants.{MAX_INTERVAL};
 
 use graph::Edge;
-use std::alloc::AllocError;
+use machine_data::OutOfMemory;
 use writing::{push_signed, push_told};
 
 /// The sums of the delays and distances of edges.
@@ -20,8 +21,8 @@ pub struct Sums {
 impl Sums {
     /// The sums with one edge more.
     fn with(self, edge: Edge) -> Sums
-        requires early { self.delay ≤ℤ pos 16384 }
-        requires late { (pos 0 -ℤ pos 16384) ≤ℤ self.delay }
+        requires early { self.delay ≤ℤ pos MAX_INTERVAL }
+        requires late { (pos 0 -ℤ pos MAX_INTERVAL) ≤ℤ self.delay }
         requires near { self.distance ≤ 32768 }
         ensures delay { result.delay ≡ (self.delay +ℤ edge.delay) }
         ensures distance { result.distance ≡ self.distance + edge.distance }
@@ -55,8 +56,8 @@ pub fn sums_of(edges: &[Edge]) -> Sums
 /// Appends a delay, in cycles, and a distance, in iterations: ` delay D distance N`.
 ///
 /// # Errors
-/// [`AllocError`] where memory ran out. The text is left with a part of that.
-pub fn push_sums(text: &mut Vec<u8>, delay: i64, distance: u64) -> Result<(), AllocError>
+/// [`OutOfMemory`] where memory ran out. The text is left with a part of that.
+pub fn push_sums(text: &mut Vec<u8>, delay: i64, distance: u64) -> Result<(), OutOfMemory>
     ensures ok { OnOk result (text.new.items ≡ text.old.items ++ sums_told delay distance) }
 {
     push_signed(text, " delay ", delay)?;

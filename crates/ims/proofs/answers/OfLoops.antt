@@ -1,17 +1,14 @@
--- What is answered of a problem without its loop is answered of the loop, and the other way round.
-use Rattle.std.proofs.Common.{◌≡◌, ℕ, Option, Some, None, refl, ap, subst}
+-- A schedule of a problem without its loop is one of the loop; and what is answered of a loop is answered of its problem.
+use Rattle.std.proofs.Common.{◌≡◌, ℕ, ap, subst}
 use Rattle.graph.specs.Schedules.{IsLawfulSchedule}
 use Rattle.ims.specs.declared.outcome.attempts.Try.{Try}
 use Rattle.ims.specs.declared.outcome.attempts.Try.TheVariants.{Placed, Failed}
 use Rattle.ims.specs.Attempts.{AnswersAttempt}
-use Rattle.ims.specs.Culprits.{AnswersCulprit}
 use Rattle.ims.specs.Problems.{ProblemData, IsProblem, without_loop}
 use Rattle.ims.specs.Schedules.{ScheduleData, IsSchedule}
-use Rattle.modulo.specs.declared.outcome.attempts.Culprit.{Culprit}
 use Rattle.modulo.specs.declared.outcome.attempts.Try as answer
 use Rattle.modulo.specs.declared.outcome.attempts.Try.TheVariants as try
 use Rattle.modulo.specs.Attempts as attempts
-use Rattle.modulo.specs.Culprits as culprits
 use Rattle.modulo.specs.Problems as problems
 use Rattle.modulo.specs.Schedules as schedules
 
@@ -46,16 +43,7 @@ of-loop p s is same h = record {
   stages = h.stages;
 }
 
-pub answer-of : (p : ProblemData) (ii budget : ℕ) (s : schedules.ScheduleData) → IsProblem p
-    → attempts.AnswersAttempt (without_loop p) ii budget (try.Placed s) → AnswersAttempt p ii budget (Placed (of_loop p s))
-answer-of p ii budget s is h = (h.0, h.1, refl, h.3, of-loop p s is h.2 h.4)
-
 pub answer-bare : (p : ProblemData) (ii budget : ℕ) (one : Try) → AnswersAttempt p ii budget one
     → attempts.AnswersAttempt (without_loop p) ii budget (bare_answer one)
 answer-bare p ii budget (Failed failure) h = h
 answer-bare p ii budget (Placed s) h = (h.0, h.1, ap without_loop h.2, h.3, bare-is s h.4)
-
-pub culprit-of : (p : ProblemData) (ii budget : ℕ) (found : Option Culprit) → IsProblem p
-    → culprits.AnswersCulprit (without_loop p) ii budget found → AnswersCulprit p ii budget found
-culprit-of p ii budget (Some culprit) is h = h
-culprit-of p ii budget None is h = (of_loop p h.0, answer-of p ii budget h.0 is h.1)

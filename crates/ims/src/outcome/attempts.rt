@@ -4,6 +4,7 @@ ghost use Rattle.std.specs.Prelude.{◌≡◌, ◌≤◌, ℕ, length, replicate
 ghost use Rattle.ims.specs.Attempts.{AnswersAttempt};
 ghost use Rattle.ims.specs.Problems.{mii_of, without_loop};
 ghost use Rattle.modulo.specs.Attempts as attempts;
+ghost use Rattle.machine_data.specs.declared.limits.TheConstants.{MAX_BUDGET, MAX_INTERVAL};
 
 use crate::problem::prepared::Prepared;
 use crate::schedules::schedule::Schedule;
@@ -27,7 +28,7 @@ pub enum Try<'a> {
 /// operations are placed without taking more.
 ///
 /// # Errors
-/// [`AllocError`](std::alloc::AllocError) where memory ran out.
+/// [`OutOfMemory`] where memory ran out.
 pub fn attempt<'a, T: ModuloTable>(
     alloc: Global,
     prepared: &'a Prepared,
@@ -35,8 +36,8 @@ pub fn attempt<'a, T: ModuloTable>(
     budget: u64,
 ) -> Result<Try<'a>, OutOfMemory>
     requires from_mii { mii_of prepared.now ≤ ii }
-    requires limit { ii ≤ 16384 }
-    requires budget { budget ≤ 8192 }
+    requires limit { ii ≤ MAX_INTERVAL }
+    requires budget { budget ≤ MAX_BUDGET }
     ensures exact { IfOk result (AnswersAttempt prepared.now ii budget) }
 {
     let found = modulo::attempt::<T>(alloc, prepared.problem(), ii, budget)?;
@@ -47,7 +48,7 @@ pub fn attempt<'a, T: ModuloTable>(
 /// are tried one after another, [`ModuloTable::at`] makes the next table from the last one.
 ///
 /// # Errors
-/// [`AllocError`](std::alloc::AllocError) where memory ran out.
+/// [`OutOfMemory`] where memory ran out.
 pub fn attempt_on<'a, T: ModuloTable>(
     alloc: Global,
     prepared: &'a Prepared,
@@ -57,8 +58,8 @@ pub fn attempt_on<'a, T: ModuloTable>(
     requires operations { T.operations table.old ≡ prepared.now.operations }
     requires empty { T.placed table.old ≡ replicate (length prepared.now.operations) None }
     requires from_mii { mii_of prepared.now ≤ T.interval table.old }
-    requires limit { T.interval table.old ≤ 16384 }
-    requires budget { budget ≤ 8192 }
+    requires limit { T.interval table.old ≤ MAX_INTERVAL }
+    requires budget { budget ≤ MAX_BUDGET }
     ensures exact { IfOk result (AnswersAttempt prepared.now (T.interval table.old) budget) }
     ensures operations { T.operations table.new ≡ T.operations table.old }
 {

@@ -3,7 +3,9 @@
 ghost use Rattle.std.specs.Prelude.{◌≤◌, IfOk};
 ghost use Rattle.ims.specs.Culprits.{AnswersCulprit};
 ghost use Rattle.ims.specs.Problems.{mii_of};
+ghost use Rattle.machine_data.specs.declared.limits.TheConstants.{MAX_BUDGET, MAX_INTERVAL};
 
+use crate::outcome::answers::{Answer, answer_on};
 use crate::problem::prepared::Prepared;
 use machine_data::OutOfMemory;
 use modulo::Culprit;
@@ -11,10 +13,11 @@ use mrt::ModuloTable;
 use std::alloc::Global;
 
 /// What keeps an attempt at an interval from a schedule, `None` where it finds one. The attempt is that of
-/// [`attempt`](crate::attempt), with the same limits, and is made anew.
+/// [`attempt`](crate::attempt), with the same limits, and is made anew: where its schedule is wanted too, take
+/// [`answer_on`].
 ///
 /// # Errors
-/// [`AllocError`](std::alloc::AllocError) where memory ran out.
+/// [`OutOfMemory`] where memory ran out.
 pub fn culprit<T: ModuloTable>(
     alloc: Global,
     prepared: &Prepared,
@@ -22,9 +25,13 @@ pub fn culprit<T: ModuloTable>(
     budget: u64,
 ) -> Result<Option<Culprit>, OutOfMemory>
     requires from_mii { mii_of prepared.now ≤ ii }
-    requires limit { ii ≤ 16384 }
-    requires budget { budget ≤ 8192 }
+    requires limit { ii ≤ MAX_INTERVAL }
+    requires budget { budget ≤ MAX_BUDGET }
     ensures exact { IfOk result (AnswersCulprit prepared.now ii budget) }
 {
-    modulo::culprit::<T>(alloc, prepared.problem(), ii, budget)
+    let mut table = T::make(alloc, prepared.alternatives(), ii)?;
+    match answer_on(alloc, prepared, &mut table, budget)? {
+        Answer::Placed(_) => Ok(None),
+        Answer::Failed(culprit) => Ok(Some(culprit)),
+    }
 }

@@ -4,6 +4,7 @@ ghost use Rattle.std.specs.Prelude.{◌≡◌, ◌≤◌, max, length};
 ghost use Rattle.graph.specs.TablesAnswer.{TablesAnswer};
 ghost use Rattle.graph.specs.Units.{first_without_table};
 ghost use Rattle.ims.specs.Problems.{IsProblem, IsProblemOf, mii_of, without_loop};
+ghost use Rattle.machine_data.specs.declared.limits.TheConstants.{MAX_CEILING, MAX_RATIO};
 
 use crate::problem::offers::offers;
 use graph::{Edges, GraphFault};
@@ -47,8 +48,8 @@ impl Prepared {
         ratio: u64,
         ceiling: u64,
     ) -> Result<Prepared, GraphFault>
-        requires ratio { (1 ≤ ratio) × (ratio ≤ 64) }
-        requires ceiling { ceiling ≤ 255 }
+        requires ratio { (1 ≤ ratio) × (ratio ≤ MAX_RATIO) }
+        requires ceiling { ceiling ≤ MAX_CEILING }
         ensures exact { TablesAnswer (first_without_table machine.now innermost) (IsProblemOf machine.now innermost ratio ceiling) result }
     {
         let edges = graph::edges(alloc, machine, &innermost)?;

@@ -4,6 +4,7 @@ ghost use Rattle.std.specs.Prelude.{◌≡◌, ℕ, ◌≤◌, ◌<◌, ◌*◌,
 ghost use Rattle.std.specs.List.{slice_index_or};
 ghost use Rattle.ims.specs.Problems.{without_loop};
 ghost use Rattle.ims.specs.Schedules.{ScheduleData, IsSchedule, stages_of, as_listed};
+ghost use Rattle.machine_data.specs.declared.limits.TheConstants.{MAX_INTERVAL};
 
 use crate::problem::prepared::Prepared;
 use machine_data::OutOfMemory;
@@ -99,7 +100,7 @@ impl<'a> Schedule<'a> {
     /// or more.
     ///
     /// # Errors
-    /// [`AllocError`](std::alloc::AllocError) where memory ran out.
+    /// [`OutOfMemory`] where memory ran out.
     pub fn check(
         alloc: Global,
         prepared: &'a Prepared,
@@ -107,7 +108,7 @@ impl<'a> Schedule<'a> {
         places: &[(u64, usize)],
     ) -> Result<Option<Schedule<'a>>, OutOfMemory>
         requires some { 1 ≤ ii }
-        requires limit { ii ≤ 16384 }
+        requires limit { ii ≤ MAX_INTERVAL }
         ensures exact { IfOk result (λ found. MatchOption found (IsSchedule (as_listed prepared.now ii places.now) → ⊥)
             (λ s. IsSchedule s × (s ≡ as_listed prepared.now ii places.now))) }
     {

@@ -99,7 +99,7 @@ fn have_stages(operations: &[Operation], stages: u64) -> bool
 
 /// Whether each operation's latency is 1 to 64.
 fn have_latencies(operations: &[Operation]) -> bool
-    ensures { IsTrue result ↔ All (λ (op : Operation). (1 ≤ op.latency) × (op.latency ≤ 64)) operations.now }
+    ensures { IsTrue result ↔ All (λ (op : Operation). (1 ≤ op.latency) × (op.latency ≤ MAX_LATENCY)) operations.now }
 {
     operations
         .iter()
@@ -232,7 +232,7 @@ fn address_is_there(op: &Operation, address: Address, arrays: usize) -> bool
 
 /// Whether preloads name different registers that are there.
 fn are_preloads(preloads: &[Preload], registers: u64) -> bool
-    requires { registers ≤ 256 }
+    requires { registers ≤ MAX_REGISTERS }
     ensures { IsTrue result ↔ ArePreloads registers preloads.now }
 {
     let mut is_taken = [false; REGISTERS];

@@ -1,6 +1,7 @@
 -- The faults of a line as the reader tests them: by an index of the block's names, counts of the lines so far, and tables of what
 -- the lines so far gave to the block's values.
 use Rattle.std.specs.Prelude.{◌≡◌, ℕ, zero, suc, ℤ, ◌+◌, ◌*◌, ◌<◌, ◌≤◌, ◌==◌, ◌||◌, ◌&&◌, nat_lt, nat_le, not, Bool, true, false, if◌then◌else◌, List, [], ◌∷◌, ◌++◌, length, Option, Some, None, is_some, is_none, slice_index_or, slice_set}
+use Rattle.machine_data.specs.declared.limits.TheConstants.{MAX_CELLS}
 use Rattle.std.specs.List.{list_any, AllByRecursion}
 use Rattle.loop_lines.specs.Forms.{Form, LoopLine, ArrayLine, ParamLine, InitLine, StatementLine, OutLine, EndLine, Malformed, Use, At}
 use Rattle.loop_data.specs.Names.{is_name}
@@ -72,7 +73,7 @@ is_live outs _ = false
 -- the faults of a line after those that `counts` counts
 abbrev pub kinds_at : List Form → Counts → List (Option ℤ) → List Bool → Form → Kinds
 kinds_at block counts inits outs (ArrayLine name cells) =
-    when (is_long name || list_any is_none cells || nat_lt 1024 (length cells) || nat_le 32 counts.arrays) Limit
+    when (is_long name || list_any is_none cells || nat_lt MAX_CELLS (length cells) || nat_le 32 counts.arrays) Limit
     ++ when (not (is_that (AnArray counts.arrays) (declared block name))) RepeatedName
 kinds_at block counts inits outs (ParamLine name value) =
     when (is_long name || is_none value || nat_le 64 counts.params) Limit

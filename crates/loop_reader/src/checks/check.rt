@@ -13,14 +13,15 @@ ghost use Rattle.loop_reader.specs.inner.Blocks.{declared_seen, entry_faults, fo
 ghost use Rattle.loop_reader.specs.inner.Building.{IsFew};
 ghost use Rattle.loop_reader.specs.inner.Found.{array_in, fault_in, target_in, AreFound, IsFoundFor, IsFoundIn};
 ghost use Rattle.loop_reader.specs.inner.Checks.{any_use, covers_name, first_in, inits_with, is_that, kinds_at, lacks_init, outs_with, IsBlock, IsGiven, IsNear, IsNearForm, IsNearRead, IsNearUse, IsRoomFor};
+ghost use Rattle.machine_data.specs.declared.limits.TheConstants.{MAX_DISTANCE};
 
 use crate::checks::given::Given;
 use crate::fault::{LoopFault, LoopFaultKind};
 use crate::names::found::{Target, Targets, declared_number, target_of};
 use crate::names::index::{Counts, Declared, Index};
 use loop_lines::{CellWords, Form, StatementWords, Subscript, Use, are_wide};
+use machine_data::OutOfMemory;
 use machine_data::limits::{MAX_ARRAYS, MAX_NAME, MAX_PARAMETERS, MAX_STATEMENTS};
-use std::alloc::AllocError;
 
 pub(crate) fn is_long(name: &[u8]) -> bool
     ensures { result ≡ meaning.is_long name.now }
@@ -64,7 +65,7 @@ fn is_wide(read: &Option<Use<'_>>) -> bool
 /// All initial values of a name from 1 to a distance were given.
 fn covers_name(given: &Given, found: Option<Declared>, distance: u8) -> bool
     requires below { IsRoomFor (length given.now.inits) (option_map declared_seen found) }
-    requires near { distance ≤ 16 }
+    requires near { distance ≤ MAX_DISTANCE }
     ensures { result ≡ covers_name given.now.inits (option_map declared_seen found) distance }
 {
     match found {
@@ -384,7 +385,7 @@ pub(crate) fn first_fault<'a>(
     sound: usize,
     given: &mut Given,
     found: &mut Vec<Targets>,
-) -> Result<Option<LoopFault>, AllocError>
+) -> Result<Option<LoopFault>, OutOfMemory>
     requires sound { sound ≤ length index.now }
     requires inits { given.old.inits ≡ replicate (16 * how_many is_statement (forms_in index.now)) None }
     requires outs { given.old.outs.items ≡ replicate (how_many is_statement (forms_in index.now)) false }

@@ -3,15 +3,16 @@
 ghost use Rattle.std.specs.Prelude.{◌≡◌, ◌*◌, ◌+◌, ◌-◌, ◌<◌, ◌≤◌, ◌^◌, ℕ, OnOk, IsTrue, None, Some, false, is_some, length, replicate, slice_set};
 ghost use Rattle.loop_reader.specs.inner.Checks.{covers, slot};
 
+use machine_data::OutOfMemory;
 use machine_data::limits::MAX_DISTANCE;
-use std::alloc::{AllocError, Global};
+use std::alloc::Global;
 use std::marker::Model;
 
 /// How many initial values a value may have.
 const PLACES: usize = MAX_DISTANCE as usize;
 
 /// So many flags, and none of them set.
-fn unmark(flags: &mut Vec<bool>, count: usize) -> Result<(), AllocError>
+fn unmark(flags: &mut Vec<bool>, count: usize) -> Result<(), OutOfMemory>
     ensures items { OnOk result (flags.new.items ≡ replicate count false) }
     ensures none { flags.new.items ≡ replicate (length flags.new.items) false }
     ensures most { length flags.new.items ≤ count }
@@ -53,7 +54,7 @@ impl Table {
 
     /// So many rows, and no value in any of them.
     #[tactic(auto, using(crate::proofs::faults::Taken::none_taken))]
-    fn reset(&mut self, rows: usize) -> Result<(), AllocError>
+    fn reset(&mut self, rows: usize) -> Result<(), OutOfMemory>
         requires { rows < 2 ^ 40 }
         ensures { OnOk result (self.new ≡ replicate (16 * rows) None) }
     {
@@ -126,7 +127,7 @@ impl Given {
     }
 
     /// Nothing is given to any of these values.
-    pub(crate) fn reset(&mut self, values: usize) -> Result<(), AllocError>
+    pub(crate) fn reset(&mut self, values: usize) -> Result<(), OutOfMemory>
         requires { values < 2 ^ 40 }
         ensures inits { OnOk result (self.new.inits ≡ replicate (16 * values) None) }
         ensures outs { OnOk result (self.new.outs.items ≡ replicate values false) }
@@ -138,7 +139,7 @@ impl Given {
     /// All initial values from 1 to a distance were given.
     pub(crate) fn covers(&self, value: usize, distance: u8) -> bool
         requires below { 16 * value + 16 ≤ length self.now.inits }
-        requires near { distance ≤ 16 }
+        requires near { distance ≤ MAX_DISTANCE }
         ensures { result ≡ covers self.now.inits value distance }
     {
         for m in 0..distance as usize {

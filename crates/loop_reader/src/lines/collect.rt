@@ -9,7 +9,7 @@ ghost use Rattle.loop_reader.specs.declared.lines.entry.LineEntry.{LineEntry};
 
 use crate::lines::entry::LineEntry;
 use loop_lines::{Form, form_of, next_line};
-use std::alloc::AllocError;
+use machine_data::OutOfMemory;
 
 /// Where the lines that stand in a block stop.
 #[derive(Clone, Copy)]
@@ -67,7 +67,7 @@ fn collect<'a>(
     lines: &mut Vec<LineEntry<'a>>,
     text: &'a [u8],
     number: usize,
-) -> Result<(Seen, Stop<'a>), AllocError>
+) -> Result<(Seen, Stop<'a>), OutOfMemory>
     requires { number + length text.now < 2 ^ 32 }
     ensures stops { IfOk result (λ r. StopsAt number (forms_of text.now) lines.new.items r.1) }
     ensures behind { IfOk result (λ r. IsBehind (number + length text.now) r.1) }
@@ -107,7 +107,7 @@ fn collect_rest<'a>(
     lines: &mut Vec<LineEntry<'a>>,
     mut seen: Seen,
     text: &'a [u8],
-) -> Result<(), AllocError>
+) -> Result<(), OutOfMemory>
     requires statement { seen.statement ≡ has_statement (forms_in lines.old.items) }
     requires out { seen.out ≡ has_out (forms_in lines.old.items) }
     ensures whole { OnOk result (forms_in lines.new.items ≡ whole (forms_in lines.old.items) (forms_of text.now)) }
@@ -140,7 +140,7 @@ pub(crate) fn collect_block<'a>(
     lines: &mut Vec<LineEntry<'a>>,
     text: &'a [u8],
     number: usize,
-) -> Result<(usize, Stop<'a>), AllocError>
+) -> Result<(usize, Stop<'a>), OutOfMemory>
     requires { number + length text.now < 2 ^ 32 }
     ensures whole { IfOk result (λ r. forms_in lines.new.items ≡ whole [] (forms_of text.now)) }
     ensures stops { IfOk result (λ r. StopsBlock number (forms_of text.now) lines.new.items r.0 r.1) }

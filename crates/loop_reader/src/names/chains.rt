@@ -6,7 +6,8 @@ ghost use Rattle.machine_data.specs.Opcodes.{same_word};
 ghost use Rattle.loop_reader.specs.inner.Chains.{chain_of, chained_as, IsLatest, IsLinked};
 
 use crate::names::index::Declared;
-use std::alloc::{AllocError, Global};
+use machine_data::OutOfMemory;
+use std::alloc::Global;
 use std::hash::{FoldHasher, Hasher};
 use std::marker::Model;
 
@@ -79,7 +80,7 @@ fn find(links: &[Link<'_>], latest: usize, name: &[u8]) -> Option<Declared>
 
 impl<'a> Chains<'a> {
     /// No names.
-    pub(crate) fn new(alloc: Global) -> Result<Chains<'a>, AllocError>
+    pub(crate) fn new(alloc: Global) -> Result<Chains<'a>, OutOfMemory>
         ensures { IfOk result (λ chains. chains ≡ []) }
     {
         let mut latest = Vec::new(alloc);
@@ -123,7 +124,7 @@ impl<'a> Chains<'a> {
         chain: usize,
         name: &'a [u8],
         what: Declared,
-    ) -> Result<(), AllocError>
+    ) -> Result<(), OutOfMemory>
         requires chain { chain ≡ chain_of name.now }
         requires absent { chained_as self.old name.now ≡ None }
         ensures { OnOk result ((q : List ℕ) → chained_as self.new q ≡ option_or (chained_as self.old q) (if same_word q name.now then Some what else None)) }

@@ -12,7 +12,7 @@ ghost use Rattle.loop_reader.specs.inner.Checks.{is_that};
 use crate::lines::entry::LineEntry;
 use crate::names::known::Names;
 use loop_lines::Form;
-use std::alloc::AllocError;
+use machine_data::OutOfMemory;
 use std::marker::Model;
 
 /// What a name stands for: an array, a parameter or the value of a statement, by its number from 0.
@@ -85,7 +85,7 @@ fn add_declared<'a>(
     names: &mut Names<'a>,
     form: &Form<'a>,
     before: Counts,
-) -> Result<bool, AllocError>
+) -> Result<bool, OutOfMemory>
     ensures names { OnOk result ((q : List ℕ) → option_map declared_seen (known_as names.new q)
         ≡ option_or (option_map declared_seen (known_as names.old q)) (declared_by q before.arrays before.params before.statements (form_seen form.now))) }
     ensures fresh { IfOk result (λ fresh. fresh ≡ true → (q : List ℕ) (what : meaning.Declared)
@@ -103,7 +103,7 @@ fn add_declared<'a>(
 pub(crate) fn index_names<'a>(
     names: &mut Names<'a>,
     lines: &[LineEntry<'a>],
-) -> Result<(Counts, bool), AllocError>
+) -> Result<(Counts, bool), OutOfMemory>
     ensures counts { IfOk result (λ r. IsCounts (forms_in lines.now) r.0) }
     ensures indexed { IfOk result (λ r. IsIndexed lines.now names.new r.1) }
 {

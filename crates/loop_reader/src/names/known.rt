@@ -11,7 +11,8 @@ ghost use Rattle.loop_reader.specs.inner.Chains.{chain_of};
 
 use crate::names::chains::{Chains, chain_of};
 use crate::names::index::Declared;
-use std::alloc::{AllocError, Global};
+use machine_data::OutOfMemory;
+use std::alloc::Global;
 use std::collections::BTreeMap;
 
 /// Names, each with what it stands for. The chains are quicker, but names may be picked so that all of
@@ -27,7 +28,7 @@ fn add_other<'a>(
     others: &mut BTreeMap<&'a [u8], Declared>,
     name: &'a [u8],
     what: Declared,
-) -> Result<bool, AllocError>
+) -> Result<bool, OutOfMemory>
     ensures names { OnOk result ((q : List ℕ) → get_by (λ k. slice_cmp nat_cmp q k.now) others.new
         ≡ option_or (get_by (λ k. slice_cmp nat_cmp q k.now) others.old) (if same_word q name.now then Some what else None)) }
     ensures added { IfOk result (λ added. added ≡ is_none (get_by (λ k. slice_cmp nat_cmp name.now k.now) others.old)) }
@@ -43,7 +44,7 @@ fn add_other<'a>(
 
 impl<'a> Names<'a> {
     /// A table with no names.
-    pub(crate) fn new(alloc: Global) -> Result<Names<'a>, AllocError>
+    pub(crate) fn new(alloc: Global) -> Result<Names<'a>, OutOfMemory>
         ensures { IfOk result (λ names. (q : List ℕ) → known_as names q ≡ None) }
     {
         Ok(Names {
@@ -73,7 +74,7 @@ impl<'a> Names<'a> {
 
     /// Adds a name, unless it is there already. The result is whether it was added.
     #[inline(always)]
-    pub(crate) fn add(&mut self, name: &'a [u8], what: Declared) -> Result<bool, AllocError>
+    pub(crate) fn add(&mut self, name: &'a [u8], what: Declared) -> Result<bool, OutOfMemory>
         ensures names { OnOk result ((q : List ℕ) → known_as self.new q ≡ option_or (known_as self.old q) (if same_word q name.now then Some what else None)) }
         ensures added { IfOk result (λ added. added ≡ is_none (known_as self.old name.now)) }
     {

@@ -4,7 +4,8 @@ ghost use Rattle.std.specs.Prelude.{◌≡◌, ◌++◌, IfOk};
 ghost use Rattle.machine.specs.MachineText.{path_of, path_in};
 
 use crate::fault::Key;
-use std::alloc::{AllocError, Global};
+use machine_data::OutOfMemory;
+use std::alloc::Global;
 use std::marker::Model;
 
 /// The path of a table or a key, in pieces: it is put together for a fault alone. Contracts see the
@@ -63,7 +64,7 @@ impl<'a> Path<'a> {
     }
 
     /// The path with a last piece after it, as the key of a fault.
-    pub(crate) fn to_key(&self, alloc: Global, last: &str) -> Result<Key, AllocError>
+    pub(crate) fn to_key(&self, alloc: Global, last: &str) -> Result<Key, OutOfMemory>
         ensures { IfOk result (λ key. key ≡ self.now ++ last.now) }
     {
         let mut text = String::new(alloc);

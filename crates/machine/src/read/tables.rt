@@ -11,8 +11,8 @@ use crate::read::path::Path;
 use crate::read::rows::read_alternatives;
 use crate::read::{check_keys, read_number};
 use machine_data::limits::MAX_LATENCY;
-use machine_data::{Name, OPCODES, Opcode, OpcodeTable};
-use std::alloc::{AllocError, Global};
+use machine_data::{Name, OPCODES, Opcode, OpcodeTable, OutOfMemory};
+use std::alloc::Global;
 use toml::Value;
 
 /// For each opcode, by its number, its table, where it has one.
@@ -41,7 +41,7 @@ pub(crate) fn read_tables(
 }
 
 /// No table for any opcode.
-fn no_tables(alloc: Global) -> Result<Vec<Option<OpcodeTable>>, AllocError>
+fn no_tables(alloc: Global) -> Result<Vec<Option<OpcodeTable>>, OutOfMemory>
     ensures { IfOk result (λ tables. tables.items ≡ replicate 13 None) }
 {
     let mut tables = Vec::with_capacity(alloc, OPCODES)?;

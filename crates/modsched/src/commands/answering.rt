@@ -4,8 +4,10 @@ ghost use Rattle.std.specs.Prelude.{◌≡◌, IfErr};
 ghost use Rattle.problem_printouts.specs.Solving.{AnswersSolve};
 ghost use Rattle.problem_printouts.specs.Judging.{AnswersCheck};
 ghost use Rattle.modsched.specs.Engine.{AnswersReport, ProblemsBring, problems_ending};
+ghost use Rattle.modsched.specs.inner.Answers.{ending_of};
 ghost use Rattle.modsched.specs.inner.Refusals.{IsRefusal};
 
+use super::answer::Answer;
 use command_line::{Format, Report};
 use exit_status::Status;
 use printouts::Printout;
@@ -24,16 +26,16 @@ pub(crate) fn solve_text<R: Threads + Sync>(
     settings: &Settings,
     format: Format,
     problems: &[u8],
-) -> Result<Printout, Status>
-    ensures brings { ProblemsBring (AnswersSolve settings.now format problems.now) result }
+) -> Result<Answer, Status>
+    ensures brings { ProblemsBring (AnswersSolve settings.now format problems.now) (ending_of result) }
     ensures kind { IfErr result IsRefusal }
 {
     problems_ending(solve_printout(rt, alloc, problems, settings, format))
 }
 
 /// What is written of the problems of a text, or the status of a refusal.
-pub(crate) fn report_text(alloc: Global, told: &Report, problems: &[u8]) -> Result<Printout, Status>
-    ensures brings { ProblemsBring (AnswersReport told.now problems.now) result }
+pub(crate) fn report_text(alloc: Global, told: &Report, problems: &[u8]) -> Result<Answer, Status>
+    ensures brings { ProblemsBring (AnswersReport told.now problems.now) (ending_of result) }
     ensures kind { IfErr result IsRefusal }
 {
     match told {
@@ -44,24 +46,20 @@ pub(crate) fn report_text(alloc: Global, told: &Report, problems: &[u8]) -> Resu
 }
 
 /// What `check` writes of the problems of a text and solutions of them, or the status of a refusal.
-pub(crate) fn check_text(
-    alloc: Global,
-    problems: &[u8],
-    solutions: &[u8],
-) -> Result<Printout, Status>
-    ensures brings { ProblemsBring (AnswersCheck problems.now solutions.now) result }
+pub(crate) fn check_text(alloc: Global, problems: &[u8], solutions: &[u8]) -> Result<Answer, Status>
+    ensures brings { ProblemsBring (AnswersCheck problems.now solutions.now) (ending_of result) }
     ensures kind { IfErr result IsRefusal }
 {
     problems_ending(check_printout(alloc, problems, solutions))
 }
 
 /// What problems come to, with the status of a refusal. All are met where none has failed.
-fn problems_ending(outcome: Result<Answers, ProblemsFault>) -> Result<Printout, Status>
-    ensures ending { result ≡ problems_ending outcome }
+fn problems_ending(outcome: Result<Answers, ProblemsFault>) -> Result<Answer, Status>
+    ensures ending { ending_of result ≡ problems_ending outcome }
     ensures kind { IfErr result IsRefusal }
 {
     match outcome {
-        Ok(answers) => Ok(Printout::new(answers.text, answers.failed == 0)),
+        Ok(answers) => Ok(Answer::Printout(Printout::new(answers.text, answers.failed == 0))),
         Err(fault) => Err(Status::from(fault)),
     }
 }

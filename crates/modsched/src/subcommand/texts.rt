@@ -1,10 +1,9 @@
 //! The texts that a command reads.
 
 ghost use Rattle.std.specs.Prelude.{◌≡◌, ◌+◌, ◌-◌, ◌^◌, ◌<◌, ◌↔◌, Some, take, drop, true, false, IfOk, IfSome, OnOk, IsErrOf};
-ghost use Rattle.modsched.specs.Devices.{most_read};
-ghost use Rattle.modsched.specs.Engine.{first_for, machine_for_work, most_problems_read, most_read_by, reads_first, work_reads_machine};
+ghost use Rattle.modsched.specs.Engine.{first_for, most_problems_read, most_read_by, reads_first};
 
-use command_line::{Command, Work};
+use command_line::Command;
 use devices::{Input, ReadTextError, read_text, read_text_of};
 use std::alloc::Global;
 
@@ -25,10 +24,9 @@ pub(super) fn first_text<M: Input>(
     ensures fault { IsErrOf result ReadTextError.Fault ↔ (M.failed input.new ≡ M.failed input.old + 1) }
     ensures memory { IsErrOf result ReadTextError.Memory → M.failed input.new ≡ M.failed input.old }
 {
-    match command {
-        Command::Loops { work, .. } => machine_text(alloc, work, input),
-        Command::Solve { .. } | Command::Problems { .. } => Ok(Vec::new(alloc)),
-        Command::Check { .. } => problem_text(alloc, input),
+    match command.first_path() {
+        Some(_) => text_of(alloc, command, input),
+        None => Ok(Vec::new(alloc)),
     }
 }
 
@@ -45,31 +43,27 @@ pub(super) fn last_text<L: Input>(
     ensures fault { IsErrOf result ReadTextError.Fault ↔ (L.failed input.new ≡ L.failed input.old + 1) }
     ensures memory { IsErrOf result ReadTextError.Memory → L.failed input.new ≡ L.failed input.old }
 {
+    text_of(alloc, command, input)
+}
+
+/// A text of the kind that the command reads, up to one byte past what such a text may have.
+fn text_of<I: Input>(
+    alloc: Global,
+    command: &Command,
+    input: &mut I,
+) -> Result<Vec<u8>, ReadTextError>
+    requires { I.failed input.old < 2 ^ 64 - 1 }
+    ensures text { IfOk result (λ text. IfSome (I.left input.old) (λ bytes. text.items ≡ take (most_read_by command.now) bytes)) }
+    ensures rest { OnOk result (IfSome (I.left input.old) (λ bytes. I.left input.new ≡ Some (drop (most_read_by command.now) bytes))) }
+    ensures fine { OnOk result (I.failed input.new ≡ I.failed input.old) }
+    ensures fault { IsErrOf result ReadTextError.Fault ↔ (I.failed input.new ≡ I.failed input.old + 1) }
+    ensures memory { IsErrOf result ReadTextError.Memory → I.failed input.new ≡ I.failed input.old }
+{
     match command {
-        Command::Loops { .. } => read_text(alloc, input),
+        Command::Loops { .. } | Command::Lint(_) => read_text(alloc, input),
         Command::Solve { .. } | Command::Problems { .. } | Command::Check { .. } => {
             problem_text(alloc, input)
         }
-    }
-}
-
-/// The machine's text, which is empty where none is read.
-fn machine_text<M: Input>(
-    alloc: Global,
-    work: &Work,
-    input: &mut M,
-) -> Result<Vec<u8>, ReadTextError>
-    requires { M.failed input.old < 2 ^ 64 - 1 }
-    ensures text { IfOk result (λ text. IfSome (machine_for_work work.now (M.left input.old)) (λ bytes. text.items ≡ take most_read bytes)) }
-    ensures rest { work_reads_machine work.now ≡ true → OnOk result (IfSome (M.left input.old) (λ bytes. M.left input.new ≡ Some (drop most_read bytes))) }
-    ensures untouched { work_reads_machine work.now ≡ false → input.new ≡ input.old }
-    ensures fine { OnOk result (M.failed input.new ≡ M.failed input.old) }
-    ensures fault { IsErrOf result ReadTextError.Fault ↔ (M.failed input.new ≡ M.failed input.old + 1) }
-    ensures memory { IsErrOf result ReadTextError.Memory → M.failed input.new ≡ M.failed input.old }
-{
-    match work {
-        Work::Plain { .. } => Ok(Vec::new(alloc)),
-        Work::OnMachine { .. } => read_text(alloc, input),
     }
 }
 

@@ -4,6 +4,7 @@ ghost use Rattle.std.specs.Prelude.{◌≡◌, ◌≤◌, ℕ, length, replicate
 ghost use Rattle.graph.specs.Schedules.{IsLawfulSchedule};
 ghost use Rattle.modulo.specs.Problems.{IsProblem, mii_of};
 ghost use Rattle.modulo.specs.Attempts.{IsBlocked, EndsPlaced, AnswersAttempt};
+ghost use Rattle.machine_data.specs.declared.limits.TheConstants.{MAX_BUDGET, MAX_INTERVAL};
 
 use crate::outcome::ending::{End, end_on, first_late};
 use crate::problem::problems::Problem;
@@ -50,7 +51,7 @@ pub enum Culprit {
 /// operations are placed without taking more.
 ///
 /// # Errors
-/// [`AllocError`](std::alloc::AllocError) where memory ran out.
+/// [`OutOfMemory`] where memory ran out.
 pub fn attempt<'a, T: ModuloTable>(
     alloc: Global,
     problem: &'a Problem,
@@ -58,8 +59,8 @@ pub fn attempt<'a, T: ModuloTable>(
     budget: u64,
 ) -> Result<Try<'a>, OutOfMemory>
     requires from_mii { mii_of problem.now ≤ ii }
-    requires limit { ii ≤ 16384 }
-    requires budget { budget ≤ 8192 }
+    requires limit { ii ≤ MAX_INTERVAL }
+    requires budget { budget ≤ MAX_BUDGET }
     ensures exact { IfOk result (AnswersAttempt problem.now ii budget) }
 {
     let mut table = T::make(alloc, problem.alternatives(), ii)?;
@@ -70,7 +71,7 @@ pub fn attempt<'a, T: ModuloTable>(
 /// are tried one after another, [`ModuloTable::at`] makes the next table from the last one.
 ///
 /// # Errors
-/// [`AllocError`](std::alloc::AllocError) where memory ran out.
+/// [`OutOfMemory`] where memory ran out.
 pub fn attempt_on<'a, T: ModuloTable>(
     alloc: Global,
     problem: &'a Problem,
@@ -80,8 +81,8 @@ pub fn attempt_on<'a, T: ModuloTable>(
     requires operations { T.operations table.old ≡ problem.now.operations }
     requires empty { T.placed table.old ≡ replicate (length problem.now.operations) None }
     requires from_mii { mii_of problem.now ≤ T.interval table.old }
-    requires limit { T.interval table.old ≤ 16384 }
-    requires budget { budget ≤ 8192 }
+    requires limit { T.interval table.old ≤ MAX_INTERVAL }
+    requires budget { budget ≤ MAX_BUDGET }
     ensures exact { IfOk result (AnswersAttempt problem.now (T.interval table.old) budget) }
     ensures operations { T.operations table.new ≡ T.operations table.old }
 {
@@ -98,7 +99,7 @@ pub fn attempt_on<'a, T: ModuloTable>(
 fn answer<'a>(problem: &'a Problem, ii: u64, times: Vec<u64>, choices: Vec<usize>) -> Try<'a>
     requires whole { IsProblem problem.now }
     requires some { 1 ≤ ii }
-    requires limit { ii ≤ 16384 }
+    requires limit { ii ≤ MAX_INTERVAL }
     requires lawful { IsLawfulSchedule ii problem.now.operations problem.now.graph.edges times.items choices.items }
     ensures { (budget : ℕ) → EndsPlaced problem.now ii budget times.items choices.items → (IsBlocked problem.now ii → ⊥) → AnswersAttempt problem.now ii budget result }
 {

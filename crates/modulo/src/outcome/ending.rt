@@ -9,6 +9,7 @@ ghost use Rattle.modulo.specs.Attempts.{IsBlocked};
 ghost use Rattle.modulo.specs.inner.Endings.{EndsAs};
 ghost use Rattle.modulo.specs.Problems.{ProblemData, mii_of};
 ghost use Rattle.modulo.specs.Scheduling.{Stops};
+ghost use Rattle.machine_data.specs.declared.limits.TheConstants.{MAX_BUDGET, MAX_INTERVAL};
 
 use crate::problem::problems::Problem;
 use crate::problem::sound::find_sound;
@@ -41,8 +42,8 @@ pub(crate) fn end_on<T: ModuloTable>(
     requires operations { T.operations table.old ≡ problem.now.operations }
     requires empty { T.placed table.old ≡ replicate (length problem.now.operations) None }
     requires from_mii { mii_of problem.now ≤ T.interval table.old }
-    requires limit { T.interval table.old ≤ 16384 }
-    requires budget { budget ≤ 8192 }
+    requires limit { T.interval table.old ≤ MAX_INTERVAL }
+    requires budget { budget ≤ MAX_BUDGET }
     ensures exact { IfOk result (EndsAs problem.now (T.interval table.old) budget) }
     ensures operations { T.operations table.new ≡ T.operations table.old }
 {
@@ -95,8 +96,8 @@ pub(crate) fn read_off(progress: &Progress, times: &mut [u64], choices: &mut [us
 /// The first of these times that is in stage 64 or later.
 pub(crate) fn first_late(times: &[u64], ii: u64) -> Option<usize>
     requires { 0 < ii }
-    ensures { MatchOption result (All (λ time. time / ii < 64) times.now)
-        (λ op. (op < length times.now) × (64 ≤ slice_index times.now op / ii) × ((sooner : ℕ) → sooner < op → slice_index times.now sooner / ii < 64)) }
+    ensures { MatchOption result (All (λ time. time / ii < MAX_STAGES) times.now)
+        (λ op. (op < length times.now) × (MAX_STAGES ≤ slice_index times.now op / ii) × ((sooner : ℕ) → sooner < op → slice_index times.now sooner / ii < MAX_STAGES)) }
 {
     for (op, time) in times.iter().enumerate() {
         if *time / ii >= MAX_STAGES {
@@ -109,7 +110,7 @@ pub(crate) fn first_late(times: &[u64], ii: u64) -> Option<usize>
 /// One more than the greatest stage of these times.
 pub(crate) fn count_stages(times: &[u64], ii: u64) -> u64
     requires some { 0 < ii }
-    requires few { All (λ time. time / ii < 64) times.now }
+    requires few { All (λ time. time / ii < MAX_STAGES) times.now }
     ensures { result ≡ greatest_of (map (λ time. time / ii) times.now) + 1 }
 {
     let mut greatest = 0;

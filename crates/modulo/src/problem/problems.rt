@@ -2,6 +2,7 @@
 
 ghost use Rattle.std.specs.Prelude.{◌≡◌, ◌≤◌, max, length, IfOk, IsOk};
 ghost use Rattle.modulo.specs.Problems.{IsProblem, IsProblemOf, mii_of};
+ghost use Rattle.machine_data.specs.declared.limits.TheConstants.{MAX_CEILING, MAX_RATIO};
 
 use graph::Edges;
 use machine_data::limits::MAX_STATEMENTS;
@@ -47,8 +48,8 @@ impl Problem {
         ceiling: u64,
     ) -> Result<Problem, OutOfMemory>
         requires each { length edges.latencies ≡ length alternatives.items }
-        requires ratio { (1 ≤ ratio) × (ratio ≤ 64) }
-        requires ceiling { ceiling ≤ 255 }
+        requires ratio { (1 ≤ ratio) × (ratio ≤ MAX_RATIO) }
+        requires ceiling { ceiling ≤ MAX_CEILING }
         ensures exact { IfOk result (IsProblemOf edges alternatives.items ratio ceiling) }
         ensures no_memory { IsOk result }
     {

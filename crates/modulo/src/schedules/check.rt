@@ -31,7 +31,7 @@ pub(crate) fn first_breach(
     places: &[(u64, usize)],
 ) -> Result<Option<Breach>, OutOfMemory>
     requires some { 1 ≤ ii }
-    requires limit { ii ≤ 16384 }
+    requires limit { ii ≤ MAX_INTERVAL }
     ensures { IfOk result (λ found. MatchOption found (IsSchedule (as_listed problem.now ii places.now)) (IsFirstBreach problem.now ii places.now)) }
 {
     if let Some(breach) = out_of_range(problem, places) {
@@ -70,7 +70,7 @@ fn taken_slot(
     places: &[(u64, usize)],
 ) -> Result<Option<Breach>, OutOfMemory>
     requires some { 1 ≤ ii }
-    requires limit { ii ≤ 16384 }
+    requires limit { ii ≤ MAX_INTERVAL }
     requires places { AreInRange problem.now.operations places.now }
     ensures { IfOk result (λ found. MatchOption found (KeepsUnits ii problem.now.operations (times_in places.now) (choices_in places.now)) (IsFirstBreach problem.now ii places.now)) }
 {
@@ -186,7 +186,7 @@ fn meet(row: &Row, other: &Row, ii: u64) -> bool
 /// The first edge that is not kept, or else the first operation in stage 64 or later.
 fn wrong_time(problem: &Problem, ii: u64, places: &[(u64, usize)]) -> Option<Breach>
     requires some { 1 ≤ ii }
-    requires limit { ii ≤ 16384 }
+    requires limit { ii ≤ MAX_INTERVAL }
     requires places { AreInRange problem.now.operations places.now }
     requires units { KeepsUnits ii problem.now.operations (times_in places.now) (choices_in places.now) }
     ensures { MatchOption result (IsSchedule (as_listed problem.now ii places.now)) (IsFirstBreach problem.now ii places.now) }
@@ -201,7 +201,7 @@ fn wrong_time(problem: &Problem, ii: u64, places: &[(u64, usize)]) -> Option<Bre
 /// The first edge that the times do not keep, and by how many cycles.
 fn unkept(edges: &[Edge], ii: u64, places: &[(u64, usize)]) -> Option<(Edge, u64)>
     requires ends { All (λ (e : EdgeData). (e.from < length places.now) × (e.to < length places.now)) edges.now }
-    requires ii { ii ≤ 16384 }
+    requires ii { ii ≤ MAX_INTERVAL }
     requires times { All (λ (p : ℕ × ℕ). p.0 < 2 ^ 32) places.now }
     ensures { MatchOption result (All (KeepsEdge ii (times_in places.now)) edges.now) (λ found. IsFirstUnkept ii (times_in places.now) edges.now found.0 found.1) }
 {
@@ -218,7 +218,7 @@ fn unkept(edges: &[Edge], ii: u64, places: &[(u64, usize)]) -> Option<(Edge, u64
 fn early_by(edge: Edge, ii: u64, places: &[(u64, usize)]) -> u64
     requires from { edge.from < length places.now }
     requires to { edge.to < length places.now }
-    requires ii { ii ≤ 16384 }
+    requires ii { ii ≤ MAX_INTERVAL }
     requires times { All (λ (p : ℕ × ℕ). p.0 < 2 ^ 32) places.now }
     ensures kept { result ≡ 0 → KeepsEdge ii (times_in places.now) edge }
     ensures early { 1 ≤ result → pos (slice_index (times_in places.now) edge.to + ii * edge.distance + result) ≡ (pos (slice_index (times_in places.now) edge.from) +ℤ edge.delay) }
@@ -231,8 +231,8 @@ fn early_by(edge: Edge, ii: u64, places: &[(u64, usize)]) -> u64
 /// The first operation in stage 64 or later.
 fn late(ii: u64, places: &[(u64, usize)]) -> Option<usize>
     requires { 1 ≤ ii }
-    ensures { MatchOption result (All (λ (p : ℕ × ℕ). p.0 / ii < 64) places.now)
-        (λ op. (op < length places.now) × (64 ≤ slice_index (times_in places.now) op / ii) × ((sooner : ℕ) → sooner < op → slice_index (times_in places.now) sooner / ii < 64)) }
+    ensures { MatchOption result (All (λ (p : ℕ × ℕ). p.0 / ii < MAX_STAGES) places.now)
+        (λ op. (op < length places.now) × (MAX_STAGES ≤ slice_index (times_in places.now) op / ii) × ((sooner : ℕ) → sooner < op → slice_index (times_in places.now) sooner / ii < MAX_STAGES)) }
 {
     for (op, place) in places.iter().enumerate() {
         if place.0 / ii >= MAX_STAGES {

@@ -4,6 +4,7 @@ ghost use Rattle.std.specs.Prelude.{◌≡◌, ℕ, ◌≤◌, ◌<◌, ◌*◌,
 ghost use Rattle.std.specs.List.{slice_index_or};
 ghost use Rattle.modulo.specs.Breaches.{IsFirstBreach};
 ghost use Rattle.modulo.specs.Schedules.{ScheduleData, IsSchedule, stages_of, as_listed};
+ghost use Rattle.machine_data.specs.declared.limits.TheConstants.{MAX_INTERVAL};
 
 use crate::outcome::ending::count_stages;
 use crate::problem::problems::Problem;
@@ -113,7 +114,7 @@ impl<'a> Schedule<'a> {
     /// before it; then an edge; then the stage of an operation.
     ///
     /// # Errors
-    /// [`AllocError`](std::alloc::AllocError) where memory ran out.
+    /// [`OutOfMemory`] where memory ran out.
     pub fn judge(
         alloc: Global,
         problem: &'a Problem,
@@ -121,7 +122,7 @@ impl<'a> Schedule<'a> {
         places: &[(u64, usize)],
     ) -> Result<Result<Schedule<'a>, Breach>, OutOfMemory>
         requires some { 1 ≤ ii }
-        requires limit { ii ≤ 16384 }
+        requires limit { ii ≤ MAX_INTERVAL }
         ensures exact { IfOk result (λ found. MatchResult found
             (λ s. IsSchedule s × (s ≡ as_listed problem.now ii places.now))
             (IsFirstBreach problem.now ii places.now)) }
@@ -140,7 +141,7 @@ impl<'a> Schedule<'a> {
     /// [`Schedule::judge`] tells which.
     ///
     /// # Errors
-    /// [`AllocError`](std::alloc::AllocError) where memory ran out.
+    /// [`OutOfMemory`] where memory ran out.
     pub fn check(
         alloc: Global,
         problem: &'a Problem,
@@ -148,7 +149,7 @@ impl<'a> Schedule<'a> {
         places: &[(u64, usize)],
     ) -> Result<Option<Schedule<'a>>, OutOfMemory>
         requires some { 1 ≤ ii }
-        requires limit { ii ≤ 16384 }
+        requires limit { ii ≤ MAX_INTERVAL }
         ensures exact { IfOk result (λ found. MatchOption found (IsSchedule (as_listed problem.now ii places.now) → ⊥)
             (λ s. IsSchedule s × (s ≡ as_listed problem.now ii places.now))) }
     {

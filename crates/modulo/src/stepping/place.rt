@@ -6,6 +6,7 @@ ghost use Rattle.graph.specs.declared.dependence.edge.Edge.{Edge};
 ghost use Rattle.modulo.specs.Problems.{IsProblem};
 ghost use Rattle.modulo.specs.inner.Progress.{IsDemand, IsEarliestBy, AreBelow};
 ghost use Rattle.modulo.specs.Scheduling.{IsEarliest, forced_time};
+ghost use Rattle.machine_data.specs.declared.limits.TheConstants.{MAX_INTERVAL};
 
 use crate::problem::problems::Problem;
 use crate::stepping::progress::Progress;
@@ -15,7 +16,7 @@ use graph::Edge;
 /// `time`.
 pub(crate) fn demand(time: u64, edge: Edge, ii: u64) -> u64
     requires time { time < 2 ^ 32 }
-    requires ii { ii ≤ 16384 }
+    requires ii { ii ≤ MAX_INTERVAL }
     ensures exact { IsDemand ii time edge result }
     ensures below { result < time + 128 }
 {
@@ -28,7 +29,7 @@ pub(crate) fn demand(time: u64, edge: Edge, ii: u64) -> u64
 pub(crate) fn earliest(problem: &Problem, progress: &Progress, op: usize, ii: u64) -> u64
     requires there { op < length problem.now.operations }
     requires whole { length progress.now.state.placed ≡ length problem.now.operations }
-    requires ii { ii ≤ 16384 }
+    requires ii { ii ≤ MAX_INTERVAL }
     requires times { AreBelow (2 ^ 31) progress.now.state }
     ensures exact { IsEarliest problem.now ii progress.now.state op result }
     ensures below { (limit : ℕ) → AreBelow limit progress.now.state → result < limit + 64 + 1 }
@@ -40,7 +41,7 @@ pub(crate) fn earliest(problem: &Problem, progress: &Progress, op: usize, ii: u6
 /// The earliest time that these edges allow an operation.
 fn earliest_by(edges: &[Edge], progress: &Progress, op: usize, ii: u64) -> u64
     requires ends { All (λ (e : Edge). e.from < length progress.now.state.placed) edges.now }
-    requires ii { ii ≤ 16384 }
+    requires ii { ii ≤ MAX_INTERVAL }
     requires times { AreBelow (2 ^ 31) progress.now.state }
     ensures exact { IsEarliestBy edges.now ii progress.now.state.placed op result }
 {

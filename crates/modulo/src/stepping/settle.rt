@@ -5,6 +5,7 @@ ghost use Rattle.mrt.specs.Placements.{alternatives_of, rows_of, IsFree, IsMetBy
 ghost use Rattle.modulo.specs.inner.Evictions.{StaysOr};
 ghost use Rattle.modulo.specs.inner.Progress.{AreBelow};
 ghost use Rattle.modulo.specs.Scheduling.{IsFirstSound, IsPlacement};
+ghost use Rattle.machine_data.specs.declared.limits.TheConstants.{MAX_INTERVAL};
 
 use crate::problem::problems::Problem;
 use crate::stepping::evict::clear;
@@ -23,7 +24,7 @@ pub(crate) fn settle<T: ModuloTable>(
 ) -> (u64, usize)
     requires there { op < length problem.now.operations }
     requires operations { T.operations table.old ≡ problem.now.operations }
-    requires few { T.interval table.old ≤ 16384 }
+    requires few { T.interval table.old ≤ MAX_INTERVAL }
     requires sound { IsFirstSound (T.interval table.old) (alternatives_of problem.now.operations op) sound }
     requires whole { length (T.placed table.old) ≡ length problem.now.operations }
     requires tied { T.placed table.old ≡ progress.old.state.placed }

@@ -5,6 +5,7 @@ ghost use Rattle.mrt.specs.Placements.{alternatives_of, placement_of};
 ghost use Rattle.modulo.specs.inner.Placings.{IsPlacing};
 ghost use Rattle.modulo.specs.inner.Progress.{AreBelow};
 ghost use Rattle.modulo.specs.Scheduling.{IsFirstSound};
+ghost use Rattle.machine_data.specs.declared.limits.TheConstants.{MAX_INTERVAL};
 
 use crate::problem::problems::Problem;
 use crate::stepping::evict::cut;
@@ -23,7 +24,7 @@ pub(crate) fn step<T: ModuloTable>(
 )
     requires there { op < length problem.now.operations }
     requires operations { T.operations table.old ≡ problem.now.operations }
-    requires few { T.interval table.old ≤ 16384 }
+    requires few { T.interval table.old ≤ MAX_INTERVAL }
     requires sound { IsFirstSound (T.interval table.old) (alternatives_of problem.now.operations op) sound }
     requires whole { length (T.placed table.old) ≡ length problem.now.operations }
     requires tied { T.placed table.old ≡ progress.old.state.placed }

@@ -6,6 +6,7 @@ ghost use Rattle.mrt.specs.Placements.{alternatives_of};
 ghost use Rattle.modulo.specs.Problems.{mii_of};
 ghost use Rattle.modulo.specs.Scheduling.{IsFirstSound, Stops, empty};
 ghost use Rattle.modulo.specs.inner.Waiting.{IsByHeight};
+ghost use Rattle.machine_data.specs.declared.limits.TheConstants.{MAX_BUDGET, MAX_INTERVAL};
 
 use crate::problem::order::by_height;
 use crate::problem::problems::Problem;
@@ -18,7 +19,7 @@ use std::alloc::Global;
 /// Nothing is placed, and operations are taken by their heights at an interval.
 pub(crate) fn start(alloc: Global, problem: &Problem, ii: u64) -> Result<Progress, OutOfMemory>
     requires from_mii { mii_of problem.now ≤ ii }
-    requires limit { ii ≤ 16384 }
+    requires limit { ii ≤ MAX_INTERVAL }
     ensures empty { IfOk result (λ p. p.state ≡ empty (length problem.now.operations)) }
     ensures order { IfOk result (λ p. (heights : List ℕ) × AreHeights problem.now.graph ii heights × (length heights ≡ length problem.now.operations) × IsByHeight heights p.order) }
 {
@@ -36,13 +37,13 @@ pub(crate) fn run<T: ModuloTable>(
     budget: u64,
 )
     requires operations { T.operations table.old ≡ problem.now.operations }
-    requires few { T.interval table.old ≤ 16384 }
+    requires few { T.interval table.old ≤ MAX_INTERVAL }
     requires empty { T.placed table.old ≡ replicate (length problem.now.operations) None }
     requires start { progress.old.state ≡ empty (length problem.now.operations) }
     requires each { length sound.now ≡ length problem.now.operations }
     requires sound { (op : ℕ) → op < length problem.now.operations
         → IsFirstSound (T.interval table.old) (alternatives_of problem.now.operations op) (slice_index sound.now op) }
-    requires budget { budget ≤ 8192 }
+    requires budget { budget ≤ MAX_BUDGET }
     ensures whole { length progress.new.state.placed ≡ length problem.now.operations }
     ensures stops { (heights : List ℕ) → AreHeights problem.now.graph (T.interval table.old) heights → length heights ≡ length problem.now.operations
         → IsByHeight heights progress.old.order → Stops problem.now (T.interval table.old) budget progress.new.state }

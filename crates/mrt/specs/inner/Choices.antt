@@ -1,5 +1,6 @@
 -- Alternatives that stand one after another in one list of slots.
 use Rattle.std.specs.Prelude.{◌≡◌, ℕ, ◌<◌, ◌≤◌, List, length}
+use Rattle.machine_data.specs.declared.limits.TheConstants.{MAX_INTERVAL}
 use Rattle.std.specs.List.{All, slice_range}
 use Rattle.machine_data.specs.declared.alternative.Row.{Row}
 use Rattle.machine_data.specs.Alternative.{collides}
@@ -30,6 +31,6 @@ span_at ii slots span = record span { collides = collides ii (rows_at slots span
 -- what is kept of alternatives at an interval
 pub record AreChoices (ii : ℕ) (slots : List Slot) (spans : List Span) : Type 0 where
   pub some : 0 < ii
-  pub few : ii ≤ 16384
+  pub few : ii ≤ MAX_INTERVAL
   pub each_slot : All (IsSlot ii) slots
   pub each_span : All (IsSpan ii slots) spans

@@ -1,5 +1,6 @@
 -- A table of owners, one for each residue and unit.
 use Rattle.std.specs.Prelude.{◌≡◌, ℕ, ◌+◌, ◌*◌, ◌<◌, ◌≤◌, Bool, not, ◌==◌, List, length}
+use Rattle.machine_data.specs.declared.limits.TheConstants.{MAX_UNITS}
 use Rattle.std.specs.List.{All, slice_index}
 use Rattle.mrt.specs.declared.owner.TheConstants.{FREE}
 use Rattle.mrt.specs.Placements.{rows_of}
@@ -18,7 +19,7 @@ is_owned units owners unit residue = not (owner_at units owners unit residue == 
 pub record IsOwnerTable (table : Table) (units : ℕ) (owners : List ℕ) : Type 0 where
   pub whole : length table.placed ≡ length table.operations
   pub short : length table.placed ≤ FREE
-  pub few : units ≤ 64
+  pub few : units ≤ MAX_UNITS
   pub long : length owners ≡ table.interval * units
   pub covered : (op alternative : ℕ) → All (λ r. r.unit < units) (rows_of table.operations op alternative)
   pub owns : Owns table.interval units FREE table.operations table.placed (owner_at units owners)

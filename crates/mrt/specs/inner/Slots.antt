@@ -1,5 +1,6 @@
 -- Rows as a table at one interval reads them, and the slots that are held.
 use Rattle.std.specs.Prelude.{◌≡◌, ◌≢◌, ℕ, ◌%◌, ◌^◌, ◌<◌, ◌==◌, Bool, true, List, map}
+use Rattle.machine_data.specs.declared.limits.TheConstants.{MAX_UNITS}
 use Rattle.std.specs.Int.{bit_at}
 use Rattle.std.specs.List.{list_any}
 use Rattle.machine_data.specs.declared.alternative.Row.{Row}
@@ -10,7 +11,7 @@ use Rattle.mrt.specs.Taken.{Takes}
 
 -- the row is one that a machine may have, and what is kept beside it is its offset modulo the interval and the bit of its unit
 pub record IsSlot (ii : ℕ) (slot : Slot) : Type 0 where
-  pub unit : slot.row.unit < 64
+  pub unit : slot.row.unit < MAX_UNITS
   pub turn : slot.turn ≡ slot.row.offset % ii
   pub mask : slot.mask ≡ 2 ^ slot.row.unit
 

@@ -1,5 +1,6 @@
 -- Timelines: one of `words` words for each of 64 units.
 use Rattle.std.specs.Prelude.{◌≡◌, ℕ, ◌+◌, ◌*◌, ◌/◌, ◌%◌, ◌<◌, ◌≤◌, Bool, false, ◌==◌, List, length}
+use Rattle.machine_data.specs.declared.limits.TheConstants.{MAX_UNITS}
 use Rattle.std.specs.Int.{bit_at}
 use Rattle.std.specs.List.{slice_index}
 
@@ -9,7 +10,7 @@ is_set words times unit place = bit_at (slice_index times (unit * words + place 
 
 -- the timelines tell of each unit and time whether the slot is held, and go on for 64 cycles from each residue
 abbrev pub Tell : ℕ → ℕ → List ℕ → (ℕ → ℕ → Bool) → Type 0
-Tell ii words times held = (unit place : ℕ) → unit < 64 → place < ii + 64 → is_set words times unit place ≡ held unit (place % ii)
+Tell ii words times held = (unit place : ℕ) → unit < MAX_UNITS → place < ii + 64 → is_set words times unit place ≡ held unit (place % ii)
 
 -- whether the bit of a residue is set in the word of a unit
 abbrev pub is_on : List ℕ → ℕ → ℕ → Bool
@@ -17,8 +18,8 @@ is_on rounds unit residue = bit_at (slice_index rounds unit) residue == 1
 
 -- the words tell of each unit and residue whether the slot is held, and have no other bit
 pub record TellOnce (ii : ℕ) (rounds : List ℕ) (held : ℕ → ℕ → Bool) : Type 0 where
-  pub tell : (unit residue : ℕ) → unit < 64 → residue < ii → is_on rounds unit residue ≡ held unit residue
-  pub clear : (unit place : ℕ) → unit < 64 → ii ≤ place → place < 64 → is_on rounds unit place ≡ false
+  pub tell : (unit residue : ℕ) → unit < MAX_UNITS → residue < ii → is_on rounds unit residue ≡ held unit residue
+  pub clear : (unit place : ℕ) → unit < MAX_UNITS → ii ≤ place → place < 64 → is_on rounds unit place ≡ false
 
 -- below an interval of 64 each unit has one word, with a bit for each residue and no other, and from it on a timeline, which
 -- goes on for 64 cycles from each residue, and has no word more than that takes

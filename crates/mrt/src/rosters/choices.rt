@@ -5,6 +5,7 @@ ghost use Rattle.std.specs.List.{All, list_any};
 ghost use Rattle.machine_data.specs.Alternative.{IsAlternative, collides, rows_meet};
 ghost use Rattle.mrt.specs.inner.Choices.{span_at};
 ghost use Rattle.mrt.specs.inner.Slots.{IsSlot, slot_at, rows_in, HasUnits};
+ghost use Rattle.machine_data.specs.declared.limits.TheConstants.{MAX_INTERVAL, MAX_UNITS};
 
 use crate::rosters::slot::Slot;
 use machine_data::{OutOfMemory, Row};
@@ -43,7 +44,7 @@ impl Choices {
     /// No alternatives yet, with room for some, so that few of them take memory once more.
     pub(crate) fn new(alloc: Global, ii: usize) -> Result<Choices, OutOfMemory>
         requires some { 0 < ii }
-        requires few { ii ≤ 16384 }
+        requires few { ii ≤ MAX_INTERVAL }
         ensures interval { IfOk result (λ c. c.interval ≡ ii) }
         ensures empty { IfOk result (λ c. c.alternatives ≡ []) }
     {
@@ -57,7 +58,7 @@ impl Choices {
     /// The same alternatives at another interval.
     pub(crate) fn reset(&mut self, ii: usize)
         requires some { 0 < ii }
-        requires few { ii ≤ 16384 }
+        requires few { ii ≤ MAX_INTERVAL }
         ensures interval { self.new.interval ≡ ii }
         ensures alternatives { self.new.alternatives ≡ self.old.alternatives }
     {
@@ -70,7 +71,7 @@ impl Choices {
     pub(crate) fn ii(&self) -> usize
         ensures value { result ≡ self.now.interval }
         ensures some { 0 < self.now.interval }
-        ensures few { self.now.interval ≤ 16384 }
+        ensures few { self.now.interval ≤ MAX_INTERVAL }
     {
         self.ii
     }
@@ -146,8 +147,8 @@ impl Choices {
 /// Prepares rows and adds them to the slots.
 fn push_slots(slots: &mut Vec<Slot>, rows: &[Row], ii: usize) -> Result<(), OutOfMemory>
     requires some { 0 < ii }
-    requires few { ii ≤ 16384 }
-    requires units { All (λ r. r.unit < 64) rows.now }
+    requires few { ii ≤ MAX_INTERVAL }
+    requires units { All (λ r. r.unit < MAX_UNITS) rows.now }
     requires slots { All (IsSlot ii) slots.old.items }
     ensures slots { All (IsSlot ii) slots.new.items }
     ensures kept { take (length slots.old.items) slots.new.items ≡ slots.old.items }
@@ -162,7 +163,7 @@ fn push_slots(slots: &mut Vec<Slot>, rows: &[Row], ii: usize) -> Result<(), OutO
 /// Prepares slots for another interval.
 fn reset_slots(slots: &mut [Slot], ii: usize)
     requires some { 0 < ii }
-    requires few { ii ≤ 16384 }
+    requires few { ii ≤ MAX_INTERVAL }
     ensures { slots.new ≡ map (slot_at ii) slots.old }
 {
     for slot in slots.iter_mut() {

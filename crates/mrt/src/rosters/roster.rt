@@ -7,6 +7,7 @@ ghost use Rattle.mrt.specs.Placements.{placement_of, alternatives_of, rows_of};
 ghost use Rattle.mrt.specs.inner.Rosters.{IsGroup, group_of};
 ghost use Rattle.mrt.specs.inner.Slots.{IsSlot, rows_in, HasUnits};
 ghost use Rattle.mrt.specs.Taken.{takes, Takes};
+ghost use Rattle.machine_data.specs.declared.limits.TheConstants.{MAX_INTERVAL};
 
 use crate::rosters::choices::Choices;
 use crate::rosters::kinds::{Kind, of_kind};
@@ -61,7 +62,7 @@ impl Roster {
         ii: usize,
     ) -> Result<Roster, OutOfMemory>
         requires some { 0 < ii }
-        requires few { ii ≤ 16384 }
+        requires few { ii ≤ MAX_INTERVAL }
         ensures short { length operations.now < 2 ^ 64 }
         ensures value { IfOk result
             (λ r. r ≡ record { interval = ii; operations = operations.now; placed = replicate (length operations.now) None }) }
@@ -92,7 +93,7 @@ impl Roster {
         ii: usize,
     ) -> Result<Roster, OutOfMemory>
         requires some { 0 < ii }
-        requires few { ii ≤ 16384 }
+        requires few { ii ≤ MAX_INTERVAL }
         requires kinds { All (λ kind. kind < length alternatives.now) kinds.now }
         ensures short { length kinds.now < 2 ^ 64 }
         ensures value { IfOk result
@@ -127,7 +128,7 @@ impl Roster {
     /// The same operations at another interval, with nothing placed.
     pub(crate) fn reset(&mut self, ii: usize)
         requires some { 0 < ii }
-        requires few { ii ≤ 16384 }
+        requires few { ii ≤ MAX_INTERVAL }
         ensures { self.new ≡ record { interval = ii; operations = self.old.operations; placed = replicate (length self.old.operations) None } }
     {
         self.choices.reset(ii);
@@ -138,7 +139,7 @@ impl Roster {
     pub(crate) fn ii(&self) -> usize
         ensures value { result ≡ self.now.interval }
         ensures some { 0 < self.now.interval }
-        ensures few { self.now.interval ≤ 16384 }
+        ensures few { self.now.interval ≤ MAX_INTERVAL }
     {
         self.choices.ii()
     }
@@ -284,7 +285,7 @@ impl Roster {
 fn takes(slots: &[Slot], ii: usize, base: usize, unit: u8, residue: usize) -> bool
     requires slots { All (IsSlot ii) slots.now }
     requires base { base < ii }
-    requires few { ii ≤ 16384 }
+    requires few { ii ≤ MAX_INTERVAL }
     ensures { (time : ℕ) → time % ii ≡ base → result ≡ takes ii (rows_in slots.now) time unit residue }
 {
     for slot in slots {

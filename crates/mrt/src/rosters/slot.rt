@@ -3,6 +3,7 @@
 ghost use Rattle.std.specs.Prelude.{◌≡◌, ◌%◌, ◌<◌, ◌≤◌, ℕ};
 ghost use Rattle.machine_data.specs.Alternative.{residue_of};
 ghost use Rattle.mrt.specs.inner.Slots.{IsSlot, slot_at};
+ghost use Rattle.machine_data.specs.declared.limits.TheConstants.{MAX_INTERVAL, MAX_UNITS};
 
 use machine_data::Row;
 
@@ -21,8 +22,8 @@ impl Slot {
     /// What an interval makes of a row.
     pub(crate) fn new(row: Row, ii: usize) -> Slot
         requires some { 0 < ii }
-        requires few { ii ≤ 16384 }
-        requires unit { row.unit < 64 }
+        requires few { ii ≤ MAX_INTERVAL }
+        requires unit { row.unit < MAX_UNITS }
         ensures row { result.row ≡ row }
         ensures slot { IsSlot ii result }
     {
@@ -36,7 +37,7 @@ impl Slot {
     /// Prepares the row for another interval.
     pub(crate) fn reset(&mut self, ii: usize)
         requires some { 0 < ii }
-        requires few { ii ≤ 16384 }
+        requires few { ii ≤ MAX_INTERVAL }
         ensures { self.new ≡ slot_at ii self.old }
     {
         self.turn = turn(self.row.offset, ii);
@@ -46,7 +47,7 @@ impl Slot {
     pub(crate) fn residue(&self, base: usize, ii: usize) -> usize
         requires slot { IsSlot ii self.now }
         requires base { base < ii }
-        requires few { ii ≤ 16384 }
+        requires few { ii ≤ MAX_INTERVAL }
         ensures below { result < ii }
         ensures value { (time : ℕ) → time % ii ≡ base → result ≡ residue_of ii self.now.row time }
     {
@@ -58,7 +59,7 @@ impl Slot {
 /// An offset modulo the interval, without a division where it is below.
 fn turn(offset: u8, ii: usize) -> u32
     requires some { 0 < ii }
-    requires few { ii ≤ 16384 }
+    requires few { ii ≤ MAX_INTERVAL }
     ensures { result ≡ offset % ii }
 {
     let offset = u32::from(offset);

@@ -6,6 +6,7 @@ ghost use Rattle.std.specs.List.{All};
 ghost use Rattle.mrt.specs.inner.Slots.{IsSlot, rows_in, meets_held};
 ghost use Rattle.mrt.specs.inner.Masks.{is_held, Repeats};
 ghost use Rattle.mrt.specs.inner.Lanes.{HasLanes};
+ghost use Rattle.machine_data.specs.declared.limits.TheConstants.{MAX_INTERVAL};
 
 use crate::rosters::slot::Slot;
 use std::simd::prelude::*;
@@ -14,7 +15,7 @@ use std::simd::prelude::*;
 /// set where that is so `k` cycles later, and no other bit is.
 pub(crate) fn free_cycles(busy: &[u64], slots: &[Slot], ii: usize, base: usize) -> u64
     requires long { 8 ≤ ii }
-    requires few { ii ≤ 16384 }
+    requires few { ii ≤ MAX_INTERVAL }
     requires words { length busy.now ≡ ii + 7 }
     requires repeats { Repeats ii busy.now }
     requires slots { All (IsSlot ii) slots.now }

@@ -4,6 +4,7 @@ ghost use Rattle.std.specs.Prelude.{◌≡◌, ◌+◌, ◌%◌, ◌<◌, ◌≤
 ghost use Rattle.std.specs.List.{All};
 ghost use Rattle.mrt.specs.inner.Slots.{IsSlot, rows_in, meets_held};
 ghost use Rattle.mrt.specs.Taken.{takes};
+ghost use Rattle.machine_data.specs.declared.limits.TheConstants.{MAX_INTERVAL, MAX_UNITS};
 
 use crate::rosters::slot::Slot;
 
@@ -19,14 +20,14 @@ pub trait Layout: Drop {
     /// The width at an interval, and how many words there are.
     fn sizes(ii: usize) -> (usize, usize)
         requires some { 0 < ii }
-        requires few { ii ≤ 16384 }
+        requires few { ii ≤ MAX_INTERVAL }
         ensures laid { is_laid ii result.0 (replicate result.1 0) }
-        ensures clear { (unit residue : ℕ) → unit < 64 → residue < ii → tells result.0 (replicate result.1 0) unit residue ≡ false };
+        ensures clear { (unit residue : ℕ) → unit < MAX_UNITS → residue < ii → tells result.0 (replicate result.1 0) unit residue ≡ false };
 
     /// Whether the slot of a row's unit at a residue is held.
     fn is_held(words: &[u64], width: usize, ii: usize, slot: &Slot, residue: usize) -> bool
         requires laid { is_laid ii width words.now }
-        requires few { ii ≤ 16384 }
+        requires few { ii ≤ MAX_INTERVAL }
         requires slot { IsSlot ii slot.now }
         requires residue { residue < ii }
         ensures { result ≡ tells width words.now slot.now.row.unit residue };
@@ -34,11 +35,11 @@ pub trait Layout: Drop {
     /// Sets or clears the bit of a row's unit at a residue.
     fn write(words: &mut [u64], width: usize, ii: usize, slot: &Slot, residue: usize, held: bool)
         requires laid { is_laid ii width words.old }
-        requires few { ii ≤ 16384 }
+        requires few { ii ≤ MAX_INTERVAL }
         requires slot { IsSlot ii slot.now }
         requires residue { residue < ii }
         ensures laid { is_laid ii width words.new }
-        ensures written { (unit place : ℕ) → unit < 64 → place < ii
+        ensures written { (unit place : ℕ) → unit < MAX_UNITS → place < ii
             → tells width words.new unit place ≡ (if (unit == slot.now.row.unit) && (place == residue) then held else tells width words.old unit place) };
 }
 
@@ -55,7 +56,7 @@ pub trait Search: Layout {
         limit: u64,
     ) -> u64
         requires laid { Self.is_laid ii width words.now }
-        requires few { ii ≤ 16384 }
+        requires few { ii ≤ MAX_INTERVAL }
         requires slots { All (IsSlot ii) slots.now }
         requires base { base < ii }
         requires limit { limit ≤ ii }
@@ -75,7 +76,7 @@ pub(crate) fn is_met<L: Layout>(
     base: usize,
 ) -> bool
     requires laid { L.is_laid ii width words.now }
-    requires few { ii ≤ 16384 }
+    requires few { ii ≤ MAX_INTERVAL }
     requires slots { All (IsSlot ii) slots.now }
     requires base { base < ii }
     ensures { (time : ℕ) → time % ii ≡ base → result ≡ meets_held ii (L.tells width words.now) (rows_in slots.now) time }
@@ -98,11 +99,11 @@ pub(crate) fn mark<L: Layout>(
     held: bool,
 )
     requires laid { L.is_laid ii width words.old }
-    requires few { ii ≤ 16384 }
+    requires few { ii ≤ MAX_INTERVAL }
     requires slots { All (IsSlot ii) slots.now }
     requires base { base < ii }
     ensures laid { L.is_laid ii width words.new }
-    ensures marked { (time unit residue : ℕ) → time % ii ≡ base → unit < 64 → residue < ii
+    ensures marked { (time unit residue : ℕ) → time % ii ≡ base → unit < MAX_UNITS → residue < ii
         → L.tells width words.new unit residue ≡ (if takes ii (rows_in slots.now) time unit residue then held else L.tells width words.old unit residue) }
 {
     for slot in slots {

@@ -4,6 +4,7 @@ ghost use Rattle.std.specs.Prelude.{◌≡◌, ◌+◌, ◌-◌, ◌%◌, ◌<�
 ghost use Rattle.std.specs.List.{All};
 ghost use Rattle.mrt.specs.inner.Slots.{IsSlot, rows_in, meets_held};
 ghost use Rattle.mrt.specs.inner.Masks.{is_held, AreMasks};
+ghost use Rattle.machine_data.specs.declared.limits.TheConstants.{MAX_INTERVAL};
 
 use crate::rosters::slot::Slot;
 use crate::words::lanes::free_cycles;
@@ -62,7 +63,7 @@ impl Search for Masks {
 /// eights of cycles go below the limit: each is tested at once.
 fn first_of_eights(words: &[u64], slots: &[Slot], ii: usize, base: usize, limit: u64) -> Option<u64>
     requires laid { AreMasks ii words.now }
-    requires few { ii ≤ 16384 }
+    requires few { ii ≤ MAX_INTERVAL }
     requires slots { All (IsSlot ii) slots.now }
     requires base { base < ii }
     requires limit { limit ≤ ii }
@@ -86,7 +87,7 @@ fn first_of_eights(words: &[u64], slots: &[Slot], ii: usize, base: usize, limit:
 fn first_of_eight(words: &[u64], slots: &[Slot], ii: usize, base: usize) -> u64
     requires laid { AreMasks ii words.now }
     requires eight { 8 ≤ ii }
-    requires few { ii ≤ 16384 }
+    requires few { ii ≤ MAX_INTERVAL }
     requires slots { All (IsSlot ii) slots.now }
     requires base { base < ii }
     ensures few { result ≤ 8 }
@@ -103,7 +104,7 @@ fn first_of_eight(words: &[u64], slots: &[Slot], ii: usize, base: usize) -> u64
 fn later(base: usize, cycles: u64, ii: usize) -> usize
     requires base { base < ii }
     requires cycles { cycles ≤ ii }
-    requires few { ii ≤ 16384 }
+    requires few { ii ≤ MAX_INTERVAL }
     ensures below { result < ii }
     ensures value { (time : ℕ) → time % ii ≡ base → result ≡ (time + cycles) % ii }
 {

@@ -6,6 +6,7 @@ ghost use Rattle.std.specs.Int.{bit_at};
 ghost use Rattle.std.specs.List.{All};
 ghost use Rattle.mrt.specs.inner.Slots.{IsSlot, rows_in, meets_held};
 ghost use Rattle.mrt.specs.inner.Times.{is_on, TellOnce};
+ghost use Rattle.machine_data.specs.declared.limits.TheConstants.{MAX_UNITS};
 
 use crate::rosters::slot::Slot;
 use crate::words::times::{bits_from, with_bit};
@@ -66,7 +67,7 @@ fn turned(round: u64, ii: usize, residue: usize) -> u64
 /// Sets or clears the bit of a unit at a residue.
 pub(crate) fn write_round(rounds: &mut [u64], unit: u8, residue: usize, held: bool)
     requires all { length rounds.old ≡ 64 }
-    requires unit { unit < 64 }
+    requires unit { unit < MAX_UNITS }
     requires residue { residue < 64 }
     ensures written { (other place : ℕ) → other < 64 → place < 64
         → is_on rounds.new other place ≡ (if (other == unit) && (place == residue) then held else is_on rounds.old other place) }

@@ -6,6 +6,7 @@ ghost use Rattle.std.specs.Int.{bit_at};
 ghost use Rattle.std.specs.List.{All};
 ghost use Rattle.mrt.specs.inner.Slots.{IsSlot, rows_in, meets_held};
 ghost use Rattle.mrt.specs.inner.Times.{is_set, Tell};
+ghost use Rattle.machine_data.specs.declared.limits.TheConstants.{MAX_INTERVAL, MAX_UNITS};
 
 use crate::rosters::slot::Slot;
 
@@ -15,7 +16,7 @@ pub(crate) const LEAST: usize = 64;
 /// How many words each unit has at an interval: one below [`LEAST`], and else as few as it takes for 64 consecutive
 /// times to stand in its timeline from each residue on.
 pub(crate) fn words_at(ii: usize) -> usize
-    requires few { ii ≤ 16384 }
+    requires few { ii ≤ MAX_INTERVAL }
     ensures few { result ≤ 257 }
     ensures one { ii < 64 → result ≡ 1 }
     ensures reach { 64 ≤ ii → ii + 64 ≤ 64 * result }
@@ -39,7 +40,7 @@ pub(crate) fn first_unheld(
     requires few_words { words ≤ 257 }
     requires slots { All (IsSlot ii) slots.now }
     requires base { base < ii }
-    requires few { ii ≤ 16384 }
+    requires few { ii ≤ MAX_INTERVAL }
     requires limit { limit ≤ ii }
     ensures few { result ≤ limit }
     ensures met { (held : ℕ → ℕ → Bool) (time sooner : ℕ) → Tell ii words times.now held → time % ii ≡ base → sooner < result
@@ -75,7 +76,7 @@ fn free_cycles(
     requires few_words { words ≤ 257 }
     requires slots { All (IsSlot ii) slots.now }
     requires base { base < ii }
-    requires few { ii ≤ 16384 }
+    requires few { ii ≤ MAX_INTERVAL }
     ensures asked { (held : ℕ → ℕ → Bool) (time k : ℕ) → Tell ii words times.now held → time % ii ≡ base → k < 64 → k < cycles
         → (bit_at result k == 1) ≡ not (meets_held ii held (rows_in slots.now) (time + k)) }
     ensures rest { (k : ℕ) → k < 64 → cycles ≤ k → bit_at result k ≡ 0 }
@@ -101,7 +102,7 @@ pub(crate) fn bits_from(place: u64) -> u64
 
 /// A word with the bit of a mask set or cleared.
 pub(crate) fn with_bit(word: u64, mask: u64, held: bool) -> u64
-    ensures { (own unit : ℕ) → mask ≡ 2 ^ own → own < 64 → unit < 64
+    ensures { (own unit : ℕ) → mask ≡ 2 ^ own → own < 64 → unit < MAX_UNITS
         → (bit_at result unit == 1) ≡ (if unit == own then held else (bit_at word unit == 1)) }
 {
     if held { word | mask } else { word & !mask }
@@ -111,7 +112,7 @@ pub(crate) fn with_bit(word: u64, mask: u64, held: bool) -> u64
 fn sixty_four(times: &[u64], words: usize, unit: u8, place: usize) -> u64
     requires all { length times.now ≡ 64 * words }
     requires few_words { words ≤ 257 }
-    requires unit { unit < 64 }
+    requires unit { unit < MAX_UNITS }
     requires reach { place + 64 < 64 * words }
     ensures { (k : ℕ) → k < 64 → bit_at result k ≡ bit_at (slice_index times.now (unit * words + (place + k) / 64)) ((place + k) % 64) }
 {
@@ -124,7 +125,7 @@ fn sixty_four(times: &[u64], words: usize, unit: u8, place: usize) -> u64
 pub(crate) fn is_set(times: &[u64], words: usize, unit: u8, place: usize) -> bool
     requires all { length times.now ≡ 64 * words }
     requires few_words { words ≤ 257 }
-    requires unit { unit < 64 }
+    requires unit { unit < MAX_UNITS }
     requires place { place < 64 * words }
     ensures { result ≡ is_set words times.now unit place }
 {
@@ -143,10 +144,10 @@ pub(crate) fn write(
     requires all { length times.old ≡ 64 * words }
     requires reach { ii + 64 ≤ 64 * words }
     requires few_words { words ≤ 257 }
-    requires unit { unit < 64 }
+    requires unit { unit < MAX_UNITS }
     requires residue { residue < ii }
     requires long { 64 ≤ ii }
-    requires few { ii ≤ 16384 }
+    requires few { ii ≤ MAX_INTERVAL }
     ensures marked { (other place : ℕ) → other < 64 → place < ii + 64
         → is_set words times.new other place ≡ (if (other == unit) && (place % ii == residue) then held else is_set words times.old other place) }
 {
@@ -160,7 +161,7 @@ pub(crate) fn write(
 fn write_one(times: &mut [u64], words: usize, unit: u8, place: usize, held: bool)
     requires all { length times.old ≡ 64 * words }
     requires few_words { words ≤ 257 }
-    requires unit { unit < 64 }
+    requires unit { unit < MAX_UNITS }
     requires place { place < 64 * words }
     ensures marked { (other p : ℕ) → p < 64 * words
         → is_set words times.new other p ≡ (if (other == unit) && (p == place) then held else is_set words times.old other p) }

@@ -20,7 +20,8 @@ use command_line::Trip;
 use ims::Prepared;
 use kernel::{Kernel, simulate};
 use loops::{Loop, opening};
-use std::alloc::{AllocError, Global};
+use machine::OutOfMemory;
+use std::alloc::Global;
 
 /// What `run` writes of prepared loops with their listing.
 ///
@@ -31,7 +32,7 @@ pub fn run_printout(
     prepared: &[Prepared],
     listing: &Listing,
     trip: Trip,
-) -> Result<Printout, AllocError>
+) -> Result<Printout, OutOfMemory>
     requires { ListsProblems listing.now.ceiling prepared.now listing.now }
     ensures text { IfOk result (λ w. w.text ≡ told_lines trip listing.now.ceiling (map (λ (p : ProblemData). p.loop) prepared.now) listing.now.rows ++ counts_line listing.now.rows) }
     ensures met { IfOk result (λ w. w.all_met ≡ are_met listing.now.rows) }
@@ -49,7 +50,7 @@ fn push_rows(
     prepared: &[Prepared],
     listing: &Listing,
     trip: Trip,
-) -> Result<(), AllocError>
+) -> Result<(), OutOfMemory>
     requires { AllZip (λ (p : ProblemData) (r : row.Row). IsRunnable p.loop r.choice) prepared.now listing.now.rows }
     ensures { OnOk result (text.new.items ≡ text.old.items ++ flat_map (λ (pair : ProblemData × row.Row). choice_lines trip listing.now.ceiling pair.0.loop pair.1 pair.1.choice) (zip prepared.now listing.now.rows)) }
 {
@@ -80,7 +81,7 @@ pub fn push_choice(
     ceiling: u64,
     listed: &Row,
     trip: Trip,
-) -> Result<(), AllocError>
+) -> Result<(), OutOfMemory>
     requires ceiling { ceiling ≤ 255 }
     requires row { IsRow listed.now }
     requires choice { IsChoice prepared.now listed.now.choice }
@@ -97,7 +98,7 @@ fn push_row(
     ceiling: u64,
     row: &Row,
     trip: Trip,
-) -> Result<(), AllocError>
+) -> Result<(), OutOfMemory>
     requires ceiling { ceiling ≤ 255 }
     requires row { IsRow row.now }
     requires runs { IsRunnable innermost.now row.now.choice }
@@ -116,7 +117,7 @@ fn push_kernel(
     innermost: &Loop,
     kernel: &Kernel,
     trip: Trip,
-) -> Result<(), AllocError>
+) -> Result<(), OutOfMemory>
     requires { HasSizesOf innermost.now kernel.now }
     ensures { OnOk result (text.new.items ≡ text.old.items ++ kernel_lines trip innermost.now kernel.now) }
 {
@@ -126,7 +127,12 @@ fn push_kernel(
 }
 
 /// Appends the line of a loop without a kernel.
-fn push_failed(alloc: Global, text: &mut Vec<u8>, ceiling: u64, row: &Row) -> Result<(), AllocError>
+fn push_failed(
+    alloc: Global,
+    text: &mut Vec<u8>,
+    ceiling: u64,
+    row: &Row,
+) -> Result<(), OutOfMemory>
     requires ceiling { ceiling ≤ 255 }
     requires row { IsRow row.now }
     ensures { OnOk result (text.new.items ≡ text.old.items ++ row_text ceiling row.now) }
@@ -140,7 +146,7 @@ fn push_failed(alloc: Global, text: &mut Vec<u8>, ceiling: u64, row: &Row) -> Re
 ///
 /// # Errors
 /// Memory was refused. The text is left with a part of that.
-pub fn push_counts(alloc: Global, text: &mut Vec<u8>, rows: &[Row]) -> Result<(), AllocError>
+pub fn push_counts(alloc: Global, text: &mut Vec<u8>, rows: &[Row]) -> Result<(), OutOfMemory>
     ensures { OnOk result (text.new.items ≡ text.old.items ++ counts_line rows.now) }
 {
     let mut line = String::new(alloc);

@@ -11,7 +11,8 @@ use crate::output::run_lines::{push_run, within_limits};
 use command_line::Trip;
 use file_faults::FileFault;
 use loops::{Loop, opening, run_from};
-use std::alloc::{AllocError, Global};
+use machine::OutOfMemory;
+use std::alloc::Global;
 
 /// What `plain` writes.
 pub fn plain_text(alloc: Global, loops: &[Loop], trip: Trip) -> Result<Printout, FileFault>
@@ -29,7 +30,7 @@ fn push_loops(
     text: &mut Vec<u8>,
     loops: &[Loop],
     trip: Trip,
-) -> Result<(), AllocError>
+) -> Result<(), OutOfMemory>
     ensures { OnOk result (text.new.items ≡ text.old.items ++ flat_map (plain_lines trip) loops.now) }
 {
     for innermost in loops {
@@ -47,7 +48,7 @@ pub fn push_plain(
     text: &mut Vec<u8>,
     innermost: &Loop,
     trip: Trip,
-) -> Result<(), AllocError>
+) -> Result<(), OutOfMemory>
     ensures { OnOk result (text.new.items ≡ text.old.items ++ plain_lines trip innermost.now) }
 {
     let before = within_limits(opening(alloc, innermost, trip.count()))?;

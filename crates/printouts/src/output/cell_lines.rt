@@ -7,7 +7,7 @@ ghost use Rattle.printouts.specs.Plain.{cell_line, cell_lines, line_if_changed};
 
 use itoa::write_digits;
 use loops::Memory;
-use std::alloc::AllocError;
+use machine::OutOfMemory;
 
 /// How many bytes the longest end of a cell's line has, from `[` on: two numbers of at most 20 bytes each,
 /// and four more.
@@ -20,7 +20,7 @@ pub(crate) fn push_cells(
     array: usize,
     before: &Memory,
     after: &Memory,
-) -> Result<(), AllocError>
+) -> Result<(), OutOfMemory>
     requires trip { before.now.trip ≡ after.now.trip }
     requires before { array < length before.now.arrays }
     requires after { array < length after.now.arrays }
@@ -41,7 +41,7 @@ fn push_changed(
     cell: i64,
     kept: i64,
     value: i64,
-) -> Result<(), AllocError>
+) -> Result<(), OutOfMemory>
     ensures { OnOk result (text.new.items ≡ text.old.items ++ line_if_changed name.now cell kept value) }
 {
     if value == kept {
@@ -51,7 +51,7 @@ fn push_changed(
 }
 
 /// Appends the line of a cell.
-fn push_cell(text: &mut Vec<u8>, name: &str, cell: i64, value: i64) -> Result<(), AllocError>
+fn push_cell(text: &mut Vec<u8>, name: &str, cell: i64, value: i64) -> Result<(), OutOfMemory>
     ensures { OnOk result (text.new.items ≡ text.old.items ++ cell_line name.now cell value) }
 {
     let mut tail = [0; TAIL];

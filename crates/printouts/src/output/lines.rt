@@ -3,14 +3,14 @@
 ghost use Rattle.std.specs.Prelude.{◌≡◌, ◌++◌, OnOk};
 ghost use Rattle.printouts.specs.Outcomes.{last_line};
 
-use std::alloc::AllocError;
+use machine::OutOfMemory;
 use writing::{Text, push_told};
 
 /// Appends the last line, with the number of loops.
 ///
 /// # Errors
 /// Memory was refused. The text is left with a part of that.
-pub fn push_last(text: &mut Vec<u8>, loops: u64) -> Result<(), AllocError>
+pub fn push_last(text: &mut Vec<u8>, loops: u64) -> Result<(), OutOfMemory>
     ensures ok { OnOk result (text.new.items ≡ text.old.items ++ last_line loops) }
 {
     push_told(text, "loops ", loops)?;

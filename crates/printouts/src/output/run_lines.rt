@@ -6,11 +6,11 @@ ghost use Rattle.printouts.specs.Plain.{run_line, out_line, array_lines, out_lin
 
 use crate::output::cell_lines::push_cells;
 use loops::{Loop, Memory, RunFault, value_name};
-use std::alloc::AllocError;
+use machine::OutOfMemory;
 use writing::{Text, push_both, push_signed, push_told};
 
 /// The answer of a run that only lack of memory can refuse.
-pub(crate) fn within_limits(answer: Result<Memory, RunFault>) -> Result<Memory, AllocError>
+pub(crate) fn within_limits(answer: Result<Memory, RunFault>) -> Result<Memory, OutOfMemory>
     requires trip { ¬ IsErrOf answer RunFault.Trip }
     requires shape { ¬ IsErrOf answer RunFault.Shape }
     ensures { IfOk result (λ memory. answer ≡ Ok memory) }
@@ -18,7 +18,7 @@ pub(crate) fn within_limits(answer: Result<Memory, RunFault>) -> Result<Memory, 
     match answer {
         Ok(memory) => Ok(memory),
         Err(fault) => match fault {
-            RunFault::Memory => Err(AllocError),
+            RunFault::Memory => Err(std::alloc::AllocError),
             RunFault::Trip | RunFault::Shape => unreachable!(),
         },
     }
@@ -30,7 +30,7 @@ pub(crate) fn push_run(
     innermost: &Loop,
     before: &Memory,
     after: &Memory,
-) -> Result<(), AllocError>
+) -> Result<(), OutOfMemory>
     requires trip { before.now.trip ≡ after.now.trip }
     requires before { HasShapeOf innermost.now before.now }
     requires after { HasShapeOf innermost.now after.now }
@@ -42,7 +42,7 @@ pub(crate) fn push_run(
 }
 
 /// Appends the line that names a loop and its trip count.
-fn push_head(text: &mut Vec<u8>, innermost: &Loop, trip: u64) -> Result<(), AllocError>
+fn push_head(text: &mut Vec<u8>, innermost: &Loop, trip: u64) -> Result<(), OutOfMemory>
     ensures { OnOk result (text.new.items ≡ text.old.items ++ run_line innermost.now.name trip) }
 {
     push_both(text, "loop ", innermost.name().as_str())?;
@@ -56,7 +56,7 @@ fn push_arrays(
     innermost: &Loop,
     before: &Memory,
     after: &Memory,
-) -> Result<(), AllocError>
+) -> Result<(), OutOfMemory>
     requires trip { before.now.trip ≡ after.now.trip }
     requires before { length before.now.arrays ≡ length innermost.now.arrays }
     requires after { length after.now.arrays ≡ length innermost.now.arrays }
@@ -71,7 +71,7 @@ fn push_arrays(
 }
 
 /// Appends the lines of the values that are live at the end, in order.
-fn push_outs(text: &mut Vec<u8>, innermost: &Loop, after: &Memory) -> Result<(), AllocError>
+fn push_outs(text: &mut Vec<u8>, innermost: &Loop, after: &Memory) -> Result<(), OutOfMemory>
     requires { length after.now.outs ≡ length innermost.now.outs }
     ensures { OnOk result (text.new.items ≡ text.old.items ++ out_lines innermost.now after.now) }
 {
@@ -84,7 +84,7 @@ fn push_outs(text: &mut Vec<u8>, innermost: &Loop, after: &Memory) -> Result<(),
 }
 
 /// Appends the line of a value that is live at the end.
-fn push_out(text: &mut Vec<u8>, name: &str, value: i64) -> Result<(), AllocError>
+fn push_out(text: &mut Vec<u8>, name: &str, value: i64) -> Result<(), OutOfMemory>
     ensures { OnOk result (text.new.items ≡ text.old.items ++ out_line name.now value) }
 {
     push_both(text, "out ", name)?;

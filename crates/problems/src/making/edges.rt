@@ -2,6 +2,7 @@
 
 ghost use Rattle.std.specs.Prelude.{◌≡◌, ◌≤◌, ◌++◌, map, IfOk};
 ghost use Rattle.problems.specs.Drafts.{IsWellFormed, IsRead, IsOrder, read_edge, order_edge, edges_of};
+ghost use Rattle.machine_data.specs.declared.limits.TheConstants.{MAX_STATEMENTS};
 
 use crate::draft::{Draft, Order};
 use graph::Edge;
@@ -26,7 +27,7 @@ fn read_edge(draft: &Draft, read: &Read) -> Edge
 
 /// The edge of an order.
 fn order_edge(operations: usize, order: &Order) -> Edge
-    requires few { operations ≤ 128 }
+    requires few { operations ≤ MAX_STATEMENTS }
     requires order { IsOrder operations order.now }
     ensures { result ≡ order_edge order.now }
 {

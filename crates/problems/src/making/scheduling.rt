@@ -5,6 +5,7 @@ ghost use Rattle.graph.specs.Graphs.{IsGraphWith};
 ghost use Rattle.problems.specs.Drafts.{IsWellFormed, edges_of, latencies_of, operations_of};
 ghost use Rattle.problems.specs.Problems.{IsSchedulingOf};
 ghost use Rattle.problems.specs.inner.Listed.{AreListed};
+ghost use Rattle.machine_data.specs.declared.limits.TheConstants.{MAX_CEILING, MAX_RATIO};
 
 use crate::draft::Draft;
 use crate::making::edges::edges_of;
@@ -36,8 +37,8 @@ pub(crate) fn scheduling_of(
 ) -> Result<modulo::Problem, OutOfMemory>
     requires well_formed { IsWellFormed draft.now }
     requires tables { AreListed tables.now.lists.items tables.now.numbers.items (operations_of draft.now) }
-    requires ratio { (1 ≤ ratio) × (ratio ≤ 64) }
-    requires ceiling { ceiling ≤ 255 }
+    requires ratio { (1 ≤ ratio) × (ratio ≤ MAX_RATIO) }
+    requires ceiling { ceiling ≤ MAX_CEILING }
     ensures { IfOk result (λ made. IsSchedulingOf draft.now made × (made.ratio ≡ ratio) × (made.ceiling ≡ ceiling)) }
 {
     let operations = operations_of(alloc, tables)?;

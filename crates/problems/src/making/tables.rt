@@ -4,6 +4,7 @@ ghost use Rattle.std.specs.Prelude.{◌≡◌, ◌≤◌, ◌<◌, ◌+◌, [], 
 ghost use Rattle.std.specs.List.{All, slice_index_or};
 ghost use Rattle.problems.specs.Drafts.{AreRows, IsKind, IsWellFormed, row_of, alternatives_of, latencies_of, operations_of};
 ghost use Rattle.problems.specs.inner.Listed.{AreListed};
+ghost use Rattle.machine_data.specs.declared.limits.TheConstants.{MAX_UNITS};
 
 use crate::draft::{Draft, Hold, Kind};
 use machine_data::{Alternative, Alternatives, OutOfMemory, Row};
@@ -33,7 +34,7 @@ pub(crate) fn latencies_of(alloc: Global, draft: &Draft) -> Result<Vec<u8>, OutO
 
 /// An alternative with these rows.
 fn alternative_of(alloc: Global, units: usize, holds: &[Hold]) -> Result<Alternative, OutOfMemory>
-    requires few { units ≤ 64 }
+    requires few { units ≤ MAX_UNITS }
     requires rows { AreRows units holds.now }
     ensures { IfOk result (λ made. made ≡ map row_of holds.now) }
 {
@@ -49,7 +50,7 @@ fn alternative_of(alloc: Global, units: usize, holds: &[Hold]) -> Result<Alterna
 
 /// The alternatives of a kind, which its operations share.
 fn alternatives_of(alloc: Global, units: usize, kind: &Kind) -> Result<Alternatives, OutOfMemory>
-    requires few { units ≤ 64 }
+    requires few { units ≤ MAX_UNITS }
     requires kind { IsKind units kind.now }
     ensures { IfOk result (λ made. made ≡ alternatives_of kind.now) }
 {
@@ -77,7 +78,7 @@ fn push_kind(
     lists: &mut Vec<Alternatives>,
     of_kinds: &mut Vec<usize>,
 ) -> Result<(), OutOfMemory>
-    requires few { units ≤ 64 }
+    requires few { units ≤ MAX_UNITS }
     requires there { number < length kinds.now }
     requires kinds { All (IsKind units) kinds.now }
     requires sofar { AreListed lists.old.items of_kinds.old.items (map alternatives_of (take number kinds.now)) }
@@ -101,7 +102,7 @@ fn push_kinds(
     kinds: &[Kind],
     lists: &mut Vec<Alternatives>,
 ) -> Result<Vec<usize>, OutOfMemory>
-    requires few { units ≤ 64 }
+    requires few { units ≤ MAX_UNITS }
     requires kinds { All (IsKind units) kinds.now }
     requires none { lists.old.items ≡ [] }
     ensures { IfOk result (λ of_kinds. AreListed lists.new.items of_kinds.items (map alternatives_of kinds.now)) }

@@ -1,10 +1,11 @@
 -- The points around the registers that no value takes. An arc is told by its first point, and by how far its last one is after it.
 use Rattle.std.specs.Prelude.{◌≡◌, ℕ, ◌+◌, ◌-◌, ◌*◌, ◌%◌, ◌<◌, ◌≤◌, List, Some, slice_get}
+use Rattle.machine_data.specs.declared.limits.TheConstants.{MAX_INTERVAL}
 use Rattle.registers.specs.declared.numbers.gaps.Gap.{Gap}
 
 -- the point of this turn that has `phase` points of the turn before it
 abbrev pub place_at : ℕ → ℕ → ℕ
-place_at phase turn = turn * 16384 + phase
+place_at phase turn = turn * MAX_INTERVAL + phase
 
 -- two arcs have a point in common
 abbrev pub Overlap : ℕ → ℕ → ℕ → ℕ → Type 0

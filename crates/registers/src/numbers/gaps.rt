@@ -2,6 +2,7 @@
 
 ghost use Rattle.std.specs.Prelude.{◌≡◌, ◌<◌, ◌≤◌, ◌+◌, ◌*◌, ◌%◌, ◌↔◌, ℕ, OnOk, MatchOption};
 ghost use Rattle.registers.specs.inner.Gaps.{AreInOrder, Fits, FitsAt, Overlap, number_of, place_at};
+ghost use Rattle.machine_data.specs.declared.limits.TheConstants.{MAX_REGISTERS};
 
 use crate::values::turns::Arc;
 use machine_data::OutOfMemory;
@@ -27,7 +28,7 @@ pub(crate) struct Fit {
 fn first_fit(gaps: &[Gap], arc: Arc, from: u64) -> Option<Fit>
     requires order { AreInOrder 4194304 gaps.now }
     requires from { from ≤ 256 }
-    requires phase { arc.phase < 16384 }
+    requires phase { arc.phase < MAX_INTERVAL }
     requires length { arc.length ≤ 70368744194048 }
     ensures { MatchOption result ((t : ℕ) → from ≤ t → ¬ Fits gaps.now (place_at arc.phase t) arc.length)
         (λ f. FitsAt gaps.now f.gap (place_at arc.phase f.turn) arc.length × (from ≤ f.turn)
@@ -48,10 +49,10 @@ fn first_fit(gaps: &[Gap], arc: Arc, from: u64) -> Option<Fit>
 
 /// Where an arc fits with the least number.
 pub(crate) fn least_fit(gaps: &[Gap], registers: usize, arc: Arc) -> Option<Fit>
-    requires order { AreInOrder (registers * 16384) gaps.now }
-    requires few { registers ≤ 256 }
+    requires order { AreInOrder (registers * MAX_INTERVAL) gaps.now }
+    requires few { registers ≤ MAX_REGISTERS }
     requires turn { arc.turn < registers }
-    requires phase { arc.phase < 16384 }
+    requires phase { arc.phase < MAX_INTERVAL }
     requires length { arc.length ≤ 70368744194048 }
     ensures { MatchOption result ((c : ℕ) → c < registers → ¬ Fits gaps.now (place_at arc.phase ((arc.turn + c) % registers)) arc.length)
         (λ f. FitsAt gaps.now f.gap (place_at arc.phase f.turn) arc.length × (f.turn < registers)
@@ -65,7 +66,7 @@ pub(crate) fn least_fit(gaps: &[Gap], registers: usize, arc: Arc) -> Option<Fit>
 
 /// The number by which a value that begins in one turn with the number 0 begins in another turn.
 pub(crate) fn number_of(registers: usize, from: u64, to: u64) -> usize
-    requires few { registers ≤ 256 }
+    requires few { registers ≤ MAX_REGISTERS }
     requires from { from < registers }
     requires to { to < registers }
     ensures value { result ≡ number_of registers from to }

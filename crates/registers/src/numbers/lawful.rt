@@ -4,6 +4,7 @@ ghost use Rattle.std.specs.Prelude.{◌≡◌, ◌<◌, ◌≤◌, ◌↔◌, Is
 ghost use Rattle.std.specs.List.{All};
 ghost use Rattle.registers.specs.Allotments.{IsLawfulAllotment};
 ghost use Rattle.registers.specs.Residues.{IsLifeSpan};
+ghost use Rattle.machine_data.specs.declared.limits.TheConstants.{MAX_INTERVAL, MAX_REGISTERS};
 
 use crate::lifetime::Lifetime;
 use crate::numbers::meetings::first_meeting;
@@ -20,9 +21,9 @@ fn are_registers(registers: usize, numbers: &[usize]) -> bool
 /// iteration count, those before the first and after the last ones too.
 pub fn are_lawful(ii: u64, registers: usize, lives: &[Lifetime], numbers: &[usize]) -> bool
     requires some { 1 ≤ ii }
-    requires few { ii ≤ 16384 }
+    requires few { ii ≤ MAX_INTERVAL }
     requires registers_some { 1 ≤ registers }
-    requires registers_few { registers ≤ 256 }
+    requires registers_few { registers ≤ MAX_REGISTERS }
     requires lives { All IsLifeSpan lives.now }
     ensures { (result ≡ true) ↔ IsLawfulAllotment ii registers lives.now numbers.now }
 {

@@ -5,6 +5,7 @@ ghost use Rattle.std.specs.List.{All};
 ghost use Rattle.registers.specs.Allotments.{AreLeast, HaveNone};
 ghost use Rattle.registers.specs.Numberless.{HasNoneAt};
 ghost use Rattle.registers.specs.Residues.{IsLifeSpan};
+ghost use Rattle.machine_data.specs.declared.limits.TheConstants.{MAX_REGISTERS};
 
 use crate::lifetime::Lifetime;
 use crate::numbers::gaps::{Gap, least_fit, number_of, take};
@@ -31,9 +32,9 @@ pub fn fill_least(
     numbers: &mut [usize],
 ) -> Result<Option<usize>, OutOfMemory>
     requires some { 1 ≤ ii }
-    requires few { ii ≤ 16384 }
+    requires few { ii ≤ MAX_INTERVAL }
     requires registers_some { 1 ≤ registers }
-    requires registers_few { registers ≤ 256 }
+    requires registers_few { registers ≤ MAX_REGISTERS }
     requires lives { All IsLifeSpan lives.now }
     requires each { length numbers.old ≡ length lives.now }
     ensures each { length numbers.new ≡ length lives.now }
@@ -81,9 +82,9 @@ pub fn find_least(
     numbers: &mut [usize],
 ) -> Result<bool, OutOfMemory>
     requires some { 1 ≤ ii }
-    requires few { ii ≤ 16384 }
+    requires few { ii ≤ MAX_INTERVAL }
     requires registers_some { 1 ≤ registers }
-    requires registers_few { registers ≤ 256 }
+    requires registers_few { registers ≤ MAX_REGISTERS }
     requires lives { All IsLifeSpan lives.now }
     requires few_lives { length lives.now ≤ 256 }
     requires each { length numbers.old ≡ length lives.now }

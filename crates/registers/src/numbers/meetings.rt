@@ -6,6 +6,7 @@ ghost use Rattle.registers.specs.Allotments.{IsLawfulAllotment};
 ghost use Rattle.registers.specs.Meetings.{IsFirstMeeting};
 ghost use Rattle.registers.specs.Residues.{IsFreeNumber, IsLifeSpan};
 ghost use Rattle.registers.specs.inner.Forbidding.{IsFirstForbidding};
+ghost use Rattle.machine_data.specs.declared.limits.TheConstants.{MAX_INTERVAL, MAX_REGISTERS};
 
 use crate::lifetime::Lifetime;
 use crate::meeting::Meeting;
@@ -21,9 +22,9 @@ fn first_forbidding(
     number: usize,
 ) -> Option<usize>
     requires some { 1 ≤ ii }
-    requires few { ii ≤ 16384 }
+    requires few { ii ≤ MAX_INTERVAL }
     requires registers_some { 1 ≤ registers }
-    requires registers_few { registers ≤ 256 }
+    requires registers_few { registers ≤ MAX_REGISTERS }
     requires lives { All IsLifeSpan lives.now }
     requires other { IsLifeSpan other }
     requires each { length numbers.now ≡ length lives.now }
@@ -50,9 +51,9 @@ fn first_meeting_more(
     number: usize,
 ) -> Option<Meeting>
     requires some { 1 ≤ ii }
-    requires few { ii ≤ 16384 }
+    requires few { ii ≤ MAX_INTERVAL }
     requires registers_some { 1 ≤ registers }
-    requires registers_few { registers ≤ 256 }
+    requires registers_few { registers ≤ MAX_REGISTERS }
     requires lives { All IsLifeSpan lives.now }
     requires other { IsLifeSpan other }
     requires lawful { IsLawfulAllotment ii registers lives.now numbers.now }
@@ -99,9 +100,9 @@ pub fn first_meeting(
     numbers: &[usize],
 ) -> Option<Meeting>
     requires some { 1 ≤ ii }
-    requires few { ii ≤ 16384 }
+    requires few { ii ≤ MAX_INTERVAL }
     requires registers_some { 1 ≤ registers }
-    requires registers_few { registers ≤ 256 }
+    requires registers_few { registers ≤ MAX_REGISTERS }
     requires lives { All IsLifeSpan lives.now }
     requires each { length numbers.now ≡ length lives.now }
     requires there { All (λ number. number < registers) numbers.now }

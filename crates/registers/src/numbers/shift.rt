@@ -3,13 +3,14 @@
 ghost use Rattle.std.specs.Prelude.{◌≡◌, ◌<◌, ◌≤◌, ◌↔◌, pos, ◌≤ℤ◌, IsTrue, neg_ℤ};
 ghost use Rattle.registers.specs.Residues.{least_shift, greatest_shift, distance_up, Forbids, IsLifeSpan};
 ghost use Rattle.registers.specs.inner.Forbidding.{first_shift, MeetIn};
+ghost use Rattle.machine_data.specs.declared.limits.TheConstants.{MAX_INTERVAL, MAX_REGISTERS};
 
 use crate::lifetime::Lifetime;
 
 /// The least difference of iterations at which the other value's instance shares a cycle with the one's.
 pub(crate) fn least_shift(ii: u64, one: Lifetime, other: Lifetime) -> i64
     requires some { 1 ≤ ii }
-    requires few { ii ≤ 16384 }
+    requires few { ii ≤ MAX_INTERVAL }
     requires one { one.first ≤ 4294967296 }
     requires other { other.last ≤ 4294967296 }
     ensures value { result ≡ least_shift ii one other }
@@ -22,7 +23,7 @@ pub(crate) fn least_shift(ii: u64, one: Lifetime, other: Lifetime) -> i64
 /// The greatest such difference.
 pub(crate) fn greatest_shift(ii: u64, one: Lifetime, other: Lifetime) -> i64
     requires some { 1 ≤ ii }
-    requires few { ii ≤ 16384 }
+    requires few { ii ≤ MAX_INTERVAL }
     requires one { one.last ≤ 4294967296 }
     requires other { other.first ≤ 4294967296 }
     ensures value { result ≡ greatest_shift ii one other }
@@ -35,7 +36,7 @@ pub(crate) fn greatest_shift(ii: u64, one: Lifetime, other: Lifetime) -> i64
 /// How far a candidate is above the first forbidden register, around the registers.
 pub(crate) fn distance_up(registers: usize, number: usize, low: i64, candidate: usize) -> usize
     requires some { 1 ≤ registers }
-    requires few { registers ≤ 256 }
+    requires few { registers ≤ MAX_REGISTERS }
     requires number { number < registers }
     requires candidate { candidate < registers }
     requires low { neg_ℤ (pos 4294967296) ≤ℤ low }
@@ -57,9 +58,9 @@ fn first_shift(
     candidate: usize,
 ) -> i64
     requires some { 1 ≤ ii }
-    requires few { ii ≤ 16384 }
+    requires few { ii ≤ MAX_INTERVAL }
     requires registers_some { 1 ≤ registers }
-    requires registers_few { registers ≤ 256 }
+    requires registers_few { registers ≤ MAX_REGISTERS }
     requires one { one.first ≤ 4294967296 }
     requires other { other.last ≤ 4294967296 }
     requires number { number < registers }
@@ -82,9 +83,9 @@ pub(crate) fn forbids(
     candidate: usize,
 ) -> bool
     requires some { 1 ≤ ii }
-    requires few { ii ≤ 16384 }
+    requires few { ii ≤ MAX_INTERVAL }
     requires registers_some { 1 ≤ registers }
-    requires registers_few { registers ≤ 256 }
+    requires registers_few { registers ≤ MAX_REGISTERS }
     requires one { one.first ≤ one.last }
     requires one_few { one.last ≤ 4294967296 }
     requires other { other.first ≤ other.last }
@@ -106,9 +107,9 @@ pub(crate) fn shared_cycle(
     candidate: usize,
 ) -> u64
     requires some { 1 ≤ ii }
-    requires few { ii ≤ 16384 }
+    requires few { ii ≤ MAX_INTERVAL }
     requires registers_some { 1 ≤ registers }
-    requires registers_few { registers ≤ 256 }
+    requires registers_few { registers ≤ MAX_REGISTERS }
     requires one { IsLifeSpan one }
     requires other { IsLifeSpan other }
     requires number { number < registers }

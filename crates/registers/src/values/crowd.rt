@@ -5,6 +5,7 @@ ghost use Rattle.std.specs.List.{All};
 ghost use Rattle.registers.specs.Allotments.{HaveNone};
 ghost use Rattle.registers.specs.Crowds.{instances_in, crowd_in};
 ghost use Rattle.registers.specs.Residues.{IsLifeSpan};
+ghost use Rattle.machine_data.specs.declared.limits.TheConstants.{MAX_INTERVAL};
 
 use crate::lifetime::{Lifetime, MAX_VALUES};
 
@@ -13,7 +14,7 @@ const MAX_ROWS: u64 = 256;
 
 /// How many instances of a value live in the cycle of a row.
 fn instances_in(ii: u64, row: u64, life: Lifetime) -> u64
-    requires few { ii ≤ 16384 }
+    requires few { ii ≤ MAX_INTERVAL }
     requires row { row < ii }
     requires life { IsLifeSpan life }
     ensures value { result ≡ instances_in ii row life }
@@ -25,7 +26,7 @@ fn instances_in(ii: u64, row: u64, life: Lifetime) -> u64
 /// How many instances of all these values live in the cycle of a row, a cycle of the interval from 0 on, once
 /// iterations start on and on.
 pub fn crowd_in(ii: u64, row: u64, lives: &[Lifetime]) -> u64
-    requires few { ii ≤ 16384 }
+    requires few { ii ≤ MAX_INTERVAL }
     requires row { row < ii }
     requires lives { All IsLifeSpan lives.now }
     requires few_lives { length lives.now ≤ 256 }
@@ -92,7 +93,7 @@ fn crowded_row(ii: u64, lives: &[Lifetime]) -> u64
 /// is found by far sooner than that the numbers run out.
 pub(crate) fn are_crowded(ii: u64, registers: usize, lives: &[Lifetime]) -> bool
     requires some { 1 ≤ ii }
-    requires few { ii ≤ 16384 }
+    requires few { ii ≤ MAX_INTERVAL }
     requires registers_some { 1 ≤ registers }
     requires lives { All IsLifeSpan lives.now }
     requires few_lives { length lives.now ≤ 256 }

@@ -5,6 +5,7 @@ ghost use Rattle.std.specs.List.{All};
 ghost use Rattle.registers.specs.Values.{AreValues, IsRead, first_cycle, greatest_of, landing_of, lives_of, read_at, reads_of};
 ghost use Rattle.registers.specs.declared.value.Read.{Read};
 ghost use Rattle.registers.specs.inner.Lasts.{last_or};
+ghost use Rattle.machine_data.specs.declared.limits.TheConstants.{MAX_INTERVAL, MAX_LATENCY};
 
 use crate::lifetime::{Lifetime, MAX_VALUES};
 use crate::value::{Read, Value};
@@ -12,7 +13,7 @@ use crate::value::{Read, Value};
 /// Raises the entries of each value that is read: to how many iterations ago it was made, and to the cycle after the
 /// one in which iteration 0's instance is read.
 fn raise_reads(ii: u64, times: &[u64], reads: &[Read], carried: &mut [u64], ends: &mut [u64])
-    requires few { ii ≤ 16384 }
+    requires few { ii ≤ MAX_INTERVAL }
     requires issued { All (λ time. time ≤ 1048576) times.now }
     requires reads { All (IsRead (length times.now) 256) reads.now }
     requires long_carried { length carried.old ≡ 256 }
@@ -37,7 +38,7 @@ fn live_of(ii: u64, times: &[u64], end: u64, value: Value, farthest: u64, behind
     requires maker { value.maker < length times.now }
     requires few { length times.now ≤ 256 }
     requires issued { All (λ time. time ≤ 1048576) times.now }
-    requires lands { value.lands ≤ 64 }
+    requires lands { value.lands ≤ MAX_LATENCY }
     ensures operation { result.operation ≡ value.maker }
     ensures first { result.first ≡ first_cycle ii (landing_of times.now value) (max farthest (if value.out then 1 else 0)) }
     ensures last { result.last ≡ max (last_or (landing_of times.now value) behind) (if value.out then end else 0) }

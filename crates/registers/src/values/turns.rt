@@ -3,6 +3,7 @@
 ghost use Rattle.std.specs.Prelude.{◌≡◌, ◌≤◌, ◌<◌};
 ghost use Rattle.registers.specs.Residues.{IsLifeSpan};
 ghost use Rattle.registers.specs.inner.Turns.{arc_of, point_of};
+ghost use Rattle.machine_data.specs.declared.limits.TheConstants.{MAX_REGISTERS};
 
 use crate::lifetime::Lifetime;
 use machine_data::limits::MAX_INTERVAL;
@@ -26,7 +27,7 @@ pub(crate) struct Arc {
 /// number. Each turn has as many points as an interval may have cycles.
 pub(crate) fn point_of(ii: u64, cycle: u64) -> u64
     requires some { 1 ≤ ii }
-    requires few { ii ≤ 16384 }
+    requires few { ii ≤ MAX_INTERVAL }
     requires cycle { cycle ≤ 4294967296 }
     ensures value { result ≡ point_of ii cycle }
     ensures small { result ≤ 70368744194048 }
@@ -38,14 +39,14 @@ impl Arc {
     /// Where a value lies.
     pub(crate) fn of(ii: u64, registers: usize, origin: u64, life: Lifetime) -> Arc
         requires some { 1 ≤ ii }
-        requires few { ii ≤ 16384 }
+        requires few { ii ≤ MAX_INTERVAL }
         requires registers_some { 1 ≤ registers }
-        requires registers_few { registers ≤ 256 }
+        requires registers_few { registers ≤ MAX_REGISTERS }
         requires origin { origin ≤ 70368744194048 }
         requires life { IsLifeSpan life }
         ensures value { result ≡ arc_of ii registers origin life }
         ensures turn { result.turn < registers }
-        ensures phase { result.phase < 16384 }
+        ensures phase { result.phase < MAX_INTERVAL }
         ensures length { result.length ≤ 70368744194048 }
     {
         let first = point_of(ii, life.first);

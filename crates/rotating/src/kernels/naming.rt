@@ -5,6 +5,7 @@ ghost use Rattle.std.specs.List.{All};
 ghost use Rattle.loop_data.specs.Loops.{MayRead};
 ghost use Rattle.overlap.specs.Emission.{address_of, source_of};
 ghost use Rattle.rotating.specs.inner.Naming.{AreNumbers};
+ghost use Rattle.machine_data.specs.declared.limits.TheConstants.{MAX_REGISTERS};
 
 use crate::numbers::allotment::Allotment;
 use ims::Schedule;
@@ -37,7 +38,7 @@ pub(crate) fn fill_numbers(schedule: &Schedule, allotment: &Allotment, table: &m
 /// The name, in a stage, of the register of a value as it was `distance` iterations ago.
 pub(crate) fn register_name(registers: u64, number: usize, distance: u8, stage: u64) -> u16
     requires some { 1 ≤ registers }
-    requires few { registers ≤ 256 }
+    requires few { registers ≤ MAX_REGISTERS }
     requires number { number < registers }
     requires stage { stage ≤ 64 }
     ensures value { result ≡ (number + distance + stage) % registers }

@@ -4,6 +4,7 @@ ghost use Rattle.std.specs.Prelude.{◌≡◌, ◌<◌, ◌≤◌, ◌+◌, ◌%
 ghost use Rattle.ims.specs.Schedules.{row_of, stage_of};
 ghost use Rattle.overlap.specs.Emission.{address_of, operation_of, operations_from};
 ghost use Rattle.rotating.specs.inner.Naming.{AreNumbers};
+ghost use Rattle.machine_data.specs.declared.limits.TheConstants.{MAX_REGISTERS};
 
 use crate::kernels::naming::{address_of, register_name, sources_of};
 use crate::numbers::allotment::Allotment;
@@ -41,7 +42,7 @@ fn alternative_of(schedule: &Schedule, op: usize) -> u8
 /// The name of the register that a statement of this stage writes, where it gives a value.
 fn destination_of(registers: u64, number: usize, stage: u64, statement: &Statement) -> Option<u16>
     requires some { 1 ≤ registers }
-    requires few { registers ≤ 256 }
+    requires few { registers ≤ MAX_REGISTERS }
     requires number { number < registers }
     requires stage { stage ≤ 64 }
     ensures { result ≡ option_map (λ _. (number + 0 + stage) % registers) statement.now.name }

@@ -4,7 +4,9 @@ ghost use Rattle.std.specs.Prelude.{◌≡◌, ◌≤◌, ℕ, List, IfOk, Match
 ghost use Rattle.overlap.specs.Allotments.{IsAllotment, AreLeast, LeastFor, NoneFor, Suits};
 ghost use Rattle.overlap.specs.Lifetimes.{lifetimes_of};
 ghost use Rattle.registers.specs.Numberless.{HasNone};
+ghost use Rattle.rotating.specs.Allotting.{IsAllotted};
 ghost use Rattle.rotating.specs.CheckAnswers.{CheckAnswers};
+ghost use Rattle.machine_data.specs.declared.limits.TheConstants.{MAX_REGISTERS};
 
 use crate::values::lifetime::{fill_lifetimes, lifetimes};
 use ims::Schedule;
@@ -64,7 +66,7 @@ impl Allotment {
         numbers: Vec<usize>,
     ) -> Result<Allotment, Vec<usize>>
         requires some { 1 ≤ registers }
-        requires few { registers ≤ 256 }
+        requires few { registers ≤ MAX_REGISTERS }
         ensures exact { CheckAnswers schedule.now registers numbers.items result }
     {
         let ii = schedule.ii();
@@ -100,7 +102,7 @@ pub fn allot(
     registers: u64,
 ) -> Result<Option<Allotment>, OutOfMemory>
     requires some { 1 ≤ registers }
-    requires few { registers ≤ 256 }
+    requires few { registers ≤ MAX_REGISTERS }
     ensures exact { IfOk result (λ found. MatchOption found (NoneFor schedule.now registers) (λ a. (a.registers ≡ registers) × LeastFor schedule.now a)) }
     ensures lawful { IfOk result (λ found. MatchOption found (Unit {0}) (Suits schedule.now)) }
 {
@@ -120,20 +122,29 @@ pub fn allot(
     }
 }
 
-/// The lifetime of the first value, in text order, that gets no number once those before it have their
-/// least ones; `None` where all get one. It is the value for which [`allot`] finds no allotment.
+/// Registers for all values, or the first value that has none.
+#[derive(Debug, Drop)]
+pub enum Allotted {
+    /// The allotment that [`allot`] finds.
+    All(Allotment),
+    /// The lifetime of the first value, in text order, that gets no number once those before it have their
+    /// least ones.
+    Lacks(Lifetime),
+}
+
+/// The allotment of [`allot`], or the first value that keeps a schedule from one: it goes over the values
+/// once for either.
 ///
 /// # Errors
 /// [`OutOfMemory`] where memory ran out.
-pub fn first_without_number(
+pub fn allot_or_lack(
     alloc: Global,
     schedule: &Schedule,
     registers: u64,
-) -> Result<Option<Lifetime>, OutOfMemory>
+) -> Result<Allotted, OutOfMemory>
     requires some { 1 ≤ registers }
-    requires few { registers ≤ 256 }
-    ensures exact { IfOk result (λ found. MatchOption found ((numbers : List ℕ) × AreLeast schedule.now.ii registers (lifetimes_of schedule.now) numbers)
-        (HasNone schedule.now.ii registers (lifetimes_of schedule.now))) }
+    requires few { registers ≤ MAX_REGISTERS }
+    ensures exact { IfOk result (IsAllotted schedule.now registers) }
 {
     let lives = lifetimes(alloc, schedule)?;
     let mut numbers = zeros(alloc, lives.len())?;
@@ -145,7 +156,28 @@ pub fn first_without_number(
         numbers.as_mut_slice(),
     )?;
     match found {
-        Some(place) => Ok(Some(lives[place])),
-        None => Ok(None),
+        Some(place) => Ok(Allotted::Lacks(lives[place])),
+        None => Ok(Allotted::All(Allotment { registers, numbers })),
+    }
+}
+
+/// The lifetime of the first value, in text order, that gets no number once those before it have their
+/// least ones; `None` where all get one. It is the value for which [`allot`] finds no allotment.
+///
+/// # Errors
+/// [`OutOfMemory`] where memory ran out.
+pub fn first_without_number(
+    alloc: Global,
+    schedule: &Schedule,
+    registers: u64,
+) -> Result<Option<Lifetime>, OutOfMemory>
+    requires some { 1 ≤ registers }
+    requires few { registers ≤ MAX_REGISTERS }
+    ensures exact { IfOk result (λ found. MatchOption found ((numbers : List ℕ) × AreLeast schedule.now.ii registers (lifetimes_of schedule.now) numbers)
+        (HasNone schedule.now.ii registers (lifetimes_of schedule.now))) }
+{
+    match allot_or_lack(alloc, schedule, registers)? {
+        Allotted::All(_) => Ok(None),
+        Allotted::Lacks(life) => Ok(Some(life)),
     }
 }

@@ -7,6 +7,7 @@ ghost use Rattle.loop_data.specs.Loops.{IsLoop};
 ghost use Rattle.overlap.specs.Lifetimes.{Use, carried, is_out, read_at, uses_of};
 ghost use Rattle.rotating.specs.inner.Naming.{AreCarried};
 ghost use Rattle.rotating.specs.inner.Uses.{greatest_in};
+ghost use Rattle.machine_data.specs.declared.limits.TheConstants.{MAX_INTERVAL};
 
 use ims::Schedule;
 use loop_data::{Loop, Operand};
@@ -15,7 +16,7 @@ use loop_data::{Loop, Operand};
 /// each iteration that the value is old.
 fn raise(operands: &[Operand], base: u32, step: u32, table: &mut [u32])
     requires base { base ≤ 1048576 }
-    requires step { step ≤ 16384 }
+    requires step { step ≤ MAX_INTERVAL }
     requires long { length table.old ≡ 256 }
     ensures long { length table.new ≡ 256 }
     ensures each { (v : ℕ) → v < 256 → slice_index table.new v ≡ max (slice_index table.old v) (greatest_in v base step operands.now) }
@@ -71,7 +72,7 @@ pub(crate) fn fill_carried(innermost: &Loop, table: &mut [u32])
 /// iterations old the value is, and when iteration 0's instance is read at this interval.
 fn raise_both(operands: &[Operand], time: u32, ii: u32, carried: &mut [u32], lasts: &mut [u32])
     requires time { time ≤ 1048576 }
-    requires ii { ii ≤ 16384 }
+    requires ii { ii ≤ MAX_INTERVAL }
     requires long_carried { length carried.old ≡ 256 }
     requires long_lasts { length lasts.old ≡ 256 }
     ensures long_carried { length carried.new ≡ 256 }

@@ -1,5 +1,6 @@
 -- What is known of a grid before its text is written.
 use Rattle.std.specs.Prelude.{◌≡◌, ℕ, ◌+◌, ◌*◌, ◌<◌, ◌≤◌, codes, decimal, List, ◌++◌, length, map, slice_index}
+use Rattle.machine_data.specs.declared.limits.TheConstants.{MAX_UNITS}
 use Rattle.std.specs.List.{All, flat_map}
 use Rattle.machine_data.specs.Machines.{MachineData}
 use Rattle.ims.specs.Schedules.{ScheduleData}
@@ -21,7 +22,7 @@ columns_in machine schedule = map (column_of machine schedule) (used_units machi
 pub record IsGrid (machine : MachineData) (schedule : ScheduleData) (grid : Grid) : Type 0 where
   pub slots : AreSlots schedule grid.slots
   pub columns : grid.columns.items ≡ columns_in machine schedule
-  pub few : length machine.units ≤ 64
+  pub few : length machine.units ≤ MAX_UNITS
   pub counts : grid.counts.items ≡ live_counts schedule
   pub greatest : grid.greatest ≡ greatest_live schedule
   pub row_width : grid.row_width ≡ row_width schedule

@@ -1,5 +1,6 @@
 -- The table of the slots' texts.
 use Rattle.std.specs.Prelude.{◌≡◌, ℕ, ◌+◌, ◌*◌, ◌-◌, ◌<◌, suc, codes, List, [], ◌∷◌, length, filter, map, Option, Some, None, Vec, slice_get, slice_index}
+use Rattle.machine_data.specs.declared.limits.TheConstants.{MAX_UNITS}
 use Rattle.std.specs.Global.{Global}
 use Rattle.std.specs.List.{All, range_with_len, slice_index_or}
 use Rattle.ims.specs.Schedules.{ScheduleData}
@@ -17,7 +18,7 @@ place_of (Some op) = suc op
 
 -- each slot has the place of the first of the operations from this one on that take it
 pub record AreTakersFrom (schedule : ScheduleData) (from : ℕ) (takers : List ℕ) : Type 0 where
-  pub each : (unit row : ℕ) → unit < 64 → row < schedule.ii
+  pub each : (unit row : ℕ) → unit < MAX_UNITS → row < schedule.ii
       → taker_in takers unit row ≡ place_of (slice_get (filter (takes_slot schedule unit row) (range_with_len from (length schedule.problem.operations - from))) 0)
 
 -- the texts, each as its bytes

@@ -4,7 +4,7 @@ ghost use Rattle.std.specs.Prelude.{◌≡◌, ◌++◌, decimal, length, replic
 ghost use Rattle.schedule_lines.specs.Columns.{cell_behind, padded};
 
 use itoa::Buffer;
-use std::alloc::AllocError;
+use machine_data::OutOfMemory;
 use writing::Text;
 
 /// How many digits a number has.
@@ -16,7 +16,7 @@ pub(crate) fn digits_of(number: u64) -> usize
 }
 
 /// Appends `blanks` blanks.
-fn push_blanks(text: &mut Vec<u8>, blanks: usize) -> Result<(), AllocError>
+fn push_blanks(text: &mut Vec<u8>, blanks: usize) -> Result<(), OutOfMemory>
     ensures ok { OnOk result (text.new.items ≡ text.old.items ++ replicate blanks 32) }
 {
     for _blank in 0..blanks {
@@ -26,7 +26,7 @@ fn push_blanks(text: &mut Vec<u8>, blanks: usize) -> Result<(), AllocError>
 }
 
 /// Appends a cell, with blanks before it up to the width of its column.
-pub(crate) fn push_padded(text: &mut Vec<u8>, width: usize, cell: &[u8]) -> Result<(), AllocError>
+pub(crate) fn push_padded(text: &mut Vec<u8>, width: usize, cell: &[u8]) -> Result<(), OutOfMemory>
     ensures ok { OnOk result (text.new.items ≡ text.old.items ++ padded width cell.now) }
 {
     push_blanks(text, width.saturating_sub(cell.len()))?;
@@ -38,7 +38,7 @@ pub(crate) fn push_padded_number(
     text: &mut Vec<u8>,
     width: usize,
     number: u64,
-) -> Result<(), AllocError>
+) -> Result<(), OutOfMemory>
     ensures ok { OnOk result (text.new.items ≡ text.old.items ++ padded width (decimal number)) }
 {
     let mut digits = Buffer::new();
@@ -46,7 +46,7 @@ pub(crate) fn push_padded_number(
 }
 
 /// Appends a cell that is not the first of its line.
-pub(crate) fn push_cell(text: &mut Vec<u8>, width: usize, cell: &[u8]) -> Result<(), AllocError>
+pub(crate) fn push_cell(text: &mut Vec<u8>, width: usize, cell: &[u8]) -> Result<(), OutOfMemory>
     ensures ok { OnOk result (text.new.items ≡ text.old.items ++ cell_behind width cell.now) }
 {
     text.push_piece(" ")?;

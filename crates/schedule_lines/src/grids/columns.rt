@@ -5,6 +5,7 @@ ghost use Rattle.schedule_lines.specs.Columns.{width_of};
 ghost use Rattle.schedule_lines.specs.Slots.{is_used, rows_in, slot_text};
 ghost use Rattle.schedule_lines.specs.inner.Grids.{column_of, columns_in};
 ghost use Rattle.schedule_lines.specs.inner.Tables.{AreSlots};
+ghost use Rattle.machine_data.specs.declared.limits.TheConstants.{MAX_UNITS};
 
 use crate::slots::Slots;
 use ims::Schedule;
@@ -22,7 +23,7 @@ pub(crate) struct Column {
 /// Whether some operation takes the unit.
 fn is_used(schedule: &Schedule, slots: &Slots, unit: u8) -> bool
     requires slots { AreSlots schedule.now slots.now }
-    requires unit { unit < 64 }
+    requires unit { unit < MAX_UNITS }
     ensures { result ≡ is_used schedule.now unit }
 {
     let mut used = false;
@@ -35,7 +36,7 @@ fn is_used(schedule: &Schedule, slots: &Slots, unit: u8) -> bool
 /// The width of the column of a unit with this name.
 fn unit_width(schedule: &Schedule, slots: &Slots, name: &[u8], unit: u8) -> usize
     requires slots { AreSlots schedule.now slots.now }
-    requires unit { unit < 64 }
+    requires unit { unit < MAX_UNITS }
     ensures { result ≡ width_of (name.now ∷ map (slot_text schedule.now unit) (rows_in schedule.now)) }
 {
     let mut width = name.len();
@@ -75,7 +76,7 @@ pub(crate) fn columns_of(
 ) -> Result<Vec<Column>, OutOfMemory>
     requires { AreSlots schedule.now slots.now }
     ensures columns { IfOk result (λ columns. columns.items ≡ columns_in machine.now schedule.now) }
-    ensures few { length machine.now.units ≤ 64 }
+    ensures few { length machine.now.units ≤ MAX_UNITS }
 {
     let mut columns = Vec::new(alloc);
     for unit in 0..machine.units().len() {

@@ -14,7 +14,7 @@ use crate::slots::Slots;
 use ims::Schedule;
 use machine_data::{Machine, OutOfMemory};
 use rotating::Lifetime;
-use std::alloc::{AllocError, Global};
+use std::alloc::Global;
 use writing::Text;
 
 /// What the lines of a grid are written from.
@@ -58,7 +58,7 @@ pub(crate) fn grid_of(
 }
 
 /// Appends the names of the units of these columns.
-fn push_names(text: &mut Vec<u8>, machine: &Machine, columns: &[Column]) -> Result<(), AllocError>
+fn push_names(text: &mut Vec<u8>, machine: &Machine, columns: &[Column]) -> Result<(), OutOfMemory>
     requires { All (λ (column : _). column.unit < length machine.now.units) columns.now }
     ensures ok { OnOk result (text.new.items ≡ text.old.items ++ names_in machine.now columns.now) }
 {
@@ -75,7 +75,7 @@ fn push_cells(
     slots: &Slots,
     columns: &[Column],
     row: u64,
-) -> Result<(), AllocError>
+) -> Result<(), OutOfMemory>
     requires { HasCells slots.now columns.now row }
     ensures ok { OnOk result (text.new.items ≡ text.old.items ++ cells_in slots.now columns.now row) }
 {
@@ -86,7 +86,7 @@ fn push_cells(
 }
 
 /// Appends the line of the columns' names.
-fn push_head(text: &mut Vec<u8>, machine: &Machine, grid: &Grid) -> Result<(), AllocError>
+fn push_head(text: &mut Vec<u8>, machine: &Machine, grid: &Grid) -> Result<(), OutOfMemory>
     requires { All (λ (column : _). column.unit < length machine.now.units) grid.now.columns.items }
     ensures ok { OnOk result (text.new.items ≡ text.old.items ++ head_in machine.now grid.now) }
 {
@@ -97,7 +97,7 @@ fn push_head(text: &mut Vec<u8>, machine: &Machine, grid: &Grid) -> Result<(), A
 }
 
 /// Appends the end of the line of a row with `count` live registers; the fullest row has `greatest`.
-fn push_end(text: &mut Vec<u8>, count: u64, greatest: u64) -> Result<(), AllocError>
+fn push_end(text: &mut Vec<u8>, count: u64, greatest: u64) -> Result<(), OutOfMemory>
     ensures ok { OnOk result (text.new.items ≡ text.old.items ++ (full_mark count greatest ++ codes "\n")) }
 {
     if count > 0 && count == greatest {
@@ -107,7 +107,7 @@ fn push_end(text: &mut Vec<u8>, count: u64, greatest: u64) -> Result<(), AllocEr
 }
 
 /// Appends the line of a row.
-fn push_row(text: &mut Vec<u8>, grid: &Grid, row: u64) -> Result<(), AllocError>
+fn push_row(text: &mut Vec<u8>, grid: &Grid, row: u64) -> Result<(), OutOfMemory>
     requires cells { HasCells grid.now.slots grid.now.columns.items row }
     requires count { row < vec_len grid.now.counts }
     ensures ok { OnOk result (text.new.items ≡ text.old.items ++ row_in grid.now row) }
@@ -126,7 +126,7 @@ pub(crate) fn push_grid(
     machine: &Machine,
     schedule: &Schedule,
     grid: &Grid,
-) -> Result<(), AllocError>
+) -> Result<(), OutOfMemory>
     requires { IsGrid machine.now schedule.now grid.now }
     ensures ok { OnOk result (text.new.items ≡ text.old.items ++ grid_text machine.now schedule.now) }
 {

@@ -17,11 +17,11 @@ use explain::{Explained, push_last, push_prepared};
 use file_faults::FileFault;
 use ims::Prepared;
 use loops::Loop;
-use machine::Machine;
+use machine::{Machine, OutOfMemory};
 use one_thread::prepare_all;
 use printouts::{Printout, explain_text};
 use settings::Settings;
-use std::alloc::{AllocError, Global};
+use std::alloc::Global;
 use std::thread::Threads;
 
 /// About how much work the explanation of a loop is for each of its statements, in statements that are executed once.
@@ -86,7 +86,7 @@ fn explained_by<R: Threads + Sync>(
     machine: &Machine,
     prepared: &[Prepared],
     jobs: &Jobs,
-) -> Result<Explained, AllocError>
+) -> Result<Explained, OutOfMemory>
     requires each { vec_len jobs.now.list ≡ length prepared.now }
     requires within { All (λ (j : _). j.number < length prepared.now) jobs.now.list.items }
     ensures { IfOk result (ExplainsPrepared machine.now prepared.now) }
@@ -113,7 +113,7 @@ fn explained_part(
     machine: &Machine,
     prepared: &[Prepared],
     number: usize,
-) -> Result<Part, AllocError>
+) -> Result<Part, OutOfMemory>
     requires { number < length prepared.now }
     ensures { IfOk result (λ part. (d : ProblemData) → IsExplainedPart machine.now (slice_index_or prepared.now number d) part) }
 {
@@ -123,7 +123,7 @@ fn explained_part(
             text,
             met: choice.is_met(),
         }),
-        Err(_) => Err(AllocError),
+        Err(_) => Err(std::alloc::AllocError),
     }
 }
 

@@ -12,8 +12,9 @@ use crate::parts::slots::parts_of;
 use command_line::Trip;
 use file_faults::FileFault;
 use loops::Loop;
+use machine::OutOfMemory;
 use printouts::{Printout, plain_text, push_last, push_plain};
-use std::alloc::{AllocError, Global};
+use std::alloc::Global;
 use std::thread::Threads;
 
 /// What `plain` writes, by at most `workers` workers side by side. One worker starts no thread, and neither do a single
@@ -59,7 +60,7 @@ fn plain_by<R: Threads + Sync>(
     loops: &[Loop],
     trip: Trip,
     jobs: &Jobs,
-) -> Result<Printout, AllocError>
+) -> Result<Printout, OutOfMemory>
     requires each { vec_len jobs.now.list ≡ length loops.now }
     requires within { All (λ (j : _). j.number < length loops.now) jobs.now.list.items }
     ensures { IfOk result (IsPlainText trip loops.now) }
@@ -76,7 +77,7 @@ fn plain_by<R: Threads + Sync>(
 }
 
 /// What `plain` writes of the loop of a number.
-fn plain_part(alloc: Global, loops: &[Loop], trip: Trip, number: usize) -> Result<Part, AllocError>
+fn plain_part(alloc: Global, loops: &[Loop], trip: Trip, number: usize) -> Result<Part, OutOfMemory>
     requires { number < length loops.now }
     ensures { IfOk result (λ part. (d : _) → part.text.items ≡ plain_lines trip (slice_index_or loops.now number d)) }
 {

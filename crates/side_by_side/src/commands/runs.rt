@@ -17,8 +17,9 @@ use crate::parts::slots::parts_of;
 use candidates::Listing;
 use command_line::Trip;
 use ims::Prepared;
+use machine::OutOfMemory;
 use printouts::{Printout, are_met, push_choice, push_counts, run_printout};
-use std::alloc::{AllocError, Global};
+use std::alloc::Global;
 use std::thread::Threads;
 
 /// What `run` writes of prepared loops with their listing, by at most `workers` workers side by side. One worker starts
@@ -33,7 +34,7 @@ pub fn run_text_on<R: Threads + Sync>(
     listing: &Listing,
     trip: Trip,
     workers: usize,
-) -> Result<Printout, AllocError>
+) -> Result<Printout, OutOfMemory>
     requires { ListsProblems listing.now.ceiling prepared.now listing.now }
     ensures text { IfOk result (λ w. w.text ≡ told_lines trip listing.now.ceiling (map (λ (p : ProblemData). p.loop) prepared.now) listing.now.rows ++ counts_line listing.now.rows) }
     ensures met { IfOk result (λ w. w.all_met ≡ are_met listing.now.rows) }
@@ -58,7 +59,7 @@ fn run_by<R: Threads + Sync>(
     listing: &Listing,
     trip: Trip,
     jobs: &Jobs,
-) -> Result<Printout, AllocError>
+) -> Result<Printout, OutOfMemory>
     requires lists { ListsProblems listing.now.ceiling prepared.now listing.now }
     requires each { vec_len jobs.now.list ≡ length prepared.now }
     requires within { All (λ (j : _). j.number < length prepared.now) jobs.now.list.items }
@@ -83,7 +84,7 @@ fn run_part(
     listing: &Listing,
     trip: Trip,
     number: usize,
-) -> Result<Part, AllocError>
+) -> Result<Part, OutOfMemory>
     requires lists { ListsProblems listing.now.ceiling prepared.now listing.now }
     requires within { number < length prepared.now }
     ensures { IfOk result (λ part. (d : ProblemData) (e : row.Row) → part.text.items ≡ choice_lines trip listing.now.ceiling (slice_index_or prepared.now number d).loop (slice_index_or listing.now.rows number e) (slice_index_or listing.now.rows number e).choice) }

@@ -6,7 +6,8 @@ ghost use Rattle.side_by_side.specs.inner.Parts.{IsMadeBelow};
 
 use crate::parts::jobs::Job;
 use crate::parts::part::Part;
-use std::alloc::{AllocError, Global};
+use machine::OutOfMemory;
+use std::alloc::Global;
 use std::sync::atomic::{AtomicUsize, Ordering};
 use std::thread::{self, Threads};
 
@@ -19,7 +20,7 @@ pub(crate) struct Made {
 
 /// What `workers` workers make together, each in a thread where one can be started. Each draws jobs until none is left,
 /// or until it is refused memory: what is then lacking is left to the calling thread.
-pub(crate) fn made_by_all<R: Threads + Sync, F: Fn(usize) -> Result<Part, AllocError> + Sync>(
+pub(crate) fn made_by_all<R: Threads + Sync, F: Fn(usize) -> Result<Part, OutOfMemory> + Sync>(
     rt: &R,
     alloc: Global,
     workers: usize,
@@ -45,7 +46,7 @@ pub(crate) fn made_by_all<R: Threads + Sync, F: Fn(usize) -> Result<Part, AllocE
 }
 
 /// What one worker makes.
-fn made_by_one<F: Fn(usize) -> Result<Part, AllocError>>(
+fn made_by_one<F: Fn(usize) -> Result<Part, OutOfMemory>>(
     alloc: Global,
     next: &AtomicUsize,
     jobs: &[Job],
@@ -69,12 +70,12 @@ fn made_by_one<F: Fn(usize) -> Result<Part, AllocError>>(
 }
 
 /// Makes the part of the job at a place, and adds it.
-fn add_made<F: Fn(usize) -> Result<Part, AllocError>>(
+fn add_made<F: Fn(usize) -> Result<Part, OutOfMemory>>(
     made: &mut Vec<Made>,
     jobs: &[Job],
     place: usize,
     make: &F,
-) -> Result<(), AllocError>
+) -> Result<(), OutOfMemory>
     requires place { place < length jobs.now }
     requires within { All (λ (j : _). j.number < length jobs.now) jobs.now }
     requires accepts { (k : ℕ) → k < length jobs.now → F.pre make.now k }

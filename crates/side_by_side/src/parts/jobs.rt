@@ -3,7 +3,8 @@
 ghost use Rattle.std.specs.Prelude.{◌≡◌, ◌<◌, ◌≤◌, ◌-◌, ◌+◌, ℕ, [], IfOk, IfSome, vec_capacity, vec_len};
 ghost use Rattle.std.specs.List.{All};
 
-use std::alloc::{AllocError, Global};
+use machine::OutOfMemory;
+use std::alloc::Global;
 use std::cmp::Reverse;
 
 /// The least work that a worker is to have, in statements that are executed once: a few times what it costs to
@@ -57,7 +58,7 @@ fn jobs_of<W: Fn(usize) -> u64>(
     alloc: Global,
     parts: usize,
     work_of: &W,
-) -> Result<Vec<Job>, AllocError>
+) -> Result<Vec<Job>, OutOfMemory>
     requires { (k : ℕ) → k < parts → W.pre work_of.now k }
     ensures each { IfOk result (λ js. vec_len js ≡ parts) }
     ensures within { IfOk result (λ js. All (λ (j : _). j.number < parts) js.items) }

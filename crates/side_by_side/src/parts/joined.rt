@@ -5,7 +5,8 @@ ghost use Rattle.std.specs.List.{flat_map};
 ghost use Rattle.side_by_side.specs.inner.Parts.{text_of};
 
 use crate::parts::part::Part;
-use std::alloc::{AllocError, Global};
+use machine::OutOfMemory;
+use std::alloc::Global;
 
 /// Room for what follows the parts, in bytes: the last line of a text.
 const LAST: usize = 128;
@@ -15,7 +16,7 @@ const LAST: usize = 128;
 ///
 /// # Errors
 /// Memory was refused.
-pub(crate) fn joined(alloc: Global, parts: Vec<Part>) -> Result<Vec<u8>, AllocError>
+pub(crate) fn joined(alloc: Global, parts: Vec<Part>) -> Result<Vec<u8>, OutOfMemory>
     ensures { IfOk result (λ text. text.items ≡ flat_map text_of parts.items) }
 {
     let room = room_for(parts.as_slice());
@@ -34,7 +35,7 @@ fn room_for(parts: &[Part]) -> usize {
 }
 
 /// Appends the texts of parts, one after another.
-fn append(text: &mut Vec<u8>, parts: Vec<Part>) -> Result<(), AllocError>
+fn append(text: &mut Vec<u8>, parts: Vec<Part>) -> Result<(), OutOfMemory>
     ensures { OnOk result (text.new.items ≡ text.old.items ++ flat_map text_of parts.items) }
 {
     let mut parts = parts.into_iter();

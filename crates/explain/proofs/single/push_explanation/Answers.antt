@@ -1,12 +1,10 @@
-use Rattle.std.proofs.lemmas.Result.{IfOk-weaker}
-use Rattle.explain.proofs.Parts.{explained}
+use Rattle.std.proofs.Common.{◌≡◌, ◌++◌, ℕ, List, sym, subst}
+use Rattle.candidates.specs.declared.choices.Choice.{Choice}
+use Rattle.explain.specs.Explanations.{IsExplained}
 use Rattle.explain.proofs.single.push_explanation.Goals as goal
 
 pub returns : goal.returns
 returns c = record {
-  exact = IfOk-weaker c.push_tries.result _ _
-      (λ choice tries. explained c.args.units.now c.args.prepared.now choice _ _ c.args.text.now.items c.push_bounds_line.new.text.items c.extend_from_slice.new.self.items c.push_circuit.new.text.items c.push_tries.new.text.items
-      c.innermost.ensures.value (λ i. record { resources = c.resources.ensures.value i; recurrences = c.recurrences.ensures.value i })
-      c.in_ok-push_bounds_line.ensures.ok c.in_ok-extend_from_slice.ensures.items c.in_ok-push_circuit.ensures.ok tries)
-      c.push_tries.ensures.exact;
+  exact = subst (λ (choice : Choice). (part : List ℕ) × IsExplained c.args.units.now c.args.prepared.now choice part × (c.push_chosen.new.text.items ≡ c.args.text.now.items ++ part))
+      (sym c.into_choice.ensures.value) c.in_ok-chosen.ensures.exact;
 }

@@ -9,6 +9,6 @@ split_at-requires c = omega (arith, prefix_len-le-length (λ x. not (stops_word 
 
 pub returns-clause-words : goal.returns-clause-words
 returns-clause-words c =
-    let some : 0 < c.count_word-count.result = omega arith in
-    let long : length c.split_at.result.0.now ≡ c.count_word-count.result = omega (arith, c.split_at.ensures.front_len) in
-    word_taken c.args.column c.without_blanks-start.result.1 c.args.rest.now c.without_blanks-start.result.0.now _ _ c.count_word-count.result c.without_blanks-start.ensures.same_words some c.count_word-count.ensures c.split_at.ensures.front c.split_at.ensures.back long
+    let some : 0 < c.count_word-word.result.count = omega arith in
+    let long : length c.split_at.result.0.now ≡ c.count_word-word.result.count = omega (arith, c.split_at.ensures.front_len) in
+    word_taken c.args.column c.without_blanks-start.result.1 c.args.rest.now c.without_blanks-start.result.0.now _ _ c.count_word-word.result.count c.without_blanks-start.ensures.same_words some c.count_word-word.ensures.count c.split_at.ensures.front c.split_at.ensures.back long

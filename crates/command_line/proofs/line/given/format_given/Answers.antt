@@ -1,30 +1,22 @@
-use Rattle.std.proofs.Common.{◌≡◌, ◌≢◌, ◌∙◌, codes, Option, Some, None, IfSome, IfNone, ap, subst}
+use Rattle.std.proofs.Common.{◌≡◌, ◌∙◌, codes, Option, Some, None, IfSome, IfNone, subst}
 use Rattle.clap.specs.Words.{Text, found_of, first_of, rows_of}
 use Rattle.clap.proofs.WalkLemmas.{first_value-rows}
 use Rattle.command_line.specs.declared.command.Format.{Format}
 use Rattle.command_line.specs.Lines.{SaysFormat, format_word}
+use Rattle.command_line.proofs.LineLemmas.{none-says, some-says}
 use Rattle.command_line.proofs.line.given.format_given.Goals as goal
-
--- the word of an option names the format that it says, or none
-some-says : (o : Option Format) (word : Text) → IfSome o (λ f. word ≡ format_word f) → IfSome o (λ f. SaysFormat (Some word) f)
-some-says None word h = tt
-some-says (Some f) word h = ap (λ (t : Text). Some t) h
-
-none-says : (o : Option Format) (word : Text) → IfNone o ((f : Format) → word ≢ format_word f) → IfNone o ((f : Format) → ¬ SaysFormat (Some word) f)
-none-says None word h = λ f says. let same : word ≡ format_word f = cc in h f same
-none-says (Some f) word h = tt
 
 pub returns-clause-says : goal.returns-clause-says
 returns-clause-says c =
     let word : Some c.in_ok-get_str.field-0.now ≡ first_of (codes "format") (rows_of (found_of c.args.values.now)) =
     c.in_ok-get_str.ensures ∙ first_value-rows (found_of c.args.values.now) (codes "format") in
-    subst (λ (o : Option Text). IfSome c.named.result (λ f. SaysFormat o f)) word (some-says c.named.result c.in_ok-get_str.field-0.now c.named.ensures.says)
+    subst (λ (o : Option Text). IfSome c.named.result (λ f. SaysFormat o f)) word (some-says format_word c.named.result c.in_ok-get_str.field-0.now c.named.ensures.says)
 
 pub returns-clause-none : goal.returns-clause-none
 returns-clause-none c =
     let word : Some c.in_ok-get_str.field-0.now ≡ first_of (codes "format") (rows_of (found_of c.args.values.now)) =
     c.in_ok-get_str.ensures ∙ first_value-rows (found_of c.args.values.now) (codes "format") in
-    subst (λ (o : Option Text). IfNone c.named.result ((f : Format) → ¬ SaysFormat o f)) word (none-says c.named.result c.in_ok-get_str.field-0.now c.named.ensures.none)
+    subst (λ (o : Option Text). IfNone c.named.result ((f : Format) → ¬ SaysFormat o f)) word (none-says format_word c.named.result c.in_ok-get_str.field-0.now c.named.ensures.none)
 
 pub returns-in_err-get_str-clause-none : goal.returns-in_err-get_str-clause-none
 returns-in_err-get_str-clause-none c =

@@ -11,20 +11,20 @@ none-weaker None A B f h = f h
 none-weaker (Some x) A B f h = tt
 
 pub returns-in-Some-clause-none : goal.returns-in-Some-clause-none
-returns-in-Some-clause-none c solve check =
+returns-in-Some-clause-none c solve check lint =
     let there : Some c.in-Some.field-0.now ≡ first_of (codes "loops") (rows_of (found_of c.args.values.now)) =
     c.in-Some.ensures ∙ first_value-rows (found_of c.args.values.now) (codes "loops") in
     IfOk-weaker c.loops_given.result _ _
-    (λ found. none-weaker found _ _ (λ none. loops-none (rows_of (found_of c.args.values.now)) c.args.name.now solve check none (no-problems _ c.args.name.now _ there)))
+    (λ found. none-weaker found _ _ (λ none. loops-none (rows_of (found_of c.args.values.now)) c.args.name.now solve check lint none (no-problems _ c.args.name.now _ there)))
     c.loops_given.ensures.none
 
 pub returns-in-None-clause-meant : goal.returns-in-None-clause-meant
 returns-in-None-clause-meant c = c.problems_given.ensures.meant (sym (c.in-None.ensures ∙ first_value-rows (found_of c.args.values.now) (codes "loops")))
 
 pub returns-in-None-clause-none : goal.returns-in-None-clause-none
-returns-in-None-clause-none c solve check =
+returns-in-None-clause-none c solve check lint =
     let missing : first_of (codes "loops") (rows_of (found_of c.args.values.now)) ≡ None =
     sym (c.in-None.ensures ∙ first_value-rows (found_of c.args.values.now) (codes "loops")) in
     IfOk-weaker c.problems_given.result _ _
-    (λ found. none-weaker found _ _ (λ none. loops-none (rows_of (found_of c.args.values.now)) c.args.name.now solve check (no-loops _ c.args.name.now missing) none))
+    (λ found. none-weaker found _ _ (λ none. loops-none (rows_of (found_of c.args.values.now)) c.args.name.now solve check lint (no-loops _ c.args.name.now missing) none))
     c.problems_given.ensures.none

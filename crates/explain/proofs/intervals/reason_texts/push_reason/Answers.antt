@@ -1,7 +1,7 @@
 use Rattle.std.proofs.Common.{◌<◌, length, sym, subst}
 use Rattle.loop_data.specs.Loops.{LoopData}
-use Rattle.explain.specs.declared.intervals.reasons.Reason.{Reason}
-use Rattle.explain.specs.Reasons.{IsReason}
+use Rattle.candidates.specs.declared.evidence.Reason.{Reason}
+use Rattle.candidates.specs.Reasons.{IsReason}
 use Rattle.explain.proofs.Reasoned.{value-there}
 use Rattle.explain.proofs.intervals.reason_texts.push_reason.Goals as goal
 

@@ -1,0 +1,63 @@
+-- Why an interval failed, and what it gives with the evidence of it.
+use Rattle.std.specs.Prelude.{◌≡◌, ℕ, Some}
+use Rattle.modulo.specs.Culprits.{failure_of}
+use Rattle.ims.specs.Culprits.{AnswersCulprit}
+use Rattle.ims.specs.Problems.{ProblemData, budget_of}
+use Rattle.ims.specs.Schedules.{ScheduleData}
+use Rattle.registers.specs.declared.lifetime.Lifetime.{Lifetime}
+use Rattle.registers.specs.Numberless.{HasNone}
+use Rattle.overlap.specs.Allotments.{LeastFor}
+use Rattle.overlap.specs.Emission.{emitted}
+use Rattle.overlap.specs.Lifetimes.{lifetimes_of}
+use Rattle.candidates.specs.declared.evidence.Met as evidence
+use Rattle.candidates.specs.declared.evidence.Reason.{Reason}
+use Rattle.candidates.specs.declared.evidence.Reason.TheVariants.{Attempt, Register}
+use Rattle.candidates.specs.declared.evidence.Tried.{Tried}
+use Rattle.candidates.specs.declared.evidence.Tried.TheVariants.{Met, Failed}
+use Rattle.candidates.specs.declared.outcomes.Cause.{Cause}
+use Rattle.candidates.specs.declared.outcomes.Cause.TheVariants.{Registers}
+use Rattle.candidates.specs.declared.outcomes.Outcome.{Outcome}
+use Rattle.candidates.specs.declared.outcomes.Outcome.TheVariants as outcome
+use Rattle.candidates.specs.Outcomes.{FailsBy, Gives, IsPlacedAs, cause_of}
+
+-- the cause that a reason is after
+abbrev pub reason_cause : Reason → Cause
+reason_cause (Attempt culprit) = cause_of (failure_of culprit)
+reason_cause (Register life) = Registers
+
+-- the attempt places all operations, and this is the first value that has no register
+pub record LacksFor (problem : ProblemData) (ii : ℕ) (life : Lifetime) : Type 0 where
+  pub schedule : ScheduleData
+  pub is_schedule : IsPlacedAs problem ii schedule
+  pub none : HasNone schedule.ii problem.registers (lifetimes_of schedule) life
+
+-- why an interval failed
+abbrev pub IsReason : ProblemData → ℕ → Reason → Type 0
+IsReason problem ii (Attempt culprit) = AnswersCulprit problem ii (budget_of problem) (Some culprit)
+IsReason problem ii (Register life) = LacksFor problem ii life
+
+-- an interval gives no kernel, by the cause of this reason, and for this reason
+pub record FailsFor (problem : ProblemData) (ii : ℕ) (reason : Reason) : Type 0 where
+  pub fails : FailsBy problem ii (reason_cause reason)
+  pub is : IsReason problem ii reason
+
+-- the attempt places all operations as the schedule says, the allotment is the least one of the loop's registers, and the kernel is that of both
+pub record IsMet (problem : ProblemData) (ii : ℕ) (met : evidence.Met) : Type 0 where
+  pub is_schedule : IsPlacedAs problem ii met.schedule
+  pub same_registers : met.allotment.registers ≡ problem.registers
+  pub is_least : LeastFor met.schedule met.allotment
+  pub is_kernel : met.kernel ≡ emitted met.schedule met.allotment
+
+-- what an interval comes to, with the evidence of it
+abbrev pub IsTried : ProblemData → ℕ → Tried → Type 0
+IsTried problem ii (Met met) = IsMet problem ii met
+IsTried problem ii (Failed reason) = FailsFor problem ii reason
+
+-- the same without the evidence
+abbrev pub outcome_of : Tried → Outcome
+outcome_of (Met met) = outcome.Met met.kernel
+outcome_of (Failed reason) = outcome.Failed (reason_cause reason)
+
+-- what is told of an interval with its evidence is what it gives
+abbrev pub TriedIsGiven : Type 0
+TriedIsGiven = (problem : ProblemData) (ii : ℕ) (tried : Tried) → IsTried problem ii tried → Gives problem ii (outcome_of tried)

@@ -1,0 +1,7 @@
+pub use Rattle.loop_lint.specs.Lints
+pub use Rattle.machine_lint.specs.Lints as MachineLints
+pub mod Lines
+pub mod Printout
+pub mod What
+pub mod Words
+pub mod inner

@@ -1,0 +1,15 @@
+//! Faults of machine texts and of loop texts as lines of text, as editors and `make` read them.
+#![tactic(auto)]
+
+mod lines;
+mod machines;
+mod places;
+mod printout;
+#[cfg(test)]
+mod tests;
+mod what;
+mod words;
+
+pub use lines::push_loop_faults;
+pub use machines::push_machine_faults;
+pub use printout::{LintText, Named, lint_printout};

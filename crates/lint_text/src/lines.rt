@@ -1,0 +1,96 @@
+//! Lines of the faults of a loop text.
+
+ghost use Rattle.std.specs.Prelude.{◌≡◌, ◌≤◌, ◌++◌, [], drop, slice_index_or, OnOk};
+ghost use Rattle.loop_lines.specs.Words.{lines_of};
+ghost use Rattle.lint_text.specs.Lines.{fault_line, loop_text};
+ghost use Rattle.lint_text.specs.Words.{line_at};
+ghost use Rattle.lint_text.specs.inner.Cursors.{IsFrom};
+
+use crate::places::push_place;
+use crate::what::what;
+use crate::words::{piece_at, push_word};
+use loop_lines::next_line;
+use loop_lint::LintFault;
+use machine_data::OutOfMemory;
+use writing::push_line;
+
+/// The rest of a text from a line on, and how many lines stand before it.
+#[derive(Clone, Copy)]
+struct From<'a> {
+    passed: usize,
+    rest: &'a [u8],
+}
+
+/// What is left of a text after some lines, or nothing where it has fewer. Lines that are passed already are not passed
+/// again.
+fn passing<'a>(text: &'a [u8], from: From<'a>, lines: usize) -> From<'a>
+    requires { IsFrom text.now from }
+    ensures from { IsFrom text.now result }
+    ensures line { slice_index_or (lines_of result.rest.now) 0 [] ≡ slice_index_or (lines_of text.now) lines [] }
+{
+    let mut at = if lines < from.passed {
+        From {
+            passed: 0,
+            rest: text,
+        }
+    } else {
+        from
+    };
+    while at.passed < lines && !at.rest.is_empty() {
+        let (_, rest) = next_line(at.rest);
+        at = From {
+            passed: at.passed + 1,
+            rest,
+        };
+    }
+    at
+}
+
+/// The first line of a text, or nothing where the text is empty.
+fn first_line(text: &[u8]) -> &[u8]
+    ensures { result.now ≡ slice_index_or (lines_of text.now) 0 [] }
+{
+    if text.is_empty() {
+        return &[];
+    }
+    let (line, _) = next_line(text);
+    line
+}
+
+/// Pushes the line of a fault of this line of a loop text.
+fn push_loop_fault(
+    text: &mut Vec<u8>,
+    path: &str,
+    line: &[u8],
+    fault: LintFault,
+) -> Result<(), OutOfMemory>
+    ensures { OnOk result (text.new.items ≡ text.old.items ++ fault_line path.now line.now fault) }
+{
+    let word = piece_at(line, fault.column, fault.width);
+    push_place(text, path, fault.line, fault.column)?;
+    push_word(text, word)?;
+    push_line(text, what(fault.kind, line, word))
+}
+
+/// Pushes a line for each fault of the loop text that has this path and these bytes.
+///
+/// # Errors
+/// Memory ran out. The text has some of the lines after it, and maybe the beginning of one.
+pub fn push_loop_faults(
+    text: &mut Vec<u8>,
+    path: &str,
+    bytes: &[u8],
+    faults: &[LintFault],
+) -> Result<(), OutOfMemory>
+    ensures { OnOk result (text.new.items ≡ text.old.items ++ loop_text path.now bytes.now faults.now) }
+{
+    let mut from = From {
+        passed: 0,
+        rest: bytes,
+    };
+    for fault in faults {
+        from = passing(bytes, from, fault.line.saturating_sub(1));
+        push_loop_fault(text, path, first_line(from.rest), *fault)?;
+    }
+    Ok(())
+}

@@ -1,0 +1,101 @@
+//! What is printed of the faults of a machine text and of a loop text.
+
+ghost use Rattle.std.specs.Prelude.{◌≡◌, ◌++◌, IfOk, OnOk, nat_lt, length};
+ghost use Rattle.lint_text.specs.Printout.{AreOfLoops, AreOfMachine, IsLintText, loop_lines, machine_lines};
+
+use crate::lines::push_loop_faults;
+use crate::machines::push_machine_faults;
+use loop_lint::{LintFault, lint_loops};
+use machine_data::OutOfMemory;
+use machine_lint::{MachineLint, lint_machine};
+use std::alloc::Global;
+
+/// A text with the path by which its faults are told.
+#[derive(Clone, Copy, Debug)]
+pub struct Named<'a> {
+    pub path: &'a str,
+    pub text: &'a [u8],
+}
+
+/// The lines of faults, with whether there are any.
+#[derive(Debug, Drop)]
+pub struct LintText {
+    /// The lines of the faults of the machine text, and then those of the loop text.
+    pub text: Vec<u8>,
+    /// The machine text has a fault.
+    pub machine_faults: bool,
+    /// The loop text has a fault.
+    pub loop_faults: bool,
+}
+
+/// The faults of a machine text, if one is given.
+fn machine_lints(alloc: Global, machine: Option<Named<'_>>) -> Result<Vec<MachineLint>, OutOfMemory>
+    ensures { IfOk result (λ lints. AreOfMachine machine.entry lints.items) }
+{
+    match machine {
+        Some(named) => lint_machine(alloc, named.text),
+        None => Ok(Vec::new(alloc)),
+    }
+}
+
+/// The faults of a loop text, if one is given.
+fn loop_faults(alloc: Global, loops: Option<Named<'_>>) -> Result<Vec<LintFault>, OutOfMemory>
+    ensures { IfOk result (λ faults. AreOfLoops loops.entry faults.items) }
+{
+    match loops {
+        Some(named) => lint_loops(alloc, named.text),
+        None => Ok(Vec::new(alloc)),
+    }
+}
+
+/// Pushes the lines of the faults of a machine text, if one is given.
+fn push_machine(
+    alloc: Global,
+    text: &mut Vec<u8>,
+    machine: Option<Named<'_>>,
+    lints: &[MachineLint],
+) -> Result<(), OutOfMemory>
+    ensures { OnOk result (text.new.items ≡ text.old.items ++ machine_lines machine.entry lints.now) }
+{
+    match machine {
+        Some(named) => push_machine_faults(alloc, text, named.path, lints),
+        None => Ok(()),
+    }
+}
+
+/// Pushes the lines of the faults of a loop text, if one is given.
+fn push_loops(
+    text: &mut Vec<u8>,
+    loops: Option<Named<'_>>,
+    faults: &[LintFault],
+) -> Result<(), OutOfMemory>
+    ensures { OnOk result (text.new.items ≡ text.old.items ++ loop_lines loops.entry faults.now) }
+{
+    match loops {
+        Some(named) => push_loop_faults(text, named.path, named.text, faults),
+        None => Ok(()),
+    }
+}
+
+/// A line for each fault of a machine text and of a loop text, if they are given: those of the machine first.
+///
+/// # Errors
+/// Memory ran out, which says nothing of the texts.
+pub fn lint_printout(
+    alloc: Global,
+    machine: Option<Named<'_>>,
+    loops: Option<Named<'_>>,
+) -> Result<LintText, OutOfMemory>
+    ensures { IfOk result (λ printed. IsLintText machine.entry loops.entry printed) }
+{
+    let lints = machine_lints(alloc, machine)?;
+    let faults = loop_faults(alloc, loops)?;
+    let mut text = Vec::new(alloc);
+    push_machine(alloc, &mut text, machine, &lints)?;
+    push_loops(&mut text, loops, &faults)?;
+    Ok(LintText {
+        text,
+        machine_faults: !lints.is_empty(),
+        loop_faults: !faults.is_empty(),
+    })
+}

@@ -1,0 +1,162 @@
+-- What is told of texts of which no more is read than shows that they are too long.
+use Rattle.std.proofs.Common.{◌≡◌, ◌∙◌, ap, refl, subst, sym, ℕ, ◌<◌, List, ◌++◌, Option, None, Some, length, take, codes, inl, inr}
+use Rattle.std.specs.Prelude.{[], ◌∷◌, Ok, Err}
+use Rattle.std.proofs.lemmas.List.{take_all}
+use Rattle.std.proofs.lemmas.Bool.{cases_lt, lt-ltb}
+use Rattle.machine.specs.declared.fault.MachineFault.TheVariants.{Limit}
+use Rattle.machine_lint.specs.Lints as machines
+use Rattle.machine_lint.specs.Places.{nowhere}
+use Rattle.machine_lint.specs.declared.place.MachineLint.{MachineLint}
+use Rattle.loops.specs.LoopFaultKind.TheVariants as kinds
+use Rattle.loop_lint.specs.Lints.{AreFaults, faults_in, lints_in, too_long}
+use Rattle.loop_lint.specs.declared.fault.LintFault.{LintFault}
+use Rattle.lint_text.specs.Lines.{loop_text}
+use Rattle.lint_text.specs.Printout.{AreOfLoops, AreOfMachine, IsLintText, loop_lines, machine_lines}
+use Rattle.lint_text.specs.declared.printout.LintText.{LintText}
+use Rattle.lint_text.specs.declared.printout.Named.{Named}
+use Rattle.command_line.specs.declared.command.LintTexts.{LintTexts}
+use Rattle.command_line.specs.declared.command.LintTexts.TheVariants as lint
+use Rattle.modsched.specs.Devices.{most_read}
+use Rattle.modsched.specs.Engine.{Ending, IsNamed, LintBrings}
+use Rattle.modsched.proofs.Lengths.{loops_in-take, machine_of-take, taken_too_long}
+
+told-long : (text : List ℕ) → 1048576 < length text → machines.told_of text ≡ machines.Just (nowhere (Limit (codes "text")) ∷ [])
+unfolding machines.told_of
+told-long text h = rw (lt-ltb 1048576 (length text) h) refl
+
+faults-long : (text : List ℕ) → 1048576 < length text → faults_in text ≡ record { line = 0; kind = kinds.Limit } ∷ []
+unfolding faults_in
+faults-long text h = rw (lt-ltb 1048576 (length text) h) refl
+
+lints-long : (text : List ℕ) → 1048576 < length text → lints_in text ≡ too_long ∷ []
+unfolding lints_in
+lints-long text h = rw (lt-ltb 1048576 (length text) h) refl
+
+-- what is told of a machine's text is told of the whole of it
+tells-whole : (text : List ℕ) (lints : List MachineLint) → machines.Tells (take most_read text) (machines.told_of (take most_read text)) lints
+    → machines.Tells text (machines.told_of text) lints
+tells-whole text lints h = elim (cases_lt most_read (length text)) [
+  | inl more ↦
+      let long = taken_too_long text more in
+      let just : machines.Tells (take most_read text) (machines.Just (nowhere (Limit (codes "text")) ∷ [])) lints =
+      subst (λ (t : machines.Told). machines.Tells (take most_read text) t lints) (told-long (take most_read text) long.0) h in
+      subst (λ (t : machines.Told). machines.Tells text t lints) (sym (told-long text long.1)) just
+  | inr within ↦ subst (λ (t : List ℕ). machines.Tells t (machines.told_of t) lints) (take_all most_read text within) h
+]
+
+-- .. of a text of loops
+are-whole : (text : List ℕ) (faults : List LintFault) → AreFaults (take most_read text) faults → AreFaults text faults
+are-whole text faults h = elim (cases_lt most_read (length text)) [
+  | inl more ↦
+      let long = taken_too_long text more in record {
+        all = h.all ∙ faults-long (take most_read text) long.0 ∙ sym (faults-long text long.1);
+        words = h.words ∙ lints-long (take most_read text) long.0 ∙ sym (lints-long text long.1);
+      }
+  | inr within ↦ subst (λ (t : List ℕ). AreFaults t faults) (take_all most_read text within) h
+]
+
+-- no word is shown of a text that is too long
+shows-none : (path text other : List ℕ) (faults : List LintFault) → faults ≡ too_long ∷ [] → loop_text path text faults ≡ loop_text path other faults
+shows-none path text other faults is = rw is refl
+
+shows-whole : (path text : List ℕ) (faults : List LintFault) → AreFaults (take most_read text) faults → loop_text path text faults ≡ loop_text path (take most_read text) faults
+shows-whole path text faults h = elim (cases_lt most_read (length text)) [
+  | inl more ↦ shows-none path text (take most_read text) faults (h.words ∙ lints-long (take most_read text) (taken_too_long text more).0)
+  | inr within ↦ ap (λ (t : List ℕ). loop_text path t faults) (sym (take_all most_read text within))
+]
+
+-- the same path with the whole text
+abbrev whole : List ℕ → Named → Named
+whole text named = record named { text = record named.text { now = text } }
+
+-- a text that was given, read as far as it is
+record MachineWhole (path text : List ℕ) (named : Option Named) (lints : List MachineLint) : Type 0 where
+  other : Option Named
+  is_named : IsNamed (Some (path, text)) other
+  are : AreOfMachine other lints
+  lines : machine_lines other lints ≡ machine_lines named lints
+
+machine-whole : (path text : List ℕ) (named : Option Named) (lints : List MachineLint) → IsNamed (Some (path, take most_read text)) named → AreOfMachine named lints
+    → MachineWhole path text named lints
+machine-whole path text None lints is are = absurd (cc)
+machine-whole path text (Some named) lints is are =
+    let pair : (named.path.now, named.text.now) ≡ (path, take most_read text) = cc in
+    let its_path : named.path.now ≡ path = ap (λ (p : List ℕ × List ℕ). p.0) pair in
+    let its_text : named.text.now ≡ take most_read text = ap (λ (p : List ℕ × List ℕ). p.1) pair in record {
+      other = Some (whole text named);
+      is_named = ap (λ (p : List ℕ). Some (p, text)) its_path;
+      are = (
+        tells-whole text lints (subst (λ (t : List ℕ). machines.Tells t (machines.told_of t) lints) its_text are.0),
+        rw (its_text, machine_of-take text) at are.1,
+      );
+      lines = refl;
+    }
+
+record LoopsWhole (path text : List ℕ) (named : Option Named) (faults : List LintFault) : Type 0 where
+  other : Option Named
+  is_named : IsNamed (Some (path, text)) other
+  are : AreOfLoops other faults
+  lines : loop_lines other faults ≡ loop_lines named faults
+
+loops-whole : (path text : List ℕ) (named : Option Named) (faults : List LintFault) → IsNamed (Some (path, take most_read text)) named → AreOfLoops named faults
+    → LoopsWhole path text named faults
+loops-whole path text None faults is are = absurd (cc)
+loops-whole path text (Some named) faults is are =
+    let pair : (named.path.now, named.text.now) ≡ (path, take most_read text) = cc in
+    let its_path : named.path.now ≡ path = ap (λ (p : List ℕ × List ℕ). p.0) pair in
+    let its_text : named.text.now ≡ take most_read text = ap (λ (p : List ℕ × List ℕ). p.1) pair in
+    let taken : AreFaults (take most_read text) faults = subst (λ (t : List ℕ). AreFaults t faults) its_text are.0 in record {
+      other = Some (whole text named);
+      is_named = ap (λ (p : List ℕ). Some (p, text)) its_path;
+      are = (are-whole text faults taken, rw (its_text, loops_in-take text) at are.1);
+      lines = shows-whole named.path.now text faults taken ∙ ap (λ (t : List ℕ). loop_text named.path.now t faults) (sym its_text);
+    }
+
+-- the same lines are those of other texts with the same faults
+retold : (machine loops other_machine other_loops : Option Named) (printed : LintText) (h : IsLintText machine loops printed)
+    → AreOfMachine other_machine h.lints → machine_lines other_machine h.lints ≡ machine_lines machine h.lints
+    → AreOfLoops other_loops h.faults → loop_lines other_loops h.faults ≡ loop_lines loops h.faults → IsLintText other_machine other_loops printed
+retold machine loops other_machine other_loops printed h of_machine same_machine of_loops same_loops = record {
+  lints = h.lints;
+  faults = h.faults;
+  of_machine = of_machine;
+  of_loops = of_loops;
+  text = h.text ∙ ap (λ (t : List ℕ). t ++ loop_lines loops h.faults) (sym same_machine) ∙ ap (λ (t : List ℕ). machine_lines other_machine h.lints ++ t) (sym same_loops);
+  machine_faults = h.machine_faults;
+  loop_faults = h.loop_faults;
+}
+
+-- what was read of texts brings about what the whole texts do
+pub lint-take : (texts : LintTexts) (first last : List ℕ) (ending : Ending) → LintBrings texts (take most_read first) (take most_read last) ending → LintBrings texts first last ending
+lint-take texts first last (Err status) h = h
+lint-take (lint.Machine path) first last (Ok answer) h =
+    let machine = machine-whole _ last h.machine h.is_text.lints h.is_machine h.is_text.of_machine in record {
+      machine = machine.other;
+      loops = h.loops;
+      printed = h.printed;
+      is_machine = machine.is_named;
+      is_loops = h.is_loops;
+      is_text = retold h.machine h.loops machine.other h.loops h.printed h.is_text machine.are machine.lines h.is_text.of_loops refl;
+      is_answer = h.is_answer;
+    }
+lint-take (lint.Loops path) first last (Ok answer) h =
+    let loops = loops-whole _ last h.loops h.is_text.faults h.is_loops h.is_text.of_loops in record {
+      machine = h.machine;
+      loops = loops.other;
+      printed = h.printed;
+      is_machine = h.is_machine;
+      is_loops = loops.is_named;
+      is_text = retold h.machine h.loops h.machine loops.other h.printed h.is_text h.is_text.of_machine refl loops.are loops.lines;
+      is_answer = h.is_answer;
+    }
+lint-take (lint.Both machine_path loops_path) first last (Ok answer) h =
+    let machine = machine-whole _ first h.machine h.is_text.lints h.is_machine h.is_text.of_machine in
+    let loops = loops-whole _ last h.loops h.is_text.faults h.is_loops h.is_text.of_loops in record {
+      machine = machine.other;
+      loops = loops.other;
+      printed = h.printed;
+      is_machine = machine.is_named;
+      is_loops = loops.is_named;
+      is_text = retold h.machine h.loops machine.other loops.other h.printed h.is_text machine.are machine.lines loops.are loops.lines;
+      is_answer = h.is_answer;
+    }

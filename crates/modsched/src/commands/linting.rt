@@ -1,0 +1,56 @@
+//! What `lint` writes.
+
+ghost use Rattle.std.specs.Prelude.{◌≡◌, IfErr, string_bytes};
+ghost use Rattle.modsched.specs.Engine.{IsNamed, LintBrings, loops_to_lint, machine_to_lint};
+ghost use Rattle.modsched.specs.inner.Answers.{ending_of};
+ghost use Rattle.modsched.specs.inner.Refusals.{IsRefusal};
+
+use super::answer::Answer;
+use command_line::LintTexts;
+use exit_status::Status;
+use lint_text::{Named, lint_printout};
+use std::alloc::Global;
+
+/// The faults of the texts that a command was given, or that memory ran out. Of one text alone the first bytes are ignored.
+pub(crate) fn lint_text(
+    alloc: Global,
+    texts: &LintTexts,
+    first: &[u8],
+    last: &[u8],
+) -> Result<Answer, Status>
+    ensures brings { LintBrings texts.now first.now last.now (ending_of result) }
+    ensures kind { IfErr result IsRefusal }
+{
+    let (machine, loops) = named(texts, first, last);
+    match lint_printout(alloc, machine, loops) {
+        Ok(lint) => Ok(Answer::Lint(lint)),
+        Err(_) => Err(Status::OutOfMemory),
+    }
+}
+
+/// The machine's text and the loops', each with its path, where they are given.
+fn named<'a>(
+    texts: &'a LintTexts,
+    first: &'a [u8],
+    last: &'a [u8],
+) -> (Option<Named<'a>>, Option<Named<'a>>)
+    ensures machine { IsNamed (machine_to_lint texts.entry.now first.entry.now last.entry.now) result.0 }
+    ensures loops { IsNamed (loops_to_lint texts.entry.now last.entry.now) result.1 }
+{
+    match texts {
+        LintTexts::Machine { machine } => (Some(at(machine, last)), None),
+        LintTexts::Loops { loops } => (None, Some(at(loops, last))),
+        LintTexts::Both { machine, loops } => (Some(at(machine, first)), Some(at(loops, last))),
+    }
+}
+
+/// A text with its path.
+fn at<'a>(path: &'a String, text: &'a [u8]) -> Named<'a>
+    ensures path { result.path.now ≡ string_bytes path.entry.now }
+    ensures text { result.text ≡ text.entry }
+{
+    Named {
+        path: path.as_str(),
+        text,
+    }
+}
