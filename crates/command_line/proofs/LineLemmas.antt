@@ -2,14 +2,14 @@
 use Rattle.std.proofs.Common.{◌≡◌, ◌⊎◌, ap, ℕ, List, Option, Some, None, Err, Ok, Result, IfOk, true, false, Bool, ◌||◌, ◌≤◌, ◌∙◌, codes, refl, sym, ap₂, subst, inl, inr, IfSome, IfNone, arith, get_or}
 use Rattle.clap.specs.declared.builder.command.Command as clap
 use Rattle.clap.specs.declared.builder.arg.Arg.{Arg}
-use Rattle.clap.specs.Words.{AddsArg, App, HasKind, Kinds, Row, Rule, Text, app_of, rule_of, with_rule, with_subcommand, first_of, is_simple, is_simple_and_free, kind_of}
+use Rattle.clap.specs.Words.{AddsArg, App, HasKind, Kinds, Row, Rule, Text, app_of, rule_of, with_rule, with_subcommand, all_of, first_of, is_simple, is_simple_and_free, kind_of}
 use Rattle.clap.specs.declared.error.Error.{Error}
 use Rattle.command_line.specs.declared.line.Usage.{Usage}
 use Rattle.command_line.specs.declared.line.Usage.TheVariants.{Help, Refused, Memory}
 use Rattle.clap.proofs.OnLiterals.{clap_on_literals}
 use Rattle.clap.specs.declared.error.kind.ErrorKind.TheVariants.{OutOfMemory}
 use Rattle.command_line.specs.Lines.{IsRead, IsRequest, IsSearchGiven, IsTaskGiven, IsToldBy, IsWorkGiven, AreLoopsGiven, AreProblemsGiven, AreTexts, AreTextsGiven, IsReportGiven, Means, MeansNamed, SaysFormat, SaysNumber, SaysSwitch, SaySettings, switch_word}
-use Rattle.command_line.specs.Lines.{program_line, search_line, run_line, plain_line, explain_line, either_line, lint_line, solve_line, check_line}
+use Rattle.command_line.specs.Lines.{program_line, search_line, run_line, plain_line, schedule_line, explain_line, either_line, either_with_names, lint_line, solve_line, check_line}
 use Rattle.settings.specs.Settings.{AreSettings, SettingsData}
 use Rattle.clap.specs.declared.builder.command.Command.TheViews.{out-Command}
 use Rattle.command_line.specs.inner.Made.{IsAdded}
@@ -17,6 +17,7 @@ use Rattle.std.proofs.lemmas.Bool.{and_parts}
 use Rattle.command_line.specs.declared.command.Command.{Command}
 use Rattle.command_line.specs.declared.command.Command.TheVariants as command
 use Rattle.command_line.specs.declared.command.Format.{Format}
+use Rattle.command_line.specs.declared.command.Format.TheVariants as format
 use Rattle.command_line.specs.declared.command.LintTexts.{LintTexts}
 use Rattle.command_line.specs.declared.command.Report.{Report}
 use Rattle.command_line.specs.declared.command.Report.TheVariants as report
@@ -28,7 +29,7 @@ use Rattle.command_line.specs.declared.command.Work.{Work}
 use Rattle.command_line.specs.declared.command.Work.TheVariants.{Plain, OnMachine}
 
 pub program_is_free : is_simple_and_free program_line ≡ true
-unfolding program_line search_line explain_line either_line run_line plain_line lint_line solve_line check_line clap_on_literals
+unfolding program_line search_line schedule_line explain_line either_line either_with_names run_line plain_line lint_line solve_line check_line clap_on_literals
 program_is_free = refl
 
 -- of which this is a part, so that it is not computed again
@@ -78,6 +79,15 @@ say-one given ratio ceiling workers cut settings r c w u h =
       cut_few = subst (λ (n : ℕ). n ≤ 256) same_cut h.4.cut_few;
     }
 
+-- where there is a value, or none, another fact that follows
+pub some-weaker : {T : Type 0} (o : Option T) (P Q : T → Type 0) → ((x : T) → P x → Q x) → IfSome o P → IfSome o Q
+some-weaker None P Q f h = tt
+some-weaker (Some x) P Q f h = f x h
+
+pub none-weaker : {T : Type 0} (o : Option T) (A B : Type 0) → (A → B) → IfNone o A → IfNone o B
+none-weaker None A B f h = f h
+none-weaker (Some x) A B f h = tt
+
 -- a word that an option was given names what it says, or nothing
 pub some-says : {T : Type 0} (word_of : T → Text) (found : Option T) (word : Text) → IfSome found (λ x. word ≡ word_of x) → IfSome found (λ x. Some word ≡ Some (word_of x))
 some-says word_of None word h = tt
@@ -102,10 +112,28 @@ other-word place name word other apart is same = apart (ap (λ (t : Text). get_o
 abbrev IsOther : Text → Type 0
 IsOther name = (name ≡ codes "solve" → ⊥) × (name ≡ codes "check" → ⊥) × (name ≡ codes "lint" → ⊥)
 
+-- `schedule` is none of them
+other-schedule : (name : Text) → name ≡ codes "schedule" → IsOther name
+other-schedule name h = (other-word 1 name (codes "schedule") (codes "solve") (λ e. omega arith) h, other-word 0 name (codes "schedule") (codes "check") (λ e. omega arith) h, other-word 0 name (codes "schedule") (codes "lint") (λ e. omega arith) h)
+
+-- another subcommand is none that `schedule` may be
+schedule-word : (place : ℕ) (name word : Text) → name ≡ codes "schedule" → (get_or (codes "schedule") place 0 ≡ get_or word place 0 → ⊥) → name ≡ word → ⊥
+schedule-word place name word is apart other = other-word place name (codes "schedule") word apart is other
+
+-- `schedule` tells nothing where its option says no format
+pub schedule-formless : (rows : List Row) (name : Text) → name ≡ codes "schedule" → ((f : Format) → ¬ SaysFormat (first_of (codes "format") rows) f) → (s : Search) → ¬ IsSearchGiven s name rows
+schedule-formless rows name is none Schedule h = none format.Text h.1
+schedule-formless rows name is none Json (inl h) = schedule-word 0 name (codes "json") is (λ e. omega arith) h
+schedule-formless rows name is none Json (inr h) = none format.Json h.1
+schedule-formless rows name is none Explain h = schedule-word 0 name (codes "explain") is (λ e. omega arith) h
+schedule-formless rows name is none Vary h = schedule-word 0 name (codes "vary") is (λ e. omega arith) h
+schedule-formless rows name is none (Run trip) h = schedule-word 0 name (codes "run") is (λ e. omega arith) h.0
+
 -- what is done with loops is given by other subcommands
 other-search : (s : Search) (name : Text) (rows : List Row) → IsSearchGiven s name rows → IsOther name
-other-search Schedule name rows h = (other-word 1 name (codes "schedule") (codes "solve") (λ e. omega arith) h, other-word 0 name (codes "schedule") (codes "check") (λ e. omega arith) h, other-word 0 name (codes "schedule") (codes "lint") (λ e. omega arith) h)
-other-search Json name rows h = (other-word 0 name (codes "json") (codes "solve") (λ e. omega arith) h, other-word 0 name (codes "json") (codes "check") (λ e. omega arith) h, other-word 0 name (codes "json") (codes "lint") (λ e. omega arith) h)
+other-search Schedule name rows h = other-schedule name h.0
+other-search Json name rows (inr h) = other-schedule name h.0
+other-search Json name rows (inl h) = (other-word 0 name (codes "json") (codes "solve") (λ e. omega arith) h, other-word 0 name (codes "json") (codes "check") (λ e. omega arith) h, other-word 0 name (codes "json") (codes "lint") (λ e. omega arith) h)
 other-search Explain name rows h = (other-word 0 name (codes "explain") (codes "solve") (λ e. omega arith) h, other-word 0 name (codes "explain") (codes "check") (λ e. omega arith) h, other-word 0 name (codes "explain") (codes "lint") (λ e. omega arith) h)
 other-search Vary name rows h = (other-word 0 name (codes "vary") (codes "solve") (λ e. omega arith) h, other-word 0 name (codes "vary") (codes "check") (λ e. omega arith) h, other-word 0 name (codes "vary") (codes "lint") (λ e. omega arith) h)
 other-search (Run trip) name rows h = (other-word 0 name (codes "run") (codes "solve") (λ e. omega arith) h.0, other-word 0 name (codes "run") (codes "check") (λ e. omega arith) h.0, other-word 0 name (codes "run") (codes "lint") (λ e. omega arith) h.0)
@@ -138,38 +166,46 @@ apart-check-lint same = other-word 0 (codes "check") (codes "check") (codes "lin
 -- no command is given by `solve` where the path is missing, or the options say no settings
 pub solve-none : (rows : List Row) → (first_of (codes "problems") rows ≡ None) ⊎ ((s : SettingsData) → ¬ SaySettings s rows)
     → (c : Command) → MeansNamed c (codes "solve") rows → ⊥
-solve-none rows missing (command.Loops loops work) h = (other-work work (codes "solve") rows h.1).0 refl
+solve-none rows missing (command.Loops loops names work) h = (other-work work (codes "solve") rows h.2).0 refl
 solve-none rows (inl none) (command.Solve problems settings format) h = let there = h.1 in absurd (cc)
 solve-none rows (inr none) (command.Solve problems settings format) h = none settings h.2
-solve-none rows missing (command.Problems problems told) h = (other-report told (codes "solve") rows h.2).0 refl
+solve-none rows missing (command.Problems problems told) h = (other-report told (codes "solve") rows h.3).0 refl
 solve-none rows missing (command.Check problems solutions) h = apart-solve-check h.0
-solve-none rows missing (command.Lint texts) h = apart-solve-lint h.0
+solve-none rows missing (command.Lint texts format) h = apart-solve-lint h.0
 
 -- .. or its option says no format
 pub solve-formless : (rows : List Row) → ((f : Format) → ¬ SaysFormat (first_of (codes "format") rows) f) → (c : Command) → MeansNamed c (codes "solve") rows → ⊥
-solve-formless rows none (command.Loops loops work) h = (other-work work (codes "solve") rows h.1).0 refl
+solve-formless rows none (command.Loops loops names work) h = (other-work work (codes "solve") rows h.2).0 refl
 solve-formless rows none (command.Solve problems settings format) h = none format h.3
-solve-formless rows none (command.Problems problems told) h = (other-report told (codes "solve") rows h.2).0 refl
+solve-formless rows none (command.Problems problems told) h = (other-report told (codes "solve") rows h.3).0 refl
 solve-formless rows none (command.Check problems solutions) h = apart-solve-check h.0
-solve-formless rows none (command.Lint texts) h = apart-solve-lint h.0
+solve-formless rows none (command.Lint texts format) h = apart-solve-lint h.0
 
 -- .. by `check` where a path is missing
 pub check-none : (rows : List Row) → (first_of (codes "problems") rows ≡ None) ⊎ (first_of (codes "solutions") rows ≡ None)
     → (c : Command) → MeansNamed c (codes "check") rows → ⊥
-check-none rows missing (command.Loops loops work) h = (other-work work (codes "check") rows h.1).1 refl
+check-none rows missing (command.Loops loops names work) h = (other-work work (codes "check") rows h.2).1 refl
 check-none rows missing (command.Solve problems settings format) h = apart-solve-check (sym h.0)
-check-none rows missing (command.Problems problems told) h = (other-report told (codes "check") rows h.2).1 refl
+check-none rows missing (command.Problems problems told) h = (other-report told (codes "check") rows h.3).1 refl
 check-none rows (inl none) (command.Check problems solutions) h = let there = h.1 in absurd (cc)
 check-none rows (inr none) (command.Check problems solutions) h = let there = h.2 in absurd (cc)
-check-none rows missing (command.Lint texts) h = apart-check-lint h.0
+check-none rows missing (command.Lint texts format) h = apart-check-lint h.0
 
 -- .. by `lint` where it was given no texts
 pub lint-none : (rows : List Row) → ((texts : LintTexts) → ¬ AreTextsGiven texts rows) → (c : Command) → MeansNamed c (codes "lint") rows → ⊥
-lint-none rows none (command.Loops loops work) h = (other-work work (codes "lint") rows h.1).2 refl
+lint-none rows none (command.Loops loops names work) h = (other-work work (codes "lint") rows h.2).2 refl
 lint-none rows none (command.Solve problems settings format) h = apart-solve-lint (sym h.0)
-lint-none rows none (command.Problems problems told) h = (other-report told (codes "lint") rows h.2).2 refl
+lint-none rows none (command.Problems problems told) h = (other-report told (codes "lint") rows h.3).2 refl
 lint-none rows none (command.Check problems solutions) h = apart-check-lint (sym h.0)
-lint-none rows none (command.Lint texts) h = none texts h.1
+lint-none rows none (command.Lint texts format) h = none texts h.1
+
+-- .. or its option says no format
+pub lint-formless : (rows : List Row) → ((f : Format) → ¬ SaysFormat (first_of (codes "format") rows) f) → (c : Command) → MeansNamed c (codes "lint") rows → ⊥
+lint-formless rows none (command.Loops loops names work) h = (other-work work (codes "lint") rows h.2).2 refl
+lint-formless rows none (command.Solve problems settings format) h = apart-solve-lint (sym h.0)
+lint-formless rows none (command.Problems problems told) h = (other-report told (codes "lint") rows h.3).2 refl
+lint-formless rows none (command.Check problems solutions) h = apart-check-lint (sym h.0)
+lint-formless rows none (command.Lint texts format) h = none format h.2
 
 -- the word that stands for a switch says one thing
 one-switch : (a b : Bool) → Some (switch_word a) ≡ Some (switch_word b) → a ≡ b
@@ -198,26 +234,30 @@ no-switch rows none texts (first, machine_only, there, said, are) = none machine
 
 -- .. by another subcommand where what loops need is missing
 pub loops-none : (rows : List Row) (name : Text) → (name ≡ codes "solve" → ⊥) → (name ≡ codes "check" → ⊥) → (name ≡ codes "lint" → ⊥)
-    → ((path : Text) (w : Work) → ¬ AreLoopsGiven path w name rows) → ((path : Text) (told : Report) → ¬ AreProblemsGiven path told name rows)
+    → ((path : Text) (names : List Text) (w : Work) → ¬ AreLoopsGiven path names w name rows) → ((path : Text) (told : Report) → ¬ AreProblemsGiven path told name rows)
     → (c : Command) → MeansNamed c name rows → ⊥
-loops-none rows name solve check lint none alone (command.Loops loops work) h = none _ work h
+loops-none rows name solve check lint none alone (command.Loops loops names work) h = none _ _ work h
 loops-none rows name solve check lint none alone (command.Problems problems told) h = alone _ told h
 loops-none rows name solve check lint none alone (command.Solve problems settings format) h = solve h.0
 loops-none rows name solve check lint none alone (command.Check problems solutions) h = check h.0
-loops-none rows name solve check lint none alone (command.Lint texts) h = lint h.0
+loops-none rows name solve check lint none alone (command.Lint texts format) h = lint h.0
 
 -- .. where loops are given, or none, what needs the other is not meant
 pub no-problems : (rows : List Row) (name : Text) (loops : Text) → Some loops ≡ first_of (codes "loops") rows → (path : Text) (told : Report) → ¬ AreProblemsGiven path told name rows
 no-problems rows name loops is path told h = let there = h.1 in absurd (cc)
 
-pub no-loops : (rows : List Row) (name : Text) → first_of (codes "loops") rows ≡ None → (path : Text) (w : Work) → ¬ AreLoopsGiven path w name rows
-no-loops rows name is path w h = let there = h.0 in absurd (cc)
+pub no-loops : (rows : List Row) (name : Text) → first_of (codes "loops") rows ≡ None → (path : Text) (names : List Text) (w : Work) → ¬ AreLoopsGiven path names w name rows
+no-loops rows name is path names w h = let there = h.0 in absurd (cc)
 
 -- a report is told of problems alone, where its path is given
 pub problems-none : (rows : List Row) (name : Text) → (first_of (codes "machine") rows ≡ None) ⊎ ((told : Report) → ¬ IsReportGiven told name rows)
     → (path : Text) (told : Report) → ¬ AreProblemsGiven path told name rows
 problems-none rows name (inl none) path told h = let there = h.0 in absurd (cc)
-problems-none rows name (inr none) path told h = none told h.2
+problems-none rows name (inr none) path told h = none told h.3
+
+-- .. and no name of a loop
+pub problems-unnamed : (rows : List Row) (name : Text) (names : List Text) → all_of (codes "loop") rows ≡ Some names → (path : Text) (told : Report) → ¬ AreProblemsGiven path told name rows
+problems-unnamed rows name names is path told h = let none = h.2 in absurd (cc)
 
 -- what was found, said of equal matches
 pub Means-at : (found : Option Command) (c : Command) (s t : Option (Text × List Row)) → found ≡ Some c

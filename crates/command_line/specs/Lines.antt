@@ -1,8 +1,8 @@
 -- What the words of a command line mean. The words themselves are read as `clap` reads them.
-use Rattle.std.specs.Prelude.{◌≡◌, ◌≢◌, ◌⊎◌, ℕ, ◌≤◌, List, [], ◌∷◌, Option, Some, None, Result, Ok, Err, Bool, true, false, codes, string_bytes, ⊤}
+use Rattle.std.specs.Prelude.{◌≡◌, ◌≢◌, ◌⊎◌, ℕ, ◌≤◌, List, [], ◌∷◌, map, Option, Some, None, unwrap_or, Result, Ok, Err, Bool, true, false, codes, string_bytes, ⊤}
 use Rattle.std.specs.Str.Parse.{IsNumeral, digits_value, without_leading_plus}
-use Rattle.clap.specs.Words.{App, IsAmong, Kinds, Row, Rule, Text, first_of, new_app, new_rule, with_rule, with_subcommand}
-use Rattle.clap.specs.declared.builder.action.ArgAction.TheVariants.{SetTrue}
+use Rattle.clap.specs.Words.{App, IsAmong, Kinds, Row, Rule, Text, all_of, first_of, new_app, new_rule, with_rule, with_subcommand}
+use Rattle.clap.specs.declared.builder.action.ArgAction.TheVariants.{Append, SetTrue}
 use Rattle.clap.specs.declared.builder.value_parser.ValueParser.TheVariants.{Unsigned}
 use Rattle.clap.specs.declared.error.kind.ErrorKind.{ErrorKind}
 use Rattle.clap.specs.declared.error.kind.ErrorKind.TheVariants as kind
@@ -22,6 +22,7 @@ use Rattle.command_line.specs.declared.command.Search.{Search}
 use Rattle.command_line.specs.declared.command.Search.TheVariants.{Schedule, Json, Explain, Vary, Run}
 use Rattle.command_line.specs.declared.line.Usage.{Usage}
 use Rattle.command_line.specs.declared.line.Usage.TheVariants.{Help, Refused, Memory}
+use Rattle.machine_data.specs.declared.limits.TheConstants.{MAX_CEILING, MAX_CUT, MAX_RATIO, MAX_TRIP, MAX_WORKERS}
 use Rattle.settings.specs.Settings.{AreSettings, SettingsData}
 
 -- a path that has to be given
@@ -32,13 +33,21 @@ path_rule id = record (new_rule id) { value_names = 1; required = true }
 abbrev pub spare_rule : Text → Rule
 spare_rule id = record (new_rule id) { value_names = 1 }
 
--- a subcommand with the paths of both files: `NAME MACHINE LOOPS`
+-- `--loop NAME`, which may be given several times
+abbrev pub loop_rule : Rule
+loop_rule = record (new_rule (codes "loop")) { long = Some (codes "loop"); value_names = 1; action = Some Append }
+
+-- a subcommand with the paths of both files and the names of loops: `NAME MACHINE LOOPS --loop NAME`
 abbrev pub with_paths : Text → App
-with_paths name = with_rule (with_rule (new_app name) (path_rule (codes "machine"))) (path_rule (codes "loops"))
+with_paths name = with_rule (with_rule (with_rule (new_app name) (path_rule (codes "machine"))) (path_rule (codes "loops"))) loop_rule
 
 -- a subcommand with the paths of both files, or with one path alone: `NAME MACHINE LOOPS`, `NAME PROBLEMS`
 unfoldable pub either_line : Text → App
 either_line name = with_rule (with_rule (new_app name) (path_rule (codes "machine"))) (spare_rule (codes "loops"))
+
+-- such a subcommand with the names of loops
+unfoldable pub either_with_names : Text → App
+either_with_names name = with_rule (either_line name) loop_rule
 
 -- `--trip N`, which has to be given: a number from 0 to 100,000
 abbrev pub trip_rule : Rule
@@ -46,7 +55,7 @@ trip_rule = record (new_rule (codes "trip")) {
   long = Some (codes "trip");
   value_names = 1;
   required = true;
-  parser = Some (Unsigned 0 100000);
+  parser = Some (Unsigned 0 MAX_TRIP);
 }
 
 -- an option that may be left out: its default stands for it then
@@ -59,20 +68,20 @@ number_rule name default least greatest = record (option_rule name default) { pa
 
 -- `--ratio R`, `--ceiling C`, `--workers W` and `--cut N`
 abbrev pub ratio_rule : Rule
-ratio_rule = number_rule (codes "ratio") (codes "6") 1 64
+ratio_rule = number_rule (codes "ratio") (codes "6") 1 MAX_RATIO
 
 abbrev pub ceiling_rule : Rule
-ceiling_rule = number_rule (codes "ceiling") (codes "32") 0 255
+ceiling_rule = number_rule (codes "ceiling") (codes "32") 0 MAX_CEILING
 
 abbrev pub workers_rule : Rule
-workers_rule = number_rule (codes "workers") (codes "4") 1 64
+workers_rule = number_rule (codes "workers") (codes "4") 1 MAX_WORKERS
 
 abbrev pub cut_rule : Rule
-cut_rule = number_rule (codes "cut") (codes "4") 1 256
+cut_rule = number_rule (codes "cut") (codes "4") 1 MAX_CUT
 
--- `plain LOOPS --trip N`, and `--workers W`
+-- `plain LOOPS --loop NAME --trip N`, and `--workers W`
 unfoldable pub plain_line : App
-plain_line = with_rule (with_rule (with_rule (new_app (codes "plain")) (path_rule (codes "loops"))) trip_rule) workers_rule
+plain_line = with_rule (with_rule (with_rule (with_rule (new_app (codes "plain")) (path_rule (codes "loops"))) loop_rule) trip_rule) workers_rule
 
 -- a subcommand with the four options of a search
 abbrev pub with_search : App → App
@@ -84,11 +93,19 @@ search_line name = with_search (with_paths name)
 
 -- `explain MACHINE LOOPS` and `explain PROBLEMS`, and the four
 unfoldable pub explain_line : App
-explain_line = with_search (either_line (codes "explain"))
+explain_line = with_search (either_with_names (codes "explain"))
 
 -- `run MACHINE LOOPS --trip N`, and the four
 unfoldable pub run_line : App
 run_line = with_search (with_rule (with_paths (codes "run")) trip_rule)
+
+-- `--format FORMAT`, which is looked at where the command is made
+abbrev pub format_rule : Rule
+format_rule = option_rule (codes "format") (codes "text")
+
+-- `schedule MACHINE LOOPS`, the four, and `--format FORMAT`
+unfoldable pub schedule_line : App
+schedule_line = with_rule (search_line (codes "schedule")) format_rule
 
 -- the program's line without its subcommands, of which one has to be given
 abbrev pub bare_line : App
@@ -106,24 +123,20 @@ bare_line =
 -- a line with the subcommands that look for kernels
 abbrev pub with_kernels : App → App
 with_kernels app =
-    with_subcommand (with_subcommand (with_subcommand (with_subcommand (with_subcommand app (search_line (codes "schedule")).top) run_line.top) (search_line (codes "json")).top) explain_line.top) (search_line (codes "vary")).top
+    with_subcommand (with_subcommand (with_subcommand (with_subcommand (with_subcommand app schedule_line.top) run_line.top) (search_line (codes "json")).top) explain_line.top) (search_line (codes "vary")).top
 
 -- `--machine-only`, which has no value
 abbrev pub machine_only_rule : Rule
 machine_only_rule = record (new_rule (codes "machine-only")) { long = Some (codes "machine-only"); action = Some SetTrue }
 
--- `lint MACHINE LOOPS` and `lint LOOPS`, and `--machine-only` for `lint MACHINE --machine-only`
+-- `lint MACHINE LOOPS` and `lint LOOPS`, `--machine-only` for `lint MACHINE --machine-only`, and `--format FORMAT`
 unfoldable pub lint_line : App
-lint_line = with_rule (either_line (codes "lint")) machine_only_rule
+lint_line = with_rule (with_rule (either_line (codes "lint")) machine_only_rule) format_rule
 
 -- a line with those that look for none
 abbrev pub with_reports : App → App
 with_reports app =
-    with_subcommand (with_subcommand (with_subcommand (with_subcommand (with_subcommand app (with_paths (codes "bounds")).top) (either_line (codes "edges")).top) (either_line (codes "dot")).top) plain_line.top) lint_line.top
-
--- `--format FORMAT`, which is looked at where the command is made
-abbrev pub format_rule : Rule
-format_rule = option_rule (codes "format") (codes "text")
+    with_subcommand (with_subcommand (with_subcommand (with_subcommand (with_subcommand app (with_paths (codes "bounds")).top) (either_with_names (codes "edges")).top) (either_with_names (codes "dot")).top) plain_line.top) lint_line.top
 
 -- `solve PROBLEMS`, the four, and `--format FORMAT`
 unfoldable pub solve_line : App
@@ -160,20 +173,20 @@ last_lint_path (lint.Both machine loops) = string_bytes loops
 
 -- the path of the file that is read first, where a command reads two: the machine's, or the problems' of a check
 abbrev pub first_path : Command → Option Text
-first_path (command.Loops loops work) = machine_of_work work
+first_path (command.Loops loops names work) = machine_of_work work
 first_path (command.Solve problems settings format) = None
 first_path (command.Problems problems told) = None
 first_path (command.Check problems solutions) = Some (string_bytes problems)
-first_path (command.Lint texts) = first_lint_path texts
+first_path (command.Lint texts format) = first_lint_path texts
 
 -- the path of the file that is read last: the loops', the problems' where they are not checked, the solutions' of a check, or that of a machine
 -- whose faults alone are told
 abbrev pub last_path : Command → Text
-last_path (command.Loops loops work) = string_bytes loops
+last_path (command.Loops loops names work) = string_bytes loops
 last_path (command.Solve problems settings format) = string_bytes problems
 last_path (command.Problems problems told) = string_bytes problems
 last_path (command.Check problems solutions) = string_bytes solutions
-last_path (command.Lint texts) = last_lint_path texts
+last_path (command.Lint texts format) = last_lint_path texts
 
 -- a word is a number in decimal digits, with or without a plus before them
 abbrev pub Says : Text → ℕ → Type 0
@@ -184,13 +197,13 @@ abbrev pub SaysNumber : Option Text → ℕ → Type 0
 SaysNumber None number = ⊥
 SaysNumber (Some word) number = Says word number
 
--- the word that an option was given is a trip count, from 0 to 100,000
+-- the word that an option was given is a trip count
 abbrev pub SaysTrip : Option Text → ℕ → Type 0
-SaysTrip word trip = SaysNumber word trip × (trip ≤ 100000)
+SaysTrip word trip = SaysNumber word trip × (trip ≤ MAX_TRIP)
 
--- the word that an option was given is a number of workers, from 1 to 64
+-- the word that an option was given is a number of workers
 abbrev pub SaysWorkers : Option Text → ℕ → Type 0
-SaysWorkers word workers = SaysNumber word workers × (1 ≤ workers) × (workers ≤ 64)
+SaysWorkers word workers = SaysNumber word workers × (1 ≤ workers) × (workers ≤ MAX_WORKERS)
 
 -- the options say the four settings, all within their ranges
 abbrev pub SaySettings : SettingsData → List Row → Type 0
@@ -210,8 +223,8 @@ SaysFormat word format = word ≡ Some (format_word format)
 
 -- the subcommand of this name tells that of the kernels, and was given what it needs
 abbrev pub IsSearchGiven : Search → Text → List Row → Type 0
-IsSearchGiven Schedule name given = name ≡ codes "schedule"
-IsSearchGiven Json name given = name ≡ codes "json"
+IsSearchGiven Schedule name given = (name ≡ codes "schedule") × SaysFormat (first_of (codes "format") given) format.Text
+IsSearchGiven Json name given = (name ≡ codes "json") ⊎ ((name ≡ codes "schedule") × SaysFormat (first_of (codes "format") given) format.Json)
 IsSearchGiven Explain name given = name ≡ codes "explain"
 IsSearchGiven Vary name given = name ≡ codes "vary"
 IsSearchGiven (Run trip) name given = (name ≡ codes "run") × SaysTrip (first_of (codes "trip") given) trip
@@ -230,9 +243,13 @@ IsWorkGiven (Plain trip workers) name given = (name ≡ codes "plain")
     × SaysWorkers (first_of (codes "workers") given) workers
 IsWorkGiven (OnMachine machine task) name given = (first_of (codes "machine") given ≡ Some (string_bytes machine)) × IsTaskGiven task name given
 
--- .. was given the path of loops, and does that with them
-abbrev pub AreLoopsGiven : Text → Work → Text → List Row → Type 0
-AreLoopsGiven path work name given = (first_of (codes "loops") given ≡ Some path) × IsWorkGiven work name given
+-- the names that `--loop` was given, in the order of the line; none where it was left out
+abbrev pub names_in : List Row → List Text
+names_in given = unwrap_or (all_of (codes "loop") given) []
+
+-- .. was given the path of loops and the names of some, and does that with them
+abbrev pub AreLoopsGiven : Text → List Text → Work → Text → List Row → Type 0
+AreLoopsGiven path names work name given = (first_of (codes "loops") given ≡ Some path) × (names_in given ≡ names) × IsWorkGiven work name given
 
 -- .. tells that of problems, and was given what it needs
 abbrev pub IsReportGiven : Report → Text → List Row → Type 0
@@ -240,10 +257,11 @@ IsReportGiven report.Edges name given = name ≡ codes "edges"
 IsReportGiven report.Dot name given = name ≡ codes "dot"
 IsReportGiven (report.Explain settings) name given = (name ≡ codes "explain") × SaySettings settings given
 
--- .. was given one path alone, that of problems, and tells that of them
+-- .. was given one path alone, that of problems, and no name of a loop, and tells that of them
 abbrev pub AreProblemsGiven : Text → Report → Text → List Row → Type 0
 AreProblemsGiven path told name given = (first_of (codes "machine") given ≡ Some path)
     × (first_of (codes "loops") given ≡ None)
+    × (all_of (codes "loop") given ≡ None)
     × IsReportGiven told name given
 
 -- the word that stands for an option without a value: it was given, or left out
@@ -269,7 +287,7 @@ AreTextsGiven texts given = (first : Text) × (machine_only : Bool)
 
 -- a command is of a subcommand of this name, and has what that was given
 abbrev pub MeansNamed : Command → Text → List Row → Type 0
-MeansNamed (command.Loops loops work) name given = AreLoopsGiven (string_bytes loops) work name given
+MeansNamed (command.Loops loops names work) name given = AreLoopsGiven (string_bytes loops) (map string_bytes names.items) work name given
 MeansNamed (command.Solve problems settings format) name given = (name ≡ codes "solve")
     × (first_of (codes "problems") given ≡ Some (string_bytes problems))
     × SaySettings settings given
@@ -278,7 +296,7 @@ MeansNamed (command.Problems problems told) name given = AreProblemsGiven (strin
 MeansNamed (command.Check problems solutions) name given = (name ≡ codes "check")
     × (first_of (codes "problems") given ≡ Some (string_bytes problems))
     × (first_of (codes "solutions") given ≡ Some (string_bytes solutions))
-MeansNamed (command.Lint texts) name given = (name ≡ codes "lint") × AreTextsGiven texts given
+MeansNamed (command.Lint texts format) name given = (name ≡ codes "lint") × AreTextsGiven texts given × SaysFormat (first_of (codes "format") given) format
 
 abbrev pub Means : Command → Option (Text × List Row) → Type 0
 Means command None = ⊥

@@ -13,6 +13,8 @@ pub enum Command {
     Loops {
         /// The path of the loops' file.
         loops: String,
+        /// The names of the loops that it is done with; none where it is done with all of them.
+        names: Vec<String>,
         /// What is done with the loops.
         work: Work,
     },
@@ -39,8 +41,13 @@ pub enum Command {
         /// The path of the solutions' file.
         solutions: String,
     },
-    /// Tell the faults of texts: of loops all of them, and of a machine the first.
-    Lint(LintTexts),
+    /// Tell the faults of texts.
+    Lint {
+        /// The texts.
+        texts: LintTexts,
+        /// In which format their faults are told.
+        format: Format,
+    },
 }
 
 /// The texts whose faults are told.
@@ -65,10 +72,10 @@ pub enum LintTexts {
     },
 }
 
-/// The formats in which what problems come to is told.
+/// The formats in which something is told.
 #[derive(Clone, Copy, Debug, PartialEq, Eq)]
 pub enum Format {
-    /// Lines for people, which a check reads again.
+    /// Lines for people; those of solutions a check reads again.
     Text,
     /// One JSON document, for programs.
     Json,
@@ -155,7 +162,7 @@ impl Command {
             Command::Loops { work, .. } => machine_of(work),
             Command::Solve { .. } | Command::Problems { .. } => None,
             Command::Check { problems, .. } => Some(problems.as_str()),
-            Command::Lint(texts) => texts.first_path(),
+            Command::Lint { texts, .. } => texts.first_path(),
         }
     }
 
@@ -169,7 +176,7 @@ impl Command {
             Command::Solve { problems, .. } => problems.as_str(),
             Command::Problems { problems, .. } => problems.as_str(),
             Command::Check { solutions, .. } => solutions.as_str(),
-            Command::Lint(texts) => texts.last_path(),
+            Command::Lint { texts, .. } => texts.last_path(),
         }
     }
 }

@@ -28,8 +28,8 @@ one of them may come from it.
 
 Exit status: 0 done; 1 done, but some loop has no kernel at any interval that was tried, some problem is
 not solved, or some problem has no solution that holds; 2 the line is refused; 3 a file can't be read;
-4 the machine is refused, or the text of problems; 5 the loops are refused, or an opcode has no
-reservation table, or the text of solutions is refused; 6 the output can't be written; 7 out of memory.
+4 the machine is refused, or the text of problems; 5 the loops are refused, or have none of a name that
+was given, or an opcode has no reservation table, or the text of solutions is refused; 6 the output can't be written; 7 out of memory.
 A fault is told in one line on the standard error. Only `lint` prints the faults of texts to the standard
 output; it ends with 4 where one is of the machine, and else with 5.";
 
@@ -69,7 +69,9 @@ the turn, from 0. The registers rotate: with each turn the value of a register m
 with the next number, and that of the last one to r0.
 
 The last line, loops A met B failed F, has the numbers of loops, of those with a kernel and of those
-without. Where some loop has an out, the first line is `version 2`.";
+without. Where some loop has an out, the first line is `version 2`.
+
+With --format json prints what `modsched json` prints.";
 
 pub(crate) const RUN_ABOUT: &str = "Run each loop's kernel, and tell what it changed";
 
@@ -241,6 +243,9 @@ where no text has a fault:
 Of the loops every fault is told, and of a machine the first, without a WORD. Lines and columns are counted
 from 1; a fault that has no place is told of line 0 and column 0.
 
+With --format json the same faults are printed as one JSON document, on one line: an object with `faults`, each
+with `path`, `line`, `column`, `word` and `message`, and `version`, which is 1.
+
 One path is that of loops, or with --machine-only that of a machine. No kernel is searched for, and whether
 the machine has a table for each opcode of the loops is not looked at.";
 
@@ -342,8 +347,11 @@ pub(crate) const WORKERS: &str =
 number";
 
 pub(crate) const FORMAT: &str =
-    "In which format the solutions are printed: `text`, for people and for `modsched check`, or `json`, for
-programs";
+    "The format of what is printed: `text`, lines for people, or `json`, one document for programs";
+
+pub(crate) const LOOP: &str =
+    "Take only the loops of this name; may be given several times. The others of the file are read, but nothing
+is printed of them, and no count has them";
 
 pub(crate) const CUT: &str =
     "How many intervals of a loop a thread takes at once, from 1 to 256. With fewer, more threads can share

@@ -8,7 +8,7 @@ ghost use Rattle.command_line.specs.declared.line.Usage.TheVariants.{Memory};
 mod form;
 mod given;
 
-use crate::command::Command;
+use crate::command::{Command, Format};
 use clap::ArgMatches;
 use clap::error::ErrorKind;
 use form::program;
@@ -60,14 +60,25 @@ pub fn parse_line<'a>(alloc: Global, words: &'a [&'a str]) -> Result<Command, Us
     }
 }
 
+// Whether the option for a format names one.
+fn is_format(values: &ArgMatches<'_>) -> bool {
+    match values.get_str("format") {
+        Some(word) => Format::named(word).is_some(),
+        None => false,
+    }
+}
+
 // What is wrong where words have the form of a line, and mean no command.
 fn refusal(matches: &ArgMatches<'_>) -> &'static str {
     match matches.subcommand() {
-        Some(("solve", _)) => {
+        Some(("lint", values)) if is_format(values) => {
+            "error: '--machine-only' takes one path, that of the machine\n\nFor more information, try '--help'.\n"
+        }
+        Some(("solve" | "schedule" | "lint", _)) => {
             "error: '--format' is neither 'text' nor 'json'\n\nFor more information, try '--help'.\n"
         }
-        Some(("lint", _)) => {
-            "error: '--machine-only' takes one path, that of the machine\n\nFor more information, try '--help'.\n"
+        Some((_, values)) if values.contains_id("loop") => {
+            "error: '--loop' takes a machine and loops\n\nFor more information, try '--help'.\n"
         }
         _ => "error: an argument is missing\n\nFor more information, try '--help'.\n",
     }

@@ -3,7 +3,7 @@
 ghost use Rattle.std.specs.Prelude.{◌≡◌, codes, false, IfOk};
 ghost use Rattle.clap.specs.Words.{app_of, new_app, rule_of};
 ghost use Rattle.clap.specs.declared.builder.command.Command.TheViews.{out-Command};
-ghost use Rattle.command_line.specs.Lines.{program_line, bare_line, with_kernels, with_reports, with_problems, plain_line, search_line, explain_line, either_line, run_line, lint_line, solve_line, check_line, with_paths, with_search, path_rule, spare_rule, machine_only_rule, trip_rule, option_rule, ratio_rule, ceiling_rule, workers_rule, cut_rule, format_rule};
+ghost use Rattle.command_line.specs.Lines.{program_line, bare_line, with_kernels, with_reports, with_problems, plain_line, search_line, schedule_line, explain_line, either_line, either_with_names, run_line, lint_line, solve_line, check_line, with_paths, with_search, path_rule, spare_rule, machine_only_rule, loop_rule, trip_rule, option_rule, ratio_rule, ceiling_rule, workers_rule, cut_rule, format_rule};
 ghost use Rattle.command_line.specs.inner.Made.{IsAdded};
 
 use crate::help;
@@ -44,9 +44,8 @@ fn with_kernels<'a>(alloc: Global, command: Command<'a>) -> Result<Command<'a>, 
     ensures { IfOk result (λ c. app_of c ≡ with_kernels (app_of command.entry)) }
 {
     use help::{JSON_ABOUT, JSON_LONG_ABOUT};
-    use help::{SCHEDULE_ABOUT, SCHEDULE_LONG_ABOUT, VARY_ABOUT, VARY_LONG_ABOUT};
-    let made = search(alloc, "schedule", SCHEDULE_ABOUT, SCHEDULE_LONG_ABOUT);
-    let command = add(command, made)?;
+    use help::{VARY_ABOUT, VARY_LONG_ABOUT};
+    let command = add(command, schedule(alloc))?;
     let command = add(command, run(alloc))?;
     let made = search(alloc, "json", JSON_ABOUT, JSON_LONG_ABOUT);
     let command = add(command, made)?;
@@ -62,9 +61,9 @@ fn with_reports<'a>(alloc: Global, command: Command<'a>) -> Result<Command<'a>, 
     use help::{EDGES_ABOUT, EDGES_LONG_ABOUT};
     let made = over_files(alloc, "bounds", BOUNDS_ABOUT, BOUNDS_LONG_ABOUT);
     let command = add(command, made)?;
-    let made = over_either(alloc, "edges", EDGES_ABOUT, EDGES_LONG_ABOUT);
+    let made = over_named(alloc, "edges", EDGES_ABOUT, EDGES_LONG_ABOUT);
     let command = add(command, made)?;
-    let made = over_either(alloc, "dot", DOT_ABOUT, DOT_LONG_ABOUT);
+    let made = over_named(alloc, "dot", DOT_ABOUT, DOT_LONG_ABOUT);
     let command = add(command, made)?;
     let command = add(command, plain(alloc))?;
     add(command, lint(alloc))
@@ -112,7 +111,8 @@ fn over_files<'a>(
 {
     bare(alloc, name, about, long_about)
         .arg(machine(alloc))?
-        .arg(loops(alloc))
+        .arg(loops(alloc))?
+        .arg(names(alloc))
 }
 
 // A subcommand that has the paths of both files, or that of problems alone.
@@ -130,6 +130,19 @@ fn over_either<'a>(
         .arg(spare_loops(alloc, help::SPARE_LOOPS))
 }
 
+// Such a subcommand that has names of loops too.
+fn over_named<'a>(
+    alloc: Global,
+    name: &'a str,
+    about: &'a str,
+    long_about: &'a str,
+) -> Result<Command<'a>, OutOfMemory>
+    ensures app { IfOk result (λ c. app_of c ≡ either_with_names name.entry.now) }
+    ensures local { IfOk result (λ c. (out-Command c).has_globals ≡ false) }
+{
+    over_either(alloc, name, about, long_about)?.arg(names(alloc))
+}
+
 // The subcommand `lint`.
 fn lint<'a>(alloc: Global) -> Result<Command<'a>, OutOfMemory>
     ensures app { IfOk result (λ c. app_of c ≡ lint_line) }
@@ -138,7 +151,8 @@ fn lint<'a>(alloc: Global) -> Result<Command<'a>, OutOfMemory>
     bare(alloc, "lint", help::LINT_ABOUT, help::LINT_LONG_ABOUT)
         .arg(machine_or_loops(alloc))?
         .arg(spare_loops(alloc, help::LOOPS_OF_TWO))?
-        .arg(machine_only(alloc))
+        .arg(machine_only(alloc))?
+        .arg(format(alloc))
 }
 
 // The subcommand `explain`.
@@ -146,13 +160,22 @@ fn explain<'a>(alloc: Global) -> Result<Command<'a>, OutOfMemory>
     ensures app { IfOk result (λ c. app_of c ≡ explain_line) }
     ensures local { IfOk result (λ c. (out-Command c).has_globals ≡ false) }
 {
-    let command = over_either(
+    let command = over_named(
         alloc,
         "explain",
         help::EXPLAIN_ABOUT,
         help::EXPLAIN_LONG_ABOUT,
     )?;
     with_search(alloc, command)
+}
+
+// The subcommand `schedule`.
+fn schedule<'a>(alloc: Global) -> Result<Command<'a>, OutOfMemory>
+    ensures app { IfOk result (λ c. app_of c ≡ schedule_line) }
+    ensures local { IfOk result (λ c. (out-Command c).has_globals ≡ false) }
+{
+    use help::{SCHEDULE_ABOUT, SCHEDULE_LONG_ABOUT};
+    search(alloc, "schedule", SCHEDULE_ABOUT, SCHEDULE_LONG_ABOUT)?.arg(format(alloc))
 }
 
 // A subcommand that looks for kernels.
@@ -185,6 +208,7 @@ fn plain<'a>(alloc: Global) -> Result<Command<'a>, OutOfMemory>
 {
     bare(alloc, "plain", help::PLAIN_ABOUT, help::PLAIN_LONG_ABOUT)
         .arg(loops(alloc))?
+        .arg(names(alloc))?
         .arg(trip(alloc))?
         .arg(workers(alloc))
 }
@@ -234,6 +258,18 @@ fn loops<'a>(alloc: Global) -> Arg<'a>
     ensures local { result.global ≡ false }
 {
     path(alloc, "loops", "LOOPS", help::LOOPS)
+}
+
+// The names of loops, which may be left out.
+fn names<'a>(alloc: Global) -> Arg<'a>
+    ensures rule { rule_of result ≡ loop_rule }
+    ensures local { result.global ≡ false }
+{
+    Arg::new(alloc, "loop")
+        .long("loop")
+        .value_name("NAME")
+        .action(ArgAction::Append)
+        .help(help::LOOP)
 }
 
 // The path of the machine's file, or that of the problems' where no other is given.
@@ -352,7 +388,7 @@ fn cut<'a>(alloc: Global) -> Arg<'a>
     option(alloc, "cut", "N", "4", help::CUT).value_parser(range)
 }
 
-// In which format what problems come to is told.
+// In which format something is told.
 fn format<'a>(alloc: Global) -> Arg<'a>
     ensures rule { rule_of result ≡ format_rule }
     ensures local { result.global ≡ false }

@@ -1,10 +1,10 @@
 //! What the subcommand of a line was given, as a command.
 
-ghost use Rattle.std.specs.Prelude.{◌≡◌, ◌≢◌, ◌<◌, ◌^◌, ℕ, Bool, codes, option_map, None, IfOk, IfSome, IfNone};
-ghost use Rattle.clap.specs.Words.{Text, first_of, found_of, rows_of, subcommand_rows_of};
+ghost use Rattle.std.specs.Prelude.{◌≡◌, ◌≢◌, ◌<◌, ◌^◌, ℕ, Bool, List, map, codes, string_bytes, option_map, None, IfOk, IfSome, IfNone};
+ghost use Rattle.clap.specs.Words.{Text, all_of, first_of, found_of, rows_of, subcommand_rows_of};
 ghost use Rattle.command_line.specs.declared.command.Format.{Format};
 ghost use Rattle.command_line.specs.declared.command.LintTexts.{LintTexts};
-ghost use Rattle.command_line.specs.Lines.{Says, SaysFormat, SaysSwitch, AreTexts, SaysTrip, SaysWorkers, SaysNumber, SaySettings, switch_word, Means, MeansNamed, AreLoopsGiven, AreProblemsGiven, IsReportGiven, IsWorkGiven, IsTaskGiven, IsSearchGiven};
+ghost use Rattle.command_line.specs.Lines.{Says, SaysFormat, SaysSwitch, AreTexts, AreTextsGiven, SaysTrip, SaysWorkers, SaysNumber, SaySettings, switch_word, Means, MeansNamed, names_in, AreLoopsGiven, AreProblemsGiven, IsReportGiven, IsWorkGiven, IsTaskGiven, IsSearchGiven};
 ghost use Rattle.settings.specs.Settings.{SettingsData};
 
 use crate::command::{Command, Format, LintTexts, Report, Search, Task, Work};
@@ -64,6 +64,21 @@ fn problems_given(
     values: &ArgMatches<'_>,
 ) -> Result<Option<Command>, OutOfMemory>
     ensures meant { first_of (codes "loops") (rows_of (found_of values.now)) ≡ None → IfOk result (λ found. IfSome found (λ c. MeansNamed c name.now (rows_of (found_of values.now)))) }
+    ensures none { IfOk result (λ found. IfNone found ((path : Text) (told : Report) → ¬ AreProblemsGiven path told name.now (rows_of (found_of values.now)))) }
+{
+    match values.get_strs("loop") {
+        Some(_) => Ok(None),
+        None => unnamed_given(alloc, name, values),
+    }
+}
+
+// The same where no name of a loop is given.
+fn unnamed_given(
+    alloc: Global,
+    name: &str,
+    values: &ArgMatches<'_>,
+) -> Result<Option<Command>, OutOfMemory>
+    ensures meant { first_of (codes "loops") (rows_of (found_of values.now)) ≡ None → all_of (codes "loop") (rows_of (found_of values.now)) ≡ None → IfOk result (λ found. IfSome found (λ c. MeansNamed c name.now (rows_of (found_of values.now)))) }
     ensures none { IfOk result (λ found. IfNone found ((path : Text) (told : Report) → ¬ AreProblemsGiven path told name.now (rows_of (found_of values.now)))) }
 {
     match (values.get_str("machine"), report_given(name, values)) {
@@ -136,12 +151,23 @@ fn lint_given(alloc: Global, values: &ArgMatches<'_>) -> Result<Option<Command>,
     ensures meant { IfOk result (λ found. IfSome found (λ c. MeansNamed c (codes "lint") (rows_of (found_of values.now)))) }
     ensures none { IfOk result (λ found. IfNone found ((c : Command) → ¬ MeansNamed c (codes "lint") (rows_of (found_of values.now)))) }
 {
+    let Some(format) = format_given(values) else {
+        return Ok(None);
+    };
+    match texts_given(alloc, values)? {
+        Some(texts) => Ok(Some(Command::Lint { texts, format })),
+        None => Ok(None),
+    }
+}
+
+// The texts whose faults are to be told, where one path was given, or two without the option for one.
+fn texts_given(alloc: Global, values: &ArgMatches<'_>) -> Result<Option<LintTexts>, OutOfMemory>
+    ensures are { IfOk result (λ found. IfSome found (λ texts. AreTextsGiven texts (rows_of (found_of values.now)))) }
+    ensures none { IfOk result (λ found. IfNone found ((texts : LintTexts) → ¬ AreTextsGiven texts (rows_of (found_of values.now)))) }
+{
     match (values.get_str("machine"), machine_only_given(values)) {
         (Some(first), Some(machine_only)) => {
-            match texts_of(alloc, first, values.get_str("loops"), machine_only)? {
-                Some(texts) => Ok(Some(Command::Lint(texts))),
-                None => Ok(None),
-            }
+            texts_of(alloc, first, values.get_str("loops"), machine_only)
         }
         _ => Ok(None),
     }
@@ -196,7 +222,7 @@ fn loops_given(
     values: &ArgMatches<'_>,
 ) -> Result<Option<Command>, OutOfMemory>
     ensures meant { IfOk result (λ found. IfSome found (λ c. MeansNamed c name.now (rows_of (found_of values.now)))) }
-    ensures none { IfOk result (λ found. IfNone found ((path : Text) (work : Work) → ¬ AreLoopsGiven path work name.now (rows_of (found_of values.now)))) }
+    ensures none { IfOk result (λ found. IfNone found ((path : Text) (names : List Text) (work : Work) → ¬ AreLoopsGiven path names work name.now (rows_of (found_of values.now)))) }
 {
     let Some(work) = work_given(alloc, name, values)? else {
         return Ok(None);
@@ -204,10 +230,32 @@ fn loops_given(
     match values.get_str("loops") {
         Some(loops) => Ok(Some(Command::Loops {
             loops: String::from_str(alloc, loops)?,
+            names: names_given(alloc, values)?,
             work,
         })),
         None => Ok(None),
     }
+}
+
+// The names of loops that are given; none where the option for them is left out.
+fn names_given(alloc: Global, values: &ArgMatches<'_>) -> Result<Vec<String>, OutOfMemory>
+    ensures { IfOk result (λ names. map string_bytes names.items ≡ names_in (rows_of (found_of values.now))) }
+{
+    match values.get_strs("loop") {
+        Some(words) => owned(alloc, words),
+        None => Ok(Vec::new(alloc)),
+    }
+}
+
+// Words as texts of their own.
+fn owned(alloc: Global, words: &[&str]) -> Result<Vec<String>, OutOfMemory>
+    ensures { IfOk result (λ texts. map string_bytes texts.items ≡ map (λ w. w.now) words.now) }
+{
+    let mut texts: Vec<String> = Vec::new(alloc);
+    for word in words {
+        texts.push(String::from_str(alloc, word)?)?;
+    }
+    Ok(texts)
 }
 
 // What is done with the loops by the subcommand of this name.
@@ -264,7 +312,11 @@ fn search_given(name: &str, values: &ArgMatches<'_>) -> Option<Search>
     ensures none { IfNone result ((s : Search) → ¬ IsSearchGiven s name.now (rows_of (found_of values.now))) }
 {
     match name {
-        "schedule" => Some(Search::Schedule),
+        "schedule" => match format_given(values) {
+            Some(Format::Text) => Some(Search::Schedule),
+            Some(Format::Json) => Some(Search::Json),
+            None => None,
+        },
         "json" => Some(Search::Json),
         "explain" => Some(Search::Explain),
         "vary" => Some(Search::Vary),

@@ -5,8 +5,8 @@ use Rattle.command_line.proofs.line.form.with_kernels.Goals as goal
 
 pub returns : goal.returns
 returns c =
-    let one = adds_subcommand _ _ _ _ _ c.in_ok-command.ensures c.search-made.ensures.local refl c.search-made.ensures.app in
+    let one = adds_subcommand _ _ _ _ _ c.in_ok-command.ensures c.schedule.ensures.local refl c.schedule.ensures.app in
     let two = adds_subcommand _ _ _ _ _ c.in_ok-command-2.ensures c.run.ensures.local one c.run.ensures.app in
-    let three = adds_subcommand _ _ _ _ _ c.in_ok-command-3.ensures c.search-made-2.ensures.local two c.search-made-2.ensures.app in
+    let three = adds_subcommand _ _ _ _ _ c.in_ok-command-3.ensures c.search-made.ensures.local two c.search-made.ensures.app in
     let four = adds_subcommand _ _ _ _ _ c.in_ok-command-4.ensures c.explain.ensures.local three c.explain.ensures.app in
     IfOk-weaker c.add-5.result _ _ (λ r h. adds_subcommand _ _ _ _ _ h c.search.ensures.local four c.search.ensures.app) c.add-5.ensures

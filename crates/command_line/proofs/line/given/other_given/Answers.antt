@@ -1,14 +1,9 @@
-use Rattle.std.proofs.Common.{◌≡◌, ◌∙◌, sym, codes, Option, Some, None, IfNone}
+use Rattle.std.proofs.Common.{◌≡◌, ◌∙◌, sym, codes, Some, None}
 use Rattle.std.proofs.lemmas.Result.{IfOk-weaker}
 use Rattle.clap.specs.Words.{found_of, first_of, rows_of}
 use Rattle.clap.proofs.WalkLemmas.{first_value-rows}
-use Rattle.command_line.proofs.LineLemmas.{loops-none, no-loops, no-problems}
+use Rattle.command_line.proofs.LineLemmas.{loops-none, no-loops, no-problems, none-weaker}
 use Rattle.command_line.proofs.line.given.other_given.Goals as goal
-
--- where there is no value, another fact that follows
-none-weaker : {T : Type 0} (o : Option T) (A B : Type 0) → (A → B) → IfNone o A → IfNone o B
-none-weaker None A B f h = f h
-none-weaker (Some x) A B f h = tt
 
 pub returns-in-Some-clause-none : goal.returns-in-Some-clause-none
 returns-in-Some-clause-none c solve check lint =

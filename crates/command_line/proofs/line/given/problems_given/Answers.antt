@@ -1,23 +1,13 @@
-use Rattle.std.proofs.Common.{◌≡◌, ◌∙◌, ap, sym, inl, inr, codes, List, ℕ, Some}
-use Rattle.clap.specs.Words.{found_of, first_of, rows_of}
-use Rattle.clap.proofs.WalkLemmas.{first_value-rows}
-use Rattle.command_line.proofs.LineLemmas.{problems-none}
+use Rattle.std.proofs.Common.{◌∙◌, codes, sym}
+use Rattle.clap.specs.Words.{found_of, rows_of}
+use Rattle.clap.proofs.WalkLemmas.{raw_values-rows}
+use Rattle.command_line.proofs.LineLemmas.{problems-unnamed}
 use Rattle.command_line.proofs.line.given.problems_given.Goals as goal
-use Rattle.command_line.proofs.line.given.problems_given.Goals.{in_default-via-in-Some+in_default, in_default-via-in_default}
 
-pub returns-in_ok-from_str-in-Some-Some-clause-meant : goal.returns-in_ok-from_str-in-Some-Some-clause-meant
-returns-in_ok-from_str-in-Some-Some-clause-meant c alone =
-    let problems : Some c.in-Some-Some.problems.now ≡ first_of (codes "machine") (rows_of (found_of c.args.values.now)) =
-    c.in-Some-Some.ensures ∙ first_value-rows (found_of c.args.values.now) (codes "machine") in (
-      sym problems ∙ ap (λ (text : List ℕ). Some text) (sym c.in_ok-from_str-in-Some-Some.ensures.ok),
-      alone,
-      c.in-Some-Some.ensures'.meant,
-    )
+pub returns-in-Some-clause-none : goal.returns-in-Some-clause-none
+returns-in-Some-clause-none c =
+    problems-unnamed (rows_of (found_of c.args.values.now)) c.args.name.now _ (sym (c.in-Some.ensures ∙ raw_values-rows (found_of c.args.values.now) (codes "loop")))
 
-pub returns-in_default-clause-none : goal.returns-in_default-clause-none
-returns-in_default-clause-none c =
-    problems-none (rows_of (found_of c.args.values.now)) c.args.name.now
-    (elim c.in_default.branch [
-      | in_default-via-in-Some+in_default w ↦ inr w.in_default.ensures'.none
-      | in_default-via-in_default w ↦ inl (sym (w.in_default.ensures ∙ first_value-rows (found_of c.args.values.now) (codes "machine")))
-    ])
+pub returns-in-None-clause-meant : goal.returns-in-None-clause-meant
+returns-in-None-clause-meant c alone =
+    c.unnamed_given.ensures.meant alone (sym (c.in-None.ensures ∙ raw_values-rows (found_of c.args.values.now) (codes "loop")))
