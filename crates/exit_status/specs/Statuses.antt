@@ -1,5 +1,5 @@
 -- The numbers by which a run of the program exits, and the lines that tell of a fault.
-use Rattle.std.specs.Prelude.{ℕ, Bool, true, false, codes, List, [], ◌++◌}
+use Rattle.std.specs.Prelude.{ℕ, Bool, true, false, codes, string_bytes, List, [], ◌++◌}
 use Rattle.loops.specs.Faults.{loop_fault_text}
 use Rattle.loops.specs.LoopFault.{LoopFault}
 use Rattle.loops.specs.LoopFaultKind.{LoopFaultKind}
@@ -22,7 +22,7 @@ use Rattle.problem_printouts.specs.declared.fault.ProblemsFault.{ProblemsFault}
 use Rattle.problem_printouts.specs.declared.fault.ProblemsFault.TheVariants as problems
 use Rattle.exit_status.specs.declared.status.Status.{Status}
 use Rattle.exit_status.specs.declared.status.Status.TheVariants.{Done, Unmet, MachineFaulty, LoopsFaulty, MachineUnread, LoopsUnread, ProblemsUnread, SolutionsUnread}
-use Rattle.exit_status.specs.declared.status.Status.TheVariants.{Machine, Loops, NoTable, Problems, Solutions, Unwritten}
+use Rattle.exit_status.specs.declared.status.Status.TheVariants.{Machine, Loops, NoTable, NoLoop, Problems, Solutions, Unwritten}
 use Rattle.exit_status.specs.declared.status.Status.TheVariants.{OutOfMemory}
 
 -- a refused machine text: 7 where memory ran out
@@ -59,6 +59,7 @@ status_number SolutionsUnread = 3
 status_number (Machine f) = machine_number f
 status_number (Loops f) = loops_number f.kind
 status_number (NoTable name opcode) = 5
+status_number (NoLoop name) = 5
 status_number (Problems f) = problems_number f.what
 status_number (Solutions f) = solutions_number f.what
 status_number Unwritten = 6
@@ -173,6 +174,7 @@ line_of SolutionsUnread = codes "solutions: cannot read"
 line_of (Machine f) = machine_line f
 line_of (Loops f) = loops_line f.kind f
 line_of (NoTable name opcode) = codes "loops: loop " ++ (name ++ (codes ": no table for " ++ word_of opcode))
+line_of (NoLoop name) = codes "loops: no loop " ++ string_bytes name
 line_of (Problems f) = problems_line f.what f
 line_of (Solutions f) = solutions_line f.what f
 line_of Unwritten = codes "cannot write"

@@ -39,6 +39,8 @@ pub enum Status {
     Loops(LoopFault),
     /// The machine has no reservation table for an opcode of the loop with this name.
     NoTable { name: Name, opcode: Opcode },
+    /// No loop of the text has this name, which was given on the command line.
+    NoLoop(String),
     /// The text of scheduling problems is refused.
     Problems(TextFault),
     /// The text of solutions is refused.
@@ -67,7 +69,7 @@ impl Status {
                 LoopFaultKind::Memory => 7,
                 _ => 5,
             },
-            Status::NoTable { .. } => 5,
+            Status::NoTable { .. } | Status::NoLoop(_) => 5,
             Status::Problems(fault) => problems_number(fault.what),
             Status::Solutions(fault) => solutions_number(fault.what),
             Status::Unwritten => 6,
@@ -223,6 +225,7 @@ impl fmt::Display for Line<'_> {
                 let word = opcode.word();
                 write!(f, "loops: loop {name}: no table for {word}")
             }
+            Status::NoLoop(name) => write!(f, "loops: no loop {name}"),
             Status::Problems(fault) => match fault.what {
                 ProblemsWrong::Memory => f.write_str("out of memory"),
                 _ => write!(f, "problems: {fault}"),

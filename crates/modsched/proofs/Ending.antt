@@ -1,5 +1,5 @@
 -- How runs of subcommands end.
-use Rattle.std.proofs.Common.{◌≡◌, ℕ, ◌<◌, List, refl, sym, ap, subst, ◌∙◌, arith, length, take, inl, inr}
+use Rattle.std.proofs.Common.{◌≡◌, ℕ, ◌<◌, List, String, string_bytes, Option, Some, None, refl, sym, ap, subst, ◌∙◌, arith, length, take, inl, inr}
 use Rattle.std.specs.Prelude.{Result, Ok, Err}
 use Rattle.std.proofs.lemmas.List.{take_all, length-take-le}
 use Rattle.std.proofs.lemmas.Bool.{cases_lt, lt-ltb}
@@ -35,14 +35,17 @@ use Rattle.problem_printouts.specs.declared.fault.ProblemsFault.TheVariants as p
 use Rattle.settings.specs.Settings.{SettingsData}
 use Rattle.printouts.specs.Outcomes.{Outcome}
 use Rattle.modsched.specs.Devices.{most_read}
-use Rattle.modsched.specs.Engine.{AnswersReport, Brings, Ending, WorkBrings, most_problems_read, most_read_by}
+use Rattle.modsched.specs.Engine.{AnswersReport, Brings, ChosenBring, Ending, LacksLoop, LoopsBring, most_problems_read, most_read_by}
+use Rattle.modsched.specs.Naming.{chosen_of, unknown_in}
+use Rattle.loops.specs.Loops.{LoopData}
+use Rattle.loops.specs.Meaning.{loops_in}
 use Rattle.modsched.specs.inner.Refusals.{IsRefusal}
 use Rattle.modsched.proofs.Lengths.{loops_in-take, machine_of-take}
 use Rattle.modsched.proofs.Linting.{lint-take}
 use Rattle.exit_status.specs.Statuses.{status_number, loops_status, problems_status, solutions_status, refusal_of_file, refusal_of_machine, refusal_of_problems}
 use Rattle.exit_status.specs.declared.status.Status.{Status}
 use Rattle.exit_status.specs.declared.status.Status.TheVariants.{Done, Unmet, MachineFaulty, LoopsFaulty, MachineUnread, LoopsUnread, ProblemsUnread, SolutionsUnread}
-use Rattle.exit_status.specs.declared.status.Status.TheVariants.{Machine, Loops, NoTable, Problems, Solutions, Unwritten, OutOfMemory}
+use Rattle.exit_status.specs.declared.status.Status.TheVariants.{Machine, Loops, NoTable, NoLoop, Problems, Solutions, Unwritten, OutOfMemory}
 
 -- the status of each refusal is one
 machine_refusal : (f : MachineFault) → IsRefusal (refusal_of_machine f)
@@ -106,6 +109,7 @@ pub refusal_memory : (status : Status) → IsRefusal status → status_number st
 refusal_memory (Machine f) is seven = absurd (omega (arith, is, seven))
 refusal_memory (Loops f) is seven = absurd (omega (arith, is, seven))
 refusal_memory (NoTable name opcode) is seven = absurd (omega (arith, seven))
+refusal_memory (NoLoop name) is seven = absurd (omega (arith, seven))
 refusal_memory (Problems f) is seven = absurd (omega (arith, is, seven))
 refusal_memory (Solutions f) is seven = absurd (omega (arith, is, seven))
 refusal_memory OutOfMemory is seven = refl
@@ -151,9 +155,19 @@ solutions_in_text-take bytes = elim (cases_lt most_problems_read (length bytes))
   | inr h ↦ ap solutions_in_text (take_all most_problems_read bytes h)
 ]
 
-work_brings-take : (work : Work) (machine loops : List ℕ) (outcome : Outcome) → WorkBrings work (take most_read machine) (take most_read loops) outcome → WorkBrings work machine loops outcome
-work_brings-take (Plain trip workers) machine loops outcome h = rw (loops_in-take loops) at h
-work_brings-take (OnMachine path task) machine loops outcome h = rw (machine_of-take machine, loops_in-take loops) at h
+chosen_bring-take : (work : Work) (machine : List ℕ) (loops : Result (List LoopData) LoopFault) (ending : Ending) → ChosenBring work (take most_read machine) loops ending → ChosenBring work machine loops ending
+chosen_bring-take (Plain trip workers) machine loops ending h = h
+chosen_bring-take (OnMachine path task) machine loops ending h = rw (machine_of-take machine) at h
+
+lacks-take : (work : Work) (machine name : List ℕ) (ending : Ending) → LacksLoop work (take most_read machine) name ending → LacksLoop work machine name ending
+lacks-take work machine name (Ok answer) h = h
+lacks-take (Plain trip workers) machine name (Err status) h = h
+lacks-take (OnMachine path task) machine name (Err status) h = rw (machine_of-take machine) at h
+
+loops_bring-take : {Z : Type 0} (work : Work) (names : List (String Z)) (machine : List ℕ) (loops : Result (List LoopData) LoopFault) (unknown : Option (String Z)) (ending : Ending)
+    → LoopsBring work names (take most_read machine) loops unknown ending → LoopsBring work names machine loops unknown ending
+loops_bring-take work names machine loops None ending h = chosen_bring-take work machine (chosen_of names loops) ending h
+loops_bring-take work names machine loops (Some name) ending h = lacks-take work machine (string_bytes name) ending h
 
 solve-take : (settings : SettingsData) (format : Format) (text : List ℕ) (outcome : Result Answers ProblemsFault)
     → AnswersSolve settings format (take most_problems_read text) outcome → AnswersSolve settings format text outcome
@@ -197,11 +211,13 @@ check-take first last (Err (problems.Solutions fault)) h = record {
 check-take first last (Err problems.Memory) h = h
 
 brings-take : (c : Command) (first last : List ℕ) (ending : Ending) → Brings c (take (most_read_by c) first) (take (most_read_by c) last) ending → Brings c first last ending
-brings-take (command.Loops path work) first last ending h = (h.0, work_brings-take work first last h.0 h.1, h.2)
+brings-take (command.Loops path names work) first last ending h =
+    let whole : LoopsBring work names.items (take most_read first) (loops_in last) (unknown_in names.items (loops_in last)) ending = rw (loops_in-take last) at h in
+    loops_bring-take work names.items first (loops_in last) (unknown_in names.items (loops_in last)) ending whole
 brings-take (command.Solve path settings format) first last ending h = (h.0, solve-take settings format last h.0 h.1, h.2)
 brings-take (command.Problems path told) first last ending h = (h.0, report-take told last h.0 h.1, h.2)
 brings-take (command.Check path other) first last ending h = (h.0, check-take first last h.0 h.1, h.2)
-brings-take (command.Lint texts) first last ending h = lint-take texts first last ending h
+brings-take (command.Lint texts format) first last ending h = lint-take texts first last ending h
 
 -- what was read of texts brings about what the whole texts do
 pub brings-read : (c : Command) (first last first_read last_read : List ℕ) (ending : Ending)

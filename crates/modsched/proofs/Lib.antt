@@ -1,3 +1,4 @@
+pub mod Chosen
 pub mod Ending
 mod Lengths
 mod Linting

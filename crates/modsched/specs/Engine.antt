@@ -1,5 +1,5 @@
 -- What a command does with its texts, and how a run of it ends.
-use Rattle.std.specs.Prelude.{◌≡◌, ◌==◌, ℕ, Bool, if◌then◌else◌, string_bytes, List, [], Option, Some, None, is_some, option_map, Result, Ok, Err}
+use Rattle.std.specs.Prelude.{◌≡◌, ◌==◌, ℕ, Bool, if◌then◌else◌, string_bytes, String, List, [], Option, Some, None, is_some, option_map, Result, Ok, Err, ⊤}
 use Rattle.command_line.specs.declared.command.Command.{Command}
 use Rattle.command_line.specs.declared.command.Command.TheVariants as command
 use Rattle.command_line.specs.declared.command.LintTexts.{LintTexts}
@@ -16,8 +16,10 @@ use Rattle.command_line.specs.Lines.{first_path}
 use Rattle.devices.specs.Devices.{most_read}
 use Rattle.file_faults.specs.Answers.{AnswersAlone, AnswersFile}
 use Rattle.machine.specs.MachineText.{machine_of}
+use Rattle.machine.specs.declared.fault.MachineFault.{MachineFault}
 use Rattle.machine.specs.Machines.{MachineData}
 use Rattle.loops.specs.Loops.{LoopData}
+use Rattle.loops.specs.LoopFault.{LoopFault}
 use Rattle.loops.specs.Meaning.{loops_in}
 use Rattle.printouts.specs.Bounds.{IsBoundsText}
 use Rattle.printouts.specs.Explain.{IsExplainText}
@@ -30,18 +32,19 @@ use Rattle.variants.specs.Texts.{IsVaryText}
 use Rattle.lint_text.specs.Printout.{IsLintText}
 use Rattle.lint_text.specs.declared.printout.LintText.{LintText}
 use Rattle.lint_text.specs.declared.printout.Named.{Named}
+use Rattle.modsched.specs.Naming.{chosen_of, unknown_in}
 use Rattle.problem_printouts.specs.Solving.{AnswersSolve}
 use Rattle.problem_printouts.specs.Judging.{AnswersCheck}
 use Rattle.problem_printouts.specs.Graphing.{AnswersDot, AnswersEdges}
 use Rattle.problem_printouts.specs.Explaining.{AnswersExplain}
 use Rattle.problem_printouts.specs.declared.answers.Answers.{Answers}
 use Rattle.problem_printouts.specs.declared.fault.ProblemsFault.{ProblemsFault}
-use Rattle.exit_status.specs.Statuses.{refusal_of_file, refusal_of_problems}
+use Rattle.exit_status.specs.Statuses.{refusal_of_file, refusal_of_machine, refusal_of_problems}
 use Rattle.exit_status.specs.Writing.{EndsWritten, verdict_of_met}
 use Rattle.exit_status.specs.declared.verdict.Verdict.{Verdict}
 use Rattle.exit_status.specs.declared.verdict.Verdict.TheVariants.{Fine, MachineFaulty, LoopsFaulty}
 use Rattle.exit_status.specs.declared.status.Status.{Status}
-use Rattle.exit_status.specs.declared.status.Status.TheVariants.{MachineUnread, LoopsUnread, ProblemsUnread, SolutionsUnread, OutOfMemory}
+use Rattle.exit_status.specs.declared.status.Status.TheVariants.{MachineUnread, LoopsUnread, ProblemsUnread, SolutionsUnread, NoLoop, OutOfMemory}
 
 -- the status where the text that `lint` reads first can't be read, and the one that it reads last
 abbrev pub first_lint_unread : LintTexts → Status
@@ -56,19 +59,19 @@ last_lint_unread (lint.Both machine loops) = LoopsUnread
 
 -- the status where the text that a command reads first can't be read. A command that reads one text never ends so
 abbrev pub first_unread : Command → Status
-first_unread (command.Loops path work) = MachineUnread
+first_unread (command.Loops path names work) = MachineUnread
 first_unread (command.Solve path settings format) = MachineUnread
 first_unread (command.Problems path told) = MachineUnread
 first_unread (command.Check path other) = ProblemsUnread
-first_unread (command.Lint texts) = first_lint_unread texts
+first_unread (command.Lint texts format) = first_lint_unread texts
 
 -- .. the text that it reads last
 abbrev pub last_unread : Command → Status
-last_unread (command.Loops path work) = LoopsUnread
+last_unread (command.Loops path names work) = LoopsUnread
 last_unread (command.Solve path settings format) = ProblemsUnread
 last_unread (command.Problems path told) = ProblemsUnread
 last_unread (command.Check path other) = SolutionsUnread
-last_unread (command.Lint texts) = last_lint_unread texts
+last_unread (command.Lint texts format) = last_lint_unread texts
 
 -- as much of a text of problems or of solutions as is read, in bytes: one more than such a text may have
 unfoldable pub most_problems_read : ℕ
@@ -76,11 +79,11 @@ most_problems_read = 16777217
 
 -- as much of each of its texts as a command reads, in bytes
 abbrev pub most_read_by : Command → ℕ
-most_read_by (command.Loops path work) = most_read
+most_read_by (command.Loops path names work) = most_read
 most_read_by (command.Solve path settings format) = most_problems_read
 most_read_by (command.Problems path told) = most_problems_read
 most_read_by (command.Check path other) = most_problems_read
-most_read_by (command.Lint texts) = most_read
+most_read_by (command.Lint texts format) = most_read
 
 -- a command reads a first text where it has a path for it: a machine's, or that of problems before that of solutions; each reads a last text
 abbrev pub reads_first : Command → Bool
@@ -105,10 +108,10 @@ IsTaskText task.Edges machine loops written = IsEdgesText machine loops written
 IsTaskText task.Dot machine loops written = IsDotText machine loops written
 IsTaskText (task.Search settings search) machine loops written = IsSearchText settings.ratio settings.ceiling search machine loops written
 
--- an outcome of a command for the bytes of its texts: `plain` speaks of what the loops' text means, the others of what both mean
-abbrev pub WorkBrings : Work → List ℕ → List ℕ → Outcome → Type 0
-WorkBrings (Plain trip workers) machine loops outcome = AnswersAlone (IsPlainText trip) (loops_in loops) outcome
-WorkBrings (OnMachine path task) machine loops outcome = AnswersFile (IsTaskText task) (machine_of machine) (loops_in loops) outcome
+-- an outcome of a command for what the text of its loops means: `plain` speaks of that alone, the others of what the machine's means too
+abbrev pub WorkBrings : Work → List ℕ → Result (List LoopData) LoopFault → Outcome → Type 0
+WorkBrings (Plain trip workers) machine loops outcome = AnswersAlone (IsPlainText trip) loops outcome
+WorkBrings (OnMachine path task) machine loops outcome = AnswersFile (IsTaskText task) (machine_of machine) loops outcome
 
 -- a text that is written, with what it tells
 pub record AnswerData : Type 0 where
@@ -126,6 +129,35 @@ answer_of written = record { text = written.text; verdict = verdict_of_met writt
 abbrev pub loops_ending : Outcome → Ending
 loops_ending (Ok written) = Ok (answer_of written)
 loops_ending (Err fault) = Err (refusal_of_file fault)
+
+-- what a command comes to for the loops that have the names that were given
+abbrev pub ChosenBring : Work → List ℕ → Result (List LoopData) LoopFault → Ending → Type 0
+ChosenBring work machine loops ending = (outcome : Outcome) × WorkBrings work machine loops outcome × (ending ≡ loops_ending outcome)
+
+-- the status where no loop has a name; memory may run out
+abbrev pub IsNoLoop : List ℕ → Status → Type 0
+IsNoLoop name OutOfMemory = ⊤
+IsNoLoop name (NoLoop other) = string_bytes other ≡ name
+IsNoLoop name status = ⊥
+
+-- .. after a fault of the machine's text, where one is read
+abbrev pub LacksOn : Result MachineData MachineFault → List ℕ → Status → Type 0
+LacksOn (Err fault) name OutOfMemory = ⊤
+LacksOn (Err fault) name status = status ≡ refusal_of_machine fault
+LacksOn (Ok machine) name status = IsNoLoop name status
+
+abbrev pub LacksFor : Work → List ℕ → List ℕ → Status → Type 0
+LacksFor (Plain trip workers) machine name status = IsNoLoop name status
+LacksFor (OnMachine path task) machine name status = LacksOn (machine_of machine) name status
+
+abbrev pub LacksLoop : Work → List ℕ → List ℕ → Ending → Type 0
+LacksLoop work machine name (Ok answer) = ⊥
+LacksLoop work machine name (Err status) = LacksFor work machine name status
+
+-- what it comes to for the loops of a text, where the first of the names that no loop has is this
+abbrev pub LoopsBring : {Z : Type 0} → Work → List (String Z) → List ℕ → Result (List LoopData) LoopFault → Option (String Z) → Ending → Type 0
+LoopsBring work names machine loops None ending = ChosenBring work machine (chosen_of names loops) ending
+LoopsBring work names machine loops (Some name) ending = LacksLoop work machine (string_bytes name) ending
 
 -- the text of answers to problems: all are met where none has failed
 abbrev pub written_of : Answers → Written
@@ -185,11 +217,12 @@ LintBrings texts first last (Err status) = status ≡ OutOfMemory
 
 -- what a command comes to for the bytes of its texts
 abbrev pub Brings : Command → List ℕ → List ℕ → Ending → Type 0
-Brings (command.Loops path work) first last ending = (outcome : Outcome) × WorkBrings work first last outcome × (ending ≡ loops_ending outcome)
+Brings (command.Loops path names work) first last ending =
+    LoopsBring work names.items first (loops_in last) (unknown_in names.items (loops_in last)) ending
 Brings (command.Solve path settings format) first last ending = ProblemsBring (AnswersSolve settings format last) ending
 Brings (command.Problems path told) first last ending = ProblemsBring (AnswersReport told last) ending
 Brings (command.Check path other) first last ending = ProblemsBring (AnswersCheck first last) ending
-Brings (command.Lint texts) first last ending = LintBrings texts first last ending
+Brings (command.Lint texts format) first last ending = LintBrings texts first last ending
 
 -- a command comes to an ending like that, for the bytes that its inputs had left
 abbrev pub Does : Command → Option (List ℕ) → Option (List ℕ) → (Ending → Type 0) → Type 0

@@ -13,4 +13,5 @@ pub use Rattle.printouts.specs.Schedule
 pub use Rattle.lint_text.specs.Printout
 pub use Rattle.variants.specs.Texts as VaryTexts
 pub mod Engine
+pub mod Naming
 pub mod inner

@@ -1,15 +1,22 @@
 //! What the commands write.
 
-ghost use Rattle.std.specs.Prelude.{◌≡◌, ◌≤◌, vec_len, IfErr};
+ghost use Rattle.std.specs.Prelude.{◌≡◌, ◌≤◌, ◌⊎◌, vec_len, Ok, Err, IfErr, IfOk};
 ghost use Rattle.graph.specs.Units.{first_lacking};
 ghost use Rattle.file_faults.specs.Answers.{AnswersOn};
-ghost use Rattle.modsched.specs.Engine.{Brings, IsSearchText, IsTaskText, WorkBrings, loops_ending};
+ghost use Rattle.modsched.specs.Engine.{Brings, IsSearchText, IsTaskText, LoopsBring, loops_ending};
+ghost use Rattle.modsched.specs.Naming.{unknown_in};
+ghost use Rattle.loops.specs.Meaning.{loops_in};
+ghost use Rattle.machine.specs.MachineText.{machine_of};
+ghost use Rattle.machine.specs.declared.fault.MachineFault.{MachineFault};
+ghost use Rattle.exit_status.specs.Statuses.{refusal_of_machine};
+ghost use Rattle.exit_status.specs.declared.status.Status.TheVariants.{OutOfMemory};
 ghost use Rattle.modsched.specs.inner.Answers.{ending_of};
 ghost use Rattle.modsched.specs.inner.Refusals.{IsRefusal};
 
 mod answer;
 mod answering;
 mod linting;
+mod naming;
 mod searches;
 
 pub(crate) use answer::Answer;
@@ -18,7 +25,8 @@ use command_line::{Command, Search, Task, Work};
 use exit_status::Status;
 use file_faults::FileFault;
 use linting::lint_text;
-use loops::{Loop, read_loops};
+use naming::loops_named;
+use loops::Loop;
 use machine::{Machine, read_machine};
 use printouts::{Printout, bounds_text, dot_text, edges_text};
 use searches::{json_text, run_text, schedule_text};
@@ -41,7 +49,9 @@ pub(crate) fn answer_of<R: Threads + Sync>(
     ensures kind { IfErr result IsRefusal }
 {
     match command {
-        Command::Loops { work, .. } => loops_ending(work_text(rt, alloc, work, first, last)),
+        Command::Loops { names, work, .. } => {
+            work_text(rt, alloc, work, names.as_slice(), first, last)
+        }
         Command::Solve {
             settings,
             format,
@@ -49,7 +59,7 @@ pub(crate) fn answer_of<R: Threads + Sync>(
         } => solve_text(rt, alloc, settings, *format, last),
         Command::Problems { told, .. } => report_text(alloc, told, last),
         Command::Check { .. } => check_text(alloc, first, last),
-        Command::Lint(texts) => lint_text(alloc, texts, first, last),
+        Command::Lint { texts, .. } => lint_text(alloc, texts, first, last),
     }
 }
 
@@ -64,26 +74,40 @@ fn loops_ending(outcome: Result<Printout, FileFault>) -> Result<Answer, Status>
     }
 }
 
-/// What is written of the loops of a text, and for all but a plain run of the machine of a text.
+/// What is written of the loops of a text that have one of the names, and for all but a plain run of the machine of a text.
 fn work_text<R: Threads + Sync>(
     rt: &R,
     alloc: Global,
     work: &Work,
+    names: &[String],
     machine: &[u8],
     loops: &[u8],
-) -> Result<Printout, FileFault>
-    ensures { WorkBrings work.now machine.now loops.now result }
+) -> Result<Answer, Status>
+    ensures brings { LoopsBring work.now names.now machine.now (loops_in loops.now) (unknown_in names.now (loops_in loops.now)) (ending_of result) }
+    ensures kind { IfErr result IsRefusal }
 {
     match work {
         Work::Plain { trip, workers } => {
-            let loops = read_loops(alloc, loops)?;
-            plain_text_on(rt, alloc, loops.as_slice(), *trip, *workers)
+            let loops = loops_named(alloc, names, loops)?;
+            loops_ending(plain_text_on(rt, alloc, loops.as_slice(), *trip, *workers))
         }
         Work::OnMachine { task, .. } => {
-            let machine = read_machine(alloc, machine)?;
-            let loops = read_loops(alloc, loops)?;
-            task_text(rt, alloc, task, &machine, loops)
+            let machine = machine_of(alloc, machine)?;
+            let loops = loops_named(alloc, names, loops)?;
+            loops_ending(task_text(rt, alloc, task, &machine, loops))
         }
+    }
+}
+
+/// The machine of a text.
+fn machine_of(alloc: Global, text: &[u8]) -> Result<Machine, Status>
+    ensures machine { IfOk result (λ machine. machine_of text.now ≡ Ok machine) }
+    ensures status { IfErr result (λ status. (status ≡ OutOfMemory) ⊎ ((fault : MachineFault) × (machine_of text.now ≡ Err fault) × (status ≡ refusal_of_machine fault))) }
+    ensures kind { IfErr result IsRefusal }
+{
+    match read_machine(alloc, text) {
+        Ok(machine) => Ok(machine),
+        Err(fault) => Err(Status::from(fault)),
     }
 }
 

@@ -86,8 +86,11 @@ fn first_unread(command: &Command) -> Status
             Status::MachineUnread
         }
         Command::Check { .. } => Status::ProblemsUnread,
-        Command::Lint(LintTexts::Machine { .. }) => Status::LoopsUnread,
-        Command::Lint(_) => Status::MachineUnread,
+        Command::Lint {
+            texts: LintTexts::Machine { .. },
+            ..
+        } => Status::LoopsUnread,
+        Command::Lint { .. } => Status::MachineUnread,
     }
 }
 
@@ -99,7 +102,10 @@ fn last_unread(command: &Command) -> Status
         Command::Loops { .. } => Status::LoopsUnread,
         Command::Solve { .. } | Command::Problems { .. } => Status::ProblemsUnread,
         Command::Check { .. } => Status::SolutionsUnread,
-        Command::Lint(LintTexts::Machine { .. }) => Status::MachineUnread,
-        Command::Lint(_) => Status::LoopsUnread,
+        Command::Lint {
+            texts: LintTexts::Machine { .. },
+            ..
+        } => Status::MachineUnread,
+        Command::Lint { .. } => Status::LoopsUnread,
     }
 }

@@ -1,15 +1,26 @@
 -- What is so of the status of each refusal.
-use Rattle.std.specs.Prelude.{◌≡◌}
-use Rattle.exit_status.specs.Statuses.{status_number}
+use Rattle.std.specs.Prelude.{◌≡◌, string_bytes, String, List, Some, option_map, Result, Ok, Err, ⊤}
+use Rattle.exit_status.specs.Statuses.{refusal_of_loops, status_number}
+use Rattle.loops.specs.LoopFault.{LoopFault}
+use Rattle.loops.specs.Loops.{LoopData}
+use Rattle.modsched.specs.Naming.{first_unknown}
 use Rattle.exit_status.specs.declared.status.Status.{Status}
-use Rattle.exit_status.specs.declared.status.Status.TheVariants.{Machine, Loops, NoTable, Problems, Solutions, OutOfMemory}
+use Rattle.exit_status.specs.declared.status.Status.TheVariants.{Machine, Loops, NoTable, NoLoop, Problems, Solutions, OutOfMemory}
 
 -- it tells of a text or of memory, and one status alone tells that memory ran out
 abbrev pub IsRefusal : Status → Type 0
 IsRefusal (Machine fault) = status_number (Machine fault) ≡ 4
 IsRefusal (Loops fault) = status_number (Loops fault) ≡ 5
 IsRefusal (NoTable name opcode) = Unit {0}
+IsRefusal (NoLoop name) = Unit {0}
 IsRefusal (Problems fault) = status_number (Problems fault) ≡ 4
 IsRefusal (Solutions fault) = status_number (Solutions fault) ≡ 5
 IsRefusal OutOfMemory = Unit {0}
 IsRefusal status = ⊥
+
+-- the status of loops that can't be told by names: of the text's fault, or of the first name that no loop has
+abbrev pub IsUnnamed : {Z : Type 0} → List (String Z) → Result (List LoopData) LoopFault → Status → Type 0
+IsUnnamed names loops OutOfMemory = ⊤
+IsUnnamed names (Err fault) status = status ≡ refusal_of_loops fault
+IsUnnamed names (Ok loops) (NoLoop name) = option_map string_bytes (first_unknown names loops) ≡ Some (string_bytes name)
+IsUnnamed names (Ok loops) status = ⊥

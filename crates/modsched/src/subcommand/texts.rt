@@ -60,7 +60,7 @@ fn text_of<I: Input>(
     ensures memory { IsErrOf result ReadTextError.Memory → I.failed input.new ≡ I.failed input.old }
 {
     match command {
-        Command::Loops { .. } | Command::Lint(_) => read_text(alloc, input),
+        Command::Loops { .. } | Command::Lint { .. } => read_text(alloc, input),
         Command::Solve { .. } | Command::Problems { .. } | Command::Check { .. } => {
             problem_text(alloc, input)
         }
