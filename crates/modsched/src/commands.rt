@@ -1,5 +1,6 @@
 //! What the commands write.
 
+ghost use Rattle.machine_data.specs.declared.limits.TheConstants.{MAX_LOOPS};
 ghost use Rattle.std.specs.Prelude.{◌≡◌, ◌≤◌, ◌⊎◌, vec_len, Ok, Err, IfErr, IfOk};
 ghost use Rattle.graph.specs.Units.{first_lacking};
 ghost use Rattle.file_faults.specs.Answers.{AnswersOn};
@@ -119,7 +120,7 @@ fn task_text<R: Threads + Sync>(
     machine: &Machine,
     loops: Vec<Loop>,
 ) -> Result<Printout, FileFault>
-    requires few { vec_len loops ≤ 1024 }
+    requires few { vec_len loops ≤ MAX_LOOPS }
     ensures { AnswersOn (IsTaskText task.now machine.now loops.items) (first_lacking machine.now loops.items) result }
 {
     match task {
@@ -139,7 +140,7 @@ fn search_text<R: Threads + Sync>(
     machine: &Machine,
     loops: Vec<Loop>,
 ) -> Result<Printout, FileFault>
-    requires few { vec_len loops ≤ 1024 }
+    requires few { vec_len loops ≤ MAX_LOOPS }
     ensures { AnswersOn (IsSearchText settings.now.ratio settings.now.ceiling search.now machine.now loops.items) (first_lacking machine.now loops.items) result }
 {
     match search {

@@ -1,5 +1,6 @@
 //! What the searches for kernels write, where workers in threads search.
 
+ghost use Rattle.machine_data.specs.declared.limits.TheConstants.{MAX_LOOPS};
 ghost use Rattle.std.specs.Prelude.{◌≤◌, vec_len};
 ghost use Rattle.graph.specs.Units.{first_lacking};
 ghost use Rattle.file_faults.specs.Answers.{AnswersOn};
@@ -25,7 +26,7 @@ pub(crate) fn schedule_text<R: Threads + Sync>(
     loops: Vec<Loop>,
     settings: &Settings,
 ) -> Result<Printout, FileFault>
-    requires few { vec_len loops ≤ 1024 }
+    requires few { vec_len loops ≤ MAX_LOOPS }
     ensures { AnswersOn (IsListingText settings.now.ratio settings.now.ceiling machine.now loops.items) (first_lacking machine.now loops.items) result }
 {
     let (_, listing) = pipeline_on(rt, alloc, machine, loops, settings, &OpenGate)?;
@@ -40,7 +41,7 @@ pub(crate) fn json_text<R: Threads + Sync>(
     loops: Vec<Loop>,
     settings: &Settings,
 ) -> Result<Printout, FileFault>
-    requires few { vec_len loops ≤ 1024 }
+    requires few { vec_len loops ≤ MAX_LOOPS }
     ensures { AnswersOn (IsListingDocument settings.now.ratio settings.now.ceiling machine.now loops.items) (first_lacking machine.now loops.items) result }
 {
     let (_, listing) = pipeline_on(rt, alloc, machine, loops, settings, &OpenGate)?;
@@ -56,7 +57,7 @@ pub(crate) fn run_text<R: Threads + Sync>(
     trip: Trip,
     settings: &Settings,
 ) -> Result<Printout, FileFault>
-    requires few { vec_len loops ≤ 1024 }
+    requires few { vec_len loops ≤ MAX_LOOPS }
     ensures { AnswersOn (IsRunText trip settings.now.ratio settings.now.ceiling machine.now loops.items) (first_lacking machine.now loops.items) result }
 {
     let (prepared, listing) = pipeline_on(rt, alloc, machine, loops, settings, &OpenGate)?;
