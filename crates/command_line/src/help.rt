@@ -45,9 +45,9 @@ and the first that gives a kernel is taken. Prints for each loop, in the order o
   loop NAME ops O res R rec C mii M ii I stages S
   loop NAME ops O res R rec C mii M failed to T: CAUSE
 
-The first form has a kernel behind it. O, R, C and M are as `modsched bounds` prints them. I is the
-interval of the kernel, in cycles. S is its number of stages: so many iterations are under way at a time,
-each in a stage of its own.
+The lines of a kernel follow the first form. O, R, C and M are as `modsched bounds` prints them. I is the
+interval of the kernel, in cycles. S is its number of stages, and so the number of iterations that are under
+way at a time, each in a stage of its own.
 
 The second form stands where none of the intervals from M to T gives a kernel. CAUSE tells why T does
 not: `table`, an operation would need a unit twice in one row of the modulo reservation table, however it
@@ -62,8 +62,8 @@ The lines of a kernel, as an example:
   out s r3                            at the end, the value s is in r3, as the last turn names it
 
 A turn is one run through the rows 0 to I - 1, a cycle each. An operation has its opcode, the register
-of its result, what it reads (registers, parameters, numbers), for a store behind `if` its guard, and
-its stage behind `?`: it acts in the turns in which an iteration is in that stage. `!A` behind the stage
+of its result, what it reads (registers, parameters, numbers), for a store its guard after `if`, and
+its stage after `?`: it acts in the turns in which an iteration is in that stage. `!A` after the stage
 names an alternative of the opcode other than the first, numbered from 0. In a[k-2], k is the number of
 the turn, from 0. The registers rotate: with each turn the value of a register moves on to the register
 with the next number, and that of the last one to r0.
@@ -114,13 +114,13 @@ order of the file, its line of `modsched bounds`, and then
 
   unit U uses N: NAME NAME*2 ..           for each unit that is used: how often, and by which operations,
                                           with the alternatives that the bound by resources counts;
-                                          `full` behind N where no unit is used more often
-  circuit delay D distance N needs C      a circuit of dependences that asks for the bound by recurrences:
+                                          `full` after N where no unit is used more often
+  circuit delay D distance N needs C      a critical circuit, which has the bound by recurrences:
                                           D cycles over N iterations take intervals of at least C cycles.
                                           Its edges follow, as `modsched edges` prints them
-  circuit none                            no circuit asks for it
+  circuit none                            no circuit has it
   try I CAUSE: ..                         for each interval that was tried and gave no kernel, why it did not,
-                                          and the operations or the value behind that
+                                          and the operations or the value that keep it from one
   try I kernel stages S                   the interval of the kernel
   held by WORD                            why it is no shorter: `units`, `recurrences` or `both`, by the bounds,
                                           or the cause of the interval before it
@@ -170,7 +170,7 @@ next one. Prints a line for each loop, in the order of the file:
 
   loop NAME ops O res R rec C mii M
 
-O is the number of its operations. R is the bound by resources: for so many cycles an iteration takes
+O is the number of its operations. R is the bound by resources: the number of cycles for which an iteration takes
 the busiest unit. An operation with several alternatives is counted on the one that leaves the busiest
 unit taken the least; where a loop has such operations, a schedule below R may exist. C is the bound by
 recurrences: the least interval that the cycles of dependences allow, 1 where there are none. M is the
@@ -207,9 +207,9 @@ pub(crate) const DOT_ABOUT: &str = "Draw the dependences of each loop, as graphs
 pub(crate) const DOT_LONG_ABOUT: &str = "Draw the dependences of each loop, as graphs for Graphviz.
 
 Prints a directed graph for each loop, in the order of the file, in the language of Graphviz: a node for
-each operation, and an edge for each dependence with its kind, its delay in cycles and, behind an `@`, its
-distance in iterations where that is not 0. Where a circuit of dependences asks for the bound by
-recurrences, one such circuit is bold. `modsched dot MACHINE LOOPS | dot -Tsvg -O` makes a picture of each.
+each operation, and an edge for each dependence with its kind, its delay in cycles and, after an `@`, its
+distance in iterations where that is not 0. Where the bound by recurrences is above 1, one critical
+circuit is bold. `modsched dot MACHINE LOOPS | dot -Tsvg -O` makes a picture of each.
 
 With one path alone, that of scheduling problems, prints such a graph for each problem.";
 
@@ -262,8 +262,8 @@ for each problem, in the order of the file:
   # NAME ops O res R rec C mii M        the number of operations, the bounds by units and by recurrences,
                                         and the greater of them, in cycles
   # circuit OP OP .. takes D cycles over N iterations
-                                        where C is above 1, operations that ask for it
-  # full UNIT UNIT ..                   the units that ask for R
+                                        where C is above 1, a critical circuit
+  # full UNIT UNIT ..                   the fullest units, which have R
   solution NAME ii I # stages S         the interval, in cycles, and the number of stages
   op NAME time T by N # ..              the operation is issued in cycle T of its iteration, by its alternative
                                         N, from 0; then its row, its stage, its units and its registers
@@ -275,7 +275,7 @@ for each problem, in the order of the file:
                                         how often the body is repeated where registers don't rotate
   end
 
-For a problem that is not solved these lines stand after the bounds and what asks for them:
+For a problem that is not solved these lines stand after the bounds:
 
   # failed NAME at I: CAUSE             the last interval that was tried, and why it gives nothing: `table`,
                                         `budget`, `stages` or `registers`, with what it is about
