@@ -1,3 +1,4 @@
 pub mod Slots
 pub mod Listed
-pub mod Growing
+pub mod Added
+pub mod Leading

@@ -33,6 +33,8 @@ fn fullest_with<O: Offers>(operations: &O, sets: &[u64], before: u64) -> Rated
     requires sets { IsAdded [] (the_first_sets (O.operations operations.now)) sets.now }
     ensures fullest { IsFullestWith (O.operations operations.now) before result.units }
     ensures rated { IsRated (O.operations operations.now) result }
+    ensures few { result.rows ≤ 2048 }
+    ensures small { result.size ≤ 64 }
 {
     let mut best = rating_of(before | sets[0], operations);
     for number in 1..sets.len() {
@@ -53,7 +55,7 @@ fn fullest_of<O: Offers>(operations: &O, sets: &[u64]) -> UnitSet
     ensures { IsFullest (O.operations operations.now) result }
 {
     let mut best = fullest_with(operations, sets, 0);
-    for _ in 1..ROUNDS {
+    for _round in 1..ROUNDS {
         best = fullest_with(operations, sets, best.units);
     }
     UnitSet {

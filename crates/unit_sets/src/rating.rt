@@ -69,6 +69,8 @@ pub(crate) fn rating_of<O: Offers>(units: u64, operations: &O) -> Rated
     requires count { length (O.operations operations.now) ≤ 128 }
     ensures rated { IsRated (O.operations operations.now) result }
     ensures same { result.units ≡ units }
+    ensures few { result.rows ≤ 2048 }
+    ensures small { result.size ≤ 64 }
 {
     let rows = set_rows(units, operations);
     let size = size(units);

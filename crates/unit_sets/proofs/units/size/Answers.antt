@@ -2,9 +2,8 @@ use Rattle.std.proofs.Common.{◌≡◌, ℕ, ◌+◌, ◌*◌, ◌/◌, ◌%◌
 use Rattle.machine_data.specs.declared.alternative.Row.{Row}
 use Rattle.std.specs.List.{flat_map, fold}
 use Rattle.unit_sets.specs.Fullest.{all_rows, has_unit, row_at, units_in, units_of, with_row}
-use Rattle.std.proofs.Math.Facts.{Fits-lt-pow}
 use Rattle.unit_sets.proofs.Listed.{length-units}
 use Rattle.unit_sets.proofs.units.size.Goals as goal
 
 pub returns-clause-number : goal.returns-clause-number
-returns-clause-number c = length-units c.args.set (Fits-lt-pow c.ranges.set.fits)
+returns-clause-number c = length-units c.args.set c.ranges.set.fits

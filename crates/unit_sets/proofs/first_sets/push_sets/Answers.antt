@@ -1,0 +1,15 @@
+use Rattle.std.proofs.Common.{◌≡◌, ℕ, suc, zero, ◌+◌, ◌*◌, ◌/◌, ◌%◌, ◌^◌, ◌-◌, ◌<◌, ◌≤◌, ◌⊎◌, inl, inr, min, Bool, true, false, List, [], ◌∷◌, ◌++◌, length, get_or, map, take, drop, refl, sym, ap, ◌∙◌, subst, arith, rules, bit_or, eqb, cond, OnOk}
+use Rattle.machine_data.specs.declared.alternative.Row.{Row}
+use Rattle.std.specs.List.{Contains, flat_map, fold, range_with_len, slice_index_or}
+use Rattle.unit_sets.specs.Fullest.{Leads, IsFullest, IsFullestWith, IsReached, all_rows, fill_of, first_sets as the_first_sets, row_at, sets_of, units_in, units_of, with_row}
+use Rattle.unit_sets.specs.inner.Added.{IsAdded}
+use Rattle.unit_sets.specs.inner.Rated.{IsRated}
+use Rattle.unit_sets.proofs.Added.{added-of}
+use Rattle.unit_sets.proofs.first_sets.push_sets.Goals as goal
+
+pub loop-number-preserved : goal.loop-number-preserved
+loop-number-preserved g c =
+    let operations : List (List (List Row)) = g.O.Offers.operations c.args.operations.now in
+    let within : c.loop-number.number < length operations = omega (arith, c.loop-number-test.true, c.count-number-end.ensures) in
+    added-of sets_of c.args.sets.now.items c.loop-number.sets.items operations c.alternatives.result.now c.loop-number.number [] _ within c.loop-number.invariant
+    c.alternatives.ensures.value c.in_ok-push_sets_of.ensures

@@ -1,0 +1,16 @@
+use Rattle.std.proofs.Common.{◌≡◌, ℕ, suc, zero, ◌+◌, ◌*◌, ◌/◌, ◌%◌, ◌^◌, ◌-◌, ◌<◌, ◌≤◌, ◌⊎◌, inl, inr, min, Bool, true, false, List, [], ◌∷◌, ◌++◌, length, get_or, map, take, drop, refl, sym, ap, ◌∙◌, subst, arith, rules, bit_or, eqb, cond, OnOk}
+use Rattle.machine_data.specs.declared.alternative.Row.{Row}
+use Rattle.std.specs.List.{Contains, flat_map, fold, range_with_len, slice_index_or}
+use Rattle.unit_sets.specs.Fullest.{Leads, IsFullest, IsFullestWith, IsReached, all_rows, fill_of, first_sets as the_first_sets, row_at, sets_of, units_in, units_of, with_row}
+use Rattle.unit_sets.specs.inner.Added.{IsAdded}
+use Rattle.unit_sets.specs.inner.Rated.{IsRated}
+use Rattle.std.proofs.lemmas.List.Elements.{Contains-push}
+use Rattle.unit_sets.proofs.fullest.fullest_set.Goals as goal
+
+pub fullest_of-requires-clause-some : goal.fullest_of-requires-clause-some
+fullest_of-requires-clause-some g c =
+    let operations : List (List (List Row)) = g.O.Offers.operations c.args.operations.now in
+    let all : ℕ = units_of (flat_map all_rows operations) in
+    let there : Contains (the_first_sets operations) all = Contains-push (flat_map sets_of operations) all in
+    let k : Contains c.in_ok-sets.sets.items all = c.in_ok-sets.ensures.there all there in
+    omega (arith, k.1, ap length c.as_slice.ensures.value)
