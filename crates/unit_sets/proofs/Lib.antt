@@ -2,3 +2,4 @@ pub mod Slots
 pub mod Listed
 pub mod Added
 pub mod Leading
+pub mod Bounds

@@ -1,13 +1,13 @@
 -- The rows of a lawful schedule that are of units of a set are at most as many as the set has slots.
 use Rattle.std.proofs.Common.{◌≡◌, ℕ, zero, suc, ◌+◌, ◌*◌, ◌<◌, ◌≤◌, ◌||◌, min, Bool, true, false, cond, List, [], ◌∷◌, ◌++◌, length, get_or, map, drop, refl, sym, ap, ◌∙◌, subst, inl, inr, arith, eqb}
 use Rattle.std.proofs.lemmas.Bool.{cases_eq, eq-eqb, ne_eqb}
-use Rattle.std.proofs.lemmas.List.Sums.{sum_by-cons, sum_by-append, fold_more}
-use Rattle.std.specs.List.{slice_index, flat_map, fold, sum_by, count_by}
+use Rattle.std.proofs.lemmas.List.Sums.{sum_by-cons, sum_by-append}
+use Rattle.std.specs.List.{slice_index, flat_map, fold}
 use Rattle.machine_data.specs.declared.alternative.Row.{Row}
 use Rattle.machine_data.specs.Alternative.{rows_meet}
 use Rattle.graph.specs.Dependences.{EdgeData}
 use Rattle.graph.specs.Units.{use_of}
-use Rattle.graph.specs.Schedules.{IsLawfulSchedule, IsPlan, KeepsUnits, issued_rows}
+use Rattle.graph.specs.Schedules.{IsLawfulSchedule, KeepsUnits, issued_rows}
 use Rattle.graph.proofs.unit_bound.Pigeons.{Apart, use-le-interval}
 use Rattle.unit_sets.specs.Sets.{is_in, rows_in, least_of, least_rows, set_rows}
 

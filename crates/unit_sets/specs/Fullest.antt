@@ -3,6 +3,8 @@ use Rattle.std.specs.Prelude.{◌≡◌, ℕ, ◌+◌, ◌-◌, ◌*◌, ◌/◌
 use Rattle.std.specs.Int.{bit_at}
 use Rattle.std.specs.List.{Contains, flat_map, fold, range_with_len, slice_index_or}
 use Rattle.machine_data.specs.declared.alternative.Row.{Row}
+use Rattle.graph.specs.Dependences.{EdgeData}
+use Rattle.graph.specs.Schedules.{IsLawfulSchedule}
 use Rattle.unit_sets.specs.declared.fullest.UnitSet.{UnitSet}
 use Rattle.unit_sets.specs.declared.TheConstants.{PARTS, ROUNDS}
 use Rattle.unit_sets.specs.Sets.{set_rows}
@@ -64,9 +66,19 @@ abbrev pub IsReached : ℕ → List (List (List Row)) → ℕ → Type 0
 IsReached zero operations set = set ≡ 0
 IsReached (suc rounds) operations set = (before : ℕ) × IsReached rounds operations before × IsFullestWith operations before set
 
--- the set that is reached after all rounds, with the rows of its units that the operations have at least, and the least interval that has
--- so many slots of these units
+-- the least interval that has so many slots of the units of the set as the operations have rows of them at least
+abbrev pub need_of : List (List (List Row)) → ℕ → ℕ
+need_of operations set = (set_rows (units_in set) operations + (length (units_in set) - 1)) / length (units_in set)
+
+-- the set that is reached after all rounds, with the rows of its units that the operations have at least, and what it needs
 pub record IsFullest (operations : List (List (List Row))) (set : UnitSet) : Type 0 where
   pub reached : IsReached ROUNDS operations set.units
   pub is_rows : set.rows ≡ set_rows (units_in set.units) operations
-  pub is_need : set.need ≡ (set.rows + (length (units_in set.units) - 1)) / length (units_in set.units)
+  pub is_need : set.need ≡ need_of operations set.units
+
+-- none of the first sets needs a longer interval than the fullest one, and no lawful schedule of them has a shorter one
+pub record FullestIsBound : Type 0 where
+  pub greatest : (operations : List (List (List Row))) (set : UnitSet) (other : ℕ) → IsFullest operations set → Contains (first_sets operations) other
+      → need_of operations other ≤ set.need
+  pub bound : (operations : List (List (List Row))) (set : UnitSet) (edges : List EdgeData) (ii : ℕ) (times choices : List ℕ) → IsFullest operations set → 0 < ii
+      → IsLawfulSchedule ii operations edges times choices → set.need ≤ ii

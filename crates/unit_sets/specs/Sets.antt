@@ -1,6 +1,6 @@
 -- How often the operations of an iteration have to use a set of units, whichever alternatives they take. A set of units is a list
 -- of their numbers, in increasing order where it is a result.
-use Rattle.std.specs.Prelude.{ℕ, ◌+◌, ◌*◌, ◌<◌, ◌≤◌, ◌==◌, ◌/◌, min, Bool, List, [], ◌∷◌, length, map, count_by}
+use Rattle.std.specs.Prelude.{ℕ, ◌*◌, ◌<◌, ◌≤◌, ◌==◌, min, Bool, List, [], ◌∷◌, length, map, count_by}
 use Rattle.std.specs.List.{list_any, sum_by, fold}
 use Rattle.machine_data.specs.declared.alternative.Row.{Row}
 use Rattle.graph.specs.Dependences.{EdgeData}

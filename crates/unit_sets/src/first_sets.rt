@@ -45,10 +45,7 @@ fn push_sets<O: Offers>(sets: &mut Vec<u64>, operations: &O) -> Result<(), OutOf
 }
 
 /// The first sets of operations, each once.
-pub(crate) fn first_sets<O: Offers>(
-    alloc: Global,
-    operations: &O,
-) -> Result<Vec<u64>, OutOfMemory>
+pub(crate) fn first_sets<O: Offers>(alloc: Global, operations: &O) -> Result<Vec<u64>, OutOfMemory>
     requires { O.sound operations.now }
     ensures { IfOk result (λ sets. IsAdded [] (the_first_sets (O.operations operations.now)) sets.items) }
 {

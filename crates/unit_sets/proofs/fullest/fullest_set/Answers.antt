@@ -1,9 +1,7 @@
-use Rattle.std.proofs.Common.{◌≡◌, ℕ, suc, zero, ◌+◌, ◌*◌, ◌/◌, ◌%◌, ◌^◌, ◌-◌, ◌<◌, ◌≤◌, ◌⊎◌, inl, inr, min, Bool, true, false, List, [], ◌∷◌, ◌++◌, length, get_or, map, take, drop, refl, sym, ap, ◌∙◌, subst, arith, rules, bit_or, eqb, cond, OnOk}
+use Rattle.std.proofs.Common.{ℕ, List, length, ap, arith}
 use Rattle.machine_data.specs.declared.alternative.Row.{Row}
-use Rattle.std.specs.List.{Contains, flat_map, fold, range_with_len, slice_index_or}
-use Rattle.unit_sets.specs.Fullest.{Leads, IsFullest, IsFullestWith, IsReached, all_rows, fill_of, first_sets as the_first_sets, row_at, sets_of, units_in, units_of, with_row}
-use Rattle.unit_sets.specs.inner.Added.{IsAdded}
-use Rattle.unit_sets.specs.inner.Rated.{IsRated}
+use Rattle.std.specs.List.{Contains, flat_map}
+use Rattle.unit_sets.specs.Fullest.{all_rows, first_sets as the_first_sets, sets_of, units_of}
 use Rattle.std.proofs.lemmas.List.Elements.{Contains-push}
 use Rattle.unit_sets.proofs.fullest.fullest_set.Goals as goal
 

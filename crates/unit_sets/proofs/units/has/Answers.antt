@@ -1,7 +1,5 @@
-use Rattle.std.proofs.Common.{◌≡◌, ℕ, ◌+◌, ◌*◌, ◌/◌, ◌%◌, ◌^◌, ◌-◌, ◌<◌, ◌≤◌, min, Bool, true, false, List, [], ◌∷◌, ◌++◌, length, get_or, map, take, drop, refl, sym, ap, ◌∙◌, subst, arith, rules, bit_or, eqb, cond}
-use Rattle.machine_data.specs.declared.alternative.Row.{Row}
-use Rattle.std.specs.List.{flat_map, fold}
-use Rattle.unit_sets.specs.Fullest.{all_rows, has_unit, row_at, units_in, units_of, with_row}
+use Rattle.std.proofs.Common.{◌≡◌, ◌<◌, ◌≤◌, false, sym, ap, ◌∙◌, arith, rules, eqb}
+use Rattle.unit_sets.specs.Fullest.{units_in}
 use Rattle.std.proofs.lemmas.Nat.Bits.{shr_and_one}
 use Rattle.unit_sets.specs.Sets.{is_in}
 use Rattle.unit_sets.proofs.Listed.{is_in-units, is_in-units_above}
