@@ -1,5 +1,5 @@
 -- The texts of intervals that were tried.
-use Rattle.std.proofs.Common.{◌≡◌, ℕ, zero, suc, ◌+◌, ◌-◌, ◌<◌, ◌≤◌, List, [], ◌++◌, refl, sym, subst, arith}
+use Rattle.std.proofs.Common.{◌≡◌, ℕ, Bool, zero, suc, ◌+◌, ◌-◌, ◌<◌, ◌≤◌, List, [], ◌++◌, refl, sym, subst, arith}
 use Rattle.std.specs.List.{range_with_len}
 use Rattle.graph_text.specs.Texts.{AreTexts}
 use Rattle.writing.proofs.Beginnings.{two_pushed}
@@ -13,7 +13,7 @@ use Rattle.candidates.specs.Reasons.{FailsFor, reason_cause}
 use Rattle.candidates.proofs.Rising.{Risen, met_here, risen_on, unmet_here}
 use Rattle.explain.specs.declared.intervals.hold.Hold.{Hold}
 use Rattle.explain.specs.Holds.{IsHold}
-use Rattle.explain.specs.Tries.{AreTries, hold_line, kernel_line, try_line}
+use Rattle.explain.specs.Tries.{AreTries, hold_line, is_least_possible, kernel_line, least_line, try_line}
 use Rattle.graph_text.proofs.Texts.{row-more}
 
 -- the first `above` intervals were tried, none of which gives a kernel, and a line was written for each
@@ -31,14 +31,14 @@ before-of p m (suc k) last r same h = subst (λ n. FailsBy p n last) (at m (mii_
     at : (m n k : ℕ) → m ≡ n → n + k ≡ (m + suc k) - 1
     at m n k same = omega arith
 
-pub met-tries : (p : ProblemData) (m above : ℕ) (last : Cause) (kernel : Parts) (hold : Hold) (lines : List ℕ) → Risen p above last → GivesKernel p (m + above) kernel
-    → above ≤ p.ceiling → m ≡ mii_of p → AreTexts (FailsFor p) (try_line p.loop) (range_with_len (mii_of p) above) lines → IsHold p (m + above) hold
-    → AreTries p (Met (m + above) kernel) (lines ++ (kernel_line (m + above) kernel.stages ++ hold_line hold))
-met-tries p m above last kernel hold lines r gives few same are held = record {
+pub met-tries : (p : ProblemData) (need : ℕ) (free : Bool) (m above : ℕ) (last : Cause) (kernel : Parts) (hold : Hold) (lines : List ℕ) → Risen p above last → GivesKernel p (m + above) kernel
+    → above ≤ p.ceiling → m ≡ mii_of p → AreTexts (FailsFor p) (try_line p.loop) (range_with_len (mii_of p) above) lines → IsHold p free (m + above) hold
+    → AreTries p need free (Met (m + above) kernel) (lines ++ ((kernel_line (m + above) kernel.stages ++ hold_line hold) ++ least_line (is_least_possible p need (m + above))))
+met-tries p need free m above last kernel hold lines r gives few same are held = record {
   is_choice = met_here p above m last kernel r gives few same;
   lines = lines;
   are_lines = subst (λ (n : ℕ). AreTexts (FailsFor p) (try_line p.loop) (range_with_len (mii_of p) n) lines) (count m (mii_of p) above same) are;
-  end = kernel_line (m + above) kernel.stages ++ hold_line hold;
+  end = (kernel_line (m + above) kernel.stages ++ hold_line hold) ++ least_line (is_least_possible p need (m + above));
   is_end = (hold, held, refl);
   is_text = refl;
 }
@@ -46,9 +46,9 @@ met-tries p m above last kernel hold lines r gives few same are held = record {
     count : (m n above : ℕ) → m ≡ n → above ≡ (m + above) - n
     count m n above same = omega arith
 
-pub unmet-tries : (p : ProblemData) (above : ℕ) (last : Cause) (lines : List ℕ) → Risen p above last → above ≡ p.ceiling + 1
-    → AreTexts (FailsFor p) (try_line p.loop) (range_with_len (mii_of p) above) lines → AreTries p (Failed last) (lines ++ [])
-unmet-tries p above last lines r at are = record {
+pub unmet-tries : (p : ProblemData) (need : ℕ) (free : Bool) (above : ℕ) (last : Cause) (lines : List ℕ) → Risen p above last → above ≡ p.ceiling + 1
+    → AreTexts (FailsFor p) (try_line p.loop) (range_with_len (mii_of p) above) lines → AreTries p need free (Failed last) (lines ++ [])
+unmet-tries p need free above last lines r at are = record {
   is_choice = unmet_here p above last r at;
   lines = lines;
   are_lines = subst (λ (n : ℕ). AreTexts (FailsFor p) (try_line p.loop) (range_with_len (mii_of p) n) lines) at are;

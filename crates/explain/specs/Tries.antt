@@ -1,9 +1,12 @@
 -- The lines of the intervals that are tried.
-use Rattle.std.specs.Prelude.{◌≡◌, ℕ, ◌+◌, ◌-◌, codes, List, [], ◌++◌}
+use Rattle.std.specs.Prelude.{◌≡◌, ℕ, ◌+◌, ◌-◌, ◌<◌, ◌≤◌, ◌==◌, max, Bool, true, if◌then◌else◌, codes, List, [], ◌++◌}
 use Rattle.std.specs.List.{range_with_len}
 use Rattle.loop_data.specs.Loops.{LoopData}
 use Rattle.graph_text.specs.Texts.{AreTexts}
-use Rattle.ims.specs.Problems.{ProblemData, mii_of}
+use Rattle.graph.specs.Schedules.{IsLawfulSchedule}
+use Rattle.ims.specs.Problems.{ProblemData, IsProblem, mii_of}
+use Rattle.unit_sets.specs.declared.fullest.UnitSet.{UnitSet}
+use Rattle.unit_sets.specs.Fullest.{IsFullest}
 use Rattle.candidates.specs.declared.choices.Choice.{Choice}
 use Rattle.candidates.specs.declared.choices.Choice.TheVariants.{Met, Failed}
 use Rattle.candidates.specs.declared.evidence.Reason.{Reason}
@@ -27,21 +30,36 @@ kernel_line ii stages = (told (codes "try ") ii ++ told (codes " kernel stages "
 abbrev pub hold_line : Hold → List ℕ
 hold_line hold = (codes "held by " ++ hold_word hold) ++ codes "\n"
 
+-- `least possible`, with a line feed, where that is so
+abbrev pub least_line : Bool → List ℕ
+least_line least = if least then codes "least possible\n" else []
+
+-- the interval is what the fullest set of units or the recurrences need, so that no lawful schedule has a shorter one
+abbrev pub is_least_possible : ProblemData → ℕ → ℕ → Bool
+is_least_possible problem need ii = max need problem.recurrences == ii
+
+-- where an interval is what the fullest set of units or the recurrences need, no lawful schedule has a shorter one
+abbrev pub LeastIsLeast : Type 0
+LeastIsLeast = (problem : ProblemData) (set : UnitSet) (ii shorter : ℕ) (times choices : List ℕ) → IsProblem problem → IsFullest problem.operations set
+    → is_least_possible problem set.need ii ≡ true → 0 < shorter → IsLawfulSchedule shorter problem.operations problem.graph.edges times choices → ii ≤ shorter
+
 -- how many intervals are tried that give no kernel: all before the chosen one, or all
 abbrev pub failures_of : ProblemData → Choice → ℕ
 failures_of problem (Met ii kernel) = ii - mii_of problem
 failures_of problem (Failed cause) = problem.ceiling + 1
 
--- the chosen interval, and what holds it, where there is one
-abbrev pub IsEnd : ProblemData → Choice → List ℕ → Type 0
-IsEnd problem (Met ii kernel) text = (hold : Hold) × IsHold problem ii hold × (text ≡ kernel_line ii kernel.stages ++ hold_line hold)
-IsEnd problem (Failed cause) text = text ≡ []
+-- the chosen interval, what holds it, and whether no shorter one is possible, where there is one. The fullest set of units has a
+-- need; free tells that no circuit needs the recurrence-constrained bound
+abbrev pub IsEnd : ProblemData → ℕ → Bool → Choice → List ℕ → Type 0
+IsEnd problem need free (Met ii kernel) text =
+    (hold : Hold) × IsHold problem free ii hold × (text ≡ (kernel_line ii kernel.stages ++ hold_line hold) ++ least_line (is_least_possible problem need ii))
+IsEnd problem need free (Failed cause) text = text ≡ []
 
 -- the choice of a loop, with a line for each interval, from the least one on, that gives no kernel, with its cause and culprits
-pub record AreTries (problem : ProblemData) (choice : Choice) (text : List ℕ) : Type 0 where
+pub record AreTries (problem : ProblemData) (need : ℕ) (free : Bool) (choice : Choice) (text : List ℕ) : Type 0 where
   pub is_choice : IsChoice problem choice
   pub lines : List ℕ
   pub are_lines : AreTexts (FailsFor problem) (try_line problem.loop) (range_with_len (mii_of problem) (failures_of problem choice)) lines
   pub end : List ℕ
-  pub is_end : IsEnd problem choice end
+  pub is_end : IsEnd problem need free choice end
   pub is_text : text ≡ lines ++ end

@@ -2,13 +2,15 @@
 
 ghost use Rattle.std.specs.Prelude.{[], ◌≡◌, ◌+◌, ◌-◌, ◌/◌, ◌<◌, ◌≤◌, IfOk, length};
 ghost use Rattle.machine_data.specs.declared.limits.TheConstants.{MAX_STATEMENTS};
-ghost use Rattle.unit_sets.specs.Fullest.{IsFullest, IsFullestWith, first_sets as the_first_sets};
+ghost use Rattle.unit_sets.specs.Fullest.{IsFullest, IsFullestWith, first_sets as the_first_sets, units_in};
+ghost use Rattle.unit_sets.specs.Sets.{is_in};
 ghost use Rattle.unit_sets.specs.inner.Added.{IsAdded};
 ghost use Rattle.unit_sets.specs.inner.Rated.{IsRated};
 
 use crate::ROUNDS;
 use crate::first_sets::first_sets;
 use crate::rating::{Rated, rating_of};
+use crate::units::has;
 use graph::Offers;
 use machine_data::OutOfMemory;
 use machine_data::limits::MAX_STATEMENTS;
@@ -23,6 +25,15 @@ pub struct UnitSet {
     pub rows: u16,
     /// The least interval, in cycles, at which the units have so many slots: the rows over their number, rounded up.
     pub need: u16,
+}
+
+impl UnitSet {
+    /// Whether a unit is one of the set.
+    pub fn has(&self, unit: u8) -> bool
+        ensures { result ≡ is_in (units_in self.now.units) unit }
+    {
+        has(self.units, unit)
+    }
 }
 
 /// Of the unions of a set with the first sets the one that leads.

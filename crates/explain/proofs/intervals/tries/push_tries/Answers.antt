@@ -1,4 +1,4 @@
-use Rattle.std.proofs.Common.{◌+◌, ◌≤◌, ◌++◌, [], sym, ap, ◌∙◌, subst, arith}
+use Rattle.std.proofs.Common.{Bool, ◌+◌, ◌≤◌, ◌++◌, [], sym, ap, ◌∙◌, subst, arith}
 use Rattle.std.proofs.lemmas.List.{append-nil}
 use Rattle.graph_text.proofs.Texts.{texts-none}
 use Rattle.writing.proofs.Beginnings.{two_pushed}
@@ -8,7 +8,7 @@ use Rattle.candidates.specs.declared.evidence.Tried.TheVariants as tried
 use Rattle.candidates.specs.Reasons.{FailsFor, IsMet, IsTried}
 use Rattle.candidates.proofs.Evidenced.{tried-is_given}
 use Rattle.candidates.proofs.Rising.{risen_none}
-use Rattle.explain.specs.Tries.{hold_line, kernel_line, try_line}
+use Rattle.explain.specs.Tries.{hold_line, is_least_possible, kernel_line, least_line, try_line}
 use Rattle.explain.proofs.Tried.{before-of, met-tries, told-more, unmet-tries}
 use Rattle.explain.proofs.intervals.tries.push_tries.Goals as goal
 
@@ -42,15 +42,16 @@ returns-in-Met c =
     let told = c.loop-above.invariant.told in
     let met = c.in-Met.met in
     let is : IsMet p ii met = subst (λ (q : ProblemData). IsTried q ii (tried.Met met)) c.loop-above.invariant.same (subst (IsTried _ ii) c.in-Met.is c.in_ok-met.ensures.exact) in
-    let end = kernel_line ii met.kernel.stages ++ hold_line c.hold_of-hold.result in
+    let end = (kernel_line ii met.kernel.stages ++ hold_line c.hold_of-hold.result) ++ least_line (is_least_possible p c.args.need ii) in
     record {
       exact = (
         told.lines ++ end,
-        met-tries p c.mii.result c.loop-above.above c.loop-above.last met.kernel c.hold_of-hold.result told.lines told.risen (tried-is_given p ii (tried.Met met) is) few
+        met-tries p c.args.need c.args.free c.mii.result c.loop-above.above c.loop-above.last met.kernel c.hold_of-hold.result told.lines told.risen (tried-is_given p ii (tried.Met met) is) few
             c.mii.ensures.value told.are_lines c.hold_of-hold.ensures,
         two_pushed c.args.text.now.items told.lines end c.loop-above.text.items _ told.is_text
             (c.in_ok-push_met-in-Met.ensures.ok
-            ∙ ap (λ (k : Parts). c.loop-above.text.items ++ (kernel_line ii k.stages ++ hold_line c.hold_of-hold.result)) c.parts.ensures.value),
+            ∙ ap (λ (k : Parts). c.loop-above.text.items ++ ((kernel_line ii k.stages ++ hold_line c.hold_of-hold.result) ++ least_line c.is_least-least.result)) c.parts.ensures.value
+            ∙ ap (λ (b : Bool). c.loop-above.text.items ++ ((kernel_line ii met.kernel.stages ++ hold_line c.hold_of-hold.result) ++ least_line b)) c.is_least-least.ensures),
       );
       evidence = is;
     }
@@ -69,7 +70,7 @@ loop-above-preserved c =
 pub returns : goal.returns
 returns c =
     let told = c.loop-above.invariant.told in
-    let tries = unmet-tries c.args.prepared.now c.loop-above.above c.loop-above.last told.lines told.risen
+    let tries = unmet-tries c.args.prepared.now c.args.need c.args.free c.loop-above.above c.loop-above.last told.lines told.risen
     (let e = c.ceiling-above-end.ensures.value in let t = c.loop-above-test.false in let u = c.loop-above.auto.above-end in omega arith) told.are_lines in
     record {
       exact = (told.lines ++ [], tries, told.is_text ∙ ap (λ t. c.args.text.now.items ++ t) (sym (append-nil told.lines)));
