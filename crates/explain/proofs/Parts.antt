@@ -44,13 +44,13 @@ explained units need free p choice loop bounds old a u b new same_loop same_boun
     )
 
 -- the schedule and the registers after that
-pub told-of : (machine : MachineData) (units : List ℕ) (need : ℕ) (p : ProblemData) (choice same : Choice) (old middle new : List ℕ) → choice ≡ same
-    → ((part : List ℕ) × IsExplained units need p same part × (middle ≡ old ++ part)) → ((part : List ℕ) × IsShown machine p same part × (new ≡ middle ++ part))
+pub told-of : (machine : MachineData) (given units : List ℕ) (need : ℕ) (p : ProblemData) (choice same : Choice) (old middle new : List ℕ) → given ≡ units → choice ≡ same
+    → ((part : List ℕ) × IsExplained given need p same part × (middle ≡ old ++ part)) → ((part : List ℕ) × IsShown machine p same part × (new ≡ middle ++ part))
     → (part : List ℕ) × IsTold machine units need p choice part × (new ≡ old ++ part)
-told-of machine units need p choice same old middle new e explanation shown =
+told-of machine given units need p choice same old middle new lines e explanation shown =
     subst (λ (c : Choice). (part : List ℕ) × IsTold machine units need p c part × (new ≡ old ++ part)) (sym e) (
       explanation.0 ++ shown.0,
-      record { explanation = explanation.0; is_explanation = explanation.1; shown = shown.0; is_shown = shown.1; is_text = refl },
+      record { explanation = explanation.0; is_explanation = subst (λ (u : List ℕ). IsExplained u need p same explanation.0) lines explanation.1; shown = shown.0; is_shown = shown.1; is_text = refl },
       two_pushed old explanation.0 shown.0 middle new explanation.2 shown.2,
     )
 

@@ -15,6 +15,10 @@ member_text machine set unit = if is_in (units_in set.units) unit then codes " "
 abbrev pub members_text : MachineData → UnitSet → List ℕ
 members_text machine set = flat_map (member_text machine set) (range_with_len 0 (length machine.units))
 
+-- ` take R rows, need K`
+abbrev pub counts_text : ℕ → ℕ → List ℕ
+counts_text rows need = told (codes " take ") rows ++ told (codes " rows, need ") need
+
 -- `units U V .. take R rows, need K`, with a line feed
 abbrev pub set_line : MachineData → UnitSet → List ℕ
-set_line machine set = (((codes "units" ++ members_text machine set) ++ told (codes " take ") set.rows) ++ told (codes " rows, need ") set.need) ++ codes "\n"
+set_line machine set = ((codes "units" ++ members_text machine set) ++ counts_text set.rows set.need) ++ codes "\n"

@@ -1,7 +1,7 @@
 //! The line of the fullest set of units.
 
 ghost use Rattle.std.specs.Prelude.{◌≡◌, ◌<◌, ◌++◌, length, OnOk};
-ghost use Rattle.explain.specs.SetLines.{member_text, members_text, set_line};
+ghost use Rattle.explain.specs.SetLines.{counts_text, member_text, members_text, set_line};
 
 use machine_data::{Machine, OutOfMemory};
 use unit_sets::UnitSet;
@@ -37,6 +37,14 @@ fn push_members(
     Ok(())
 }
 
+/// Appends how many rows the units of a set take, and how many cycles they need.
+fn push_counts(text: &mut Vec<u8>, rows: u16, need: u16) -> Result<(), OutOfMemory>
+    ensures ok { OnOk result (text.new.items ≡ text.old.items ++ counts_text rows need) }
+{
+    push_told(text, " take ", u64::from(rows))?;
+    push_told(text, " rows, need ", u64::from(need))
+}
+
 /// Appends the line of the fullest set of units: `units U V .. take R rows, need K`.
 pub(crate) fn push_set_line(
     text: &mut Vec<u8>,
@@ -47,7 +55,6 @@ pub(crate) fn push_set_line(
 {
     text.push_piece("units")?;
     push_members(text, machine, set)?;
-    push_told(text, " take ", u64::from(set.rows))?;
-    push_told(text, " rows, need ", u64::from(set.need))?;
+    push_counts(text, set.rows, set.need)?;
     text.push_piece("\n")
 }
