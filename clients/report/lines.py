@@ -276,15 +276,19 @@ def _tried(lines: Lines, bounds: Bounds) -> list[Try]:
     tried: list[Try] = []
     while not tried or (lines.line.startswith("try ") and tried[-1].outcome != "kernel"):
         for outcome, form, named in OUTCOMES:
-            groups = lines.match(rf"try ({NUMBER}) {outcome}{form}")
+            last = "" if outcome == "kernel" else rf"(?: to ({NUMBER}))?"
+            groups = lines.match(rf"try ({NUMBER}){last} {outcome}{form}")
             if groups is not None:
                 break
         else:
             raise lines.misfit("not a tried interval")
         interval, *parts = groups
+        last = interval if outcome == "kernel" else parts.pop(0) or interval
         names = tuple(name for part in parts[:named] for name in part.split(" "))
-        tried.append(Try(int(interval), outcome, names, tuple(map(int, parts[named:]))))
-        lines.check(int(interval) == bounds.mii + len(tried) - 1, "not the next interval")
+        lines.check(int(interval) == bounds.mii + len(tried), "not the next interval")
+        lines.check(int(interval) <= int(last), "the last interval is before the first")
+        numbers = tuple(map(int, parts[named:]))
+        tried += [Try(it, outcome, names, numbers) for it in range(int(interval), int(last) + 1)]
     return tried
 
 

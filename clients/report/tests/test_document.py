@@ -182,7 +182,7 @@ loops 1
         self.assertEqual(read_explain("loops 0 met 0 failed 0\n"), [])
 
     def test_causes(self):
-        (it,) = read_explain(causes("try 2 table: m", "try 3 budget: x b[i-4] y", "try 4 stages: s at 256", "try 5 registers: v lives 3 to 70"))
+        (it,) = read_explain(causes("try 2 table: m", "try 3 budget: x b[i-4] y", "try 4 stages: s at 256", "try 5 to 6 registers: v lives 3 to 70"))
         self.assertEqual(
             it.tried,
             [
@@ -190,6 +190,7 @@ loops 1
                 Try(3, "budget", ("x", "b[i-4]", "y"), ()),
                 Try(4, "stages", ("s",), (256,)),
                 Try(5, "registers", ("v",), (3, 70)),
+                Try(6, "registers", ("v",), (3, 70)),
             ],
         )
         self.assertIsNone(it.held)

@@ -120,7 +120,8 @@ order of the file, its line of `modsched bounds`, and then
                                           Its edges follow, as `modsched edges` prints them
   circuit none                            no circuit asks for it
   try I CAUSE: ..                         for each interval that was tried and gave no kernel, why it did not,
-                                          and the operations or the value behind that
+                                          and the operations or the value behind that; `try I to J CAUSE: ..`
+                                          where that is the same for neighbours
   try I kernel stages S                   the interval of the kernel
   held by WORD                            why it is no shorter: `units`, `recurrences` or `both`, by the bounds,
                                           `one cycle`, or the cause of the interval before it

@@ -1,8 +1,7 @@
 -- The lines of the intervals that are tried.
-use Rattle.std.specs.Prelude.{◌≡◌, ℕ, ◌+◌, ◌-◌, ◌<◌, ◌≤◌, ◌==◌, max, Bool, true, if◌then◌else◌, codes, List, [], ◌++◌}
-use Rattle.std.specs.List.{range_with_len}
+use Rattle.std.specs.Prelude.{◌≡◌, ℕ, ◌+◌, ◌-◌, ◌<◌, ◌≤◌, ◌==◌, max, Bool, true, if◌then◌else◌, codes, List, [], ◌++◌, map}
+use Rattle.std.specs.List.{range_with_len, AllZip}
 use Rattle.loop_data.specs.Loops.{LoopData}
-use Rattle.graph_text.specs.Texts.{AreTexts}
 use Rattle.graph.specs.Schedules.{IsLawfulSchedule}
 use Rattle.ims.specs.Problems.{ProblemData, IsProblem, mii_of}
 use Rattle.unit_sets.specs.declared.fullest.UnitSet.{UnitSet}
@@ -17,10 +16,11 @@ use Rattle.writing.specs.Words.{told}
 use Rattle.explain.specs.declared.intervals.hold.Hold.{Hold}
 use Rattle.explain.specs.Holds.{IsHold, hold_word}
 use Rattle.explain.specs.Reasons.{reason_text}
+use Rattle.explain.specs.Runs.{runs_text}
 
--- `try I CAUSE:`, and its culprits, with a line feed
-abbrev pub try_line : LoopData → ℕ → Reason → List ℕ
-try_line loop ii reason = (((told (codes "try ") ii ++ (codes " " ++ cause_word (reason_cause reason))) ++ codes ":") ++ reason_text loop reason) ++ codes "\n"
+-- ` CAUSE:`, and its culprits
+abbrev pub why_text : LoopData → Reason → List ℕ
+why_text loop reason = ((codes " " ++ cause_word (reason_cause reason)) ++ codes ":") ++ reason_text loop reason
 
 -- `try I kernel stages S`, with a line feed
 abbrev pub kernel_line : ℕ → ℕ → List ℕ
@@ -55,11 +55,12 @@ IsEnd problem need free (Met ii kernel) text =
     (hold : Hold) × IsHold problem free ii hold × (text ≡ (kernel_line ii kernel.stages ++ hold_line hold) ++ least_line (is_least_possible problem need ii))
 IsEnd problem need free (Failed cause) text = text ≡ []
 
--- the choice of a loop, with a line for each interval, from the least one on, that gives no kernel, with its cause and culprits
+-- the choice of a loop, with the cause and the culprits of each interval, from the least one on, that gives no kernel: a line for
+-- neighbouring ones of which the same is told
 pub record AreTries (problem : ProblemData) (need : ℕ) (free : Bool) (choice : Choice) (text : List ℕ) : Type 0 where
   pub is_choice : IsChoice problem choice
-  pub lines : List ℕ
-  pub are_lines : AreTexts (FailsFor problem) (try_line problem.loop) (range_with_len (mii_of problem) (failures_of problem choice)) lines
+  pub reasons : List Reason
+  pub are_reasons : AllZip (FailsFor problem) (range_with_len (mii_of problem) (failures_of problem choice)) reasons
   pub end : List ℕ
   pub is_end : IsEnd problem need free choice end
-  pub is_text : text ≡ lines ++ end
+  pub is_text : text ≡ runs_text (mii_of problem) (map (why_text problem.loop) reasons) ++ end
