@@ -77,6 +77,15 @@ class UnitUse:
 
 
 @dataclass(frozen=True)
+class UnitSet:
+    """The fullest set of units: their names, how many rows of them each iteration takes at least, and the interval that these need."""
+
+    names: tuple[str, ...]
+    rows: int
+    need: int
+
+
+@dataclass(frozen=True)
 class Circuit:
     """A critical circuit: the sums of its delays and distances, the interval that it needs, and its edges."""
 
@@ -120,13 +129,16 @@ class Grid:
 
 @dataclass(frozen=True)
 class Explained:
-    """What `explain` prints for a loop. Without a kernel there are neither `held`, values nor grid."""
+    """What `explain` prints for a loop. Without a kernel there are neither `held`, values nor grid. `is_least` is whether no schedule has a
+    shorter interval by the fullest set of units or the recurrences."""
 
     bounds: Bounds
     units: list[UnitUse]
+    fullest: UnitSet
     circuit: Circuit | None
     tried: list[Try]
     held: str | None
+    is_least: bool
     values: list[Value]
     grid: Grid | None
 
@@ -229,6 +241,14 @@ def _units(lines: Lines, bounds: Bounds) -> list[UnitUse]:
     return units
 
 
+def _fullest(lines: Lines) -> UnitSet:
+    names, *numbers = lines.take(rf"units ({UNIT}(?: {UNIT})*) take ({NUMBER}) rows, need ({NUMBER})", "the fullest set of units")
+    fullest = UnitSet(tuple(names.split(" ")), *map(int, numbers))
+    lines.check(len(set(fullest.names)) == len(fullest.names), "a unit stands twice")
+    lines.check(fullest.need == -(-fullest.rows // len(fullest.names)), "not the interval of its rows")
+    return fullest
+
+
 def _circuit(lines: Lines, bounds: Bounds) -> Circuit | None:
     if lines.match("circuit none") is not None:
         return None
@@ -256,15 +276,19 @@ def _tried(lines: Lines, bounds: Bounds) -> list[Try]:
     tried: list[Try] = []
     while not tried or (lines.line.startswith("try ") and tried[-1].outcome != "kernel"):
         for outcome, form, named in OUTCOMES:
-            groups = lines.match(rf"try ({NUMBER}) {outcome}{form}")
+            last = "" if outcome == "kernel" else rf"(?: to ({NUMBER}))?"
+            groups = lines.match(rf"try ({NUMBER}){last} {outcome}{form}")
             if groups is not None:
                 break
         else:
             raise lines.misfit("not a tried interval")
         interval, *parts = groups
+        last = interval if outcome == "kernel" else parts.pop(0) or interval
         names = tuple(name for part in parts[:named] for name in part.split(" "))
-        tried.append(Try(int(interval), outcome, names, tuple(map(int, parts[named:]))))
-        lines.check(int(interval) == bounds.mii + len(tried) - 1, "not the next interval")
+        lines.check(int(interval) == bounds.mii + len(tried), "not the next interval")
+        lines.check(int(interval) <= int(last), "the last interval is before the first")
+        numbers = tuple(map(int, parts[named:]))
+        tried += [Try(it, outcome, names, numbers) for it in range(int(interval), int(last) + 1)]
     return tried
 
 
@@ -315,17 +339,21 @@ def _grid(lines: Lines, interval: int) -> Grid:
 
 def _explained(lines: Lines) -> Explained:
     bounds = _bounds(lines)
-    units, circuit, tried = _units(lines, bounds), _circuit(lines, bounds), _tried(lines, bounds)
+    units, fullest, circuit, tried = _units(lines, bounds), _fullest(lines), _circuit(lines, bounds), _tried(lines, bounds)
     if tried[-1].outcome != "kernel":
-        return Explained(bounds, units, circuit, tried, None, [], None)
-    (held,) = lines.take(r"held by (units|recurrences|both|table|budget|stages|registers)", "what holds the interval")
+        return Explained(bounds, units, fullest, circuit, tried, None, False, [], None)
+    (held,) = lines.take(r"held by (units|recurrences|both|one cycle|table|budget|stages|registers)", "what holds the interval")
     if len(tried) > 1:
         lines.check(held == tried[-2].outcome, "not the cause of the interval before")
     else:
         sign = (bounds.resources > bounds.recurrences) - (bounds.resources < bounds.recurrences)
-        lines.check(held == ["both", "units", "recurrences"][sign], "not the greater of the two bounds")
+        both = "both" if circuit else "one cycle"
+        lines.check(held == [both, "units", "recurrences"][sign], "not the greater of the two bounds")
+    is_least = max(fullest.need, bounds.recurrences) == tried[-1].interval
+    if is_least:
+        lines.take("least possible", "that no shorter interval is possible")
     values = _values(lines)
-    return Explained(bounds, units, circuit, tried, held, values, _grid(lines, tried[-1].interval))
+    return Explained(bounds, units, fullest, circuit, tried, held, is_least, values, _grid(lines, tried[-1].interval))
 
 
 def read_explain(text: str) -> list[Explained]:

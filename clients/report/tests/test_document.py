@@ -29,10 +29,12 @@ loops 1
 SUM_EXPLAIN = """loop acc ops 3 res 2 rec 1 mii 2
 unit mem uses 2 full: t b[i]
 unit alu uses 1: s
+units mem take 2 rows, need 2
 circuit delay 1 distance 1 needs 1
 edge 1 s 1 s value delay 1 distance 1
 try 2 kernel stages 3
 held by units
+least possible
 value t lives 3 to 3 register 0
 value s lives 2 to 5 register 1
 row    mem alu live
@@ -118,6 +120,7 @@ loops 1
 """
 LONE_EXPLAIN = """loop lone ops 1 res 2 rec 1 mii 2
 unit u uses 2 full: m*2
+units u take 2 rows, need 2
 circuit none
 try 2 table: m
 loops 1 met 0 failed 1
@@ -132,9 +135,11 @@ loops 1
 """
 TWICE_EXPLAIN = """loop twice ops 2 res 4 rec 1 mii 4
 unit m uses 4 full: b[i-1]*2 b[i-1]*2
+units m take 4 rows, need 4
 circuit none
 try 4 kernel stages 1
 held by units
+least possible
 row        m live
   0 b[i-1]/0    0
   1 b[i-1]/0    0
@@ -155,7 +160,7 @@ def listing(loop: dict) -> dict:
 
 def causes(*lines: str) -> str:
     """What `explain` prints of a loop of the bound 2 whose tried intervals have these lines."""
-    return "\n".join(["loop p ops 9 res 2 rec 1 mii 2", "circuit none", *lines, "loops 1 met 0 failed 1", ""])
+    return "\n".join(["loop p ops 9 res 2 rec 1 mii 2", "units u take 2 rows, need 2", "circuit none", *lines, "loops 1 met 0 failed 1", ""])
 
 
 class Lines(unittest.TestCase):
@@ -177,7 +182,7 @@ loops 1
         self.assertEqual(read_explain("loops 0 met 0 failed 0\n"), [])
 
     def test_causes(self):
-        (it,) = read_explain(causes("try 2 table: m", "try 3 budget: x b[i-4] y", "try 4 stages: s at 256", "try 5 registers: v lives 3 to 70"))
+        (it,) = read_explain(causes("try 2 table: m", "try 3 budget: x b[i-4] y", "try 4 stages: s at 256", "try 5 to 6 registers: v lives 3 to 70"))
         self.assertEqual(
             it.tried,
             [
@@ -185,6 +190,7 @@ loops 1
                 Try(3, "budget", ("x", "b[i-4]", "y"), ()),
                 Try(4, "stages", ("s",), (256,)),
                 Try(5, "registers", ("v",), (3, 70)),
+                Try(6, "registers", ("v",), (3, 70)),
             ],
         )
         self.assertIsNone(it.held)
@@ -230,23 +236,26 @@ loops 1
             [
                 (2, "uses 2", "uses 3", "not the sum"),
                 (2, " full", "", "full, but"),
-                (3, "alu", "Alu", "not a circuit"),
-                (3, "s", "s*1", "not a circuit"),
-                (4, "needs 1", "needs 2", "not the interval of its sums"),
-                (5, "delay 1", "delay 2", "other sums"),
-                (6, "try 2", "try 3", "not the next interval"),
-                (6, "kernel", "colonel", "not a tried interval"),
-                (7, "units", "both", "not the greater"),
-                (9, "to 5", "to -5", "not the head of a grid"),
-                (11, ".", "-", "not row 0"),
-                (11, "  .", "", "not a cell for each"),
-                (11, "  0", "  1", "not row 0"),
-                (13, "units 1", "units 0", "not a line of bounds"),
-                (14, "met 1", "met 0", "not the numbers of loops"),
+                (3, "alu", "Alu", "not the fullest set"),
+                (3, "s", "s*1", "not the fullest set"),
+                (4, "mem", "mem mem", "a unit stands twice"),
+                (4, "need 2", "need 3", "not the interval of its rows"),
+                (5, "needs 1", "needs 2", "not the interval of its sums"),
+                (6, "delay 1", "delay 2", "other sums"),
+                (7, "try 2", "try 3", "not the next interval"),
+                (7, "kernel", "colonel", "not a tried interval"),
+                (8, "units", "both", "not the greater"),
+                (9, "least", "best", "not that no shorter"),
+                (11, "to 5", "to -5", "not the head of a grid"),
+                (13, ".", "-", "not row 0"),
+                (13, "  .", "", "not a cell for each"),
+                (13, "  0", "  1", "not row 0"),
+                (15, "units 1", "units 0", "not a line of bounds"),
+                (16, "met 1", "met 0", "not the numbers of loops"),
             ],
         )
         # (these are told where the grid ends)
-        self.misfits(lambda text: self.at_line(12, read_explain, text), SUM_EXPLAIN, [(12, " full", "", "full stands"), (12, "3", "1", "full stands")])
+        self.misfits(lambda text: self.at_line(14, read_explain, text), SUM_EXPLAIN, [(14, " full", "", "full stands"), (14, "3", "1", "full stands")])
         with self.assertRaises(Misfit):
             read_explain(SUM_EXPLAIN.replace("  0    t/0", " 0     t/0"))
 
@@ -281,7 +290,7 @@ class Document(unittest.TestCase):
 
     def test_evidence(self):
         lines = ["try 2 budget: t b[i]", "try 3 stages: s at 200", "try 4 registers: s lives 2 to 5"]
-        text = "\n".join([*SUM_EXPLAIN.split("\n")[:5], *lines, "loops 1 met 0 failed 1", ""])
+        text = "\n".join([*SUM_EXPLAIN.split("\n")[:6], *lines, "loops 1 met 0 failed 1", ""])
         listed = {key: it for key, it in SUM_JSON["loops"][0].items() if key != "kernel"} | {"cause": "registers", "failed_to": 4}
         (loop,) = self.joined(SUM_EDGES, text, listing(listed))["loops"]
         told = [
@@ -344,7 +353,7 @@ class Command(unittest.TestCase):
         self.assertEqual((refused.returncode, refused.stdout, refused.stderr), (4, "", "modsched: machine: not TOML\n"))
         misfit = self.run_with(self.answers(explain=SUM_EXPLAIN.replace("held by units", "held by unity")))
         self.assertEqual((misfit.returncode, misfit.stdout), (8, ""))
-        self.assertRegex(misfit.stderr, r"^report: explain, line 7: not .*: held by unity\n$")
+        self.assertRegex(misfit.stderr, r"^report: explain, line 8: not .*: held by unity\n$")
         for broken in ("{", '{"version":1}', "[]"):
             self.assertEqual(self.run_with(self.answers(json=broken)).returncode, 8)
 

@@ -4,3 +4,4 @@ mod dependences;
 mod given;
 mod library;
 mod runs;
+mod sets;

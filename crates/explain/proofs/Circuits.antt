@@ -1,5 +1,5 @@
 -- The circuit that needs the bound of a problem.
-use Rattle.std.proofs.Common.{◌≡◌, ℕ, ◌<◌, ◌≤◌, zero, suc, List, [], ◌∷◌, ◌++◌, length, get_or, refl, ap, ◌∙◌, subst, arith}
+use Rattle.std.proofs.Common.{◌≡◌, ◌==◌, Bool, ℕ, ◌<◌, ◌≤◌, zero, suc, List, [], ◌∷◌, ◌++◌, length, get_or, refl, ap, ◌∙◌, subst, arith}
 use Rattle.std.specs.List.{All, Contains}
 use Rattle.std.proofs.lemmas.List.Elements.{All-contains}
 use Rattle.graph.specs.Dependences.{EdgeData, Dependence}
@@ -48,11 +48,11 @@ critical-of problem graph bound circuit same is c =
     subst (λ (g : GraphData). IsCritical g.edges problem.recurrences circuit) same (subst (λ (b : ℕ). IsCritical graph.edges b circuit) is c)
 
 -- the lines of the circuit that was found
-pub circuit-part : (p : ProblemData) (loop : LoopData) (graph : GraphData) (bound : ℕ) (items one circuit : List EdgeData) (old mid new : List ℕ) → loop ≡ p.loop → graph ≡ p.graph
-    → bound ≡ p.recurrences → one ≡ items → circuit ≡ items → IsCritical graph.edges bound items → mid ≡ old ++ circuit_line one bound
+pub circuit-part : (free : Bool) (p : ProblemData) (loop : LoopData) (graph : GraphData) (bound : ℕ) (items one circuit : List EdgeData) (old mid new : List ℕ) → loop ≡ p.loop → graph ≡ p.graph
+    → bound ≡ p.recurrences → one ≡ items → circuit ≡ items → free ≡ (length items == 0) → IsCritical graph.edges bound items → mid ≡ old ++ circuit_line one bound
     → ((lines : List ℕ) × AreTexts (IsOfKind loop graph.latencies) (edge_line loop) circuit lines × (new ≡ mid ++ lines))
-    → (part : List ℕ) × IsCircuitText p part × (new ≡ old ++ part)
-circuit-part p loop graph bound items one circuit old mid new same_loop same_graph same_bound first second critical head edges = (
+    → (part : List ℕ) × (text : IsCircuitText p part) × (free ≡ (length text.circuit == 0)) × (new ≡ old ++ part)
+circuit-part free p loop graph bound items one circuit old mid new same_loop same_graph same_bound first second lone critical head edges = (
   circuit_line items p.recurrences ++ edges.0,
   record {
     circuit = items;
@@ -63,6 +63,7 @@ circuit-part p loop graph bound items one circuit old mid new same_loop same_gra
         (subst (λ (es : List EdgeData). AreTexts (IsOfKind loop graph.latencies) (edge_line loop) es edges.0) second edges.1));
     is_text = refl;
   },
+  lone,
   two_pushed old (circuit_line items p.recurrences) edges.0 mid new
       (head ∙ ap (λ (es : List EdgeData). old ++ circuit_line es bound) first ∙ ap (λ (b : ℕ). old ++ circuit_line items b) same_bound) edges.2,
 )

@@ -1,5 +1,5 @@
 -- What is told of loops, one after another.
-use Rattle.std.proofs.Common.{◌≡◌, ℕ, ◌+◌, Bool, cond, List, [], ◌∷◌, ◌++◌, length, Option, Some, None, refl, sym, ap, ◌∙◌, subst, append_assoc, arith}
+use Rattle.std.proofs.Common.{◌≡◌, ◌==◌, ℕ, ◌+◌, Bool, cond, List, [], ◌∷◌, ◌++◌, length, Option, Some, None, refl, sym, ap, ◌∙◌, subst, append_assoc, arith}
 use Rattle.std.specs.Prelude.{Result, Ok, Err, count_by}
 use Rattle.std.proofs.lemmas.List.{append-nil}
 use Rattle.std.proofs.lemmas.List.Sums.{sum_by-append}
@@ -18,35 +18,39 @@ use Rattle.graph_text.proofs.Texts.{all_zip-push, zipped-push}
 use Rattle.writing.proofs.Beginnings.{two_pushed}
 use Rattle.resource_bound.specs.Choices.{AreUnitChoices}
 use Rattle.resource_bound.specs.UnitLines.{unit_lines_of}
+use Rattle.unit_sets.specs.declared.fullest.UnitSet.{UnitSet}
+use Rattle.unit_sets.specs.Fullest.{IsFullest}
 use Rattle.ims.specs.Problems.{ProblemData, IsProblemOf}
 use Rattle.candidates.specs.declared.choices.Choice.{Choice}
 use Rattle.candidates.specs.Listings.{is_met, is_failed}
 use Rattle.explain.specs.CircuitTexts.{IsCircuitText}
 use Rattle.explain.specs.Explanations.{ArePartsOf, IsExplained, IsPartOf, IsTold, IsToldOn, PartData, bounds_of}
+use Rattle.explain.specs.SetLines.{set_line}
 use Rattle.explain.specs.Shown.{IsShown}
 use Rattle.explain.specs.Tries.{AreTries}
 
 -- the parts of what is told of a loop
-pub explained : (units : List ℕ) (p : ProblemData) (choice : Choice) (loop : LoopData) (bounds : LowerBounds) (old a u b new : List ℕ) → loop ≡ p.loop → bounds ≡ bounds_of p
-    → a ≡ old ++ bounds_line loop bounds → u ≡ a ++ units → ((part : List ℕ) × IsCircuitText p part × (b ≡ u ++ part)) → ((tries : List ℕ) × AreTries p choice tries × (new ≡ b ++ tries))
-    → (part : List ℕ) × IsExplained units p choice part × (new ≡ old ++ part)
-explained units p choice loop bounds old a u b new same_loop same_bounds head lines circuit tries =
+pub explained : (units : List ℕ) (need : ℕ) (free : Bool) (p : ProblemData) (choice : Choice) (loop : LoopData) (bounds : LowerBounds) (old a u b new : List ℕ) → loop ≡ p.loop → bounds ≡ bounds_of p
+    → a ≡ old ++ bounds_line loop bounds → u ≡ a ++ units
+    → ((part : List ℕ) × (circuit : IsCircuitText p part) × (free ≡ (length circuit.circuit == 0)) × (b ≡ u ++ part)) → ((tries : List ℕ) × AreTries p need free choice tries × (new ≡ b ++ tries))
+    → (part : List ℕ) × IsExplained units need p choice part × (new ≡ old ++ part)
+explained units need free p choice loop bounds old a u b new same_loop same_bounds head lines circuit tries =
     let line = bounds_line p.loop (bounds_of p) in
     let first : a ≡ old ++ line = head ∙ ap (λ (l : LoopData). old ++ bounds_line l bounds) same_loop ∙ ap (λ (x : LowerBounds). old ++ bounds_line p.loop x) same_bounds in
     let both : u ≡ old ++ (line ++ units) = two_pushed old line units a u first lines in (
       ((line ++ units) ++ circuit.0) ++ tries.0,
-      record { circuit = circuit.0; is_circuit = circuit.1; tries = tries.0; are_tries = tries.1; is_text = refl },
-      two_pushed old ((line ++ units) ++ circuit.0) tries.0 b new (two_pushed old (line ++ units) circuit.0 u b both circuit.2) tries.2,
+      record { circuit = circuit.0; is_circuit = circuit.1; tries = tries.0; are_tries = subst (λ f. AreTries p need f choice tries.0) circuit.2 tries.1; is_text = refl },
+      two_pushed old ((line ++ units) ++ circuit.0) tries.0 b new (two_pushed old (line ++ units) circuit.0 u b both circuit.3) tries.2,
     )
 
 -- the schedule and the registers after that
-pub told-of : (machine : MachineData) (units : List ℕ) (p : ProblemData) (choice same : Choice) (old middle new : List ℕ) → choice ≡ same
-    → ((part : List ℕ) × IsExplained units p same part × (middle ≡ old ++ part)) → ((part : List ℕ) × IsShown machine p same part × (new ≡ middle ++ part))
-    → (part : List ℕ) × IsTold machine units p choice part × (new ≡ old ++ part)
-told-of machine units p choice same old middle new e explanation shown =
-    subst (λ (c : Choice). (part : List ℕ) × IsTold machine units p c part × (new ≡ old ++ part)) (sym e) (
+pub told-of : (machine : MachineData) (given units : List ℕ) (need : ℕ) (p : ProblemData) (choice same : Choice) (old middle new : List ℕ) → given ≡ units → choice ≡ same
+    → ((part : List ℕ) × IsExplained given need p same part × (middle ≡ old ++ part)) → ((part : List ℕ) × IsShown machine p same part × (new ≡ middle ++ part))
+    → (part : List ℕ) × IsTold machine units need p choice part × (new ≡ old ++ part)
+told-of machine given units need p choice same old middle new lines e explanation shown =
+    subst (λ (c : Choice). (part : List ℕ) × IsTold machine units need p c part × (new ≡ old ++ part)) (sym e) (
       explanation.0 ++ shown.0,
-      record { explanation = explanation.0; is_explanation = explanation.1; shown = shown.0; is_shown = shown.1; is_text = refl },
+      record { explanation = explanation.0; is_explanation = subst (λ (u : List ℕ). IsExplained u need p same explanation.0) lines explanation.1; shown = shown.0; is_shown = shown.1; is_text = refl },
       two_pushed old explanation.0 shown.0 middle new explanation.2 shown.2,
     )
 
@@ -56,17 +60,20 @@ prepared-ok None P x a = (refl, a)
 prepared-ok (Some o) P x a = cc
 
 -- what is told of a problem with the lines of its units
-pub told-on : (machine : MachineData) (loop : LoopData) (p : ProblemData) (choice : Choice) (units alternatives old new : List ℕ) → loop ≡ p.loop → lacking_in machine loop ≡ None
-    → AreUnitChoices (operations_of machine loop) alternatives → units ≡ unit_lines_of machine loop alternatives → ((part : List ℕ) × IsTold machine units p choice part × (new ≡ old ++ part))
+pub told-on : (machine : MachineData) (loop : LoopData) (p : ProblemData) (choice : Choice) (set : UnitSet) (units alternatives old new : List ℕ) → loop ≡ p.loop → lacking_in machine loop ≡ None
+    → AreUnitChoices (operations_of machine loop) alternatives → IsFullest (operations_of machine loop) set → units ≡ unit_lines_of machine loop alternatives ++ set_line machine set
+    → ((part : List ℕ) × IsTold machine units set.need p choice part × (new ≡ old ++ part))
     → TextAnswers (lacking_in machine p.loop) (λ (c : Choice). (part : List ℕ) × IsToldOn machine p c part × (new ≡ old ++ part)) (Ok choice)
-told-on machine loop p choice units alternatives old new same none best lines told =
+told-on machine loop p choice set units alternatives old new same none best fullest lines told =
     complete (lacking_in machine p.loop) (λ (c : Choice). (part : List ℕ) × IsToldOn machine p c part × (new ≡ old ++ part)) choice
     (subst (λ (l : LoopData). lacking_in machine l ≡ None) same none) (
       told.0,
       record {
         alternatives = alternatives;
         are_best = subst (λ (l : LoopData). AreUnitChoices (operations_of machine l) alternatives) same best;
-        told = subst (λ (t : List ℕ). IsTold machine t p choice told.0) (lines ∙ ap (λ (l : LoopData). unit_lines_of machine l alternatives) same) told.1;
+        set = set;
+        is_fullest = subst (λ (l : LoopData). IsFullest (operations_of machine l) set) same fullest;
+        told = subst (λ (t : List ℕ). IsTold machine t set.need p choice told.0) (lines ∙ ap (λ (l : LoopData). unit_lines_of machine l alternatives ++ set_line machine set) same) told.1;
       },
       told.2,
     )
@@ -79,7 +86,9 @@ part_of machine ratio ceiling loop p choice text is told = record {
   is_problem = is;
   alternatives = told.alternatives;
   are_best = subst (λ (l : LoopData). AreUnitChoices (operations_of machine l) told.alternatives) is.same_loop told.are_best;
-  told = subst (λ (l : LoopData). IsTold machine (unit_lines_of machine l told.alternatives) p choice text) is.same_loop told.told;
+  set = told.set;
+  is_fullest = subst (λ (l : LoopData). IsFullest (operations_of machine l) told.set) is.same_loop told.is_fullest;
+  told = subst (λ (l : LoopData). IsTold machine (unit_lines_of machine l told.alternatives ++ set_line machine told.set) told.set.need p choice text) is.same_loop told.told;
 }
 
 -- an answer that tells more

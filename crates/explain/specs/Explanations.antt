@@ -11,9 +11,12 @@ use Rattle.resource_bound.specs.UnitLines.{unit_lines_of}
 use Rattle.ims.specs.Problems.{ProblemData, IsProblemOf}
 use Rattle.candidates.specs.declared.choices.Choice.{Choice}
 use Rattle.candidates.specs.Listings.{is_met, is_failed}
+use Rattle.unit_sets.specs.declared.fullest.UnitSet.{UnitSet}
+use Rattle.unit_sets.specs.Fullest.{IsFullest}
 use Rattle.writing.specs.Words as words
 use Rattle.explain.specs.declared.file.Explained.{Explained}
 use Rattle.explain.specs.CircuitTexts.{IsCircuitText}
+use Rattle.explain.specs.SetLines.{set_line}
 use Rattle.explain.specs.Shown.{IsShown}
 use Rattle.explain.specs.Tries.{AreTries}
 
@@ -22,35 +25,39 @@ abbrev pub bounds_of : ProblemData → LowerBounds
 bounds_of problem = record { resources = problem.resources; recurrences = problem.recurrences }
 
 -- a loop with its choice: the line of its lower bounds, the lines of the units, a circuit that needs the recurrence-constrained
--- bound, and what was tried
-pub record IsExplained (units : List ℕ) (problem : ProblemData) (choice : Choice) (text : List ℕ) : Type 0 where
+-- bound, and what was tried. The fullest set of units has a need
+pub record IsExplained (units : List ℕ) (need : ℕ) (problem : ProblemData) (choice : Choice) (text : List ℕ) : Type 0 where
   pub circuit : List ℕ
   pub is_circuit : IsCircuitText problem circuit
   pub tries : List ℕ
-  pub are_tries : AreTries problem choice tries
+  pub are_tries : AreTries problem need (length is_circuit.circuit == 0) choice tries
   pub is_text : text ≡ ((bounds_line problem.loop (bounds_of problem) ++ units) ++ circuit) ++ tries
 
 -- that, and the schedule and the registers of the chosen interval after it
-pub record IsTold (machine : MachineData) (units : List ℕ) (problem : ProblemData) (choice : Choice) (text : List ℕ) : Type 0 where
+pub record IsTold (machine : MachineData) (units : List ℕ) (need : ℕ) (problem : ProblemData) (choice : Choice) (text : List ℕ) : Type 0 where
   pub explanation : List ℕ
-  pub is_explanation : IsExplained units problem choice explanation
+  pub is_explanation : IsExplained units need problem choice explanation
   pub shown : List ℕ
   pub is_shown : IsShown machine problem choice shown
   pub is_text : text ≡ explanation ++ shown
 
--- that, with the lines of the units by the choices of the problem's resource-constrained bound
+-- that, with the lines of the units by the choices of the problem's resource-constrained bound, and the line of the fullest set of units
 pub record IsToldOn (machine : MachineData) (problem : ProblemData) (choice : Choice) (text : List ℕ) : Type 0 where
   pub alternatives : List ℕ
   pub are_best : AreUnitChoices (operations_of machine problem.loop) alternatives
-  pub told : IsTold machine (unit_lines_of machine problem.loop alternatives) problem choice text
+  pub set : UnitSet
+  pub is_fullest : IsFullest (operations_of machine problem.loop) set
+  pub told : IsTold machine (unit_lines_of machine problem.loop alternatives ++ set_line machine set) set.need problem choice text
 
--- the problem of a loop on a machine, and the choices of the resource-constrained bound, with that
+-- the problem of a loop on a machine, the choices of the resource-constrained bound and the fullest set of units, with that
 pub record IsPartOf (machine : MachineData) (ratio ceiling : ℕ) (loop : LoopData) (choice : Choice) (text : List ℕ) : Type 0 where
   pub problem : ProblemData
   pub is_problem : IsProblemOf machine loop ratio ceiling problem
   pub alternatives : List ℕ
   pub are_best : AreUnitChoices (operations_of machine loop) alternatives
-  pub told : IsTold machine (unit_lines_of machine loop alternatives) problem choice text
+  pub set : UnitSet
+  pub is_fullest : IsFullest (operations_of machine loop) set
+  pub told : IsTold machine (unit_lines_of machine loop alternatives ++ set_line machine set) set.need problem choice text
 
 -- a loop's choice, and what is told of the loop
 pub record PartData : Type 0 where

@@ -1,9 +1,11 @@
 -- The lines of the intervals that are tried.
-use Rattle.std.specs.Prelude.{◌≡◌, ℕ, ◌+◌, ◌-◌, codes, List, [], ◌++◌}
-use Rattle.std.specs.List.{range_with_len}
+use Rattle.std.specs.Prelude.{◌≡◌, ℕ, ◌+◌, ◌-◌, ◌<◌, ◌≤◌, ◌==◌, max, Bool, true, if◌then◌else◌, codes, List, [], ◌++◌, map}
+use Rattle.std.specs.List.{range_with_len, AllZip}
 use Rattle.loop_data.specs.Loops.{LoopData}
-use Rattle.graph_text.specs.Texts.{AreTexts}
-use Rattle.ims.specs.Problems.{ProblemData, mii_of}
+use Rattle.graph.specs.Schedules.{IsLawfulSchedule}
+use Rattle.ims.specs.Problems.{ProblemData, IsProblem, mii_of}
+use Rattle.unit_sets.specs.declared.fullest.UnitSet.{UnitSet}
+use Rattle.unit_sets.specs.Fullest.{IsFullest}
 use Rattle.candidates.specs.declared.choices.Choice.{Choice}
 use Rattle.candidates.specs.declared.choices.Choice.TheVariants.{Met, Failed}
 use Rattle.candidates.specs.declared.evidence.Reason.{Reason}
@@ -14,10 +16,11 @@ use Rattle.writing.specs.Words.{told}
 use Rattle.explain.specs.declared.intervals.hold.Hold.{Hold}
 use Rattle.explain.specs.Holds.{IsHold, hold_word}
 use Rattle.explain.specs.Reasons.{reason_text}
+use Rattle.explain.specs.Runs.{runs_text}
 
--- `try I CAUSE:`, and its culprits, with a line feed
-abbrev pub try_line : LoopData → ℕ → Reason → List ℕ
-try_line loop ii reason = (((told (codes "try ") ii ++ (codes " " ++ cause_word (reason_cause reason))) ++ codes ":") ++ reason_text loop reason) ++ codes "\n"
+-- ` CAUSE:`, and its culprits
+abbrev pub why_text : LoopData → Reason → List ℕ
+why_text loop reason = ((codes " " ++ cause_word (reason_cause reason)) ++ codes ":") ++ reason_text loop reason
 
 -- `try I kernel stages S`, with a line feed
 abbrev pub kernel_line : ℕ → ℕ → List ℕ
@@ -27,21 +30,37 @@ kernel_line ii stages = (told (codes "try ") ii ++ told (codes " kernel stages "
 abbrev pub hold_line : Hold → List ℕ
 hold_line hold = (codes "held by " ++ hold_word hold) ++ codes "\n"
 
+-- `least possible`, with a line feed, where that is so
+abbrev pub least_line : Bool → List ℕ
+least_line least = if least then codes "least possible\n" else []
+
+-- the interval is what the fullest set of units or the recurrences need, so that no lawful schedule has a shorter one
+abbrev pub is_least_possible : ProblemData → ℕ → ℕ → Bool
+is_least_possible problem need ii = max need problem.recurrences == ii
+
+-- where an interval is what the fullest set of units or the recurrences need, no lawful schedule has a shorter one
+abbrev pub LeastIsLeast : Type 0
+LeastIsLeast = (problem : ProblemData) (set : UnitSet) (ii shorter : ℕ) (times choices : List ℕ) → IsProblem problem → IsFullest problem.operations set
+    → is_least_possible problem set.need ii ≡ true → 0 < shorter → IsLawfulSchedule shorter problem.operations problem.graph.edges times choices → ii ≤ shorter
+
 -- how many intervals are tried that give no kernel: all before the chosen one, or all
 abbrev pub failures_of : ProblemData → Choice → ℕ
 failures_of problem (Met ii kernel) = ii - mii_of problem
 failures_of problem (Failed cause) = problem.ceiling + 1
 
--- the chosen interval, and what holds it, where there is one
-abbrev pub IsEnd : ProblemData → Choice → List ℕ → Type 0
-IsEnd problem (Met ii kernel) text = (hold : Hold) × IsHold problem ii hold × (text ≡ kernel_line ii kernel.stages ++ hold_line hold)
-IsEnd problem (Failed cause) text = text ≡ []
+-- the chosen interval, what holds it, and whether no shorter one is possible, where there is one. The fullest set of units has a
+-- need; free tells that no circuit needs the recurrence-constrained bound
+abbrev pub IsEnd : ProblemData → ℕ → Bool → Choice → List ℕ → Type 0
+IsEnd problem need free (Met ii kernel) text =
+    (hold : Hold) × IsHold problem free ii hold × (text ≡ (kernel_line ii kernel.stages ++ hold_line hold) ++ least_line (is_least_possible problem need ii))
+IsEnd problem need free (Failed cause) text = text ≡ []
 
--- the choice of a loop, with a line for each interval, from the least one on, that gives no kernel, with its cause and culprits
-pub record AreTries (problem : ProblemData) (choice : Choice) (text : List ℕ) : Type 0 where
+-- the choice of a loop, with the cause and the culprits of each interval, from the least one on, that gives no kernel: a line for
+-- neighbouring ones of which the same is told
+pub record AreTries (problem : ProblemData) (need : ℕ) (free : Bool) (choice : Choice) (text : List ℕ) : Type 0 where
   pub is_choice : IsChoice problem choice
-  pub lines : List ℕ
-  pub are_lines : AreTexts (FailsFor problem) (try_line problem.loop) (range_with_len (mii_of problem) (failures_of problem choice)) lines
+  pub reasons : List Reason
+  pub are_reasons : AllZip (FailsFor problem) (range_with_len (mii_of problem) (failures_of problem choice)) reasons
   pub end : List ℕ
-  pub is_end : IsEnd problem choice end
-  pub is_text : text ≡ lines ++ end
+  pub is_end : IsEnd problem need free choice end
+  pub is_text : text ≡ runs_text (mii_of problem) (map (why_text problem.loop) reasons) ++ end

@@ -1,6 +1,6 @@
 //! The lines of a circuit that needs the recurrence-constrained lower bound.
 
-ghost use Rattle.std.specs.Prelude.{◌≡◌, ◌++◌, ℕ, List, OnOk};
+ghost use Rattle.std.specs.Prelude.{◌≡◌, ◌==◌, ◌++◌, ℕ, List, length, IfOk, OnOk};
 ghost use Rattle.std.specs.List.{All};
 ghost use Rattle.loop_data.specs.Loops.{IsLoop};
 ghost use Rattle.graph_text.specs.Edges.{edge_line};
@@ -32,17 +32,18 @@ fn push_circuit_edges(
     Ok(())
 }
 
-/// Appends the lines of a circuit that needs the recurrence-constrained lower bound.
+/// Appends the lines of a circuit that needs the recurrence-constrained lower bound, and tells whether there is none.
 pub(crate) fn push_circuit(
     alloc: Global,
     text: &mut Vec<u8>,
     prepared: &Prepared,
-) -> Result<(), OutOfMemory>
-    ensures ok { OnOk result ((part : List ℕ) × IsCircuitText prepared.now part × (text.new.items ≡ text.old.items ++ part)) }
+) -> Result<bool, OutOfMemory>
+    ensures ok { IfOk result (λ free. (part : List ℕ) × (circuit : IsCircuitText prepared.now part) × (free ≡ (length circuit.circuit == 0)) × (text.new.items ≡ text.old.items ++ part)) }
 {
     let graph = prepared.edges();
     let bound = prepared.recurrences();
     let circuit = critical_circuit(alloc, graph, bound)?;
     push_circuit_line(text, circuit.as_slice(), bound)?;
-    push_circuit_edges(text, prepared.innermost(), graph, circuit.as_slice())
+    push_circuit_edges(text, prepared.innermost(), graph, circuit.as_slice())?;
+    Ok(circuit.is_empty())
 }

@@ -1,27 +1,33 @@
 //! What is told of the loops of a file.
 
-ghost use Rattle.std.specs.Prelude.{◌≡◌, ◌<◌, ◌+◌, ◌++◌, ℕ, List, Vec, [], ◌∷◌, count_by, IfOk, OnOk};
+ghost use Rattle.std.specs.Prelude.{◌≡◌, ◌<◌, ◌+◌, ◌++◌, ℕ, List, Vec, [], ◌∷◌, None, length, count_by, IfOk, OnOk};
 ghost use Rattle.std.specs.Global.{Global};
-ghost use Rattle.graph.specs.Units.{first_lacking, operations_of};
+ghost use Rattle.graph.specs.Units.{first_lacking, first_without_table, operations_of};
 ghost use Rattle.graph_text.specs.Faults.{TextAnswers, lacking_in};
 ghost use Rattle.candidates.specs.Listings.{is_failed, is_met};
 ghost use Rattle.candidates.specs.declared.choices.Choice.{Choice};
 ghost use Rattle.explain.specs.Explanations.{ArePartsOf, IsExplanationOf, IsPartOf, IsTold, IsToldOn, last_line};
 ghost use Rattle.resource_bound.specs.Choices.{AreUnitChoices};
 ghost use Rattle.resource_bound.specs.UnitLines.{unit_lines_of};
+ghost use Rattle.explain.specs.SetLines.{set_line};
 ghost use Rattle.explain.specs.declared.file.Tally.{Tally};
+ghost use Rattle.explain.specs.declared.file.UnitLines.{UnitLines};
+ghost use Rattle.unit_sets.specs.Fullest.{IsFullest};
 
+use crate::set_line::push_set_line;
 use crate::shown::push_shown;
 use crate::single::push_chosen;
 use candidates::{Choice, prepare};
-use graph::GraphFault;
+use graph::{GraphFault, OfLoop};
 use graph_text::TextFault;
 use ims::Prepared;
 use loop_data::Loop;
+use machine_data::limits::MAX_STATEMENTS;
 use machine_data::{Machine, OutOfMemory};
 use resource_bound::{push_unit_lines, unit_choices};
 use settings::Settings;
 use std::alloc::Global;
+use unit_sets::{UnitSet, fullest_set};
 
 /// A guess of how many bytes are told of a loop, for the first reservation.
 const PART: usize = 512;
@@ -62,15 +68,49 @@ impl Tally {
     }
 }
 
-/// The lines of the units that a loop uses, by the alternatives that its resource-constrained bound counts.
-fn unit_lines(alloc: Global, machine: &Machine, innermost: &Loop) -> Result<Vec<u8>, TextFault>
-    ensures exact { TextAnswers (lacking_in machine.now innermost.now) (λ (text : Vec ℕ Global). (alternatives : List ℕ) × AreUnitChoices (operations_of machine.now innermost.now) alternatives × (text.items ≡ unit_lines_of machine.now innermost.now alternatives)) result }
+/// The lines of the units that a loop uses, with the fullest set of them.
+#[derive(Drop)]
+struct UnitLines {
+    text: Vec<u8>,
+    set: UnitSet,
+}
+
+/// The fullest set of units of a loop.
+fn set_of(alloc: Global, machine: &Machine, innermost: &Loop) -> Result<UnitSet, OutOfMemory>
+    requires { first_without_table machine.now innermost.now ≡ None }
+    ensures exact { IfOk result (IsFullest (operations_of machine.now innermost.now)) }
+{
+    prove!(innermost.statements().len() <= MAX_STATEMENTS);
+    fullest_set(alloc, &OfLoop { machine, innermost })
+}
+
+/// The lines of the units that a loop uses, by these choices of alternatives, and of the fullest set.
+fn lines_by(
+    alloc: Global,
+    machine: &Machine,
+    innermost: &Loop,
+    choices: &[u8],
+) -> Result<UnitLines, OutOfMemory>
+    requires tables { first_without_table machine.now innermost.now ≡ None }
+    requires each { length choices.now ≡ length innermost.now.statements }
+    ensures fullest { IfOk result (λ lines. IsFullest (operations_of machine.now innermost.now) lines.set) }
+    ensures exact { IfOk result (λ lines. lines.text.items ≡ unit_lines_of machine.now innermost.now choices.now ++ set_line machine.now lines.set) }
+{
+    let set = set_of(alloc, machine, innermost)?;
+    let mut text = Vec::new(alloc);
+    push_unit_lines(&mut text, machine, innermost, choices)?;
+    push_set_line(&mut text, machine, &set)?;
+    Ok(UnitLines { text, set })
+}
+
+/// The lines of the units that a loop uses, by the alternatives that its resource-constrained bound counts, and of the fullest set.
+fn unit_lines(alloc: Global, machine: &Machine, innermost: &Loop) -> Result<UnitLines, TextFault>
+    ensures exact { TextAnswers (lacking_in machine.now innermost.now) (λ (lines : UnitLines). (alternatives : List ℕ) × AreUnitChoices (operations_of machine.now innermost.now) alternatives × IsFullest (operations_of machine.now innermost.now) lines.set × (lines.text.items ≡ unit_lines_of machine.now innermost.now alternatives ++ set_line machine.now lines.set)) result }
 {
     match unit_choices(alloc, machine, innermost) {
         Ok(alternatives) => {
-            let mut text = Vec::new(alloc);
-            push_unit_lines(&mut text, machine, innermost, alternatives.as_slice())?;
-            Ok(text)
+            let lines = lines_by(alloc, machine, innermost, alternatives.as_slice())?;
+            Ok(lines)
         }
         Err(GraphFault::NoTable(opcode)) => {
             Err(TextFault::NoTable(innermost.name().copied(), opcode))
@@ -84,18 +124,18 @@ fn push_part(
     alloc: Global,
     text: &mut Vec<u8>,
     machine: &Machine,
-    units: &[u8],
+    units: &UnitLines,
     prepared: &Prepared,
 ) -> Result<Choice, OutOfMemory>
-    ensures exact { IfOk result (λ choice. (part : List ℕ) × IsTold machine.now units.now prepared.now choice part × (text.new.items ≡ text.old.items ++ part)) }
+    ensures exact { IfOk result (λ choice. (part : List ℕ) × IsTold machine.now units.now.text.items units.now.set.need prepared.now choice part × (text.new.items ≡ text.old.items ++ part)) }
 {
-    let chosen = push_chosen(alloc, text, units, prepared)?;
+    let chosen = push_chosen(alloc, text, units.text.as_slice(), units.set.need, prepared)?;
     push_shown(alloc, text, machine, prepared, &chosen)?;
     Ok(chosen.into_choice())
 }
 
 /// Appends what is told of a loop that is prepared for the machine: what [`push_explanation`](crate::push_explanation)
-/// writes, with the lines of the units that the loop uses, and the schedule and the registers of its kernel. The
+/// writes, with the lines of the units that the loop uses and of the fullest set of units, and the schedule and the registers of its kernel. The
 /// choice is that of the loop.
 ///
 /// # Errors
@@ -110,7 +150,7 @@ pub fn push_prepared(
     ensures exact { TextAnswers (lacking_in machine.now prepared.now.loop) (λ (choice : Choice). (part : List ℕ) × IsToldOn machine.now prepared.now choice part × (text.new.items ≡ text.old.items ++ part)) result }
 {
     let units = unit_lines(alloc, machine, prepared.innermost())?;
-    match push_part(alloc, text, machine, units.as_slice(), prepared) {
+    match push_part(alloc, text, machine, &units, prepared) {
         Ok(choice) => Ok(choice),
         Err(_) => Err(TextFault::Memory),
     }

@@ -3,4 +3,5 @@
 pub(crate) mod chosen;
 pub(crate) mod hold;
 pub(crate) mod reason_texts;
+pub(crate) mod runs;
 pub(crate) mod tries;

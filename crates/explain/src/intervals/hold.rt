@@ -17,6 +17,8 @@ pub enum Hold {
     Recurrences,
     /// Both need the interval.
     Both,
+    /// The interval is one cycle, and no circuit of dependences needs it.
+    Cycle,
     /// The interval is above both bounds: one cycle less gives no kernel, by this cause.
     Failure(Cause),
 }
@@ -30,16 +32,18 @@ impl Hold {
             Hold::Units => "units",
             Hold::Recurrences => "recurrences",
             Hold::Both => "both",
+            Hold::Cycle => "one cycle",
             Hold::Failure(cause) => cause.word(),
         }
     }
 }
 
-/// What holds an interval, in cycles, with the cause of the one before it, if that was tried.
-pub(crate) fn hold_of(prepared: &Prepared, interval: u64, before: Cause) -> Hold
+/// What holds an interval, in cycles, with the cause of the one before it, if that was tried; `free` tells that no circuit needs the
+/// recurrence-constrained bound.
+pub(crate) fn hold_of(prepared: &Prepared, free: bool, interval: u64, before: Cause) -> Hold
     requires low { mii_of prepared.now ≤ interval }
     requires before { mii_of prepared.now < interval → FailsBy prepared.now (interval - 1) before }
-    ensures { IsHold prepared.now interval result }
+    ensures { IsHold prepared.now free interval result }
 {
     let resources = prepared.resources();
     let recurrences = prepared.recurrences();
@@ -49,6 +53,8 @@ pub(crate) fn hold_of(prepared: &Prepared, interval: u64, before: Cause) -> Hold
         Hold::Recurrences
     } else if recurrences < resources {
         Hold::Units
+    } else if free {
+        Hold::Cycle
     } else {
         Hold::Both
     }

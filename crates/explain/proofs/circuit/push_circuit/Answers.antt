@@ -1,6 +1,5 @@
-use Rattle.std.proofs.Common.{List, sym, subst}
+use Rattle.std.proofs.Common.{◌≡◌, ◌==◌, List, length, vec_len, sym, ap, ◌∙◌, subst, arith}
 use Rattle.std.specs.List.{All}
-use Rattle.std.proofs.lemmas.Result.{IfOk-weaker}
 use Rattle.loop_data.specs.Loops.{IsLoop, LoopData}
 use Rattle.graph.specs.Dependences.{EdgeData}
 use Rattle.graph.specs.Graphs.{GraphData}
@@ -31,10 +30,10 @@ push_circuit_edges-requires c =
 pub returns : goal.returns
 returns c =
     let p = c.args.prepared.now in
+    let same : vec_len c.in_ok-circuit.circuit ≡ length c.in_ok-circuit.circuit.items = omega (arith, c.in_ok-circuit.circuit.ok.0) in
+    let lone : c.is_empty.result ≡ (length c.in_ok-circuit.circuit.items == 0) = c.is_empty.ensures ∙ ap (λ n. n == 0) same in
     record {
-      ok = IfOk-weaker c.push_circuit_edges.result _ _
-          (λ _ edges. circuit-part p c.innermost.result.now c.edges-graph.result.now c.recurrences-bound.result c.in_ok-circuit.circuit.items c.as_slice.result.now c.as_slice-2.result.now
+      ok = circuit-part c.is_empty.result p c.innermost.result.now c.edges-graph.result.now c.recurrences-bound.result c.in_ok-circuit.circuit.items c.as_slice.result.now c.as_slice-2.result.now
           c.args.text.now.items c.push_circuit_line.new.text.items c.push_circuit_edges.new.text.items c.innermost.ensures.value c.edges-graph.ensures.value c.recurrences-bound.ensures.value
-          c.as_slice.ensures.value c.as_slice-2.ensures.value c.in_ok-circuit.ensures.exact c.in_ok-push_circuit_line.ensures.ok edges)
-          c.push_circuit_edges.ensures.ok;
+          c.as_slice.ensures.value c.as_slice-2.ensures.value lone c.in_ok-circuit.ensures.exact c.in_ok-push_circuit_line.ensures.ok c.in_ok-push_circuit_edges.ensures.ok;
     }

@@ -6,8 +6,8 @@ use Rattle.explain.proofs.single.push_chosen.Goals as goal
 pub returns-clause-exact : goal.returns-clause-exact
 returns-clause-exact c =
     IfOk-weaker c.push_tries.result _ _
-    (λ chosen tries. explained c.args.units.now c.args.prepared.now (choice_of chosen) _ _ c.args.text.now.items c.push_bounds_line.new.text.items c.extend_from_slice.new.self.items
+    (λ chosen tries. explained c.args.units.now c.args.need c.in_ok-free.free c.args.prepared.now (choice_of chosen) _ _ c.args.text.now.items c.push_bounds_line.new.text.items c.extend_from_slice.new.self.items
     c.push_circuit.new.text.items c.push_tries.new.text.items c.innermost.ensures.value
     (λ i. record { resources = c.resources.ensures.value i; recurrences = c.recurrences.ensures.value i })
-    c.in_ok-push_bounds_line.ensures.ok c.in_ok-extend_from_slice.ensures.items c.in_ok-push_circuit.ensures.ok tries)
+    c.in_ok-push_bounds_line.ensures.ok c.in_ok-extend_from_slice.ensures.items c.in_ok-free.ensures.ok tries)
     c.push_tries.ensures.exact

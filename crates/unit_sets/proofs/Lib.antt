@@ -1,0 +1,5 @@
+pub mod Slots
+pub mod Listed
+pub mod Added
+pub mod Leading
+pub mod Bounds

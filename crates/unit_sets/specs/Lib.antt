@@ -1,0 +1,3 @@
+pub mod Sets
+pub mod Fullest
+pub mod inner

@@ -1,0 +1,3 @@
+-- Definitions that only this crate's private contracts cite.
+pub mod Added
+pub mod Rated
