@@ -9,7 +9,7 @@ use Rattle.command_line.specs.declared.line.Usage.TheVariants.{Help, Refused, Me
 use Rattle.clap.proofs.OnLiterals.{clap_on_literals}
 use Rattle.clap.specs.declared.error.kind.ErrorKind.TheVariants.{OutOfMemory}
 use Rattle.command_line.specs.Lines.{IsRead, IsRequest, IsSearchGiven, IsTaskGiven, IsToldBy, IsWorkGiven, AreLoopsGiven, AreProblemsGiven, AreTexts, AreTextsGiven, IsReportGiven, Means, MeansNamed, SaysFormat, SaysNumber, SaysSwitch, SaySettings, switch_word}
-use Rattle.command_line.specs.Lines.{program_line, search_line, run_line, plain_line, schedule_line, explain_line, either_line, either_with_names, lint_line, solve_line, check_line}
+use Rattle.command_line.specs.Lines.{program_line, search_line, run_line, plain_line, schedule_line, vary_line, explain_line, either_line, either_with_names, lint_line, solve_line, check_line}
 use Rattle.settings.specs.Settings.{AreSettings, SettingsData}
 use Rattle.clap.specs.declared.builder.command.Command.TheViews.{out-Command}
 use Rattle.command_line.specs.inner.Made.{IsAdded}
@@ -22,14 +22,14 @@ use Rattle.command_line.specs.declared.command.LintTexts.{LintTexts}
 use Rattle.command_line.specs.declared.command.Report.{Report}
 use Rattle.command_line.specs.declared.command.Report.TheVariants as report
 use Rattle.command_line.specs.declared.command.Search.{Search}
-use Rattle.command_line.specs.declared.command.Search.TheVariants.{Schedule, Json, Explain, Vary, Run}
+use Rattle.command_line.specs.declared.command.Search.TheVariants.{Schedule, Json, Explain, Vary, Total, Run}
 use Rattle.command_line.specs.declared.command.Task.{Task}
 use Rattle.command_line.specs.declared.command.Task.TheVariants as task
 use Rattle.command_line.specs.declared.command.Work.{Work}
 use Rattle.command_line.specs.declared.command.Work.TheVariants.{Plain, OnMachine}
 
 pub program_is_free : is_simple_and_free program_line ≡ true
-unfolding program_line search_line schedule_line explain_line either_line either_with_names run_line plain_line lint_line solve_line check_line clap_on_literals
+unfolding program_line search_line schedule_line vary_line explain_line either_line either_with_names run_line plain_line lint_line solve_line check_line clap_on_literals
 program_is_free = refl
 
 -- of which this is a part, so that it is not computed again
@@ -116,6 +116,10 @@ IsOther name = (name ≡ codes "solve" → ⊥) × (name ≡ codes "check" → �
 other-schedule : (name : Text) → name ≡ codes "schedule" → IsOther name
 other-schedule name h = (other-word 1 name (codes "schedule") (codes "solve") (λ e. omega arith) h, other-word 0 name (codes "schedule") (codes "check") (λ e. omega arith) h, other-word 0 name (codes "schedule") (codes "lint") (λ e. omega arith) h)
 
+-- .. nor `vary`
+other-vary : (name : Text) → name ≡ codes "vary" → IsOther name
+other-vary name h = (other-word 0 name (codes "vary") (codes "solve") (λ e. omega arith) h, other-word 0 name (codes "vary") (codes "check") (λ e. omega arith) h, other-word 0 name (codes "vary") (codes "lint") (λ e. omega arith) h)
+
 -- another subcommand is none that `schedule` may be
 schedule-word : (place : ℕ) (name word : Text) → name ≡ codes "schedule" → (get_or (codes "schedule") place 0 ≡ get_or word place 0 → ⊥) → name ≡ word → ⊥
 schedule-word place name word is apart other = other-word place name (codes "schedule") word apart is other
@@ -126,8 +130,37 @@ schedule-formless rows name is none Schedule h = none format.Text h.1
 schedule-formless rows name is none Json (inl h) = schedule-word 0 name (codes "json") is (λ e. omega arith) h
 schedule-formless rows name is none Json (inr h) = none format.Json h.1
 schedule-formless rows name is none Explain h = schedule-word 0 name (codes "explain") is (λ e. omega arith) h
-schedule-formless rows name is none Vary h = schedule-word 0 name (codes "vary") is (λ e. omega arith) h
+schedule-formless rows name is none (Vary format) h = schedule-word 0 name (codes "vary") is (λ e. omega arith) h.0
+schedule-formless rows name is none Total h = schedule-word 0 name (codes "vary") is (λ e. omega arith) h.0
 schedule-formless rows name is none (Run trip) h = schedule-word 0 name (codes "run") is (λ e. omega arith) h.0
+
+-- the word that stands for a switch says one thing
+one-switch : (a b : Bool) → Some (switch_word a) ≡ Some (switch_word b) → a ≡ b
+one-switch true true same = refl
+one-switch false false same = refl
+one-switch true false same = let words : codes "true" ≡ codes "false" = cc in absurd (other-word 0 (codes "true") (codes "true") (codes "false") (λ e. omega arith) refl words)
+one-switch false true same = let words : codes "false" ≡ codes "true" = cc in absurd (other-word 0 (codes "false") (codes "false") (codes "true") (λ e. omega arith) refl words)
+
+-- another search is none of `vary`
+apart-vary : (word : Text) → (get_or (codes "vary") 0 0 ≡ get_or word 0 0 → ⊥) → codes "vary" ≡ word → ⊥
+apart-vary word apart same = other-word 0 (codes "vary") (codes "vary") word apart refl same
+
+vary-others : (rows : List Row) → ((f : Format) → ¬ IsSearchGiven (Vary f) (codes "vary") rows) → ¬ IsSearchGiven Total (codes "vary") rows
+    → (s : Search) → ¬ IsSearchGiven s (codes "vary") rows
+vary-others rows one all (Vary f) h = one f h
+vary-others rows one all Total h = all h
+vary-others rows one all Schedule h = apart-vary (codes "schedule") (λ e. omega arith) h.0
+vary-others rows one all Json (inl h) = apart-vary (codes "json") (λ e. omega arith) h
+vary-others rows one all Json (inr h) = apart-vary (codes "schedule") (λ e. omega arith) h.0
+vary-others rows one all Explain h = apart-vary (codes "explain") (λ e. omega arith) h
+vary-others rows one all (Run trip) h = apart-vary (codes "run") (λ e. omega arith) h.0
+
+-- `vary` tells nothing where an option of it says nothing
+pub vary-unswitched : (rows : List Row) → ((b : Bool) → ¬ SaysSwitch (first_of (codes "total") rows) b) → (s : Search) → ¬ IsSearchGiven s (codes "vary") rows
+vary-unswitched rows none = vary-others rows (λ f h. none false h.1) (λ h. none true h.1)
+
+pub vary-formless : (rows : List Row) → ((f : Format) → ¬ SaysFormat (first_of (codes "format") rows) f) → (s : Search) → ¬ IsSearchGiven s (codes "vary") rows
+vary-formless rows none = vary-others rows (λ f h. none f h.2) (λ h. none format.Text h.2)
 
 -- what is done with loops is given by other subcommands
 other-search : (s : Search) (name : Text) (rows : List Row) → IsSearchGiven s name rows → IsOther name
@@ -135,7 +168,8 @@ other-search Schedule name rows h = other-schedule name h.0
 other-search Json name rows (inr h) = other-schedule name h.0
 other-search Json name rows (inl h) = (other-word 0 name (codes "json") (codes "solve") (λ e. omega arith) h, other-word 0 name (codes "json") (codes "check") (λ e. omega arith) h, other-word 0 name (codes "json") (codes "lint") (λ e. omega arith) h)
 other-search Explain name rows h = (other-word 0 name (codes "explain") (codes "solve") (λ e. omega arith) h, other-word 0 name (codes "explain") (codes "check") (λ e. omega arith) h, other-word 0 name (codes "explain") (codes "lint") (λ e. omega arith) h)
-other-search Vary name rows h = (other-word 0 name (codes "vary") (codes "solve") (λ e. omega arith) h, other-word 0 name (codes "vary") (codes "check") (λ e. omega arith) h, other-word 0 name (codes "vary") (codes "lint") (λ e. omega arith) h)
+other-search (Vary format) name rows h = other-vary name h.0
+other-search Total name rows h = other-vary name h.0
 other-search (Run trip) name rows h = (other-word 0 name (codes "run") (codes "solve") (λ e. omega arith) h.0, other-word 0 name (codes "run") (codes "check") (λ e. omega arith) h.0, other-word 0 name (codes "run") (codes "lint") (λ e. omega arith) h.0)
 
 other-task : (t : Task) (name : Text) (rows : List Row) → IsTaskGiven t name rows → IsOther name
@@ -206,13 +240,6 @@ lint-formless rows none (command.Solve problems settings format) h = apart-solve
 lint-formless rows none (command.Problems problems told) h = (other-report told (codes "lint") rows h.3).2 refl
 lint-formless rows none (command.Check problems solutions) h = apart-check-lint (sym h.0)
 lint-formless rows none (command.Lint texts format) h = none format h.2
-
--- the word that stands for a switch says one thing
-one-switch : (a b : Bool) → Some (switch_word a) ≡ Some (switch_word b) → a ≡ b
-one-switch true true same = refl
-one-switch false false same = refl
-one-switch true false same = let words : codes "true" ≡ codes "false" = cc in absurd (other-word 0 (codes "true") (codes "true") (codes "false") (λ e. omega arith) refl words)
-one-switch false true same = let words : codes "false" ≡ codes "true" = cc in absurd (other-word 0 (codes "false") (codes "false") (codes "true") (λ e. omega arith) refl words)
 
 -- the texts that `lint` was given are those of the paths and the option that were found
 pub no-texts : (rows : List Row) (path : Text) (is_given : Bool) (second : Option Text) → Some path ≡ first_of (codes "machine") rows

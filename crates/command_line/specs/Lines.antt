@@ -19,7 +19,7 @@ use Rattle.command_line.specs.declared.command.Work.TheVariants.{Plain, OnMachin
 use Rattle.command_line.specs.declared.command.Task.{Task}
 use Rattle.command_line.specs.declared.command.Task.TheVariants as task
 use Rattle.command_line.specs.declared.command.Search.{Search}
-use Rattle.command_line.specs.declared.command.Search.TheVariants.{Schedule, Json, Explain, Vary, Run}
+use Rattle.command_line.specs.declared.command.Search.TheVariants.{Schedule, Json, Explain, Vary, Total, Run}
 use Rattle.command_line.specs.declared.line.Usage.{Usage}
 use Rattle.command_line.specs.declared.line.Usage.TheVariants.{Help, Refused, Memory}
 use Rattle.machine_data.specs.declared.limits.TheConstants.{MAX_CEILING, MAX_CUT, MAX_RATIO, MAX_TRIP, MAX_WORKERS}
@@ -107,6 +107,14 @@ format_rule = option_rule (codes "format") (codes "text")
 unfoldable pub schedule_line : App
 schedule_line = with_rule (search_line (codes "schedule")) format_rule
 
+-- `--total`, which has no value
+abbrev pub total_rule : Rule
+total_rule = record (new_rule (codes "total")) { long = Some (codes "total"); action = Some SetTrue }
+
+-- `vary MACHINE LOOPS`, the four, `--total` and `--format FORMAT`
+unfoldable pub vary_line : App
+vary_line = with_rule (with_rule (search_line (codes "vary")) total_rule) format_rule
+
 -- the program's line without its subcommands, of which one has to be given
 abbrev pub bare_line : App
 bare_line =
@@ -123,7 +131,7 @@ bare_line =
 -- a line with the subcommands that look for kernels
 abbrev pub with_kernels : App → App
 with_kernels app =
-    with_subcommand (with_subcommand (with_subcommand (with_subcommand (with_subcommand app schedule_line.top) run_line.top) (search_line (codes "json")).top) explain_line.top) (search_line (codes "vary")).top
+    with_subcommand (with_subcommand (with_subcommand (with_subcommand (with_subcommand app schedule_line.top) run_line.top) (search_line (codes "json")).top) explain_line.top) vary_line.top
 
 -- `--machine-only`, which has no value
 abbrev pub machine_only_rule : Rule
@@ -221,12 +229,25 @@ format_word format.Json = codes "json"
 abbrev pub SaysFormat : Option Text → Format → Type 0
 SaysFormat word format = word ≡ Some (format_word format)
 
+-- the word that stands for an option without a value: it was given, or left out
+abbrev pub switch_word : Bool → Text
+switch_word true = codes "true"
+switch_word false = codes "false"
+
+abbrev pub SaysSwitch : Option Text → Bool → Type 0
+SaysSwitch word is_given = word ≡ Some (switch_word is_given)
+
 -- the subcommand of this name tells that of the kernels, and was given what it needs
 abbrev pub IsSearchGiven : Search → Text → List Row → Type 0
 IsSearchGiven Schedule name given = (name ≡ codes "schedule") × SaysFormat (first_of (codes "format") given) format.Text
 IsSearchGiven Json name given = (name ≡ codes "json") ⊎ ((name ≡ codes "schedule") × SaysFormat (first_of (codes "format") given) format.Json)
 IsSearchGiven Explain name given = name ≡ codes "explain"
-IsSearchGiven Vary name given = name ≡ codes "vary"
+IsSearchGiven (Vary format) name given = (name ≡ codes "vary")
+    × SaysSwitch (first_of (codes "total") given) false
+    × SaysFormat (first_of (codes "format") given) format
+IsSearchGiven Total name given = (name ≡ codes "vary")
+    × SaysSwitch (first_of (codes "total") given) true
+    × SaysFormat (first_of (codes "format") given) format.Text
 IsSearchGiven (Run trip) name given = (name ≡ codes "run") × SaysTrip (first_of (codes "trip") given) trip
 
 -- .. tells that of the loops on a machine: where it looks for kernels, by the settings that it was given
@@ -263,14 +284,6 @@ AreProblemsGiven path told name given = (first_of (codes "machine") given ≡ So
     × (first_of (codes "loops") given ≡ None)
     × (all_of (codes "loop") given ≡ None)
     × IsReportGiven told name given
-
--- the word that stands for an option without a value: it was given, or left out
-abbrev pub switch_word : Bool → Text
-switch_word true = codes "true"
-switch_word false = codes "false"
-
-abbrev pub SaysSwitch : Option Text → Bool → Type 0
-SaysSwitch word is_given = word ≡ Some (switch_word is_given)
 
 -- two paths are those of a machine and of loops. One path is that of loops, or with `--machine-only` that of a machine
 abbrev pub AreTexts : LintTexts → Text → Option Text → Bool → Type 0

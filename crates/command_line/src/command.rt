@@ -137,7 +137,9 @@ pub enum Search {
     /// Why each loop has its interval.
     Explain,
     /// What variants of the machine bring each loop.
-    Vary,
+    Vary(Format),
+    /// What they bring all loops together.
+    Total,
     /// What the run of each kernel changes, with this trip count.
     Run(Trip),
 }

@@ -353,6 +353,9 @@ number";
 pub(crate) const FORMAT: &str =
     "The format of what is printed: `text`, lines for people, or `json`, one document for programs";
 
+pub(crate) const TOTAL: &str =
+    "Tell of all loops together what the machine as it is and each variant bring: the sum of their intervals";
+
 pub(crate) const LOOP: &str =
     "Take only the loops of this name; may be given several times. The others of the file are read, but nothing
 is printed of them, and no count has them";

@@ -74,7 +74,10 @@ fn refusal(matches: &ArgMatches<'_>) -> &'static str {
         Some(("lint", values)) if is_format(values) => {
             "error: '--machine-only' takes one path, that of the machine\n\nFor more information, try '--help'.\n"
         }
-        Some(("solve" | "schedule" | "lint", _)) => {
+        Some(("vary", values)) if is_format(values) => {
+            "error: '--total' is printed as 'text' alone\n\nFor more information, try '--help'.\n"
+        }
+        Some(("solve" | "schedule" | "vary" | "lint", _)) => {
             "error: '--format' is neither 'text' nor 'json'\n\nFor more information, try '--help'.\n"
         }
         Some((_, values)) if values.contains_id("loop") => {

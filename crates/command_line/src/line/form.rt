@@ -1,9 +1,10 @@
 //! The form of the command line: its subcommands, their arguments and options.
 
-ghost use Rattle.std.specs.Prelude.{◌≡◌, codes, false, IfOk};
-ghost use Rattle.clap.specs.Words.{app_of, new_app, rule_of};
+ghost use Rattle.std.specs.Prelude.{◌≡◌, codes, false, Some, IfOk};
+ghost use Rattle.clap.specs.Words.{app_of, new_app, new_rule, rule_of};
+ghost use Rattle.clap.specs.declared.builder.action.ArgAction.TheVariants.{SetTrue};
 ghost use Rattle.clap.specs.declared.builder.command.Command.TheViews.{out-Command};
-ghost use Rattle.command_line.specs.Lines.{program_line, bare_line, with_kernels, with_reports, with_problems, plain_line, search_line, schedule_line, explain_line, either_line, either_with_names, run_line, lint_line, solve_line, check_line, with_paths, with_search, path_rule, spare_rule, machine_only_rule, loop_rule, trip_rule, option_rule, ratio_rule, ceiling_rule, workers_rule, cut_rule, format_rule};
+ghost use Rattle.command_line.specs.Lines.{program_line, bare_line, with_kernels, with_reports, with_problems, plain_line, search_line, schedule_line, vary_line, explain_line, either_line, either_with_names, run_line, lint_line, solve_line, check_line, with_paths, with_search, path_rule, spare_rule, machine_only_rule, total_rule, loop_rule, trip_rule, option_rule, ratio_rule, ceiling_rule, workers_rule, cut_rule, format_rule};
 ghost use Rattle.command_line.specs.inner.Made.{IsAdded};
 
 use crate::help;
@@ -44,13 +45,12 @@ fn with_kernels<'a>(alloc: Global, command: Command<'a>) -> Result<Command<'a>, 
     ensures { IfOk result (λ c. app_of c ≡ with_kernels (app_of command.entry)) }
 {
     use help::{JSON_ABOUT, JSON_LONG_ABOUT};
-    use help::{VARY_ABOUT, VARY_LONG_ABOUT};
     let command = add(command, schedule(alloc))?;
     let command = add(command, run(alloc))?;
     let made = search(alloc, "json", JSON_ABOUT, JSON_LONG_ABOUT);
     let command = add(command, made)?;
     let command = add(command, explain(alloc))?;
-    add(command, search(alloc, "vary", VARY_ABOUT, VARY_LONG_ABOUT))
+    add(command, vary(alloc))
 }
 
 // A line with those that look for none.
@@ -176,6 +176,16 @@ fn schedule<'a>(alloc: Global) -> Result<Command<'a>, OutOfMemory>
 {
     use help::{SCHEDULE_ABOUT, SCHEDULE_LONG_ABOUT};
     search(alloc, "schedule", SCHEDULE_ABOUT, SCHEDULE_LONG_ABOUT)?.arg(format(alloc))
+}
+
+// The subcommand `vary`.
+fn vary<'a>(alloc: Global) -> Result<Command<'a>, OutOfMemory>
+    ensures app { IfOk result (λ c. app_of c ≡ vary_line) }
+    ensures local { IfOk result (λ c. (out-Command c).has_globals ≡ false) }
+{
+    search(alloc, "vary", help::VARY_ABOUT, help::VARY_LONG_ABOUT)?
+        .arg(total(alloc))?
+        .arg(format(alloc))
 }
 
 // A subcommand that looks for kernels.
@@ -306,10 +316,26 @@ fn machine_only<'a>(alloc: Global) -> Arg<'a>
     ensures rule { rule_of result ≡ machine_only_rule }
     ensures local { result.global ≡ false }
 {
-    Arg::new(alloc, "machine-only")
-        .long("machine-only")
+    switch(alloc, "machine-only", help::MACHINE_ONLY)
+}
+
+// That all loops are told of together.
+fn total<'a>(alloc: Global) -> Arg<'a>
+    ensures rule { rule_of result ≡ total_rule }
+    ensures local { result.global ≡ false }
+{
+    switch(alloc, "total", help::TOTAL)
+}
+
+// An option without a value.
+fn switch<'a>(alloc: Global, name: &'a str, help: &'a str) -> Arg<'a>
+    ensures rule { rule_of result ≡ record (new_rule name.entry.now) { long = Some name.entry.now; action = Some SetTrue } }
+    ensures local { result.global ≡ false }
+{
+    Arg::new(alloc, name)
+        .long(name)
         .action(ArgAction::SetTrue)
-        .help(help::MACHINE_ONLY)
+        .help(help)
 }
 
 // The path of the problems' file.

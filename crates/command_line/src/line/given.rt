@@ -4,6 +4,7 @@ ghost use Rattle.std.specs.Prelude.{◌≡◌, ◌≢◌, ◌<◌, ◌^◌, ℕ,
 ghost use Rattle.clap.specs.Words.{Text, all_of, first_of, found_of, rows_of, subcommand_rows_of};
 ghost use Rattle.command_line.specs.declared.command.Format.{Format};
 ghost use Rattle.command_line.specs.declared.command.LintTexts.{LintTexts};
+ghost use Rattle.command_line.specs.declared.command.Search.{Search};
 ghost use Rattle.command_line.specs.Lines.{Says, SaysFormat, SaysSwitch, AreTexts, AreTextsGiven, SaysTrip, SaysWorkers, SaysNumber, SaySettings, switch_word, Means, MeansNamed, names_in, AreLoopsGiven, AreProblemsGiven, IsReportGiven, IsWorkGiven, IsTaskGiven, IsSearchGiven};
 ghost use Rattle.settings.specs.Settings.{SettingsData};
 
@@ -165,7 +166,10 @@ fn texts_given(alloc: Global, values: &ArgMatches<'_>) -> Result<Option<LintText
     ensures are { IfOk result (λ found. IfSome found (λ texts. AreTextsGiven texts (rows_of (found_of values.now)))) }
     ensures none { IfOk result (λ found. IfNone found ((texts : LintTexts) → ¬ AreTextsGiven texts (rows_of (found_of values.now)))) }
 {
-    match (values.get_str("machine"), machine_only_given(values)) {
+    match (
+        values.get_str("machine"),
+        switch_given(values, "machine-only"),
+    ) {
         (Some(first), Some(machine_only)) => {
             texts_of(alloc, first, values.get_str("loops"), machine_only)
         }
@@ -195,12 +199,12 @@ fn texts_of(
     }
 }
 
-// Whether the option was given by which one path is that of a machine.
-fn machine_only_given(values: &ArgMatches<'_>) -> Option<bool>
-    ensures says { IfSome result (λ given. SaysSwitch (first_of (codes "machine-only") (rows_of (found_of values.now))) given) }
-    ensures none { IfNone result ((given : Bool) → ¬ SaysSwitch (first_of (codes "machine-only") (rows_of (found_of values.now))) given) }
+// Whether an option without a value was given.
+fn switch_given(values: &ArgMatches<'_>, id: &str) -> Option<bool>
+    ensures says { IfSome result (λ given. SaysSwitch (first_of id.now (rows_of (found_of values.now))) given) }
+    ensures none { IfNone result ((given : Bool) → ¬ SaysSwitch (first_of id.now (rows_of (found_of values.now))) given) }
 {
-    switch_of(values.get_str("machine-only")?)
+    switch_of(values.get_str(id)?)
 }
 
 // What the word of an option without a value says.
@@ -319,12 +323,26 @@ fn search_given(name: &str, values: &ArgMatches<'_>) -> Option<Search>
         },
         "json" => Some(Search::Json),
         "explain" => Some(Search::Explain),
-        "vary" => Some(Search::Vary),
+        "vary" => vary_given(values),
         "run" => match trip_given(values) {
             Some(trip) => Some(Search::Run(trip)),
             None => None,
         },
         _ => None,
+    }
+}
+
+// What is told of variants of the machine.
+fn vary_given(values: &ArgMatches<'_>) -> Option<Search>
+    ensures meant { IfSome result (λ s. IsSearchGiven s (codes "vary") (rows_of (found_of values.now))) }
+    ensures none { IfNone result ((s : Search) → ¬ IsSearchGiven s (codes "vary") (rows_of (found_of values.now))) }
+{
+    let total = switch_given(values, "total")?;
+    let format = format_given(values)?;
+    match (total, format) {
+        (false, _) => Some(Search::Vary(format)),
+        (true, Format::Text) => Some(Search::Total),
+        (true, Format::Json) => None,
     }
 }
 

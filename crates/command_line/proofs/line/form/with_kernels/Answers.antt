@@ -9,4 +9,4 @@ returns c =
     let two = adds_subcommand _ _ _ _ _ c.in_ok-command-2.ensures c.run.ensures.local one c.run.ensures.app in
     let three = adds_subcommand _ _ _ _ _ c.in_ok-command-3.ensures c.search-made.ensures.local two c.search-made.ensures.app in
     let four = adds_subcommand _ _ _ _ _ c.in_ok-command-4.ensures c.explain.ensures.local three c.explain.ensures.app in
-    IfOk-weaker c.add-5.result _ _ (λ r h. adds_subcommand _ _ _ _ _ h c.search.ensures.local four c.search.ensures.app) c.add-5.ensures
+    IfOk-weaker c.add-5.result _ _ (λ r h. adds_subcommand _ _ _ _ _ h c.vary.ensures.local four c.vary.ensures.app) c.add-5.ensures
