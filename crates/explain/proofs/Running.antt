@@ -1,5 +1,5 @@
 -- The runs of intervals of which the same is told, as a loop over the intervals reaches them.
-use Rattle.std.proofs.Common.{◌≡◌, ℕ, zero, suc, ◌+◌, ◌<◌, true, false, cond, List, [], ◌∷◌, ◌++◌, Vec, length, get_or, map, sym, ap, ◌∙◌, add-one, arith}
+use Rattle.std.proofs.Common.{◌≡◌, ℕ, zero, suc, ◌+◌, ◌<◌, true, false, cond, List, [], ◌∷◌, Vec, length, get_or, map, sym, ap, ◌∙◌, add-one, arith}
 use Rattle.std.specs.Global.{Global}
 use Rattle.explain.specs.Runs.{ends_run, run_at, run_line, run_start}
 

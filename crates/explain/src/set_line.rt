@@ -24,11 +24,7 @@ fn push_member(
 }
 
 /// Appends the names of the units of the set, in the machine's order.
-fn push_members(
-    text: &mut Vec<u8>,
-    machine: &Machine,
-    set: &UnitSet,
-) -> Result<(), OutOfMemory>
+fn push_members(text: &mut Vec<u8>, machine: &Machine, set: &UnitSet) -> Result<(), OutOfMemory>
     ensures ok { OnOk result (text.new.items ≡ text.old.items ++ members_text machine.now set.now) }
 {
     for unit in 0..machine.units().len() {

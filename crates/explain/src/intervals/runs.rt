@@ -36,11 +36,7 @@ fn ends(whys: &[Vec<u8>], number: usize) -> bool
 }
 
 /// Appends a line for each run of intervals, from the least one on, in cycles, with what is told of each interval.
-pub(crate) fn push_runs(
-    text: &mut Vec<u8>,
-    least: u64,
-    whys: &[Vec<u8>],
-) -> Result<(), OutOfMemory>
+pub(crate) fn push_runs(text: &mut Vec<u8>, least: u64, whys: &[Vec<u8>]) -> Result<(), OutOfMemory>
     requires { least + length whys.now < 2 ^ 64 }
     ensures ok { OnOk result (text.new.items ≡ text.old.items ++ runs_text least (map (λ (why : Vec ℕ Global). why.items) whys.now)) }
 {

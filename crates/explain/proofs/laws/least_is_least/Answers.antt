@@ -1,4 +1,4 @@
-use Rattle.std.proofs.Common.{◌≡◌, ◌≤◌, max, arith, sym}
+use Rattle.std.proofs.Common.{◌≡◌, ◌≤◌, max, arith}
 use Rattle.std.proofs.lemmas.Bool.{eqb-true}
 use Rattle.graph.proofs.walks.Recurrences.{schedules-keep_recurrences}
 use Rattle.unit_sets.proofs.Bounds.{bound}

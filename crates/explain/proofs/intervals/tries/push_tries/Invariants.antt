@@ -1,4 +1,4 @@
-use Rattle.std.proofs.Common.{◌≡◌, ◌≤◌, ℕ, Vec, length, map}
+use Rattle.std.proofs.Common.{◌≡◌, ℕ, Vec, map}
 use Rattle.std.specs.Global.{Global}
 use Rattle.explain.proofs.Tried.{AreTold}
 use Rattle.explain.proofs.intervals.tries.push_tries.Given as goal
