@@ -15,8 +15,8 @@ use Rattle.writing.proofs.Beginnings.{two_pushed}
 use Rattle.ims.specs.Problems.{IsProblemOf, ProblemData}
 use Rattle.machine_variants.specs.declared.variant.Variant.{Variant}
 use Rattle.machine_variants.specs.Variants.{concerns, variants_for, variants_of}
-use Rattle.variants.specs.declared.finding.Finding.{Finding}
-use Rattle.variants.specs.declared.finding.Standing.{Standing}
+use Rattle.variants.specs.declared.found.finding.Finding.{Finding}
+use Rattle.variants.specs.declared.found.finding.Standing.{Standing}
 use Rattle.variants.specs.Intervals.{IsFinding, IsStanding}
 use Rattle.variants.specs.Texts.{ArePartsOf, IsPartOf, PartData, is_met, loop_line, variant_line}
 use Rattle.variants.specs.inner.Tries.{IsOn}
