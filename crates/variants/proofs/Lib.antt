@@ -1,5 +1,11 @@
+pub mod Concerned
 pub mod Deciding
+pub mod Documents
 pub mod Found
 pub mod Giving
+pub mod On
 pub mod Others
 pub mod Told
+pub mod Totals
+pub mod Whole
+pub mod Zipped

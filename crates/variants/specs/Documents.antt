@@ -29,25 +29,25 @@ count_value n = number (unsigned n)
 abbrev pub kind_word : Variant → List ℕ
 kind_word (Doubled unit) = codes "unit"
 kind_word (Shortened opcode) = codes "latency"
-kind_word (Registers number) = codes "registers"
+kind_word (Registers count) = codes "registers"
 
 -- the unit that is there twice, or the opcode of the latency
 abbrev pub name_value : MachineData → Variant → Data
 name_value machine (Doubled unit) = string (slice_index_or machine.units unit (codes ""))
 name_value machine (Shortened opcode) = string (word_of opcode)
-name_value machine (Registers number) = null
+name_value machine (Registers count) = null
 
 -- the latency on the variant, where it is that which is changed
 abbrev pub latency_value : MachineData → Variant → Data
 latency_value machine (Doubled unit) = null
 latency_value machine (Shortened opcode) = count_value (latency_in (table_of machine opcode) - 1)
-latency_value machine (Registers number) = null
+latency_value machine (Registers count) = null
 
 -- the number of registers on the variant, where it is that which is changed
 abbrev pub number_value : Variant → Data
 number_value (Doubled unit) = null
 number_value (Shortened opcode) = null
-number_value (Registers number) = count_value number
+number_value (Registers count) = count_value count
 
 -- the interval on a variant, where there is one
 abbrev pub interval_value : Finding → Data
@@ -81,12 +81,12 @@ variant_object machine has variant found =
 -- the interval on the machine as it is, where there is one
 abbrev pub own_value : Standing → Data
 own_value standing.Failed = null
-own_value (standing.Met ii number) = count_value ii
+own_value (standing.Met ii least) = count_value ii
 
 -- .. and the least number of registers for it
 abbrev pub least_value : Standing → Data
 least_value standing.Failed = null
-least_value (standing.Met ii number) = count_value number
+least_value (standing.Met ii least) = count_value least
 
 -- what is found of a loop: its standing, and what it has on each variant that concerns it
 pub record FoundData : Type 0 where

@@ -8,9 +8,9 @@ mod search;
 mod told;
 mod varying;
 
+pub use found::each::findings_of;
 pub use found::files::{FileFindings, find_all};
 pub use found::finding::{Finding, LoopFindings, Standing};
-pub use found::loops::findings_of;
 pub use laws::{one_interval, others_change_nothing};
 pub use told::document::findings_document;
 pub use told::parts::findings_text;

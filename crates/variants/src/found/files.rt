@@ -7,8 +7,8 @@ ghost use Rattle.file_faults.specs.Answers.{AnswersOn};
 ghost use Rattle.variants.specs.declared.found.finding.LoopFindings.{LoopFindings};
 ghost use Rattle.variants.specs.Findings.{AreFindings, AreFound, IsOn};
 
+use crate::found::each::findings_of;
 use crate::found::finding::LoopFindings;
-use crate::found::loops::findings_of;
 use file_faults::FileFault;
 use ims::Prepared;
 use loops::Loop;

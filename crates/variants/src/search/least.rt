@@ -3,7 +3,8 @@
 ghost use Rattle.std.specs.Prelude.{◌≤◌, ◌<◌, ◌+◌, ℕ, length, Some, IfOk, MatchBool};
 ghost use Rattle.ims.specs.Problems.{mii_of};
 ghost use Rattle.variants.specs.Intervals.{IsIntervalOf, IsLeastNumber};
-ghost use Rattle.variants.specs.inner.Tries.{AreFailing, AreTries, IsGiving, IsOn, with_registers};
+ghost use Rattle.variants.specs.Findings.{IsOn};
+ghost use Rattle.variants.specs.inner.Tries.{AreFailing, AreTries, IsGiving, with_registers};
 ghost use Rattle.machine_data.specs.declared.limits.TheConstants.{MAX_REGISTERS};
 
 use crate::search::tries::gives;

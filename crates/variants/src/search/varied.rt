@@ -7,7 +7,8 @@ ghost use Rattle.graph.specs.Units.{first_without_table};
 ghost use Rattle.machine_variants.specs.declared.variant.Variant.{Variant};
 ghost use Rattle.machine_variants.specs.Variants.{IsVariantOf};
 ghost use Rattle.variants.specs.Intervals.{IsFinding, IsIntervalOn, IsStanding};
-ghost use Rattle.variants.specs.inner.Tries.{AreTries, IsOn, found_of};
+ghost use Rattle.variants.specs.Findings.{IsOn};
+ghost use Rattle.variants.specs.inner.Tries.{AreTries, found_of};
 ghost use Rattle.machine_data.specs.declared.limits.TheConstants.{MAX_REGISTERS};
 
 use crate::found::finding::{Finding, Standing};

@@ -1,6 +1,6 @@
 //! The JSON document of what is found of a file.
 
-ghost use Rattle.std.specs.Prelude.{◌≡◌, [], ◌∷◌, ◌++◌, false, length, map, vec_len, codes, IfOk, OnOk};
+ghost use Rattle.std.specs.Prelude.{◌≡◌, [], ◌∷◌, ◌++◌, false, length, map, codes, IfOk, OnOk};
 ghost use Rattle.std.specs.List.{All, zip};
 ghost use Rattle.serde_json.specs.Data.{array};
 ghost use Rattle.serde_json.specs.View.{items_of, view};
@@ -32,7 +32,7 @@ fn told_loop(
     found: &LoopFindings,
 ) -> Result<Value, OutOfMemory>
     requires each { All (IsVariantOf machine.now) variants.now }
-    requires long { vec_len found.now.findings ≡ length variants.now }
+    requires long { length found.now.findings.items ≡ length variants.now }
     ensures { IfOk result (λ v. view v ≡ part_object machine.now variants.now prepared.now found.now) }
 {
     let innermost = prepared.innermost();
@@ -58,7 +58,7 @@ fn push_loop(
     found: &LoopFindings,
 ) -> Result<(), OutOfMemory>
     requires each { All (IsVariantOf machine.now) variants.now }
-    requires long { vec_len found.now.findings ≡ length variants.now }
+    requires long { length found.now.findings.items ≡ length variants.now }
     ensures { OnOk result (map view values.new.items ≡ map view values.old.items ++ part_object machine.now variants.now prepared.now found.now ∷ []) }
 {
     let value = told_loop(alloc, machine, variants, prepared, found)?;
@@ -75,7 +75,7 @@ fn told_loops(
 ) -> Result<Value, OutOfMemory>
     requires each { All (IsVariantOf machine.now) variants.now }
     requires same { length loops.now ≡ length prepared.now }
-    requires long { All (λ (found : LoopFindings). vec_len found.findings ≡ length variants.now) loops.now }
+    requires long { All (λ (found : LoopFindings). length found.findings.items ≡ length variants.now) loops.now }
     ensures { IfOk result (λ v. view v ≡ array (items_of (map (λ both. part_object machine.now variants.now both.0 both.1) (zip prepared.now loops.now)))) }
 {
     let mut values = Vec::with_capacity(alloc, prepared.len())?;
@@ -106,7 +106,7 @@ fn told_file(
 ) -> Result<Value, OutOfMemory>
     requires each { All (IsVariantOf machine.now) variants.now }
     requires same { length loops.now ≡ length prepared.now }
-    requires long { All (λ (found : LoopFindings). vec_len found.findings ≡ length variants.now) loops.now }
+    requires long { All (λ (found : LoopFindings). length found.findings.items ≡ length variants.now) loops.now }
     ensures { IfOk result (λ v. view v ≡ parts_object machine.now variants.now prepared.now loops.now) }
 {
     json!(in alloc; {

@@ -1,6 +1,6 @@
 //! What is told of loops, one after another.
 
-ghost use Rattle.std.specs.Prelude.{◌≡◌, ◌++◌, not, count_by, vec_len, length, IfOk, OnOk};
+ghost use Rattle.std.specs.Prelude.{◌≡◌, ◌++◌, not, count_by, length, IfOk, OnOk};
 ghost use Rattle.std.specs.List.{All, flat_map, zip};
 ghost use Rattle.machine_variants.specs.Variants.{IsVariantOf};
 ghost use Rattle.variants.specs.declared.found.finding.LoopFindings.{LoopFindings};
@@ -83,7 +83,7 @@ fn push_part(
     found: &LoopFindings,
 ) -> Result<(), OutOfMemory>
     requires each { All (IsVariantOf machine.now) variants.now }
-    requires long { vec_len found.now.findings ≡ length variants.now }
+    requires long { length found.now.findings.items ≡ length variants.now }
     ensures ok { OnOk result (text.new.items ≡ text.old.items ++ part_text machine.now variants.now prepared.now found.now) }
 {
     push_loop(text, prepared, found.standing)?;
@@ -106,7 +106,7 @@ fn push_parts(
 ) -> Result<(), OutOfMemory>
     requires each { All (IsVariantOf machine.now) variants.now }
     requires same { length loops.now ≡ length prepared.now }
-    requires long { All (λ (found : LoopFindings). vec_len found.findings ≡ length variants.now) loops.now }
+    requires long { All (λ (found : LoopFindings). length found.findings.items ≡ length variants.now) loops.now }
     ensures ok { OnOk result (text.new.items ≡ text.old.items ++ flat_map (λ both. part_text machine.now variants.now both.0 both.1) (zip prepared.now loops.now)) }
 {
     for index in 0..prepared.len() {

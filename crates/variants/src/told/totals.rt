@@ -1,12 +1,12 @@
 //! What each variant of a machine brings the loops of a file in all.
 
-ghost use Rattle.std.specs.Prelude.{◌≡◌, ◌≤◌, ◌<◌, ◌^◌, ◌++◌, if◌then◌else◌, ℕ, length, vec_len, codes, IfOk, OnOk};
+ghost use Rattle.std.specs.Prelude.{◌≡◌, ◌≤◌, ◌<◌, ◌^◌, ◌++◌, if◌then◌else◌, ℕ, length, codes, IfOk, OnOk};
 ghost use Rattle.std.specs.List.{All, list_any};
 ghost use Rattle.writing.specs.Words.{told};
 ghost use Rattle.machine_variants.specs.Variants.{IsVariantOf};
 ghost use Rattle.variants.specs.Findings.{AreFoundOf};
 ghost use Rattle.variants.specs.Totals.{IsTotalOf};
-ghost use Rattle.variants.specs.inner.Columns.{changes_text, column_text, is_past, own_failed, own_sum, sum_at, sums_text, total_line, total_lines};
+ghost use Rattle.variants.specs.inner.Columns.{changes_text, column_text, is_past, sum_at, sums_text, total_line, total_lines};
 ghost use Rattle.machine_data.specs.declared.limits.TheConstants.{MAX_LOOPS};
 
 use crate::found::files::FileFindings;
@@ -99,12 +99,11 @@ fn push_totals(
 }
 
 /// Appends the line of the machine as it is.
-fn push_own(text: &mut Vec<u8>, number: u64, loops: &[LoopFindings]) -> Result<(), OutOfMemory>
-    requires { own_sum loops.now < 2 ^ 64 }
-    ensures ok { OnOk result (text.new.items ≡ text.old.items ++ ((told (codes "total loops ") number ++ sums_text (own_sum loops.now) (own_failed loops.now)) ++ codes "\n")) }
+fn push_own(text: &mut Vec<u8>, number: u64, ii: u64, failed: u64) -> Result<(), OutOfMemory>
+    ensures ok { OnOk result (text.new.items ≡ text.old.items ++ ((told (codes "total loops ") number ++ sums_text ii failed) ++ codes "\n")) }
 {
     push_told(text, "total loops ", number)?;
-    push_sums(text, own_sum(loops), own_failed(loops))?;
+    push_sums(text, ii, failed)?;
     text.push_piece("\n")
 }
 
@@ -120,17 +119,18 @@ pub fn findings_total(
     machine: &Machine,
     found: &FileFindings,
 ) -> Result<Printout, OutOfMemory>
-    requires few { vec_len found.now.prepared ≤ MAX_LOOPS }
+    requires few { length found.now.prepared.items ≤ MAX_LOOPS }
     requires found { AreFoundOf machine.now found.now }
     ensures { IfOk result (IsTotalOf machine.now found.now.prepared.items) }
 {
     let variants = variants_of(alloc, machine)?;
+    let prepared = found.prepared.as_slice();
     let loops = found.loops.as_slice();
-    let number = found.prepared.len() as u64;
+    let number = prepared.len() as u64;
     let mut text = Vec::new(alloc);
-    push_own(&mut text, number, loops)?;
-    push_totals(&mut text, machine, loops, variants.as_slice())?;
     let failed = own_failed(loops);
+    push_own(&mut text, number, own_sum(loops), failed)?;
+    push_totals(&mut text, machine, loops, variants.as_slice())?;
     push_last(&mut text, "loops ", number, own_met(loops), failed)?;
     Ok(Printout::new(text, failed == 0))
 }
