@@ -1,5 +1,5 @@
 -- What variants bring the loops of a file in all, by what is found of each loop.
-use Rattle.std.proofs.Common.{◌≡◌, ℕ, zero, suc, ◌+◌, ◌*◌, ◌^◌, ◌<◌, ◌≤◌, Bool, true, false, cond, ◌||◌, ◌&&◌, List, [], ◌∷◌, ◌++◌, filter, length, get_or, map, refl, sym, ap, ap₂, ◌∙◌, subst, append_assoc, arith}
+use Rattle.std.proofs.Common.{◌≡◌, ℕ, zero, suc, ◌+◌, ◌*◌, ◌^◌, ◌<◌, ◌≤◌, Bool, true, false, cond, ◌||◌, ◌&&◌, List, [], ◌∷◌, ◌++◌, filter, length, get_or, map, refl, sym, ap, ap₂, ◌∙◌, subst, append_assoc, zero-add, arith}
 use Rattle.std.specs.Prelude.{◌==◌, codes, count_by, if◌then◌else◌, Option, Some, None, is_none, is_some, slice_get}
 use Rattle.std.specs.List.{All, AllZip, flat_map, list_any, range_with_len, sum_by, zip}
 use Rattle.std.proofs.lemmas.List.{get_or_default}
@@ -215,10 +215,10 @@ abbrev AreFrom : MachineData → List Variant → ℕ → Type 0
 AreFrom machine variants first =
     (k : ℕ) (d : Variant) → k < length variants → (first + k < length (variants_of machine)) × (get_or variants k d ≡ get_or (variants_of machine) (first + k) (get_or variants k d))
 
-from-next : (machine : MachineData) (v : Variant) (variants : List Variant) (first : ℕ) → AreFrom machine (v ∷ variants) first → AreFrom machine variants (suc first)
+from-next : (machine : MachineData) (v : Variant) (variants : List Variant) (first : ℕ) → AreFrom machine (v ∷ variants) first → AreFrom machine variants (first + 1)
 from-next machine v variants first at k d within =
     let next = at (suc k) d (omega (arith, within)) in
-    let e : first + suc k ≡ suc first + k = omega arith in
+    let e : first + suc k ≡ first + 1 + k = omega arith in
     subst (λ n. (n < length (variants_of machine)) × (get_or variants k d ≡ get_or (variants_of machine) n (get_or variants k d))) e next
 
 lines-are : (machine : MachineData) (problems : List ProblemData) (loops : List LoopFindings) → AllZip (AreFindings machine) problems loops → (variants : List Variant) (first : ℕ)
@@ -229,13 +229,15 @@ lines-are machine problems loops h (v ∷ variants) first at =
     let e : first + 0 ≡ first = omega arith in
     let low : first < length (variants_of machine) = omega (arith, here.0) in
     let same : v ≡ get_or (variants_of machine) first v = subst (λ n. v ≡ get_or (variants_of machine) n v) e here.1 in
-    line-more machine problems loops first v variants (lines_from machine loops variants (suc first)) (list_any (is_concerned first) loops) low same h
-    (lines-are machine problems loops h variants (suc first) (from-next machine v variants first at)) refl
+    line-more machine problems loops first v variants (lines_from machine loops variants (first + 1)) (list_any (is_concerned first) loops) low same h
+    (lines-are machine problems loops h variants (first + 1) (from-next machine v variants first at)) refl
 
 totals-are : (machine : MachineData) (problems : List ProblemData) (loops : List LoopFindings) → AllZip (AreFindings machine) problems loops
     → AreTotals machine problems (map own_interval loops) (variants_of machine) (total_lines machine loops (variants_of machine))
 totals-are machine problems loops h =
-    lines-are machine problems loops h (variants_of machine) 0 (λ k d within. (within, get_or_default (variants_of machine) k d (get_or (variants_of machine) k d) within))
+    let all = variants_of machine in
+    lines-are machine problems loops h all 0
+    (λ k d within. subst (λ n. (n < length all) × (get_or all k d ≡ get_or all n (get_or all k d))) (sym (zero-add k)) (within, get_or_default all k d (get_or all k d) within))
 
 -- all that is told
 pub is-total : (machine : MachineData) (problems : List ProblemData) (loops : List LoopFindings) (number met failed : ℕ) (head lines text : List ℕ) (written : Written)

@@ -145,12 +145,13 @@ fn found_by<R: Threads + Sync>(
     requires within { All (λ (j : _). j.number < length prepared.now) jobs.now.list.items }
     ensures { IfOk result (λ loops. AllZip (AreFindings machine.now) prepared.now loops.items) }
 {
-    parts_of(
+    let loops = parts_of(
         rt,
         alloc,
         jobs,
         &|number| { found_part(alloc, machine, prepared, number) },
-    )
+    )?;
+    Ok(loops)
 }
 
 /// What is found of the loop of a number.
@@ -164,5 +165,6 @@ fn found_part(
     requires within { number < length prepared.now }
     ensures { IfOk result (λ found. (d : ProblemData) → AreFindings machine.now (slice_index_or prepared.now number d) found) }
 {
-    findings_of(alloc, machine, &prepared[number])
+    let found = findings_of(alloc, machine, &prepared[number])?;
+    Ok(found)
 }

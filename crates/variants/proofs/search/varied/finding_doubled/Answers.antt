@@ -5,7 +5,7 @@ use Rattle.graph.specs.Units.{first_without_table}
 use Rattle.machine_variants.specs.declared.variant.Variant.TheVariants.{Doubled}
 use Rattle.variants.specs.declared.found.finding.Finding.{Finding}
 use Rattle.variants.specs.Intervals.{IsFinding, IsIntervalOn}
-use Rattle.variants.proofs.Found.{finding-found}
+use Rattle.variants.proofs.Findings.{finding-found}
 use Rattle.variants.proofs.Others.{tables-varied}
 use Rattle.variants.proofs.search.varied.finding_doubled.Goals as goal
 

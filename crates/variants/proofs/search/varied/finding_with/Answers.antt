@@ -2,7 +2,7 @@ use Rattle.std.proofs.Common.{sym, subst, refl}
 use Rattle.machine_variants.specs.declared.variant.Variant.TheVariants.{Registers}
 use Rattle.variants.specs.declared.found.finding.Finding.{Finding}
 use Rattle.variants.specs.Intervals.{IsFinding}
-use Rattle.variants.proofs.Found.{finding-found}
+use Rattle.variants.proofs.Findings.{finding-found}
 use Rattle.variants.proofs.Giving.{varied-interval}
 use Rattle.variants.proofs.search.varied.finding_with.Goals as goal
 

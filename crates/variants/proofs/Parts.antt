@@ -1,7 +1,9 @@
 -- What is told of loops as text, one after another.
 use Rattle.std.proofs.Common.{◌≡◌, ℕ, ◌+◌, cond, List, [], ◌∷◌, ◌++◌, length, refl, sym, ap, ◌∙◌}
 use Rattle.std.specs.Prelude.{◌==◌, codes, count_by, not}
-use Rattle.std.specs.List.{AllZip}
+use Rattle.std.specs.List.{All, AllZip}
+use Rattle.std.proofs.lemmas.List.Elements.{All-cons, All-nil}
+use Rattle.std.proofs.lemmas.Slice.Zip.{AllZip-long}
 use Rattle.std.proofs.lemmas.List.Sums.{sum_by-cons}
 use Rattle.machine_data.specs.Machines.{MachineData}
 use Rattle.ims.specs.Problems.{ProblemData}
@@ -9,7 +11,7 @@ use Rattle.printouts.specs.Outcomes.{Written}
 use Rattle.writing.specs.Words.{last_line}
 use Rattle.machine_variants.specs.Variants.{variants_of}
 use Rattle.variants.specs.declared.found.finding.LoopFindings.{LoopFindings}
-use Rattle.variants.specs.Findings.{AreFindings}
+use Rattle.variants.specs.Findings.{AreFindings, IsFoundOn}
 use Rattle.variants.specs.Texts.{ArePartsOf, IsPartOf, IsTextOf, PartData, is_met, variant_line}
 use Rattle.variants.specs.inner.Told.{found_line, found_lines, part_text}
 use Rattle.variants.proofs.Concerned.{each-found, somes, zip-found}
@@ -76,3 +78,13 @@ is-text machine problems loops text met failed written are t m f w all =
       is_text = w;
       all_met = all;
     }
+
+-- of each loop as much is found as there are variants
+pub long-each : (machine : MachineData) (problems : List ProblemData) (loops : List LoopFindings) → AllZip (AreFindings machine) problems loops
+    → All (λ (found : LoopFindings). length found.findings.items ≡ length (variants_of machine)) loops
+long-each machine [] [] h = All-nil (λ (found : LoopFindings). length found.findings.items ≡ length (variants_of machine))
+long-each machine [] (found ∷ loops) h = absurd h
+long-each machine (p ∷ problems) [] h = absurd h
+long-each machine (p ∷ problems) (found ∷ loops) h =
+    All-cons (λ (e : LoopFindings). length e.findings.items ≡ length (variants_of machine)) found loops
+    (AllZip-long (IsFoundOn machine p) (variants_of machine) found.findings.items h.0.each_finding) (long-each machine problems loops h.1)
