@@ -28,9 +28,9 @@ use variants::{
 };
 
 /// About how much work the search on the variants of a machine is for each statement of a loop, in statements that are executed once.
-const VARIED: u64 = 4_000;
+const VARIED: u64 = 2_000;
 
-/// What each variant of a machine brings loops, as [`vary_text`](variants::vary_text) tells it, by at most as many workers as the
+/// What each variant of a machine brings loops, as `vary_text` of `variants` tells it, by at most as many workers as the
 /// settings say, side by side. One worker starts no thread, and neither do a single loop and loops with few statements.
 ///
 /// # Errors
@@ -49,7 +49,7 @@ pub fn vary_text_on<R: Threads + Sync>(
     Ok(findings_text(alloc, machine, &found)?)
 }
 
-/// The same as one JSON document, as [`vary_document`](variants::vary_document) tells it.
+/// The same as one JSON document, as `vary_document` of `variants` tells it.
 ///
 /// # Errors
 /// Those of [`vary_text_on`].
@@ -66,7 +66,7 @@ pub fn vary_document_on<R: Threads + Sync>(
     Ok(findings_document(alloc, machine, &found)?)
 }
 
-/// What each variant of a machine brings the loops of a file in all, as [`vary_total`](variants::vary_total) tells it. There are at most
+/// What each variant of a machine brings the loops of a file in all, as `vary_total` of `variants` tells it. There are at most
 /// 1,024 loops, which is the most that a text has.
 ///
 /// # Errors

@@ -15,7 +15,7 @@ use std::test::Fail;
 use std::thread::Threads;
 
 /// How often the two loops stand in a file: often enough that each of several workers has work.
-const TIMES: usize = 12;
+const TIMES: usize = 24;
 
 /// A loop that moves the cells of an array.
 const SHIFT: &str = "
@@ -57,18 +57,18 @@ registers 4 ii 2 shorter
 registers 256 ii 2 shorter
 ";
 
-/// The total of 12 loops of each kind. A unit more for loads gives the first ones an interval that is one cycle less; a shorter latency of
+/// The total of 24 loops of each kind. A unit more for loads gives the first ones an interval that is one cycle less; a shorter latency of
 /// loads and more registers give the second ones one or two cycles less, and with one register these have none.
 const TOTAL: &str = "\
-total loops 24 ii 72 failed 0
-unit mem doubled ii 60 failed 0 shorter 12 longer 0
-unit alu doubled ii 72 failed 0 shorter 0 longer 0
-latency load 2 ii 60 failed 0 shorter 12 longer 0
-registers 1 ii 24 failed 12 shorter 0 longer 12
-registers 3 ii 48 failed 0 shorter 12 longer 0
-registers 4 ii 48 failed 0 shorter 12 longer 0
-registers 256 ii 48 failed 0 shorter 12 longer 0
-loops 24 met 24 failed 0
+total loops 48 ii 144 failed 0
+unit mem doubled ii 120 failed 0 shorter 24 longer 0
+unit alu doubled ii 144 failed 0 shorter 0 longer 0
+latency load 2 ii 120 failed 0 shorter 24 longer 0
+registers 1 ii 48 failed 24 shorter 0 longer 24
+registers 3 ii 96 failed 0 shorter 24 longer 0
+registers 4 ii 96 failed 0 shorter 24 longer 0
+registers 256 ii 96 failed 0 shorter 24 longer 0
+loops 48 met 48 failed 0
 ";
 
 /// The object of the first loop, but for its name, in two parts.
@@ -163,7 +163,7 @@ fn told_total<R: Threads + Sync>(rt: &R, alloc: Global, workers: usize) -> Resul
 #[test]
 fn workers_change_no_text(rt: HostRuntime) -> Result<(), Fail> {
     let alloc = rt.alloc();
-    let wanted = named(alloc, SHIFT_PART, ACC_PART, "loops 24 met 24 failed 0\n")?;
+    let wanted = named(alloc, SHIFT_PART, ACC_PART, "loops 48 met 48 failed 0\n")?;
     for workers in [1, 2, 3, 64] {
         let told = told_text(&rt, alloc, workers)?;
         assert_eq!(rt; told.text(), wanted.as_bytes());
@@ -197,7 +197,7 @@ fn workers_change_no_document(rt: HostRuntime) -> Result<(), Fail> {
         wanted.push_str(",")?;
         push_object(alloc, &mut wanted, ACC_OBJECT, "a", number)?;
     }
-    wanted.push_str("],\"met\":24,\"version\":1}\n")?;
+    wanted.push_str("],\"met\":48,\"version\":1}\n")?;
     for workers in [1, 2, 3, 64] {
         let told = told_document(&rt, alloc, workers)?;
         assert_eq!(rt; told.text(), wanted.as_bytes());

@@ -10,7 +10,7 @@ use Rattle.variants.proofs.On.{all-on}
 use Rattle.side_by_side.proofs.commands.varying.find_by.Goals as goal
 
 pub found_by-requires-clause-on : goal.found_by-requires-clause-on
-found_by-requires-clause-on g c =
+found_by-requires-clause-on g c κs within =
     let m = c.args.machine.now in
     let r = c.args.settings.now.ratio in
     let k = c.args.settings.now.ceiling in
@@ -19,7 +19,7 @@ found_by-requires-clause-on g c =
     subst (λ (ps : List ProblemData). All (IsOn m) ps) (sym c.as_slice.ensures.value) (all-on m r k ls c.in_ok-prepared.prepared.items are.1 are.0)
 
 pub found_by-requires-clause-each : goal.found_by-requires-clause-each
-found_by-requires-clause-each g c =
+found_by-requires-clause-each g c κs within =
     let m = c.args.machine.now in
     let r = c.args.settings.now.ratio in
     let k = c.args.settings.now.ceiling in
@@ -31,8 +31,8 @@ found_by-requires-clause-each g c =
     omega (arith, long, same, c.args.loops.ok.0, c.requires.each)
 
 pub found_by-requires-clause-within : goal.found_by-requires-clause-within
-found_by-requires-clause-within g c k d h =
-    let each = found_by-requires-clause-each g c in
+found_by-requires-clause-within g c κs within k d h =
+    let each = found_by-requires-clause-each g c κs within in
     omega (arith, each, c.requires.each, c.requires.within k d h)
 
 pub returns : goal.returns
