@@ -12,4 +12,4 @@ pub use copies::copied_loop;
 pub use doubling::doubled;
 pub use opcodes::latency_of;
 pub use shortening::shortened;
-pub use variant::{Variant, variants_for, variants_of};
+pub use variant::{Variant, concerns, variants_of};

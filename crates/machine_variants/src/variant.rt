@@ -68,8 +68,9 @@ fn have_opcode(statements: &[Statement], opcode: Opcode) -> bool
         .any(|statement| is_opcode(statement.opcode, opcode))
 }
 
-/// Whether a variant concerns a loop.
-fn concerns(machine: &Machine, innermost: &Loop, variant: Variant) -> bool
+/// Whether a variant concerns a loop: some alternative of its operations takes the unit, it has an operation of the opcode, or what is
+/// changed is the number of registers.
+pub fn concerns(machine: &Machine, innermost: &Loop, variant: Variant) -> bool
     ensures { result ≡ concerns machine.now innermost.now variant }
 {
     let statements = innermost.statements();
@@ -154,26 +155,4 @@ pub fn variants_of(alloc: Global, machine: &Machine) -> Result<Vec<Variant>, Out
     push_shortened(&mut list, machine)?;
     push_registers(&mut list, machine.registers())?;
     Ok(list)
-}
-
-/// Those of the variants of a machine that concern a loop, in order: a unit that some alternative of its operations takes, the latency of
-/// an opcode that it has, and each number of registers.
-///
-/// # Errors
-/// Memory ran out.
-pub fn variants_for(
-    alloc: Global,
-    machine: &Machine,
-    innermost: &Loop,
-    variants: &[Variant],
-) -> Result<Vec<Variant>, OutOfMemory>
-    requires { All (IsVariantOf machine.now) variants.now }
-    ensures value { IfOk result (λ list. list.items ≡ filter (concerns machine.now innermost.now) variants.now) }
-    ensures each { IfOk result (λ list. All (IsVariantOf machine.now) list.items) }
-{
-    variants
-        .iter()
-        .copied()
-        .filter(|variant| concerns(machine, innermost, *variant))
-        .collect(alloc)
 }

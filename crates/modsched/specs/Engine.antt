@@ -11,7 +11,8 @@ use Rattle.command_line.specs.declared.command.Work.TheVariants.{Plain, OnMachin
 use Rattle.command_line.specs.declared.command.Task.{Task}
 use Rattle.command_line.specs.declared.command.Task.TheVariants as task
 use Rattle.command_line.specs.declared.command.Search as search
-use Rattle.command_line.specs.declared.command.Search.TheVariants.{Schedule, Json, Explain, Vary, Run}
+use Rattle.command_line.specs.declared.command.Search.TheVariants.{Schedule, Json, Explain, Vary, Total, Run}
+use Rattle.command_line.specs.declared.command.Format.TheVariants as format
 use Rattle.command_line.specs.Lines.{first_path}
 use Rattle.devices.specs.Devices.{most_read}
 use Rattle.file_faults.specs.Answers.{AnswersAlone, AnswersFile}
@@ -29,6 +30,8 @@ use Rattle.printouts.specs.Plain.{IsPlainText}
 use Rattle.printouts.specs.Run.{IsRunText}
 use Rattle.printouts.specs.Schedule.{IsListingText, IsListingDocument}
 use Rattle.variants.specs.Texts.{IsVaryText}
+use Rattle.variants.specs.Documents.{IsVaryDocument}
+use Rattle.variants.specs.Totals.{IsVaryTotal}
 use Rattle.lint_text.specs.Printout.{IsLintText}
 use Rattle.lint_text.specs.declared.printout.LintText.{LintText}
 use Rattle.lint_text.specs.declared.printout.Named.{Named}
@@ -98,7 +101,9 @@ abbrev pub IsSearchText : ℕ → ℕ → search.Search → MachineData → List
 IsSearchText ratio ceiling Schedule machine loops written = IsListingText ratio ceiling machine loops written
 IsSearchText ratio ceiling Json machine loops written = IsListingDocument ratio ceiling machine loops written
 IsSearchText ratio ceiling Explain machine loops written = IsExplainText ratio ceiling machine loops written
-IsSearchText ratio ceiling Vary machine loops written = IsVaryText ratio ceiling machine loops written
+IsSearchText ratio ceiling (Vary format.Text) machine loops written = IsVaryText ratio ceiling machine loops written
+IsSearchText ratio ceiling (Vary format.Json) machine loops written = IsVaryDocument ratio ceiling machine loops written
+IsSearchText ratio ceiling Total machine loops written = IsVaryTotal ratio ceiling machine loops written
 IsSearchText ratio ceiling (Run trip) machine loops written = IsRunText trip ratio ceiling machine loops written
 
 -- what is written of loops on a machine

@@ -22,7 +22,7 @@ mod searches;
 
 pub(crate) use answer::Answer;
 use answering::{check_text, report_text, solve_text};
-use command_line::{Command, Search, Task, Work};
+use command_line::{Command, Format, Search, Task, Work};
 use exit_status::Status;
 use file_faults::FileFault;
 use linting::lint_text;
@@ -32,10 +32,11 @@ use machine::{Machine, read_machine};
 use printouts::{Printout, bounds_text, dot_text, edges_text};
 use searches::{json_text, run_text, schedule_text};
 use settings::Settings;
-use side_by_side::{explain_text_on, plain_text_on};
+use side_by_side::{
+    explain_text_on, plain_text_on, vary_document_on, vary_text_on, vary_total_on,
+};
 use std::alloc::Global;
 use std::thread::Threads;
-use variants::vary_text;
 
 /// What a command writes for the bytes of its texts, each of which is read once, or the status of a refusal. A command that reads
 /// one text ignores the first bytes.
@@ -147,7 +148,9 @@ fn search_text<R: Threads + Sync>(
         Search::Schedule => schedule_text(rt, alloc, machine, loops, settings),
         Search::Json => json_text(rt, alloc, machine, loops, settings),
         Search::Explain => explain_text_on(rt, alloc, machine, loops, settings),
-        Search::Vary => vary_text(alloc, machine, loops, settings),
+        Search::Vary(Format::Text) => vary_text_on(rt, alloc, machine, loops, settings),
+        Search::Vary(Format::Json) => vary_document_on(rt, alloc, machine, loops, settings),
+        Search::Total => vary_total_on(rt, alloc, machine, loops, settings),
         Search::Run(trip) => run_text(rt, alloc, machine, loops, *trip, settings),
     }
 }

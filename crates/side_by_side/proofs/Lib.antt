@@ -1,2 +1,3 @@
 pub mod Explaining
 pub mod Joining
+pub mod Varying

@@ -3,3 +3,4 @@
 pub(crate) mod explaining;
 pub(crate) mod plain;
 pub(crate) mod runs;
+pub(crate) mod varying;

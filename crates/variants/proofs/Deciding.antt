@@ -9,7 +9,8 @@ use Rattle.candidates.specs.Outcomes.{FailsBy, GivesKernel}
 use Rattle.candidates.proofs.Rising.{Risen, met_here, none_where, risen_none, risen_on, unmet_here}
 use Rattle.candidates.specs.declared.outcomes.Cause.TheVariants.{Table}
 use Rattle.variants.specs.Intervals.{IsIntervalOf, IsLeastNumber}
-use Rattle.variants.specs.inner.Tries.{AreFailing, IsFailing, IsGiving, IsOn, with_registers}
+use Rattle.variants.specs.Findings.{IsOn}
+use Rattle.variants.specs.inner.Tries.{AreFailing, IsFailing, IsGiving, with_registers}
 use Rattle.variants.proofs.Giving.{varied-interval, varied-only}
 
 -- the first `above` intervals fail

@@ -1,5 +1,11 @@
+pub mod Concerned
 pub mod Deciding
-pub mod Found
+pub mod Documents
+pub mod Findings
 pub mod Giving
+pub mod On
 pub mod Others
-pub mod Told
+pub mod Parts
+pub mod Totals
+pub mod Whole
+pub mod Zipped

@@ -9,10 +9,10 @@ use Rattle.candidates.specs.declared.choices.Choice.TheVariants as choice
 use Rattle.candidates.specs.Choices.{IsChoice}
 use Rattle.machine_variants.specs.declared.variant.Variant.{Variant}
 use Rattle.machine_variants.specs.declared.variant.Variant.TheVariants.{Registers}
-use Rattle.variants.specs.declared.finding.Standing.{Standing}
-use Rattle.variants.specs.declared.finding.Standing.TheVariants as standing
-use Rattle.variants.specs.declared.finding.Finding.{Finding}
-use Rattle.variants.specs.declared.finding.Finding.TheVariants as finding
+use Rattle.variants.specs.declared.found.finding.Standing.{Standing}
+use Rattle.variants.specs.declared.found.finding.Standing.TheVariants as standing
+use Rattle.variants.specs.declared.found.finding.Finding.{Finding}
+use Rattle.variants.specs.declared.found.finding.Finding.TheVariants as finding
 use Rattle.machine_variants.specs.Variants.{concerns, passes_limit, varied}
 
 -- the interval that is chosen for a problem, where one is

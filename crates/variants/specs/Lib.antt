@@ -1,3 +1,6 @@
 pub mod Intervals
+pub mod Findings
 pub mod Texts
+pub mod Documents
+pub mod Totals
 pub mod inner

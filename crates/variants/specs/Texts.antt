@@ -11,10 +11,10 @@ use Rattle.ims.specs.Problems.{ProblemData, IsProblemOf, mii_of}
 use Rattle.printouts.specs.Outcomes.{Written}
 use Rattle.machine_variants.specs.declared.variant.Variant.{Variant}
 use Rattle.machine_variants.specs.declared.variant.Variant.TheVariants.{Doubled, Shortened, Registers}
-use Rattle.variants.specs.declared.finding.Standing.{Standing}
-use Rattle.variants.specs.declared.finding.Standing.TheVariants as standing
-use Rattle.variants.specs.declared.finding.Finding.{Finding}
-use Rattle.variants.specs.declared.finding.Finding.TheVariants as finding
+use Rattle.variants.specs.declared.found.finding.Standing.{Standing}
+use Rattle.variants.specs.declared.found.finding.Standing.TheVariants as standing
+use Rattle.variants.specs.declared.found.finding.Finding.{Finding}
+use Rattle.variants.specs.declared.found.finding.Finding.TheVariants as finding
 use Rattle.machine_variants.specs.Variants.{variants_for}
 use Rattle.variants.specs.Intervals.{IsFinding, IsStanding}
 
@@ -35,15 +35,15 @@ variant_text machine (Shortened opcode) = (codes "latency " ++ word_of opcode) +
 variant_text machine (Registers number) = told (codes "registers ") number
 
 -- how an interval compares with that of the machine as it is, if there is one
-abbrev pub comparison : Standing → ℕ → List ℕ
-comparison standing.Failed ii = codes " new\n"
-comparison (standing.Met own number) ii = if nat_lt ii own then codes " shorter\n" else (if nat_lt own ii then codes " longer\n" else codes " same\n")
+abbrev pub change_word : Standing → ℕ → List ℕ
+change_word standing.Failed ii = codes "new"
+change_word (standing.Met own number) ii = if nat_lt ii own then codes "shorter" else (if nat_lt own ii then codes "longer" else codes "same")
 
 -- ` ii J shorter`, ` longer`, ` same` or ` new`; ` failed`; or ` -` where the variant passes a limit; each with a line feed
 abbrev pub finding_text : Standing → Finding → List ℕ
 finding_text has finding.Limit = codes " -\n"
 finding_text has finding.Failed = codes " failed\n"
-finding_text has (finding.Met ii) = told (codes " ii ") ii ++ comparison has ii
+finding_text has (finding.Met ii) = told (codes " ii ") ii ++ ((codes " " ++ change_word has ii) ++ codes "\n")
 
 abbrev pub variant_line : MachineData → Standing → Variant → Finding → List ℕ
 variant_line machine has variant found = variant_text machine variant ++ finding_text has found

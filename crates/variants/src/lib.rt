@@ -1,15 +1,18 @@
-//! What each variant of a machine brings loops, as text: a unit twice, a latency that is one cycle less, and other numbers of registers.
+//! What each variant of a machine brings loops: a unit twice, a latency that is one cycle less, and other numbers of registers. It is found
+//! loop by loop, and told as text, as JSON, or in all for a file.
 #![tactic(auto)]
 
-mod finding;
-mod intervals;
+mod found;
 mod laws;
-mod least;
-mod lines;
-mod parts;
-mod tries;
-mod varied;
+mod search;
+mod told;
 mod varying;
 
+pub use found::each::findings_of;
+pub use found::files::{FileFindings, find_all};
+pub use found::finding::{Finding, LoopFindings, Standing};
 pub use laws::{one_interval, others_change_nothing};
-pub use varying::vary_text;
+pub use told::document::findings_document;
+pub use told::parts::findings_text;
+pub use told::totals::findings_total;
+pub use varying::{vary_document, vary_text, vary_total};

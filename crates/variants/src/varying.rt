@@ -1,46 +1,23 @@
 //! What each variant of a machine brings the loops of a file.
 
-ghost use Rattle.std.specs.Prelude.{IfOk};
-ghost use Rattle.std.specs.List.{All};
+ghost use Rattle.std.specs.Prelude.{◌≤◌, vec_len};
 ghost use Rattle.graph.specs.Units.{first_lacking};
 ghost use Rattle.file_faults.specs.Answers.{AnswersOn};
-ghost use Rattle.variants.specs.Texts.{IsTextOf, IsVaryText};
-ghost use Rattle.variants.specs.inner.Tries.{IsOn};
+ghost use Rattle.variants.specs.Documents.{IsVaryDocument};
+ghost use Rattle.variants.specs.Texts.{IsVaryText};
+ghost use Rattle.variants.specs.Totals.{IsVaryTotal};
+ghost use Rattle.machine_data.specs.declared.limits.TheConstants.{MAX_LOOPS};
 
-use crate::parts::push_parts;
+use crate::found::files::find_all;
+use crate::told::document::findings_document;
+use crate::told::parts::findings_text;
+use crate::told::totals::findings_total;
 use file_faults::FileFault;
-use ims::Prepared;
 use loops::Loop;
 use machine::Machine;
-use machine_data::OutOfMemory;
-use machine_variants::variants_of;
-use one_thread::prepare_all;
 use printouts::Printout;
 use settings::Settings;
 use std::alloc::Global;
-use writing::push_last;
-
-/// What is told of prepared loops.
-fn printout_of(
-    alloc: Global,
-    machine: &Machine,
-    loops: &[Prepared],
-) -> Result<Printout, OutOfMemory>
-    requires { All (IsOn machine.now) loops.now }
-    ensures { IfOk result (IsTextOf machine.now loops.now) }
-{
-    let variants = variants_of(alloc, machine)?;
-    let mut text = Vec::new(alloc);
-    let tally = push_parts(alloc, &mut text, machine, variants.as_slice(), loops)?;
-    push_last(
-        &mut text,
-        "loops ",
-        loops.len() as u64,
-        tally.met,
-        tally.failed,
-    )?;
-    Ok(Printout::new(text, tally.failed == 0))
-}
 
 /// What each variant of a machine brings loops: for each loop, in order, the interval that it has, with the least number of registers
 /// for it, and a line for each variant that concerns it, with the interval that it has there. A variant is one more unit beside one
@@ -57,6 +34,41 @@ pub fn vary_text(
 ) -> Result<Printout, FileFault>
     ensures { AnswersOn (IsVaryText settings.now.ratio settings.now.ceiling machine.now loops.items) (first_lacking machine.now loops.items) result }
 {
-    let prepared = prepare_all(alloc, machine, loops, settings)?;
-    Ok(printout_of(alloc, machine, prepared.as_slice())?)
+    let found = find_all(alloc, machine, loops, settings)?;
+    Ok(findings_text(alloc, machine, &found)?)
+}
+
+/// The same as one JSON document.
+///
+/// # Errors
+/// Those of [`vary_text`].
+pub fn vary_document(
+    alloc: Global,
+    machine: &Machine,
+    loops: Vec<Loop>,
+    settings: &Settings,
+) -> Result<Printout, FileFault>
+    ensures { AnswersOn (IsVaryDocument settings.now.ratio settings.now.ceiling machine.now loops.items) (first_lacking machine.now loops.items) result }
+{
+    let found = find_all(alloc, machine, loops, settings)?;
+    Ok(findings_document(alloc, machine, &found)?)
+}
+
+/// What each variant of a machine brings the loops of a file in all: the sum of the intervals on the machine as it is and on each variant
+/// that concerns some loop, with how many loops have none, a shorter one or a longer one there. There are at most 1,024 loops, which is
+/// the most that a text has.
+///
+/// # Errors
+/// Those of [`vary_text`].
+pub fn vary_total(
+    alloc: Global,
+    machine: &Machine,
+    loops: Vec<Loop>,
+    settings: &Settings,
+) -> Result<Printout, FileFault>
+    requires few { vec_len loops ≤ MAX_LOOPS }
+    ensures exact { AnswersOn (IsVaryTotal settings.now.ratio settings.now.ceiling machine.now loops.items) (first_lacking machine.now loops.items) result }
+{
+    let found = find_all(alloc, machine, loops, settings)?;
+    Ok(findings_total(alloc, machine, &found)?)
 }

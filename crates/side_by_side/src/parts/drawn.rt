@@ -5,7 +5,6 @@ ghost use Rattle.std.specs.List.{All};
 ghost use Rattle.side_by_side.specs.inner.Parts.{IsMadeBelow};
 
 use crate::parts::jobs::Job;
-use crate::parts::part::Part;
 use machine::OutOfMemory;
 use std::alloc::Global;
 use std::sync::atomic::{AtomicUsize, Ordering};
@@ -13,20 +12,18 @@ use std::thread::{self, Threads};
 
 /// A part, and its number.
 #[derive(Drop)]
-pub(crate) struct Made {
+pub(crate) struct Made<T> {
     pub(crate) number: usize,
-    pub(crate) part: Part,
+    pub(crate) part: T,
 }
 
 /// What `workers` workers make together, each in a thread where one can be started. Each draws jobs until none is left,
 /// or until it is refused memory: what is then lacking is left to the calling thread.
-pub(crate) fn made_by_all<R: Threads + Sync, F: Fn(usize) -> Result<Part, OutOfMemory> + Sync>(
-    rt: &R,
-    alloc: Global,
-    workers: usize,
-    jobs: &[Job],
-    make: &F,
-) -> Vec<Vec<Made>>
+pub(crate) fn made_by_all<
+    R: Threads + Sync,
+    T: Drop + Send,
+    F: Fn(usize) -> Result<T, OutOfMemory> + Sync,
+>(rt: &R, alloc: Global, workers: usize, jobs: &[Job], make: &F) -> Vec<Vec<Made<T>>>
     requires within { All (λ (j : _). j.number < length jobs.now) jobs.now }
     requires accepts { (k : ℕ) → k < length jobs.now → F.pre make.now k }
     ensures { All (λ (one : _). All (IsMadeBelow F.Fn make.now (length jobs.now)) one.items) result.items }
@@ -46,12 +43,12 @@ pub(crate) fn made_by_all<R: Threads + Sync, F: Fn(usize) -> Result<Part, OutOfM
 }
 
 /// What one worker makes.
-fn made_by_one<F: Fn(usize) -> Result<Part, OutOfMemory>>(
+fn made_by_one<T: Drop, F: Fn(usize) -> Result<T, OutOfMemory>>(
     alloc: Global,
     next: &AtomicUsize,
     jobs: &[Job],
     make: &F,
-) -> Vec<Made>
+) -> Vec<Made<T>>
     requires within { All (λ (j : _). j.number < length jobs.now) jobs.now }
     requires accepts { (k : ℕ) → k < length jobs.now → F.pre make.now k }
     ensures { All (IsMadeBelow F.Fn make.now (length jobs.now)) result.items }
@@ -70,8 +67,8 @@ fn made_by_one<F: Fn(usize) -> Result<Part, OutOfMemory>>(
 }
 
 /// Makes the part of the job at a place, and adds it.
-fn add_made<F: Fn(usize) -> Result<Part, OutOfMemory>>(
-    made: &mut Vec<Made>,
+fn add_made<T: Drop, F: Fn(usize) -> Result<T, OutOfMemory>>(
+    made: &mut Vec<Made<T>>,
     jobs: &[Job],
     place: usize,
     make: &F,

@@ -1,16 +1,14 @@
 -- The attempts at a loop's intervals, each made once, and what they give with other numbers of registers.
-use Rattle.std.specs.Prelude.{◌≡◌, ℕ, ◌+◌, ◌<◌, ◌≤◌, List, length, Option, Some, None}
+use Rattle.std.specs.Prelude.{ℕ, ◌+◌, ◌<◌, ◌≤◌, List, length, Option, Some, None}
 use Rattle.std.specs.List.{slice_index_or}
 use Rattle.ims.specs.declared.outcome.attempts.Try.{Try}
 use Rattle.ims.specs.Attempts.{AnswersAttempt}
-use Rattle.ims.specs.Problems.{ProblemData, IsProblemOf, budget_of, mii_of}
-use Rattle.machine_data.specs.Machines.{MachineData}
-use Rattle.graph.specs.Units.{first_without_table}
+use Rattle.ims.specs.Problems.{ProblemData, budget_of, mii_of}
 use Rattle.kernel.specs.declared.kernels.parts.Parts.{Parts}
 use Rattle.candidates.specs.declared.outcomes.Cause.{Cause}
 use Rattle.candidates.specs.Outcomes.{FailsBy, GivesKernel}
-use Rattle.variants.specs.declared.finding.Finding.{Finding}
-use Rattle.variants.specs.declared.finding.Finding.TheVariants as finding
+use Rattle.variants.specs.declared.found.finding.Finding.{Finding}
+use Rattle.variants.specs.declared.found.finding.Finding.TheVariants as finding
 
 -- the problem with this number of registers
 abbrev pub with_registers : ℕ → ProblemData → ProblemData
@@ -50,8 +48,3 @@ IsCovered problem (Some ii) count = (mii_of problem ≤ ii) × (ii ≤ mii_of pr
 abbrev pub found_of : Option ℕ → Finding
 found_of None = finding.Failed
 found_of (Some ii) = finding.Met ii
-
--- a problem that is that of its loop on the machine, which has a table for each of its opcodes
-pub record IsOn (machine : MachineData) (problem : ProblemData) : Type 0 where
-  pub is_problem : IsProblemOf machine problem.loop problem.ratio problem.ceiling problem
-  pub tables : first_without_table machine problem.loop ≡ None

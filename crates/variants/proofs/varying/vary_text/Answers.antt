@@ -1,23 +1,14 @@
-use Rattle.std.proofs.Common.{List, sym, subst}
-use Rattle.std.specs.List.{All}
 use Rattle.graph.specs.Units.{first_lacking}
-use Rattle.ims.specs.Problems.{ProblemData}
 use Rattle.file_faults.proofs.Answering.{on_none, on_ok}
-use Rattle.one_thread.specs.Files.{Prepares}
-use Rattle.variants.specs.Texts.{IsTextOf, IsVaryText}
-use Rattle.variants.specs.inner.Tries.{IsOn}
-use Rattle.variants.proofs.Told.{all-on}
+use Rattle.variants.specs.Texts.{IsVaryText}
+use Rattle.variants.specs.Findings.{AreFound}
 use Rattle.variants.proofs.varying.vary_text.Goals as goal
 
-pub printout_of-requires : goal.printout_of-requires
-printout_of-requires c =
-    let r = c.args.settings.now.ratio in
-    let k = c.args.settings.now.ceiling in
+pub findings_text-requires : goal.findings_text-requires
+findings_text-requires c =
     let m = c.args.machine.now in
     let ls = c.args.loops.items in
-    let prepared = c.in_ok-prepared.prepared in
-    let are = on_ok (Prepares r k m ls) (first_lacking m ls) prepared c.in_ok-prepared.ensures.exact in
-    subst (λ (ps : List ProblemData). All (IsOn m) ps) (sym c.as_slice.ensures.value) (all-on m r k ls prepared.items are.1 are.0)
+    (on_ok (AreFound c.args.settings.now.ratio c.args.settings.now.ceiling m ls) (first_lacking m ls) c.in_ok-found.found c.in_ok-found.ensures).1.1
 
 pub returns : goal.returns
 returns c =
@@ -25,11 +16,7 @@ returns c =
     let k = c.args.settings.now.ceiling in
     let m = c.args.machine.now in
     let ls = c.args.loops.items in
-    let prepared = c.in_ok-prepared.prepared in
-    let written = c.in_ok-printout_of.field-0 in
-    let are = on_ok (Prepares r k m ls) (first_lacking m ls) prepared c.in_ok-prepared.ensures.exact in
-    on_none (IsVaryText r k m ls) (first_lacking m ls) written are.0 (record {
-      problems = prepared.items;
-      each_problem = are.1;
-      is_text_of = subst (λ (ps : List ProblemData). IsTextOf m ps written) c.as_slice.ensures.value c.in_ok-printout_of.ensures;
-    })
+    let found = c.in_ok-found.found in
+    let are = on_ok (AreFound r k m ls) (first_lacking m ls) found c.in_ok-found.ensures in
+    on_none (IsVaryText r k m ls) (first_lacking m ls) c.in_ok-findings_text.field-0 are.0
+    (record { problems = found.prepared.items; each_problem = are.1.0; is_text_of = c.in_ok-findings_text.ensures })
