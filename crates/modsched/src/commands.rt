@@ -26,15 +26,13 @@ use command_line::{Command, Format, Search, Task, Work};
 use exit_status::Status;
 use file_faults::FileFault;
 use linting::lint_text;
-use naming::loops_named;
 use loops::Loop;
 use machine::{Machine, read_machine};
+use naming::loops_named;
 use printouts::{Printout, bounds_text, dot_text, edges_text};
 use searches::{json_text, run_text, schedule_text};
 use settings::Settings;
-use side_by_side::{
-    explain_text_on, plain_text_on, vary_document_on, vary_text_on, vary_total_on,
-};
+use side_by_side::{explain_text_on, plain_text_on, vary_document_on, vary_text_on, vary_total_on};
 use std::alloc::Global;
 use std::thread::Threads;
 

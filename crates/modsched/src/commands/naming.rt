@@ -14,11 +14,7 @@ use std::alloc::Global;
 
 /// The loops of a text that have one of the names, in the order of the text; all of them where there is no name. Or the status of the text's fault,
 /// or else of the first name that no loop has.
-pub(super) fn loops_named(
-    alloc: Global,
-    names: &[String],
-    text: &[u8],
-) -> Result<Vec<Loop>, Status>
+pub(super) fn loops_named(alloc: Global, names: &[String], text: &[u8]) -> Result<Vec<Loop>, Status>
     ensures loops { IfOk result (λ loops. (chosen_of names.now (loops_in text.now) ≡ Ok loops.items) × (unknown_in names.now (loops_in text.now) ≡ None) × (length loops.items ≤ MAX_LOOPS)) }
     ensures status { IfErr result (IsUnnamed names.now (loops_in text.now)) }
     ensures kind { IfErr result IsRefusal }
