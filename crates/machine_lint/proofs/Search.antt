@@ -1,0 +1,12 @@
+-- The first place that passes a test.
+use Rattle.std.proofs.Common.{◌≡◌, ℕ, suc, ◌+◌, ◌-◌, ◌<◌, ◌≤◌, Bool, true, false, cond, List, [], ◌∷◌, length, get_or, drop, Option, Some, None, refl, sym, ap, ◌∙◌, arith, add-one}
+use Rattle.machine_lint.specs.Words.{first_at}
+
+pub first-step : (test : ℕ → Bool) (at n : ℕ) → at < n → first_at test at (n - at) ≡ cond (test at) (Some at) (first_at test (at + 1) (n - (at + 1)))
+first-step test at n h =
+    let more : n - at ≡ suc (n - (at + 1)) = omega arith in
+    let next : suc at ≡ at + 1 = omega arith in
+    rw more (ap (λ k. cond (test at) (Some at) (first_at test k (n - (at + 1)))) next)
+
+pub first-none : (test : ℕ → Bool) (at n : ℕ) → n ≤ at → first_at test at (n - at) ≡ None
+first-none test at n h = let none : n - at ≡ 0 = omega arith in rw none
