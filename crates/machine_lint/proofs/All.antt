@@ -21,21 +21,21 @@ module _ (text : List ℕ) (top : Members) (y : MachineLint) where
   abbrev Units : Option Data
   Units = get_member (codes "units") top
 
-  in-top-keys : Contains (keys_told text None (codes "ops" ∷ codes "registers" ∷ codes "units" ∷ []) top) y → Contains (tree_told text top) y
+  in-top-keys : Contains (keys_told text None top) y → Contains (tree_told text top) y
   unfolding tree_told
   in-top-keys h = Contains-append_left _ _ y (Contains-append_left _ _ y (Contains-append_left _ _ y h))
 
   in-units : Contains (units_told text Units) y → Contains (tree_told text top) y
   unfolding tree_told
-  in-units h = Contains-append_left _ _ y (Contains-append_left _ _ y (Contains-append_right (keys_told text None (codes "ops" ∷ codes "registers" ∷ codes "units" ∷ []) top) _ y h))
+  in-units h = Contains-append_left _ _ y (Contains-append_left _ _ y (Contains-append_right (keys_told text None top) _ y h))
 
   in-registers : Contains (value_told text spot.Registers (get_member (codes "registers") top)) y → Contains (tree_told text top) y
   unfolding tree_told
-  in-registers h = Contains-append_left _ _ y (Contains-append_right (keys_told text None (codes "ops" ∷ codes "registers" ∷ codes "units" ∷ []) top ++ units_told text Units) _ y h)
+  in-registers h = Contains-append_left _ _ y (Contains-append_right (keys_told text None top ++ units_told text Units) _ y h)
 
   in-tables : Contains (tables_told text Units (get_member (codes "ops") top)) y → Contains (tree_told text top) y
   unfolding tree_told
-  in-tables h = Contains-append_right (keys_told text None (codes "ops" ∷ codes "registers" ∷ codes "units" ∷ []) top ++ units_told text Units ++ value_told text spot.Registers (get_member (codes "registers") top)) _ y h
+  in-tables h = Contains-append_right (keys_told text None top ++ units_told text Units ++ value_told text spot.Registers (get_member (codes "registers") top)) _ y h
 
   in-ops : Contains (value_told text spot.Ops (get_member (codes "ops") top)) y → Contains (tree_told text top) y
   unfolding tables_told
@@ -60,18 +60,18 @@ module _ (text : List ℕ) (top : Members) (y : MachineLint) where
   unfolding entry_told inside_told
   in-table word keys has h = in-entry word (table keys) has (Contains-append_right (tree.unknown_opcode text word (table keys) ++ value_told text (spot.Table word) (Some (table keys))) _ y h)
 
-  in-table-keys : (word : List ℕ) (keys : Members) → HasTable top word (table keys) → Contains (keys_told text (Some word) (codes "alts" ∷ codes "latency" ∷ []) keys) y → Contains (tree_told text top) y
+  in-table-keys : (word : List ℕ) (keys : Members) → HasTable top word (table keys) → Contains (keys_told text (Some word) keys) y → Contains (tree_told text top) y
   unfolding table_told
   in-table-keys word keys has h = in-table word keys has (Contains-append_left _ _ y (Contains-append_left _ _ y h))
 
   in-latency : (word : List ℕ) (keys : Members) → HasTable top word (table keys) → Contains (value_told text (spot.Latency word) (get_member (codes "latency") keys)) y → Contains (tree_told text top) y
   unfolding table_told
-  in-latency word keys has h = in-table word keys has (Contains-append_left _ _ y (Contains-append_right (keys_told text (Some word) (codes "alts" ∷ codes "latency" ∷ []) keys) _ y h))
+  in-latency word keys has h = in-table word keys has (Contains-append_left _ _ y (Contains-append_right (keys_told text (Some word) keys) _ y h))
 
   in-alternatives : (word : List ℕ) (keys : Members) → HasTable top word (table keys) → Contains (alternatives_told text Units word (get_member (codes "alts") keys)) y → Contains (tree_told text top) y
   unfolding table_told
   in-alternatives word keys has h =
-      in-table word keys has (Contains-append_right (keys_told text (Some word) (codes "alts" ∷ codes "latency" ∷ []) keys ++ value_told text (spot.Latency word) (get_member (codes "latency") keys)) _ y h)
+      in-table word keys has (Contains-append_right (keys_told text (Some word) keys ++ value_told text (spot.Latency word) (get_member (codes "latency") keys)) _ y h)
 
   in-alternatives-value : (word : List ℕ) (keys : Members) → HasTable top word (table keys) → Contains (value_told text (spot.Alternatives word) (get_member (codes "alts") keys)) y → Contains (tree_told text top) y
   unfolding alternatives_told
@@ -146,25 +146,25 @@ module _ (text : List ℕ) (top : Members) (y : MachineLint) where
 
   wrong-value : (at : Spot) (value : Data) → is_wanted at value ≡ false → y ≡ told text at value (WrongType (key_of at)) → Contains (value_told text at (Some value)) y
   unfolding value_told
-  wrong-value at value no is = rw no (one-in _ y is)
+  wrong-value at value fails is = rw fails (one-in _ y is)
 
   limit-value : (at : Spot) (value : Data) → is_wanted at value ≡ true → is_within at value ≡ false → y ≡ told text at value (Limit (limit_of at)) → Contains (value_told text at (Some value)) y
   unfolding value_told
-  limit-value at value yes no is = rw (yes, no) (one-in _ y is)
+  limit-value at value passes fails is = rw (passes, fails) (one-in _ y is)
 
-  in-key : (word : Option (List ℕ)) (known : List (List ℕ)) (members : Members) (key : List ℕ) (value : Data) → Contains (entries_of members) (key, value) → list_any (same_word key) known ≡ false
-      → y ≡ told text (tree.key_spot word key) value (UnknownKey (key_of (tree.key_spot word key))) → Contains (keys_told text word known members) y
+  in-key : (word : Option (List ℕ)) (members : Members) (key : List ℕ) (value : Data) → Contains (entries_of members) (key, value) → list_any (same_word key) (tree.known_keys word) ≡ false
+      → y ≡ told text (tree.key_spot word key) value (UnknownKey (key_of (tree.key_spot word key))) → Contains (keys_told text word members) y
   unfolding keys_told key_told
-  in-key word known members key value among no is = in-flat (key_told text word known) (entries_of members) (key, value) y among (in-unless _ _ y no is)
+  in-key word members key value among fails is = in-flat (key_told text word) (entries_of members) (key, value) y among (in-unless _ _ y fails is)
 
   pub tree-all : HasMachineFault text top y → Contains (tree_told text top) y
   unfolding tree.unknown_opcode tree.unknown_unit tree.repeated_unit tree.repeated_row
   tree-all (missing_key at there is) = in-value at None there (missed-value at is)
-  tree-all (wrong_type at value there no is) = in-value at (Some value) there (wrong-value at value no is)
-  tree-all (limit at value there yes no is) = in-value at (Some value) there (limit-value at value yes no is)
-  tree-all (unknown_key key value among no is) = in-top-keys (in-key None _ top key value among no is)
-  tree-all (unknown_table_key word keys key value has among no is) = in-table-keys word keys has (in-key (Some word) _ keys key value among no is)
-  tree-all (unknown_opcode word value has no is) = in-word word value has (in-unless _ _ y no is)
+  tree-all (wrong_type at value there fails is) = in-value at (Some value) there (wrong-value at value fails is)
+  tree-all (limit at value there passes fails is) = in-value at (Some value) there (limit-value at value passes fails is)
+  tree-all (unknown_key key value among fails is) = in-top-keys (in-key None top key value among fails is)
+  tree-all (unknown_table_key word keys key value has among fails is) = in-table-keys word keys has (in-key (Some word) keys key value among fails is)
+  tree-all (unknown_opcode word value has fails is) = in-word word value has (in-unless _ _ y fails is)
   tree-all (repeated_unit before unit has twice is) = in-unit-repeat before unit has (in-unless _ _ y (ap not twice) is)
-  tree-all (unknown_unit word n before row has no is) = in-row-unit word n before row has (in-unless _ _ y no is)
+  tree-all (unknown_unit word n before row has fails is) = in-row-unit word n before row has (in-unless _ _ y fails is)
   tree-all (repeated_row word n before row has twice is) = in-row-repeat word n before row has (in-unless _ _ y (ap not twice) is)

@@ -22,7 +22,7 @@ unless-in true lint y h = absurd (none-in y h)
 unless-in false lint y h = (refl, sym (one-is lint y h))
 
 pub in-unless : (b : Bool) (lint y : MachineLint) → b ≡ false → y ≡ lint → Contains (told_unless b lint) y
-in-unless b lint y no is = rw no (one-in lint y is)
+in-unless b lint y fails is = rw fails (one-in lint y is)
 
 pub in-flat : {X Y : Type 0} (f : X → List Y) (xs : List X) (x : X) (y : Y) → Contains xs x → Contains (f x) y → Contains (flat_map f xs) y
 in-flat f [] x y h k = absurd (none-in x h)

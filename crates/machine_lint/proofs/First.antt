@@ -11,11 +11,11 @@ use Rattle.toml.specs.Data.{Data, string, integer, float, boolean, datetime, arr
 use Rattle.machine_data.specs.Opcodes.{opcode_named, same_word}
 use Rattle.machine_data.specs.declared.alternative.Row.{Row}
 use Rattle.machine.specs.declared.fault.MachineFault.{MachineFault}
-use Rattle.machine.specs.declared.fault.MachineFault.TheVariants.{Limit, RepeatedRow, UnknownKey, UnknownOpcode, UnknownUnit, WrongType}
+use Rattle.machine.specs.declared.fault.MachineFault.TheVariants.{Limit, RepeatedRow, RepeatedUnit, UnknownKey, UnknownOpcode, UnknownUnit, WrongType}
 use Rattle.machine.specs.inner.Reads.{first_fault}
-use Rattle.machine.specs.MachineText.{Faults, alternative_faults, data_of, entries_of, entry_faults, faults_in_turn, faults_of_alternatives, faults_of_number, faults_of_tables, faults_of_units, faults_of_words, is_unit_name, keys_in, names_of, path_in, row_faults, row_in, row_of, same_row, table_faults, text_of, tree_faults, unit_faults, unknown_keys, unless, within, words_in}
+use Rattle.machine.specs.MachineText.{Faults, alternative_faults, data_of, entries_of, entry_faults, faults_in_turn, faults_of_alternatives, faults_of_number, faults_of_tables, faults_of_units, faults_of_words, is_unit_name, keys_in, names_of, path_in, path_of, row_faults, row_in, row_of, same_row, table_faults, text_of, tree_faults, unit_faults, unknown_keys, unless, within, words_in}
 use Rattle.machine.proofs.checks.RowFaults.{any-from_None, any-from_Some}
-use Rattle.machine_lint.specs.Tree.{Lints, alternative_told, alternatives_told, entry_told, in_turn, inside_told, key_told, keys_told, repeated_row, repeated_unit, row_told, table_told, tables_told, told_unless, tree_told, unit_told, units_told, unknown_opcode, unknown_unit, value_told}
+use Rattle.machine_lint.specs.Tree.{Lints, alternative_told, alternatives_told, entry_told, in_turn, inside_told, key_told, keys_told, known_keys, repeated_row, repeated_unit, row_told, table_told, tables_told, told, told_unless, tree_told, unit_told, units_told, unknown_opcode, unknown_unit, value_told}
 use Rattle.machine_lint.specs.Values.{is_unit_of, items_of, knows, near, row_words_in, same_text, same_words}
 use Rattle.machine_lint.specs.declared.place.MachineLint.{MachineLint}
 use Rattle.machine_lint.specs.declared.spots.Spot.{Spot}
@@ -69,21 +69,34 @@ within-le high n h = elim (cases_lt high n) [
 pub all-taken : {A : Type 0} (high : ℕ) (xs : List A) (f : MachineFault) → first_fault (unless (within 1 high (length xs)) f) ≡ None → take high xs ≡ xs
 all-taken high xs f h = take_all high xs (within-le high (length xs) (passed _ f h))
 
+pub is-string : (names : List (List ℕ)) (d : Data) → first_fault (unit_faults names d) ≡ None → d ≡ string (text_of d)
+unfolding unit_faults
+is-string names (string name) h = refl
+is-string names (integer z) h = cc
+is-string names (float x) h = cc
+is-string names (boolean b) h = cc
+is-string names (datetime t) h = cc
+is-string names (array ds) h = cc
+is-string names (table ms) h = cc
+
 module _ (text : List ℕ) where
   -- keys
-  pub same-keys : (word : Option (List ℕ)) (path : List ℕ) (known : List (List ℕ)) → ((key : List ℕ) (d : Data) → Same (key_told text word known (key, d)) (unless (list_any (same_word key) known) (UnknownKey (path ++ key))))
-      → (members : Members) → Same (keys_told text word known members) (unknown_keys path known members)
+  pub same-keys : (word : Option (List ℕ)) (path : List ℕ) → ((key : List ℕ) (d : Data) → Same (key_told text word (key, d)) (unless (list_any (same_word key) (known_keys word)) (UnknownKey (path ++ key))))
+      → (members : Members) → Same (keys_told text word members) (unknown_keys path (known_keys word) members)
   unfolding keys_told unknown_keys
-  same-keys word path known each members =
-      same-flat (key_told text word known) (λ (entry : List ℕ × Data). unless (list_any (same_word entry.0) known) (UnknownKey (path ++ entry.0))) (λ entry. each entry.0 entry.1) (entries_of members)
+  same-keys word path each members =
+      same-flat (key_told text word) (λ (entry : List ℕ × Data). unless (list_any (same_word entry.0) (known_keys word)) (UnknownKey (path ++ entry.0))) (λ entry. each entry.0 entry.1) (entries_of members)
 
-  pub top-key : (known : List (List ℕ)) (key : List ℕ) (d : Data) → Same (key_told text None known (key, d)) (unless (list_any (same_word key) known) (UnknownKey key))
+  pub top-key : (key : List ℕ) (d : Data) → Same (key_told text None (key, d)) (unless (list_any (same_word key) (known_keys None)) (UnknownKey key))
   unfolding key_told
-  top-key known key d = same-unless _ _
+  top-key key d = same-unless _ _
 
-  pub table-key : (word : List ℕ) (known : List (List ℕ)) (key : List ℕ) (d : Data) → Same (key_told text (Some word) known (key, d)) (unless (list_any (same_word key) known) (UnknownKey (path_in word [] ++ key)))
+  pub table-key : (word : List ℕ) (key : List ℕ) (d : Data) → Same (key_told text (Some word) (key, d)) (unless (list_any (same_word key) (known_keys (Some word))) (UnknownKey (path_in word [] ++ key)))
   unfolding key_told
-  table-key word known key d = rw append-nil (same-unless _ _)
+  table-key word key d =
+      let path : path_in word [] ++ key ≡ path_in word key = ap (λ (p : List ℕ). p ++ key) (append-nil (path_of word ++ codes ".")) in
+      same-unless (list_any (same_word key) (known_keys (Some word))) (told text (spot.TableKey word key) d (UnknownKey (path_in word key)))
+      ∙ ap (λ (p : List ℕ). first_fault (unless (list_any (same_word key) (known_keys (Some word))) (UnknownKey p))) (sym path)
 
   -- numbers
   pub same-registers : (found : Option Data) → Same (value_told text spot.Registers found) (faults_of_number (codes "registers") (codes "registers") 1 256 found)
@@ -118,23 +131,18 @@ module _ (text : List ℕ) where
 
   same-unit : (names : List (List ℕ)) (d : Data) → Same (unit_told text (map string names) d) (unit_faults names d)
   unfolding unit_told unit_faults repeated_unit value_told
-  same-unit names (string name) = same-append _ _ _ _ (same-unless _ _) (λ none. rw (any-strings name names) (same-unless _ _))
+  same-unit names (string name) =
+      let b : Lints = told_unless (not (list_any (λ other. same_text other (string name)) (map string names))) (told text (spot.Unit (length (map string names))) (string name) (RepeatedUnit name)) in
+      let B : Faults = unless (not (list_any (λ other. same_word other name) names)) (RepeatedUnit name) in
+      let rest : Same b B = rw (any-strings name names) (same-unless _ _) in
+      same-append (told_unless (is_unit_name name) (told text (spot.Unit (length (map string names))) (string name) (Limit (codes "unit name")))) b
+      (unless (is_unit_name name) (Limit (codes "unit name"))) B (same-unless _ _) (λ none. rest)
   same-unit names (integer z) = refl
   same-unit names (float x) = refl
   same-unit names (boolean b) = refl
   same-unit names (datetime t) = refl
   same-unit names (array ds) = refl
   same-unit names (table ms) = refl
-
-  pub is-string : (names : List (List ℕ)) (d : Data) → first_fault (unit_faults names d) ≡ None → d ≡ string (text_of d)
-  unfolding unit_faults
-  is-string names (string name) h = refl
-  is-string names (integer z) h = cc
-  is-string names (float x) h = cc
-  is-string names (boolean b) h = cc
-  is-string names (datetime t) h = cc
-  is-string names (array ds) h = cc
-  is-string names (table ms) h = cc
 
   more-strings : (names : List (List ℕ)) (d : Data) → first_fault (unit_faults names d) ≡ None → map string names ++ d ∷ [] ≡ map string (names ++ text_of d ∷ [])
   more-strings names d none = ap (λ (v : Data). map string names ++ v ∷ []) (is-string names d none) ∙ sym (map-append string names (text_of d ∷ []))
@@ -152,5 +160,10 @@ module _ (text : List ℕ) where
   same-units (Some (float x)) = refl
   same-units (Some (boolean b)) = refl
   same-units (Some (datetime t)) = refl
-  same-units (Some (array ds)) = same-append _ _ _ _ (same-unless _ _) (λ none. rw (all-taken 64 (data_of ds) _ none) (same-unit-list [] (data_of ds)))
+  same-units (Some (array ds)) =
+      let b : Lints = in_turn (unit_told text) [] (take 64 (data_of ds)) in
+      let B : Faults = faults_in_turn unit_faults text_of [] (data_of ds) in
+      let A : Faults = unless (within 1 64 (length (data_of ds))) (Limit (codes "units")) in
+      let rest : first_fault A ≡ None → Same b B = λ none. rw (all-taken 64 (data_of ds) (Limit (codes "units")) none) (same-unit-list [] (data_of ds)) in
+      same-append (told_unless (within 1 64 (length (data_of ds))) (told text spot.Units (array ds) (Limit (codes "units")))) b A B (same-unless _ _) rest
   same-units (Some (table ms)) = refl

@@ -52,11 +52,11 @@ names-same units a b in-a in-b =
     ])
 
 -- an element beside the row that the reader makes of it, where it has no fault
-record RowIs (units : List (List ℕ)) (d : Data) (row : Row) : Type 0 where
-  words : List ℕ × ℕ
-  near' : row_words_in d ≡ Some words
-  known : list_any (same_word words.0) units ≡ true
-  is : row ≡ row_of units (Some words)
+pub record RowIs (units : List (List ℕ)) (d : Data) (row : Row) : Type 0 where
+  pub words : List ℕ × ℕ
+  pub near' : row_words_in d ≡ Some words
+  pub known : list_any (same_word words.0) units ≡ true
+  pub is : row ≡ row_of units (Some words)
 
 module _ (units : List (List ℕ)) where
   any-rows : (before : List Data) (rows : List Row) → AllZip (RowIs units) before rows → (words : List ℕ × ℕ) → list_any (same_word words.0) units ≡ true
@@ -96,8 +96,12 @@ module _ (units : List (List ℕ)) where
     row-is : (rows : List Row) (d : Data) (w : Option (List ℕ × ℕ)) → words_in d ≡ w → first_fault (faults_of_words (path_in word (codes "alts")) units rows w) ≡ None → RowIs units d (row_in units d)
     row-is rows d None e h = cc
     row-is rows d (Some words) e h =
-        let small = passed _ _ (none-left _ _ (none-left _ _ h)) in
-        let known = passed _ _ (none-right _ _ (none-left _ _ h)) in
+        let A : Faults = unless (within 0 63 words.1) (Limit (codes "offset")) in
+        let B : Faults = unless (list_any (same_word words.0) units) (UnknownUnit words.0) in
+        let C : Faults = unless (not (list_any (λ other. same_row other (row_of units (Some words))) rows)) (RepeatedRow (path_in word (codes "alts"))) in
+        let both : first_fault (A ++ B) ≡ None = none-left (A ++ B) C h in
+        let small : within 0 63 words.1 ≡ true = passed (within 0 63 words.1) (Limit (codes "offset")) (none-left A B both) in
+        let known : list_any (same_word words.0) units ≡ true = passed (list_any (same_word words.0) units) (UnknownUnit words.0) (none-right A B both) in
         record { words = words; near' = rw (e, small); known = known; is = rw e }
 
     pub same-rows : (before : List Data) (rows : List Row) → AllZip (RowIs units) before rows → (ds : List Data)

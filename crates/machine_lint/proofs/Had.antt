@@ -25,21 +25,21 @@ module _ (text : List ℕ) (top : Members) (y : MachineLint) where
   unfolding value_told
   value-in at None there h = missing_key at there (sym (one-is _ y h))
   value-in at (Some value) there h = elim (cases_Bool (is_wanted at value)) [
-    | inl yes ↦ let k = unless-in (is_within at value) _ y (rw yes at h) in limit at value there yes k.0 k.1
-    | inr no ↦ wrong_type at value there no (sym (one-is _ y (rw no at h)))
+    | inl passes ↦ let k = unless-in (is_within at value) _ y (rw passes at h) in limit at value there passes k.0 k.1
+    | inr fails ↦ wrong_type at value there fails (sym (one-is _ y (rw fails at h)))
   ]
 
-  top-keys-in : Contains (keys_told text None (codes "ops" ∷ codes "registers" ∷ codes "units" ∷ []) top) y → HasMachineFault text top y
+  top-keys-in : Contains (keys_told text None top) y → HasMachineFault text top y
   unfolding keys_told key_told
   top-keys-in h =
-      let k = flat-in (key_told text None (codes "ops" ∷ codes "registers" ∷ codes "units" ∷ [])) (entries_of top) y h in
+      let k = flat-in (key_told text None) (entries_of top) y h in
       let u = unless-in _ _ y k.2 in
       unknown_key k.0.0 k.0.1 k.1 u.0 u.1
 
-  table-keys-in : (word : List ℕ) (keys : Members) → HasTable top word (table keys) → Contains (keys_told text (Some word) (codes "alts" ∷ codes "latency" ∷ []) keys) y → HasMachineFault text top y
+  table-keys-in : (word : List ℕ) (keys : Members) → HasTable top word (table keys) → Contains (keys_told text (Some word) keys) y → HasMachineFault text top y
   unfolding keys_told key_told
   table-keys-in word keys has h =
-      let k = flat-in (key_told text (Some word) (codes "alts" ∷ codes "latency" ∷ [])) (entries_of keys) y h in
+      let k = flat-in (key_told text (Some word)) (entries_of keys) y h in
       let u = unless-in _ _ y k.2 in
       unknown_table_key word keys k.0.0 k.0.1 has k.1 u.0 u.1
 
@@ -120,8 +120,8 @@ module _ (text : List ℕ) (top : Members) (y : MachineLint) where
 
   table-in : (word : List ℕ) (keys : Members) → HasTable top word (table keys) → Contains (table_told text (get_member (codes "units") top) word keys) y → HasMachineFault text top y
   unfolding table_told
-  table-in word keys has h = elim (Contains-append_cases (keys_told text (Some word) (codes "alts" ∷ codes "latency" ∷ []) keys ++ value_told text (spot.Latency word) (get_member (codes "latency") keys)) (alternatives_told text (get_member (codes "units") top) word (get_member (codes "alts") keys)) y h) [
-    | inl first ↦ elim (Contains-append_cases (keys_told text (Some word) (codes "alts" ∷ codes "latency" ∷ []) keys) (value_told text (spot.Latency word) (get_member (codes "latency") keys)) y first) [
+  table-in word keys has h = elim (Contains-append_cases (keys_told text (Some word) keys ++ value_told text (spot.Latency word) (get_member (codes "latency") keys)) (alternatives_told text (get_member (codes "units") top) word (get_member (codes "alts") keys)) y h) [
+    | inl first ↦ elim (Contains-append_cases (keys_told text (Some word) keys) (value_told text (spot.Latency word) (get_member (codes "latency") keys)) y first) [
       | inl unknown ↦ table-keys-in word keys has unknown
       | inr own ↦ value-in (spot.Latency word) (get_member (codes "latency") keys) (keys, has, refl) own
     ]
@@ -169,9 +169,9 @@ module _ (text : List ℕ) (top : Members) (y : MachineLint) where
 
   pub tree-in : Contains (tree_told text top) y → HasMachineFault text top y
   unfolding tree_told
-  tree-in h = elim (Contains-append_cases (keys_told text None (codes "ops" ∷ codes "registers" ∷ codes "units" ∷ []) top ++ units_told text (get_member (codes "units") top) ++ value_told text spot.Registers (get_member (codes "registers") top)) (tables_told text (get_member (codes "units") top) (get_member (codes "ops") top)) y h) [
-    | inl first ↦ elim (Contains-append_cases (keys_told text None (codes "ops" ∷ codes "registers" ∷ codes "units" ∷ []) top ++ units_told text (get_member (codes "units") top)) (value_told text spot.Registers (get_member (codes "registers") top)) y first) [
-      | inl two ↦ elim (Contains-append_cases (keys_told text None (codes "ops" ∷ codes "registers" ∷ codes "units" ∷ []) top) (units_told text (get_member (codes "units") top)) y two) [
+  tree-in h = elim (Contains-append_cases (keys_told text None top ++ units_told text (get_member (codes "units") top) ++ value_told text spot.Registers (get_member (codes "registers") top)) (tables_told text (get_member (codes "units") top) (get_member (codes "ops") top)) y h) [
+    | inl first ↦ elim (Contains-append_cases (keys_told text None top ++ units_told text (get_member (codes "units") top)) (value_told text spot.Registers (get_member (codes "registers") top)) y first) [
+      | inl two ↦ elim (Contains-append_cases (keys_told text None top) (units_told text (get_member (codes "units") top)) y two) [
         | inl unknown ↦ top-keys-in unknown
         | inr units ↦ units-in units
       ]

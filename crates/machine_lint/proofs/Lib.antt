@@ -4,7 +4,7 @@ pub mod First
 pub mod FirstRows
 pub mod FirstTree
 pub mod Had
-pub mod Search
+pub mod Steps
 pub mod Told
 pub mod Turns
 pub mod Values

@@ -75,15 +75,6 @@ elements-all d v n most is len few =
     let short : length v.items ≤ most = omega (arith, v.ok.0, len) in
     sym (ap (map view) (take_all most v.items short)) ∙ elements-some d v most is
 
-pub elements-none : (d : Data) (most : ℕ) → None ≡ as_array d → [] ≡ take most (items_in d)
-elements-none (string s) most h = refl
-elements-none (integer z) most h = refl
-elements-none (float x) most h = refl
-elements-none (boolean b) most h = refl
-elements-none (datetime t) most h = refl
-elements-none (array ds) most h = cc
-elements-none (table ms) most h = refl
-
 pub unit-of-some : (d : Data) (v : Vec Value Global) (name : List ℕ) → Some (array_view v) ≡ as_array d → list_any (λ unit. same_text (string name) (view unit)) v.items ≡ is_unit_of (Some d) name
 unit-of-some d v name is = rw (array-at d (array_view v) is, data_of-view v.items) (sym (list_any-map (same_text (string name)) view v.items))
 

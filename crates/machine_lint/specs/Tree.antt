@@ -49,14 +49,19 @@ abbrev pub key_spot : Option (List ℕ) → List ℕ → Spot
 key_spot None key = spot.TopKey key
 key_spot (Some word) key = spot.TableKey word key
 
+-- the keys that a table may have
+abbrev pub known_keys : Option (List ℕ) → List (List ℕ)
+known_keys None = codes "ops" ∷ codes "registers" ∷ codes "units" ∷ []
+known_keys (Some word) = codes "alts" ∷ codes "latency" ∷ []
+
 -- a key that means nothing, if it does
-unfoldable pub key_told : List ℕ → Option (List ℕ) → List (List ℕ) → List ℕ × Data → Lints
-key_told text word known entry =
-    told_unless (list_any (same_word entry.0) known) (told text (key_spot word entry.0) entry.1 (UnknownKey (key_of (key_spot word entry.0))))
+unfoldable pub key_told : List ℕ → Option (List ℕ) → List ℕ × Data → Lints
+key_told text word entry =
+    told_unless (list_any (same_word entry.0) (known_keys word)) (told text (key_spot word entry.0) entry.1 (UnknownKey (key_of (key_spot word entry.0))))
 
 -- .. among those of a table
-unfoldable pub keys_told : List ℕ → Option (List ℕ) → List (List ℕ) → Members → Lints
-keys_told text word known members = flat_map (key_told text word known) (entries_of members)
+unfoldable pub keys_told : List ℕ → Option (List ℕ) → Members → Lints
+keys_told text word members = flat_map (key_told text word) (entries_of members)
 
 -- a unit is named by an earlier element of `units` too
 unfoldable pub repeated_unit : List ℕ → List Data → Data → Lints
@@ -102,7 +107,7 @@ alternatives_told text units word alternatives =
 -- the keys in a table
 unfoldable pub table_told : List ℕ → Option Data → List ℕ → Members → Lints
 table_told text units word keys =
-    keys_told text (Some word) (codes "alts" ∷ codes "latency" ∷ []) keys
+    keys_told text (Some word) keys
     ++ value_told text (spot.Latency word) (get_member (codes "latency") keys)
     ++ alternatives_told text units word (get_member (codes "alts") keys)
 
@@ -128,7 +133,7 @@ tables_told text units ops = value_told text spot.Ops ops ++ flat_map (entry_tol
 -- the whole tree
 unfoldable pub tree_told : List ℕ → Members → Lints
 tree_told text top =
-    keys_told text None (codes "ops" ∷ codes "registers" ∷ codes "units" ∷ []) top
+    keys_told text None top
     ++ units_told text (get_member (codes "units") top)
     ++ value_told text spot.Registers (get_member (codes "registers") top)
     ++ tables_told text (get_member (codes "units") top) (get_member (codes "ops") top)

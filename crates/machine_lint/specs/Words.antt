@@ -35,9 +35,14 @@ abbrev pub leads_on : List ℕ → Bool
 leads_on [] = false
 leads_on (c ∷ cs) = if is_blank c then leads_on cs else is_mark c
 
--- a word stands at an offset as a key does
+-- whether a text ends in a comment, where one has begun before it or not. A `#` (35) begins it, and a line feed ends it
+abbrev pub comment_after : Bool → List ℕ → Bool
+comment_after begun [] = begun
+comment_after begun (c ∷ cs) = comment_after (if c == 10 then false else begun || (c == 35)) cs
+
+-- a word stands at an offset as a key does, and in no comment
 unfoldable pub is_key_at : List ℕ → List ℕ → ℕ → Bool
-is_key_at text word at = is_word_at text word at && leads_on (drop (at + length word) text)
+is_key_at text word at = (is_word_at text word at && leads_on (drop (at + length word) text)) && not (comment_after false (take at text))
 
 -- the first number that passes a test, of `count` numbers from `from` on
 abbrev pub first_at : (ℕ → Bool) → ℕ → ℕ → Option ℕ

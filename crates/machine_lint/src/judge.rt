@@ -7,7 +7,7 @@ ghost use Rattle.machine_lint.specs.Tree.{missed, told, value_told};
 ghost use Rattle.machine_lint.specs.Values.{counts, is_unit_of, is_wanted, is_within, measures, row_words_in, same_text, same_words};
 ghost use Rattle.machine_lint.specs.inner.Ats.{spot_at};
 ghost use Rattle.machine.specs.MachineText.{is_unit_name, text_of};
-ghost use Rattle.machine.specs.declared.fault.MachineFault.TheVariants.{Limit, WrongType};
+ghost use Rattle.machine.specs.declared.fault.MachineFault.TheVariants.{Limit, RepeatedRow, UnknownKey, WrongType};
 ghost use Rattle.toml.specs.View.{view};
 ghost use Rattle.toml.specs.Data.{string};
 
@@ -40,6 +40,16 @@ fn measures(value: &Value, high: u16) -> bool
             usize::from(high),
         ),
         None => false,
+    }
+}
+
+/// The text that a value is, or none.
+pub(crate) fn text_of(value: &Value) -> &str
+    ensures { result.now ≡ text_of (view value.entry.now) }
+{
+    match value.as_str() {
+        Some(text) => text,
+        None => "",
     }
 }
 
@@ -167,6 +177,36 @@ fn tell_limit(
     ensures { OnOk result (lints.new.items ≡ lints.old.items ++ told text.now (spot_at at.entry) (view value.now) (Limit (limit_of (spot_at at.entry))) ∷ []) }
 {
     let fault = MachineFault::Limit(key(alloc, limit_of(at))?);
+    tell(alloc, lints, text, at, value, fault)
+}
+
+/// Tells a key that means nothing.
+pub(crate) fn tell_key(
+    alloc: Global,
+    lints: &mut Vec<MachineLint>,
+    text: &[u8],
+    at: At<'_>,
+    value: &Value,
+) -> Result<(), OutOfMemory>
+    requires short { length text.now < 2 ^ 32 }
+    ensures { OnOk result (lints.new.items ≡ lints.old.items ++ told text.now (spot_at at.entry) (view value.now) (UnknownKey (key_of (spot_at at.entry))) ∷ []) }
+{
+    let fault = MachineFault::UnknownKey(at.to_key(alloc)?);
+    tell(alloc, lints, text, at, value, fault)
+}
+
+/// Tells a row that an earlier one repeats.
+pub(crate) fn tell_repeat(
+    alloc: Global,
+    lints: &mut Vec<MachineLint>,
+    text: &[u8],
+    at: At<'_>,
+    value: &Value,
+) -> Result<(), OutOfMemory>
+    requires short { length text.now < 2 ^ 32 }
+    ensures { OnOk result (lints.new.items ≡ lints.old.items ++ told text.now (spot_at at.entry) (view value.now) (RepeatedRow (key_of (spot_at at.entry))) ∷ []) }
+{
+    let fault = MachineFault::RepeatedRow(at.to_key(alloc)?);
     tell(alloc, lints, text, at, value, fault)
 }
 

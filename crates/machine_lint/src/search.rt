@@ -1,7 +1,7 @@
 //! Where the words of keys stand in a text.
 
-ghost use Rattle.std.specs.Prelude.{◌≡◌, ◌+◌, ◌≤◌, ◌<◌, ◌^◌, length, IfSome, true};
-ghost use Rattle.machine_lint.specs.Words.{bare_at, bare_before, first_key, first_word, is_blank, is_key_at, is_key_byte, is_mark, is_word_at, key_from, leads_on, table_from, inside_from};
+ghost use Rattle.std.specs.Prelude.{◌≡◌, ◌+◌, ◌≤◌, ◌<◌, ◌^◌, length, ◌==◌, ◌||◌, if◌then◌else◌, false, IfSome, true};
+ghost use Rattle.machine_lint.specs.Words.{bare_at, bare_before, comment_after, first_key, first_word, is_blank, is_key_at, is_key_byte, is_mark, is_word_at, key_from, leads_on, table_from, inside_from};
 
 /// Whether a byte may stand in a key without quotes.
 fn is_key_byte(byte: u8) -> bool
@@ -74,7 +74,28 @@ fn leads_on(text: &[u8]) -> bool
     false
 }
 
-/// Whether a word stands at an offset as a key does.
+/// Whether a byte is in a comment or ends one, by whether the byte before it is in one.
+fn comments_on(begun: bool, byte: u8) -> bool
+    ensures { result ≡ (if byte == 10 then false else begun || (byte == 35)) }
+{
+    if byte == b'\n' {
+        return false;
+    }
+    begun || byte == b'#'
+}
+
+/// Whether a text ends in a comment.
+fn ends_in_comment(text: &[u8]) -> bool
+    ensures { result ≡ comment_after false text.now }
+{
+    let mut begun = false;
+    for byte in text {
+        begun = comments_on(begun, *byte);
+    }
+    begun
+}
+
+/// Whether a word stands at an offset as a key does, and in no comment.
 #[tactic(auto, unfolding(crate::specs::Words::is_key_at))]
 fn is_key_at(text: &[u8], word: &str, at: usize) -> bool
     requires inside { at < length text.now }
@@ -85,7 +106,10 @@ fn is_key_at(text: &[u8], word: &str, at: usize) -> bool
     if !is_word_at(text, word, at) {
         return false;
     }
-    leads_on(&text[at + word.len()..])
+    if !leads_on(&text[at + word.len()..]) {
+        return false;
+    }
+    !ends_in_comment(&text[..at])
 }
 
 /// The first place from an offset on at which a word stands as a key does.

@@ -4,13 +4,16 @@ ghost use Rattle.std.specs.Prelude.{◌≡◌, ◌++◌, ◌<◌, ◌^◌, [], l
 ghost use Rattle.std.specs.List.{flat_map, list_any};
 ghost use Rattle.machine_data.specs.Opcodes.{same_word};
 ghost use Rattle.machine.specs.MachineText.{entries_of, keys_in};
-ghost use Rattle.machine_lint.specs.Tree.{alternative_told, alternatives_told, entry_told, in_turn, inside_told, key_spot, key_told, keys_told, repeated_row, repeated_unit, row_told, table_told, tables_told, tree_told, unit_told, units_told, unknown_opcode, unknown_unit};
+ghost use Rattle.machine_lint.specs.Tree.{alternative_told, alternatives_told, entry_told, in_turn, inside_told, key_spot, key_told, keys_told, known_keys, repeated_row, repeated_unit, row_told, table_told, tables_told, tree_told, unit_told, units_told, unknown_opcode, unknown_unit};
 ghost use Rattle.machine_lint.specs.Values.{items_of, row_words_in, same_text, same_words};
 ghost use Rattle.machine_lint.specs.inner.Ats.{spot_at};
 ghost use Rattle.machine_lint.specs.inner.Tables.{table_or};
+ghost use Rattle.toml.specs.Data.{get_member};
 ghost use Rattle.toml.specs.View.{table_view, view};
 
-use crate::judge::{is_unit_of, judge_value, same_row, same_text, tell};
+use crate::judge::{
+    is_unit_of, judge_value, same_row, same_text, tell, tell_key, tell_repeat, text_of,
+};
 use crate::place::MachineLint;
 use crate::rows::row_words;
 use crate::spots::{At, key};
@@ -27,11 +30,21 @@ struct Within<'a> {
     word: &'a str,
 }
 
-/// Whether a word is among these.
-fn is_known(word: &str, known: &[&str]) -> bool
+/// Whether a word is one of these.
+fn is_one_of(word: &str, known: &[&str]) -> bool
     ensures { result ≡ list_any (λ k. same_word word.now k.now) known.now }
 {
     known.iter().any(|other| word == *other)
+}
+
+/// Whether a key may stand at the top, or in the table of a word.
+fn is_known(word: Option<&str>, name: &str) -> bool
+    ensures { result ≡ list_any (same_word name.now) (known_keys (option_map (λ w. w.now) word.entry)) }
+{
+    match word {
+        None => is_one_of(name, &["ops", "registers", "units"]),
+        Some(_) => is_one_of(name, &["alts", "latency"]),
+    }
 }
 
 /// A key at the top, or in the table of a word.
@@ -51,35 +64,32 @@ fn judge_key(
     lints: &mut Vec<MachineLint>,
     text: &[u8],
     word: Option<&str>,
-    known: &[&str],
     name: &str,
     value: &Value,
 ) -> Result<(), OutOfMemory>
     requires short { length text.now < 2 ^ 32 }
-    ensures { OnOk result (lints.new.items ≡ lints.old.items ++ key_told text.now (option_map (λ w. w.now) word.entry) (map (λ k. k.now) known.now) (name.now, view value.now)) }
+    ensures { OnOk result (lints.new.items ≡ lints.old.items ++ key_told text.now (option_map (λ w. w.now) word.entry) (name.now, view value.now)) }
 {
-    if is_known(name, known) {
+    if is_known(word, name) {
         return Ok(());
     }
-    let at = key_at(word, name);
-    let fault = MachineFault::UnknownKey(at.to_key(alloc)?);
-    tell(alloc, lints, text, at, value, fault)
+    tell_key(alloc, lints, text, key_at(word, name), value)
 }
 
 /// Tells the keys of a table that mean nothing.
+#[tactic(auto, unfolding(crate::specs::Tree::keys_told))]
 fn judge_keys(
     alloc: Global,
     lints: &mut Vec<MachineLint>,
     text: &[u8],
     word: Option<&str>,
-    known: &[&str],
     table: &Table,
 ) -> Result<(), OutOfMemory>
     requires short { length text.now < 2 ^ 32 }
-    ensures { OnOk result (lints.new.items ≡ lints.old.items ++ keys_told text.now (option_map (λ w. w.now) word.entry) (map (λ k. k.now) known.now) (table_view table.now)) }
+    ensures { OnOk result (lints.new.items ≡ lints.old.items ++ keys_told text.now (option_map (λ w. w.now) word.entry) (table_view table.now)) }
 {
     for (name, value) in table {
-        judge_key(alloc, lints, text, word, known, name.as_str(), value)?;
+        judge_key(alloc, lints, text, word, name.as_str(), value)?;
     }
     Ok(())
 }
@@ -113,22 +123,36 @@ fn judge_repeated_unit(
     if !is_text_among(before, unit) {
         return Ok(());
     }
-    let fault = MachineFault::RepeatedUnit(key(alloc, unit.as_str().unwrap_or(""))?);
+    let fault = MachineFault::RepeatedUnit(key(alloc, text_of(unit))?);
     tell(alloc, lints, text, At::Unit(before.len()), unit, fault)
 }
 
-/// Whether a value is the same text as one of these.
-fn is_text_among(values: &[Value], value: &Value) -> bool
+/// Whether one of these values is the same text.
+fn has_text(values: &[Value], value: &Value) -> bool
     ensures { result ≡ list_any (λ other. same_text (view other) (view value.now)) values.now }
 {
     values.iter().any(|other| same_text(other, value))
 }
 
-/// Whether a row has the same unit and the same offset as one of these.
-fn is_row_among(rows: &[Value], row: &Value) -> bool
+/// Whether a value is the same text as one of these.
+fn is_text_among(values: &[Value], value: &Value) -> bool
+    ensures { result ≡ list_any (λ other. same_text other (view value.now)) (map view values.now) }
+{
+    has_text(values, value)
+}
+
+/// Whether one of these rows has the same unit and the same offset.
+fn has_row(rows: &[Value], row: &Value) -> bool
     ensures { result ≡ list_any (λ other. same_words (row_words_in (view other)) (row_words_in (view row.now))) rows.now }
 {
     rows.iter().any(|other| same_row(other, row))
+}
+
+/// Whether a row has the same unit and the same offset as one of these.
+fn is_row_among(rows: &[Value], row: &Value) -> bool
+    ensures { result ≡ list_any (λ other. same_words (row_words_in other) (row_words_in (view row.now))) (map view rows.now) }
+{
+    has_row(rows, row)
 }
 
 /// Tells what is wrong with an element of `units`, after those before it.
@@ -172,8 +196,10 @@ fn judge_unit_list(
     requires short { length text.now < 2 ^ 32 }
     ensures { OnOk result (lints.new.items ≡ lints.old.items ++ in_turn (unit_told text.now) [] (map view units.now)) }
 {
-    for index in 0..units.len() {
-        judge_unit(alloc, lints, text, &units[..index], &units[index])?;
+    let mut passed = 0;
+    for unit in units {
+        judge_unit(alloc, lints, text, &units[..passed], unit)?;
+        passed += 1;
     }
     Ok(())
 }
@@ -216,8 +242,7 @@ fn judge_repeated_row(
     if !is_row_among(before, row) {
         return Ok(());
     }
-    let fault = MachineFault::RepeatedRow(at.to_key(alloc)?);
-    tell(alloc, lints, text, at, row, fault)
+    tell_repeat(alloc, lints, text, at, row)
 }
 
 /// Tells what is wrong with a row, after those before it.
@@ -250,8 +275,10 @@ fn judge_rows(
     requires short { length within.text.now < 2 ^ 32 }
     ensures { OnOk result (lints.new.items ≡ lints.old.items ++ in_turn (row_told within.entry.text.now (option_map (λ v. view v.now) within.entry.units) within.entry.word.now number) [] (map view rows.now)) }
 {
-    for index in 0..rows.len() {
-        judge_row(alloc, lints, within, number, &rows[..index], &rows[index])?;
+    let mut passed = 0;
+    for row in rows {
+        judge_row(alloc, lints, within, number, &rows[..passed], row)?;
+        passed += 1;
     }
     Ok(())
 }
@@ -284,9 +311,10 @@ fn judge_alternative_list(
     requires short { length within.text.now < 2 ^ 32 }
     ensures { OnOk result (lints.new.items ≡ lints.old.items ++ in_turn (alternative_told within.entry.text.now (option_map (λ v. view v.now) within.entry.units) within.entry.word.now) [] (map view alternatives.now)) }
 {
-    for index in 0..alternatives.len() {
-        let before = &alternatives[..index];
-        judge_alternative(alloc, lints, within, before, &alternatives[index])?;
+    let mut passed = 0;
+    for alternative in alternatives {
+        judge_alternative(alloc, lints, within, &alternatives[..passed], alternative)?;
+        passed += 1;
     }
     Ok(())
 }
@@ -307,7 +335,15 @@ fn judge_alternatives(
     judge_alternative_list(alloc, lints, within, elements(value, MAX_ALTERNATIVES))
 }
 
+/// The value at a key.
+fn look_up<'a>(table: &'a Table, name: &str) -> Option<&'a Value>
+    ensures { option_map (λ v. view v.now) result ≡ get_member name.now (table_view table.entry.now) }
+{
+    table.get(name)
+}
+
 /// Tells what is wrong with the keys in a table.
+#[tactic(auto, unfolding(crate::specs::Tree::table_told))]
 fn judge_table(
     alloc: Global,
     lints: &mut Vec<MachineLint>,
@@ -318,11 +354,10 @@ fn judge_table(
     ensures { OnOk result (lints.new.items ≡ lints.old.items ++ table_told within.entry.text.now (option_map (λ v. view v.now) within.entry.units) within.entry.word.now (table_view keys.now)) }
 {
     let word = within.word;
-    let known = ["alts", "latency"];
-    judge_keys(alloc, lints, within.text, Some(word), &known, keys)?;
-    let latency = keys.get("latency");
+    judge_keys(alloc, lints, within.text, Some(word), keys)?;
+    let latency = look_up(keys, "latency");
     judge_value(alloc, lints, within.text, At::Latency(word), latency)?;
-    judge_alternatives(alloc, lints, within, keys.get("alts"))
+    judge_alternatives(alloc, lints, within, look_up(keys, "alts"))
 }
 
 /// Tells what is wrong inside a table, if it is one.
@@ -440,23 +475,12 @@ pub(crate) fn judge_tree(
     ensures { IfOk result (λ lints. lints.items ≡ tree_told text.now (table_view tree.now)) }
 {
     let mut lints = Vec::new(alloc);
-    let units = tree.get("units");
-    judge_keys(
-        alloc,
-        &mut lints,
-        text,
-        None,
-        &["ops", "registers", "units"],
-        tree,
-    )?;
+    let units = look_up(tree, "units");
+    let registers = look_up(tree, "registers");
+    let ops = look_up(tree, "ops");
+    judge_keys(alloc, &mut lints, text, None, tree)?;
     judge_units(alloc, &mut lints, text, units)?;
-    judge_value(
-        alloc,
-        &mut lints,
-        text,
-        At::Registers,
-        tree.get("registers"),
-    )?;
-    judge_tables(alloc, &mut lints, text, units, tree.get("ops"))?;
+    judge_value(alloc, &mut lints, text, At::Registers, registers)?;
+    judge_tables(alloc, &mut lints, text, units, ops)?;
     Ok(lints)
 }

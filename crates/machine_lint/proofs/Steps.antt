@@ -10,3 +10,7 @@ first-step test at n h =
 
 pub first-none : (test : ℕ → Bool) (at n : ℕ) → n ≤ at → first_at test at (n - at) ≡ None
 first-none test at n h = let none : n - at ≡ 0 = omega arith in rw none
+
+-- the rest after a place that fails
+pub first-next : (test : ℕ → Bool) (at n : ℕ) (r : Option ℕ) → at < n → test at ≡ false → first_at test at (n - at) ≡ r → first_at test (at + 1) (n - (at + 1)) ≡ r
+first-next test at n r below fails is = sym (rw fails at (first-step test at n below)) ∙ is
