@@ -1,17 +1,16 @@
 -- Each fault that a tree has is told of it.
-use Rattle.std.proofs.Common.{◌≡◌, ℕ, Bool, true, false, not, List, [], ◌∷◌, ◌++◌, length, take, Option, Some, None, codes, inl, inr, refl, sym, ap, ◌∙◌, subst}
+use Rattle.std.proofs.Common.{◌≡◌, ℕ, true, false, not, List, [], ◌++◌, length, take, Option, Some, None, codes, ap}
 use Rattle.std.proofs.lemmas.List.Elements.{Contains-append_left, Contains-append_right}
 use Rattle.std.specs.List.{Contains, flat_map, list_any}
-use Rattle.std.specs.Prelude.{is_some}
-use Rattle.toml.specs.Data.{Data, array, table, Items, Members, get_member}
-use Rattle.machine_data.specs.Opcodes.{opcode_named, same_word}
-use Rattle.machine.specs.MachineText.{data_of, entries_of, keys_in, words_in}
+use Rattle.toml.specs.Data.{Data, array, table, Members, get_member}
+use Rattle.machine_data.specs.Opcodes.{same_word}
+use Rattle.machine.specs.MachineText.{data_of, entries_of, keys_in}
 use Rattle.machine.specs.declared.fault.MachineFault.TheVariants.{Limit, UnknownKey, WrongType}
 use Rattle.machine_lint.specs.Spots.{key_of, limit_of}
 use Rattle.machine_lint.specs.HasFault.{HasAlternative, HasMachineFault, HasRow, HasTable, HasUnit, IsThere, limit, missing_key, repeated_row, repeated_unit, unknown_key, unknown_opcode, unknown_table_key, unknown_unit, wrong_type}
 use Rattle.machine_lint.specs.Tree as tree
 use Rattle.machine_lint.specs.Tree.{Lints, alternative_told, alternatives_told, entry_told, in_turn, inside_told, key_told, keys_told, missed, row_told, table_told, tables_told, told, tree_told, unit_told, units_told, value_told}
-use Rattle.machine_lint.specs.Values.{is_wanted, is_within, items_in, items_of, knows, row_words_in, same_text, same_words}
+use Rattle.machine_lint.specs.Values.{is_wanted, is_within}
 use Rattle.machine_lint.specs.declared.place.MachineLint.{MachineLint}
 use Rattle.machine_lint.specs.declared.spots.Spot.{Spot}
 use Rattle.machine_lint.specs.declared.spots.Spot.TheVariants as spot

@@ -1,24 +1,17 @@
 -- The first fault that is told is the first that the reader of machine texts finds.
-use Rattle.std.proofs.Common.{◌≡◌, ℕ, ◌+◌, ◌<◌, ◌≤◌, Bool, true, false, not, cond, ◌&&◌, ◌||◌, eqb, ltb, lt-ltb, List, [], ◌∷◌, ◌++◌, length, map, take, Option, Some, None, option_map, pos, negsuc, codes, position, unwrap_or, inl, inr, refl, sym, ap, ◌∙◌, arith, eq-eqb, append_assoc}
-use Rattle.std.proofs.lemmas.Bool.{and_right, cases_Bool, cases_lt, false≢true, ne_eqb}
+use Rattle.std.proofs.Common.{◌≡◌, ℕ, ◌≤◌, Bool, true, false, not, ◌||◌, ltb, lt-ltb, List, [], ◌∷◌, ◌++◌, length, map, take, Option, Some, None, pos, negsuc, codes, inl, inr, refl, sym, ap, ◌∙◌}
+use Rattle.std.proofs.lemmas.Bool.{and_right, cases_lt, false≢true}
 use Rattle.std.proofs.lemmas.List.{append-nil, take_all, map-append}
-use Rattle.std.proofs.lemmas.List.Elements.{AllZip-push}
-use Rattle.std.proofs.lemmas.List.Quantifiers.{position-Some}
-use Rattle.std.proofs.lemmas.Option.{same_Some}
-use Rattle.std.proofs.lemmas.Slice.Eq.{bytes_eq-Decides}
-use Rattle.std.specs.List.{AllZip, flat_map, list_any}
-use Rattle.toml.specs.Data.{Data, string, integer, float, boolean, datetime, array, table, Items, Members, get_member, no_members}
-use Rattle.machine_data.specs.Opcodes.{opcode_named, same_word}
-use Rattle.machine_data.specs.declared.alternative.Row.{Row}
+use Rattle.std.specs.List.{flat_map, list_any}
+use Rattle.toml.specs.Data.{Data, string, integer, float, boolean, datetime, array, table, Members}
+use Rattle.machine_data.specs.Opcodes.{same_word}
 use Rattle.machine.specs.declared.fault.MachineFault.{MachineFault}
-use Rattle.machine.specs.declared.fault.MachineFault.TheVariants.{Limit, RepeatedRow, RepeatedUnit, UnknownKey, UnknownOpcode, UnknownUnit, WrongType}
+use Rattle.machine.specs.declared.fault.MachineFault.TheVariants.{Limit, RepeatedUnit, UnknownKey}
 use Rattle.machine.specs.inner.Reads.{first_fault}
-use Rattle.machine.specs.MachineText.{Faults, alternative_faults, data_of, entries_of, entry_faults, faults_in_turn, faults_of_alternatives, faults_of_number, faults_of_tables, faults_of_units, faults_of_words, is_unit_name, keys_in, names_of, path_in, path_of, row_faults, row_in, row_of, same_row, table_faults, text_of, tree_faults, unit_faults, unknown_keys, unless, within, words_in}
-use Rattle.machine.proofs.checks.RowFaults.{any-from_None, any-from_Some}
-use Rattle.machine_lint.specs.Tree.{Lints, alternative_told, alternatives_told, entry_told, in_turn, inside_told, key_told, keys_told, known_keys, repeated_row, repeated_unit, row_told, table_told, tables_told, told, told_unless, tree_told, unit_told, units_told, unknown_opcode, unknown_unit, value_told}
-use Rattle.machine_lint.specs.Values.{is_unit_of, items_of, knows, near, row_words_in, same_text, same_words}
+use Rattle.machine.specs.MachineText.{Faults, data_of, entries_of, faults_in_turn, faults_of_number, faults_of_units, is_unit_name, path_in, path_of, text_of, unit_faults, unknown_keys, unless, within}
+use Rattle.machine_lint.specs.Tree.{Lints, in_turn, key_told, keys_told, known_keys, repeated_unit, told, told_unless, unit_told, units_told, value_told}
+use Rattle.machine_lint.specs.Values.{same_text}
 use Rattle.machine_lint.specs.declared.place.MachineLint.{MachineLint}
-use Rattle.machine_lint.specs.declared.spots.Spot.{Spot}
 use Rattle.machine_lint.specs.declared.spots.Spot.TheVariants as spot
 
 abbrev pub faults_in : Lints → Faults

@@ -1,21 +1,19 @@
 -- .. of the rows of alternatives, where the units have no fault.
-use Rattle.std.proofs.Common.{◌≡◌, ℕ, ◌+◌, ◌<◌, ◌≤◌, Bool, true, false, not, cond, ◌&&◌, ◌||◌, eqb, List, [], ◌∷◌, ◌++◌, length, get_or, map, Option, Some, None, codes, position, unwrap_or, inl, inr, refl, sym, ap, ◌∙◌, arith, eq-eqb}
-use Rattle.std.proofs.lemmas.Bool.{and_right, cases_Bool, false≢true, ne_eqb}
-use Rattle.std.proofs.lemmas.List.Elements.{AllZip-push}
+use Rattle.std.proofs.Common.{◌≡◌, ℕ, true, not, ◌&&◌, ◌||◌, eqb, List, [], ◌∷◌, ◌++◌, length, get_or, Option, Some, None, codes, position, unwrap_or, inl, inr, refl, sym, ap, ◌∙◌, eq-eqb}
+use Rattle.std.proofs.lemmas.Bool.{cases_Bool, false≢true, ne_eqb}
 use Rattle.std.proofs.lemmas.List.Quantifiers.{position-Some}
 use Rattle.std.proofs.lemmas.Option.{same_Some}
 use Rattle.std.proofs.lemmas.Slice.Eq.{bytes_eq-Decides}
 use Rattle.std.specs.List.{AllZip, list_any}
-use Rattle.toml.specs.Data.{Data, string, integer, float, boolean, datetime, array, table}
+use Rattle.toml.specs.Data.{Data}
 use Rattle.machine_data.specs.Opcodes.{same_word}
 use Rattle.machine_data.specs.declared.alternative.Row.{Row}
-use Rattle.machine.specs.declared.fault.MachineFault.{MachineFault}
-use Rattle.machine.specs.declared.fault.MachineFault.TheVariants.{Limit, RepeatedRow, UnknownUnit, WrongType}
+use Rattle.machine.specs.declared.fault.MachineFault.TheVariants.{Limit, RepeatedRow, UnknownUnit}
 use Rattle.machine.specs.inner.Reads.{first_fault}
 use Rattle.machine.specs.MachineText.{Faults, faults_in_turn, faults_of_words, row_faults, row_in, row_of, same_row, path_in, unless, within, words_in}
-use Rattle.machine.proofs.checks.RowFaults.{any-from_None, any-from_Some}
-use Rattle.machine_lint.specs.Tree.{in_turn, repeated_row, row_told, told_unless, unknown_unit, value_told}
-use Rattle.machine_lint.specs.Values.{is_unit_of, knows, near, row_words_in, same_text, same_words}
+use Rattle.machine.proofs.checks.RowFaults.{any-from_None}
+use Rattle.machine_lint.specs.Tree.{in_turn, repeated_row, row_told, unknown_unit, value_told}
+use Rattle.machine_lint.specs.Values.{is_unit_of, row_words_in, same_words}
 use Rattle.machine_lint.specs.declared.spots.Spot.TheVariants as spot
 use Rattle.machine_lint.proofs.First.{Same, none-left, none-right, passed, same-append, same-unless}
 
@@ -57,6 +55,12 @@ pub record RowIs (units : List (List ℕ)) (d : Data) (row : Row) : Type 0 where
   pub near' : row_words_in d ≡ Some words
   pub known : list_any (same_word words.0) units ≡ true
   pub is : row ≡ row_of units (Some words)
+
+rows-push : (units : List (List ℕ)) (before : List Data) (rows : List Row) (d : Data) (r : Row) → AllZip (RowIs units) before rows → RowIs units d r → AllZip (RowIs units) (before ++ d ∷ []) (rows ++ r ∷ [])
+rows-push units [] [] d r h k = (k, tt)
+rows-push units (x ∷ before) [] d r h k = absurd h
+rows-push units [] (y ∷ rows) d r h k = absurd h
+rows-push units (x ∷ before) (y ∷ rows) d r h k = (h.0, rows-push units before rows d r h.1 k)
 
 module _ (units : List (List ℕ)) where
   any-rows : (before : List Data) (rows : List Row) → AllZip (RowIs units) before rows → (words : List ℕ × ℕ) → list_any (same_word words.0) units ≡ true
@@ -108,4 +112,4 @@ module _ (units : List (List ℕ)) where
         → Same (in_turn (row_told text given word n) before ds) (faults_in_turn (row_faults (path_in word (codes "alts")) units) (row_in units) rows ds)
     same-rows before rows are [] = refl
     same-rows before rows are (d ∷ ds) = same-append (row_told text given word n before d) _ (row_faults (path_in word (codes "alts")) units rows d) _ (same-row before rows are d) (λ none.
-        same-rows (before ++ d ∷ []) (rows ++ row_in units d ∷ []) (AllZip-push (RowIs units) before rows d (row_in units d) are (row-is rows d (words_in d) refl (opened rows d none))) ds)
+        same-rows (before ++ d ∷ []) (rows ++ row_in units d ∷ []) (rows-push units before rows d (row_in units d) are (row-is rows d (words_in d) refl (opened rows d none))) ds)

@@ -1,11 +1,11 @@
 -- Each fault that is told of a tree is one that it has.
-use Rattle.std.proofs.Common.{◌≡◌, ℕ, Bool, true, false, not, List, [], ◌∷◌, ◌++◌, length, take, Option, Some, None, codes, inl, inr, refl, sym, ap, ◌∙◌}
+use Rattle.std.proofs.Common.{◌≡◌, ℕ, Bool, true, false, not, List, [], ◌++◌, length, take, Option, Some, None, codes, inl, inr, refl, sym}
 use Rattle.std.proofs.lemmas.Bool.{cases_Bool}
 use Rattle.std.proofs.lemmas.List.Elements.{Contains-append_cases}
 use Rattle.std.specs.List.{Contains, flat_map, list_any}
 use Rattle.std.specs.Prelude.{is_some}
-use Rattle.toml.specs.Data.{Data, string, integer, float, boolean, datetime, array, table, Items, Members, get_member}
-use Rattle.machine_data.specs.Opcodes.{opcode_named, same_word}
+use Rattle.toml.specs.Data.{Data, string, integer, float, boolean, datetime, array, table, Members, get_member}
+use Rattle.machine_data.specs.Opcodes.{opcode_named}
 use Rattle.machine.specs.MachineText.{data_of, entries_of, keys_in, words_in}
 use Rattle.machine_lint.specs.HasFault.{HasAlternative, HasMachineFault, HasRow, HasTable, HasUnit, IsThere, limit, missing_key, repeated_row, repeated_unit, unknown_key, unknown_opcode, unknown_table_key, unknown_unit, wrong_type}
 use Rattle.machine_lint.specs.Tree as tree
@@ -14,7 +14,7 @@ use Rattle.machine_lint.specs.Values.{is_wanted, is_within, items_in, items_of, 
 use Rattle.machine_lint.specs.declared.place.MachineLint.{MachineLint}
 use Rattle.machine_lint.specs.declared.spots.Spot.{Spot}
 use Rattle.machine_lint.specs.declared.spots.Spot.TheVariants as spot
-use Rattle.machine_lint.proofs.Among.{InTurn, flat-in, none-in, one-is, turn-in, unless-in}
+use Rattle.machine_lint.proofs.Among.{flat-in, none-in, one-is, turn-in, unless-in}
 
 not-false : (b : Bool) → not b ≡ false → b ≡ true
 not-false true h = refl

@@ -1,5 +1,5 @@
 -- The first place that passes a test.
-use Rattle.std.proofs.Common.{◌≡◌, ℕ, suc, ◌+◌, ◌-◌, ◌<◌, ◌≤◌, Bool, true, false, cond, List, [], ◌∷◌, length, get_or, drop, Option, Some, None, refl, sym, ap, ◌∙◌, arith, add-one}
+use Rattle.std.proofs.Common.{◌≡◌, ℕ, suc, ◌+◌, ◌-◌, ◌<◌, ◌≤◌, Bool, false, cond, Option, Some, None, sym, ap, ◌∙◌, arith}
 use Rattle.machine_lint.specs.Words.{first_at}
 
 pub first-step : (test : ℕ → Bool) (at n : ℕ) → at < n → first_at test at (n - at) ≡ cond (test at) (Some at) (first_at test (at + 1) (n - (at + 1)))

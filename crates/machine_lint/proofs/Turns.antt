@@ -1,11 +1,10 @@
 -- What is told of one element after another.
-use Rattle.std.proofs.Common.{◌≡◌, ℕ, ◌+◌, ◌<◌, ◌≤◌, List, [], ◌∷◌, ◌++◌, length, get_or, take, drop, map, refl, sym, ap, ◌∙◌, arith, append_assoc}
+use Rattle.std.proofs.Common.{◌≡◌, ℕ, ◌+◌, ◌<◌, List, [], ◌∷◌, ◌++◌, length, get_or, take, map, sym, ap, ◌∙◌, append_assoc}
 use Rattle.std.proofs.lemmas.List.{append-nil, take_more, map-append}
 use Rattle.toml.specs.Data.{Data}
 use Rattle.toml.specs.View.{view}
 use Rattle.toml.specs.declared.value.Value.{Value}
 use Rattle.machine_lint.specs.Tree.{Lints, in_turn}
-use Rattle.machine_lint.specs.declared.place.MachineLint.{MachineLint}
 
 turn-push : (check : List Data → Data → Lints) (before ds : List Data) (d : Data) → in_turn check before (ds ++ d ∷ []) ≡ in_turn check before ds ++ check (before ++ ds) d
 turn-push check before [] d = append-nil (check before d) ∙ ap (λ (b : List Data). check b d) (sym (append-nil before))

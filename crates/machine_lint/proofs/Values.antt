@@ -1,19 +1,19 @@
 -- Values by what the accessors of TOML's values give.
-use Rattle.std.proofs.Common.{◌≡◌, ◌≢◌, ℕ, ◌+◌, ◌<◌, ◌≤◌, ◌^◌, Bool, true, false, cond, List, [], ◌∷◌, ◌++◌, length, map, take, Option, Some, None, Result, Ok, Err, ℤ, pos, negsuc, nat_abs, Vec, Global, vec_len, inl, inr, refl, sym, ap, ◌∙◌, arith, lt-ltb, not, ltb}
+use Rattle.std.proofs.Common.{◌≡◌, ℕ, ◌<◌, ◌≤◌, ◌^◌, true, false, List, length, map, take, Some, None, Result, Ok, Err, ℤ, pos, negsuc, nat_abs, Vec, Global, vec_len, inl, inr, refl, sym, ap, ◌∙◌, arith, lt-ltb, not, ltb}
 use Rattle.std.proofs.lemmas.Bool.{and_right, cases_lt}
 use Rattle.std.proofs.lemmas.List.{take-map, take_all}
 use Rattle.std.specs.Int.{FitsUnsignedBits}
 use Rattle.std.specs.Result.{OkIff, result_unwrap_or}
 use Rattle.std.specs.List.{list_any}
-use Rattle.toml.specs.Data.{Data, string, integer, float, boolean, datetime, array, table, Items, Members, as_str, as_integer, as_array, as_table}
-use Rattle.toml.specs.View.{array_view, items_view, view}
+use Rattle.toml.specs.Data.{Data, string, integer, float, boolean, datetime, array, table, as_str, as_integer, as_array}
+use Rattle.toml.specs.View.{array_view, view}
 use Rattle.toml.specs.declared.value.Value.{Value}
-use Rattle.machine.specs.MachineText.{data_of, within}
+use Rattle.machine.specs.MachineText.{within}
 use Rattle.machine.proofs.checks.Faults.{array-at, integer-at, string-at}
 use Rattle.machine.proofs.checks.Turns.{count-data_of, data_of-view}
 use Rattle.machine.proofs.texts.Texts.{list_any-map}
 use Rattle.machine_lint.specs.Spots.{shown}
-use Rattle.machine_lint.specs.Values.{counts, is_unit_of, items_in, items_of, measures, same_text}
+use Rattle.machine_lint.specs.Values.{counts, is_unit_of, items_in, measures, same_text}
 use Rattle.machine_lint.specs.declared.spots.Found.TheVariants as found
 
 pub counts-some : (d : Data) (v : Vec Value Global) (n high : ℕ) → Some (array_view v) ≡ as_array d → n ≡ vec_len v → within 1 high n ≡ counts high d

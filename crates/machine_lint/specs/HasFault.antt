@@ -1,5 +1,5 @@
 -- When a machine text has a fault, by what its tree has. The faults of a text are those of this relation.
-use Rattle.std.specs.Prelude.{◌≡◌, ℕ, Bool, true, false, codes, List, [], ◌∷◌, ◌++◌, Contains, length, take, Option, Some, None, is_some}
+use Rattle.std.specs.Prelude.{◌≡◌, ℕ, true, false, codes, List, [], ◌∷◌, ◌++◌, Contains, length, take, Option, Some, None, is_some}
 use Rattle.std.specs.List.{list_any}
 use Rattle.toml.specs.Data.{Data, array, table, Items, Members, get_member}
 use Rattle.machine_data.specs.Opcodes.{opcode_named, same_word}

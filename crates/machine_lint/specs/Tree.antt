@@ -1,7 +1,7 @@
 -- All faults of the tree of a machine text, in the order in which the reader makes its checks.
 use Rattle.std.specs.Prelude.{ℕ, not, Bool, true, false, if◌then◌else◌, codes, List, [], ◌∷◌, ◌++◌, length, take, Option, Some, None, is_some}
 use Rattle.std.specs.List.{flat_map, list_any}
-use Rattle.toml.specs.Data.{Data, table, Members, no_members, get_member}
+use Rattle.toml.specs.Data.{Data, table, Members, get_member}
 use Rattle.machine_data.specs.Opcodes.{opcode_named, same_word}
 use Rattle.machine_data.specs.declared.limits.TheConstants.{MAX_ALTERNATIVES, MAX_ROWS, MAX_UNITS}
 use Rattle.machine.specs.MachineText.{entries_of, keys_in, text_of, words_in}
@@ -11,7 +11,6 @@ use Rattle.machine_lint.specs.Places.{place_of}
 use Rattle.machine_lint.specs.Spots.{key_of, limit_of, shown}
 use Rattle.machine_lint.specs.Values.{is_wanted, is_within, items_in, items_of, knows, row_words_in, same_text, same_words, unit_named}
 use Rattle.machine_lint.specs.declared.place.MachineLint.{MachineLint}
-use Rattle.machine_lint.specs.declared.spots.Found.{Found}
 use Rattle.machine_lint.specs.declared.spots.Found.TheVariants.{Nothing}
 use Rattle.machine_lint.specs.declared.spots.Spot.{Spot}
 use Rattle.machine_lint.specs.declared.spots.Spot.TheVariants as spot

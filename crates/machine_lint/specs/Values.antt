@@ -1,8 +1,7 @@
 -- What a value in the tree of a machine text has to be.
-use Rattle.std.specs.Prelude.{ℕ, pos, ◌==◌, ◌&&◌, Bool, true, false, if◌then◌else◌, codes, List, [], ◌∷◌, length, Option, Some, None, is_some}
-use Rattle.std.specs.Prelude.{negsuc}
+use Rattle.std.specs.Prelude.{ℕ, pos, ◌==◌, ◌&&◌, Bool, true, false, if◌then◌else◌, List, [], length, Option, Some, None, is_some}
 use Rattle.std.specs.List.{list_any}
-use Rattle.toml.specs.Data.{Data, string, integer, array, table, Members, no_members, as_array, as_integer, as_str, as_table}
+use Rattle.toml.specs.Data.{Data, string, integer, array, as_array, as_integer, as_str, as_table}
 use Rattle.machine_data.specs.Opcodes.{same_word}
 use Rattle.machine_data.specs.declared.limits.TheConstants.{MAX_ALTERNATIVES, MAX_LATENCY, MAX_OFFSET, MAX_REGISTERS, MAX_ROWS, MAX_UNITS}
 use Rattle.machine.specs.MachineText.{data_of, is_unit_name, text_of, within, words_in}

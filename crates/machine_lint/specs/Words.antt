@@ -1,5 +1,5 @@
 -- The words of keys in a text.
-use Rattle.std.specs.Prelude.{ℕ, zero, suc, ◌+◌, ◌-◌, ◌==◌, ◌&&◌, ◌||◌, nat_lt, not, Bool, true, false, if◌then◌else◌, codes, List, [], ◌∷◌, drop, length, Option, Some, None, option_and_then, slice_index, take}
+use Rattle.std.specs.Prelude.{ℕ, zero, suc, ◌+◌, ◌-◌, ◌==◌, ◌&&◌, ◌||◌, nat_lt, not, Bool, false, if◌then◌else◌, codes, List, [], ◌∷◌, drop, length, Option, Some, None, option_and_then, slice_index, take}
 use Rattle.std.specs.Char.{is_ascii_alphanumeric}
 use Rattle.std.specs.Option.{option_or}
 use Rattle.machine_data.specs.Opcodes.{same_word}

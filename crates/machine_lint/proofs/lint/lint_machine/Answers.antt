@@ -1,8 +1,8 @@
 use Rattle.std.proofs.Common.{[], ◌∷◌, ap, sym, ◌∙◌, arith}
 use Rattle.std.proofs.lemmas.Bool.{false≢true}
 use Rattle.std.proofs.lemmas.Result.{IfOk-weaker}
-use Rattle.machine.specs.declared.fault.MachineFault.TheVariants.{Limit, NotToml, NotUtf8}
-use Rattle.machine_lint.specs.Places.{lint_at, nowhere}
+use Rattle.machine.specs.declared.fault.MachineFault.TheVariants.{Limit}
+use Rattle.machine_lint.specs.Places.{nowhere}
 use Rattle.machine_lint.specs.declared.place.MachineLint.{MachineLint}
 use Rattle.machine_lint.proofs.Told.{IsRight, right-long, right-not_utf8, right-not_toml, right-tree}
 use Rattle.machine_lint.proofs.lint.lint_machine.Goals as goal

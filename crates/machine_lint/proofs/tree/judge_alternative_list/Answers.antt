@@ -1,4 +1,4 @@
-use Rattle.std.proofs.Common.{◌+◌, ◌<◌, length, map, option_map, take, arith}
+use Rattle.std.proofs.Common.{◌<◌, length, option_map, arith}
 use Rattle.toml.specs.View.{view}
 use Rattle.machine_lint.specs.Tree.{alternative_told}
 use Rattle.machine_lint.proofs.Turns.{turn-more}

@@ -1,5 +1,4 @@
-use Rattle.std.proofs.Common.{◌+◌, ◌<◌, length, map, option_map, take, arith}
-use Rattle.toml.specs.View.{view}
+use Rattle.std.proofs.Common.{◌<◌, length, arith}
 use Rattle.machine_lint.specs.Tree.{unit_told}
 use Rattle.machine_lint.proofs.Turns.{turn-more}
 use Rattle.machine_lint.proofs.tree.judge_unit_list.Goals as goal

@@ -1,4 +1,4 @@
-use Rattle.std.proofs.Common.{◌≡◌, [], ◌++◌, map, option_map, take}
+use Rattle.std.proofs.Common.{◌≡◌, [], ◌++◌, map, take}
 use Rattle.toml.specs.View.{view}
 use Rattle.machine_lint.specs.Tree.{in_turn, unit_told}
 use Rattle.machine_lint.proofs.tree.judge_unit_list.Given as goal
