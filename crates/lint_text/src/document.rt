@@ -42,22 +42,31 @@ fn told_machine(alloc: Global, path: &str, lint: &MachineLint) -> Result<Value, 
 {
     let word = machine_word(alloc, lint)?;
     let message = machine_message(alloc, lint)?;
-    told_fault(alloc, path, lint.line, lint.column, word.as_str(), message.as_str())
+    told_fault(
+        alloc,
+        path,
+        lint.line,
+        lint.column,
+        word.as_str(),
+        message.as_str(),
+    )
 }
 
 /// A fault of this line of a loop text.
-fn told_loop(
-    alloc: Global,
-    path: &str,
-    line: &[u8],
-    fault: LintFault,
-) -> Result<Value, OutOfMemory>
+fn told_loop(alloc: Global, path: &str, line: &[u8], fault: LintFault) -> Result<Value, OutOfMemory>
     ensures { IfOk result (λ v. view v ≡ line_value path.now line.now fault) }
 {
     let piece = piece_at(line, fault.column, fault.width);
     let word = shown_word(alloc, piece)?;
     let message = what(fault.kind, line, piece);
-    told_fault(alloc, path, fault.line, fault.column, word.as_str(), message)
+    told_fault(
+        alloc,
+        path,
+        fault.line,
+        fault.column,
+        word.as_str(),
+        message,
+    )
 }
 
 /// Pushes a fault of a machine text.

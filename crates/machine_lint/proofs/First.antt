@@ -7,12 +7,16 @@ use Rattle.toml.specs.Data.{Data, string, integer, float, boolean, datetime, arr
 use Rattle.machine_data.specs.Opcodes.{same_word}
 use Rattle.machine.specs.declared.fault.MachineFault.{MachineFault}
 use Rattle.machine.specs.declared.fault.MachineFault.TheVariants.{Limit, RepeatedUnit, UnknownKey}
-use Rattle.machine.specs.inner.Reads.{first_fault}
 use Rattle.machine.specs.MachineText.{Faults, data_of, entries_of, faults_in_turn, faults_of_number, faults_of_units, is_unit_name, path_in, path_of, text_of, unit_faults, unknown_keys, unless, within}
 use Rattle.machine_lint.specs.Tree.{Lints, in_turn, key_told, keys_told, known_keys, repeated_unit, told, told_unless, unit_told, units_told, value_told}
 use Rattle.machine_lint.specs.Values.{same_text}
 use Rattle.machine_lint.specs.declared.place.MachineLint.{MachineLint}
 use Rattle.machine_lint.specs.declared.spots.Spot.TheVariants as spot
+
+-- the first of some faults, if there are any
+abbrev pub first_fault : Faults → Option MachineFault
+first_fault [] = None
+first_fault (fault ∷ faults) = Some fault
 
 abbrev pub faults_in : Lints → Faults
 faults_in lints = map (λ (lint : MachineLint). lint.fault) lints

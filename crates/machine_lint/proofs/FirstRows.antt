@@ -9,13 +9,12 @@ use Rattle.toml.specs.Data.{Data}
 use Rattle.machine_data.specs.Opcodes.{same_word}
 use Rattle.machine_data.specs.declared.alternative.Row.{Row}
 use Rattle.machine.specs.declared.fault.MachineFault.TheVariants.{Limit, RepeatedRow, UnknownUnit}
-use Rattle.machine.specs.inner.Reads.{first_fault}
 use Rattle.machine.specs.MachineText.{Faults, faults_in_turn, faults_of_words, row_faults, row_in, row_of, same_row, path_in, unless, within, words_in}
 use Rattle.machine.proofs.checks.RowFaults.{any-from_None}
 use Rattle.machine_lint.specs.Tree.{in_turn, repeated_row, row_told, unknown_unit, value_told}
 use Rattle.machine_lint.specs.Values.{is_unit_of, row_words_in, same_words}
 use Rattle.machine_lint.specs.declared.spots.Spot.TheVariants as spot
-use Rattle.machine_lint.proofs.First.{Same, none-left, none-right, passed, same-append, same-unless}
+use Rattle.machine_lint.proofs.First.{Same, first_fault, none-left, none-right, passed, same-append, same-unless}
 
 -- two units that are both there have the same number only where they have the same name
 known-number : (units : List (List ℕ)) (a : List ℕ) → list_any (same_word a) units ≡ true → (k : ℕ) × (position (same_word a) units ≡ Some k)

@@ -8,13 +8,12 @@ use Rattle.machine_data.specs.Machines.{MachineData}
 use Rattle.machine_data.specs.Opcodes.{opcode_named, same_word}
 use Rattle.machine.specs.declared.fault.MachineFault.{MachineFault}
 use Rattle.machine.specs.declared.fault.MachineFault.TheVariants.{Limit, UnknownOpcode}
-use Rattle.machine.specs.inner.Reads.{first_fault}
 use Rattle.machine.specs.MachineText.{Faults, alternative_faults, answer, data_of, entries_of, entry_faults, faults_in_turn, faults_of_alternatives, faults_of_number, faults_of_tables, faults_of_units, names_of, path_in, row_faults, row_in, table_faults, text_of, tree_faults, tree_machine, unit_faults, unknown_keys, unless, within}
 use Rattle.machine_lint.specs.Lints.{BeginsAs}
 use Rattle.machine_lint.specs.Tree.{Lints, alternative_told, alternatives_told, entry_told, in_turn, inside_told, keys_told, row_told, table_told, tables_told, told, told_unless, tree_told, units_told, unknown_opcode, value_told}
 use Rattle.machine_lint.specs.Values.{is_unit_of, same_text}
 use Rattle.machine_lint.specs.declared.spots.Spot.TheVariants as spot
-use Rattle.machine_lint.proofs.First.{Same, all-taken, faults_in, is-string, none-left, none-right, same-append, same-flat, same-keys, same-latency, same-registers, same-turns, same-units, same-unless, table-key, top-key}
+use Rattle.machine_lint.proofs.First.{Same, all-taken, faults_in, first_fault, is-string, none-left, none-right, same-append, same-flat, same-keys, same-latency, same-registers, same-turns, same-units, same-unless, table-key, top-key}
 use Rattle.machine_lint.proofs.FirstRows.{same-rows}
 
 module _ (text : List ℕ) (given : Option Data) (units : List (List ℕ)) (knows-as : (name : List ℕ) → is_unit_of given name ≡ list_any (same_word name) units) (word : List ℕ) where
