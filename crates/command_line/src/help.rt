@@ -244,11 +244,11 @@ where no text has a fault:
   PATH:LINE:COLUMN: WORD: WHAT   what is wrong, and what is expected there; WORD has the bytes of the loops that
                                  the fault is about, and is left out where there are none
 
-Of the loops every fault is told, and of a machine the first, without a WORD. Lines and columns are counted
-from 1; a fault that has no place is told of line 0 and column 0.
+Every fault is told. WORD has of a machine the key in full, as in ops.add.latency = 0. Lines and columns are
+counted from 1; a fault that has no place, as a key that is missing, is told of line 0 and column 0.
 
 With --format json the same faults are printed as one JSON document, on one line: an object with `faults`, each
-with `path`, `line`, `column`, `word` and `message`, and `version`, which is 1.
+with `column`, `line`, `message`, `path` and `word`.
 
 One path is that of loops, or with --machine-only that of a machine. No kernel is searched for, and whether
 the machine has a table for each opcode of the loops is not looked at.";

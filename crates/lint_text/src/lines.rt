@@ -16,14 +16,14 @@ use writing::push_line;
 
 /// The rest of a text from a line on, and how many lines stand before it.
 #[derive(Clone, Copy)]
-struct From<'a> {
-    passed: usize,
-    rest: &'a [u8],
+pub(crate) struct From<'a> {
+    pub(crate) passed: usize,
+    pub(crate) rest: &'a [u8],
 }
 
 /// What is left of a text after some lines, or nothing where it has fewer. Lines that are passed already are not passed
 /// again.
-fn passing<'a>(text: &'a [u8], from: From<'a>, lines: usize) -> From<'a>
+pub(crate) fn passing<'a>(text: &'a [u8], from: From<'a>, lines: usize) -> From<'a>
     requires { IsFrom text.now from }
     ensures from { IsFrom text.now result }
     ensures line { slice_index_or (lines_of result.rest.now) 0 [] ≡ slice_index_or (lines_of text.now) lines [] }
@@ -47,7 +47,7 @@ fn passing<'a>(text: &'a [u8], from: From<'a>, lines: usize) -> From<'a>
 }
 
 /// The first line of a text, or nothing where the text is empty.
-fn first_line(text: &[u8]) -> &[u8]
+pub(crate) fn first_line(text: &[u8]) -> &[u8]
     ensures { result.now ≡ slice_index_or (lines_of text.now) 0 [] }
 {
     if text.is_empty() {

@@ -1,13 +1,25 @@
 //! Lines of the faults of a machine text.
 
 ghost use Rattle.std.specs.Prelude.{◌≡◌, ◌++◌, OnOk};
-ghost use Rattle.lint_text.specs.Lines.{machine_line, machine_text};
+ghost use Rattle.lint_text.specs.Lines.{machine_line, machine_text, text_told};
 
+use crate::machine_words::{machine_message, machine_word};
 use crate::places::push_place;
 use machine_data::OutOfMemory;
 use machine_lint::MachineLint;
 use std::alloc::Global;
-use writing::Text;
+use writing::{Text, push_line};
+
+/// Pushes a word with a colon, or nothing where it is empty.
+fn push_text(text: &mut Vec<u8>, word: &str) -> Result<(), OutOfMemory>
+    ensures { OnOk result (text.new.items ≡ text.old.items ++ text_told word.now) }
+{
+    if word.is_empty() {
+        return Ok(());
+    }
+    text.push_piece(word)?;
+    text.push_piece(": ")
+}
 
 /// Pushes the line of a fault of a machine text.
 fn push_machine_fault(
@@ -18,10 +30,11 @@ fn push_machine_fault(
 ) -> Result<(), OutOfMemory>
     ensures { OnOk result (text.new.items ≡ text.old.items ++ machine_line path.now lint.now) }
 {
+    let word = machine_word(alloc, lint)?;
+    let message = machine_message(alloc, lint)?;
     push_place(text, path, lint.line, lint.column)?;
-    let told = lint.fault.to_string(alloc)?;
-    text.push_piece(told.as_str())?;
-    text.push_piece("\n")
+    push_text(text, word.as_str())?;
+    push_line(text, message.as_str())
 }
 
 /// Pushes a line for each fault of the machine text that has this path.

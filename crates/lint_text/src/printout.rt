@@ -29,7 +29,10 @@ pub struct LintText {
 }
 
 /// The faults of a machine text, if one is given.
-fn machine_lints(alloc: Global, machine: Option<Named<'_>>) -> Result<Vec<MachineLint>, OutOfMemory>
+pub(crate) fn machine_lints(
+    alloc: Global,
+    machine: Option<Named<'_>>,
+) -> Result<Vec<MachineLint>, OutOfMemory>
     ensures { IfOk result (λ lints. AreOfMachine machine.entry lints.items) }
 {
     match machine {
@@ -39,7 +42,10 @@ fn machine_lints(alloc: Global, machine: Option<Named<'_>>) -> Result<Vec<Machin
 }
 
 /// The faults of a loop text, if one is given.
-fn loop_faults(alloc: Global, loops: Option<Named<'_>>) -> Result<Vec<LintFault>, OutOfMemory>
+pub(crate) fn loop_faults(
+    alloc: Global,
+    loops: Option<Named<'_>>,
+) -> Result<Vec<LintFault>, OutOfMemory>
     ensures { IfOk result (λ faults. AreOfLoops loops.entry faults.items) }
 {
     match loops {

@@ -1,9 +1,10 @@
 //! Words of a loop text, printed with what is no printable ASCII escaped.
 
-ghost use Rattle.std.specs.Prelude.{◌≡◌, ◌<◌, ◌++◌, OnOk};
+ghost use Rattle.std.specs.Prelude.{◌≡◌, ◌<◌, ◌++◌, IfOk, OnOk, string_bytes};
 ghost use Rattle.lint_text.specs.Words.{hex_digit, piece_at, shown, shown_byte, word_told};
 
 use machine_data::OutOfMemory;
+use std::alloc::Global;
 use writing::Text;
 
 /// The bytes of a line from a column on, from 1, no more than the width.
@@ -46,6 +47,37 @@ fn push_bytes(text: &mut Vec<u8>, word: &[u8]) -> Result<(), OutOfMemory>
         push_byte(text, *byte)?;
     }
     Ok(())
+}
+
+/// Pushes a byte after a string, as `\xHH` where it is no printable ASCII.
+fn add_byte(text: &mut String, byte: u8) -> Result<(), OutOfMemory>
+    ensures { OnOk result (string_bytes text.new ≡ string_bytes text.old ++ shown_byte byte) }
+{
+    if (32..127).contains(&byte) {
+        return text.push(char::from(byte));
+    }
+    text.push_str("\\x")?;
+    text.push(char::from(hex_digit(byte / 16)))?;
+    text.push(char::from(hex_digit(byte % 16)))
+}
+
+/// Pushes the bytes of a word after a string.
+fn add_bytes(text: &mut String, word: &[u8]) -> Result<(), OutOfMemory>
+    ensures { OnOk result (string_bytes text.new ≡ string_bytes text.old ++ shown word.now) }
+{
+    for byte in word {
+        add_byte(text, *byte)?;
+    }
+    Ok(())
+}
+
+/// The bytes of a word as a string.
+pub(crate) fn shown_word(alloc: Global, word: &[u8]) -> Result<String, OutOfMemory>
+    ensures { IfOk result (λ text. string_bytes text ≡ shown word.now) }
+{
+    let mut text = String::new(alloc);
+    add_bytes(&mut text, word)?;
+    Ok(text)
 }
 
 /// Pushes a word with a colon, or nothing where it has no bytes.

@@ -1,1 +1,10 @@
+pub mod All
+pub mod Among
 pub mod First
+pub mod FirstRows
+pub mod FirstTree
+pub mod Had
+pub mod Steps
+pub mod Told
+pub mod Turns
+pub mod Values

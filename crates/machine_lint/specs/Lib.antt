@@ -1,5 +1,10 @@
 pub use Rattle.machine.specs.Faults
 pub use Rattle.machine.specs.MachineText
+pub mod Words
+pub mod Spots
+pub mod Values
 pub mod Places
+pub mod Tree
+pub mod HasFault
 pub mod Lints
 pub mod inner

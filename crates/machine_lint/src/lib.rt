@@ -1,9 +1,15 @@
-//! Faults of a machine text, each with the place in the text that it is about. The reader of machine texts tells the
-//! first alone, and no place.
+//! All faults of a machine text, each with its key and with the place in the text that it is about. The reader of machine
+//! texts tells the first alone, and no place.
 #![tactic(auto)]
 
+mod judge;
 mod lint;
 mod place;
+mod rows;
+mod search;
+mod spots;
+mod tree;
 
 pub use lint::lint_machine;
 pub use place::MachineLint;
+pub use spots::{Found, Spot};

@@ -2,12 +2,12 @@
 
 ghost use Rattle.std.specs.Prelude.{◌≡◌, [], ◌∷◌, IfOk, map};
 ghost use Rattle.machine.specs.MachineText.{machine_of};
-ghost use Rattle.machine_lint.specs.Lints.{BeginsAs, Tells, told_of};
-ghost use Rattle.machine_lint.specs.inner.First.{IsFirst};
+ghost use Rattle.machine_lint.specs.Lints.{AreItsFaults, BeginsAs, Tells, told_of};
 
 use crate::place::MachineLint;
+use crate::tree::judge_tree;
 use machine::limits::MAX_TEXT;
-use machine::{Key, MachineFault, OutOfMemory, read_machine};
+use machine::{Key, MachineFault, OutOfMemory};
 use std::alloc::Global;
 
 /// One fault.
@@ -19,26 +19,17 @@ fn only(alloc: Global, lint: MachineLint) -> Result<Vec<MachineLint>, OutOfMemor
     Ok(lints)
 }
 
-/// The first fault of a text that is TOML.
-fn lint_tree(alloc: Global, text: &[u8]) -> Result<Vec<MachineLint>, OutOfMemory>
-    ensures { IfOk result (λ lints. IsFirst (machine_of text.now) lints.items) }
-{
-    match read_machine(alloc, text) {
-        Ok(_) => Ok(Vec::new(alloc)),
-        Err(MachineFault::Memory) => Err(std::alloc::AllocError),
-        Err(fault) => only(alloc, MachineLint::nowhere(fault)),
-    }
-}
-
-/// The first fault of a machine text, with its place.
+/// All faults of a machine text, each with its place.
 ///
-/// There is none where [`machine::read_machine`] reads the text, and else it is the fault that it tells.
+/// There is none where [`machine::read_machine`] reads the text, and else the first is the fault that it tells. They are in
+/// the order in which it makes its checks.
 ///
 /// # Errors
 /// Memory ran out, which says nothing of the text.
 pub fn lint_machine(alloc: Global, text: &[u8]) -> Result<Vec<MachineLint>, OutOfMemory>
     ensures exact { IfOk result (λ lints. Tells text.now (told_of text.now) lints.items) }
     ensures first { IfOk result (λ lints. BeginsAs (machine_of text.now) (map (λ lint. lint.fault) lints.items)) }
+    ensures faults { IfOk result (λ lints. AreItsFaults text.now lints.items) }
 {
     if text.len() > MAX_TEXT {
         let limit = Key::new(String::from_str(alloc, "text")?);
@@ -52,7 +43,7 @@ pub fn lint_machine(alloc: Global, text: &[u8]) -> Result<Vec<MachineLint>, OutO
         }
     };
     let error = match toml::table_from_str(alloc, words) {
-        Ok(_) => return lint_tree(alloc, text),
+        Ok(tree) => return judge_tree(alloc, text, &tree),
         Err(error) => error,
     };
     let Some(span) = error.span() else {

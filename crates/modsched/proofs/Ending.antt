@@ -217,7 +217,7 @@ brings-take (command.Loops path names work) first last ending h =
 brings-take (command.Solve path settings format) first last ending h = (h.0, solve-take settings format last h.0 h.1, h.2)
 brings-take (command.Problems path told) first last ending h = (h.0, report-take told last h.0 h.1, h.2)
 brings-take (command.Check path other) first last ending h = (h.0, check-take first last h.0 h.1, h.2)
-brings-take (command.Lint texts format) first last ending h = lint-take texts first last ending h
+brings-take (command.Lint texts format) first last ending h = lint-take format texts first last ending h
 
 -- what was read of texts brings about what the whole texts do
 pub brings-read : (c : Command) (first last first_read last_read : List ℕ) (ending : Ending)

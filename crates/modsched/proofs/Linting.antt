@@ -1,5 +1,5 @@
 -- What is told of texts of which no more is read than shows that they are too long.
-use Rattle.std.proofs.Common.{◌≡◌, ◌∙◌, ap, refl, subst, sym, ℕ, ◌<◌, List, ◌++◌, Option, None, Some, length, take, codes, inl, inr}
+use Rattle.std.proofs.Common.{◌≡◌, ◌∙◌, ap, refl, subst, sym, ℕ, ◌<◌, List, ◌++◌, Option, None, Some, length, map, take, codes, inl, inr}
 use Rattle.std.specs.Prelude.{[], ◌∷◌, Ok, Err}
 use Rattle.std.proofs.lemmas.List.{take_all}
 use Rattle.std.proofs.lemmas.Bool.{cases_lt, lt-ltb}
@@ -11,13 +11,16 @@ use Rattle.loops.specs.LoopFaultKind.TheVariants as kinds
 use Rattle.loop_lint.specs.Lints.{AreFaults, faults_in, lints_in, too_long}
 use Rattle.loop_lint.specs.declared.fault.LintFault.{LintFault}
 use Rattle.lint_text.specs.Lines.{loop_text}
-use Rattle.lint_text.specs.Printout.{AreOfLoops, AreOfMachine, IsLintText, loop_lines, machine_lines}
+use Rattle.lint_text.specs.Printout.{AreOfLoops, AreOfMachine, loop_lines, machine_lines}
+use Rattle.lint_text.specs.Document.{document_text, loop_value, loop_values, machine_values}
 use Rattle.lint_text.specs.declared.printout.LintText.{LintText}
 use Rattle.lint_text.specs.declared.printout.Named.{Named}
 use Rattle.command_line.specs.declared.command.LintTexts.{LintTexts}
 use Rattle.command_line.specs.declared.command.LintTexts.TheVariants as lint
 use Rattle.modsched.specs.Devices.{most_read}
-use Rattle.modsched.specs.Engine.{Ending, IsNamed, LintBrings}
+use Rattle.modsched.specs.Engine.{Ending, IsLintAs, IsNamed, LintBrings}
+use Rattle.command_line.specs.declared.command.Format.{Format}
+use Rattle.command_line.specs.declared.command.Format.TheVariants as format
 use Rattle.modsched.proofs.Lengths.{loops_in-take, machine_of-take, taken_too_long}
 
 told-long : (text : List ℕ) → 1048576 < length text → machines.told_of text ≡ machines.Just (nowhere (Limit (codes "text")) ∷ [])
@@ -65,16 +68,33 @@ shows-whole path text faults h = elim (cases_lt most_read (length text)) [
   | inr within ↦ ap (λ (t : List ℕ). loop_text path t faults) (sym (take_all most_read text within))
 ]
 
+-- .. as values of a document
+values-none : (path text other : List ℕ) (faults : List LintFault) → faults ≡ too_long ∷ [] → map (loop_value path text) faults ≡ map (loop_value path other) faults
+values-none path text other faults is = rw is refl
+
+values-whole : (path text : List ℕ) (faults : List LintFault) → AreFaults (take most_read text) faults → map (loop_value path text) faults ≡ map (loop_value path (take most_read text)) faults
+values-whole path text faults h = elim (cases_lt most_read (length text)) [
+  | inl more ↦ values-none path text (take most_read text) faults (h.words ∙ lints-long (take most_read text) (taken_too_long text more).0)
+  | inr within ↦ ap (λ (t : List ℕ). map (loop_value path t) faults) (sym (take_all most_read text within))
+]
+
 -- the same path with the whole text
 abbrev whole : List ℕ → Named → Named
 whole text named = record named { text = record named.text { now = text } }
+
+-- the same is shown of two machine texts with these faults, and of two texts of loops
+abbrev SameMachine : Option Named → Option Named → List MachineLint → Type 0
+SameMachine other named lints = (machine_lines other lints ≡ machine_lines named lints) × (machine_values other lints ≡ machine_values named lints)
+
+abbrev SameLoops : Option Named → Option Named → List LintFault → Type 0
+SameLoops other named faults = (loop_lines other faults ≡ loop_lines named faults) × (loop_values other faults ≡ loop_values named faults)
 
 -- a text that was given, read as far as it is
 record MachineWhole (path text : List ℕ) (named : Option Named) (lints : List MachineLint) : Type 0 where
   other : Option Named
   is_named : IsNamed (Some (path, text)) other
   are : AreOfMachine other lints
-  lines : machine_lines other lints ≡ machine_lines named lints
+  same : SameMachine other named lints
 
 machine-whole : (path text : List ℕ) (named : Option Named) (lints : List MachineLint) → IsNamed (Some (path, take most_read text)) named → AreOfMachine named lints
     → MachineWhole path text named lints
@@ -89,14 +109,14 @@ machine-whole path text (Some named) lints is are =
         tells-whole text lints (subst (λ (t : List ℕ). machines.Tells t (machines.told_of t) lints) its_text are.0),
         rw (its_text, machine_of-take text) at are.1,
       );
-      lines = refl;
+      same = (refl, refl);
     }
 
 record LoopsWhole (path text : List ℕ) (named : Option Named) (faults : List LintFault) : Type 0 where
   other : Option Named
   is_named : IsNamed (Some (path, text)) other
   are : AreOfLoops other faults
-  lines : loop_lines other faults ≡ loop_lines named faults
+  same : SameLoops other named faults
 
 loops-whole : (path text : List ℕ) (named : Option Named) (faults : List LintFault) → IsNamed (Some (path, take most_read text)) named → AreOfLoops named faults
     → LoopsWhole path text named faults
@@ -109,54 +129,89 @@ loops-whole path text (Some named) faults is are =
       other = Some (whole text named);
       is_named = ap (λ (p : List ℕ). Some (p, text)) its_path;
       are = (are-whole text faults taken, rw (its_text, loops_in-take text) at are.1);
-      lines = shows-whole named.path.now text faults taken ∙ ap (λ (t : List ℕ). loop_text named.path.now t faults) (sym its_text);
+      same = (
+        shows-whole named.path.now text faults taken ∙ ap (λ (t : List ℕ). loop_text named.path.now t faults) (sym its_text),
+        values-whole named.path.now text faults taken ∙ ap (λ (t : List ℕ). map (loop_value named.path.now t) faults) (sym its_text),
+      );
     }
 
--- the same lines are those of other texts with the same faults
-retold : (machine loops other_machine other_loops : Option Named) (printed : LintText) (h : IsLintText machine loops printed)
-    → AreOfMachine other_machine h.lints → machine_lines other_machine h.lints ≡ machine_lines machine h.lints
-    → AreOfLoops other_loops h.faults → loop_lines other_loops h.faults ≡ loop_lines loops h.faults → IsLintText other_machine other_loops printed
-retold machine loops other_machine other_loops printed h of_machine same_machine of_loops same_loops = record {
+-- what is shown of texts in a format has faults, and so is shown of other texts with these
+record Retells (format : Format) (machine loops : Option Named) (printed : LintText) : Type 0 where
+  lints : List MachineLint
+  faults : List LintFault
+  of_machine : AreOfMachine machine lints
+  of_loops : AreOfLoops loops faults
+  again : (other_machine other_loops : Option Named) → AreOfMachine other_machine lints → SameMachine other_machine machine lints
+      → AreOfLoops other_loops faults → SameLoops other_loops loops faults → IsLintAs format other_machine other_loops printed
+
+retells : (format : Format) (machine loops : Option Named) (printed : LintText) → IsLintAs format machine loops printed → Retells format machine loops printed
+retells format.Text machine loops printed h = record {
   lints = h.lints;
   faults = h.faults;
-  of_machine = of_machine;
-  of_loops = of_loops;
-  text = h.text ∙ ap (λ (t : List ℕ). t ++ loop_lines loops h.faults) (sym same_machine) ∙ ap (λ (t : List ℕ). machine_lines other_machine h.lints ++ t) (sym same_loops);
-  machine_faults = h.machine_faults;
-  loop_faults = h.loop_faults;
+  of_machine = h.of_machine;
+  of_loops = h.of_loops;
+  again = λ other_machine other_loops are_lints same_machine are_faults same_loops. record {
+    lints = h.lints;
+    faults = h.faults;
+    of_machine = are_lints;
+    of_loops = are_faults;
+    text = h.text ∙ ap (λ (t : List ℕ). t ++ loop_lines loops h.faults) (sym same_machine.0) ∙ ap (λ (t : List ℕ). machine_lines other_machine h.lints ++ t) (sym same_loops.0);
+    machine_faults = h.machine_faults;
+    loop_faults = h.loop_faults;
+  };
+}
+retells format.Json machine loops printed h = record {
+  lints = h.lints;
+  faults = h.faults;
+  of_machine = h.of_machine;
+  of_loops = h.of_loops;
+  again = λ other_machine other_loops are_lints same_machine are_faults same_loops. record {
+    lints = h.lints;
+    faults = h.faults;
+    of_machine = are_lints;
+    of_loops = are_faults;
+    text = h.text ∙ ap (λ vs. document_text (vs ++ loop_values loops h.faults)) (sym same_machine.1)
+        ∙ ap (λ vs. document_text (machine_values other_machine h.lints ++ vs)) (sym same_loops.1);
+    machine_faults = h.machine_faults;
+    loop_faults = h.loop_faults;
+  };
 }
 
 -- what was read of texts brings about what the whole texts do
-pub lint-take : (texts : LintTexts) (first last : List ℕ) (ending : Ending) → LintBrings texts (take most_read first) (take most_read last) ending → LintBrings texts first last ending
-lint-take texts first last (Err status) h = h
-lint-take (lint.Machine path) first last (Ok answer) h =
-    let machine = machine-whole _ last h.machine h.is_text.lints h.is_machine h.is_text.of_machine in record {
+pub lint-take : (format : Format) (texts : LintTexts) (first last : List ℕ) (ending : Ending) → LintBrings format texts (take most_read first) (take most_read last) ending
+    → LintBrings format texts first last ending
+lint-take format texts first last (Err status) h = h
+lint-take format (lint.Machine path) first last (Ok answer) h =
+    let told = retells format h.machine h.loops h.printed h.is_text in
+    let machine = machine-whole _ last h.machine told.lints h.is_machine told.of_machine in record {
       machine = machine.other;
       loops = h.loops;
       printed = h.printed;
       is_machine = machine.is_named;
       is_loops = h.is_loops;
-      is_text = retold h.machine h.loops machine.other h.loops h.printed h.is_text machine.are machine.lines h.is_text.of_loops refl;
+      is_text = told.again machine.other h.loops machine.are machine.same told.of_loops (refl, refl);
       is_answer = h.is_answer;
     }
-lint-take (lint.Loops path) first last (Ok answer) h =
-    let loops = loops-whole _ last h.loops h.is_text.faults h.is_loops h.is_text.of_loops in record {
+lint-take format (lint.Loops path) first last (Ok answer) h =
+    let told = retells format h.machine h.loops h.printed h.is_text in
+    let loops = loops-whole _ last h.loops told.faults h.is_loops told.of_loops in record {
       machine = h.machine;
       loops = loops.other;
       printed = h.printed;
       is_machine = h.is_machine;
       is_loops = loops.is_named;
-      is_text = retold h.machine h.loops h.machine loops.other h.printed h.is_text h.is_text.of_machine refl loops.are loops.lines;
+      is_text = told.again h.machine loops.other told.of_machine (refl, refl) loops.are loops.same;
       is_answer = h.is_answer;
     }
-lint-take (lint.Both machine_path loops_path) first last (Ok answer) h =
-    let machine = machine-whole _ first h.machine h.is_text.lints h.is_machine h.is_text.of_machine in
-    let loops = loops-whole _ last h.loops h.is_text.faults h.is_loops h.is_text.of_loops in record {
+lint-take format (lint.Both machine_path loops_path) first last (Ok answer) h =
+    let told = retells format h.machine h.loops h.printed h.is_text in
+    let machine = machine-whole _ first h.machine told.lints h.is_machine told.of_machine in
+    let loops = loops-whole _ last h.loops told.faults h.is_loops told.of_loops in record {
       machine = machine.other;
       loops = loops.other;
       printed = h.printed;
       is_machine = machine.is_named;
       is_loops = loops.is_named;
-      is_text = retold h.machine h.loops machine.other loops.other h.printed h.is_text machine.are machine.lines loops.are loops.lines;
+      is_text = told.again machine.other loops.other machine.are machine.same loops.are loops.same;
       is_answer = h.is_answer;
     }

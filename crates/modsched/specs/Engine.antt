@@ -12,6 +12,7 @@ use Rattle.command_line.specs.declared.command.Task.{Task}
 use Rattle.command_line.specs.declared.command.Task.TheVariants as task
 use Rattle.command_line.specs.declared.command.Search as search
 use Rattle.command_line.specs.declared.command.Search.TheVariants.{Schedule, Json, Explain, Vary, Total, Run}
+use Rattle.command_line.specs.declared.command.Format.{Format}
 use Rattle.command_line.specs.declared.command.Format.TheVariants as format
 use Rattle.command_line.specs.Lines.{first_path}
 use Rattle.devices.specs.Devices.{most_read}
@@ -32,6 +33,7 @@ use Rattle.printouts.specs.Schedule.{IsListingText, IsListingDocument}
 use Rattle.variants.specs.Texts.{IsVaryText}
 use Rattle.variants.specs.Documents.{IsVaryDocument}
 use Rattle.variants.specs.Totals.{IsVaryTotal}
+use Rattle.lint_text.specs.Document.{IsLintDocument}
 use Rattle.lint_text.specs.Printout.{IsLintText}
 use Rattle.lint_text.specs.declared.printout.LintText.{LintText}
 use Rattle.lint_text.specs.declared.printout.Named.{Named}
@@ -205,20 +207,25 @@ lint_verdict printed = if printed.machine_faults then MachineFaulty else if prin
 abbrev pub lint_answer : LintText → AnswerData
 lint_answer printed = record { text = printed.text.items; verdict = lint_verdict printed }
 
--- the lines of the faults of these texts are told: of loops all of them, and of a machine those that `lint_machine` answers
-pub record LintsTold (texts : LintTexts) (first last : List ℕ) (answer : AnswerData) : Type 0 where
+-- the faults of these texts are shown, as lines or as a document
+abbrev pub IsLintAs : Format → Option Named → Option Named → LintText → Type 0
+IsLintAs format.Text machine loops printed = IsLintText machine loops printed
+IsLintAs format.Json machine loops printed = IsLintDocument machine loops printed
+
+-- .. all of them
+pub record LintsTold (format : Format) (texts : LintTexts) (first last : List ℕ) (answer : AnswerData) : Type 0 where
   pub machine : Option Named
   pub loops : Option Named
   pub printed : LintText
   pub is_machine : IsNamed (machine_to_lint texts first last) machine
   pub is_loops : IsNamed (loops_to_lint texts last) loops
-  pub is_text : IsLintText machine loops printed
+  pub is_text : IsLintAs format machine loops printed
   pub is_answer : answer ≡ lint_answer printed
 
 -- `lint` refuses no text, so that only memory can run out
-abbrev pub LintBrings : LintTexts → List ℕ → List ℕ → Ending → Type 0
-LintBrings texts first last (Ok answer) = LintsTold texts first last answer
-LintBrings texts first last (Err status) = status ≡ OutOfMemory
+abbrev pub LintBrings : Format → LintTexts → List ℕ → List ℕ → Ending → Type 0
+LintBrings format texts first last (Ok answer) = LintsTold format texts first last answer
+LintBrings format texts first last (Err status) = status ≡ OutOfMemory
 
 -- what a command comes to for the bytes of its texts
 abbrev pub Brings : Command → List ℕ → List ℕ → Ending → Type 0
@@ -227,7 +234,7 @@ Brings (command.Loops path names work) first last ending =
 Brings (command.Solve path settings format) first last ending = ProblemsBring (AnswersSolve settings format last) ending
 Brings (command.Problems path told) first last ending = ProblemsBring (AnswersReport told last) ending
 Brings (command.Check path other) first last ending = ProblemsBring (AnswersCheck first last) ending
-Brings (command.Lint texts format) first last ending = LintBrings texts first last ending
+Brings (command.Lint texts format) first last ending = LintBrings format texts first last ending
 
 -- a command comes to an ending like that, for the bytes that its inputs had left
 abbrev pub Does : Command → Option (List ℕ) → Option (List ℕ) → (Ending → Type 0) → Type 0

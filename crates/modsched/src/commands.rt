@@ -59,7 +59,7 @@ pub(crate) fn answer_of<R: Threads + Sync>(
         } => solve_text(rt, alloc, settings, *format, last),
         Command::Problems { told, .. } => report_text(alloc, told, last),
         Command::Check { .. } => check_text(alloc, first, last),
-        Command::Lint { texts, .. } => lint_text(alloc, texts, first, last),
+        Command::Lint { texts, format } => lint_text(alloc, texts, *format, first, last),
     }
 }
 

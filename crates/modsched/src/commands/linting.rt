@@ -6,23 +6,28 @@ ghost use Rattle.modsched.specs.inner.Answers.{ending_of};
 ghost use Rattle.modsched.specs.inner.Refusals.{IsRefusal};
 
 use super::answer::Answer;
-use command_line::LintTexts;
+use command_line::{Format, LintTexts};
 use exit_status::Status;
-use lint_text::{Named, lint_printout};
+use lint_text::{Named, lint_document, lint_printout};
 use std::alloc::Global;
 
 /// The faults of the texts that a command was given, or that memory ran out. Of one text alone the first bytes are ignored.
 pub(crate) fn lint_text(
     alloc: Global,
     texts: &LintTexts,
+    format: Format,
     first: &[u8],
     last: &[u8],
 ) -> Result<Answer, Status>
-    ensures brings { LintBrings texts.now first.now last.now (ending_of result) }
+    ensures brings { LintBrings format texts.now first.now last.now (ending_of result) }
     ensures kind { IfErr result IsRefusal }
 {
     let (machine, loops) = named(texts, first, last);
-    match lint_printout(alloc, machine, loops) {
+    let shown = match format {
+        Format::Text => lint_printout(alloc, machine, loops),
+        Format::Json => lint_document(alloc, machine, loops),
+    };
+    match shown {
         Ok(lint) => Ok(Answer::Lint(lint)),
         Err(_) => Err(Status::OutOfMemory),
     }

@@ -1,0 +1,222 @@
+//! The faults of a machine text and of a loop text as a JSON document.
+
+ghost use Rattle.std.specs.Prelude.{◌≡◌, ◌++◌, [], ◌∷◌, IfOk, OnOk, codes, map, string_bytes};
+ghost use Rattle.serde_json.specs.Data.{array, member, no_members, object};
+ghost use Rattle.serde_json.specs.View.{items_of, view};
+ghost use Rattle.lint_text.specs.Document.{IsLintDocument, document_text, fault_value, line_value, loop_value, loop_values, machine_value, machine_values};
+
+use crate::lines::{From, first_line, passing};
+use crate::machine_words::{machine_message, machine_word};
+use crate::printout::{LintText, Named, loop_faults, machine_lints};
+use crate::what::what;
+use crate::words::{piece_at, shown_word};
+use loop_lint::LintFault;
+use machine_data::OutOfMemory;
+use machine_lint::MachineLint;
+use serde_json::{Value, json};
+use std::alloc::Global;
+
+/// A fault.
+fn told_fault(
+    alloc: Global,
+    path: &str,
+    line: usize,
+    column: usize,
+    word: &str,
+    message: &str,
+) -> Result<Value, OutOfMemory>
+    ensures { IfOk result (λ v. view v ≡ fault_value path.now line column word.now message.now) }
+{
+    json!(in alloc; {
+        "path": path,
+        "line": line,
+        "column": column,
+        "word": word,
+        "message": message
+    })
+}
+
+/// A fault of a machine text.
+fn told_machine(alloc: Global, path: &str, lint: &MachineLint) -> Result<Value, OutOfMemory>
+    ensures { IfOk result (λ v. view v ≡ machine_value path.now lint.now) }
+{
+    let word = machine_word(alloc, lint)?;
+    let message = machine_message(alloc, lint)?;
+    told_fault(
+        alloc,
+        path,
+        lint.line,
+        lint.column,
+        word.as_str(),
+        message.as_str(),
+    )
+}
+
+/// A fault of this line of a loop text.
+fn told_loop(alloc: Global, path: &str, line: &[u8], fault: LintFault) -> Result<Value, OutOfMemory>
+    ensures { IfOk result (λ v. view v ≡ line_value path.now line.now fault) }
+{
+    let piece = piece_at(line, fault.column, fault.width);
+    let word = shown_word(alloc, piece)?;
+    let message = what(fault.kind, line, piece);
+    told_fault(
+        alloc,
+        path,
+        fault.line,
+        fault.column,
+        word.as_str(),
+        message,
+    )
+}
+
+/// Pushes a fault of a machine text.
+fn add_machine(
+    alloc: Global,
+    values: &mut Vec<Value>,
+    path: &str,
+    lint: &MachineLint,
+) -> Result<(), OutOfMemory>
+    ensures { OnOk result (map view values.new.items ≡ map view values.old.items ++ machine_value path.now lint.now ∷ []) }
+{
+    let value = told_machine(alloc, path, lint)?;
+    values.push(value)?;
+    Ok(())
+}
+
+/// Pushes a fault of this line of a loop text.
+fn add_loop(
+    alloc: Global,
+    values: &mut Vec<Value>,
+    path: &str,
+    line: &[u8],
+    fault: LintFault,
+) -> Result<(), OutOfMemory>
+    ensures { OnOk result (map view values.new.items ≡ map view values.old.items ++ line_value path.now line.now fault ∷ []) }
+{
+    let value = told_loop(alloc, path, line, fault)?;
+    values.push(value)?;
+    Ok(())
+}
+
+/// Pushes the faults of a machine text.
+fn add_lints(
+    alloc: Global,
+    values: &mut Vec<Value>,
+    path: &str,
+    lints: &[MachineLint],
+) -> Result<(), OutOfMemory>
+    ensures { OnOk result (map view values.new.items ≡ map view values.old.items ++ map (machine_value path.now) lints.now) }
+{
+    for lint in lints {
+        add_machine(alloc, values, path, lint)?;
+    }
+    Ok(())
+}
+
+/// Pushes the faults of a loop text.
+fn add_faults(
+    alloc: Global,
+    values: &mut Vec<Value>,
+    path: &str,
+    bytes: &[u8],
+    faults: &[LintFault],
+) -> Result<(), OutOfMemory>
+    ensures { OnOk result (map view values.new.items ≡ map view values.old.items ++ map (loop_value path.now bytes.now) faults.now) }
+{
+    let mut from = From {
+        passed: 0,
+        rest: bytes,
+    };
+    for fault in faults {
+        from = passing(bytes, from, fault.line.saturating_sub(1));
+        add_loop(alloc, values, path, first_line(from.rest), *fault)?;
+    }
+    Ok(())
+}
+
+/// Pushes the faults of a machine text, if one is given.
+fn add_given_lints(
+    alloc: Global,
+    values: &mut Vec<Value>,
+    machine: Option<Named<'_>>,
+    lints: &[MachineLint],
+) -> Result<(), OutOfMemory>
+    ensures { OnOk result (map view values.new.items ≡ map view values.old.items ++ machine_values machine.entry lints.now) }
+{
+    match machine {
+        Some(named) => add_lints(alloc, values, named.path, lints),
+        None => Ok(()),
+    }
+}
+
+/// Pushes the faults of a loop text, if one is given.
+fn add_given_faults(
+    alloc: Global,
+    values: &mut Vec<Value>,
+    loops: Option<Named<'_>>,
+    faults: &[LintFault],
+) -> Result<(), OutOfMemory>
+    ensures { OnOk result (map view values.new.items ≡ map view values.old.items ++ loop_values loops.entry faults.now) }
+{
+    match loops {
+        Some(named) => add_faults(alloc, values, named.path, named.text, faults),
+        None => Ok(()),
+    }
+}
+
+/// The faults of both texts.
+fn values_of(
+    alloc: Global,
+    machine: Option<Named<'_>>,
+    loops: Option<Named<'_>>,
+    lints: &[MachineLint],
+    faults: &[LintFault],
+) -> Result<Vec<Value>, OutOfMemory>
+    ensures { IfOk result (λ values. map view values.items ≡ machine_values machine.entry lints.now ++ loop_values loops.entry faults.now) }
+{
+    let mut values = Vec::new(alloc);
+    add_given_lints(alloc, &mut values, machine, lints)?;
+    add_given_faults(alloc, &mut values, loops, faults)?;
+    Ok(values)
+}
+
+/// The document of these faults.
+fn document_of(alloc: Global, values: Vec<Value>) -> Result<Value, OutOfMemory>
+    ensures { IfOk result (λ v. view v ≡ object (member (codes "faults") (array (items_of (map view values.items))) no_members)) }
+{
+    json!(in alloc; {"faults": Value::Array(values)})
+}
+
+/// The text of a document.
+#[tactic(auto, unfolding(crate::specs::Document::document_text))]
+fn written(alloc: Global, values: Vec<Value>) -> Result<String, OutOfMemory>
+    ensures { IfOk result (λ text. string_bytes text ≡ document_text (map view values.items)) }
+{
+    let document = document_of(alloc, values)?;
+    let mut text = document.to_string(alloc)?;
+    text.push_str("\n")?;
+    Ok(text)
+}
+
+/// All faults of a machine text and of a loop text, if they are given, as a JSON document on one line: those of the
+/// machine first. Keys stand in the order of their bytes.
+///
+/// # Errors
+/// Memory ran out, which says nothing of the texts.
+pub fn lint_document(
+    alloc: Global,
+    machine: Option<Named<'_>>,
+    loops: Option<Named<'_>>,
+) -> Result<LintText, OutOfMemory>
+    ensures { IfOk result (λ printed. IsLintDocument machine.entry loops.entry printed) }
+{
+    let lints = machine_lints(alloc, machine)?;
+    let faults = loop_faults(alloc, loops)?;
+    let values = values_of(alloc, machine, loops, &lints, &faults)?;
+    let text = written(alloc, values)?;
+    Ok(LintText {
+        text: text.into_bytes(),
+        machine_faults: !lints.is_empty(),
+        loop_faults: !faults.is_empty(),
+    })
+}

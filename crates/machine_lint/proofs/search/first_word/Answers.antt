@@ -1,0 +1,9 @@
+use Rattle.std.proofs.Common.{◌<◌, length, sym, arith}
+use Rattle.machine_lint.specs.Words.{is_word_at}
+use Rattle.machine_lint.proofs.Steps.{first-next}
+use Rattle.machine_lint.proofs.search.first_word.Goals as goal
+
+pub loop-at-preserved : goal.loop-at-preserved
+loop-at-preserved c =
+    let below : c.loop-at.at < length c.args.text.now = omega arith in
+    first-next (is_word_at c.args.text.now c.args.word.now) c.loop-at.at (length c.args.text.now) _ below (sym c.if-is_word_at.ensures.is) c.loop-at.invariant

@@ -1,0 +1,285 @@
+//! Judging values of the tree of a machine text.
+
+ghost use Rattle.std.specs.Prelude.{◌≡◌, ◌++◌, ◌<◌, ◌^◌, [], ◌∷◌, length, option_map, OnOk};
+ghost use Rattle.std.specs.List.{list_any};
+ghost use Rattle.machine_lint.specs.Spots.{key_of, limit_of};
+ghost use Rattle.machine_lint.specs.Tree.{missed, told, value_told};
+ghost use Rattle.machine_lint.specs.Values.{counts, is_unit_of, is_wanted, is_within, measures, row_words_in, same_text, same_words};
+ghost use Rattle.machine_lint.specs.inner.Ats.{spot_at};
+ghost use Rattle.machine.specs.MachineText.{is_unit_name, text_of};
+ghost use Rattle.machine.specs.declared.fault.MachineFault.TheVariants.{Limit, RepeatedRow, UnknownKey, WrongType};
+ghost use Rattle.toml.specs.View.{view};
+ghost use Rattle.toml.specs.Data.{string};
+
+use crate::place::{MachineLint, NOWHERE, place_of};
+use crate::rows::{is_unit_name, is_within as is_between, near_row, row_words};
+use crate::spots::{At, Found, key, shown};
+use machine::limits::{MAX_ALTERNATIVES, MAX_LATENCY, MAX_REGISTERS, MAX_ROWS, MAX_UNITS};
+use machine::{MachineFault, OutOfMemory};
+use std::alloc::Global;
+use toml::Value;
+
+/// Whether a value is an array of so many elements at most, and of one at least.
+fn counts(value: &Value, high: usize) -> bool
+    ensures { result ≡ counts high (view value.now) }
+{
+    match value.as_array() {
+        Some(elements) => is_between(elements.len(), high),
+        None => false,
+    }
+}
+
+/// Whether a value is an integer so large at most, and 1 at least.
+fn measures(value: &Value, high: u16) -> bool
+    ensures { result ≡ measures high (view value.now) }
+{
+    match value.as_integer() {
+        // What is no `u16` is outside the limits, and so is 0.
+        Some(number) => is_between(
+            usize::from(u16::try_from(number).unwrap_or(0)),
+            usize::from(high),
+        ),
+        None => false,
+    }
+}
+
+/// The text that a value is, or none.
+pub(crate) fn text_of(value: &Value) -> &str
+    ensures { result.now ≡ text_of (view value.entry.now) }
+{
+    match value.as_str() {
+        Some(text) => text,
+        None => "",
+    }
+}
+
+/// Whether a value has the form of a unit's name.
+fn is_name(value: &Value) -> bool
+    ensures { result ≡ is_unit_name (text_of (view value.now)) }
+{
+    match value.as_str() {
+        Some(text) => is_unit_name(text),
+        None => false,
+    }
+}
+
+/// Whether a value has the type that it needs there.
+fn is_wanted(at: At<'_>, value: &Value) -> bool
+    ensures { result ≡ is_wanted (spot_at at.entry) (view value.now) }
+{
+    match at {
+        At::TopKey(_) | At::TableKey(_, _) => true,
+        At::Units | At::Alternatives(_) | At::Alternative(_, _) => value.as_array().is_some(),
+        At::Unit(_) => value.as_str().is_some(),
+        At::Registers | At::Latency(_) => value.as_integer().is_some(),
+        At::Ops | At::Table(_) => value.as_table().is_some(),
+        At::Row(_, _, _) => row_words(value).is_some(),
+    }
+}
+
+/// Whether a value of that type is within its limits.
+fn is_within(at: At<'_>, value: &Value) -> bool
+    ensures { result ≡ is_within (spot_at at.entry) (view value.now) }
+{
+    match at {
+        At::Units => counts(value, MAX_UNITS),
+        At::Unit(_) => is_name(value),
+        At::Registers => measures(value, MAX_REGISTERS),
+        At::Latency(_) => measures(value, MAX_LATENCY as u16),
+        At::Alternatives(_) => counts(value, MAX_ALTERNATIVES),
+        At::Alternative(_, _) => counts(value, MAX_ROWS),
+        At::Row(_, _, _) => near_row(value).is_some(),
+        At::TopKey(_) | At::TableKey(_, _) | At::Ops | At::Table(_) => true,
+    }
+}
+
+/// The limit that a value there has to keep.
+fn limit_of(at: At<'_>) -> &'static str
+    ensures { result.now ≡ limit_of (spot_at at.entry) }
+{
+    match at {
+        At::Units => "units",
+        At::Unit(_) => "unit name",
+        At::Registers => "registers",
+        At::Latency(_) => "latency",
+        At::Alternatives(_) => "alternatives",
+        At::Alternative(_, _) => "rows",
+        At::Row(_, _, _) => "offset",
+        At::TopKey(_) | At::TableKey(_, _) | At::Ops | At::Table(_) => "text",
+    }
+}
+
+/// Tells a fault of a value of a text.
+pub(crate) fn tell(
+    alloc: Global,
+    lints: &mut Vec<MachineLint>,
+    text: &[u8],
+    at: At<'_>,
+    value: &Value,
+    fault: MachineFault,
+) -> Result<(), OutOfMemory>
+    requires short { length text.now < 2 ^ 32 }
+    ensures { OnOk result (lints.new.items ≡ lints.old.items ++ told text.now (spot_at at.entry) (view value.now) fault ∷ []) }
+{
+    let place = place_of(text, at);
+    let spot = at.to_spot(alloc)?;
+    let found = shown(alloc, value)?;
+    lints.push(MachineLint {
+        line: place.line,
+        column: place.column,
+        spot,
+        found,
+        fault,
+    })?;
+    Ok(())
+}
+
+/// Tells that a key is missing.
+fn miss(alloc: Global, lints: &mut Vec<MachineLint>, at: At<'_>) -> Result<(), OutOfMemory>
+    ensures { OnOk result (lints.new.items ≡ lints.old.items ++ missed (spot_at at.entry) ∷ []) }
+{
+    let spot = at.to_spot(alloc)?;
+    let fault = MachineFault::MissingKey(at.to_key(alloc)?);
+    lints.push(MachineLint {
+        line: 0,
+        column: 0,
+        spot,
+        found: Found::Nothing,
+        fault,
+    })?;
+    Ok(())
+}
+
+/// Tells that a value has a wrong type.
+fn tell_type(
+    alloc: Global,
+    lints: &mut Vec<MachineLint>,
+    text: &[u8],
+    at: At<'_>,
+    value: &Value,
+) -> Result<(), OutOfMemory>
+    requires short { length text.now < 2 ^ 32 }
+    ensures { OnOk result (lints.new.items ≡ lints.old.items ++ told text.now (spot_at at.entry) (view value.now) (WrongType (key_of (spot_at at.entry))) ∷ []) }
+{
+    let fault = MachineFault::WrongType(at.to_key(alloc)?);
+    tell(alloc, lints, text, at, value, fault)
+}
+
+/// Tells that a value is outside its limits.
+fn tell_limit(
+    alloc: Global,
+    lints: &mut Vec<MachineLint>,
+    text: &[u8],
+    at: At<'_>,
+    value: &Value,
+) -> Result<(), OutOfMemory>
+    requires short { length text.now < 2 ^ 32 }
+    ensures { OnOk result (lints.new.items ≡ lints.old.items ++ told text.now (spot_at at.entry) (view value.now) (Limit (limit_of (spot_at at.entry))) ∷ []) }
+{
+    let fault = MachineFault::Limit(key(alloc, limit_of(at))?);
+    tell(alloc, lints, text, at, value, fault)
+}
+
+/// Tells a key that means nothing.
+pub(crate) fn tell_key(
+    alloc: Global,
+    lints: &mut Vec<MachineLint>,
+    text: &[u8],
+    at: At<'_>,
+    value: &Value,
+) -> Result<(), OutOfMemory>
+    requires short { length text.now < 2 ^ 32 }
+    ensures { OnOk result (lints.new.items ≡ lints.old.items ++ told text.now (spot_at at.entry) (view value.now) (UnknownKey (key_of (spot_at at.entry))) ∷ []) }
+{
+    let fault = MachineFault::UnknownKey(at.to_key(alloc)?);
+    tell(alloc, lints, text, at, value, fault)
+}
+
+/// Tells a row that an earlier one repeats.
+pub(crate) fn tell_repeat(
+    alloc: Global,
+    lints: &mut Vec<MachineLint>,
+    text: &[u8],
+    at: At<'_>,
+    value: &Value,
+) -> Result<(), OutOfMemory>
+    requires short { length text.now < 2 ^ 32 }
+    ensures { OnOk result (lints.new.items ≡ lints.old.items ++ told text.now (spot_at at.entry) (view value.now) (RepeatedRow (key_of (spot_at at.entry))) ∷ []) }
+{
+    let fault = MachineFault::RepeatedRow(at.to_key(alloc)?);
+    tell(alloc, lints, text, at, value, fault)
+}
+
+/// Tells whether a value is missing, or of a wrong type, or outside its limits.
+#[tactic(auto, unfolding(crate::specs::Tree::value_told))]
+pub(crate) fn judge_value(
+    alloc: Global,
+    lints: &mut Vec<MachineLint>,
+    text: &[u8],
+    at: At<'_>,
+    value: Option<&Value>,
+) -> Result<(), OutOfMemory>
+    requires short { length text.now < 2 ^ 32 }
+    ensures { OnOk result (lints.new.items ≡ lints.old.items ++ value_told text.now (spot_at at.entry) (option_map (λ v. view v.now) value.entry)) }
+{
+    let Some(value) = value else {
+        return miss(alloc, lints, at);
+    };
+    if !is_wanted(at, value) {
+        return tell_type(alloc, lints, text, at, value);
+    }
+    if !is_within(at, value) {
+        return tell_limit(alloc, lints, text, at, value);
+    }
+    Ok(())
+}
+
+/// Whether two values are the same text.
+pub(crate) fn same_text(value: &Value, other: &Value) -> bool
+    ensures { result ≡ same_text (view value.now) (view other.now) }
+{
+    match (value.as_str(), other.as_str()) {
+        (Some(text), Some(same)) => text == same,
+        _ => false,
+    }
+}
+
+/// Whether two rows have the same unit and the same offset.
+pub(crate) fn same_row(value: &Value, other: &Value) -> bool
+    ensures { result ≡ same_words (row_words_in (view value.now)) (row_words_in (view other.now)) }
+{
+    match (near_row(value), near_row(other)) {
+        (Some((unit, offset)), Some((same, at))) => unit == same && offset == at,
+        _ => false,
+    }
+}
+
+/// Whether a value is this text.
+fn is_text(value: &Value, text: &str) -> bool
+    ensures { result ≡ same_text (string text.now) (view value.now) }
+{
+    match value.as_str() {
+        Some(own) => text == own,
+        None => false,
+    }
+}
+
+/// Whether the units have one of this name. Where no units are given none is missed.
+pub(crate) fn is_unit_of(units: Option<&Value>, name: &str) -> bool
+    ensures { result ≡ is_unit_of (option_map (λ v. view v.now) units.entry) name.now }
+{
+    let Some(units) = units else {
+        return true;
+    };
+    match units.as_array() {
+        Some(units) => is_among(units, name),
+        None => true,
+    }
+}
+
+/// Whether one of these values is this text.
+fn is_among(values: &[Value], name: &str) -> bool
+    ensures { result ≡ list_any (λ v. same_text (string name.now) (view v)) values.now }
+{
+    values.iter().any(|value| is_text(value, name))
+}

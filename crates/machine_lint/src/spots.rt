@@ -1,0 +1,153 @@
+//! Where in the tree of a machine text something stands, and what stands there.
+
+ghost use Rattle.std.specs.Prelude.{◌≡◌, IfOk};
+ghost use Rattle.machine_lint.specs.Spots.{key_of, shown};
+ghost use Rattle.machine_lint.specs.inner.Ats.{spot_at};
+ghost use Rattle.machine.specs.MachineText.{path_in, path_of};
+ghost use Rattle.toml.specs.View.{view};
+
+use machine::{Key, OutOfMemory};
+use std::alloc::Global;
+use toml::Value;
+
+/// Where in the tree of a machine text a fault is. Elements of arrays are counted from 0.
+#[derive(Debug, Drop)]
+pub enum Spot {
+    /// The text as a whole.
+    Whole,
+    /// A key at the top that means nothing.
+    TopKey(Key),
+    /// The key `units`.
+    Units,
+    /// An element of `units`.
+    Unit(usize),
+    /// The key `registers`.
+    Registers,
+    /// The key `ops`.
+    Ops,
+    /// The table of a word in `ops`, which is an opcode or not.
+    Table(Key),
+    /// A key that means nothing, in the table of a word.
+    TableKey(Key, Key),
+    /// The key `latency` in the table of a word.
+    Latency(Key),
+    /// The key `alts` in the table of a word.
+    Alternatives(Key),
+    /// An element of `alts` in the table of a word.
+    Alternative(Key, usize),
+    /// A row of an alternative in the table of a word.
+    Row(Key, usize, usize),
+}
+
+/// What stands in the text where a fault is, if it is short.
+#[derive(Debug, Drop)]
+pub enum Found {
+    /// Nothing, or what is none of the others.
+    Nothing,
+    /// A text.
+    Word(Key),
+    /// An integer.
+    Number(i64),
+    /// An array with so many elements.
+    Elements(usize),
+}
+
+/// Where in the tree something stands that has no fault yet.
+#[derive(Clone, Copy)]
+pub(crate) enum At<'a> {
+    TopKey(&'a str),
+    Units,
+    Unit(usize),
+    Registers,
+    Ops,
+    Table(&'a str),
+    TableKey(&'a str, &'a str),
+    Latency(&'a str),
+    Alternatives(&'a str),
+    Alternative(&'a str, usize),
+    Row(&'a str, usize, usize),
+}
+
+/// A key with this text.
+pub(crate) fn key(alloc: Global, text: &str) -> Result<Key, OutOfMemory>
+    ensures { IfOk result (λ key. key ≡ text.now) }
+{
+    Ok(Key::new(String::from_str(alloc, text)?))
+}
+
+/// The key of the table of a word.
+fn table_key(alloc: Global, word: &str) -> Result<Key, OutOfMemory>
+    ensures { IfOk result (λ key. key ≡ path_of word.now) }
+{
+    let mut text = String::new(alloc);
+    text.push_str("ops.")?;
+    text.push_str(word)?;
+    Ok(Key::new(text))
+}
+
+/// The key of a key in the table of a word.
+fn inner_key(alloc: Global, word: &str, name: &str) -> Result<Key, OutOfMemory>
+    ensures { IfOk result (λ key. key ≡ path_in word.now name.now) }
+{
+    let mut text = String::new(alloc);
+    text.push_str("ops.")?;
+    text.push_str(word)?;
+    text.push_str(".")?;
+    text.push_str(name)?;
+    Ok(Key::new(text))
+}
+
+impl<'a> At<'a> {
+    /// The same, to be kept.
+    pub(crate) fn to_spot(self, alloc: Global) -> Result<Spot, OutOfMemory>
+        ensures { IfOk result (λ spot. spot ≡ spot_at self.entry) }
+    {
+        Ok(match self {
+            At::TopKey(name) => Spot::TopKey(key(alloc, name)?),
+            At::Units => Spot::Units,
+            At::Unit(index) => Spot::Unit(index),
+            At::Registers => Spot::Registers,
+            At::Ops => Spot::Ops,
+            At::Table(word) => Spot::Table(key(alloc, word)?),
+            At::TableKey(word, name) => Spot::TableKey(key(alloc, word)?, key(alloc, name)?),
+            At::Latency(word) => Spot::Latency(key(alloc, word)?),
+            At::Alternatives(word) => Spot::Alternatives(key(alloc, word)?),
+            At::Alternative(word, index) => Spot::Alternative(key(alloc, word)?, index),
+            At::Row(word, alternative, row) => Spot::Row(key(alloc, word)?, alternative, row),
+        })
+    }
+
+    /// The key at which the reader of machine texts tells a fault there.
+    pub(crate) fn to_key(self, alloc: Global) -> Result<Key, OutOfMemory>
+        ensures { IfOk result (λ key. key ≡ key_of (spot_at self.entry)) }
+    {
+        match self {
+            At::TopKey(name) => key(alloc, name),
+            At::Units | At::Unit(_) => key(alloc, "units"),
+            At::Registers => key(alloc, "registers"),
+            At::Ops => key(alloc, "ops"),
+            At::Table(word) => table_key(alloc, word),
+            At::TableKey(word, name) => inner_key(alloc, word, name),
+            At::Latency(word) => inner_key(alloc, word, "latency"),
+            At::Alternatives(word) | At::Alternative(word, _) | At::Row(word, _, _) => {
+                inner_key(alloc, word, "alts")
+            }
+        }
+    }
+}
+
+/// What is shown of a value.
+pub(crate) fn shown(alloc: Global, value: &Value) -> Result<Found, OutOfMemory>
+    ensures { IfOk result (λ found. found ≡ shown (view value.now)) }
+{
+    if let Some(text) = value.as_str() {
+        return Ok(Found::Word(key(alloc, text)?));
+    }
+    if let Some(number) = value.as_integer() {
+        return Ok(Found::Number(number));
+    }
+    if let Some(elements) = value.as_array() {
+        return Ok(Found::Elements(elements.len()));
+    }
+    Ok(Found::Nothing)
+}
