@@ -162,8 +162,21 @@ options, on the machine and on variants of it, and prints
   -                                       such a machine would pass a limit
 
 A variant that has no line leaves the interval of the loop as it is. The last line, loops A met B failed F,
-has the numbers of loops, of those with a kernel on the machine as it is and of those without. One thread does
-the work, so that workers and the cut change nothing here.";
+has the numbers of loops, of those with a kernel on the machine as it is and of those without.
+
+With --total prints of all loops together, where SUM is the sum of the intervals of those that have a kernel
+and F the number of the others:
+
+  total loops N ii SUM failed F           on the machine as it is
+  VARIANT ii SUM failed F shorter A longer B
+                                          on each variant that a loop may feel: A loops have a shorter interval
+                                          there, and B a longer one
+
+With --format json prints what is found of each loop as one JSON document, on one line: an object with
+`failed`, `loops`, `met` and `version`, which is 1. A loop is an object with `ii`, `mii`, `name`, `operations`,
+`registers` and `variants`.
+
+A thread takes one loop after another, so the cut changes nothing here.";
 
 pub(crate) const BOUNDS_ABOUT: &str = "Print lower bounds on each loop's initiation interval";
 
