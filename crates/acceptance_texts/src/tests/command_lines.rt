@@ -8,55 +8,65 @@ use std::test::Fail;
 const LINES: &[(&[&str], &str)] = &[
     (
         &["bounds", "m.toml", "l.txt"],
-        "Loops { loops: \"l.txt\", work: OnMachine { machine: \"m.toml\", task: Bounds } }",
+        "Loops { loops: \"l.txt\", names: [], work: OnMachine { machine: \"m.toml\", task: Bounds } }",
     ),
     (
         &["bounds", "--", "-m", "--help"],
-        "Loops { loops: \"--help\", work: OnMachine { machine: \"-m\", task: Bounds } }",
+        "Loops { loops: \"--help\", names: [], work: OnMachine { machine: \"-m\", task: Bounds } }",
     ),
     (
         &["bounds", "-", "a b/\u{e9} #"],
-        "Loops { loops: \"a b/\u{e9} #\", work: OnMachine { machine: \"-\", task: Bounds } }",
+        "Loops { loops: \"a b/\u{e9} #\", names: [], work: OnMachine { machine: \"-\", task: Bounds } }",
     ),
     (
         &["edges", "m", "l"],
-        "Loops { loops: \"l\", work: OnMachine { machine: \"m\", task: Edges } }",
+        "Loops { loops: \"l\", names: [], work: OnMachine { machine: \"m\", task: Edges } }",
     ),
     (
         &["dot", "m", "l"],
-        "Loops { loops: \"l\", work: OnMachine { machine: \"m\", task: Dot } }",
+        "Loops { loops: \"l\", names: [], work: OnMachine { machine: \"m\", task: Dot } }",
     ),
     (
         &["plain", "l", "--trip", "100000"],
-        "Loops { loops: \"l\", work: Plain { trip: 100000, workers: 4 } }",
+        "Loops { loops: \"l\", names: [], work: Plain { trip: 100000, workers: 4 } }",
     ),
     (
         &["plain", "--workers", "+64", "--trip=00099999", "plain"],
-        "Loops { loops: \"plain\", work: Plain { trip: 99999, workers: 64 } }",
+        "Loops { loops: \"plain\", names: [], work: Plain { trip: 99999, workers: 64 } }",
     ),
     (
         &["schedule", "m", "l"],
-        "Loops { loops: \"l\", work: OnMachine { machine: \"m\", task: Search(Settings { ratio: 6, ceiling: 32, workers: 4, cut: 4 }, Schedule) } }",
+        "Loops { loops: \"l\", names: [], work: OnMachine { machine: \"m\", task: Search(Settings { ratio: 6, ceiling: 32, workers: 4, cut: 4 }, Schedule) } }",
+    ),
+    (
+        &[
+            "schedule", "m", "l", "--format", "json", "--loop", "b", "--loop=a", "--loop", "b",
+        ],
+        "Loops { loops: \"l\", names: [\"b\", \"a\", \"b\"], work: OnMachine { machine: \"m\", task: Search(Settings { ratio: 6, ceiling: 32, workers: 4, cut: 4 }, Json) } }",
+    ),
+    (
+        &["vary", "m", "l", "--total"],
+        "Loops { loops: \"l\", names: [], work: OnMachine { machine: \"m\", task: Search(Settings { ratio: 6, ceiling: 32, workers: 4, cut: 4 }, Total) } }",
     ),
     (
         &["schedule", "m", "l", "--cut=1", "--workers=64", "--ratio=1"],
-        "Loops { loops: \"l\", work: OnMachine { machine: \"m\", task: Search(Settings { ratio: 1, ceiling: 32, workers: 64, cut: 1 }, Schedule) } }",
+        "Loops { loops: \"l\", names: [], work: OnMachine { machine: \"m\", task: Search(Settings { ratio: 1, ceiling: 32, workers: 64, cut: 1 }, Schedule) } }",
     ),
     (
         &["json", "--ratio", "64", "m", "l", "--ceiling", "255"],
-        "Loops { loops: \"l\", work: OnMachine { machine: \"m\", task: Search(Settings { ratio: 64, ceiling: 255, workers: 4, cut: 4 }, Json) } }",
+        "Loops { loops: \"l\", names: [], work: OnMachine { machine: \"m\", task: Search(Settings { ratio: 64, ceiling: 255, workers: 4, cut: 4 }, Json) } }",
     ),
     (
         &["explain", "m", "--workers", "+1", "l", "--cut", "256"],
-        "Loops { loops: \"l\", work: OnMachine { machine: \"m\", task: Search(Settings { ratio: 6, ceiling: 32, workers: 1, cut: 256 }, Explain) } }",
+        "Loops { loops: \"l\", names: [], work: OnMachine { machine: \"m\", task: Search(Settings { ratio: 6, ceiling: 32, workers: 1, cut: 256 }, Explain) } }",
     ),
     (
         &["vary", "m", "--ratio", "3", "l"],
-        "Loops { loops: \"l\", work: OnMachine { machine: \"m\", task: Search(Settings { ratio: 3, ceiling: 32, workers: 4, cut: 4 }, Vary) } }",
+        "Loops { loops: \"l\", names: [], work: OnMachine { machine: \"m\", task: Search(Settings { ratio: 3, ceiling: 32, workers: 4, cut: 4 }, Vary(Text)) } }",
     ),
     (
         &["run", "--ceiling", "0", "m", "--trip", "+7", "--", "l"],
-        "Loops { loops: \"l\", work: OnMachine { machine: \"m\", task: Search(Settings { ratio: 6, ceiling: 0, workers: 4, cut: 4 }, Run(7)) } }",
+        "Loops { loops: \"l\", names: [], work: OnMachine { machine: \"m\", task: Search(Settings { ratio: 6, ceiling: 0, workers: 4, cut: 4 }, Run(7)) } }",
     ),
     (
         &["solve", "p"],
@@ -78,14 +88,17 @@ const LINES: &[(&[&str], &str)] = &[
         ],
         "Solve { problems: \"p\", settings: Settings { ratio: 2, ceiling: 0, workers: 1, cut: 256 }, format: Json }",
     ),
-    (&["lint", "l"], "Lint(Loops { loops: \"l\" })"),
     (
-        &["lint", "m", "l"],
-        "Lint(Both { machine: \"m\", loops: \"l\" })",
+        &["lint", "l"],
+        "Lint { texts: Loops { loops: \"l\" }, format: Text }",
     ),
     (
-        &["lint", "--machine-only", "m"],
-        "Lint(Machine { machine: \"m\" })",
+        &["lint", "m", "l"],
+        "Lint { texts: Both { machine: \"m\", loops: \"l\" }, format: Text }",
+    ),
+    (
+        &["lint", "--machine-only", "m", "--format=json"],
+        "Lint { texts: Machine { machine: \"m\" }, format: Json }",
     ),
     (
         &["check", "--", "check", "--cut"],
