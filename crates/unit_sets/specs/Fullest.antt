@@ -4,6 +4,7 @@ use Rattle.std.specs.Int.{bit_at}
 use Rattle.std.specs.List.{All, Contains, flat_map, fold, range_with_len, slice_index_or}
 use Rattle.machine_data.specs.Alternative.{AreAlternatives}
 use Rattle.machine_data.specs.declared.alternative.Row.{Row}
+use Rattle.machine_data.specs.declared.limits.TheConstants.{MAX_UNITS}
 use Rattle.graph.specs.Dependences.{EdgeData}
 use Rattle.graph.specs.Schedules.{IsLawfulSchedule}
 use Rattle.unit_sets.specs.declared.fullest.UnitSet.{UnitSet}
@@ -14,9 +15,9 @@ use Rattle.unit_sets.specs.Sets.{is_in, set_rows}
 abbrev pub has_unit : ℕ → ℕ → Bool
 has_unit set unit = bit_at set unit == 1
 
--- the units of the set, of 0 to 63, in increasing order
+-- the units of the set, in increasing order
 unfoldable pub units_in : ℕ → List ℕ
-units_in set = filter (has_unit set) (range_with_len 0 64)
+units_in set = filter (has_unit set) (range_with_len 0 MAX_UNITS)
 
 -- the set with the unit of a row
 abbrev pub with_row : ℕ → Row → ℕ
