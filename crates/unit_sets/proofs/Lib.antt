@@ -3,3 +3,4 @@ pub mod Listed
 pub mod Added
 pub mod Leading
 pub mod Bounds
+pub mod Used

@@ -1,21 +1,23 @@
 -- The fullest of the sets of units that are looked at. Such a set is a word: its bit u tells whether unit u is one of the set.
-use Rattle.std.specs.Prelude.{◌≡◌, ℕ, ◌+◌, ◌-◌, ◌*◌, ◌/◌, ◌^◌, ◌<◌, ◌≤◌, ◌==◌, Bool, zero, suc, List, [], ◌∷◌, ◌++◌, length, filter, map, take, drop, bit_or}
+use Rattle.std.specs.Prelude.{◌≡◌, ℕ, ◌+◌, ◌-◌, ◌*◌, ◌/◌, ◌^◌, ◌<◌, ◌≤◌, ◌==◌, Bool, true, zero, suc, List, [], ◌∷◌, ◌++◌, length, filter, map, take, drop, bit_or}
 use Rattle.std.specs.Int.{bit_at}
-use Rattle.std.specs.List.{Contains, flat_map, fold, range_with_len, slice_index_or}
+use Rattle.std.specs.List.{All, Contains, flat_map, fold, range_with_len, slice_index_or}
+use Rattle.machine_data.specs.Alternative.{AreAlternatives}
 use Rattle.machine_data.specs.declared.alternative.Row.{Row}
+use Rattle.machine_data.specs.declared.limits.TheConstants.{MAX_UNITS}
 use Rattle.graph.specs.Dependences.{EdgeData}
 use Rattle.graph.specs.Schedules.{IsLawfulSchedule}
 use Rattle.unit_sets.specs.declared.fullest.UnitSet.{UnitSet}
 use Rattle.unit_sets.specs.declared.TheConstants.{PARTS, ROUNDS}
-use Rattle.unit_sets.specs.Sets.{set_rows}
+use Rattle.unit_sets.specs.Sets.{is_in, set_rows}
 
 -- whether a unit is one of the set
 abbrev pub has_unit : ℕ → ℕ → Bool
 has_unit set unit = bit_at set unit == 1
 
--- the units of the set, of 0 to 63, in increasing order
+-- the units of the set, in increasing order
 unfoldable pub units_in : ℕ → List ℕ
-units_in set = filter (has_unit set) (range_with_len 0 64)
+units_in set = filter (has_unit set) (range_with_len 0 MAX_UNITS)
 
 -- the set with the unit of a row
 abbrev pub with_row : ℕ → Row → ℕ
@@ -82,3 +84,12 @@ pub record FullestIsBound : Type 0 where
       → need_of operations other ≤ set.need
   pub bound : (operations : List (List (List Row))) (set : UnitSet) (edges : List EdgeData) (ii : ℕ) (times choices : List ℕ) → IsFullest operations set → 0 < ii
       → IsLawfulSchedule ii operations edges times choices → set.need ≤ ii
+
+-- a row of an alternative of some operation is of the unit
+abbrev pub IsUsed : List (List (List Row)) → ℕ → Type 0
+IsUsed operations unit = Contains (map (λ (r : Row). r.unit) (flat_map all_rows operations)) unit
+
+-- where there are operations, the fullest set has units, and all of them are used
+abbrev pub FullestIsUsed : Type 0
+FullestIsUsed = (operations : List (List (List Row))) (set : UnitSet) → All AreAlternatives operations → 0 < length operations → IsFullest operations set
+    → (0 < length (units_in set.units)) × ((unit : ℕ) → is_in (units_in set.units) unit ≡ true → IsUsed operations unit)

@@ -1,7 +1,7 @@
 //! The fullest set of units of operations.
 
 ghost use Rattle.std.specs.Prelude.{[], ◌≡◌, ◌+◌, ◌-◌, ◌/◌, ◌<◌, ◌≤◌, IfOk, length};
-ghost use Rattle.machine_data.specs.declared.limits.TheConstants.{MAX_STATEMENTS};
+ghost use Rattle.machine_data.specs.declared.limits.TheConstants.{MAX_STATEMENTS, MAX_UNITS};
 ghost use Rattle.unit_sets.specs.Fullest.{IsFullest, IsFullestWith, first_sets as the_first_sets, units_in};
 ghost use Rattle.unit_sets.specs.Sets.{is_in};
 ghost use Rattle.unit_sets.specs.inner.Added.{IsAdded};
@@ -39,13 +39,13 @@ impl UnitSet {
 /// Of the unions of a set with the first sets the one that leads.
 fn fullest_with<O: Offers>(operations: &O, sets: &[u64], before: u64) -> Rated
     requires sound { O.sound operations.now }
-    requires count { length (O.operations operations.now) ≤ 128 }
+    requires count { length (O.operations operations.now) ≤ MAX_STATEMENTS }
     requires some { 0 < length sets.now }
     requires sets { IsAdded [] (the_first_sets (O.operations operations.now)) sets.now }
     ensures fullest { IsFullestWith (O.operations operations.now) before result.units }
     ensures rated { IsRated (O.operations operations.now) result }
     ensures few { result.rows ≤ 2048 }
-    ensures small { result.size ≤ 64 }
+    ensures small { result.size ≤ MAX_UNITS }
 {
     let mut best = rating_of(before | sets[0], operations);
     for number in 1..sets.len() {
@@ -60,7 +60,7 @@ fn fullest_with<O: Offers>(operations: &O, sets: &[u64], before: u64) -> Rated
 /// The set that is reached after all rounds.
 fn fullest_of<O: Offers>(operations: &O, sets: &[u64]) -> UnitSet
     requires sound { O.sound operations.now }
-    requires count { length (O.operations operations.now) ≤ 128 }
+    requires count { length (O.operations operations.now) ≤ MAX_STATEMENTS }
     requires some { 0 < length sets.now }
     requires sets { IsAdded [] (the_first_sets (O.operations operations.now)) sets.now }
     ensures { IsFullest (O.operations operations.now) result }
@@ -79,7 +79,7 @@ fn fullest_of<O: Offers>(operations: &O, sets: &[u64]) -> UnitSet
 /// The least number of cycles in which so many units have so many slots.
 fn need_of(rows: u16, units: u32) -> u16
     requires few { rows ≤ 2048 }
-    requires size { units ≤ 64 }
+    requires size { units ≤ MAX_UNITS }
     ensures { result ≡ (rows + (units - 1)) / units }
 {
     if units == 0 {

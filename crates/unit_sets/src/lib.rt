@@ -9,7 +9,7 @@ mod rating;
 mod units;
 
 pub use fullest::{UnitSet, fullest_set};
-pub use laws::{fullest_is_bound, schedules_keep_sets};
+pub use laws::{fullest_is_bound, fullest_is_used, schedules_keep_sets};
 
 /// In how many parts a row is counted where the rows for each unit of sets are compared. It is so great that no two fractions whose
 /// denominators are at most 64 give the same number of parts.

@@ -3,6 +3,7 @@
 ghost use Rattle.std.specs.Prelude.{◌≡◌, ◌≤◌, List, length, true, false};
 ghost use Rattle.machine_data.specs.Alternative.{AreAlternatives};
 ghost use Rattle.machine_data.specs.declared.alternative.Row.{Row};
+ghost use Rattle.machine_data.specs.declared.limits.TheConstants.{MAX_ROWS, MAX_STATEMENTS, MAX_UNITS};
 ghost use Rattle.unit_sets.specs.Sets.{rows_in as the_rows_in, least_rows as the_least_rows, set_rows as the_set_rows};
 ghost use Rattle.unit_sets.specs.Fullest.{Leads, fill_of, units_in};
 ghost use Rattle.unit_sets.specs.inner.Rated.{IsRated};
@@ -14,9 +15,9 @@ use machine_data::{Alternative, Row};
 
 /// How many of at most 16 rows are of units of a set.
 fn rows_in(set: u64, rows: &[Row]) -> u16
-    requires { length rows.now ≤ 16 }
+    requires { length rows.now ≤ MAX_ROWS }
     ensures exact { result ≡ the_rows_in (units_in set) rows.now }
-    ensures few { result ≤ 16 }
+    ensures few { result ≤ MAX_ROWS }
 {
     let mut count = 0;
     for row in rows {
@@ -31,7 +32,7 @@ fn rows_in(set: u64, rows: &[Row]) -> u16
 fn least_rows(set: u64, alternatives: &[Alternative]) -> u16
     requires { AreAlternatives alternatives.now }
     ensures exact { result ≡ the_least_rows (units_in set) alternatives.now }
-    ensures few { result ≤ 16 }
+    ensures few { result ≤ MAX_ROWS }
 {
     let mut least = rows_in(set, alternatives[0].rows());
     for number in 1..alternatives.len() {
@@ -43,7 +44,7 @@ fn least_rows(set: u64, alternatives: &[Alternative]) -> u16
 /// How many rows of units of a set at most 128 operations have at least: at most 2,048.
 fn set_rows<O: Offers>(set: u64, operations: &O) -> u16
     requires sound { O.sound operations.now }
-    requires count { length (O.operations operations.now) ≤ 128 }
+    requires count { length (O.operations operations.now) ≤ MAX_STATEMENTS }
     ensures exact { result ≡ the_set_rows (units_in set) (O.operations operations.now) }
     ensures few { result ≤ 2048 }
 {
@@ -66,11 +67,11 @@ pub(crate) struct Rated {
 /// A set with how full it is.
 pub(crate) fn rating_of<O: Offers>(units: u64, operations: &O) -> Rated
     requires sound { O.sound operations.now }
-    requires count { length (O.operations operations.now) ≤ 128 }
+    requires count { length (O.operations operations.now) ≤ MAX_STATEMENTS }
     ensures rated { IsRated (O.operations operations.now) result }
     ensures same { result.units ≡ units }
     ensures few { result.rows ≤ 2048 }
-    ensures small { result.size ≤ 64 }
+    ensures small { result.size ≤ MAX_UNITS }
 {
     let rows = set_rows(units, operations);
     let size = size(units);

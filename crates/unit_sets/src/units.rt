@@ -22,7 +22,7 @@ pub(crate) fn has(set: u64, unit: u8) -> bool
 /// How many units a set has.
 pub(crate) fn size(set: u64) -> u32
     ensures number { result ≡ length (units_in set) }
-    ensures few { result ≤ 64 }
+    ensures few { result ≤ MAX_UNITS }
 {
     set.count_ones()
 }
