@@ -1,7 +1,7 @@
 -- What is found on the variants that concern a loop.
 use Rattle.std.proofs.Common.{◌≡◌, Bool, true, false, cond, List, [], ◌∷◌, ◌++◌, filter, refl, sym, ap, ap₂, ◌∙◌, subst}
 use Rattle.std.specs.Prelude.{Option, Some, None}
-use Rattle.std.specs.List.{AllZip, flat_map, zip}
+use Rattle.std.specs.List.{AllZip}
 use Rattle.machine_data.specs.Machines.{MachineData}
 use Rattle.ims.specs.Problems.{ProblemData}
 use Rattle.machine_variants.specs.declared.variant.Variant.{Variant}

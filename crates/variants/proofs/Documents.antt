@@ -1,7 +1,7 @@
 -- The document of loops by what is found of them.
-use Rattle.std.proofs.Common.{◌≡◌, ℕ, ◌+◌, cond, List, [], ◌∷◌, ◌++◌, filter, map, refl, sym, ap, ap₂, ◌∙◌}
+use Rattle.std.proofs.Common.{◌≡◌, ℕ, ◌+◌, cond, List, [], ◌∷◌, ◌++◌, map, refl, sym, ap, ap₂, ◌∙◌}
 use Rattle.std.specs.Prelude.{◌==◌, Bool, codes, count_by, not, length}
-use Rattle.std.specs.List.{AllZip, flat_map, zip}
+use Rattle.std.specs.List.{AllZip, zip}
 use Rattle.std.proofs.lemmas.List.Concat.{flat_map_single}
 use Rattle.std.proofs.lemmas.List.Sums.{sum_by-cons}
 use Rattle.serde_json.specs.Data.{Data, string, array, object, member, no_members}
@@ -11,11 +11,11 @@ use Rattle.machine_data.specs.Machines.{MachineData}
 use Rattle.ims.specs.Problems.{ProblemData, mii_of}
 use Rattle.printouts.specs.Outcomes.{Written}
 use Rattle.machine_variants.specs.declared.variant.Variant.{Variant}
-use Rattle.machine_variants.specs.Variants.{concerns, variants_for, variants_of}
+use Rattle.machine_variants.specs.Variants.{variants_for, variants_of}
 use Rattle.variants.specs.declared.found.finding.Finding.{Finding}
 use Rattle.variants.specs.declared.found.finding.Standing.{Standing}
 use Rattle.variants.specs.declared.found.finding.LoopFindings.{LoopFindings}
-use Rattle.variants.specs.Documents.{FoundData, IsDocumentOf, IsFoundOf, count_value, document_of, least_value, loop_object, number_failed, number_met, own_value, variant_object, variant_objects}
+use Rattle.variants.specs.Documents.{FoundData, IsDocumentOf, IsFoundOf, count_value, document_of, least_value, loop_object, own_value, variant_object, variant_objects}
 use Rattle.variants.specs.Findings.{AreFindings}
 use Rattle.variants.specs.Texts.{is_met}
 use Rattle.variants.specs.inner.Told.{found_object, found_objects, part_object, parts_object}

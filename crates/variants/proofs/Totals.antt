@@ -1,5 +1,5 @@
 -- What variants bring the loops of a file in all, by what is found of each loop.
-use Rattle.std.proofs.Common.{◌≡◌, ℕ, zero, suc, ◌+◌, ◌*◌, ◌^◌, ◌<◌, ◌≤◌, Bool, true, false, cond, ◌||◌, ◌&&◌, List, [], ◌∷◌, ◌++◌, filter, length, get_or, map, refl, sym, ap, ap₂, ◌∙◌, subst, append_assoc, zero-add, arith}
+use Rattle.std.proofs.Common.{◌≡◌, ℕ, zero, suc, ◌+◌, ◌*◌, ◌^◌, ◌<◌, ◌≤◌, Bool, true, false, cond, ◌||◌, ◌&&◌, List, [], ◌∷◌, ◌++◌, length, get_or, map, refl, sym, ap, ap₂, ◌∙◌, subst, zero-add, arith}
 use Rattle.std.specs.Prelude.{◌==◌, codes, count_by, if◌then◌else◌, Option, Some, None, is_none, is_some, slice_get}
 use Rattle.std.specs.List.{All, AllZip, flat_map, list_any, range_with_len, sum_by, zip}
 use Rattle.std.proofs.lemmas.List.{get_or_default}
@@ -12,7 +12,6 @@ use Rattle.machine_data.specs.declared.limits.TheConstants.{MAX_INTERVAL, MAX_LO
 use Rattle.graph_text.specs.Texts.{AreTexts}
 use Rattle.writing.specs.Words.{last_line, told}
 use Rattle.ims.specs.Problems.{IsProblemOf, ProblemData}
-use Rattle.candidates.specs.declared.choices.Choice.TheVariants as choice
 use Rattle.printouts.specs.Outcomes.{Written}
 use Rattle.machine_variants.specs.declared.variant.Variant.{Variant}
 use Rattle.machine_variants.specs.Variants.{concerns, passes_limit, variants_of}
@@ -21,11 +20,11 @@ use Rattle.variants.specs.declared.found.finding.Standing.TheVariants as standin
 use Rattle.variants.specs.declared.found.finding.Finding.{Finding}
 use Rattle.variants.specs.declared.found.finding.Finding.TheVariants as finding
 use Rattle.variants.specs.declared.found.finding.LoopFindings.{LoopFindings}
-use Rattle.variants.specs.Intervals.{IsFinding, IsIntervalOf, IsIntervalOn, IsStanding, IsVariedInterval}
+use Rattle.variants.specs.Intervals.{IsIntervalOf, IsStanding, IsVariedInterval}
 use Rattle.variants.specs.Findings.{AreFindings, IsFoundOn}
 use Rattle.variants.specs.Texts.{variant_text}
 use Rattle.variants.specs.Totals.{AreTotals, IsTotalOf, IsTotalOn, change_text, concerns_some, cycles, is_longer, number_longer, sum_text}
-use Rattle.variants.specs.inner.Columns.{column_text, failed_at, interval_at, interval_in, interval_of, is_concerned, is_found, is_limit, is_past, longer_at, own_failed, own_interval, own_sum, shorter_at, sum_at, sums_text, total_line, total_lines}
+use Rattle.variants.specs.inner.Columns.{column_text, interval_at, interval_in, interval_of, is_concerned, is_found, is_limit, is_past, own_failed, own_interval, own_sum, sum_at, sums_text, total_line, total_lines}
 use Rattle.variants.proofs.Concerned.{left-out, taken}
 use Rattle.variants.proofs.Others.{others-change-nothing}
 use Rattle.variants.proofs.Zipped.{each-at}

@@ -1,5 +1,5 @@
 -- What is made of two lists, place by place, one place more at a time.
-use Rattle.std.proofs.Common.{◌≡◌, ℕ, zero, suc, ◌+◌, ◌<◌, ◌≤◌, List, [], ◌∷◌, ◌++◌, length, get_or, map, min, take, refl, sym, ap, ◌∙◌, subst, append_assoc, zero-add, arith}
+use Rattle.std.proofs.Common.{◌≡◌, ℕ, zero, suc, ◌+◌, ◌<◌, ◌≤◌, List, [], ◌∷◌, ◌++◌, length, get_or, min, take, sym, ap, ◌∙◌, subst, zero-add, arith}
 use Rattle.std.specs.List.{AllZip, flat_map, range_with_len, zip}
 use Rattle.std.proofs.lemmas.List.{append-nil, flat_map_more, get_or_default, take_all, take_more}
 use Rattle.std.proofs.lemmas.List.FromFn.{get_or-range_with_len, length-range_with_len}

@@ -71,6 +71,19 @@ registers 256 ii 96 failed 0 shorter 24 longer 0
 loops 48 met 48 failed 0
 ";
 
+/// The total where the least intervals alone are tried.
+const LEAST_ALONE: &str = "\
+total loops 48 ii 48 failed 24
+unit mem doubled ii 24 failed 24 shorter 24 longer 0
+unit alu doubled ii 48 failed 24 shorter 0 longer 0
+latency load 2 ii 48 failed 24 shorter 0 longer 0
+registers 1 ii 48 failed 24 shorter 0 longer 0
+registers 3 ii 96 failed 0 shorter 24 longer 0
+registers 4 ii 96 failed 0 shorter 24 longer 0
+registers 256 ii 96 failed 0 shorter 24 longer 0
+loops 48 met 24 failed 24
+";
+
 /// The object of the first loop, but for its name, in two parts.
 const SHIFT_OBJECT: [&str; 2] = [
     r#"{"ii":2,"mii":2,"name":"#,
@@ -152,9 +165,14 @@ fn told_document<R: Threads + Sync>(
     Ok(vary_document_on(rt, alloc, &machine, given(alloc)?, &settings)?)
 }
 
-/// The total by so many workers.
-fn told_total<R: Threads + Sync>(rt: &R, alloc: Global, workers: usize) -> Result<Printout, Fail> {
-    let settings = Settings::new(6, 32, workers, 4)?;
+/// The total by so many workers, where so many intervals above the least ones are tried.
+fn told_total<R: Threads + Sync>(
+    rt: &R,
+    alloc: Global,
+    workers: usize,
+    ceiling: u64,
+) -> Result<Printout, Fail> {
+    let settings = Settings::new(6, ceiling, workers, 4)?;
     let machine = machine(alloc)?;
     Ok(vary_total_on(rt, alloc, &machine, given(alloc)?, &settings)?)
 }
@@ -177,10 +195,19 @@ fn workers_change_no_text(rt: HostRuntime) -> Result<(), Fail> {
 fn workers_change_no_total(rt: HostRuntime) -> Result<(), Fail> {
     let alloc = rt.alloc();
     for workers in [1, 2, 3, 64] {
-        let told = told_total(&rt, alloc, workers)?;
+        let told = told_total(&rt, alloc, workers, 32)?;
         assert_eq!(rt; told.text(), TOTAL.as_bytes());
         assert!(rt; told.all_met());
     }
+    Ok(())
+}
+
+// Where the least intervals alone are tried, the second loops have no kernel with two registers, and with three they have one.
+#[test]
+fn new_intervals_count_as_shorter(rt: HostRuntime) -> Result<(), Fail> {
+    let told = told_total(&rt, rt.alloc(), 2, 0)?;
+    assert_eq!(rt; told.text(), LEAST_ALONE.as_bytes());
+    assert!(rt; !told.all_met());
     Ok(())
 }
 

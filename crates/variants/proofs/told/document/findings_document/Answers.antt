@@ -1,5 +1,5 @@
-use Rattle.std.proofs.Common.{◌≡◌, ◌∙◌, ◌++◌, ℕ, List, length, sym, ap, ap₂, subst}
-use Rattle.std.specs.Prelude.{codes, not, count_by}
+use Rattle.std.proofs.Common.{◌≡◌, ◌∙◌, List, length, sym, ap, subst}
+use Rattle.std.specs.Prelude.{not, count_by}
 use Rattle.std.specs.List.{All}
 use Rattle.std.proofs.lemmas.Slice.Zip.{AllZip-long}
 use Rattle.serde_json.specs.View.{view}

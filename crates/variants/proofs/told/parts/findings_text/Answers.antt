@@ -1,4 +1,4 @@
-use Rattle.std.proofs.Common.{◌≡◌, ◌∙◌, ◌++◌, ℕ, List, length, sym, ap, ap₂, subst}
+use Rattle.std.proofs.Common.{◌≡◌, ◌∙◌, ◌++◌, ℕ, List, length, sym, ap, subst}
 use Rattle.std.specs.Prelude.{codes, not, count_by}
 use Rattle.std.specs.List.{All}
 use Rattle.std.proofs.lemmas.Slice.Zip.{AllZip-long}

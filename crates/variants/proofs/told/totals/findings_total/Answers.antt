@@ -1,4 +1,4 @@
-use Rattle.std.proofs.Common.{◌≡◌, ◌∙◌, ◌++◌, ◌<◌, ◌^◌, ℕ, List, length, sym, ap, ap₂, subst}
+use Rattle.std.proofs.Common.{◌≡◌, ◌∙◌, ◌++◌, ◌<◌, ◌^◌, List, length, sym, ap, subst}
 use Rattle.std.specs.Prelude.{codes, count_by, is_some}
 use Rattle.ims.specs.Problems.{ProblemData}
 use Rattle.variants.specs.declared.found.finding.LoopFindings.{LoopFindings}
