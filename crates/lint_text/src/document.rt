@@ -1,8 +1,9 @@
 //! The faults of a machine text and of a loop text as a JSON document.
 
-ghost use Rattle.std.specs.Prelude.{◌≡◌, ◌++◌, [], ◌∷◌, IfOk, OnOk, codes, map, string_bytes};
+ghost use Rattle.std.specs.Prelude.{◌≡◌, ◌++◌, [], ◌∷◌, IfOk, OnOk, codes, false, map, string_bytes};
 ghost use Rattle.serde_json.specs.Data.{array, member, no_members, object};
 ghost use Rattle.serde_json.specs.View.{items_of, view};
+ghost use Rattle.serde_json.specs.Written.{items_have_float};
 ghost use Rattle.lint_text.specs.Document.{IsLintDocument, document_text, fault_value, line_value, loop_value, loop_values, machine_value, machine_values};
 
 use crate::lines::{From, first_line, passing};
@@ -188,8 +189,9 @@ fn document_of(alloc: Global, values: Vec<Value>) -> Result<Value, OutOfMemory>
 }
 
 /// The text of a document.
-#[tactic(auto, unfolding(crate::specs::Document::document_text))]
+#[tactic(auto, using(crate::proofs::Whole::document_whole), unfolding(crate::specs::Document::document_text))]
 fn written(alloc: Global, values: Vec<Value>) -> Result<String, OutOfMemory>
+    requires { items_have_float (items_of (map view values.items)) ≡ false }
     ensures { IfOk result (λ text. string_bytes text ≡ document_text (map view values.items)) }
 {
     let document = document_of(alloc, values)?;

@@ -19,12 +19,24 @@ fn push_key(alloc: Global, text: &mut String, key: &Key) -> Result<(), OutOfMemo
     text.push_str(told.as_str())
 }
 
+/// Pushes a number between two texts.
+fn push_between(
+    text: &mut String,
+    before: &str,
+    number: usize,
+    after: &str,
+) -> Result<(), OutOfMemory>
+    ensures { OnOk result (string_bytes text.new ≡ string_bytes text.old ++ ((before.now ++ decimal number) ++ after.now)) }
+{
+    push_told(text, before, number as u64)?;
+    text.push_str(after)
+}
+
 /// Pushes the number of an element.
 fn push_index(text: &mut String, index: usize) -> Result<(), OutOfMemory>
     ensures { OnOk result (string_bytes text.new ≡ string_bytes text.old ++ index_text index) }
 {
-    push_told(text, "[", index as u64)?;
-    text.push_str("]")
+    push_between(text, "[", index, "]")
 }
 
 /// Pushes the key of the table of a word.
@@ -132,8 +144,7 @@ fn push_value(text: &mut String, number: i64) -> Result<(), OutOfMemory>
 fn push_elements(text: &mut String, count: usize) -> Result<(), OutOfMemory>
     ensures { OnOk result (string_bytes text.new ≡ string_bytes text.old ++ ((codes " (elements: " ++ decimal count) ++ codes ")")) }
 {
-    push_told(text, " (elements: ", count as u64)?;
-    text.push_str(")")
+    push_between(text, " (elements: ", count, ")")
 }
 
 /// Pushes what stands there.
