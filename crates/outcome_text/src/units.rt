@@ -52,21 +52,34 @@ pub fn use_of(operations: &[Alternatives], choices: &[u8], unit: usize) -> u64
     uses
 }
 
-/// Of `units` units, in order, those that exactly `uses` of the rows of all choices use.
+/// The rows of all choices, in the order of the operations.
+fn chosen_rows(
+    alloc: Global,
+    operations: &[Alternatives],
+    choices: &[u8],
+) -> Result<Vec<Row>, OutOfMemory>
+    requires { length choices.now ≡ length operations.now }
+    ensures { IfOk result (λ rows. rows.items ≡ chosen_rows operations.now choices.now) }
+{
+    let mut rows = Vec::with_capacity(alloc, operations.len())?;
+    for number in 0..operations.len() {
+        rows.extend_from_slice(rows_at(operations, choices, number))?;
+    }
+    Ok(rows)
+}
+
+/// Of `units` units, in order, those that exactly `uses` of the rows use.
 fn units_with(
     alloc: Global,
     units: usize,
-    operations: &[Alternatives],
-    choices: &[u8],
+    rows: &[Row],
     uses: u64,
 ) -> Result<Vec<usize>, OutOfMemory>
-    requires each { length choices.now ≡ length operations.now }
-    requires few { length operations.now ≤ 128 }
-    ensures { IfOk result (λ full. full.items ≡ units_with units (chosen_rows operations.now choices.now) uses) }
+    ensures { IfOk result (λ full. full.items ≡ units_with units rows.now uses) }
 {
     let mut full = Vec::new(alloc);
     for unit in 0..units {
-        if use_of(operations, choices, unit) == uses {
+        if rows_with(rows, unit) == uses {
             full.push(unit)?;
         }
     }
@@ -85,12 +98,11 @@ pub fn fullest_of(alloc: Global, problem: &Problem) -> Result<Vec<usize>, OutOfM
     prove!(scheduling.operations() <= 128);
     let operations = scheduling.alternatives();
     let choices = unit_choices_of(alloc, operations)?;
-    let units = problem.draft().units;
+    let rows = chosen_rows(alloc, operations, choices.as_slice())?;
     units_with(
         alloc,
-        units,
-        operations,
-        choices.as_slice(),
+        problem.draft().units,
+        rows.as_slice(),
         scheduling.resources(),
     )
 }

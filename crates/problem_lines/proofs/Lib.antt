@@ -1,4 +1,5 @@
 pub mod Cuts
+pub mod EightBytes
 pub mod Labels
 pub mod Places
 pub mod Signs

@@ -29,10 +29,16 @@ pub enum SolutionKeyword {
 }
 
 /// The bytes are those of this text.
+#[inline(always)]
+#[tactic(auto, using(crate::proofs::EightBytes::differ_long, crate::proofs::EightBytes::text_taken))]
 pub(crate) fn is_text(bytes: &[u8], text: &str) -> bool
     ensures { result ≡ same_word bytes.now text.now }
 {
-    bytes == text.as_bytes()
+    if bytes.len() != text.len() {
+        return false;
+    }
+    // (most texts are literals, whose length is known: then a few comparisons of several bytes do)
+    bytes.starts_with(text.as_bytes())
 }
 
 /// The keyword that a word is.

@@ -39,6 +39,7 @@ impl<'a> Model for Left<'a> {
 }
 
 /// The word may stand where this is expected.
+#[inline(always)]
 fn fits(what: Expected, word: &[u8]) -> bool
     ensures { result ≡ fits what word.now }
 {
@@ -121,6 +122,7 @@ impl<'a> Left<'a> {
     ///
     /// # Errors
     /// There is none, or another.
+    #[inline(always)]
     pub(crate) fn take(&mut self, what: Expected) -> Result<Piece<'a>, LineFault>
         ensures fault { fault_seen result ≡ misfit self.old.after what self.old.words }
         ensures word { IfOk result (λ p. self.old.words ≡ placed p ∷ self.new.words) }

@@ -2,6 +2,7 @@
 //! have or the first fault of them alone. It serves the readers of such texts.
 #![tactic(auto)]
 
+mod eights;
 mod fault;
 mod form;
 mod keyword;
@@ -16,6 +17,7 @@ mod scan;
 mod solution_form;
 mod word;
 
+pub use eights::are_same;
 pub use fault::{Expected, LineFault};
 pub use form::{Form, Line, line_of};
 pub use kinds::{Alternatives, HoldWord, Holds};

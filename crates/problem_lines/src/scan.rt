@@ -1,12 +1,13 @@
 //! The first word of a rest of a line.
 
-ghost use Rattle.std.specs.Prelude.{◌≡◌, ◌+◌, ◌<◌, ◌≤◌, ◌^◌, [], ◌∷◌, length, take, false, IfSome, MatchOption};
+ghost use Rattle.std.specs.Prelude.{◌≡◌, ℕ, ◌+◌, ◌<◌, ◌≤◌, ◌^◌, [], ◌∷◌, length, take, slice_index, true, false, IfSome, MatchOption};
 ghost use Rattle.std.specs.List.{list_all, position_or_len};
 ghost use Rattle.loop_lines.specs.Words.{is_blank, starts_blank, stops_word};
 ghost use Rattle.problem_lines.specs.Names.{is_printable};
 ghost use Rattle.problem_lines.specs.Words.{behind, words_from};
 ghost use Rattle.problem_lines.specs.inner.Pieces.{placed};
 
+use crate::eights::count_named;
 use crate::names::is_printable;
 use crate::piece::Piece;
 
@@ -52,29 +53,56 @@ struct Extent {
     printable: bool,
 }
 
-/// How many bytes stand before the first blank or `#`, and whether all of them may stand in a name.
-///
-/// Most words are names, so that the test for these comes first.
-fn count_word(text: &[u8]) -> Extent
+/// How far the first word goes, of which the bytes before a place may stand in a name.
+#[cold]
+fn count_odd(text: &[u8], from: usize) -> Extent
+    requires within { from ≤ length text.now }
+    requires named { (k : ℕ) → k < from → is_printable (slice_index text.now k) ≡ true }
     ensures count { result.count ≡ position_or_len stops_word text.now }
     ensures printable { result.printable ≡ list_all is_printable (take result.count text.now) }
 {
     let mut printable = true;
-    for (i, byte) in text.iter().enumerate() {
-        if !is_printable(*byte) {
-            if ends_word(*byte) {
+    let mut at = from;
+    while at < text.len() {
+        let byte = text[at];
+        if !is_printable(byte) {
+            if ends_word(byte) {
                 return Extent {
-                    count: i,
+                    count: at,
                     printable,
                 };
             }
             printable = false;
         }
+        at += 1;
     }
     Extent {
         count: text.len(),
         printable,
     }
+}
+
+/// How many bytes stand before the first blank or `#`, and whether all of them may stand in a name.
+#[inline(always)]
+fn count_word(text: &[u8]) -> Extent
+    ensures count { result.count ≡ position_or_len stops_word text.now }
+    ensures printable { result.printable ≡ list_all is_printable (take result.count text.now) }
+{
+    // (most words are names and numbers, and a space or nothing follows them)
+    let count = count_named(text);
+    if count == text.len() {
+        return Extent {
+            count,
+            printable: true,
+        };
+    }
+    if text[count] == b' ' {
+        return Extent {
+            count,
+            printable: true,
+        };
+    }
+    count_odd(text, count)
 }
 
 /// The first word of a rest of a line that begins at a column, and what follows it.

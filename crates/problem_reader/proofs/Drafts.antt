@@ -14,14 +14,15 @@ use Rattle.problems.specs.declared.draft.Draft.{Draft}
 use Rattle.problems.specs.declared.draft.Hold.{Hold}
 use Rattle.problems.specs.declared.draft.Kind.{Kind}
 use Rattle.problems.proofs.faults.Sound.{sound-well_formed}
-use Rattle.problem_tables.specs.Data.{KindData, MachineData, ProblemData, kind_seen}
+use Rattle.problem_tables.specs.Data.{FileData, KindData, MachineData, ProblemData, kind_seen}
 use Rattle.problem_tables.specs.Names.{has_name}
 use Rattle.problem_tables.specs.Seen.{ended_seen, machine_seen, problem_seen}
 use Rattle.problem_tables.specs.declared.ended.Ended.{Ended}
 use Rattle.problem_tables.specs.declared.ended.TextMachine.{TextMachine}
 use Rattle.problem_tables.specs.declared.ended.TextProblem.{TextProblem}
 use Rattle.problem_tables.proofs.Naming.{same_word-here}
-use Rattle.problem_reader.specs.Files.{IsDraftOf, IsFaultlessIn, IsFile as IsTextFile, nowhere}
+use Rattle.problem_reader.specs.Files.{IsDraftOf, IsFaultlessIn, IsFile as IsTextFile, machine_at, nothing, nowhere, problem_at}
+use Rattle.problem_reader.specs.inner.OnMachines.{IsOnMachine}
 use Rattle.problem_reader.proofs.Making.{AreOnce}
 use Rattle.problem_reader.proofs.Parts.{IsReadOf, IsSoundKind}
 use Rattle.problem_reader.proofs.Steps.{IsSoundOn, machine_parts}
@@ -155,3 +156,29 @@ draft-at ended x y (Ok draft) sound is h =
     let here = get_or-map machine_seen ended.machines.items x.machine y nowhere (omega (arith, placed, size)) ∙ ap machine_seen (sym is) in
     sound.faultless draft (subst (λ m. IsDraftOf m (problem_seen x) draft) (sym here) h)
 draft-at ended x y (Err error) sound is h = tt
+
+-- drafts made of others on the same machine
+
+same-problem : (ended : Ended) (number : ℕ) (x : TextProblem) → number < length ended.problems.items → x ≡ get_or ended.problems.items number x → problem_seen x ≡ problem_at (ended_seen ended) number
+same-problem ended number x low is = sym (get_or-map problem_seen ended.problems.items number x nothing low ∙ ap problem_seen (sym is))
+
+redraft-of : {E : Type 0} (r : Result Draft E) (file : FileData) (number : ℕ) (p : ProblemData) (draft : Draft) → p ≡ problem_at file number
+    → IsOnMachine (machine_at file (problem_at file number).machine) draft → IfOk r (λ made. (m : MachineData) → IsOnMachine m draft → IsDraftOf m p made)
+    → IfOk r (IsDraftOf (machine_at file (problem_at file number).machine) (problem_at file number))
+redraft-of (Ok made) file number p draft same on h = subst (λ q. IsDraftOf (machine_at file (problem_at file number).machine) q made) same (h (machine_at file (problem_at file number).machine) on)
+redraft-of (Err error) file number p draft same on h = tt
+
+pub redraft-at : {E : Type 0} (r : Result Draft E) (ended : Ended) (file : FileData) (number : ℕ) (x : TextProblem) (draft : Draft) → ended_seen ended ≡ file → number < length ended.problems.items
+    → x ≡ get_or ended.problems.items number x → IsOnMachine (machine_at file (problem_at file number).machine) draft
+    → IfOk r (λ made. (m : MachineData) → IsOnMachine m draft → IsDraftOf m (problem_seen x) made)
+    → IfOk r (IsDraftOf (machine_at file (problem_at file number).machine) (problem_at file number))
+redraft-at r ended file number x draft view low is on h =
+    redraft-of r file number (problem_seen x) draft (same-problem ended number x low is ∙ ap (λ f. problem_at f number) view) on h
+
+pub redraft-faultless : {E : Type 0} (r : Result Draft E) (file : FileData) (p : ProblemData) → IsFaultlessIn file p → IfOk r (IsDraftOf (machine_at file p.machine) p) → IfOk r (λ draft. first_fault_of draft ≡ None)
+redraft-faultless (Ok draft) file p sound h = sound.faultless draft h
+redraft-faultless (Err error) file p sound h = tt
+
+-- each problem of a file is so
+pub faultless-at : (file : FileData) (number : ℕ) → IsTextFile file → number < length file.problems → IsFaultlessIn file (problem_at file number)
+faultless-at file number all low = all number nothing low

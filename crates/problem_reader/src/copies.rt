@@ -1,11 +1,13 @@
 //! Copies of what a text has, for drafts.
 
-ghost use Rattle.std.specs.Prelude.{◌≡◌, map, IfOk};
+ghost use Rattle.std.specs.Prelude.{◌≡◌, ◌++◌, map, IfOk};
 ghost use Rattle.smallvec.specs.SmallVec.{SmallVec as Items};
 ghost use Rattle.problems.specs.declared.draft.Hold.{Hold};
 ghost use Rattle.problem_tables.specs.Data.{kind_seen};
 ghost use Rattle.problem_tables.specs.Seen.{machine_seen, problem_seen};
+ghost use Rattle.problem_tables.specs.Data.{MachineData};
 ghost use Rattle.problem_reader.specs.Files.{IsDraftOf};
+ghost use Rattle.problem_reader.specs.inner.OnMachines.{IsOnMachine};
 
 use machine_data::OutOfMemory;
 use problem_tables::{TextMachine, TextProblem};
@@ -99,4 +101,41 @@ pub(crate) fn draft_of(
         orders: Vec::from_slice(alloc, problem.orders.as_slice())?,
         names: names_of(alloc, machine, problem)?,
     })
+}
+
+/// Has the names of a list be these, in the memory of the list.
+fn rename(names: &mut Vec<Label>, labels: &[Label]) -> Result<(), OutOfMemory>
+    ensures { IfOk result (λ _. names.new.items ≡ labels.now) }
+{
+    names.clear();
+    names.reserve(labels.len())?;
+    for label in labels {
+        names.push(label.copied())?;
+    }
+    Ok(())
+}
+
+/// Has the items of a list be these, in the memory of the list.
+fn refill<T: Copy>(items: &mut Vec<T>, others: &[T]) -> Result<(), OutOfMemory>
+    ensures { IfOk result (λ _. items.new.items ≡ others.now) }
+{
+    items.clear();
+    items.extend_from_slice(others)
+}
+
+/// The draft of a problem, of the draft of another one on the same machine: what both share is not copied again.
+pub(crate) fn redraft_of(draft: Draft, problem: &TextProblem) -> Result<Draft, OutOfMemory>
+    ensures { IfOk result (λ made. (machine : MachineData) → IsOnMachine machine draft → IsDraftOf machine (problem_seen problem.now) made) }
+{
+    let mut draft = draft;
+    refill(&mut draft.operations, problem.operations.as_slice())?;
+    refill(&mut draft.values, problem.values.as_slice())?;
+    refill(&mut draft.reads, problem.reads.as_slice())?;
+    refill(&mut draft.orders, problem.orders.as_slice())?;
+    rename(
+        &mut draft.names.operations,
+        problem.operation_names.as_slice(),
+    )?;
+    rename(&mut draft.names.values, problem.value_names.as_slice())?;
+    Ok(draft)
 }

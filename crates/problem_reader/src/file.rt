@@ -4,8 +4,9 @@ ghost use Rattle.std.specs.Prelude.{◌≡◌, ◌<◌, length, None, IfOk};
 ghost use Rattle.problems.specs.Faults.{first_fault_of};
 ghost use Rattle.problem_tables.specs.Seen.{ended_seen};
 ghost use Rattle.problem_reader.specs.Files.{machine_at, problem_at, IsDraftOf, IsFile};
+ghost use Rattle.problem_reader.specs.inner.OnMachines.{IsOnMachine};
 
-use crate::copies::draft_of;
+use crate::copies::{draft_of, redraft_of};
 use machine_data::OutOfMemory;
 use problem_tables::Ended;
 use problems::{Draft, Label};
@@ -65,5 +66,23 @@ impl ProblemFile {
     {
         let problem = &self.ended.problems[number];
         draft_of(alloc, &self.ended.machines[problem.machine], problem)
+    }
+
+    /// The number of the machine of the problem with a number, both from 0.
+    pub(crate) fn machine(&self, number: usize) -> usize
+        requires { number < length self.now.problems }
+        ensures { result ≡ (problem_at self.now number).machine }
+    {
+        self.ended.problems[number].machine
+    }
+
+    /// The same as [`draft`](ProblemFile::draft), made of the draft of another problem on the same machine.
+    pub(crate) fn redraft(&self, number: usize, draft: Draft) -> Result<Draft, OutOfMemory>
+        requires there { number < length self.now.problems }
+        requires machine { IsOnMachine (machine_at self.now (problem_at self.now number).machine) draft }
+        ensures exact { IfOk result (IsDraftOf (machine_at self.now (problem_at self.now number).machine) (problem_at self.now number)) }
+        ensures faultless { IfOk result (λ draft. first_fault_of draft ≡ None) }
+    {
+        redraft_of(draft, &self.ended.problems[number])
     }
 }

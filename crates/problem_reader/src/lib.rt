@@ -4,9 +4,11 @@
 mod copies;
 mod fault;
 mod file;
+mod kept;
 mod read;
 
 pub use fault::TextFault;
 pub use file::ProblemFile;
+pub use kept::KeptDrafts;
 pub use problem_tables::{Part, Wrong};
 pub use read::read_problems;

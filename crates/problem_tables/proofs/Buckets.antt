@@ -61,12 +61,12 @@ new-missed names firsts others q numbered missed none k below same = elim (numbe
 
 -- no names
 abbrev pub no_firsts : List ℕ
-no_firsts = replicate 256 0
+no_firsts = replicate 512 0
 
 pub zero-firsts : (b : ℕ) → get_or no_firsts b 0 ≡ 0
-zero-firsts b = elim (cases_lt b 256) [
-  | inl below ↦ get_or-replicate 256 b 0 0 below
-  | inr past ↦ get_or_past no_firsts b 0 (let long : length no_firsts ≡ 256 = length-replicate {A = ℕ} 256 0 in omega arith)
+zero-firsts b = elim (cases_lt b 512) [
+  | inl below ↦ get_or-replicate 512 b 0 0 below
+  | inr past ↦ get_or_past no_firsts b 0 (let long : length no_firsts ≡ 512 = length-replicate {A = ℕ} 512 0 in omega arith)
 ]
 
 pub numbered-none : (names : List (List ℕ)) (others : List ℕ → Option ℕ) → names ≡ [] → ((q : List ℕ) → others q ≡ None) → AreNumbered names no_firsts others
@@ -79,7 +79,7 @@ numbered-none names others none empty = subst (λ ns. AreNumbered ns no_firsts o
 
 -- one name more: the first one of its bucket
 pub numbered-first : (names : List (List ℕ)) (firsts : List ℕ) (others : List ℕ → Option ℕ) (x : List ℕ) → AreNumbered names firsts others → IsNew names x
-    → length firsts ≡ 256 → bucket_of x < 256 → get_or firsts (bucket_of x) 0 ≡ 0
+    → length firsts ≡ 512 → bucket_of x < 512 → get_or firsts (bucket_of x) 0 ≡ 0
     → AreNumbered (names ++ x ∷ []) (set firsts (bucket_of x) (length names + 1)) others
 numbered-first names firsts others x numbered new all below free =
     let longer : length (names ++ x ∷ []) ≡ length names + 1 = length-append names (x ∷ []) in

@@ -8,6 +8,7 @@ mod judging;
 mod lines;
 mod names;
 mod opened;
+mod room;
 mod tables;
 
 pub use ended::{Ended, TextMachine, TextProblem};

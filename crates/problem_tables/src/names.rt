@@ -4,16 +4,21 @@ ghost use Rattle.std.specs.Prelude.{◌≡◌, ◌<◌, ℕ, List, [], ◌∷◌
 ghost use Rattle.problem_tables.specs.Names.{has_name, index_of, last_name};
 ghost use Rattle.problem_tables.specs.inner.Numbered.{bucket_of};
 
+use crate::room::push_with_room;
 use machine_data::OutOfMemory;
-use problem_lines::Word;
+use problem_lines::{Word, are_same};
 use problems::Label;
 use std::alloc::Global;
 use std::collections::BTreeMap;
+use std::hash::{FoldHasher, Hasher};
 use std::marker::Model;
 use std::mem;
 
 /// Buckets for the names of one list.
-const BUCKETS: usize = 256;
+const BUCKETS: usize = 512;
+
+/// How many names may be found in a bucket: later ones stand in the map.
+const MAX_FIRSTS: usize = 65_535;
 
 /// Names in order, each with its number, from 0. The first name of a bucket is found there. The others stand in a map by their
 /// order, so that no choice of names makes a look-up long. Contracts see the list of them.
@@ -21,7 +26,7 @@ const BUCKETS: usize = 256;
 pub(crate) struct Names<'a> {
     labels: Vec<Label>,
     /// Of each bucket one more than the number of its first name, or 0.
-    firsts: [usize; BUCKETS],
+    firsts: [u16; BUCKETS],
     others: BTreeMap<&'a [u8], usize>,
 }
 
@@ -37,13 +42,15 @@ impl<'a> Model for Names<'a> {
 }
 
 /// The bucket of a name.
-fn bucket_of(name: &[u8]) -> u8
-    ensures { result ≡ bucket_of name.now }
+#[inline]
+#[tactic(auto, unfolding(crate::specs::inner::Numbered::bucket_of))]
+fn bucket_of(name: &[u8]) -> usize
+    ensures value { result ≡ bucket_of name.now }
+    ensures bound { result < 512 }
 {
-    name.iter().fold(
-        0u8,
-        |bucket, byte| bucket.wrapping_mul(31).wrapping_add(*byte),
-    )
+    let mut hasher = FoldHasher::default();
+    hasher.write(name);
+    hasher.finish() as usize % BUCKETS
 }
 
 impl<'a> Names<'a> {
@@ -76,8 +83,8 @@ impl<'a> Names<'a> {
     pub(crate) fn index(&self, name: &[u8]) -> usize
         ensures { result ≡ index_of self.now name.now }
     {
-        let first = self.firsts[usize::from(bucket_of(name))];
-        if first > 0 && self.labels[first - 1].as_str().as_bytes() == name {
+        let first = usize::from(self.firsts[bucket_of(name)]);
+        if first > 0 && are_same(self.labels[first - 1].as_str().as_bytes(), name) {
             return first - 1;
         }
         match self.others.get(name) {
@@ -99,11 +106,11 @@ impl<'a> Names<'a> {
         requires { has_name self.old name.bytes.now ≡ false }
         ensures { OnOk result (self.new ≡ self.old ++ name.entry.bytes.now ∷ []) }
     {
-        let bucket = usize::from(bucket_of(name.bytes));
+        let bucket = bucket_of(name.bytes);
         let number = self.labels.len();
-        self.labels.push(name.label())?;
-        if self.firsts[bucket] == 0 {
-            self.firsts[bucket] = number + 1;
+        push_with_room(&mut self.labels, name.label())?;
+        if self.firsts[bucket] == 0 && number < MAX_FIRSTS {
+            self.firsts[bucket] = number as u16 + 1;
             return Ok(());
         }
         match self.others.insert(name.bytes, number) {

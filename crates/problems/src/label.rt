@@ -53,7 +53,8 @@ impl Label {
         requires { IsLabel bytes.now }
         ensures { result ≡ bytes.now }
     {
-        let text = std::str::from_utf8(bytes).unwrap();
+        // (they are ASCII)
+        let text = unsafe { std::str::from_utf8_unchecked(bytes) };
         match ArrayString::from(text) {
             Ok(text) => Label { text },
             Err(_) => unreachable!(),

@@ -85,6 +85,13 @@ impl Problem {
         &self.draft
     }
 
+    /// The draft, and nothing else of the problem.
+    pub fn into_draft(self) -> Draft
+        ensures { result ≡ self.draft }
+    {
+        self.draft
+    }
+
     /// The alternatives of the operations: lists of them, and of each operation the number of its list, from 0. Operations of one
     /// kind have one list, and kinds after one another that have the same alternatives share theirs.
     pub fn tables(&self) -> (&[Alternatives], &[usize])

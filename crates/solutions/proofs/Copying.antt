@@ -1,8 +1,9 @@
 -- How many instances live at once.
-use Rattle.std.proofs.Common.{◌≡◌, ℕ, ◌+◌, ◌<◌, max, true, false, List, [], ◌∷◌, ◌++◌, length, get_or, map, take, drop, Some, refl, sym, ap, ◌∙◌, arith}
+use Rattle.std.proofs.Common.{◌≡◌, ℕ, ◌+◌, ◌<◌, ◌≤◌, max, true, false, List, [], ◌∷◌, ◌++◌, length, get_or, map, take, drop, Some, refl, sym, ap, ◌∙◌, arith}
 use Rattle.std.specs.Prelude.{slice_get, slice_index}
 use Rattle.std.specs.List.{All, range_with_len}
 use Rattle.std.proofs.lemmas.List.{drop_more, length-map}
+use Rattle.std.proofs.lemmas.List.Elements.{All-map}
 use Rattle.std.proofs.lemmas.List.FromFn.{map-range_with_len_more}
 use Rattle.problems.specs.declared.draft.Draft.{Draft}
 use Rattle.problems.specs.declared.draft.File.{File}
@@ -16,6 +17,7 @@ use Rattle.registers.proofs.allotted.Filled.{take-front}
 use Rattle.solutions.specs.Copies.{copies_of, is_unallotted, max_live_of, unallotted_in}
 use Rattle.solutions.specs.Files.{in_file}
 use Rattle.solutions.specs.Solutions.{SolutionData, IsLawfulSolution, files_of, lives_of_solution, schedule_of}
+use Rattle.solutions.proofs.Filing.{all_in_file}
 use Rattle.solutions.proofs.Lives.{are-spans, length-files, length-lives}
 use Rattle.solutions.proofs.Rightness.{at-place}
 
@@ -83,3 +85,19 @@ pub max_live-is : (s : SolutionData) (ii : ℕ) (files : List ℕ) (file : ℕ) 
     → greatest_of (map (λ row. crowd_in ii row (in_file files file lives) (length (in_file files file lives))) (range_with_len 0 ii)) ≡ max_live_of s file
 max_live-is s ii files file lives a b c =
     ap (λ n. crowds n files file lives) a ∙ ap (λ fs. crowds s.ii fs file lives) b ∙ ap (λ (ls : List Lifetime). crowds s.ii (files_of s.problem.draft) file ls) c
+
+pub few-lives : (s : SolutionData) (lives : List Lifetime) → IsLawfulSolution s → lives ≡ lives_of_solution s → length lives ≤ 256
+few-lives s lives is a =
+    let each : length lives ≡ length (files_of s.problem.draft) = as-many s (files_of s.problem.draft) lives refl a in
+    let size = length-files s.problem.draft in
+    let few = is.is_problem.is_well_formed.counts.values_few in
+    omega (arith, each, size, few)
+
+-- where all values are of the file
+pub max_live-all : (s : SolutionData) (ii : ℕ) (file : ℕ) (lives : List Lifetime) → ii ≡ s.ii → lives ≡ lives_of_solution s → All (λ (v : Value). v.file ≡ file) s.problem.draft.values.items
+    → greatest_of (map (λ row. crowd_in ii row lives (length lives)) (range_with_len 0 ii)) ≡ max_live_of s file
+max_live-all s ii file lives a b all =
+    let files = files_of s.problem.draft in
+    let each : length lives ≡ length files = as-many s files lives refl b in
+    let same : in_file files file lives ≡ lives = all_in_file files file lives each (All-map (λ other. other ≡ file) (λ (v : Value). v.file) s.problem.draft.values.items all) in
+    ap (λ (ls : List Lifetime). greatest_of (map (λ row. crowd_in ii row ls (length ls)) (range_with_len 0 ii))) (sym same) ∙ max_live-is s ii files file lives a refl b

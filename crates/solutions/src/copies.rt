@@ -1,6 +1,6 @@
 //! How many instances of values live at once.
 
-ghost use Rattle.std.specs.Prelude.{◌≡◌, ◌<◌, ◌≤◌, length, map, max, slice_get, Some};
+ghost use Rattle.std.specs.Prelude.{◌≡◌, ◌<◌, ◌≤◌, length, map, max, slice_get, IsTrue, Some};
 ghost use Rattle.std.specs.List.{All, range_with_len};
 ghost use Rattle.problems.specs.declared.draft.Value.{Value};
 ghost use Rattle.registers.specs.declared.lifetime.Lifetime.{Lifetime};
@@ -31,6 +31,18 @@ impl<'a> Solution<'a> {
     pub fn max_live(&self, file: usize) -> u64
         ensures value { result ≡ max_live_of self.now file }
         ensures well_formed { IsLawfulSolution self.now }
+    {
+        let ii = self.ii();
+        let values = self.problem().draft().values.as_slice();
+        if are_all_in(values, file) {
+            return greatest_crowd(ii, self.lives());
+        }
+        self.max_live_of_some(file)
+    }
+
+    /// The same, where some values are of the file.
+    fn max_live_of_some(&self, file: usize) -> u64
+        ensures { result ≡ max_live_of self.now file }
     {
         let ii = self.ii();
         let draft = self.problem().draft();
@@ -64,6 +76,13 @@ fn copies_of(ii: u64, life: Lifetime) -> u64
     ensures { result ≡ copies_of ii life }
 {
     (life.last + 1 - life.first + (ii - 1)) / ii
+}
+
+/// Whether all values are of one file.
+fn are_all_in(values: &[Value], file: usize) -> bool
+    ensures { IsTrue result → All (λ (value : Value). value.file ≡ file) values.now }
+{
+    values.iter().all(|value| value.file == file)
 }
 
 /// Writes the file of each value.

@@ -1,14 +1,15 @@
 -- Names with their numbers: the first one of each bucket, and a map of the others.
-use Rattle.std.specs.Prelude.{◌≡◌, ◌≢◌, ◌⊎◌, ℕ, ◌+◌, ◌*◌, ◌%◌, ◌<◌, ◌≤◌, List, [], length, fold, slice_index, Option, Some}
+use Rattle.std.specs.Prelude.{◌≡◌, ◌≢◌, ◌⊎◌, ℕ, ◌+◌, ◌%◌, ◌<◌, ◌≤◌, List, [], length, slice_index, Option, Some}
 use Rattle.std.specs.Borrow.{Bor}
 use Rattle.std.specs.BTreeMap.{BTreeMap, get_by}
 use Rattle.std.specs.Cmp.Lexicographic.{slice_cmp}
+use Rattle.std.specs.Hash.FoldHasher as folding
 use Rattle.std.specs.List.{slice_index_or, AllPairs}
 use Rattle.std.specs.Ordering.{nat_cmp}
 
 -- the bucket of a name
-abbrev pub bucket_of : List ℕ → ℕ
-bucket_of name = fold (λ (bucket byte : ℕ). ((bucket * 31) % 256 + byte) % 256) 0 name
+unfoldable pub bucket_of : List ℕ → ℕ
+bucket_of name = folding.finish (folding.write folding.initial name) % 512
 
 -- what a map has at a name
 abbrev pub number_in : BTreeMap (Bor (List ℕ)) ℕ → List ℕ → Option ℕ

@@ -12,6 +12,7 @@ use crate::judging::{
     Spot, delay_fault, known_fault, number_or_0, offset_fault, range_fault, word_fault,
 };
 use crate::lines::problem::ProblemTables;
+use crate::room::push_with_room;
 use machine_data::limits::{MAX_DISTANCE, MAX_OFFSET, MAX_ORDER_DISTANCE, MAX_ORDERS, MAX_READS};
 use problem_lines::{Integer, Number, Word};
 use problems::{Order, Value};
@@ -103,7 +104,7 @@ impl<'a> ProblemTables<'a> {
         if let Some(told) = self.read_fault(at, words, read) {
             return Err(Refusal::Fault(told));
         }
-        self.reads.push(read)?;
+        push_with_room(&mut self.reads, read)?;
         Ok(())
     }
 
@@ -153,7 +154,7 @@ impl<'a> ProblemTables<'a> {
         if let Some(told) = self.order_fault(at, words, order) {
             return Err(Refusal::Fault(told));
         }
-        self.orders.push(order)?;
+        push_with_room(&mut self.orders, order)?;
         Ok(())
     }
 }

@@ -13,6 +13,7 @@ use crate::fault::{Part, Refusal, Told};
 use crate::judging::{Spot, known_fault, new_fault, range_fault};
 use crate::lines::machine::MachineTables;
 use crate::names::Names;
+use crate::room::push_with_room;
 use machine_data::limits::{MAX_LATENCY, MAX_STATEMENTS, MAX_VALUES};
 use problem_lines::{Number, Word};
 use problems::{Label, Order, Value};
@@ -114,7 +115,7 @@ impl<'a> ProblemTables<'a> {
             return Err(Refusal::Fault(told));
         }
         self.operation_names.add(name)?;
-        self.operations.push(number)?;
+        push_with_room(&mut self.operations, number)?;
         Ok(())
     }
 
@@ -175,7 +176,7 @@ impl<'a> ProblemTables<'a> {
             return Err(Refusal::Fault(told));
         }
         self.value_names.add(words.name)?;
-        self.values.push(value)?;
+        push_with_room(&mut self.values, value)?;
         Ok(())
     }
 }

@@ -1,34 +1,22 @@
-use Rattle.std.proofs.Common.{◌≡◌, ◌∙◌, ◌+◌, ◌<◌, arith, sym, take, get_or, length, below_more}
-use Rattle.std.specs.Prelude.{◌&&◌}
-use Rattle.std.specs.List.{list_all}
+use Rattle.std.proofs.Common.{◌≡◌, true, arith, refl, sym, ap, ◌∙◌, get_or}
 use Rattle.std.proofs.lemmas.List.Sums.{position_or_len_is}
-use Rattle.std.proofs.lemmas.List.Folds.{list_all_more}
 use Rattle.loop_lines.specs.Words.{stops_word}
-use Rattle.problem_lines.specs.Names.{is_printable}
-use Rattle.problem_lines.proofs.Cuts.{printable_goes_on, both_kept, both_false}
+use Rattle.problem_lines.proofs.Cuts.{named_all, named_goes_on}
 use Rattle.problem_lines.proofs.scan.count_word.Goals as goal
-use Rattle.problem_lines.proofs.scan.count_word.Goals.{then-not-is_printable+else-ends_word, else-not-is_printable}
 
-pub loop-i-preserved : goal.loop-i-preserved
-loop-i-preserved c =
-    let within : c.loop-i.i < length c.args.text.now = c.loop-i-test.true in
-    let more : list_all is_printable (take (c.loop-i.i + 1) c.args.text.now) ≡ (list_all is_printable (take c.loop-i.i c.args.text.now) && is_printable (get_or c.args.text.now c.loop-i.i 0))
-    = list_all_more is_printable c.args.text.now c.loop-i.i 0 within in
-    elim c.if-not-is_printable.branch [
-      | then-not-is_printable+else-ends_word w ↦ record {
-        goes_on = below_more _ _ c.loop-i.invariant.goes_on (sym w.ends_word.ensures ∙ w.if-ends_word.false);
-        told = w.printable-is ∙ sym (both_false _ _ _ more (sym c.is_printable.ensures ∙ w.if-not-is_printable.true));
-      }
-      | else-not-is_printable w ↦ record {
-        goes_on = below_more _ _ c.loop-i.invariant.goes_on (printable_goes_on (get_or c.args.text.now c.loop-i.i 0) (sym c.is_printable.ensures ∙ w.if-not-is_printable.false));
-        told = w.printable-is ∙ c.loop-i.invariant.told ∙ sym (both_kept _ _ _ more (sym c.is_printable.ensures ∙ w.if-not-is_printable.false));
-      }
-    ]
+pub returns-then-count-text-clause-count : goal.returns-then-count-text-clause-count
+returns-then-count-text-clause-count c =
+    let v = c.count_named-count.ensures in
+    sym (position_or_len_is stops_word c.args.text.now c.count_named-count.result 0 v.within (named_goes_on c.args.text.now c.count_named-count.result v.named) (λ lt. absurd (omega arith)))
 
-pub returns-then-ends_word-clause-count : goal.returns-then-ends_word-clause-count
-returns-then-ends_word-clause-count c =
-    sym (position_or_len_is stops_word c.args.text.now _ 0 (omega arith) c.loop-i.invariant.goes_on (λ _. sym c.ends_word.ensures ∙ c.if-ends_word.true))
+pub returns-then-count-text-clause-printable : goal.returns-then-count-text-clause-printable
+returns-then-count-text-clause-printable c = named_all c.args.text.now c.count_named-count.result c.count_named-count.ensures.within c.count_named-count.ensures.named
 
-pub returns-clause-count : goal.returns-clause-count
-returns-clause-count c =
-    sym (position_or_len_is stops_word c.args.text.now _ 0 (omega arith) (λ k h. c.loop-i.invariant.goes_on k (omega arith)) (λ h. absurd (omega arith)))
+pub returns-then-text-count-eq32-clause-count : goal.returns-then-text-count-eq32-clause-count
+returns-then-text-count-eq32-clause-count c =
+    let v = c.count_named-count.ensures in
+    let blank : stops_word (get_or c.args.text.now c.count_named-count.result 0) ≡ true = ap stops_word c.if-text-count-eq32.true in
+    sym (position_or_len_is stops_word c.args.text.now c.count_named-count.result 0 v.within (named_goes_on c.args.text.now c.count_named-count.result v.named) (λ _. blank))
+
+pub returns-then-text-count-eq32-clause-printable : goal.returns-then-text-count-eq32-clause-printable
+returns-then-text-count-eq32-clause-printable c = named_all c.args.text.now c.count_named-count.result c.count_named-count.ensures.within c.count_named-count.ensures.named

@@ -1,5 +1,5 @@
-use Rattle.problems.proofs.Labelled.{reads-label}
+use Rattle.problems.proofs.Labelled.{label-utf8}
 use Rattle.problems.proofs.label.Label.of_name.Goals as goal
 
-pub unwrap-text-requires : goal.unwrap-text-requires
-unwrap-text-requires c = reads-label c.from_utf8.result c.args.bytes.now _ _ c.requires c.from_utf8.ensures.cases
+pub from_utf8_unchecked-text-requires : goal.from_utf8_unchecked-text-requires
+from_utf8_unchecked-text-requires c = label-utf8 c.args.bytes.now c.requires

@@ -1,26 +1,22 @@
-use Rattle.std.proofs.Common.{◌≡◌, length, sym, ap, ◌∙◌, subst}
+use Rattle.std.proofs.Common.{◌≡◌, refl, ap, ◌∙◌, subst, sym}
 use Rattle.std.specs.List.{All}
+use Rattle.problems.specs.declared.draft.Draft.{Draft}
+use Rattle.problems.specs.declared.draft.Value.{Value}
+use Rattle.problems.specs.Problems.{ProblemData}
 use Rattle.registers.specs.Residues.{IsLifeSpan}
-use Rattle.solutions.specs.Solutions.{files_of}
-use Rattle.solutions.proofs.Copying.{as-many, front-is, max_live-is, read-files, spans-of}
+use Rattle.solutions.proofs.Copying.{few-lives, max_live-all, spans-of}
 use Rattle.solutions.proofs.solution.Solution.max_live.Goals as goal
 
-pub max_live_in-requires-clause-lives : goal.max_live_in-requires-clause-lives
-max_live_in-requires-clause-lives c = subst (All IsLifeSpan) (sym c.lives.ensures.value) (spans-of c.args.self.now c.ii-ii.ensures.well_formed)
+pub greatest_crowd-requires-clause-lives : goal.greatest_crowd-requires-clause-lives
+greatest_crowd-requires-clause-lives c = subst (All IsLifeSpan) (sym c.lives.ensures.value) (spans-of c.args.self.now c.ii-ii.ensures.well_formed)
 
-pub max_live_in-requires-clause-each : goal.max_live_in-requires-clause-each
-max_live_in-requires-clause-each c =
-    let files : c.fill_files.new.files ≡ files_of c.args.self.now.problem.draft
-    = read-files c.args.self.now.problem c.draft-draft.result.now c.problem.result.now c.as_slice-values.result.now c.fill_files.new.files
-    c.problem.ensures.value c.draft-draft.ensures.value c.as_slice-values.ensures.value c.fill_files.ensures in
-    as-many c.args.self.now c.fill_files.new.files c.lives.result.now files c.lives.ensures.value
-    ∙ ap length (sym (front-is c.fill_files.new.files _ c.as_slice-values.result.now c.fill_files.ensures))
+pub greatest_crowd-requires-clause-few_lives : goal.greatest_crowd-requires-clause-few_lives
+greatest_crowd-requires-clause-few_lives c = few-lives c.args.self.now c.lives.result.now c.ii-ii.ensures.well_formed c.lives.ensures.value
 
-pub returns-clause-value : goal.returns-clause-value
-returns-clause-value c =
-    let files : c.fill_files.new.files ≡ files_of c.args.self.now.problem.draft
-    = read-files c.args.self.now.problem c.draft-draft.result.now c.problem.result.now c.as_slice-values.result.now c.fill_files.new.files
-    c.problem.ensures.value c.draft-draft.ensures.value c.as_slice-values.ensures.value c.fill_files.ensures in
-    c.max_live_in.ensures
-    ∙ max_live-is c.args.self.now c.ii-ii.result _ c.args.file c.lives.result.now c.ii-ii.ensures.value
-    (front-is c.fill_files.new.files _ c.as_slice-values.result.now c.fill_files.ensures ∙ files) c.lives.ensures.value
+pub returns-then-are_all_in-clause-value : goal.returns-then-are_all_in-clause-value
+returns-then-are_all_in-clause-value c =
+    let all : All (λ (v : Value). v.file ≡ c.args.file) c.as_slice-values.result.now = c.are_all_in.ensures c.if-are_all_in.true in
+    let same : c.as_slice-values.result.now ≡ c.args.self.now.problem.draft.values.items
+    = c.as_slice-values.ensures.value ∙ ap (λ (x : Draft). x.values.items) (c.draft.ensures.value ∙ ap (λ (p : ProblemData). p.draft) c.problem.ensures.value) in
+    c.greatest_crowd.ensures
+    ∙ max_live-all c.args.self.now c.ii-ii.result c.args.file c.lives.result.now c.ii-ii.ensures.value c.lives.ensures.value (subst (All (λ (v : Value). v.file ≡ c.args.file)) same all)
