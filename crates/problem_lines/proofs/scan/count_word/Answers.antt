@@ -1,4 +1,4 @@
-use Rattle.std.proofs.Common.{◌≡◌, true, arith, refl, sym, ap, ◌∙◌, get_or}
+use Rattle.std.proofs.Common.{◌≡◌, true, arith, sym, ap, get_or}
 use Rattle.std.proofs.lemmas.List.Sums.{position_or_len_is}
 use Rattle.loop_lines.specs.Words.{stops_word}
 use Rattle.problem_lines.proofs.Cuts.{named_all, named_goes_on}

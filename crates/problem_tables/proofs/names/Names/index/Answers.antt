@@ -1,7 +1,6 @@
-use Rattle.std.proofs.Common.{rules, ◌≡◌, ◌≢◌, ℕ, ◌-◌, ◌<◌, ◌≤◌, false, List, [], length, get_or, subst, sym, ap, ◌∙◌, arith, Option, Some, None}
-use Rattle.machine_data.specs.Opcodes.{same_word}
+use Rattle.std.proofs.Common.{rules, ◌≡◌, ◌≢◌, ℕ, ◌-◌, ◌<◌, ◌≤◌, List, [], length, get_or, subst, sym, ap, ◌∙◌, arith, Some, None}
 use Rattle.problem_tables.specs.Names.{index_of}
-use Rattle.problem_tables.specs.inner.Numbered.{AreNumbered, bucket_of, number_in}
+use Rattle.problem_tables.specs.inner.Numbered.{bucket_of, number_in}
 use Rattle.problem_tables.proofs.Buckets.{index-at, index-new, new-missed, other-name, that-name}
 use Rattle.problem_tables.proofs.names.Names.index.Goals as goal
 use Rattle.problem_tables.proofs.names.Names.index.Goals.{else-first-gt0-via-then-first-gt0+else-are_same, else-first-gt0-via-else-first-gt0}
