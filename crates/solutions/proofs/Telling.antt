@@ -1,5 +1,5 @@
 -- Intervals tried in turn, with why each gives no solution.
-use Rattle.std.proofs.Common.{◌≡◌, ℕ, suc, zero, ◌+◌, ◌-◌, ◌<◌, ◌≤◌, List, [], ◌∷◌, ◌++◌, length, map, get_or, Option, Some, None, Vec, Global, refl, sym, ap, ◌∙◌, subst, arith}
+use Rattle.std.proofs.Common.{◌≡◌, ℕ, suc, zero, ◌+◌, ◌-◌, ◌<◌, ◌≤◌, List, [], ◌∷◌, ◌++◌, length, map, get_or, Option, Some, Vec, Global, refl, sym, ap, ◌∙◌, subst, arith}
 use Rattle.std.specs.Prelude.{slice_get}
 use Rattle.std.specs.List.{AllZip, range_with_len}
 use Rattle.std.proofs.lemmas.List.{get_or_push, length_push}
@@ -14,7 +14,7 @@ use Rattle.solutions.specs.declared.solving.outcome.Outcome.TheVariants.{Met, Fa
 use Rattle.solutions.specs.declared.solving.told.Told.{Told}
 use Rattle.solutions.specs.declared.solving.tried.Failure.{Failure}
 use Rattle.solutions.specs.Failures.{FailsFor, IsEvidence}
-use Rattle.solutions.specs.Outcomes.{FailsBy, Gives, first_of, last_of}
+use Rattle.solutions.specs.Outcomes.{Gives, first_of, last_of}
 use Rattle.solutions.specs.Solutions.{SolutionData}
 use Rattle.solutions.specs.Told.{IsLastEvidence, IsTold, LastIs, failures_of}
 use Rattle.solutions.proofs.Rightness.{given-is_right}

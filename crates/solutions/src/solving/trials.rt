@@ -3,12 +3,12 @@
 ghost use Rattle.std.specs.Prelude.{◌≡◌, ◌<◌, ◌≤◌, length, replicate, None, IfOk};
 ghost use Rattle.modulo.specs.Problems.{budget_of};
 ghost use Rattle.problems.specs.Drafts.{plain_values};
-ghost use Rattle.solutions.specs.Trying.{GivesOrFails, IsTried};
+ghost use Rattle.solutions.specs.Trying.{IsTried};
 ghost use Rattle.solutions.specs.Outcomes.{IsPlacedAs, first_of, last_of};
 ghost use Rattle.solutions.specs.Solutions.{files_of};
 
 use crate::solution::Solution;
-use crate::solving::outcome::{Cause, Outcome};
+use crate::solving::outcome::Cause;
 use crate::solving::tried::{Failure, Tried};
 use crate::values::lives::{files, lives_at, plain};
 use crate::values::numbers::fill_numbers;
@@ -65,22 +65,7 @@ impl<'a> Trials<'a> {
     }
 
     /// What the problem gives at an interval, in cycles, from the greater lower bound up to the last one that its ceiling allows: a
-    /// solution, or the cause of its failure.
-    ///
-    /// # Errors
-    /// Memory ran out. This says nothing of the problem.
-    pub fn try_interval(&mut self, alloc: Global, ii: u64) -> Result<Outcome<'a>, OutOfMemory>
-        requires from_first { first_of self.old ≤ ii }
-        requires to_last { ii ≤ last_of self.old }
-        ensures same { self.new ≡ self.old }
-        ensures exact { IfOk result (GivesOrFails self.old ii) }
-    {
-        let tried = self.try_told(alloc, ii)?;
-        Ok(tried.outcome())
-    }
-
-    /// What [`try_interval`](Trials::try_interval) gives, by one attempt too, with the culprits where it is a failure. It takes memory
-    /// besides only for a list of operations that are not placed.
+    /// solution, or why it gives none. It takes more memory for a failure just where that is a list of operations that are not placed.
     ///
     /// # Errors
     /// Memory ran out. This says nothing of the problem.

@@ -1,13 +1,11 @@
 //! What one interval gives, with the culprits of its failure.
 
-ghost use Rattle.std.specs.Prelude.{◌≡◌, ℕ, Some};
+ghost use Rattle.std.specs.Prelude.{◌≡◌, Some};
 ghost use Rattle.modulo.specs.Culprits.{failure_of};
-ghost use Rattle.problems.specs.Problems.{ProblemData};
 ghost use Rattle.solutions.specs.Outcomes.{cause_of};
-ghost use Rattle.solutions.specs.Trying.{GivesOrFails, IsTried};
 
 use crate::solution::Solution;
-use crate::solving::outcome::{Cause, Outcome};
+use crate::solving::outcome::Cause;
 use modulo::Culprit;
 
 /// Why an interval gives no solution, and who keeps it from one.
@@ -49,18 +47,6 @@ impl Failure {
         Failure {
             cause,
             culprit: Some(culprit),
-        }
-    }
-}
-
-impl<'a> Tried<'a> {
-    /// The same without culprits.
-    pub(crate) fn outcome(self) -> Outcome<'a>
-        ensures { (problem : ProblemData) (ii : ℕ) → IsTried problem ii self.entry → GivesOrFails problem ii result }
-    {
-        match self {
-            Tried::Met(solution) => Outcome::Met(solution),
-            Tried::Failed(failure) => Outcome::Failed(failure.cause),
         }
     }
 }
