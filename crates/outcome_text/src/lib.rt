@@ -1,4 +1,4 @@
-//! What a scheduling problem comes to, as text: it is solved on the spot, and told with what its bounds are due to.
+//! What a scheduling problem comes to, as text: its solution, or why it has none, with what its bounds are due to.
 #![tactic(auto)]
 
 mod circuit;

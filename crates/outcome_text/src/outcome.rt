@@ -1,12 +1,13 @@
 //! What a problem comes to.
 
 ghost use Rattle.std.specs.Prelude.{◌≡◌, ℕ, List, ◌++◌, IfOk};
+ghost use Rattle.solutions.specs.Told.{IsTold};
 ghost use Rattle.outcome_text.specs.Answers.{IsOutcomeText, is_met};
 
 use crate::notes::notes_of;
 use machine_data::OutOfMemory;
 use problems::Problem;
-use solutions::{Outcome, solve};
+use solutions::{Outcome, Told};
 use std::alloc::Global;
 
 /// Whether an outcome is a solution.
@@ -19,8 +20,8 @@ pub fn is_met(outcome: &Outcome) -> bool
     }
 }
 
-/// Solves a problem, and appends what that comes to: its bounds with a critical circuit and the fullest units, and its solution, or
-/// why there is none. The result is whether it is solved.
+/// Appends what a problem comes to, as [`solve_told`](solutions::solve_told) told it: its bounds with a critical circuit and the fullest
+/// units, and its solution, or why there is none. The result is whether it is solved.
 ///
 /// # Errors
 /// Memory ran out. The text is left with a part of all that.
@@ -29,11 +30,13 @@ pub fn push_outcome(
     text: &mut Vec<u8>,
     name: &str,
     problem: &Problem,
+    told: &Told,
 ) -> Result<bool, OutOfMemory>
+    requires { IsTold problem.now told.now }
     ensures told { IfOk result (λ met. (answer : List ℕ) × (text.new.items ≡ text.old.items ++ answer) × IsOutcomeText name.now problem.now met answer) }
 {
     let notes = notes_of(alloc, problem)?;
-    let outcome = solve(alloc, problem)?;
-    solution_text::push_outcome(alloc, text, name, notes.as_slice(), problem, &outcome)?;
-    Ok(is_met(&outcome))
+    let outcome = &told.outcome;
+    solution_text::push_outcome(text, name, notes.as_slice(), problem, outcome, told.culprit())?;
+    Ok(is_met(outcome))
 }

@@ -1,75 +1,48 @@
--- The texts of intervals that were tried.
-use Rattle.std.proofs.Common.{◌≡◌, ℕ, zero, suc, ◌+◌, ◌-◌, ◌<◌, ◌≤◌, List, [], ◌++◌, refl, sym, subst, arith}
-use Rattle.std.specs.List.{range_with_len}
-use Rattle.graph_text.specs.Texts.{AreTexts}
-use Rattle.writing.proofs.Beginnings.{two_pushed}
-use Rattle.modulo.specs.Schedules.{stages_of}
-use Rattle.problems.specs.Problems.{ProblemData, IsProblem}
-use Rattle.solutions.specs.declared.solving.outcome.Cause.{Cause}
-use Rattle.solutions.specs.declared.solving.outcome.Outcome.TheVariants.{Met, Failed}
-use Rattle.solutions.specs.Outcomes.{FailsBy, Gives, first_of}
-use Rattle.solutions.specs.Solutions.{SolutionData, schedule_of}
-use Rattle.solutions.proofs.Rising.{Risen, met_here, risen_on, unmet_here}
+-- Failures of intervals, one after another, and what holds the interval after them.
+use Rattle.std.proofs.Common.{◌≡◌, ℕ, ◌+◌, ◌-◌, ◌≤◌, List, [], ◌∷◌, length, Some, None, refl, sym, ◌∙◌, subst, arith}
+use Rattle.std.specs.Prelude.{slice_get}
+use Rattle.std.specs.List.{AllZip, range_with_len}
+use Rattle.std.proofs.lemmas.List.FromFn.{length-range_with_len}
+use Rattle.std.proofs.lemmas.Option.{slice_get-get_or, slice_get_within}
+use Rattle.std.proofs.lemmas.Slice.Zip.{AllZip-long}
+use Rattle.problems.specs.Problems.{ProblemData}
+use Rattle.solutions.specs.declared.solving.tried.Failure.{Failure}
+use Rattle.solutions.specs.Failures.{FailsFor}
+use Rattle.solutions.specs.Outcomes.{FailsBy, first_of}
+use Rattle.solutions.proofs.Telling.{failure-at}
 use Rattle.problem_reasons.specs.declared.hold.Hold.{Hold}
-use Rattle.problem_reasons.specs.Failures.{FailsFor, FailureData}
+use Rattle.problem_reasons.specs.declared.hold.Hold.TheVariants as hold
 use Rattle.problem_reasons.specs.Holds.{IsHold}
-use Rattle.graph_text.proofs.Texts.{row-more}
-use Rattle.problem_reasons.specs.Tries.{AreTries, hold_line, met_line, try_line}
 
--- the first `above` intervals were tried, none of which gives a solution, and a line was written for each
-pub record AreTold (p : ProblemData) (above : ℕ) (last : Cause) (old new : List ℕ) : Type 0 where
-  pub risen : Risen p above last
-  pub lines : List ℕ
-  pub are_lines : AreTexts (FailsFor p) (try_line p.draft) (range_with_len (first_of p) above) lines
-  pub is_text : new ≡ old ++ lines
+-- the failures of so many intervals are so many
+pub each-told : (p : ProblemData) (n : ℕ) (failures : List Failure) → AllZip (FailsFor p) (range_with_len (first_of p) n) failures → length failures ≡ n
+each-told p n failures are = AllZip-long (FailsFor p) (range_with_len (first_of p) n) failures are ∙ length-range_with_len (first_of p) n
 
--- the cause of the interval before this one
-pub before-of : (p : ProblemData) (m above : ℕ) (last : Cause) → Risen p above last → m ≡ first_of p → first_of p < m + above → FailsBy p ((m + above) - 1) last
-before-of p m zero last r same h = absurd (omega arith)
-before-of p m (suc k) last r same h = subst (λ n. FailsBy p n last) (at m (first_of p) k same) (r.fails k refl)
-  where
-    at : (m n k : ℕ) → m ≡ n → n + k ≡ (m + suc k) - 1
-    at m n k same = omega arith
+pub all-told : (p : ProblemData) (n : ℕ) (failures : List Failure) → AllZip (FailsFor p) (range_with_len (first_of p) n) failures
+    → AllZip (FailsFor p) (range_with_len (first_of p) (length failures)) failures
+all-told p n failures are = subst (λ k. AllZip (FailsFor p) (range_with_len (first_of p) k) failures) (sym (each-told p n failures are)) are
 
-pub met-tries : (p : ProblemData) (m above : ℕ) (last : Cause) (s : SolutionData) (hold : Hold) (lines : List ℕ) → Risen p above last → Gives p (m + above) s
-    → above ≤ p.scheduling.ceiling → m ≡ first_of p → AreTexts (FailsFor p) (try_line p.draft) (range_with_len (first_of p) above) lines → IsHold p (m + above) hold
-    → AreTries p (Met s) (lines ++ (met_line (m + above) (stages_of (schedule_of s)) ++ hold_line hold))
-met-tries p m above last s hold lines r gives few same are held = record {
-  is_solved = met_here p above m last s r same gives few;
-  lines = lines;
-  are_lines = subst (λ (n : ℕ). AreTexts (FailsFor p) (try_line p.draft) (range_with_len (first_of p) n) lines) (count m (first_of p) above s.ii same gives.same_interval) are;
-  end = met_line (m + above) (stages_of (schedule_of s)) ++ hold_line hold;
-  is_end = (
-    hold,
-    subst (λ (n : ℕ). IsHold p n hold) (sym gives.same_interval) held,
-    subst (λ (n : ℕ). met_line (m + above) (stages_of (schedule_of s)) ++ hold_line hold ≡ met_line n (stages_of (schedule_of s)) ++ hold_line hold) (sym gives.same_interval) refl,
-  );
-  is_text = refl;
-}
-  where
-    count : (m n above ii : ℕ) → m ≡ n → ii ≡ m + above → above ≡ ii - n
-    count m n above ii same at = omega arith
+-- one failure for each interval before
+abbrev AreBefore : ProblemData → ℕ → List Failure → Type 0
+AreBefore p ii failures = AllZip (FailsFor p) (range_with_len (first_of p) (ii - first_of p)) failures
 
-pub unmet-tries : (p : ProblemData) (above : ℕ) (last : Cause) (lines : List ℕ) → Risen p above last → above ≡ p.scheduling.ceiling + 1
-    → AreTexts (FailsFor p) (try_line p.draft) (range_with_len (first_of p) above) lines → AreTries p (Failed last) (lines ++ [])
-unmet-tries p above last lines r at are = record {
-  is_solved = unmet_here p above last r at;
-  lines = lines;
-  are_lines = subst (λ (n : ℕ). AreTexts (FailsFor p) (try_line p.draft) (range_with_len (first_of p) n) lines) at are;
-  end = [];
-  is_end = refl;
-  is_text = refl;
-}
+pub hold-after : (p : ProblemData) (ii : ℕ) (failures : List Failure) (failure : Failure) → first_of p ≤ ii → AreBefore p ii failures
+    → slice_get failures (length failures - 1) ≡ Some failure → IsHold p ii (hold.Failure failure.cause)
+hold-after p ii failures failure low are at =
+    let many = each-told p (ii - first_of p) failures are in
+    let within = slice_get_within failures (length failures - 1) failure at in
+    let fails : FailsFor p (first_of p + (length failures - 1)) failure = failure-at p (first_of p) (ii - first_of p) (length failures - 1) failures failure are at in
+    let before : first_of p + (length failures - 1) ≡ ii - 1 = omega arith in
+    (omega arith, subst (λ n. FailsBy p n failure.cause) before fails.fails)
 
--- one interval more
-pub told-more : (p : ProblemData) (m above : ℕ) (last cause : Cause) (failure : FailureData) (old new newer : List ℕ) → IsProblem p → m ≡ first_of p → AreTold p above last old new
-    → FailsFor p (m + above) failure → failure.cause ≡ cause → newer ≡ new ++ try_line p.draft (m + above) failure → AreTold p (above + 1) cause old newer
-told-more p m above last cause failure old new newer is same t fails by e =
-    let here : FailsFor p (first_of p + above) failure = subst (λ (n : ℕ). FailsFor p (n + above) failure) same fails in
-    record {
-      risen = risen_on p above m last cause is same t.risen (subst (FailsBy p (m + above)) by fails.fails);
-      lines = t.lines ++ try_line p.draft (m + above) failure;
-      are_lines = subst (λ (n : ℕ). AreTexts (FailsFor p) (try_line p.draft) (range_with_len (first_of p) (above + 1)) (t.lines ++ try_line p.draft (n + above) failure)) (sym same)
-          (row-more (FailsFor p) (try_line p.draft) (first_of p) above t.lines failure t.are_lines here);
-      is_text = two_pushed old t.lines (try_line p.draft (m + above) failure) new newer t.is_text e;
-    }
+none-last : {X : Type 0} (xs : List X) → slice_get xs (length xs - 1) ≡ None → length xs ≡ 0
+none-last [] e = refl
+none-last (x ∷ xs) e = let some = slice_get-get_or (x ∷ xs) (length (x ∷ xs) - 1) x (omega arith) in absurd (cc)
+
+pub hold-first : (p : ProblemData) (ii : ℕ) (failures : List Failure) (held : Hold) → first_of p ≤ ii → AreBefore p ii failures
+    → slice_get failures (length failures - 1) ≡ None → IsHold p (first_of p) held → IsHold p ii held
+hold-first p ii failures held low are none is =
+    let many = each-told p (ii - first_of p) failures are in
+    let empty = none-last failures none in
+    let same : first_of p ≡ ii = omega arith in
+    subst (λ n. IsHold p n held) same is

@@ -1,24 +1,25 @@
 -- The lines of the intervals that are tried.
-use Rattle.std.specs.Prelude.{◌≡◌, ℕ, ◌+◌, ◌-◌, codes, List, [], ◌++◌}
+use Rattle.std.specs.Prelude.{◌≡◌, ℕ, codes, List, [], ◌++◌}
 use Rattle.std.specs.List.{range_with_len}
 use Rattle.graph_text.specs.Texts.{AreTexts}
-use Rattle.modulo.specs.Problems.{mii_of}
 use Rattle.modulo.specs.Schedules.{stages_of}
 use Rattle.problems.specs.declared.draft.Draft.{Draft}
 use Rattle.problems.specs.Problems.{ProblemData}
 use Rattle.solutions.specs.declared.solving.outcome.Outcome.{Outcome}
 use Rattle.solutions.specs.declared.solving.outcome.Outcome.TheVariants.{Met, Failed}
-use Rattle.solutions.specs.Outcomes.{IsSolved}
+use Rattle.solutions.specs.declared.solving.tried.Failure.{Failure}
+use Rattle.solutions.specs.Failures.{FailsFor}
+use Rattle.solutions.specs.Outcomes.{IsSolved, first_of}
 use Rattle.solutions.specs.Solutions.{schedule_of}
+use Rattle.solutions.specs.Told.{failures_of}
 use Rattle.solution_text.specs.Texts.{cause_text}
 use Rattle.writing.specs.Words.{told}
 use Rattle.problem_reasons.specs.declared.hold.Hold.{Hold}
-use Rattle.problem_reasons.specs.Failures.{FailsFor, FailureData}
 use Rattle.problem_reasons.specs.Holds.{IsHold, hold_word}
 
 -- `try I CAUSE`, with its culprits, with a line feed
-abbrev pub try_line : Draft → ℕ → FailureData → List ℕ
-try_line draft ii failure = ((told (codes "try ") ii ++ codes " ") ++ cause_text draft failure.cause failure.found) ++ codes "\n"
+abbrev pub try_line : Draft → ℕ → Failure → List ℕ
+try_line draft ii failure = ((told (codes "try ") ii ++ codes " ") ++ cause_text draft failure.cause failure.culprit) ++ codes "\n"
 
 -- `try I solution stages S`, with a line feed
 abbrev pub met_line : ℕ → ℕ → List ℕ
@@ -27,11 +28,6 @@ met_line ii stages = (told (codes "try ") ii ++ told (codes " solution stages ")
 -- `held by WORD`, with a line feed
 abbrev pub hold_line : Hold → List ℕ
 hold_line hold = (codes "held by " ++ hold_word hold) ++ codes "\n"
-
--- how many intervals are tried that give no solution: all before the one that does, or all
-abbrev pub failures_of : ProblemData → Outcome → ℕ
-failures_of problem (Met s) = s.ii - mii_of problem.scheduling
-failures_of problem (Failed cause) = problem.scheduling.ceiling + 1
 
 -- the interval of the solution, and what holds it, where there is one
 abbrev pub IsEnd : ProblemData → Outcome → List ℕ → Type 0
@@ -43,7 +39,7 @@ IsEnd problem (Failed cause) text = text ≡ []
 pub record AreTries (problem : ProblemData) (outcome : Outcome) (text : List ℕ) : Type 0 where
   pub is_solved : IsSolved problem outcome
   pub lines : List ℕ
-  pub are_lines : AreTexts (FailsFor problem) (try_line problem.draft) (range_with_len (mii_of problem.scheduling) (failures_of problem outcome)) lines
+  pub are_lines : AreTexts (FailsFor problem) (try_line problem.draft) (range_with_len (first_of problem) (failures_of problem outcome)) lines
   pub end : List ℕ
   pub is_end : IsEnd problem outcome end
   pub is_text : text ≡ lines ++ end

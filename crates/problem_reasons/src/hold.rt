@@ -1,11 +1,13 @@
 //! What holds the interval of a problem.
 
-ghost use Rattle.std.specs.Prelude.{◌≡◌, ◌≤◌, ◌<◌, ◌-◌};
-ghost use Rattle.solutions.specs.Outcomes.{FailsBy, first_of};
+ghost use Rattle.std.specs.Prelude.{◌≡◌, ◌≤◌, ◌-◌, ℕ};
+ghost use Rattle.std.specs.List.{AllZip, range_with_len};
+ghost use Rattle.solutions.specs.Failures.{FailsFor};
+ghost use Rattle.solutions.specs.Outcomes.{first_of};
 ghost use Rattle.problem_reasons.specs.Holds.{IsHold, cause_word, hold_word};
 
 use problems::Problem;
-use solutions::Cause;
+use solutions::{Cause, Failure};
 
 /// Why a problem has no solution at a shorter interval than its own.
 #[derive(Clone, Copy, Debug, PartialEq, Eq)]
@@ -46,18 +48,25 @@ impl Hold {
     }
 }
 
-/// What holds an interval, in cycles, with the cause of the one before it, if that was tried.
-pub(crate) fn hold_of(problem: &Problem, interval: u64, before: Cause) -> Hold
-    requires low { first_of problem.now ≤ interval }
-    requires before { first_of problem.now < interval → FailsBy problem.now (interval - 1) before }
-    ensures { IsHold problem.now interval result }
+/// What holds an interval, by the failures of those before it, from the first one on.
+pub(crate) fn hold_of(problem: &Problem, failures: &[Failure]) -> Hold
+    ensures { (ii : ℕ) → first_of problem.now ≤ ii → AllZip (FailsFor problem.now) (range_with_len (first_of problem.now) (ii - first_of problem.now)) failures.now
+        → IsHold problem.now ii result }
+{
+    match failures.last() {
+        Some(failure) => Hold::Failure(failure.cause),
+        None => bound_of(problem),
+    }
+}
+
+/// Which of the two bounds holds the first interval.
+fn bound_of(problem: &Problem) -> Hold
+    ensures { IsHold problem.now (first_of problem.now) result }
 {
     let scheduling = problem.scheduling();
     let resources = scheduling.resources();
     let recurrences = scheduling.recurrences();
-    if scheduling.mii() < interval {
-        Hold::Failure(before)
-    } else if resources < recurrences {
+    if resources < recurrences {
         Hold::Recurrences
     } else if recurrences < resources {
         Hold::Units

@@ -3,7 +3,6 @@
 #![tactic(auto)]
 
 mod circuit;
-mod evidence;
 mod hold;
 mod reasons;
 mod tries;

@@ -1,19 +1,18 @@
 //! The lines of the intervals that are tried.
 
-ghost use Rattle.std.specs.Prelude.{◌≡◌, ◌≤◌, ◌++◌, ℕ, List, IfOk, OnOk};
-ghost use Rattle.std.specs.Option.{option_copied};
-ghost use Rattle.solutions.specs.Outcomes.{FailsBy, first_of, last_of};
-ghost use Rattle.problem_reasons.specs.Failures.{FailsFor, FailureData};
-ghost use Rattle.problem_reasons.specs.Tries.{AreTries, hold_line, met_line, try_line};
+ghost use Rattle.std.specs.Prelude.{◌≡◌, ◌++◌, ℕ, List, length, OnOk};
+ghost use Rattle.std.specs.List.{AllZip, range_with_len};
+ghost use Rattle.graph_text.specs.Texts.{AreTexts};
+ghost use Rattle.solutions.specs.Failures.{FailsFor};
+ghost use Rattle.solutions.specs.Outcomes.{first_of};
+ghost use Rattle.solutions.specs.Told.{IsTold};
+ghost use Rattle.problem_reasons.specs.Tries.{AreTries, IsEnd, hold_line, met_line, try_line};
 
-use crate::evidence::evidence;
 use crate::hold::{Hold, hold_of};
 use machine_data::OutOfMemory;
-use modulo::Culprit;
 use problems::{Draft, Problem};
 use solution_text::push_cause;
-use solutions::{Cause, Outcome, Trials};
-use std::alloc::Global;
+use solutions::{Failure, Outcome, Told};
 use writing::{Text, push_both, push_told};
 
 /// Appends the line of an interval, in cycles, that gives no solution, with the cause and its culprits.
@@ -21,15 +20,35 @@ fn push_try(
     text: &mut Vec<u8>,
     draft: &Draft,
     interval: u64,
-    cause: Cause,
-    found: Option<&Culprit>,
+    failure: &Failure,
 ) -> Result<(), OutOfMemory>
-    ensures ok { OnOk result (text.new.items ≡ text.old.items ++ try_line draft.now interval (record { cause = cause; found = option_copied found.entry })) }
+    ensures ok { OnOk result (text.new.items ≡ text.old.items ++ try_line draft.now interval failure.now) }
 {
     push_told(text, "try ", interval)?;
     text.push_piece(" ")?;
-    push_cause(text, draft, cause, found)?;
+    push_cause(text, draft, failure.cause, failure.culprit.as_ref())?;
     text.push_piece("\n")
+}
+
+/// Appends the line of each interval that gives no solution, from the first one on.
+fn push_failures(
+    text: &mut Vec<u8>,
+    problem: &Problem,
+    failures: &[Failure],
+) -> Result<(), OutOfMemory>
+    requires { AllZip (FailsFor problem.now) (range_with_len (first_of problem.now) (length failures.now)) failures.now }
+    ensures ok { OnOk result ((lines : List ℕ) × AreTexts (FailsFor problem.now) (try_line problem.now.draft) (range_with_len (first_of problem.now) (length failures.now)) lines × (text.new.items ≡ text.old.items ++ lines)) }
+{
+    let first = problem.scheduling().mii();
+    for above in 0..failures.len() {
+        push_try(
+            text,
+            problem.draft(),
+            first + above as u64,
+            &failures[above],
+        )?;
+    }
+    Ok(())
 }
 
 /// Appends the line of an interval, in cycles, that gives a solution of `stages` stages.
@@ -57,49 +76,31 @@ fn push_met(text: &mut Vec<u8>, interval: u64, stages: u64, hold: Hold) -> Resul
     push_hold(text, hold)
 }
 
-/// Appends the line of an interval, in cycles, that gives no solution, by this cause.
-fn push_failure(
-    alloc: Global,
-    text: &mut Vec<u8>,
-    problem: &Problem,
-    interval: u64,
-    cause: Cause,
-) -> Result<(), OutOfMemory>
-    requires from_first { first_of problem.now ≤ interval }
-    requires to_last { interval ≤ last_of problem.now }
-    requires fails { FailsBy problem.now interval cause }
-    ensures ok { OnOk result ((failure : FailureData) × FailsFor problem.now interval failure × (failure.cause ≡ cause) × (text.new.items ≡ text.old.items ++ try_line problem.now.draft interval failure)) }
+/// Appends the lines of the interval that gives a solution, if one does.
+fn push_end(text: &mut Vec<u8>, problem: &Problem, told: &Told) -> Result<(), OutOfMemory>
+    requires { IsTold problem.now told.now }
+    ensures ok { OnOk result ((end : List ℕ) × IsEnd problem.now told.now.outcome end × (text.new.items ≡ text.old.items ++ end)) }
 {
-    let found = evidence(alloc, problem, interval, cause)?;
-    push_try(text, problem.draft(), interval, cause, found.as_ref())
+    match &told.outcome {
+        Outcome::Met(solution) => push_met(
+            text,
+            solution.ii(),
+            solution.stages(),
+            hold_of(problem, told.failures.as_slice()),
+        ),
+        Outcome::Failed(_) => Ok(()),
+    }
 }
 
-/// Tries the intervals of a problem one after another until one gives a solution, and appends what each gives. The outcome is that of the
-/// problem.
-pub(crate) fn push_tries<'a>(
-    alloc: Global,
+/// Appends what each interval gives that was tried, until one gave a solution.
+pub(crate) fn push_tries(
     text: &mut Vec<u8>,
-    problem: &'a Problem,
-) -> Result<Outcome<'a>, OutOfMemory>
-    ensures exact { IfOk result (λ outcome. (tries : List ℕ) × AreTries problem.now outcome tries × (text.new.items ≡ text.old.items ++ tries)) }
+    problem: &Problem,
+    told: &Told,
+) -> Result<(), OutOfMemory>
+    requires { IsTold problem.now told.now }
+    ensures ok { OnOk result ((tries : List ℕ) × AreTries problem.now told.now.outcome tries × (text.new.items ≡ text.old.items ++ tries)) }
 {
-    let mut trials = Trials::of(alloc, problem)?;
-    let scheduling = problem.scheduling();
-    let mii = scheduling.mii();
-    let mut last = Cause::Table;
-    for above in 0..scheduling.ceiling() + 1 {
-        let interval = mii + above;
-        match trials.try_interval(alloc, interval)? {
-            Outcome::Met(solution) => {
-                let hold = hold_of(problem, interval, last);
-                push_met(text, interval, solution.stages(), hold)?;
-                return Ok(Outcome::Met(solution));
-            }
-            Outcome::Failed(cause) => {
-                push_failure(alloc, text, problem, interval, cause)?;
-                last = cause;
-            }
-        }
-    }
-    Ok(Outcome::Failed(last))
+    push_failures(text, problem, told.failures.as_slice())?;
+    push_end(text, problem, told)
 }

@@ -9,10 +9,10 @@ use Rattle.problems.specs.Problems.{ProblemData}
 use Rattle.solutions.specs.declared.solving.outcome.Cause.{Cause}
 use Rattle.solutions.specs.declared.solving.outcome.Outcome.{Outcome}
 use Rattle.solutions.specs.declared.solving.outcome.Outcome.TheVariants.{Met, Failed}
+use Rattle.solutions.specs.Failures.{IsEvidence}
 use Rattle.solutions.specs.Outcomes.{IsSolved, last_of}
 use Rattle.solutions.specs.Runs.{IsRightOutcome}
 use Rattle.solutions.specs.Solutions.{SolutionData}
-use Rattle.solution_text.specs.Outcomes.{IsEvidence}
 use Rattle.outcome_text.specs.Answers.{is_met}
 use Rattle.outcome_text.specs.Notes.{AreFullest, IsCircuitOf}
 use Rattle.solution_json.specs.Bounds.{circuit_value}
@@ -47,10 +47,10 @@ failed_object name problem circuit units cause found =
 abbrev pub IsObjectOf : List ℕ → ProblemData → List EdgeData → List ℕ → Outcome → Data → Type 0
 IsObjectOf name problem circuit units (Met s) told = told ≡ met_object name problem circuit units s
 IsObjectOf name problem circuit units (Failed cause) told =
-    (found : Option Culprit) × IsEvidence problem cause found × (told ≡ failed_object name problem circuit units cause found)
+    (found : Option Culprit) × IsEvidence problem (last_of problem) cause found × (told ≡ failed_object name problem circuit units cause found)
 
 -- an outcome of a problem as JSON without blanks, with what the bounds of the problem are due to
-pub record IsTold (name : List ℕ) (problem : ProblemData) (outcome : Outcome) (answer : List ℕ) : Type 0 where
+pub record IsJsonOf (name : List ℕ) (problem : ProblemData) (outcome : Outcome) (answer : List ℕ) : Type 0 where
   pub circuit : List EdgeData
   pub is_circuit : IsCircuitOf problem.scheduling circuit
   pub units : List ℕ
@@ -65,4 +65,4 @@ pub record IsOutcomeJson (name : List ℕ) (problem : ProblemData) (met : Bool) 
   pub is_solved : IsSolved problem outcome
   pub is_right : IsRightOutcome outcome
   pub same_met : met ≡ is_met outcome
-  pub is_told : IsTold name problem outcome answer
+  pub is_told : IsJsonOf name problem outcome answer

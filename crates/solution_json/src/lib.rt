@@ -1,4 +1,4 @@
-//! What a scheduling problem comes to, as JSON for programs that read it: it is solved on the spot, and told with what its bounds are
+//! What a scheduling problem comes to, as JSON for programs that read it: its solution, or why it has none, with what its bounds are
 //! due to.
 #![tactic(auto)]
 

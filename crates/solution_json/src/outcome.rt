@@ -4,9 +4,8 @@ ghost use Rattle.std.specs.Prelude.{◌≡◌, ◌≤◌, ◌++◌, ℕ, List, f
 ghost use Rattle.std.specs.Option.{option_copied};
 ghost use Rattle.serde_json.specs.View.{members_view, view};
 ghost use Rattle.serde_json.specs.Written.{compact_text, has_float};
-ghost use Rattle.solutions.specs.Outcomes.{FailsBy, IsSolved, last_of};
-ghost use Rattle.solutions.specs.declared.solving.outcome.Outcome.TheVariants.{Failed};
-ghost use Rattle.solution_json.specs.Outcomes.{IsObjectOf, IsOutcomeJson, IsTold, failed_object, head_members, met_object};
+ghost use Rattle.solutions.specs.Told.{IsLastEvidence, IsTold};
+ghost use Rattle.solution_json.specs.Outcomes.{IsJsonOf, IsObjectOf, IsOutcomeJson, failed_object, head_members, met_object};
 
 use crate::bounds::told_circuit;
 use crate::failures::{cause_word, told_evidence};
@@ -19,8 +18,7 @@ use modulo::Culprit;
 use outcome_text::{circuit_of, fullest_of, is_met};
 use problems::Problem;
 use serde_json::{Map, ToValue, Value};
-use solution_text::evidence;
-use solutions::{Cause, Outcome, Solution, solve};
+use solutions::{Cause, Outcome, Solution, Told};
 use std::alloc::Global;
 
 /// The members that tell the bounds of a problem, and what they are due to.
@@ -90,32 +88,7 @@ fn told_failed(
     object_of(with(alloc, members, "culprit", culprit))
 }
 
-/// A problem that has no solution, with the culprits of the cause.
-fn told_without(
-    alloc: Global,
-    name: &str,
-    problem: &Problem,
-    circuit: &[Edge],
-    units: &[usize],
-    cause: Cause,
-) -> Result<Value, OutOfMemory>
-    requires few { length circuit.now ≤ 128 }
-    requires fails { FailsBy problem.now (last_of problem.now) cause }
-    ensures { IfOk result (λ v. IsObjectOf name.now problem.now circuit.now units.now (Failed cause) (view v)) }
-{
-    let culprit = evidence(alloc, problem, cause)?;
-    told_failed(
-        alloc,
-        name,
-        problem,
-        circuit,
-        units,
-        cause,
-        culprit.as_ref(),
-    )
-}
-
-/// An outcome of a problem.
+/// An outcome of a problem; of one that has no solution with the culprits of the cause.
 fn told_outcome(
     alloc: Global,
     name: &str,
@@ -123,14 +96,17 @@ fn told_outcome(
     circuit: &[Edge],
     units: &[usize],
     outcome: &Outcome,
+    culprit: Option<&Culprit>,
 ) -> Result<Value, OutOfMemory>
     requires few { length circuit.now ≤ 128 }
-    requires solved { IsSolved problem.now outcome.now }
+    requires evidence { IsLastEvidence problem.now outcome.now (option_copied culprit) }
     ensures { IfOk result (λ v. IsObjectOf name.now problem.now circuit.now units.now outcome.now (view v)) }
 {
     match outcome {
         Outcome::Met(solution) => told_met(alloc, name, problem, circuit, units, solution),
-        Outcome::Failed(cause) => told_without(alloc, name, problem, circuit, units, *cause),
+        Outcome::Failed(cause) => {
+            told_failed(alloc, name, problem, circuit, units, *cause, culprit)
+        }
     }
 }
 
@@ -149,9 +125,10 @@ fn push_told(
     name: &str,
     problem: &Problem,
     outcome: &Outcome,
+    culprit: Option<&Culprit>,
 ) -> Result<(), OutOfMemory>
-    requires { IsSolved problem.now outcome.now }
-    ensures { OnOk result ((answer : List ℕ) × (text.new.items ≡ text.old.items ++ answer) × IsTold name.now problem.now outcome.now answer) }
+    requires { IsLastEvidence problem.now outcome.now (option_copied culprit) }
+    ensures { OnOk result ((answer : List ℕ) × (text.new.items ≡ text.old.items ++ answer) × IsJsonOf name.now problem.now outcome.now answer) }
 {
     let circuit = circuit_of(alloc, problem.scheduling())?;
     let units = fullest_of(alloc, problem)?;
@@ -162,12 +139,13 @@ fn push_told(
         circuit.as_slice(),
         units.as_slice(),
         outcome,
+        culprit,
     )?;
     push_value(alloc, text, &told)
 }
 
-/// Solves a problem, and appends what that comes to as a JSON object without blanks: its bounds with a critical circuit and the
-/// fullest units, and its solution, or why there is none. The result is whether it is solved.
+/// Appends what a problem comes to, as [`solve_told`](solutions::solve_told) told it, as a JSON object without blanks: its bounds with a
+/// critical circuit and the fullest units, and its solution, or why there is none. The result is whether it is solved.
 ///
 /// # Errors
 /// Memory ran out. The text is left with a part of all that.
@@ -176,10 +154,11 @@ pub fn push_outcome_json(
     text: &mut Vec<u8>,
     name: &str,
     problem: &Problem,
+    told: &Told,
 ) -> Result<bool, OutOfMemory>
+    requires { IsTold problem.now told.now }
     ensures told { IfOk result (λ met. (answer : List ℕ) × (text.new.items ≡ text.old.items ++ answer) × IsOutcomeJson name.now problem.now met answer) }
 {
-    let outcome = solve(alloc, problem)?;
-    push_told(alloc, text, name, problem, &outcome)?;
-    Ok(is_met(&outcome))
+    push_told(alloc, text, name, problem, &told.outcome, told.culprit())?;
+    Ok(is_met(&told.outcome))
 }

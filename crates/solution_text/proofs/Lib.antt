@@ -2,5 +2,4 @@ pub mod Loops
 pub mod Places
 pub mod Meant
 pub mod Shown
-pub mod EvidenceLemmas
 pub mod Carrying

@@ -19,7 +19,7 @@ pub use failures::{push_cause, push_failed};
 pub use files::has_free;
 pub use laws::names_are_those_of_runs;
 pub use named::{Register, register_behind};
-pub use outcomes::{evidence, push_outcome};
+pub use outcomes::push_outcome;
 pub use solved::push_solution;
 pub use values::carried;
 pub use verdicts::{Missing, push_broken, push_missing, push_ok};

@@ -8,3 +8,5 @@ pub mod Rising
 pub mod Judged
 pub mod Numbered
 pub mod Copying
+mod Blamed
+pub mod Telling

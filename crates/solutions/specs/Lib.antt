@@ -4,7 +4,9 @@ pub use Rattle.settings.specs.Searches
 pub mod Files
 pub mod Solutions
 pub mod Outcomes
+pub mod Failures
 pub mod Trying
+pub mod Told
 pub mod Breaks
 pub mod Copies
 pub mod Runs

@@ -1,10 +1,12 @@
 -- What an interval gives.
 use Rattle.std.specs.Prelude.{ℕ}
 use Rattle.problems.specs.Problems.{ProblemData}
-use Rattle.solutions.specs.declared.solving.outcome.Outcome.{Outcome}
-use Rattle.solutions.specs.declared.solving.outcome.Outcome.TheVariants.{Met, Failed}
-use Rattle.solutions.specs.Outcomes.{Gives, FailsBy}
+use Rattle.solutions.specs.declared.solving.tried.Tried.{Tried}
+use Rattle.solutions.specs.declared.solving.tried.Tried.TheVariants.{Met, Failed}
+use Rattle.solutions.specs.Failures.{FailsFor}
+use Rattle.solutions.specs.Outcomes.{Gives}
 
-abbrev pub GivesOrFails : ProblemData → ℕ → Outcome → Type 0
-GivesOrFails problem ii (Met s) = Gives problem ii s
-GivesOrFails problem ii (Failed cause) = FailsBy problem ii cause
+-- a solution, or why there is none, with the culprits
+abbrev pub IsTried : ProblemData → ℕ → Tried → Type 0
+IsTried problem ii (Met s) = Gives problem ii s
+IsTried problem ii (Failed failure) = FailsFor problem ii failure

@@ -13,4 +13,6 @@ pub use laws::{broken_is_unlawful, gives_is_lawful, lawful_solutions_are_runs, o
 pub use solution::Solution;
 pub use solving::outcome::{Cause, Outcome};
 pub use solving::solve::solve;
+pub use solving::told::{Told, solve_told};
 pub use solving::trials::Trials;
+pub use solving::tried::{Failure, Tried};

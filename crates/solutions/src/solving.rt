@@ -2,4 +2,6 @@
 
 pub(crate) mod outcome;
 pub(crate) mod solve;
+pub(crate) mod told;
 pub(crate) mod trials;
+pub(crate) mod tried;

@@ -1,10 +1,6 @@
 //! What a problem gives.
 
-ghost use Rattle.std.specs.Prelude.{◌≡◌};
-ghost use Rattle.solutions.specs.Outcomes.{cause_of};
-
 use crate::solution::Solution;
-use modulo::Failure;
 
 /// Why an interval gives no solution, in the order in which the causes are tested.
 #[derive(Clone, Copy, Debug, PartialEq, Eq)]
@@ -27,15 +23,4 @@ pub enum Outcome<'a> {
     Met(Solution<'a>),
     /// No interval that is tried has one; the cause is that of the last one.
     Failed(Cause),
-}
-
-/// The cause that a failed attempt is.
-pub(crate) fn cause_of(failure: Failure) -> Cause
-    ensures { result ≡ cause_of failure }
-{
-    match failure {
-        Failure::Table => Cause::Table,
-        Failure::Budget => Cause::Budget,
-        Failure::Stages => Cause::Stages,
-    }
 }

@@ -1,11 +1,11 @@
 //! The least interval that has a solution.
 
-ghost use Rattle.std.specs.Prelude.{◌≡◌, IfOk};
+ghost use Rattle.std.specs.Prelude.{IfOk};
 ghost use Rattle.solutions.specs.Outcomes.{IsSolved};
 ghost use Rattle.solutions.specs.Runs.{IsRightOutcome};
 
-use crate::solving::outcome::{Cause, Outcome};
-use crate::solving::trials::Trials;
+use crate::solving::outcome::Outcome;
+use crate::solving::told::solve_told;
 use machine_data::OutOfMemory;
 use problems::Problem;
 use std::alloc::Global;
@@ -20,31 +20,6 @@ pub fn solve<'a>(alloc: Global, problem: &'a Problem) -> Result<Outcome<'a>, Out
     ensures exact { IfOk result (IsSolved problem.now) }
     ensures right { IfOk result IsRightOutcome }
 {
-    let trials = Trials::of(alloc, problem)?;
-    first_success(alloc, problem, trials)
-}
-
-/// The outcome of the intervals, tried one after another.
-fn first_success<'a>(
-    alloc: Global,
-    problem: &'a Problem,
-    mut trials: Trials<'a>,
-) -> Result<Outcome<'a>, OutOfMemory>
-    requires { trials ≡ problem.now }
-    ensures exact { IfOk result (IsSolved problem.now) }
-    ensures right { IfOk result IsRightOutcome }
-{
-    let scheduling = problem.scheduling();
-    let mii = scheduling.mii();
-    let ceiling = scheduling.ceiling();
-    let mut last = Cause::Table;
-    for above in 0..ceiling + 1 {
-        let ii = mii + above;
-        match trials.try_interval(alloc, ii) {
-            Err(fault) => return Err(fault),
-            Ok(Outcome::Met(solution)) => return Ok(Outcome::Met(solution)),
-            Ok(Outcome::Failed(cause)) => last = cause,
-        }
-    }
-    Ok(Outcome::Failed(last))
+    let told = solve_told(alloc, problem)?;
+    Ok(told.outcome)
 }

@@ -3,16 +3,17 @@
 ghost use Rattle.std.specs.Prelude.{◌≡◌, ◌<◌, ◌≤◌, length, replicate, None, IfOk};
 ghost use Rattle.modulo.specs.Problems.{budget_of};
 ghost use Rattle.problems.specs.Drafts.{plain_values};
-ghost use Rattle.solutions.specs.Trying.{GivesOrFails};
+ghost use Rattle.solutions.specs.Trying.{IsTried};
 ghost use Rattle.solutions.specs.Outcomes.{IsPlacedAs, first_of, last_of};
 ghost use Rattle.solutions.specs.Solutions.{files_of};
 
 use crate::solution::Solution;
-use crate::solving::outcome::{Cause, Outcome, cause_of};
+use crate::solving::outcome::Cause;
+use crate::solving::tried::{Failure, Tried};
 use crate::values::lives::{files, lives_at, plain};
 use crate::values::numbers::fill_numbers;
 use machine_data::OutOfMemory;
-use modulo::{Schedule, Try, attempt_on};
+use modulo::{Answer, Schedule, answer_on};
 use mrt::{DefaultTable, ModuloTable};
 use problems::Problem;
 use std::alloc::Global;
@@ -64,25 +65,25 @@ impl<'a> Trials<'a> {
     }
 
     /// What the problem gives at an interval, in cycles, from the greater lower bound up to the last one that its ceiling allows: a
-    /// solution, or the cause of its failure.
+    /// solution, or why it gives none. It takes more memory for a failure just where that is a list of operations that are not placed.
     ///
     /// # Errors
     /// Memory ran out. This says nothing of the problem.
-    pub fn try_interval(&mut self, alloc: Global, ii: u64) -> Result<Outcome<'a>, OutOfMemory>
+    pub fn try_told(&mut self, alloc: Global, ii: u64) -> Result<Tried<'a>, OutOfMemory>
         requires from_first { first_of self.old ≤ ii }
         requires to_last { ii ≤ last_of self.old }
         ensures same { self.new ≡ self.old }
-        ensures exact { IfOk result (GivesOrFails self.old ii) }
+        ensures exact { IfOk result (IsTried self.old ii) }
     {
         let mut table = self.table_at(alloc, ii)?;
         let scheduling = self.problem.scheduling();
-        let attempt = attempt_on(alloc, scheduling, &mut table, budget(scheduling));
+        let answer = answer_on(alloc, scheduling, &mut table, budget(scheduling));
         self.table = Some(table);
-        match attempt? {
-            Try::Placed(schedule) => {
+        match answer? {
+            Answer::Placed(schedule) => {
                 numbered(alloc, self.problem, &self.values, &self.files, schedule)
             }
-            Try::Failed(failure) => Ok(Outcome::Failed(cause_of(failure))),
+            Answer::Failed(culprit) => Ok(Tried::Failed(Failure::by(culprit))),
         }
     }
 
@@ -123,11 +124,11 @@ fn numbered<'a>(
     values: &[registers::Value],
     files: &[usize],
     schedule: Schedule<'a>,
-) -> Result<Outcome<'a>, OutOfMemory>
+) -> Result<Tried<'a>, OutOfMemory>
     requires placed { IsPlacedAs problem.now schedule.ii schedule }
     requires values { values.now ≡ plain_values problem.now.draft }
     requires files { files.now ≡ files_of problem.now.draft }
-    ensures { IfOk result (GivesOrFails problem.now schedule.entry.ii) }
+    ensures { IfOk result (IsTried problem.now schedule.entry.ii) }
 {
     let draft = problem.draft();
     let kinds = draft.files.as_slice();
@@ -143,10 +144,13 @@ fn numbered<'a>(
         numbers.as_mut_slice(),
     )?;
     match found {
-        Some((file, value)) => Ok(Outcome::Failed(Cause::Registers(file, value))),
+        Some((file, value)) => Ok(Tried::Failed(Failure {
+            cause: Cause::Registers(file, value),
+            culprit: None,
+        })),
         None => {
             let solution = Solution::new(problem, schedule, numbers, lives);
-            Ok(Outcome::Met(solution))
+            Ok(Tried::Met(solution))
         }
     }
 }

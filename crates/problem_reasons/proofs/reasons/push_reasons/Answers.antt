@@ -15,7 +15,7 @@ returns c =
     let new : List ℕ = c.push_outcome.new.text.items in
     let units = c.in_ok-push_units.ensures.ok in
     let circuit = c.in_ok-push_circuit.ensures.ok in
-    let tries = c.in_ok-outcome.ensures.exact in
+    let tries = c.in_ok-push_tries.ensures.ok in
     let answer = c.in_ok-push_outcome.ensures.ok in
     record {
       told = (
@@ -25,7 +25,7 @@ returns c =
           are_units = units.1;
           circuit = circuit.0;
           is_circuit = circuit.1;
-          outcome = c.in_ok-outcome.outcome;
+          outcome = c.args.told.now.outcome;
           tries = tries.0;
           are_tries = tries.1;
           answer = answer.0;

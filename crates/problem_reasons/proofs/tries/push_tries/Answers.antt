@@ -1,63 +1,43 @@
-use Rattle.std.proofs.Common.{◌≡◌, ℕ, List, ◌+◌, ◌≤◌, ◌++◌, [], sym, ap, ◌∙◌, subst, arith}
-use Rattle.std.proofs.lemmas.List.{append-nil}
+use Rattle.std.proofs.Common.{◌≡◌, ℕ, ◌++◌, List, length, refl, sym, ap, ◌∙◌, subst}
+use Rattle.std.specs.List.{AllZip, range_with_len}
+use Rattle.std.proofs.lemmas.Result.{on_ok_weaker}
+use Rattle.graph_text.specs.Texts.{AreTexts}
+use Rattle.solutions.specs.declared.solving.tried.Failure.{Failure}
+use Rattle.solutions.specs.Failures.{FailsFor}
+use Rattle.solutions.specs.Outcomes.{first_of}
+use Rattle.solutions.specs.Told.{failures_of}
 use Rattle.writing.proofs.Beginnings.{two_pushed}
-use Rattle.modulo.specs.Problems.{ProblemData as SchedulingData, mii_of}
-use Rattle.modulo.specs.Schedules.{stages_of}
-use Rattle.problems.specs.Problems.{ProblemData}
-use Rattle.solutions.specs.Outcomes.{Gives, first_of}
-use Rattle.solutions.specs.Solutions.{SolutionData, schedule_of}
-use Rattle.solutions.specs.Trying.{GivesOrFails}
-use Rattle.problem_reasons.specs.Tries.{hold_line, met_line}
-use Rattle.problem_reasons.proofs.Tried.{before-of, met-tries, told-more, unmet-tries}
+use Rattle.problem_reasons.specs.Tries.{try_line}
+use Rattle.problem_reasons.proofs.Tried.{all-told, each-told}
 use Rattle.problem_reasons.proofs.tries.push_tries.Goals as goal
 
-pub hold_of-hold-requires-clause-before : goal.hold_of-hold-requires-clause-before
-hold_of-hold-requires-clause-before c above =
-    let first : c.mii-mii.result ≡ first_of c.args.problem.now = c.mii-mii.ensures.value ∙ ap mii_of c.scheduling-scheduling.ensures.value in
-    before-of c.args.problem.now c.mii-mii.result c.loop-above.above c.loop-above.last c.loop-above.invariant.told.risen first above
-
-pub returns-in-Met : goal.returns-in-Met
-returns-in-Met c =
+pub push_failures-requires : goal.push_failures-requires
+push_failures-requires c =
     let p = c.args.problem.now in
-    let at = c.loop-above in
-    let ii = c.mii-mii.result + at.above in
-    let first : c.mii-mii.result ≡ first_of p = c.mii-mii.ensures.value ∙ ap mii_of c.scheduling-scheduling.ensures.value in
-    let ceiling : c.ceiling-above-end.result ≡ p.scheduling.ceiling = c.ceiling-above-end.ensures.value ∙ ap (λ (q : SchedulingData). q.ceiling) c.scheduling-scheduling.ensures.value in
-    let few : at.above ≤ p.scheduling.ceiling = (let t = c.loop-above-test.true in omega arith) in
-    let told = at.invariant.told in
-    let s : SolutionData = c.in-Met.solution in
-    let end : List ℕ = met_line ii (stages_of (schedule_of s)) ++ hold_line c.hold_of-hold.result in
-    let outcome = subst (λ (q : ProblemData). GivesOrFails q ii c.in_ok-solution.field-0) at.invariant.same c.in_ok-solution.ensures.exact in
-    let gives : Gives p ii s = subst (GivesOrFails p ii) c.in-Met.is outcome in
-    record {
-      exact = (
-        told.lines ++ end,
-        met-tries p c.mii-mii.result at.above at.last s c.hold_of-hold.result told.lines told.risen gives few first told.are_lines c.hold_of-hold.ensures,
-        two_pushed c.args.text.now.items told.lines end at.text.items _ told.is_text
-            (c.in_ok-push_met-in-Met.ensures.ok ∙ ap (λ (k : ℕ). at.text.items ++ (met_line ii k ++ hold_line c.hold_of-hold.result)) c.stages.ensures.value),
-      );
-    }
-
-pub loop-above-preserved : goal.loop-above-preserved
-loop-above-preserved c =
-    let p = c.args.problem.now in
-    let at = c.loop-above in
-    let first : c.mii-mii.result ≡ first_of p = c.mii-mii.ensures.value ∙ ap mii_of c.scheduling-scheduling.ensures.value in
-    let failed = c.in_ok-push_failure-in-Failed.ensures.ok in
-    record {
-      same = c.try_interval.ensures.same ∙ at.invariant.same;
-      told = told-more p c.mii-mii.result at.above at.last c.in-Failed.cause failed.0 _ _ _ c.scheduling-scheduling.ensures.well_formed first at.invariant.told failed.1 failed.2 failed.3;
-    }
+    let told = c.args.told.now in
+    subst (λ (failures : List Failure). AllZip (FailsFor p) (range_with_len (first_of p) (length failures)) failures) (sym c.as_slice.ensures.value)
+    (all-told p (failures_of p told.outcome) told.failures.items c.requires.are_failures)
 
 pub returns : goal.returns
 returns c =
     let p = c.args.problem.now in
-    let told = c.loop-above.invariant.told in
-    let ceiling : c.ceiling-above-end.result ≡ p.scheduling.ceiling = c.ceiling-above-end.ensures.value ∙ ap (λ (q : SchedulingData). q.ceiling) c.scheduling-scheduling.ensures.value in
+    let told = c.args.told.now in
+    let lines = c.in_ok-push_failures.ensures.ok in
+    let many : length c.as_slice.result.now ≡ failures_of p told.outcome
+    = ap length c.as_slice.ensures.value ∙ each-told p (failures_of p told.outcome) told.failures.items c.requires.are_failures in
     record {
-      exact = (
-        told.lines ++ [],
-        unmet-tries p c.loop-above.above c.loop-above.last told.lines told.risen (let t = c.loop-above-test.false in let u = c.loop-above.auto.above-end in omega arith) told.are_lines,
-        told.is_text ∙ ap (λ t. c.args.text.now.items ++ t) (sym (append-nil told.lines)),
-      );
+      ok = on_ok_weaker c.push_end.result
+          (λ end. (
+            lines.0 ++ end.0,
+            record {
+              is_solved = c.requires.is_solved;
+              lines = lines.0;
+              are_lines = subst (λ (n : ℕ). AreTexts (FailsFor p) (try_line p.draft) (range_with_len (first_of p) n) lines.0) many lines.1;
+              end = end.0;
+              is_end = end.1;
+              is_text = refl;
+            },
+            two_pushed c.args.text.now.items lines.0 end.0 c.push_failures.new.text.items c.push_end.new.text.items lines.2 end.2,
+          ))
+          c.push_end.ensures.ok;
     }

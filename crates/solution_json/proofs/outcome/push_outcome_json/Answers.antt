@@ -6,9 +6,9 @@ returns c = record {
     c.in_ok-push_told.ensures.0,
     c.in_ok-push_told.ensures.1,
     record {
-      outcome = c.in_ok-outcome.outcome;
-      is_solved = c.in_ok-outcome.ensures.exact;
-      is_right = c.in_ok-outcome.ensures.right;
+      outcome = c.args.told.now.outcome;
+      is_solved = c.requires.is_solved;
+      is_right = c.requires.is_right;
       same_met = c.is_met.ensures;
       is_told = c.in_ok-push_told.ensures.2;
     },

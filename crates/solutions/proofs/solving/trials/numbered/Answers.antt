@@ -1,10 +1,10 @@
-use Rattle.std.proofs.Common.{◌≡◌, length, drop, sym, ap, ◌∙◌, subst, arith}
+use Rattle.std.proofs.Common.{◌≡◌, length, drop, refl, sym, ap, ◌∙◌, subst, arith}
 use Rattle.std.specs.List.{All}
 use Rattle.problems.specs.declared.draft.Draft.{Draft}
 use Rattle.registers.specs.Residues.{IsLifeSpan}
 use Rattle.registers.proofs.allotted.Filled.{take-front}
 use Rattle.solutions.specs.inner.Filling.{AreFilled, LacksFirst}
-use Rattle.solutions.specs.Outcomes.{Gives}
+use Rattle.solutions.specs.Outcomes.{Gives, LacksRegister}
 use Rattle.solutions.specs.Solutions.{IsLawfulSolution, files_of, lives_at}
 use Rattle.solutions.proofs.Lives.{IsOf, are-spans, length-files, length-lives, length-plain}
 use Rattle.solutions.proofs.Numbered.{gives-from, lacks-from, moved, solution_of}
@@ -27,9 +27,11 @@ returns-in-Some c =
     let p = c.args.problem.now in
     let kinds : c.as_slice-kinds.result.now ≡ p.draft.files.items = c.as_slice-kinds.ensures.value ∙ ap (λ (d : Draft). d.files.items) c.draft-draft.ensures.value in
     let lacks = rw c.in-Some.is at c.in_ok-found.ensures in
-    lacks-from p c.args.schedule c.in-Some.file c.in-Some.value c.requires.placed
+    let fails : LacksRegister p c.args.schedule.ii c.in-Some.file c.in-Some.value
+    = lacks-from p c.args.schedule c.in-Some.file c.in-Some.value c.requires.placed
     (moved (λ n ks fs ls. LacksFirst n ks fs ls c.in-Some.file c.in-Some.value) c.ii-ii.result c.args.schedule.ii c.as_slice-kinds.result.now p.draft.files.items c.args.files.now (files_of p.draft)
-    c.as_slice.result.now (lives_at p.draft c.args.schedule) c.ii-ii.ensures.value kinds c.requires.files (c.as_slice.ensures.value ∙ c.in_ok-lives.ensures) lacks)
+    c.as_slice.result.now (lives_at p.draft c.args.schedule) c.ii-ii.ensures.value kinds c.requires.files (c.as_slice.ensures.value ∙ c.in_ok-lives.ensures) lacks) in
+    record { fails = fails; is = refl }
 
 pub new-solution-requires-clause-lawful : goal.new-solution-requires-clause-lawful
 new-solution-requires-clause-lawful c =

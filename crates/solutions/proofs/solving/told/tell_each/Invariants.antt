@@ -1,9 +1,9 @@
 use Rattle.std.proofs.Common.{◌≡◌}
-use Rattle.solutions.proofs.Rising.{Risen}
-use Rattle.solutions.proofs.solving.solve.first_success.Given as goal
+use Rattle.solutions.proofs.Telling.{AreTold}
+use Rattle.solutions.proofs.solving.told.tell_each.Given as goal
 
 abbrev pub invariant-loop-above : goal.invariant-loop-above
 invariant-loop-above l = record {
   same : l.trials ≡ l.problem;
-  risen : Risen l.problem l.above l.last;
+  told : AreTold l.problem l.above l.last l.failures.items;
 }

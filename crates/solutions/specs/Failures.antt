@@ -6,6 +6,7 @@ use Rattle.modulo.specs.Problems.{budget_of}
 use Rattle.problems.specs.Problems.{ProblemData}
 use Rattle.solutions.specs.declared.solving.outcome.Cause.{Cause}
 use Rattle.solutions.specs.declared.solving.outcome.Cause.TheVariants.{Table, Budget, Stages, Registers}
+use Rattle.solutions.specs.declared.solving.tried.Failure.{Failure}
 use Rattle.solutions.specs.Outcomes.{FailsBy, cause_of}
 
 -- somebody keeps the attempt at an interval from a schedule, by this cause
@@ -22,12 +23,7 @@ IsEvidence problem ii Budget found = IsBehind problem ii Budget found
 IsEvidence problem ii Stages found = IsBehind problem ii Stages found
 IsEvidence problem ii (Registers file value) found = found ≡ None
 
--- a cause, and its culprits
-pub record FailureData : Type 0 where
-  pub cause : Cause
-  pub found : Option Culprit
-
--- an interval gives no solution, by this cause, and for this reason
-pub record FailsFor (problem : ProblemData) (ii : ℕ) (failure : FailureData) : Type 0 where
+-- an interval gives no solution, by this cause, and these are its culprits
+pub record FailsFor (problem : ProblemData) (ii : ℕ) (failure : Failure) : Type 0 where
   pub fails : FailsBy problem ii failure.cause
-  pub is : IsEvidence problem ii failure.cause failure.found
+  pub is : IsEvidence problem ii failure.cause failure.culprit
