@@ -37,6 +37,13 @@ pub fn push_outcome(
 {
     let notes = notes_of(alloc, problem)?;
     let outcome = &told.outcome;
-    solution_text::push_outcome(text, name, notes.as_slice(), problem, outcome, told.culprit())?;
+    solution_text::push_outcome(
+        text,
+        name,
+        notes.as_slice(),
+        problem,
+        outcome,
+        told.culprit(),
+    )?;
     Ok(is_met(outcome))
 }

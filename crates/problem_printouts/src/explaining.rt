@@ -13,6 +13,7 @@ use machine_data::OutOfMemory;
 use problem_reader::{ProblemFile, read_problems};
 use problem_reasons::push_reasons;
 use settings::Settings;
+use solutions::solve_told;
 use std::alloc::Global;
 
 /// The reasons of each problem.
@@ -23,7 +24,7 @@ struct Explaining<'a> {
     settings: &'a Settings,
 }
 
-/// Appends why a problem has its interval. The result is whether it has a solution.
+/// Solves a problem, and appends why it has its interval. The result is whether it has a solution.
 fn push_reasons_of(
     alloc: Global,
     text: &mut Vec<u8>,
@@ -35,7 +36,8 @@ fn push_reasons_of(
     ensures { IfOk result (IsOneMore (IsReasonsAnswer file.now settings.now (problem_at file.now number)) text.old.items text.new.items) }
 {
     let problem = problem_in(alloc, file, number, settings)?;
-    push_reasons(alloc, text, file.name(number).as_str(), &problem)
+    let told = solve_told(alloc, &problem)?;
+    push_reasons(alloc, text, file.name(number).as_str(), &problem, &told)
 }
 
 impl<'a> Teller for Explaining<'a> {
