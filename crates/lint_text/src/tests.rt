@@ -1,6 +1,6 @@
 //! Faults that are known by hand, each with what has to be told of it.
 
-use crate::{LintText, Named, lint_document, lint_printout};
+use crate::{LintText, Named, lint_printout};
 use std::alloc::Global;
 use std::test::Fail;
 
@@ -82,25 +82,5 @@ fn tells_where_a_machine_is_no_toml(rt: HostRuntime) -> Result<(), Fail> {
         assert_eq!(rt; str::from_utf8(&told.text).unwrap_or(""), line);
         assert!(rt; told.machine_faults && !told.loop_faults);
     }
-    Ok(())
-}
-
-/// A word that is no text is told by its bytes, and a backslash is escaped as JSON wants it.
-const DOCUMENT: &str =
-    "{\"faults\":[{\"column\":1,\"line\":4,\"message\":\"wrong type: expected a table\",\"path\":\"vliw.toml\",\"word\":\"ops.load = 2\"},{\"column\":1,\"line\":2,\"message\":\"syntax: no form of a line goes on here\",\"path\":\"a.loops\",\"word\":\"\\\\xff\"},{\"column\":1,\"line\":3,\"message\":\"limit: expected at least one statement\",\"path\":\"a.loops\",\"word\":\"end\"}]}\n";
-
-#[test]
-fn tells_faults_as_a_document(rt: HostRuntime) -> Result<(), Fail> {
-    let machine = Named {
-        path: "vliw.toml",
-        text: b"registers = 8\nunits = [\"m\"]\n[ops]\nload = 2\n",
-    };
-    let loops = Named {
-        path: "a.loops",
-        text: b"loop a\n\xff\nend\n",
-    };
-    let told = lint_document(rt.alloc(), Some(machine), Some(loops))?;
-    assert_eq!(rt; str::from_utf8(&told.text).unwrap_or(""), DOCUMENT);
-    assert!(rt; told.loop_faults && told.machine_faults);
     Ok(())
 }

@@ -1,5 +1,5 @@
 -- What a command does with its texts, and how a run of it ends.
-use Rattle.std.specs.Prelude.{◌≡◌, ◌==◌, ℕ, Bool, if◌then◌else◌, string_bytes, String, List, [], Option, Some, None, is_some, option_map, Result, Ok, Err, ⊤}
+use Rattle.std.specs.Prelude.{◌≡◌, ◌==◌, ◌⊎◌, ℕ, Bool, Global, if◌then◌else◌, string_bytes, String, List, [], Option, Some, None, is_some, option_map, Result, Ok, Err}
 use Rattle.command_line.specs.declared.command.Command.{Command}
 use Rattle.command_line.specs.declared.command.Command.TheVariants as command
 use Rattle.command_line.specs.declared.command.LintTexts.{LintTexts}
@@ -143,14 +143,11 @@ ChosenBring work machine loops ending = (outcome : Outcome) × WorkBrings work m
 
 -- the status where no loop has a name; memory may run out
 abbrev pub IsNoLoop : List ℕ → Status → Type 0
-IsNoLoop name OutOfMemory = ⊤
-IsNoLoop name (NoLoop other) = string_bytes other ≡ name
-IsNoLoop name status = ⊥
+IsNoLoop name status = (status ≡ OutOfMemory) ⊎ ((other : String Global) × (status ≡ NoLoop other) × (string_bytes other ≡ name))
 
 -- .. after a fault of the machine's text, where one is read
 abbrev pub LacksOn : Result MachineData MachineFault → List ℕ → Status → Type 0
-LacksOn (Err fault) name OutOfMemory = ⊤
-LacksOn (Err fault) name status = status ≡ refusal_of_machine fault
+LacksOn (Err fault) name status = (status ≡ OutOfMemory) ⊎ (status ≡ refusal_of_machine fault)
 LacksOn (Ok machine) name status = IsNoLoop name status
 
 abbrev pub LacksFor : Work → List ℕ → List ℕ → Status → Type 0

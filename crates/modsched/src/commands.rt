@@ -88,12 +88,21 @@ fn work_text<R: Threads + Sync>(
 {
     match work {
         Work::Plain { trip, workers } => {
-            let loops = loops_named(alloc, names, loops)?;
+            let loops = match loops_named(alloc, names, loops) {
+                Ok(loops) => loops,
+                Err(status) => return Err(status),
+            };
             loops_ending(plain_text_on(rt, alloc, loops.as_slice(), *trip, *workers))
         }
         Work::OnMachine { task, .. } => {
-            let machine = machine_of(alloc, machine)?;
-            let loops = loops_named(alloc, names, loops)?;
+            let machine = match machine_of(alloc, machine) {
+                Ok(machine) => machine,
+                Err(status) => return Err(status),
+            };
+            let loops = match loops_named(alloc, names, loops) {
+                Ok(loops) => loops,
+                Err(status) => return Err(status),
+            };
             loops_ending(task_text(rt, alloc, task, &machine, loops))
         }
     }

@@ -1,5 +1,5 @@
 -- What is so of the status of each refusal.
-use Rattle.std.specs.Prelude.{◌≡◌, string_bytes, String, List, Some, option_map, Result, Ok, Err, ⊤}
+use Rattle.std.specs.Prelude.{◌≡◌, ◌⊎◌, Global, string_bytes, String, List, Some, option_map, Result, Ok, Err}
 use Rattle.exit_status.specs.Statuses.{refusal_of_loops, status_number}
 use Rattle.loops.specs.LoopFault.{LoopFault}
 use Rattle.loops.specs.Loops.{LoopData}
@@ -19,8 +19,10 @@ IsRefusal OutOfMemory = Unit {0}
 IsRefusal status = ⊥
 
 -- the status of loops that can't be told by names: of the text's fault, or of the first name that no loop has
-abbrev pub IsUnnamed : {Z : Type 0} → List (String Z) → Result (List LoopData) LoopFault → Status → Type 0
-IsUnnamed names loops OutOfMemory = ⊤
-IsUnnamed names (Err fault) status = status ≡ refusal_of_loops fault
-IsUnnamed names (Ok loops) (NoLoop name) = option_map string_bytes (first_unknown names loops) ≡ Some (string_bytes name)
-IsUnnamed names (Ok loops) status = ⊥
+abbrev pub NamesNone : List (String Global) → Result (List LoopData) LoopFault → Status → Type 0
+NamesNone names (Err fault) status = status ≡ refusal_of_loops fault
+NamesNone names (Ok loops) status = (name : String Global) × (status ≡ NoLoop name) × (option_map string_bytes (first_unknown names loops) ≡ Some (string_bytes name))
+
+-- .. unless memory ran out
+abbrev pub IsUnnamed : List (String Global) → Result (List LoopData) LoopFault → Status → Type 0
+IsUnnamed names loops status = (status ≡ OutOfMemory) ⊎ NamesNone names loops status

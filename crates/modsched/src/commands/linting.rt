@@ -1,14 +1,15 @@
 //! What `lint` writes.
 
-ghost use Rattle.std.specs.Prelude.{◌≡◌, IfErr, string_bytes};
-ghost use Rattle.modsched.specs.Engine.{IsNamed, LintBrings, loops_to_lint, machine_to_lint};
+ghost use Rattle.std.specs.Prelude.{◌≡◌, IfErr, IfOk, string_bytes};
+ghost use Rattle.modsched.specs.Engine.{IsLintAs, IsNamed, LintBrings, loops_to_lint, machine_to_lint};
 ghost use Rattle.modsched.specs.inner.Answers.{ending_of};
 ghost use Rattle.modsched.specs.inner.Refusals.{IsRefusal};
 
 use super::answer::Answer;
 use command_line::{Format, LintTexts};
 use exit_status::Status;
-use lint_text::{Named, lint_document, lint_printout};
+use lint_text::{LintText, Named, lint_document, lint_printout};
+use machine_data::OutOfMemory;
 use std::alloc::Global;
 
 /// The faults of the texts that a command was given, or that memory ran out. Of one text alone the first bytes are ignored.
@@ -23,13 +24,24 @@ pub(crate) fn lint_text(
     ensures kind { IfErr result IsRefusal }
 {
     let (machine, loops) = named(texts, first, last);
-    let shown = match format {
-        Format::Text => lint_printout(alloc, machine, loops),
-        Format::Json => lint_document(alloc, machine, loops),
-    };
-    match shown {
+    match shown(alloc, format, machine, loops) {
         Ok(lint) => Ok(Answer::Lint(lint)),
         Err(_) => Err(Status::OutOfMemory),
+    }
+}
+
+/// The faults of these texts, as lines or as a document.
+fn shown(
+    alloc: Global,
+    format: Format,
+    machine: Option<Named<'_>>,
+    loops: Option<Named<'_>>,
+) -> Result<LintText, OutOfMemory>
+    ensures { IfOk result (IsLintAs format machine.entry loops.entry) }
+{
+    match format {
+        Format::Text => lint_printout(alloc, machine, loops),
+        Format::Json => lint_document(alloc, machine, loops),
     }
 }
 
