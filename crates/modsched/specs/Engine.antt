@@ -1,5 +1,6 @@
 -- What a command does with its texts, and how a run of it ends.
-use Rattle.std.specs.Prelude.{◌≡◌, ◌==◌, ◌⊎◌, ℕ, Bool, Global, if◌then◌else◌, string_bytes, String, List, [], Option, Some, None, is_some, option_map, Result, Ok, Err}
+use Rattle.std.specs.Global.{Global}
+use Rattle.std.specs.Prelude.{◌≡◌, ◌==◌, ◌⊎◌, ℕ, Bool, if◌then◌else◌, string_bytes, String, List, [], Option, Some, None, is_some, option_map, Result, Ok, Err}
 use Rattle.command_line.specs.declared.command.Command.{Command}
 use Rattle.command_line.specs.declared.command.Command.TheVariants as command
 use Rattle.command_line.specs.declared.command.LintTexts.{LintTexts}

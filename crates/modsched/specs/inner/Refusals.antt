@@ -1,5 +1,6 @@
 -- What is so of the status of each refusal.
-use Rattle.std.specs.Prelude.{◌≡◌, ◌⊎◌, Global, string_bytes, String, List, Some, option_map, Result, Ok, Err}
+use Rattle.std.specs.Global.{Global}
+use Rattle.std.specs.Prelude.{◌≡◌, ◌⊎◌, string_bytes, String, List, Some, option_map, Result, Ok, Err}
 use Rattle.exit_status.specs.Statuses.{refusal_of_loops, status_number}
 use Rattle.loops.specs.LoopFault.{LoopFault}
 use Rattle.loops.specs.Loops.{LoopData}
