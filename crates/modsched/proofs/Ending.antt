@@ -33,7 +33,6 @@ use Rattle.problem_printouts.specs.declared.answers.Answers.{Answers}
 use Rattle.problem_printouts.specs.declared.fault.ProblemsFault.{ProblemsFault}
 use Rattle.problem_printouts.specs.declared.fault.ProblemsFault.TheVariants as problems
 use Rattle.settings.specs.Settings.{SettingsData}
-use Rattle.printouts.specs.Outcomes.{Outcome}
 use Rattle.modsched.specs.Devices.{most_read}
 use Rattle.modsched.specs.Engine.{AnswersReport, Brings, ChosenBring, Ending, LacksLoop, LoopsBring, most_problems_read, most_read_by}
 use Rattle.modsched.specs.Naming.{chosen_of, unknown_in}

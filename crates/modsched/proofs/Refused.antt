@@ -1,5 +1,5 @@
 -- What commands over loops come to where a text or a name is refused.
-use Rattle.std.proofs.Common.{◌≡◌, ◌⊎◌, inl, inr, ap, refl, sym, subst, ℕ, List, String, string_bytes, Global, Option, Some, None, option_map}
+use Rattle.std.proofs.Common.{◌≡◌, ◌⊎◌, ◌∙◌, inl, inr, ap, refl, sym, subst, ℕ, List, String, string_bytes, Global, Option, Some, None, option_map}
 use Rattle.std.specs.Prelude.{Result, Ok, Err}
 use Rattle.command_line.specs.declared.command.Task.{Task}
 use Rattle.command_line.specs.declared.command.Work.TheVariants.{Plain, OnMachine}
@@ -12,7 +12,7 @@ use Rattle.loops.specs.Loops.{LoopData}
 use Rattle.machine.specs.MachineText.{machine_of}
 use Rattle.machine.specs.Machines.{MachineData}
 use Rattle.machine.specs.declared.fault.MachineFault.{MachineFault}
-use Rattle.modsched.specs.Engine.{Ending, IsNoLoop, LacksOn, LoopsBring}
+use Rattle.modsched.specs.Engine.{IsNoLoop, LacksOn, LoopsBring}
 use Rattle.modsched.specs.Naming.{first_unknown, unknown_in}
 use Rattle.modsched.specs.inner.Refusals.{IsUnnamed, NamesNone}
 
@@ -39,8 +39,13 @@ plain-unnamed trip workers names machine (Ok loops) status h = plain-none trip w
 refused-at : (path : String Global) (task : Task) (names : List (String Global)) (machine : List ℕ) (loops : Result (List LoopData) LoopFault) (unknown : Option (String Global))
     (meaning : Result MachineData MachineFault) (fault : MachineFault) (status : Status) → machine_of machine ≡ meaning → meaning ≡ Err fault → status ≡ refusal_of_machine fault
     → LoopsBring (OnMachine path task) names machine loops unknown (Err status)
-refused-at path task names machine loops None meaning fault status at is by = (Err (file.Machine fault), rw (at, is) refl, ap (λ (s : Status). Err s) by)
-refused-at path task names machine loops (Some name) meaning fault status at is by = subst (λ (m : Result MachineData MachineFault). LacksOn m (string_bytes name) status) (sym (rw at is)) (inr by)
+refused-at path task names machine loops None meaning fault status at is by =
+    let whole : machine_of machine ≡ Err fault = at ∙ is in
+    (Err (file.Machine fault), rw whole refl, ap (λ (s : Status). Err s) by)
+refused-at path task names machine loops (Some name) meaning fault status at is by =
+    let whole : machine_of machine ≡ Err fault = at ∙ is in
+    let lacks : LacksOn (Err fault) (string_bytes name) status = inr by in
+    subst (λ (m : Result MachineData MachineFault). LacksOn m (string_bytes name) status) (sym whole) lacks
 
 memory-at : (path : String Global) (task : Task) (names : List (String Global)) (machine : List ℕ) (loops : Result (List LoopData) LoopFault) (unknown : Option (String Global))
     (meaning : Result MachineData MachineFault) (status : Status) → machine_of machine ≡ meaning → status ≡ OutOfMemory
@@ -68,3 +73,13 @@ pub machine-unnamed : (path : String Global) (task : Task) (names : List (String
 machine-unnamed path task names machine m loops status at (inl memory) = memory-at path task names machine loops (unknown_in names loops) (machine_of machine) status refl memory
 machine-unnamed path task names machine m (Err fault) status at (inr is) = (Err (file.Loops fault), rw at refl, ap (λ (s : Status). Err s) is)
 machine-unnamed path task names machine m (Ok loops) status at (inr h) = named-none path task names machine m loops (first_unknown names loops) status at h
+
+-- the status of a name that no loop has, of the loops of a text
+pub unnamed-by : (names : List (String Global)) (loops : List LoopData) (meaning : Result (List LoopData) LoopFault) (name : String Global) (bytes : List ℕ) (status : Status)
+    → Ok loops ≡ meaning → Some name ≡ first_unknown names loops → bytes ≡ string_bytes name → IsNoLoop bytes status → IsUnnamed names meaning status
+unnamed-by names loops meaning name bytes status is first same (inl memory) = inl memory
+unnamed-by names loops meaning name bytes status is first same (inr (other, by, told)) =
+    let bytes_of : option_map string_bytes (first_unknown names loops) ≡ Some (string_bytes other) =
+    ap (option_map string_bytes) (sym first) ∙ ap (λ (t : List ℕ). Some t) (sym same ∙ sym told) in
+    let none : NamesNone names (Ok loops) status = (other, by, bytes_of) in
+    inr (subst (λ (m : Result (List LoopData) LoopFault). NamesNone names m status) is none)

@@ -1,5 +1,5 @@
 -- The loops of a text that have the names that were given.
-use Rattle.std.specs.Prelude.{ℕ, Bool, not, bytes_eq, string_bytes, String, List, [], ◌∷◌, Option, None, Result, Ok, Err}
+use Rattle.std.specs.Prelude.{Bool, not, bytes_eq, string_bytes, String, List, [], ◌∷◌, Option, None, Result, Ok, Err}
 use Rattle.std.specs.List.{filter, find, list_any}
 use Rattle.loops.specs.LoopFault.{LoopFault}
 use Rattle.loops.specs.Loops.{LoopData}
