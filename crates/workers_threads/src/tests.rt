@@ -5,5 +5,5 @@ mod cuttings;
 mod files;
 mod gates;
 mod given;
-mod variants;
+mod varied;
 mod works;
