@@ -5,5 +5,4 @@ mod cuttings;
 mod files;
 mod gates;
 mod given;
-mod varied;
 mod works;
