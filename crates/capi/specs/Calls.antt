@@ -1,5 +1,6 @@
 -- What a call does for its caller.
 use Rattle.std.specs.Prelude.{◌≡◌, ◌≢◌, ◌⊎◌, ℕ, ◌<◌, ◌≤◌, nat_lt, if◌then◌else◌, List, length, slice_index, Result, Ok, Err, Some}
+use Rattle.machine_data.specs.declared.limits.TheConstants.{MAX_CEILING, MAX_RATIO}
 use Rattle.problems.specs.declared.draft.Draft.{Draft}
 use Rattle.problems.specs.declared.fault.Fault.{Fault as AnyFault}
 use Rattle.problems.specs.declared.fault.Refusal.{Refusal}
@@ -26,8 +27,8 @@ pub record Arrays : Type 0 where
 abbrev pub misfit_of : GivenProblem → ℕ → ℕ → ℕ → ℕ → ℕ → ℕ
 misfit_of given ratio ceiling times alternatives numbers =
     if nat_lt ratio 1 then 1
-    else if nat_lt 64 ratio then 1
-    else if nat_lt 255 ceiling then 2
+    else if nat_lt MAX_RATIO ratio then 1
+    else if nat_lt MAX_CEILING ceiling then 2
     else if nat_lt times (length given.operations.now) then 3
     else if nat_lt alternatives (length given.operations.now) then 4
     else if nat_lt numbers (length given.values.now) then 5

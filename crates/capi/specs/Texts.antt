@@ -1,5 +1,6 @@
 -- What a call with texts does for its caller.
 use Rattle.std.specs.Prelude.{◌≡◌, ◌≢◌, ◌⊎◌, ℕ, nat_lt, if◌then◌else◌, List, ◌++◌, take, drop, length, Ok, Err}
+use Rattle.machine_data.specs.declared.limits.TheConstants.{MAX_CEILING, MAX_RATIO, MAX_TRIP}
 use Rattle.file_faults.specs.declared.fault.FileFault.{FileFault}
 use Rattle.file_faults.specs.declared.fault.FileFault.TheVariants.{Loops, Memory}
 use Rattle.exit_status.specs.Statuses.{line_of, refusal_of_file, status_number}
@@ -8,21 +9,21 @@ use Rattle.capi.specs.declared.telling.Told.{Told}
 
 -- the first number that is out of its range: 1 the ratio, 2 the ceiling, 3 the trip count; 0 where each is within
 abbrev pub trip_misfit : ℕ → ℕ
-trip_misfit trip = if nat_lt 100000 trip then 3 else 0
+trip_misfit trip = if nat_lt MAX_TRIP trip then 3 else 0
 
 abbrev pub search_misfit : ℕ → ℕ → ℕ
 search_misfit ratio ceiling =
     if nat_lt ratio 1 then 1
-    else if nat_lt 64 ratio then 1
-    else if nat_lt 255 ceiling then 2
+    else if nat_lt MAX_RATIO ratio then 1
+    else if nat_lt MAX_CEILING ceiling then 2
     else 0
 
 abbrev pub run_misfit : ℕ → ℕ → ℕ → ℕ
 run_misfit ratio ceiling trip =
     if nat_lt ratio 1 then 1
-    else if nat_lt 64 ratio then 1
-    else if nat_lt 255 ceiling then 2
-    else if nat_lt 100000 trip then 3
+    else if nat_lt MAX_RATIO ratio then 1
+    else if nat_lt MAX_CEILING ceiling then 2
+    else if nat_lt MAX_TRIP trip then 3
     else 0
 
 -- what is told: how many bytes a text has with the line at fault, a number that is out of its range, or nothing

@@ -3,6 +3,7 @@
 #![tactic(auto)]
 
 ghost use Rattle.std.specs.Prelude.{◌≡◌, ◌≤◌, length, IfOk, MatchResult};
+ghost use Rattle.machine_data.specs.declared.limits.TheConstants.{MAX_CEILING, MAX_RATIO};
 ghost use Rattle.problems.specs.Problems.{IsProblemOf};
 ghost use Rattle.problems.specs.Faults.{first_fault_of};
 ghost use Rattle.solutions.specs.Outcomes.{IsSolved};
@@ -108,8 +109,8 @@ fn misfit_of(
 /// The settings of these numbers.
 fn settings_of(ratio: u64, ceiling: u64) -> Settings
     requires some { 1 ≤ ratio }
-    requires few { ratio ≤ 64 }
-    requires ceiling { ceiling ≤ 255 }
+    requires few { ratio ≤ MAX_RATIO }
+    requires ceiling { ceiling ≤ MAX_CEILING }
     ensures ratio { result.ratio ≡ ratio }
     ensures ceiling { result.ceiling ≡ ceiling }
 {
@@ -127,8 +128,8 @@ fn problem_of(
     ceiling: u64,
 ) -> Result<problems::Problem, Refusal>
     requires some { 1 ≤ ratio }
-    requires few { ratio ≤ 64 }
-    requires ceiling { ceiling ≤ 255 }
+    requires few { ratio ≤ MAX_RATIO }
+    requires ceiling { ceiling ≤ MAX_CEILING }
     ensures { EndsBy problem.now ratio ceiling result }
 {
     let draft = draft_of(alloc, problem)?;

@@ -10,7 +10,6 @@ ghost use Rattle.printouts.specs.Plain.{IsPlainText};
 ghost use Rattle.printouts.specs.Run.{IsRunText};
 ghost use Rattle.printouts.specs.Schedule.{IsListingDocument, IsListingText};
 
-use command_line::Trip;
 use file_faults::FileFault;
 use loops::read_loops;
 use machine::read_machine;
@@ -18,7 +17,7 @@ use printouts::{
     Printout, bounds_text, dot_text, edges_text, explain_text, json_alone, plain_text, run_alone,
     schedule_alone,
 };
-use settings::Settings;
+use settings::{Settings, Trip};
 use std::alloc::Global;
 
 /// What `schedule` prints.

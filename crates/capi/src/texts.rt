@@ -1,6 +1,7 @@
 //! The calls with texts: what the program prints of the texts of a machine and of loops, in the caller's room.
 
 ghost use Rattle.std.specs.Prelude.{◌≡◌, ◌≤◌};
+ghost use Rattle.machine_data.specs.declared.limits.TheConstants.{MAX_TRIP};
 ghost use Rattle.machine.specs.MachineText.{machine_of};
 ghost use Rattle.loops.specs.Meaning.{loops_in};
 ghost use Rattle.file_faults.specs.Answers.{AnswersAlone, AnswersFile};
@@ -15,8 +16,8 @@ ghost use Rattle.capi.specs.Texts.{AnswersTexts, HandsBrought, run_misfit, searc
 use crate::settings_of;
 use crate::tasks::{bounded, documented, drawn, edged, explained, plain, run, scheduled};
 use crate::telling::{Told, tell, tell_misfit};
-use command_line::{TRIP_LIMIT, Trip};
 use machine_data::limits::{MAX_CEILING, MAX_RATIO};
+use settings::{TRIP_LIMIT, Trip};
 use std::alloc::Global;
 
 /// Writes the listing of the loops on the machine, as `modsched schedule` prints it, with at most `ratio` placements for each
@@ -207,7 +208,7 @@ fn run_misfit(ratio: u64, ceiling: u64, trip: u64) -> u64
 
 /// The trip count of this number.
 fn trip_of(trip: u64) -> Trip
-    requires { trip ≤ 100000 }
+    requires { trip ≤ MAX_TRIP }
     ensures { result ≡ trip }
 {
     match Trip::new(trip) {

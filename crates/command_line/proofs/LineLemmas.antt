@@ -9,27 +9,27 @@ use Rattle.command_line.specs.declared.line.Usage.TheVariants.{Help, Refused, Me
 use Rattle.clap.proofs.OnLiterals.{clap_on_literals}
 use Rattle.clap.specs.declared.error.kind.ErrorKind.TheVariants.{OutOfMemory}
 use Rattle.command_line.specs.Lines.{IsRead, IsRequest, IsSearchGiven, IsTaskGiven, IsToldBy, IsWorkGiven, AreLoopsGiven, AreProblemsGiven, AreTexts, AreTextsGiven, IsReportGiven, Means, MeansNamed, SaysFormat, SaysNumber, SaysSwitch, SaySettings, switch_word}
-use Rattle.command_line.specs.Lines.{program_line, search_line, run_line, plain_line, schedule_line, vary_line, explain_line, either_line, either_with_names, lint_line, solve_line, check_line}
+use Rattle.command_line.specs.Lines.{program_line, search_line, run_line, plain_line, schedule_line, vary_line, explain_line, dot_line, either_line, either_with_names, lint_line, solve_line, check_line}
 use Rattle.settings.specs.Settings.{AreSettings, SettingsData}
 use Rattle.clap.specs.declared.builder.command.Command.TheViews.{out-Command}
 use Rattle.command_line.specs.inner.Made.{IsAdded}
 use Rattle.std.proofs.lemmas.Bool.{and_parts}
 use Rattle.command_line.specs.declared.command.Command.{Command}
 use Rattle.command_line.specs.declared.command.Command.TheVariants as command
-use Rattle.command_line.specs.declared.command.Format.{Format}
-use Rattle.command_line.specs.declared.command.Format.TheVariants as format
+use Rattle.settings.specs.declared.format.Format.{Format}
+use Rattle.settings.specs.declared.format.Format.TheVariants as format
 use Rattle.command_line.specs.declared.command.LintTexts.{LintTexts}
 use Rattle.command_line.specs.declared.command.Report.{Report}
 use Rattle.command_line.specs.declared.command.Report.TheVariants as report
 use Rattle.command_line.specs.declared.command.Search.{Search}
-use Rattle.command_line.specs.declared.command.Search.TheVariants.{Schedule, Json, Explain, Vary, Total, Run}
+use Rattle.command_line.specs.declared.command.Search.TheVariants.{Schedule, Json, Explain, Scheduled, Vary, Total, Run}
 use Rattle.command_line.specs.declared.command.Task.{Task}
 use Rattle.command_line.specs.declared.command.Task.TheVariants as task
 use Rattle.command_line.specs.declared.command.Work.{Work}
 use Rattle.command_line.specs.declared.command.Work.TheVariants.{Plain, OnMachine}
 
 pub program_is_free : is_simple_and_free program_line ≡ true
-unfolding program_line search_line schedule_line vary_line explain_line either_line either_with_names run_line plain_line lint_line solve_line check_line clap_on_literals
+unfolding program_line search_line schedule_line vary_line explain_line either_line either_with_names run_line plain_line lint_line solve_line check_line dot_line clap_on_literals
 program_is_free = refl
 
 -- of which this is a part, so that it is not computed again
@@ -130,6 +130,7 @@ schedule-formless rows name is none Schedule h = none format.Text h.1
 schedule-formless rows name is none Json (inl h) = schedule-word 0 name (codes "json") is (λ e. omega arith) h
 schedule-formless rows name is none Json (inr h) = none format.Json h.1
 schedule-formless rows name is none Explain h = schedule-word 0 name (codes "explain") is (λ e. omega arith) h
+schedule-formless rows name is none Scheduled h = schedule-word 0 name (codes "dot") is (λ e. omega arith) h.0
 schedule-formless rows name is none (Vary format) h = schedule-word 0 name (codes "vary") is (λ e. omega arith) h.0
 schedule-formless rows name is none Total h = schedule-word 0 name (codes "vary") is (λ e. omega arith) h.0
 schedule-formless rows name is none (Run trip) h = schedule-word 0 name (codes "run") is (λ e. omega arith) h.0
@@ -153,6 +154,7 @@ vary-others rows one all Schedule h = apart-vary (codes "schedule") (λ e. omega
 vary-others rows one all Json (inl h) = apart-vary (codes "json") (λ e. omega arith) h
 vary-others rows one all Json (inr h) = apart-vary (codes "schedule") (λ e. omega arith) h.0
 vary-others rows one all Explain h = apart-vary (codes "explain") (λ e. omega arith) h
+vary-others rows one all Scheduled h = apart-vary (codes "dot") (λ e. omega arith) h.0
 vary-others rows one all (Run trip) h = apart-vary (codes "run") (λ e. omega arith) h.0
 
 -- `vary` tells nothing where an option of it says nothing
@@ -162,12 +164,19 @@ vary-unswitched rows none = vary-others rows (λ f h. none false h.1) (λ h. non
 pub vary-formless : (rows : List Row) → ((f : Format) → ¬ SaysFormat (first_of (codes "format") rows) f) → (s : Search) → ¬ IsSearchGiven s (codes "vary") rows
 vary-formless rows none = vary-others rows (λ f h. none f h.2) (λ h. none format.Text h.2)
 
+other-explain : (name : Text) → name ≡ codes "explain" → IsOther name
+other-explain name is = (other-word 0 name (codes "explain") (codes "solve") (λ e. omega arith) is, other-word 0 name (codes "explain") (codes "check") (λ e. omega arith) is, other-word 0 name (codes "explain") (codes "lint") (λ e. omega arith) is)
+
+other-dot : (name : Text) → name ≡ codes "dot" → IsOther name
+other-dot name is = (other-word 0 name (codes "dot") (codes "solve") (λ e. omega arith) is, other-word 0 name (codes "dot") (codes "check") (λ e. omega arith) is, other-word 0 name (codes "dot") (codes "lint") (λ e. omega arith) is)
+
 -- what is done with loops is given by other subcommands
 other-search : (s : Search) (name : Text) (rows : List Row) → IsSearchGiven s name rows → IsOther name
 other-search Schedule name rows h = other-schedule name h.0
 other-search Json name rows (inr h) = other-schedule name h.0
 other-search Json name rows (inl h) = (other-word 0 name (codes "json") (codes "solve") (λ e. omega arith) h, other-word 0 name (codes "json") (codes "check") (λ e. omega arith) h, other-word 0 name (codes "json") (codes "lint") (λ e. omega arith) h)
-other-search Explain name rows h = (other-word 0 name (codes "explain") (codes "solve") (λ e. omega arith) h, other-word 0 name (codes "explain") (codes "check") (λ e. omega arith) h, other-word 0 name (codes "explain") (codes "lint") (λ e. omega arith) h)
+other-search Explain name rows h = other-explain name h
+other-search Scheduled name rows h = other-dot name h.0
 other-search (Vary format) name rows h = other-vary name h.0
 other-search Total name rows h = other-vary name h.0
 other-search (Run trip) name rows h = (other-word 0 name (codes "run") (codes "solve") (λ e. omega arith) h.0, other-word 0 name (codes "run") (codes "check") (λ e. omega arith) h.0, other-word 0 name (codes "run") (codes "lint") (λ e. omega arith) h.0)
@@ -175,7 +184,7 @@ other-search (Run trip) name rows h = (other-word 0 name (codes "run") (codes "s
 other-task : (t : Task) (name : Text) (rows : List Row) → IsTaskGiven t name rows → IsOther name
 other-task task.Bounds name rows h = (other-word 0 name (codes "bounds") (codes "solve") (λ e. omega arith) h, other-word 0 name (codes "bounds") (codes "check") (λ e. omega arith) h, other-word 0 name (codes "bounds") (codes "lint") (λ e. omega arith) h)
 other-task task.Edges name rows h = (other-word 0 name (codes "edges") (codes "solve") (λ e. omega arith) h, other-word 0 name (codes "edges") (codes "check") (λ e. omega arith) h, other-word 0 name (codes "edges") (codes "lint") (λ e. omega arith) h)
-other-task task.Dot name rows h = (other-word 0 name (codes "dot") (codes "solve") (λ e. omega arith) h, other-word 0 name (codes "dot") (codes "check") (λ e. omega arith) h, other-word 0 name (codes "dot") (codes "lint") (λ e. omega arith) h)
+other-task task.Dot name rows h = other-dot name h.0
 other-task (task.Search settings search) name rows h = other-search search name rows h.1
 
 other-work : (w : Work) (name : Text) (rows : List Row) → IsWorkGiven w name rows → IsOther name
@@ -184,8 +193,9 @@ other-work (OnMachine machine t) name rows h = other-task t name rows h.1
 
 other-report : (told : Report) (name : Text) (rows : List Row) → IsReportGiven told name rows → IsOther name
 other-report report.Edges name rows h = (other-word 0 name (codes "edges") (codes "solve") (λ e. omega arith) h, other-word 0 name (codes "edges") (codes "check") (λ e. omega arith) h, other-word 0 name (codes "edges") (codes "lint") (λ e. omega arith) h)
-other-report report.Dot name rows h = (other-word 0 name (codes "dot") (codes "solve") (λ e. omega arith) h, other-word 0 name (codes "dot") (codes "check") (λ e. omega arith) h, other-word 0 name (codes "dot") (codes "lint") (λ e. omega arith) h)
-other-report (report.Explain settings) name rows h = (other-word 0 name (codes "explain") (codes "solve") (λ e. omega arith) h.0, other-word 0 name (codes "explain") (codes "check") (λ e. omega arith) h.0, other-word 0 name (codes "explain") (codes "lint") (λ e. omega arith) h.0)
+other-report report.Dot name rows h = other-dot name h.0
+other-report (report.Scheduled settings) name rows h = other-dot name h.0
+other-report (report.Explain settings) name rows h = other-explain name h.0
 
 -- `solve`, `check` and `lint` are three words
 apart-solve-check : codes "solve" ≡ codes "check" → ⊥
@@ -307,3 +317,57 @@ IsRead-error (Help text) e kinds s told (inr among) = (kind_of e, among, told)
 IsRead-error (Refused text) e kinds s told (inl memory) = absurd (told.1 memory)
 IsRead-error (Refused text) e kinds s told (inr among) = inl (kind_of e, among, told.0)
 IsRead-error Memory e kinds s told has = tt
+
+-- another word is none of `dot`
+apart-dot : (word : Text) → (get_or (codes "dot") 0 0 ≡ get_or word 0 0 → ⊥) → codes "dot" ≡ word → ⊥
+apart-dot word apart same = other-word 0 (codes "dot") (codes "dot") word apart refl same
+
+-- `dot` searches for no kernel but where the schedule is wanted
+pub dot-searches : (rows : List Row) → ¬ SaysSwitch (first_of (codes "scheduled") rows) true → (s : Search) → ¬ IsSearchGiven s (codes "dot") rows
+dot-searches rows none Scheduled h = none h.1
+dot-searches rows none Schedule h = apart-dot (codes "schedule") (λ e. omega arith) h.0
+dot-searches rows none Json (inl h) = apart-dot (codes "json") (λ e. omega arith) h
+dot-searches rows none Json (inr h) = apart-dot (codes "schedule") (λ e. omega arith) h.0
+dot-searches rows none Explain h = apart-dot (codes "explain") (λ e. omega arith) h
+dot-searches rows none (Vary format) h = apart-dot (codes "vary") (λ e. omega arith) h.0
+dot-searches rows none Total h = apart-dot (codes "vary") (λ e. omega arith) h.0
+dot-searches rows none (Run trip) h = apart-dot (codes "run") (λ e. omega arith) h.0
+
+-- a switch that is on is not off
+pub on-is-not-off : (rows : List Row) (name : Text) (given : Bool) → SaysSwitch (first_of name rows) given → given ≡ true → ¬ SaysSwitch (first_of name rows) false
+on-is-not-off rows name given says on off =
+    let same : false ≡ given = one-switch false given (sym off ∙ says) in
+    let apart : false ≡ true = same ∙ on in absurd (cc)
+
+pub off-is-not-on : (rows : List Row) (name : Text) (given : Bool) → SaysSwitch (first_of name rows) given → given ≡ false → ¬ SaysSwitch (first_of name rows) true
+off-is-not-on rows name given says off on =
+    let same : true ≡ given = one-switch true given (sym on ∙ says) in
+    let apart : true ≡ false = same ∙ off in absurd (cc)
+
+-- what `dot` may tell of loops, and of problems
+pub dot-tasks : (rows : List Row) → ¬ SaysSwitch (first_of (codes "scheduled") rows) false
+    → ((settings : SettingsData) (s : Search) → ¬ IsTaskGiven (task.Search settings s) (codes "dot") rows) → (t : Task) → ¬ IsTaskGiven t (codes "dot") rows
+dot-tasks rows on none task.Bounds h = apart-dot (codes "bounds") (λ e. omega arith) h
+dot-tasks rows on none task.Edges h = apart-dot (codes "edges") (λ e. omega arith) h
+dot-tasks rows on none task.Dot h = on h.1
+dot-tasks rows on none (task.Search settings s) h = none _ s h
+
+pub dot-reports : (rows : List Row) → ¬ SaysSwitch (first_of (codes "scheduled") rows) false
+    → ((settings : SettingsData) → ¬ (SaysSwitch (first_of (codes "scheduled") rows) true × SaySettings settings rows)) → (told : Report) → ¬ IsReportGiven told (codes "dot") rows
+dot-reports rows on none report.Edges h = apart-dot (codes "edges") (λ e. omega arith) h
+dot-reports rows on none report.Dot h = on h.1
+dot-reports rows on none (report.Scheduled settings) h = none _ (h.1, h.2)
+dot-reports rows on none (report.Explain settings) h = apart-dot (codes "explain") (λ e. omega arith) h.0
+
+-- a subcommand that is none of these three tells of loops what a search gives
+pub searches-alone : (rows : List Row) (name : Text) → (name ≡ codes "bounds" → ⊥) → (name ≡ codes "edges" → ⊥) → (name ≡ codes "dot" → ⊥)
+    → ((settings : SettingsData) (s : Search) → ¬ IsTaskGiven (task.Search settings s) name rows) → (t : Task) → ¬ IsTaskGiven t name rows
+searches-alone rows name bounds edges dot none task.Bounds h = bounds h
+searches-alone rows name bounds edges dot none task.Edges h = edges h
+searches-alone rows name bounds edges dot none task.Dot h = dot h.0
+searches-alone rows name bounds edges dot none (task.Search settings s) h = none _ s h
+
+-- what is so where there is nothing brings what follows from it
+pub none-further : {A P Q : Type 0} (found : Option A) → (P → Q) → IfNone found P → IfNone found Q
+none-further None follows h = follows h
+none-further (Some x) follows h = tt

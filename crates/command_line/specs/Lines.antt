@@ -8,8 +8,9 @@ use Rattle.clap.specs.declared.error.kind.ErrorKind.{ErrorKind}
 use Rattle.clap.specs.declared.error.kind.ErrorKind.TheVariants as kind
 use Rattle.command_line.specs.declared.command.Command.{Command}
 use Rattle.command_line.specs.declared.command.Command.TheVariants as command
-use Rattle.command_line.specs.declared.command.Format.{Format}
-use Rattle.command_line.specs.declared.command.Format.TheVariants as format
+use Rattle.settings.specs.Formats.{format_word}
+use Rattle.settings.specs.declared.format.Format.{Format}
+use Rattle.settings.specs.declared.format.Format.TheVariants as format
 use Rattle.command_line.specs.declared.command.LintTexts.{LintTexts}
 use Rattle.command_line.specs.declared.command.LintTexts.TheVariants as lint
 use Rattle.command_line.specs.declared.command.Report.{Report}
@@ -19,7 +20,7 @@ use Rattle.command_line.specs.declared.command.Work.TheVariants.{Plain, OnMachin
 use Rattle.command_line.specs.declared.command.Task.{Task}
 use Rattle.command_line.specs.declared.command.Task.TheVariants as task
 use Rattle.command_line.specs.declared.command.Search.{Search}
-use Rattle.command_line.specs.declared.command.Search.TheVariants.{Schedule, Json, Explain, Vary, Total, Run}
+use Rattle.command_line.specs.declared.command.Search.TheVariants.{Schedule, Json, Explain, Scheduled, Vary, Total, Run}
 use Rattle.command_line.specs.declared.line.Usage.{Usage}
 use Rattle.command_line.specs.declared.line.Usage.TheVariants.{Help, Refused, Memory}
 use Rattle.machine_data.specs.declared.limits.TheConstants.{MAX_CEILING, MAX_CUT, MAX_RATIO, MAX_TRIP, MAX_WORKERS}
@@ -91,10 +92,6 @@ with_search app = with_rule (with_rule (with_rule (with_rule app ratio_rule) cei
 unfoldable pub search_line : Text → App
 search_line name = with_search (with_paths name)
 
--- `explain MACHINE LOOPS` and `explain PROBLEMS`, and the four
-unfoldable pub explain_line : App
-explain_line = with_search (either_with_names (codes "explain"))
-
 -- `run MACHINE LOOPS --trip N`, and the four
 unfoldable pub run_line : App
 run_line = with_search (with_rule (with_paths (codes "run")) trip_rule)
@@ -102,6 +99,18 @@ run_line = with_search (with_rule (with_paths (codes "run")) trip_rule)
 -- `--format FORMAT`, which is looked at where the command is made
 abbrev pub format_rule : Rule
 format_rule = option_rule (codes "format") (codes "text")
+
+-- `explain MACHINE LOOPS` and `explain PROBLEMS`, and the four
+unfoldable pub explain_line : App
+explain_line = with_search (either_with_names (codes "explain"))
+
+-- `--scheduled`, which has no value
+abbrev pub scheduled_rule : Rule
+scheduled_rule = record (new_rule (codes "scheduled")) { long = Some (codes "scheduled"); action = Some SetTrue }
+
+-- `dot MACHINE LOOPS` and `dot PROBLEMS`, the four, and `--scheduled`
+unfoldable pub dot_line : App
+dot_line = with_rule (with_search (either_with_names (codes "dot"))) scheduled_rule
 
 -- `schedule MACHINE LOOPS`, the four, and `--format FORMAT`
 unfoldable pub schedule_line : App
@@ -144,7 +153,7 @@ lint_line = with_rule (with_rule (either_line (codes "lint")) machine_only_rule)
 -- a line with those that look for none
 abbrev pub with_reports : App → App
 with_reports app =
-    with_subcommand (with_subcommand (with_subcommand (with_subcommand (with_subcommand app (with_paths (codes "bounds")).top) (either_with_names (codes "edges")).top) (either_with_names (codes "dot")).top) plain_line.top) lint_line.top
+    with_subcommand (with_subcommand (with_subcommand (with_subcommand (with_subcommand app (with_paths (codes "bounds")).top) (either_with_names (codes "edges")).top) dot_line.top) plain_line.top) lint_line.top
 
 -- `solve PROBLEMS`, the four, and `--format FORMAT`
 unfoldable pub solve_line : App
@@ -221,11 +230,7 @@ SaySettings settings given = SaysNumber (first_of (codes "ratio") given) setting
     × SaysNumber (first_of (codes "cut") given) settings.cut
     × AreSettings settings
 
--- the word that an option was given, or that stands for it, is `text` or `json`
-abbrev pub format_word : Format → Text
-format_word format.Text = codes "text"
-format_word format.Json = codes "json"
-
+-- the word that an option was given, or that stands for it, names the format
 abbrev pub SaysFormat : Option Text → Format → Type 0
 SaysFormat word format = word ≡ Some (format_word format)
 
@@ -242,6 +247,7 @@ abbrev pub IsSearchGiven : Search → Text → List Row → Type 0
 IsSearchGiven Schedule name given = (name ≡ codes "schedule") × SaysFormat (first_of (codes "format") given) format.Text
 IsSearchGiven Json name given = (name ≡ codes "json") ⊎ ((name ≡ codes "schedule") × SaysFormat (first_of (codes "format") given) format.Json)
 IsSearchGiven Explain name given = name ≡ codes "explain"
+IsSearchGiven Scheduled name given = (name ≡ codes "dot") × SaysSwitch (first_of (codes "scheduled") given) true
 IsSearchGiven (Vary format) name given = (name ≡ codes "vary")
     × SaysSwitch (first_of (codes "total") given) false
     × SaysFormat (first_of (codes "format") given) format
@@ -254,7 +260,7 @@ IsSearchGiven (Run trip) name given = (name ≡ codes "run") × SaysTrip (first_
 abbrev pub IsTaskGiven : Task → Text → List Row → Type 0
 IsTaskGiven task.Bounds name given = name ≡ codes "bounds"
 IsTaskGiven task.Edges name given = name ≡ codes "edges"
-IsTaskGiven task.Dot name given = name ≡ codes "dot"
+IsTaskGiven task.Dot name given = (name ≡ codes "dot") × SaysSwitch (first_of (codes "scheduled") given) false
 IsTaskGiven (task.Search settings search) name given = SaySettings settings given × IsSearchGiven search name given
 
 -- .. does that with the loops: `plain` runs them by itself, and the others were given a machine
@@ -275,7 +281,8 @@ AreLoopsGiven path names work name given = (first_of (codes "loops") given ≡ S
 -- .. tells that of problems, and was given what it needs
 abbrev pub IsReportGiven : Report → Text → List Row → Type 0
 IsReportGiven report.Edges name given = name ≡ codes "edges"
-IsReportGiven report.Dot name given = name ≡ codes "dot"
+IsReportGiven report.Dot name given = (name ≡ codes "dot") × SaysSwitch (first_of (codes "scheduled") given) false
+IsReportGiven (report.Scheduled settings) name given = (name ≡ codes "dot") × SaysSwitch (first_of (codes "scheduled") given) true × SaySettings settings given
 IsReportGiven (report.Explain settings) name given = (name ≡ codes "explain") × SaySettings settings given
 
 -- .. was given one path alone, that of problems, and no name of a loop, and tells that of them

@@ -1,10 +1,9 @@
 //! Commands.
 
-ghost use Rattle.std.specs.Prelude.{◌≡◌, ◌≢◌, option_map, IfSome, IfNone};
-ghost use Rattle.command_line.specs.Lines.{first_lint_path, first_path, format_word, last_lint_path, last_path, machine_of_work};
+ghost use Rattle.std.specs.Prelude.{◌≡◌, option_map};
+ghost use Rattle.command_line.specs.Lines.{first_lint_path, first_path, last_lint_path, last_path, machine_of_work};
 
-use crate::trip::Trip;
-use settings::Settings;
+use settings::{Format, Settings, Trip};
 
 /// What the program is asked to do.
 #[derive(Debug, Drop)]
@@ -72,29 +71,6 @@ pub enum LintTexts {
     },
 }
 
-/// The formats in which something is told.
-#[derive(Clone, Copy, Debug, PartialEq, Eq)]
-pub enum Format {
-    /// Lines for people; those of solutions a check reads again.
-    Text,
-    /// One JSON document, for programs.
-    Json,
-}
-
-impl Format {
-    /// The format that a word names.
-    pub(crate) fn named(word: &str) -> Option<Format>
-        ensures says { IfSome result (λ format. word.now ≡ format_word format) }
-        ensures none { IfNone result ((format : _) → word.now ≢ format_word format) }
-    {
-        match word {
-            "text" => Some(Format::Text),
-            "json" => Some(Format::Json),
-            _ => None,
-        }
-    }
-}
-
 /// What is done with loops.
 #[derive(Debug, Drop)]
 pub enum Work {
@@ -136,6 +112,8 @@ pub enum Search {
     Json,
     /// Why each loop has its interval.
     Explain,
+    /// The dependences of each loop, as graphs for Graphviz that show the schedule.
+    Scheduled,
     /// What variants of the machine bring each loop.
     Vary(Format),
     /// What they bring all loops together.
@@ -151,6 +129,8 @@ pub enum Report {
     Edges,
     /// The same, as graphs for Graphviz.
     Dot,
+    /// The graphs with the schedule of each problem, where a solution is searched for with these settings.
+    Scheduled(Settings),
     /// Why each problem has its interval, where a solution is searched for with these settings.
     Explain(Settings),
 }

@@ -228,6 +228,12 @@ each operation, and an edge for each dependence with its kind, its delay in cycl
 distance in iterations where that is not 0. Where the bound by recurrences is above 1, one critical
 circuit is bold. `modsched dot MACHINE LOOPS | dot -Tsvg -O` makes a picture of each.
 
+With --scheduled a kernel is searched for as `modsched schedule` does with the same options, and each node
+tells when its operation is issued: the cycle, its row and its stage, each stage in a colour of its own.
+Edges to later iterations are dashed, and do not count in how the nodes are placed; the critical circuit is red.
+The name of the graph is followed by the interval and the stages, or by why there is no kernel, and then
+nodes have no times. Status 1 where some loop has no kernel. Without it the options of the search change nothing.
+
 With one path alone, that of scheduling problems, prints such a graph for each problem.";
 
 pub(crate) const PLAIN_ABOUT: &str =
@@ -263,8 +269,10 @@ counted from 1; a fault that has no place, as a key that is missing, is told of 
 With --format json the same faults are printed as one JSON document, on one line: an object with `faults`, each
 with `column`, `line`, `message`, `path` and `word`.
 
-One path is that of loops, or with --machine-only that of a machine. No kernel is searched for, and whether
-the machine has a table for each opcode of the loops is not looked at.";
+One path is that of loops, or with --machine-only that of a machine. With both texts, and where the machine has no
+fault, each statement is told too whose opcode the machine has no table for. An unknown name of a loop text is
+told with the nearest one that may stand there, and a missing initial value with the numbers that are missing.
+No kernel is searched for.";
 
 pub(crate) const SOLVE_ABOUT: &str = "Find a schedule and registers for each scheduling problem";
 
@@ -365,6 +373,8 @@ number";
 
 pub(crate) const FORMAT: &str =
     "The format of what is printed: `text`, lines for people, or `json`, one document for programs";
+
+pub(crate) const SCHEDULED: &str = "Draw the graphs with the schedule of each loop or problem";
 
 pub(crate) const TOTAL: &str =
     "Tell of all loops together what the machine as it is and each variant bring: the sum of their intervals";

@@ -4,9 +4,7 @@
 mod command;
 mod help;
 mod line;
-mod trip;
 
-pub use command::{Command, Format, LintTexts, Report, Search, Task, Work};
+pub use command::{Command, LintTexts, Report, Search, Task, Work};
 pub use line::{Usage, parse_line};
-pub use settings::Settings;
-pub use trip::{TRIP_LIMIT, Trip};
+pub use settings::{Format, Settings, TRIP_LIMIT, Trip};

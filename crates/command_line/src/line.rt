@@ -8,12 +8,13 @@ ghost use Rattle.command_line.specs.declared.line.Usage.TheVariants.{Memory};
 mod form;
 mod given;
 
-use crate::command::{Command, Format};
+use crate::command::Command;
 use clap::ArgMatches;
 use clap::error::ErrorKind;
 use form::program;
 use given::command_of;
 use machine_data::OutOfMemory;
+use settings::Format;
 use std::alloc::Global;
 
 /// Why a line gives no command.
@@ -60,6 +61,9 @@ pub fn parse_line<'a>(alloc: Global, words: &'a [&'a str]) -> Result<Command, Us
     }
 }
 
+// What is wrong where nothing else is known.
+const MISSING: &str = "error: an argument is missing\n\nFor more information, try '--help'.\n";
+
 // Whether the option for a format names one.
 fn is_format(values: &ArgMatches<'_>) -> bool {
     match values.get_str("format") {
@@ -71,18 +75,26 @@ fn is_format(values: &ArgMatches<'_>) -> bool {
 // What is wrong where words have the form of a line, and mean no command.
 fn refusal(matches: &ArgMatches<'_>) -> &'static str {
     match matches.subcommand() {
-        Some(("lint", values)) if is_format(values) => {
+        Some((name, values)) => refusal_of(name, values),
+        None => MISSING,
+    }
+}
+
+// The same of a subcommand of this name.
+fn refusal_of(name: &str, values: &ArgMatches<'_>) -> &'static str {
+    match name {
+        "lint" if is_format(values) => {
             "error: '--machine-only' takes one path, that of the machine\n\nFor more information, try '--help'.\n"
         }
-        Some(("vary", values)) if is_format(values) => {
+        "vary" if is_format(values) => {
             "error: '--total' is printed as 'text' alone\n\nFor more information, try '--help'.\n"
         }
-        Some(("solve" | "schedule" | "vary" | "lint", _)) => {
+        "solve" | "schedule" | "vary" | "lint" => {
             "error: '--format' is neither 'text' nor 'json'\n\nFor more information, try '--help'.\n"
         }
-        Some((_, values)) if values.contains_id("loop") => {
+        _ if values.contains_id("loop") && !values.contains_id("loops") => {
             "error: '--loop' takes a machine and loops\n\nFor more information, try '--help'.\n"
         }
-        _ => "error: an argument is missing\n\nFor more information, try '--help'.\n",
+        _ => MISSING,
     }
 }

@@ -1,9 +1,7 @@
 pub mod CircuitTexts
 pub mod Explanations
-pub mod Holds
 pub mod Reasons
 pub mod Runs
 pub mod SetLines
 pub mod Shown
 pub mod Tries
-pub mod inner

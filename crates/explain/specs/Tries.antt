@@ -1,5 +1,5 @@
 -- The lines of the intervals that are tried.
-use Rattle.std.specs.Prelude.{◌≡◌, ℕ, ◌+◌, ◌-◌, ◌<◌, ◌≤◌, ◌==◌, max, Bool, true, if◌then◌else◌, codes, List, [], ◌++◌, map}
+use Rattle.std.specs.Prelude.{◌≡◌, ℕ, ◌<◌, ◌≤◌, Bool, true, if◌then◌else◌, codes, List, [], ◌++◌, map}
 use Rattle.std.specs.List.{range_with_len, AllZip}
 use Rattle.loop_data.specs.Loops.{LoopData}
 use Rattle.graph.specs.Schedules.{IsLawfulSchedule}
@@ -13,8 +13,10 @@ use Rattle.candidates.specs.Choices.{IsChoice}
 use Rattle.candidates.specs.Reasons.{FailsFor, reason_cause}
 use Rattle.candidates.specs.Texts.{cause_word}
 use Rattle.writing.specs.Words.{told}
-use Rattle.explain.specs.declared.intervals.hold.Hold.{Hold}
-use Rattle.explain.specs.Holds.{IsHold, hold_word}
+use Rattle.told_choices.specs.declared.hold.Hold.{Hold}
+use Rattle.told_choices.specs.Holds.{IsHold, hold_word}
+use Rattle.told_choices.specs.Least.{is_least_possible}
+use Rattle.told_choices.specs.Told.{failures_of}
 use Rattle.explain.specs.Reasons.{reason_text}
 use Rattle.explain.specs.Runs.{runs_text}
 
@@ -34,19 +36,10 @@ hold_line hold = (codes "held by " ++ hold_word hold) ++ codes "\n"
 abbrev pub least_line : Bool → List ℕ
 least_line least = if least then codes "least possible\n" else []
 
--- the interval is what the fullest set of units or the recurrences need, so that no lawful schedule has a shorter one
-abbrev pub is_least_possible : ProblemData → ℕ → ℕ → Bool
-is_least_possible problem need ii = max need problem.recurrences == ii
-
 -- where an interval is what the fullest set of units or the recurrences need, no lawful schedule has a shorter one
 abbrev pub LeastIsLeast : Type 0
 LeastIsLeast = (problem : ProblemData) (set : UnitSet) (ii shorter : ℕ) (times choices : List ℕ) → IsProblem problem → IsFullest problem.operations set
     → is_least_possible problem set.need ii ≡ true → 0 < shorter → IsLawfulSchedule shorter problem.operations problem.graph.edges times choices → ii ≤ shorter
-
--- how many intervals are tried that give no kernel: all before the chosen one, or all
-abbrev pub failures_of : ProblemData → Choice → ℕ
-failures_of problem (Met ii kernel) = ii - mii_of problem
-failures_of problem (Failed cause) = problem.ceiling + 1
 
 -- the chosen interval, what holds it, and whether no shorter one is possible, where there is one. The fullest set of units has a
 -- need; free tells that no circuit needs the recurrence-constrained bound

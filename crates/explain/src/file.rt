@@ -27,6 +27,7 @@ use machine_data::{Machine, OutOfMemory};
 use resource_bound::{push_unit_lines, unit_choices};
 use settings::Settings;
 use std::alloc::Global;
+use told_choices::choose_told;
 use unit_sets::{UnitSet, fullest_set};
 
 /// A guess of how many bytes are told of a loop, for the first reservation.
@@ -129,9 +130,11 @@ fn push_part(
 ) -> Result<Choice, OutOfMemory>
     ensures exact { IfOk result (λ choice. (part : List ℕ) × IsTold machine.now units.now.text.items units.now.set.need prepared.now choice part × (text.new.items ≡ text.old.items ++ part)) }
 {
-    let chosen = push_chosen(alloc, text, units.text.as_slice(), units.set.need, prepared)?;
-    push_shown(alloc, text, machine, prepared, &chosen)?;
-    Ok(chosen.into_choice())
+    let told = choose_told(alloc, prepared)?;
+    let lines = units.text.as_slice();
+    push_chosen(alloc, text, lines, units.set.need, prepared, &told)?;
+    push_shown(alloc, text, machine, prepared, &told.chosen)?;
+    Ok(told.chosen.into_choice())
 }
 
 /// Appends what is told of a loop that is prepared for the machine: what [`push_explanation`](crate::push_explanation)

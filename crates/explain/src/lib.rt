@@ -10,6 +10,5 @@ mod shown;
 mod single;
 
 pub use file::{Explained, explain_lines, push_last, push_prepared};
-pub use intervals::hold::Hold;
 pub use laws::{circuits_need_bounds, least_is_least};
 pub use single::push_explanation;

@@ -1,14 +1,14 @@
 //! The schedule and the registers of a loop's kernel.
 
 ghost use Rattle.std.specs.Prelude.{◌≡◌, ◌++◌, ℕ, List, OnOk};
-ghost use Rattle.explain.specs.inner.Evidence.{HasEvidence, choice_of};
+ghost use Rattle.told_choices.specs.Told.{HasEvidence, choice_of};
 ghost use Rattle.explain.specs.Shown.{IsShown};
 
-use crate::intervals::chosen::Chosen;
 use ims::Prepared;
 use machine_data::{Machine, OutOfMemory};
 use schedule_lines::push_schedule;
 use std::alloc::Global;
+use told_choices::Chosen;
 
 /// Appends the schedule and the registers of a loop's kernel, and nothing where the loop has none.
 pub(crate) fn push_shown(

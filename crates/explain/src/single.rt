@@ -1,28 +1,29 @@
 //! What is told of a loop.
 
-ghost use Rattle.std.specs.Prelude.{◌≡◌, ◌++◌, ℕ, List, IfOk};
-ghost use Rattle.explain.specs.inner.Evidence.{HasEvidence, choice_of};
+ghost use Rattle.std.specs.Prelude.{◌≡◌, ◌++◌, ℕ, List, IfOk, OnOk};
+ghost use Rattle.told_choices.specs.Told.{IsTold, choice_of};
 ghost use Rattle.explain.specs.Explanations.{IsExplained};
 
 use crate::circuit::push_circuit;
-use crate::intervals::chosen::Chosen;
 use crate::intervals::tries::push_tries;
 use candidates::Choice;
 use graph_text::{LowerBounds, push_bounds_line};
 use ims::Prepared;
 use machine_data::OutOfMemory;
 use std::alloc::Global;
+use told_choices::{Told, choose_told};
 
-/// Appends what [`push_explanation`] does, and hands out what is chosen with the evidence of it.
-pub(crate) fn push_chosen<'a>(
+/// Appends what [`push_explanation`] does, of what is told of the loop.
+pub(crate) fn push_chosen(
     alloc: Global,
     text: &mut Vec<u8>,
     units: &[u8],
     need: u16,
-    prepared: &'a Prepared,
-) -> Result<Chosen<'a>, OutOfMemory>
-    ensures exact { IfOk result (λ chosen. (part : List ℕ) × IsExplained units.now need prepared.now (choice_of chosen) part × (text.new.items ≡ text.old.items ++ part)) }
-    ensures evidence { IfOk result (HasEvidence prepared.now) }
+    prepared: &Prepared,
+    told: &Told,
+) -> Result<(), OutOfMemory>
+    requires told { IsTold prepared.now told.now }
+    ensures ok { OnOk result ((part : List ℕ) × IsExplained units.now need prepared.now (choice_of told.now.chosen) part × (text.new.items ≡ text.old.items ++ part)) }
 {
     let bounds = LowerBounds {
         resources: prepared.resources(),
@@ -31,7 +32,7 @@ pub(crate) fn push_chosen<'a>(
     push_bounds_line(text, prepared.innermost(), bounds)?;
     text.extend_from_slice(units)?;
     let free = push_circuit(alloc, text, prepared)?;
-    push_tries(alloc, text, need, free, prepared)
+    push_tries(alloc, text, need, free, prepared, told)
 }
 
 /// Appends why a loop has its interval: the line of its lower bounds, the lines of the units that are given, a
@@ -50,6 +51,7 @@ pub fn push_explanation(
 ) -> Result<Choice, OutOfMemory>
     ensures exact { IfOk result (λ choice. (part : List ℕ) × IsExplained units.now need prepared.now choice part × (text.new.items ≡ text.old.items ++ part)) }
 {
-    let chosen = push_chosen(alloc, text, units, need, prepared)?;
-    Ok(chosen.into_choice())
+    let told = choose_told(alloc, prepared)?;
+    push_chosen(alloc, text, units, need, prepared, &told)?;
+    Ok(told.chosen.into_choice())
 }

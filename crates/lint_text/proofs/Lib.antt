@@ -1,2 +1,4 @@
 pub mod Passing
 pub mod Whole
+pub mod Sound
+pub mod Joined

@@ -3,7 +3,7 @@ use Rattle.std.proofs.Common.{◌≡◌, Bool, false, ◌||◌, List, [], ◌∷
 use Rattle.serde_json.specs.Data.{Data, array, member, no_members, object}
 use Rattle.serde_json.specs.View.{items_of}
 use Rattle.serde_json.specs.Written.{has_float, items_have_float}
-use Rattle.loop_lint.specs.declared.fault.LintFault.{LintFault}
+use Rattle.loop_lint.specs.declared.lacks.LoopLint.{LoopLint}
 use Rattle.machine_lint.specs.declared.place.MachineLint.{MachineLint}
 use Rattle.lint_text.specs.Document.{loop_value, loop_values, machine_value, machine_values}
 use Rattle.lint_text.specs.declared.printout.Named.{Named}
@@ -20,11 +20,11 @@ mapped : {A : Type 0} (value : A → Data) (list : List A) → ((x : A) → has_
 mapped value [] each = refl
 mapped value (x ∷ xs) each = neither _ _ (each x) (mapped value xs each)
 
-loops-whole : (loops : Option Named) (faults : List LintFault) → items_have_float (items_of (loop_values loops faults)) ≡ false
+loops-whole : (loops : Option Named) (faults : List LoopLint) → items_have_float (items_of (loop_values loops faults)) ≡ false
 loops-whole None faults = refl
 loops-whole (Some named) faults = mapped (loop_value named.path.now named.text.now) faults (λ fault. refl)
 
-pub all-whole : (machine loops : Option Named) (lints : List MachineLint) (faults : List LintFault) → items_have_float (items_of (machine_values machine lints ++ loop_values loops faults)) ≡ false
+pub all-whole : (machine loops : Option Named) (lints : List MachineLint) (faults : List LoopLint) → items_have_float (items_of (machine_values machine lints ++ loop_values loops faults)) ≡ false
 all-whole None loops lints faults = loops-whole loops faults
 all-whole (Some named) loops lints faults = mapped-then (machine_value named.path.now) lints (loop_values loops faults) (λ lint. refl) (loops-whole loops faults)
 

@@ -3,12 +3,14 @@ use Rattle.std.specs.Prelude.{◌≡◌, ℕ, nat_lt, codes, List, [], ◌++◌,
 use Rattle.serde_json.specs.Data.{Data, number, string, array, object, unsigned, member, no_members}
 use Rattle.serde_json.specs.View.{items_of}
 use Rattle.serde_json.specs.Written.{compact_text}
-use Rattle.loop_lint.specs.declared.fault.LintFault.{LintFault}
+use Rattle.loop_lint.specs.Lacks.{column_of, line_of}
+use Rattle.loop_lint.specs.declared.lacks.LoopLint.{LoopLint}
 use Rattle.machine_lint.specs.declared.place.MachineLint.{MachineLint}
+use Rattle.lint_text.specs.Lines.{word_in}
 use Rattle.lint_text.specs.Machines.{machine_message, machine_word}
 use Rattle.lint_text.specs.Printout.{AreOfLoops, AreOfMachine}
-use Rattle.lint_text.specs.What.{what}
-use Rattle.lint_text.specs.Words.{line_at, piece_at, shown}
+use Rattle.lint_text.specs.What.{message_of}
+use Rattle.lint_text.specs.Words.{line_at, shown}
 use Rattle.lint_text.specs.declared.printout.LintText.{LintText}
 use Rattle.lint_text.specs.declared.printout.Named.{Named}
 
@@ -25,20 +27,19 @@ fault_value path line column word message =
 abbrev pub machine_value : List ℕ → MachineLint → Data
 machine_value path lint = fault_value path lint.line lint.column (machine_word lint) (machine_message lint)
 
--- a fault of this line of a loop text with this path
-abbrev pub line_value : List ℕ → List ℕ → LintFault → Data
-line_value path line fault =
-    fault_value path fault.line fault.column (shown (piece_at line fault.column fault.width)) (what fault.kind line (piece_at line fault.column fault.width))
+-- what is told of this line of a loop text with this path
+abbrev pub line_value : List ℕ → List ℕ → LoopLint → Data
+line_value path line lint = fault_value path (line_of lint) (column_of lint) (shown (word_in line lint)) (message_of line (word_in line lint) lint)
 
-abbrev pub loop_value : List ℕ → List ℕ → LintFault → Data
-loop_value path text fault = line_value path (line_at text fault.line) fault
+abbrev pub loop_value : List ℕ → List ℕ → LoopLint → Data
+loop_value path text lint = line_value path (line_at text (line_of lint)) lint
 
 -- the faults of each text, if it is given
 abbrev pub machine_values : Option Named → List MachineLint → List Data
 machine_values None lints = []
 machine_values (Some named) lints = map (machine_value named.path.now) lints
 
-abbrev pub loop_values : Option Named → List LintFault → List Data
+abbrev pub loop_values : Option Named → List LoopLint → List Data
 loop_values None faults = []
 loop_values (Some named) faults = map (loop_value named.path.now named.text.now) faults
 
@@ -49,9 +50,9 @@ document_text faults = compact_text (object (member (codes "faults") (array (ite
 -- the faults of both texts, the machine's first, and whether there are any of each
 pub record IsLintDocument (machine loops : Option Named) (printed : LintText) : Type 0 where
   pub lints : List MachineLint
-  pub faults : List LintFault
+  pub faults : List LoopLint
   pub of_machine : AreOfMachine machine lints
-  pub of_loops : AreOfLoops loops faults
+  pub of_loops : AreOfLoops machine loops faults
   pub text : printed.text.items ≡ document_text (machine_values machine lints ++ loop_values loops faults)
   pub machine_faults : printed.machine_faults ≡ nat_lt 0 (length lints)
   pub loop_faults : printed.loop_faults ≡ nat_lt 0 (length faults)

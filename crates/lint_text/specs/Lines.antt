@@ -2,24 +2,28 @@
 use Rattle.std.specs.Prelude.{ℕ, codes, List, [], ◌∷◌, ◌++◌, flat_map}
 use Rattle.writing.specs.Words.{ended, told}
 use Rattle.machine_lint.specs.declared.place.MachineLint.{MachineLint}
-use Rattle.loop_lint.specs.declared.fault.LintFault.{LintFault}
+use Rattle.loop_lint.specs.Lacks.{column_of, line_of, width_of}
+use Rattle.loop_lint.specs.declared.lacks.LoopLint.{LoopLint}
 use Rattle.lint_text.specs.Machines.{machine_message, machine_word}
-use Rattle.lint_text.specs.What.{what}
+use Rattle.lint_text.specs.What.{message_of}
 use Rattle.lint_text.specs.Words.{line_at, piece_at, word_told}
 
 -- a place of the text with this path
 abbrev pub place_text : List ℕ → ℕ → ℕ → List ℕ
 place_text path line column = ((path ++ told (codes ":") line) ++ told (codes ":") column) ++ codes ": "
 
--- a fault of this line of a loop text with this path
-abbrev pub fault_line : List ℕ → List ℕ → LintFault → List ℕ
-fault_line path line fault =
-    (place_text path fault.line fault.column ++ word_told (piece_at line fault.column fault.width))
-    ++ ended (what fault.kind line (piece_at line fault.column fault.width))
+-- the word of this line of a loop text that something is told of
+abbrev pub word_in : List ℕ → LoopLint → List ℕ
+word_in line lint = piece_at line (column_of lint) (width_of lint)
 
--- the faults of a loop text with this path and these bytes
-abbrev pub loop_text : List ℕ → List ℕ → List LintFault → List ℕ
-loop_text path text faults = flat_map (λ (fault : LintFault). fault_line path (line_at text fault.line) fault) faults
+-- what is told of this line of a loop text with this path
+abbrev pub lint_line : List ℕ → List ℕ → LoopLint → List ℕ
+lint_line path line lint =
+    (place_text path (line_of lint) (column_of lint) ++ word_told (word_in line lint)) ++ ended (message_of line (word_in line lint) lint)
+
+-- what is told of a loop text with this path and these bytes
+abbrev pub loop_text : List ℕ → List ℕ → List LoopLint → List ℕ
+loop_text path text lints = flat_map (λ (lint : LoopLint). lint_line path (line_at text (line_of lint)) lint) lints
 
 -- a word with a colon; without bytes nothing
 abbrev pub text_told : List ℕ → List ℕ

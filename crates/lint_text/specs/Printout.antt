@@ -1,8 +1,9 @@
 -- What is printed of the faults of a machine text and of a loop text.
-use Rattle.std.specs.Prelude.{◌≡◌, ℕ, nat_lt, List, [], ◌++◌, length, map, Option, Some, None}
-use Rattle.loop_reader.specs.Meaning.{loops_in}
-use Rattle.loop_lint.specs.Lints.{AreFaults, BeginsAs, plain}
-use Rattle.loop_lint.specs.declared.fault.LintFault.{LintFault}
+use Rattle.std.specs.Prelude.{◌≡◌, ◌↔◌, ℕ, nat_lt, false, List, [], ◌++◌, length, map, Option, Some, None, Result, Ok, Err}
+use Rattle.machine_data.specs.Machines.{MachineData}
+use Rattle.loop_lint.specs.Lacks.{AreToldOn, HasTables, SilentWith}
+use Rattle.loop_lint.specs.declared.lacks.LoopLint.{LoopLint}
+use Rattle.machine.specs.declared.fault.MachineFault.{MachineFault}
 use Rattle.machine.specs.MachineText.{machine_of}
 use Rattle.machine_lint.specs.Lints as machines
 use Rattle.machine_lint.specs.declared.place.MachineLint.{MachineLint}
@@ -17,26 +18,52 @@ AreOfMachine (Some named) lints =
     machines.Tells named.text.now (machines.told_of named.text.now) lints
     × machines.BeginsAs (machine_of named.text.now) (map (λ (lint : MachineLint). lint.fault) lints)
 
--- these are told of the loop text, if one is given
-abbrev pub AreOfLoops : Option Named → List LintFault → Type 0
-AreOfLoops None faults = faults ≡ []
-AreOfLoops (Some named) faults = AreFaults named.text.now faults × BeginsAs (loops_in named.text.now) (map plain faults)
+-- the machine that a text means, if it means one
+abbrev pub machine_read : Result MachineData MachineFault → Option MachineData
+machine_read (Ok machine) = Some machine
+machine_read (Err fault) = None
+
+abbrev pub machine_in : Option Named → Option MachineData
+machine_in None = None
+machine_in (Some named) = machine_read (machine_of named.text.now)
+
+-- these are told of the loop text, if one is given, on the machine that the machine text means, if one is given and means one
+abbrev pub AreOfLoops : Option Named → Option Named → List LoopLint → Type 0
+AreOfLoops machine None lints = lints ≡ []
+AreOfLoops machine (Some named) lints = AreToldOn (machine_in machine) named.text.now lints
+
+-- .. and nothing just where the text means loops for which that machine has all tables
+abbrev pub SilentOn : Option MachineData → Option Named → List LoopLint → Type 0
+SilentOn machine None lints = Unit {0}
+SilentOn machine (Some named) lints = SilentWith machine named.text.now lints
 
 -- their lines
 abbrev pub machine_lines : Option Named → List MachineLint → List ℕ
 machine_lines None lints = []
 machine_lines (Some named) lints = machine_text named.path.now lints
 
-abbrev pub loop_lines : Option Named → List LintFault → List ℕ
+abbrev pub loop_lines : Option Named → List LoopLint → List ℕ
 loop_lines None faults = []
 loop_lines (Some named) faults = loop_text named.path.now named.text.now faults
 
 -- the faults of both texts, the machine's first, and whether there are any of each
 pub record IsLintText (machine loops : Option Named) (printed : LintText) : Type 0 where
   pub lints : List MachineLint
-  pub faults : List LintFault
+  pub faults : List LoopLint
   pub of_machine : AreOfMachine machine lints
-  pub of_loops : AreOfLoops loops faults
+  pub of_loops : AreOfLoops machine loops faults
   pub text : printed.text.items ≡ machine_lines machine lints ++ loop_lines loops faults
   pub machine_faults : printed.machine_faults ≡ nat_lt 0 (length lints)
   pub loop_faults : printed.loop_faults ≡ nat_lt 0 (length faults)
+
+-- both texts mean something, the machine with a table for each opcode of the loops
+pub record MeansBoth (machine loops : List ℕ) : Type 0 where
+  pub meant : MachineData
+  pub machine_read : machine_of machine ≡ Ok meant
+  pub tables : HasTables meant loops
+
+-- where both texts are given, no fault is told just where both mean something so
+abbrev pub SilentBoth : Option Named → Option Named → LintText → Type 0
+SilentBoth (Some machine) (Some loops) printed =
+    ((printed.machine_faults ≡ false) × (printed.loop_faults ≡ false)) ↔ MeansBoth machine.text.now loops.text.now
+SilentBoth _ _ printed = Unit {0}

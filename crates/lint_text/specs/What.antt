@@ -1,5 +1,5 @@
 -- What is wrong with a line of a loop text, and what is expected, in words.
-use Rattle.std.specs.Prelude.{ℕ, ◌==◌, ◌||◌, nat_lt, Bool, true, false, if◌then◌else◌, codes, List, [], ◌∷◌, length, Option, Some, None}
+use Rattle.std.specs.Prelude.{ℕ, ◌==◌, ◌||◌, nat_lt, Bool, true, false, if◌then◌else◌, codes, List, [], ◌∷◌, ◌++◌, flat_map, length, Option, Some, None}
 use Rattle.std.specs.Char.{is_ascii_digit}
 use Rattle.std.specs.List.{list_any}
 use Rattle.machine_data.specs.Opcodes.{same_word}
@@ -7,6 +7,13 @@ use Rattle.loop_lines.specs.Forms.{Form, Malformed, line_form}
 use Rattle.loop_lines.specs.Words.{words_of}
 use Rattle.loop_reader.specs.declared.fault.LoopFaultKind.{LoopFaultKind}
 use Rattle.loop_reader.specs.declared.fault.LoopFaultKind.TheVariants as kind
+use Rattle.loop_lint.specs.Hints.{name_in}
+use Rattle.loop_lint.specs.declared.fault.Hint.{Hint}
+use Rattle.loop_lint.specs.declared.fault.Hint.TheVariants as hint
+use Rattle.loop_lint.specs.declared.lacks.LoopLint.{LoopLint}
+use Rattle.loop_lint.specs.declared.lacks.LoopLint.TheVariants as lint
+use Rattle.writing.specs.Words.{told}
+use Rattle.lint_text.specs.Words.{shown}
 
 -- the line has none of the forms
 abbrev pub is_form : Option Form → Bool
@@ -59,3 +66,31 @@ what kind.UseBeforeDefinition line word = codes "use before definition: given on
 what kind.MissingInit line word = codes "missing init: an initial value is missing"
 what kind.NoEnd line word = codes "no end: the text ends inside a loop, expected end"
 what kind.Memory line word = codes "out of memory"
+
+-- what helps to mend a fault
+
+-- a name that may be meant
+abbrev pub name_text : List ℕ → List ℕ
+name_text name = (codes ": did you mean " ++ shown name) ++ codes "?"
+
+-- an initial value of the name in a word
+abbrev pub init_text : List ℕ → ℕ → List ℕ
+init_text word number = shown (name_in word) ++ told (codes "@") number
+
+abbrev pub inits_more : List ℕ → List ℕ → List ℕ
+inits_more word numbers = flat_map (λ number. codes ", " ++ init_text word number) numbers
+
+abbrev pub inits_text : List ℕ → List ℕ → List ℕ
+inits_text word [] = []
+inits_text word (number ∷ numbers) = (codes ": expected init " ++ init_text word number) ++ inits_more word numbers
+
+-- what is said at a word
+abbrev pub hint_text : List ℕ → Hint → List ℕ
+hint_text word hint.Nothing = []
+hint_text word (hint.Name name) = name_text name
+hint_text word (hint.Inits numbers) = inits_text word numbers
+
+-- what is said of a line, at this word
+abbrev pub message_of : List ℕ → List ℕ → LoopLint → List ℕ
+message_of line word (lint.Fault fault) = what fault.kind line word ++ hint_text word fault.hint
+message_of line word (lint.NoTable lack) = codes "no table: the machine has none for this opcode"

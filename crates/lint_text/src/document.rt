@@ -4,14 +4,15 @@ ghost use Rattle.std.specs.Prelude.{◌≡◌, ◌++◌, [], ◌∷◌, IfOk, On
 ghost use Rattle.serde_json.specs.Data.{array, member, no_members, object};
 ghost use Rattle.serde_json.specs.View.{items_of, view};
 ghost use Rattle.serde_json.specs.Written.{items_have_float};
+ghost use Rattle.lint_text.specs.Printout.{SilentBoth};
 ghost use Rattle.lint_text.specs.Document.{IsLintDocument, document_text, fault_value, line_value, loop_value, loop_values, machine_value, machine_values};
 
 use crate::lines::{From, first_line, passing};
 use crate::machine_words::{machine_message, machine_word};
-use crate::printout::{LintText, Named, loop_faults, machine_lints};
-use crate::what::what;
+use crate::printout::{LintText, Named, loop_lints, machine_lints};
+use crate::what::loop_message;
 use crate::words::{piece_at, shown_word};
-use loop_lint::LintFault;
+use loop_lint::LoopLint;
 use machine_data::OutOfMemory;
 use machine_lint::MachineLint;
 use serde_json::{Value, json};
@@ -53,20 +54,20 @@ fn told_machine(alloc: Global, path: &str, lint: &MachineLint) -> Result<Value, 
     )
 }
 
-/// A fault of this line of a loop text.
-fn told_loop(alloc: Global, path: &str, line: &[u8], fault: LintFault) -> Result<Value, OutOfMemory>
-    ensures { IfOk result (λ v. view v ≡ line_value path.now line.now fault) }
+/// What is told of this line of a loop text.
+fn told_loop(alloc: Global, path: &str, line: &[u8], lint: &LoopLint) -> Result<Value, OutOfMemory>
+    ensures { IfOk result (λ v. view v ≡ line_value path.now line.now lint.now) }
 {
-    let piece = piece_at(line, fault.column, fault.width);
+    let piece = piece_at(line, lint.column(), lint.width());
     let word = shown_word(alloc, piece)?;
-    let message = what(fault.kind, line, piece);
+    let message = loop_message(alloc, lint, line, piece)?;
     told_fault(
         alloc,
         path,
-        fault.line,
-        fault.column,
+        lint.line(),
+        lint.column(),
         word.as_str(),
-        message,
+        message.as_str(),
     )
 }
 
@@ -84,17 +85,17 @@ fn add_machine(
     Ok(())
 }
 
-/// Pushes a fault of this line of a loop text.
+/// Pushes what is told of this line of a loop text.
 fn add_loop(
     alloc: Global,
     values: &mut Vec<Value>,
     path: &str,
     line: &[u8],
-    fault: LintFault,
+    lint: &LoopLint,
 ) -> Result<(), OutOfMemory>
-    ensures { OnOk result (map view values.new.items ≡ map view values.old.items ++ line_value path.now line.now fault ∷ []) }
+    ensures { OnOk result (map view values.new.items ≡ map view values.old.items ++ line_value path.now line.now lint.now ∷ []) }
 {
-    let value = told_loop(alloc, path, line, fault)?;
+    let value = told_loop(alloc, path, line, lint)?;
     values.push(value)?;
     Ok(())
 }
@@ -120,7 +121,7 @@ fn add_faults(
     values: &mut Vec<Value>,
     path: &str,
     bytes: &[u8],
-    faults: &[LintFault],
+    faults: &[LoopLint],
 ) -> Result<(), OutOfMemory>
     ensures { OnOk result (map view values.new.items ≡ map view values.old.items ++ map (loop_value path.now bytes.now) faults.now) }
 {
@@ -129,8 +130,8 @@ fn add_faults(
         rest: bytes,
     };
     for fault in faults {
-        from = passing(bytes, from, fault.line.saturating_sub(1));
-        add_loop(alloc, values, path, first_line(from.rest), *fault)?;
+        from = passing(bytes, from, fault.line().saturating_sub(1));
+        add_loop(alloc, values, path, first_line(from.rest), fault)?;
     }
     Ok(())
 }
@@ -155,7 +156,7 @@ fn add_given_faults(
     alloc: Global,
     values: &mut Vec<Value>,
     loops: Option<Named<'_>>,
-    faults: &[LintFault],
+    faults: &[LoopLint],
 ) -> Result<(), OutOfMemory>
     ensures { OnOk result (map view values.new.items ≡ map view values.old.items ++ loop_values loops.entry faults.now) }
 {
@@ -171,7 +172,7 @@ fn values_of(
     machine: Option<Named<'_>>,
     loops: Option<Named<'_>>,
     lints: &[MachineLint],
-    faults: &[LintFault],
+    faults: &[LoopLint],
 ) -> Result<Vec<Value>, OutOfMemory>
     ensures { IfOk result (λ values. map view values.items ≡ machine_values machine.entry lints.now ++ loop_values loops.entry faults.now) }
 {
@@ -205,15 +206,17 @@ fn written(alloc: Global, values: Vec<Value>) -> Result<String, OutOfMemory>
 ///
 /// # Errors
 /// Memory ran out, which says nothing of the texts.
+#[tactic(auto, using(crate::proofs::Sound::silent_both))]
 pub fn lint_document(
     alloc: Global,
     machine: Option<Named<'_>>,
     loops: Option<Named<'_>>,
 ) -> Result<LintText, OutOfMemory>
-    ensures { IfOk result (λ printed. IsLintDocument machine.entry loops.entry printed) }
+    ensures exact { IfOk result (λ printed. IsLintDocument machine.entry loops.entry printed) }
+    ensures silent { IfOk result (λ printed. SilentBoth machine.entry loops.entry printed) }
 {
     let lints = machine_lints(alloc, machine)?;
-    let faults = loop_faults(alloc, loops)?;
+    let faults = loop_lints(alloc, machine, loops, &lints)?;
     let values = values_of(alloc, machine, loops, &lints, &faults)?;
     let text = written(alloc, values)?;
     Ok(LintText {

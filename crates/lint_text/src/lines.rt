@@ -2,16 +2,17 @@
 
 ghost use Rattle.std.specs.Prelude.{◌≡◌, ◌≤◌, ◌++◌, [], drop, slice_index_or, OnOk};
 ghost use Rattle.loop_lines.specs.Words.{lines_of};
-ghost use Rattle.lint_text.specs.Lines.{fault_line, loop_text};
+ghost use Rattle.lint_text.specs.Lines.{lint_line, loop_text};
 ghost use Rattle.lint_text.specs.Words.{line_at};
 ghost use Rattle.lint_text.specs.inner.Cursors.{IsFrom};
 
 use crate::places::push_place;
-use crate::what::what;
+use crate::what::loop_message;
 use crate::words::{piece_at, push_word};
 use loop_lines::next_line;
-use loop_lint::LintFault;
+use loop_lint::LoopLint;
 use machine_data::OutOfMemory;
+use std::alloc::Global;
 use writing::push_line;
 
 /// The rest of a text from a line on, and how many lines stand before it.
@@ -57,40 +58,43 @@ pub(crate) fn first_line(text: &[u8]) -> &[u8]
     line
 }
 
-/// Pushes the line of a fault of this line of a loop text.
+/// Pushes a line for what is told of this line of a loop text.
 fn push_loop_fault(
+    alloc: Global,
     text: &mut Vec<u8>,
     path: &str,
     line: &[u8],
-    fault: LintFault,
+    lint: &LoopLint,
 ) -> Result<(), OutOfMemory>
-    ensures { OnOk result (text.new.items ≡ text.old.items ++ fault_line path.now line.now fault) }
+    ensures { OnOk result (text.new.items ≡ text.old.items ++ lint_line path.now line.now lint.now) }
 {
-    let word = piece_at(line, fault.column, fault.width);
-    push_place(text, path, fault.line, fault.column)?;
+    let word = piece_at(line, lint.column(), lint.width());
+    let message = loop_message(alloc, lint, line, word)?;
+    push_place(text, path, lint.line(), lint.column())?;
     push_word(text, word)?;
-    push_line(text, what(fault.kind, line, word))
+    push_line(text, message.as_str())
 }
 
-/// Pushes a line for each fault of the loop text that has this path and these bytes.
+/// Pushes a line for all that is told of the loop text that has this path and these bytes.
 ///
 /// # Errors
 /// Memory ran out. The text has some of the lines after it, and maybe the beginning of one.
 pub fn push_loop_faults(
+    alloc: Global,
     text: &mut Vec<u8>,
     path: &str,
     bytes: &[u8],
-    faults: &[LintFault],
+    lints: &[LoopLint],
 ) -> Result<(), OutOfMemory>
-    ensures { OnOk result (text.new.items ≡ text.old.items ++ loop_text path.now bytes.now faults.now) }
+    ensures { OnOk result (text.new.items ≡ text.old.items ++ loop_text path.now bytes.now lints.now) }
 {
     let mut from = From {
         passed: 0,
         rest: bytes,
     };
-    for fault in faults {
-        from = passing(bytes, from, fault.line.saturating_sub(1));
-        push_loop_fault(text, path, first_line(from.rest), *fault)?;
+    for lint in lints {
+        from = passing(bytes, from, lint.line().saturating_sub(1));
+        push_loop_fault(alloc, text, path, first_line(from.rest), lint)?;
     }
     Ok(())
 }

@@ -1,14 +1,15 @@
 //! What is printed of the faults of a machine text and of a loop text.
 
 ghost use Rattle.std.specs.Prelude.{◌≡◌, ◌++◌, IfOk, OnOk, nat_lt, length};
-ghost use Rattle.lint_text.specs.Printout.{AreOfLoops, AreOfMachine, IsLintText, loop_lines, machine_lines};
+ghost use Rattle.lint_text.specs.Printout.{AreOfLoops, AreOfMachine, IsLintText, SilentBoth, SilentOn, loop_lines, machine_in, machine_lines};
 
 use crate::lines::push_loop_faults;
 use crate::machines::push_machine_faults;
-use loop_lint::{LintFault, lint_loops};
-use machine_data::OutOfMemory;
+use loop_lint::{LoopLint, lint_loops_for};
+use machine::read_machine;
+use machine_data::{Machine, OutOfMemory};
 use machine_lint::{MachineLint, lint_machine};
-use std::alloc::Global;
+use std::alloc::{AllocError, Global};
 
 /// A text with the path by which its faults are told.
 #[derive(Clone, Copy, Debug)]
@@ -41,17 +42,44 @@ pub(crate) fn machine_lints(
     }
 }
 
-/// The faults of a loop text, if one is given.
-pub(crate) fn loop_faults(
+/// The machine of a text without faults, if one is given.
+#[tactic(auto, using(crate::proofs::Sound::faulty_none, crate::proofs::Sound::sound_some))]
+fn sound_machine(
     alloc: Global,
-    loops: Option<Named<'_>>,
-) -> Result<Vec<LintFault>, OutOfMemory>
-    ensures { IfOk result (λ faults. AreOfLoops loops.entry faults.items) }
+    machine: Option<Named<'_>>,
+    lints: &[MachineLint],
+) -> Result<Option<Machine>, OutOfMemory>
+    requires { AreOfMachine machine lints.now }
+    ensures { IfOk result (λ sound. sound ≡ machine_in machine.entry) }
 {
-    match loops {
-        Some(named) => lint_loops(alloc, named.text),
-        None => Ok(Vec::new(alloc)),
+    let Some(named) = machine else {
+        return Ok(None);
+    };
+    if !lints.is_empty() {
+        return Ok(None);
     }
+    match read_machine(alloc, named.text) {
+        Ok(machine) => Ok(Some(machine)),
+        Err(_) => Err(AllocError),
+    }
+}
+
+/// What is told of a loop text, if one is given, on the machine of a text of which this is told.
+pub(crate) fn loop_lints(
+    alloc: Global,
+    machine: Option<Named<'_>>,
+    loops: Option<Named<'_>>,
+    lints: &[MachineLint],
+) -> Result<Vec<LoopLint>, OutOfMemory>
+    requires { AreOfMachine machine lints.now }
+    ensures told { IfOk result (λ faults. AreOfLoops machine.entry loops.entry faults.items) }
+    ensures silent { IfOk result (λ faults. SilentOn (machine_in machine.entry) loops.entry faults.items) }
+{
+    let Some(named) = loops else {
+        return Ok(Vec::new(alloc));
+    };
+    let sound = sound_machine(alloc, machine, lints)?;
+    lint_loops_for(alloc, named.text, sound.as_ref())
 }
 
 /// Pushes the lines of the faults of a machine text, if one is given.
@@ -71,14 +99,15 @@ fn push_machine(
 
 /// Pushes the lines of the faults of a loop text, if one is given.
 fn push_loops(
+    alloc: Global,
     text: &mut Vec<u8>,
     loops: Option<Named<'_>>,
-    faults: &[LintFault],
+    faults: &[LoopLint],
 ) -> Result<(), OutOfMemory>
     ensures { OnOk result (text.new.items ≡ text.old.items ++ loop_lines loops.entry faults.now) }
 {
     match loops {
-        Some(named) => push_loop_faults(text, named.path, named.text, faults),
+        Some(named) => push_loop_faults(alloc, text, named.path, named.text, faults),
         None => Ok(()),
     }
 }
@@ -87,18 +116,20 @@ fn push_loops(
 ///
 /// # Errors
 /// Memory ran out, which says nothing of the texts.
+#[tactic(auto, using(crate::proofs::Sound::silent_both))]
 pub fn lint_printout(
     alloc: Global,
     machine: Option<Named<'_>>,
     loops: Option<Named<'_>>,
 ) -> Result<LintText, OutOfMemory>
-    ensures { IfOk result (λ printed. IsLintText machine.entry loops.entry printed) }
+    ensures exact { IfOk result (λ printed. IsLintText machine.entry loops.entry printed) }
+    ensures silent { IfOk result (λ printed. SilentBoth machine.entry loops.entry printed) }
 {
     let lints = machine_lints(alloc, machine)?;
-    let faults = loop_faults(alloc, loops)?;
+    let faults = loop_lints(alloc, machine, loops, &lints)?;
     let mut text = Vec::new(alloc);
     push_machine(alloc, &mut text, machine, &lints)?;
-    push_loops(&mut text, loops, &faults)?;
+    push_loops(alloc, &mut text, loops, &faults)?;
     Ok(LintText {
         text,
         machine_faults: !lints.is_empty(),

@@ -25,22 +25,28 @@ loop last
 m = mov 1
 ";
 
-/// An unknown name has no initial value either, so that line 12 has two faults.
+/// An unknown name has no initial value either, so that line 12 has two faults. The machine has no table at all.
 const OF_LOOPS: &str = "saxpy.loops:3:7: x: repeated name: an earlier line has it
 saxpy.loops:4:11: 12z: syntax: no form of a line goes on here
 saxpy.loops:5:10: syntax: a word is missing here
 saxpy.loops:6:10: x[i+65]: limit: expected a name of at most 16 bytes and a constant of -64 to 64
+saxpy.loops:6:5: load: no table: the machine has none for this opcode
 saxpy.loops:7:11: a: unknown name: no line of the loop declares it
+saxpy.loops:7:5: mul: no table: the machine has none for this opcode
 saxpy.loops:8:9: u: use before definition: given on this line or a later one
-saxpy.loops:9:9: v@2: missing init: an initial value is missing
+saxpy.loops:8:5: add: no table: the machine has none for this opcode
+saxpy.loops:9:9: v@2: missing init: an initial value is missing: expected init v@1, v@2
+saxpy.loops:9:5: add: no table: the machine has none for this opcode
 saxpy.loops:10:7: y[i]: unknown name: no line of the loop declares it
+saxpy.loops:10:1: store: no table: the machine has none for this opcode
 saxpy.loops:11:1: init: syntax: this line stands in a wrong place
 saxpy.loops:12:5: w: unknown name: no line of the loop declares it
-saxpy.loops:12:5: w: missing init: an initial value is missing
-saxpy.loops:13:5: v: missing init: an initial value is missing
+saxpy.loops:12:5: w: missing init: an initial value is missing: expected init w@1
+saxpy.loops:13:5: v: missing init: an initial value is missing: expected init v@1
 saxpy.loops:15:6: saxpy: repeated name: an earlier line has it
 saxpy.loops:16:1: end: limit: expected at least one statement
 saxpy.loops:18:1: \\xffm: syntax: no form of a line goes on here
+saxpy.loops:19:5: mov: no table: the machine has none for this opcode
 saxpy.loops:20:1: no end: the text ends inside a loop, expected end
 ";
 

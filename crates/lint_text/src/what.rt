@@ -1,12 +1,18 @@
 //! What is wrong with a line of a loop text, and what is expected, in words.
 
-ghost use Rattle.std.specs.Prelude.{◌≡◌};
+ghost use Rattle.std.specs.Prelude.{◌≡◌, ◌++◌, IfOk, OnOk, codes, string_bytes};
+ghost use Rattle.loop_lint.specs.Hints.{name_in};
 ghost use Rattle.machine_data.specs.Opcodes.{same_word};
-ghost use Rattle.lint_text.specs.What.{allowed, allowed_part, begins_integer, has_form, misplaced, what};
+ghost use Rattle.lint_text.specs.What.{allowed, allowed_part, begins_integer, has_form, hint_text, init_text, inits_more, inits_text, message_of, misplaced, name_text, what};
 
+use crate::words::add_bytes;
 use loop_lines::{Form, form_of};
+use loop_lint::{Hint, LoopLint, name_in};
 use loop_reader::LoopFaultKind;
+use machine_data::OutOfMemory;
 use machine_data::limits::MAX_NAME;
+use std::alloc::Global;
+use writing::push_told;
 
 /// Whether a line has one of the forms.
 fn has_form(line: &[u8]) -> bool
@@ -90,7 +96,7 @@ fn misplaced(line: &[u8], word: &[u8]) -> &'static str
 }
 
 /// What is said of a fault of a line, at this word.
-pub(crate) fn what(kind: LoopFaultKind, line: &[u8], word: &[u8]) -> &'static str
+fn what(kind: LoopFaultKind, line: &[u8], word: &[u8]) -> &'static str
     ensures { result.now ≡ what kind line.now word.now }
 {
     match kind {
@@ -104,5 +110,78 @@ pub(crate) fn what(kind: LoopFaultKind, line: &[u8], word: &[u8]) -> &'static st
         LoopFaultKind::MissingInit => "missing init: an initial value is missing",
         LoopFaultKind::NoEnd => "no end: the text ends inside a loop, expected end",
         LoopFaultKind::Memory => "out of memory",
+    }
+}
+
+/// Pushes an initial value of the name in a word.
+fn push_init(text: &mut String, word: &[u8], number: u8) -> Result<(), OutOfMemory>
+    ensures { OnOk result (string_bytes text.new ≡ string_bytes text.old ++ init_text word.now number) }
+{
+    add_bytes(text, name_in(word))?;
+    push_told(text, "@", u64::from(number))
+}
+
+/// Pushes more initial values of the name in a word.
+fn push_more(text: &mut String, word: &[u8], numbers: &[u8]) -> Result<(), OutOfMemory>
+    ensures { OnOk result (string_bytes text.new ≡ string_bytes text.old ++ inits_more word.now numbers.now) }
+{
+    for number in numbers {
+        text.push_str(", ")?;
+        push_init(text, word, *number)?;
+    }
+    Ok(())
+}
+
+/// Pushes the initial values with these numbers of the name in a word.
+fn push_inits(text: &mut String, word: &[u8], numbers: &[u8]) -> Result<(), OutOfMemory>
+    ensures { OnOk result (string_bytes text.new ≡ string_bytes text.old ++ inits_text word.now numbers.now) }
+{
+    let Some((first, more)) = numbers.split_first() else {
+        return Ok(());
+    };
+    text.push_str(": expected init ")?;
+    push_init(text, word, *first)?;
+    push_more(text, word, more)
+}
+
+/// Pushes a name that may be meant.
+fn push_name(text: &mut String, name: &[u8]) -> Result<(), OutOfMemory>
+    ensures { OnOk result (string_bytes text.new ≡ string_bytes text.old ++ name_text name.now) }
+{
+    text.push_str(": did you mean ")?;
+    add_bytes(text, name)?;
+    text.push_str("?")?;
+    Ok(())
+}
+
+/// Pushes what helps to mend a fault at a word.
+fn push_hint(text: &mut String, word: &[u8], hint: &Hint) -> Result<(), OutOfMemory>
+    ensures { OnOk result (string_bytes text.new ≡ string_bytes text.old ++ hint_text word.now hint.now) }
+{
+    match hint {
+        Hint::Nothing => Ok(()),
+        Hint::Name(name) => push_name(text, name.as_bytes()),
+        Hint::Inits(numbers) => push_inits(text, word, numbers.as_bytes()),
+    }
+}
+
+/// What is said of a line, at this word.
+pub(crate) fn loop_message(
+    alloc: Global,
+    lint: &LoopLint,
+    line: &[u8],
+    word: &[u8],
+) -> Result<String, OutOfMemory>
+    ensures { IfOk result (λ text. string_bytes text ≡ message_of line.now word.now lint.now) }
+{
+    match lint {
+        LoopLint::Fault(fault) => {
+            let mut text = String::from_str(alloc, what(fault.kind, line, word))?;
+            push_hint(&mut text, word, &fault.hint)?;
+            Ok(text)
+        }
+        LoopLint::NoTable(_) => {
+            String::from_str(alloc, "no table: the machine has none for this opcode")
+        }
     }
 }

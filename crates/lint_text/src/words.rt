@@ -62,7 +62,7 @@ fn add_byte(text: &mut String, byte: u8) -> Result<(), OutOfMemory>
 }
 
 /// Pushes the bytes of a word after a string.
-fn add_bytes(text: &mut String, word: &[u8]) -> Result<(), OutOfMemory>
+pub(crate) fn add_bytes(text: &mut String, word: &[u8]) -> Result<(), OutOfMemory>
     ensures { OnOk result (string_bytes text.new ≡ string_bytes text.old ++ shown word.now) }
 {
     for byte in word {

@@ -16,6 +16,9 @@ use Rattle.loop_reader.specs.declared.fault.LoopFaultKind.TheVariants.{Limit, Re
 use Rattle.loop_lint.specs.Lints.{fault_at, told}
 use Rattle.loop_lint.specs.Parts.{AName, APlace, AUse, Part, PartAt, first_part, name_part, place_part, use_parts, use_word}
 use Rattle.loop_lint.specs.Words.{Placed, spot_at}
+use Rattle.loop_lint.specs.Hints.{no_hint}
+use Rattle.loop_lint.specs.declared.fault.Hint.{Hint}
+use Rattle.loop_lint.specs.declared.fault.Hint.TheVariants.{Nothing}
 use Rattle.loop_lint.specs.declared.fault.LintFault.{LintFault}
 use Rattle.loop_lint.specs.declared.tell.Found.{Found}
 use Rattle.loop_lint.specs.inner.Founds.{told_all, told_if, use_part}
@@ -24,41 +27,41 @@ use Rattle.loop_lint.specs.inner.Founds.{told_all, told_if, use_part}
 abbrev pub word_when : Bool → ℕ → Option ℕ
 word_when b word = cond b (Some word) None
 
-tell-when : (line : ℕ) (words : List Placed) (word : LoopFaultKind → ℕ) (kind : LoopFaultKind) (b : Bool) → told_if line words kind (word_when b (word kind)) ≡ told line words word (when b kind)
-tell-when line words word kind true = refl
-tell-when line words word kind false = refl
+tell-when : (line : ℕ) (words : List Placed) (hint : LoopFaultKind → ℕ → Hint) (word : LoopFaultKind → ℕ) (kind : LoopFaultKind) (b : Bool) → told_if line words hint kind (word_when b (word kind)) ≡ told line words hint word (when b kind)
+tell-when line words hint word kind true = refl
+tell-when line words hint word kind false = refl
 
-pub told-append : (line : ℕ) (words : List Placed) (word : LoopFaultKind → ℕ) (xs ys : Kinds) → told line words word (xs ++ ys) ≡ told line words word xs ++ told line words word ys
-told-append line words word xs ys = map-append (λ kind. fault_at line kind (spot_at words (word kind))) xs ys
+pub told-append : (line : ℕ) (words : List Placed) (hint : LoopFaultKind → ℕ → Hint) (word : LoopFaultKind → ℕ) (xs ys : Kinds) → told line words hint word (xs ++ ys) ≡ told line words hint word xs ++ told line words hint word ys
+told-append line words hint word xs ys = map-append (λ kind. fault_at line kind (spot_at words (word kind)) (hint kind (word kind))) xs ys
 
 -- the kinds of which these tests tell
 abbrev pub five_kinds : Bool → Bool → Bool → Bool → Bool → Kinds
 five_kinds limit repeated unknown early missing =
     when limit Limit ++ (when repeated RepeatedName ++ (when unknown UnknownName ++ (when early UseBeforeDefinition ++ when missing MissingInit)))
 
-five-told : (line : ℕ) (words : List Placed) (word : LoopFaultKind → ℕ) (a b c d e : Bool)
-    → told_if line words Limit (word_when a (word Limit))
-    ++ (told_if line words RepeatedName (word_when b (word RepeatedName))
-    ++ (told_if line words UnknownName (word_when c (word UnknownName))
-    ++ (told_if line words UseBeforeDefinition (word_when d (word UseBeforeDefinition))
-    ++ told_if line words MissingInit (word_when e (word MissingInit)))))
-    ≡ told line words word (five_kinds a b c d e)
-five-told line words word a b c d e =
-    let t = λ (kind : LoopFaultKind) (x : Bool). tell-when line words word kind x in
-    let join = λ (xs ys : Kinds). sym (told-append line words word xs ys) in
+five-told : (line : ℕ) (words : List Placed) (hint : LoopFaultKind → ℕ → Hint) (word : LoopFaultKind → ℕ) (a b c d e : Bool)
+    → told_if line words hint Limit (word_when a (word Limit))
+    ++ (told_if line words hint RepeatedName (word_when b (word RepeatedName))
+    ++ (told_if line words hint UnknownName (word_when c (word UnknownName))
+    ++ (told_if line words hint UseBeforeDefinition (word_when d (word UseBeforeDefinition))
+    ++ told_if line words hint MissingInit (word_when e (word MissingInit)))))
+    ≡ told line words hint word (five_kinds a b c d e)
+five-told line words hint word a b c d e =
+    let t = λ (kind : LoopFaultKind) (x : Bool). tell-when line words hint word kind x in
+    let join = λ (xs ys : Kinds). sym (told-append line words hint word xs ys) in
     rw (t Limit a, t RepeatedName b, t UnknownName c, t UseBeforeDefinition d, t MissingInit e)
-    (ap (λ r. told line words word (when a Limit) ++ (told line words word (when b RepeatedName) ++ (told line words word (when c UnknownName) ++ r))) (join (when d UseBeforeDefinition) (when e MissingInit))
-    ∙ ap (λ r. told line words word (when a Limit) ++ (told line words word (when b RepeatedName) ++ r)) (join (when c UnknownName) _)
-    ∙ ap (λ r. told line words word (when a Limit) ++ r) (join (when b RepeatedName) _)
+    (ap (λ r. told line words hint word (when a Limit) ++ (told line words hint word (when b RepeatedName) ++ (told line words hint word (when c UnknownName) ++ r))) (join (when d UseBeforeDefinition) (when e MissingInit))
+    ∙ ap (λ r. told line words hint word (when a Limit) ++ (told line words hint word (when b RepeatedName) ++ r)) (join (when c UnknownName) _)
+    ∙ ap (λ r. told line words hint word (when a Limit) ++ r) (join (when b RepeatedName) _)
     ∙ join (when a Limit) _)
 
 -- what is found for a line that has just these kinds
-pub all_told : (line : ℕ) (words : List Placed) (word : LoopFaultKind → ℕ) (found : Found) (kinds : Kinds) (a b c d e : Bool) → kinds ≡ five_kinds a b c d e
+pub all_told : (line : ℕ) (words : List Placed) (hint : LoopFaultKind → ℕ → Hint) (word : LoopFaultKind → ℕ) (found : Found) (kinds : Kinds) (a b c d e : Bool) → kinds ≡ five_kinds a b c d e
     → found.limit ≡ word_when a (word Limit) → found.repeated ≡ word_when b (word RepeatedName) → found.unknown ≡ word_when c (word UnknownName)
     → found.early ≡ word_when d (word UseBeforeDefinition) → found.missing ≡ word_when e (word MissingInit)
-    → told_all line words found ≡ told line words word kinds
-all_told line words word found kinds a b c d e k ha hb hc hd he =
-    rw (ha, hb, hc, hd, he) (five-told line words word a b c d e ∙ ap (told line words word) (sym k))
+    → told_all line words hint found ≡ told line words hint word kinds
+all_told line words hint word found kinds a b c d e k ha hb hc hd he =
+    rw (ha, hb, hc, hd, he) (five-told line words hint word a b c d e ∙ ap (told line words hint word) (sym k))
 
 -- the kinds of each form
 
@@ -170,6 +173,12 @@ first_uses test opcode us one two a b c h k ea eb ec =
     ∙ first-append test (part 0 us.first) (part (count_in us.first) us.second ++ part (count_in us.first + count_in us.second) us.third)
     ∙ ap (option_or (first_part test (part 0 us.first))) (first-append test (part (count_in us.first) us.second) (part (count_in us.first + count_in us.second) us.third))
     ∙ rw (ea, eb, ec, h, k) refl
+
+-- faults that nothing helps to mend
+pub told_plain : (line : ℕ) (words : List Placed) (hint : LoopFaultKind → ℕ → Hint) (kind : LoopFaultKind) (word : Option ℕ) → ((w : ℕ) → hint kind w ≡ Nothing)
+    → told_if line words no_hint kind word ≡ told_if line words hint kind word
+told_plain line words hint kind None h = refl
+told_plain line words hint kind (Some w) h = ap (λ x. fault_at line kind (spot_at words w) x ∷ []) (sym (h w))
 
 -- told one after another
 pub joined : (old a b c d e first second third fourth last : List LintFault) → first ≡ old ++ a → second ≡ first ++ b → third ≡ second ++ c → fourth ≡ third ++ d → last ≡ fourth ++ e

@@ -42,9 +42,9 @@ pub found_array : (lines block : List Form) (words : List (List ℕ)) (name : Li
     → found.repeated ≡ word_when (is_some (known_at table.names name).declared) 1 → found.unknown ≡ None → found.early ≡ None → found.missing ≡ None
     → AreFound lines block words (ArrayLine name cells) found
 found_array lines block words name cells table found is l r u e m = record {
-  same = λ line ws.
+  same = λ line ws hint.
       let wide = (is_long name || list_any is_none cells) || ltb 1024 (length cells) in
-      all_told line ws (word_of_fault lines block words (ArrayLine name cells)) found _ (wide || leb 32 (how_many is_array lines)) (is_some (declared lines name)) false false false
+      all_told line ws hint (word_of_fault lines block words (ArrayLine name cells)) found _ (wide || leb 32 (how_many is_array lines)) (is_some (declared lines name)) false false false
       (kinds_two _ _)
       (l ∙ ap (λ n. word_when (wide || leb 32 n) (unwrap_or (first_part is_over (parts_of words (ArrayLine name cells))) 0)) is.arrays)
       (r ∙ ap (λ b. word_when b 1) (declared_there lines table name is) ∙ head-word (is_some (declared lines name)) 1 _)
@@ -56,8 +56,8 @@ pub found_param : (lines block : List Form) (words : List (List ℕ)) (name : Li
     → found.repeated ≡ word_when (is_some (known_at table.names name).declared) 1 → found.unknown ≡ None → found.early ≡ None → found.missing ≡ None
     → AreFound lines block words (ParamLine name value) found
 found_param lines block words name value table found is l r u e m = record {
-  same = λ line ws.
-      all_told line ws (word_of_fault lines block words (ParamLine name value)) found _ ((is_long name || is_none value) || leb 64 (how_many is_param lines)) (is_some (declared lines name)) false false false
+  same = λ line ws hint.
+      all_told line ws hint (word_of_fault lines block words (ParamLine name value)) found _ ((is_long name || is_none value) || leb 64 (how_many is_param lines)) (is_some (declared lines name)) false false false
       (kinds_two _ _)
       (l ∙ over-two (is_long name) (is_none value) (leb 64 table.params)
       ∙ ap (λ n. word_when ((is_long name || is_none value) || leb 64 n) (unwrap_or (cond (is_long name) (Some 1) (cond (is_none value) (Some 3) None)) 0)) is.params)
@@ -75,8 +75,8 @@ pub found_init : (lines block : List Form) (words : List (List ℕ)) (name : Lis
     → found.early ≡ None → found.missing ≡ None
     → AreFound lines block words (InitLine name number value) found
 found_init lines block words name number value before table found is whole near l r u e m = record {
-  same = λ line ws.
-      all_told line ws (word_of_fault lines block words (InitLine name number value)) found _ ((is_long name || is_outside number) || is_none value) (list_any (is_init name number) lines) (not (is_value (declared block name))) false false
+  same = λ line ws hint.
+      all_told line ws hint (word_of_fault lines block words (InitLine name number value)) found _ ((is_long name || is_outside number) || is_none value) (list_any (is_init name number) lines) (not (is_value (declared block name))) false false
       (kinds_three _ _ _)
       (l ∙ over-init (is_long name) (is_outside number) (is_none value))
       (r ∙ ap (λ b. word_when b 1) (is.gives name number near) ∙ head-word (list_any (is_init name number) lines) 1 _)
@@ -92,9 +92,9 @@ pub found_out : (lines block : List Form) (words : List (List ℕ)) (name : List
     → found.missing ≡ word_when (not (get_or (known_at table.names name).inits 1 false)) 1
     → AreFound lines block words (OutLine name) found
 found_out lines block words name before table found is whole l r u e m = record {
-  same = λ line ws.
+  same = λ line ws hint.
       let given : get_or (known_at table.names name).inits 1 false ≡ has_init block name 1 = whole.gives name (Some 1) (lit≤ tt) in
-      all_told line ws (word_of_fault lines block words (OutLine name)) found _ (is_long name) (list_any (is_out_of name) lines) (not (is_value (declared block name))) false (not (has_init block name 1))
+      all_told line ws hint (word_of_fault lines block words (OutLine name)) found _ (is_long name) (list_any (is_out_of name) lines) (not (is_value (declared block name))) false (not (has_init block name 1))
       (kinds_four _ _ _ _)
       (l ∙ head-word (is_long name) 1 _)
       (r ∙ ap (λ b. word_when b 1) (is.lives name) ∙ head-word (list_any (is_out_of name) lines) 1 _)
@@ -107,8 +107,8 @@ pub found_end : (lines block : List Form) (words : List (List ℕ)) (table : Tab
     → found.limit ≡ word_when (not table.statement) 0 → found.repeated ≡ None → found.unknown ≡ None → found.early ≡ None → found.missing ≡ None
     → AreFound lines block words EndLine found
 found_end lines block words table found is l r u e m = record {
-  same = λ line ws.
-      all_told line ws (word_of_fault lines block words EndLine) found _ (not (has_statement lines)) false false false false (kinds_one _)
+  same = λ line ws hint.
+      all_told line ws hint (word_of_fault lines block words EndLine) found _ (not (has_statement lines)) false false false false (kinds_one _)
       (l ∙ ap (λ b. word_when (not b) 0) is.statement) r u e m;
 }
 
@@ -190,7 +190,7 @@ pub found_statement : (lines block : List Form) (words : List (List ℕ)) (s : S
     → found.missing ≡ first_part (is_uncovered_part block) (parts_of words (StatementLine s))
     → AreFound lines block words (StatementLine s) found
 found_statement lines block words s table found is l r u e m = record {
-  same = λ line ws.
+  same = λ line ws hint.
       let first = λ (test : Part → Bool). first_part test (parts_of words (StatementLine s)) in
       let wide = (any_name is_long s.name || is_wide_place s.place) || list_any is_wide s.uses in
       let repeated = any_name (λ n. is_some (declared lines n)) s.name in
@@ -208,7 +208,7 @@ found_statement lines block words s table found is l r u e m = record {
       = some-statement (is_early_part block (how_many is_statement lines)) words s ∙ ap (λ b. b || (any_place (λ p. false) s.place || early)) (none-name s.name) ∙ ap (λ b. b || early) (none-place s.place) in
       let is-missing : is_some (first (is_uncovered_part block)) ≡ missing
       = some-statement (is_uncovered_part block) words s ∙ ap (λ b. b || (any_place (λ p. false) s.place || missing)) (none-name s.name) ∙ ap (λ b. b || missing) (none-place s.place) in
-      all_told line ws (word_of_fault lines block words (StatementLine s)) found _ (wide || leb 128 (how_many is_statement lines)) repeated unknown early missing
+      all_told line ws hint (word_of_fault lines block words (StatementLine s)) found _ (wide || leb 128 (how_many is_statement lines)) repeated unknown early missing
       (kinds_five _ _ _ _ _)
       (l ∙ fitting_count (first is_over) wide (leb 128 table.statements) is-wide ∙ ap (λ n. word_when (wide || leb 128 n) (unwrap_or (first is_over) 0)) is.statements)
       (r ∙ fitting (first (is_repeated lines)) repeated is-repeated)

@@ -3,6 +3,8 @@ pub mod Cuts
 pub mod Fitting
 pub mod Founds
 pub mod Judging
+pub mod Hinting
+pub mod Lacking
 pub mod Lints
 pub mod Passing
 pub mod Signs

@@ -25,6 +25,9 @@ use Rattle.loop_reader.proofs.faults.Checking.{or-none}
 use Rattle.loop_lint.specs.Lints.{AreFaults, BeginsAs, TextLine, Blank, Words, bytes_in, fault_at, faults_in, forms_in, inside_lints, line_with, lints_in, outside_lints, plain, text_lines, told, too_long}
 use Rattle.loop_lint.specs.Parts.{syntax_word, word_of_fault, word_of_opening}
 use Rattle.loop_lint.specs.Words.{Placed, placed_words, spot_at}
+use Rattle.loop_lint.specs.Hints.{hint_of, no_hint}
+use Rattle.loop_lint.specs.declared.fault.Hint.{Hint}
+use Rattle.loop_lint.specs.declared.fault.Hint.TheVariants.{Nothing}
 use Rattle.loop_lint.specs.declared.fault.LintFault.{LintFault}
 use Rattle.loop_lint.specs.inner.Founds.{told_if}
 use Rattle.loop_lint.specs.inner.Names.{is_among, AreNames, GoesOn}
@@ -40,7 +43,7 @@ is_loop (LoopLine name) = true
 is_loop form = false
 
 outside-next : (number : ℕ) (names : List (List ℕ)) (words : List Placed) (form : Form) (lines : List TextLine) → is_loop form ≡ false
-    → outside_lints number names (Words words form ∷ lines) ≡ told number words (λ kind. syntax_word (bytes_in words) form) (Syntax ∷ []) ++ outside_lints (number + 1) names lines
+    → outside_lints number names (Words words form ∷ lines) ≡ told number words no_hint (λ kind. syntax_word (bytes_in words) form) (Syntax ∷ []) ++ outside_lints (number + 1) names lines
 outside-next number names words (LoopLine name) lines e = absurd (true≢false e)
 outside-next number names words (ArrayLine name cells) lines e = refl
 outside-next number names words (ParamLine name value) lines e = refl
@@ -53,8 +56,8 @@ outside-next number names words Malformed lines e = refl
 -- names
 
 opening-at : (line : ℕ) (words : List Placed) (word : LoopFaultKind → ℕ) (long many there : Bool) → word Limit ≡ cond long 1 0 → word RepeatedName ≡ 1
-    → told_if line words Limit (option_or (word_when long 1) (word_when many 0)) ++ told_if line words RepeatedName (word_when there 1)
-    ≡ told line words word (when (long || many) Limit ++ when there RepeatedName)
+    → told_if line words no_hint Limit (option_or (word_when long 1) (word_when many 0)) ++ told_if line words no_hint RepeatedName (word_when there 1)
+    ≡ told line words no_hint word (when (long || many) Limit ++ when there RepeatedName)
 opening-at line words word true many true h k = rw (h, k) refl
 opening-at line words word true many false h k = rw h refl
 opening-at line words word false true true h k = rw (h, k) refl
@@ -64,15 +67,15 @@ opening-at line words word false false false h k = refl
 
 pub opening_told : (line : ℕ) (words : List Placed) (before : List (List ℕ)) (names : BTreeSet (Bor (List ℕ))) (name : List ℕ) (loops : ℕ) (limit : Option ℕ) (there : Bool) (old next last : List LintFault)
     → AreNames before names loops → limit ≡ option_or (word_when (is_long name) 1) (word_when (leb 1024 loops) 0) → there ≡ is_among names name
-    → next ≡ old ++ told_if line words Limit limit → last ≡ next ++ told_if line words RepeatedName (word_when there 1)
-    → last ≡ old ++ told line words (word_of_opening before name) (opening_faults before name)
+    → next ≡ old ++ told_if line words no_hint Limit limit → last ≡ next ++ told_if line words no_hint RepeatedName (word_when there 1)
+    → last ≡ old ++ told line words no_hint (word_of_opening before name) (opening_faults before name)
 opening_told line words before names name loops limit there old next last are l t n k =
-    let one = told_if line words Limit limit in
-    let two = told_if line words RepeatedName (word_when there 1) in
+    let one = told_if line words no_hint Limit limit in
+    let two = told_if line words no_hint RepeatedName (word_when there 1) in
     let many : leb 1024 loops ≡ leb 1024 (length before) = ap (leb 1024) (sym are.count) in
     k ∙ ap (λ fs. fs ++ two) n ∙ append_assoc old one two
-    ∙ ap (λ o. old ++ (told_if line words Limit o ++ two)) (l ∙ ap (λ b. option_or (word_when (is_long name) 1) (word_when b 0)) many)
-    ∙ ap (λ b. old ++ (told_if line words Limit (option_or (word_when (is_long name) 1) (word_when (leb 1024 (length before)) 0)) ++ told_if line words RepeatedName (word_when b 1))) (t ∙ are.each name)
+    ∙ ap (λ o. old ++ (told_if line words no_hint Limit o ++ two)) (l ∙ ap (λ b. option_or (word_when (is_long name) 1) (word_when b 0)) many)
+    ∙ ap (λ b. old ++ (told_if line words no_hint Limit (option_or (word_when (is_long name) 1) (word_when (leb 1024 (length before)) 0)) ++ told_if line words no_hint RepeatedName (word_when b 1))) (t ∙ are.each name)
     ∙ ap (λ fs. old ++ fs) (opening-at line words (word_of_opening before name) (is_long name) (leb 1024 (length before)) (list_any (same_word name) before) refl refl)
 
 pub names_more : (before : List (List ℕ)) (old new : BTreeSet (Bor (List ℕ))) (name : List ℕ) (loops : ℕ) → ((q : List ℕ) → is_among new q ≡ (is_among old q || same_word q name)) → AreNames before old loops
@@ -98,7 +101,7 @@ goes_blank before names number loops rest this after faults h none are = record 
 }
 
 pub goes_syntax : (before : List (List ℕ)) (names : BTreeSet (Bor (List ℕ))) (number loops word : ℕ) (rest this after : List ℕ) (form : Form) (old new : List LintFault) → lines_of rest ≡ this ∷ lines_of after
-    → line_form (words_of this) ≡ Some form → is_loop form ≡ false → word ≡ syntax_word (words_of this) form → new ≡ old ++ told_if number (placed_words this) Syntax (Some word)
+    → line_form (words_of this) ≡ Some form → is_loop form ≡ false → word ≡ syntax_word (words_of this) form → new ≡ old ++ told_if number (placed_words this) no_hint Syntax (Some word)
     → AreNames before names loops
     → GoesOn names (number + 1) loops (text_lines after) new (old ++ outside_lints number before (text_lines rest))
 goes_syntax before names number loops word rest this after form old new h some e w pushed are = record {
@@ -106,11 +109,11 @@ goes_syntax before names number loops word rest this after form old new h some e
   are = are;
   same =
       let words = placed_words this in
-      let one = fault_at number Syntax (spot_at words word) ∷ [] in
+      let one = fault_at number Syntax (spot_at words word) Nothing ∷ [] in
       ap (λ lines. old ++ outside_lints number before lines) (lines_next rest this after h)
       ∙ ap (λ form. old ++ outside_lints number before (line_with words form ∷ text_lines after)) some
       ∙ ap (λ fs. old ++ fs) (outside-next number before words form (text_lines after) e)
-      ∙ ap (λ n. old ++ (fault_at number Syntax (spot_at words n) ∷ [] ++ outside_lints (number + 1) before (text_lines after))) (sym (w ∙ ap (λ b. syntax_word b form) (sym (same_words this))))
+      ∙ ap (λ n. old ++ (fault_at number Syntax (spot_at words n) Nothing ∷ [] ++ outside_lints (number + 1) before (text_lines after))) (sym (w ∙ ap (λ b. syntax_word b form) (sym (same_words this))))
       ∙ sym (append_assoc old one (outside_lints (number + 1) before (text_lines after)))
       ∙ ap (λ fs. fs ++ outside_lints (number + 1) before (text_lines after)) (sym pushed);
 }
@@ -118,7 +121,7 @@ goes_syntax before names number loops word rest this after form old new h some e
 pub goes_loop : (before : List (List ℕ)) (old new : BTreeSet (Bor (List ℕ))) (number loops next : ℕ) (rest this after left : List ℕ) (form : Form) (name : List ℕ) (first second last : List LintFault)
     → lines_of rest ≡ this ∷ lines_of after → line_form (words_of this) ≡ Some form → form ≡ LoopLine name
     → ((q : List ℕ) → is_among new q ≡ (is_among old q || same_word q name))
-    → second ≡ first ++ told number (placed_words this) (word_of_opening before name) (opening_faults before name)
+    → second ≡ first ++ told number (placed_words this) no_hint (word_of_opening before name) (opening_faults before name)
     → ((names : List (List ℕ)) → second ++ inside_lints (number + 1) names [] (text_lines after) ≡ last ++ outside_lints next names (text_lines left))
     → AreNames before old loops
     → GoesOn new next (loops + 1) (text_lines left) last (first ++ outside_lints number before (text_lines rest))
@@ -127,7 +130,7 @@ goes_loop before old new number loops next rest this after left form name first 
   are = names_more before old new name loops more are;
   same =
       let words = placed_words this in
-      let opening = told number words (word_of_opening before name) (opening_faults before name) in
+      let opening = told number words no_hint (word_of_opening before name) (opening_faults before name) in
       let inside = inside_lints (number + 1) (before ++ name ∷ []) [] (text_lines after) in
       ap (λ lines. first ++ outside_lints number before lines) (lines_next rest this after h)
       ∙ ap (λ form. first ++ outside_lints number before (line_with words form ∷ text_lines after)) (some ∙ ap Some e)
@@ -156,14 +159,14 @@ goes_ends names number loops rest faults all none g =
 
 -- without their words
 
-plain-told : (line : ℕ) (words : List Placed) (word : LoopFaultKind → ℕ) (kinds : Kinds) → map plain (told line words word kinds) ≡ at_line line kinds
-plain-told line words word [] = refl
-plain-told line words word (kind ∷ kinds) = ap (λ fs. record { line = line; kind = kind } ∷ fs) (plain-told line words word kinds)
+plain-told : (line : ℕ) (words : List Placed) (hint : LoopFaultKind → ℕ → Hint) (word : LoopFaultKind → ℕ) (kinds : Kinds) → map plain (told line words hint word kinds) ≡ at_line line kinds
+plain-told line words hint word [] = refl
+plain-told line words hint word (kind ∷ kinds) = ap (λ fs. record { line = line; kind = kind } ∷ fs) (plain-told line words hint word kinds)
 
-plain-both : (line : ℕ) (words : List Placed) (word : LoopFaultKind → ℕ) (kinds : Kinds) (rest : List LintFault) (others : List LoopFault) → map plain rest ≡ others
-    → map plain (told line words word kinds ++ rest) ≡ at_line line kinds ++ others
-plain-both line words word kinds rest others h =
-    map-append plain (told line words word kinds) rest ∙ ap (λ fs. fs ++ map plain rest) (plain-told line words word kinds) ∙ ap (λ fs. at_line line kinds ++ fs) h
+plain-both : (line : ℕ) (words : List Placed) (hint : LoopFaultKind → ℕ → Hint) (word : LoopFaultKind → ℕ) (kinds : Kinds) (rest : List LintFault) (others : List LoopFault) → map plain rest ≡ others
+    → map plain (told line words hint word kinds ++ rest) ≡ at_line line kinds ++ others
+plain-both line words hint word kinds rest others h =
+    map-append plain (told line words hint word kinds) rest ∙ ap (λ fs. fs ++ map plain rest) (plain-told line words hint word kinds) ∙ ap (λ fs. at_line line kinds ++ fs) h
 
 record ArePlain (lines : List TextLine) : Type 0 where
   outside : (number : ℕ) (names : List (List ℕ)) → map plain (outside_lints number names lines) ≡ outside_faults number names (forms_in lines)
@@ -171,14 +174,14 @@ record ArePlain (lines : List TextLine) : Type 0 where
 
 outside-one : (words : List Placed) (form : Form) (lines : List TextLine) → ArePlain lines → (number : ℕ) (names : List (List ℕ))
     → map plain (outside_lints number names (Words words form ∷ lines)) ≡ outside_faults number names (Some form ∷ forms_in lines)
-outside-one words (LoopLine name) lines are number names = plain-both number words (word_of_opening names name) (opening_faults names name) _ _ (are.inside (number + 1) (names ++ name ∷ []) [])
-outside-one words (ArrayLine name cells) lines are number names = plain-both number words (λ kind. syntax_word (bytes_in words) (ArrayLine name cells)) (Syntax ∷ []) _ _ (are.outside (number + 1) names)
-outside-one words (ParamLine name value) lines are number names = plain-both number words (λ kind. syntax_word (bytes_in words) (ParamLine name value)) (Syntax ∷ []) _ _ (are.outside (number + 1) names)
-outside-one words (InitLine name n value) lines are number names = plain-both number words (λ kind. syntax_word (bytes_in words) (InitLine name n value)) (Syntax ∷ []) _ _ (are.outside (number + 1) names)
-outside-one words (StatementLine source) lines are number names = plain-both number words (λ kind. syntax_word (bytes_in words) (StatementLine source)) (Syntax ∷ []) _ _ (are.outside (number + 1) names)
-outside-one words (OutLine name) lines are number names = plain-both number words (λ kind. syntax_word (bytes_in words) (OutLine name)) (Syntax ∷ []) _ _ (are.outside (number + 1) names)
-outside-one words EndLine lines are number names = plain-both number words (λ kind. syntax_word (bytes_in words) EndLine) (Syntax ∷ []) _ _ (are.outside (number + 1) names)
-outside-one words Malformed lines are number names = plain-both number words (λ kind. syntax_word (bytes_in words) Malformed) (Syntax ∷ []) _ _ (are.outside (number + 1) names)
+outside-one words (LoopLine name) lines are number names = plain-both number words no_hint (word_of_opening names name) (opening_faults names name) _ _ (are.inside (number + 1) (names ++ name ∷ []) [])
+outside-one words (ArrayLine name cells) lines are number names = plain-both number words no_hint (λ kind. syntax_word (bytes_in words) (ArrayLine name cells)) (Syntax ∷ []) _ _ (are.outside (number + 1) names)
+outside-one words (ParamLine name value) lines are number names = plain-both number words no_hint (λ kind. syntax_word (bytes_in words) (ParamLine name value)) (Syntax ∷ []) _ _ (are.outside (number + 1) names)
+outside-one words (InitLine name n value) lines are number names = plain-both number words no_hint (λ kind. syntax_word (bytes_in words) (InitLine name n value)) (Syntax ∷ []) _ _ (are.outside (number + 1) names)
+outside-one words (StatementLine source) lines are number names = plain-both number words no_hint (λ kind. syntax_word (bytes_in words) (StatementLine source)) (Syntax ∷ []) _ _ (are.outside (number + 1) names)
+outside-one words (OutLine name) lines are number names = plain-both number words no_hint (λ kind. syntax_word (bytes_in words) (OutLine name)) (Syntax ∷ []) _ _ (are.outside (number + 1) names)
+outside-one words EndLine lines are number names = plain-both number words no_hint (λ kind. syntax_word (bytes_in words) EndLine) (Syntax ∷ []) _ _ (are.outside (number + 1) names)
+outside-one words Malformed lines are number names = plain-both number words no_hint (λ kind. syntax_word (bytes_in words) Malformed) (Syntax ∷ []) _ _ (are.outside (number + 1) names)
 
 faults-next : (number : ℕ) (names : List (List ℕ)) (before : List Form) (form : Form) (lines : List (Option Form)) → is_end form ≡ false
     → inside_faults number names before (Some form ∷ lines) ≡ at_line number (line_faults before (whole before (Some form ∷ lines)) form) ++ inside_faults (number + 1) names (with_line before form) lines
@@ -196,7 +199,7 @@ inside-more : (words : List Placed) (form : Form) (lines : List TextLine) → Ar
 inside-more words form lines are e number names before =
     let block = whole before (Some form ∷ forms_in lines) in
     ap (map plain) (inside-next number names before words form lines e)
-    ∙ plain-both number words (word_of_fault before block (bytes_in words) form) (line_faults before block form) _ _ (are.inside (number + 1) names (with_line before form))
+    ∙ plain-both number words (hint_of block (bytes_in words)) (word_of_fault before block (bytes_in words) form) (line_faults before block form) _ _ (are.inside (number + 1) names (with_line before form))
     ∙ sym (faults-next number names before form (forms_in lines) e)
 
 inside-one : (words : List Placed) (form : Form) (lines : List TextLine) → ArePlain lines → (number : ℕ) (names : List (List ℕ)) (before : List Form)
@@ -208,7 +211,7 @@ inside-one words (InitLine name n value) lines are = inside-more words (InitLine
 inside-one words (StatementLine source) lines are = inside-more words (StatementLine source) lines are refl
 inside-one words (OutLine name) lines are = inside-more words (OutLine name) lines are refl
 inside-one words EndLine lines are = λ number names before.
-    plain-both number words (word_of_fault before before (bytes_in words) EndLine) (faults_of before before EndLine) _ _ (are.outside (number + 1) names)
+    plain-both number words (hint_of before (bytes_in words)) (word_of_fault before before (bytes_in words) EndLine) (faults_of before before EndLine) _ _ (are.outside (number + 1) names)
 inside-one words Malformed lines are = inside-more words Malformed lines are refl
 
 are-plain : (lines : List TextLine) → ArePlain lines

@@ -12,6 +12,8 @@ use Rattle.loop_lint.specs.Lints.{TextLine, Words, bytes_in, fault_at, form_in, 
 use Rattle.loop_lint.specs.Parts.{syntax_word, word_of_fault}
 use Rattle.loop_lint.specs.Words.{Placed, placed_words, spot_at}
 use Rattle.loop_lint.specs.declared.block.Table.{Table}
+use Rattle.loop_lint.specs.Hints.{hint_of}
+use Rattle.loop_lint.specs.declared.fault.Hint.TheVariants.{Nothing}
 use Rattle.loop_lint.specs.declared.fault.LintFault.{LintFault}
 use Rattle.loop_lint.specs.declared.tell.Found.{Found}
 use Rattle.loop_lint.specs.inner.Founds.{told_all, AreFound}
@@ -176,7 +178,7 @@ told_open number text block first at rest table faults more none pushed t names 
 
 pub inside-next : (number : ℕ) (names : List (List ℕ)) (before : List Form) (words : List Placed) (form : Form) (lines : List TextLine) → is_end form ≡ false
     → inside_lints number names before (Words words form ∷ lines)
-    ≡ told number words (word_of_fault before (whole before (Some form ∷ forms_in lines)) (bytes_in words) form) (line_faults before (whole before (Some form ∷ forms_in lines)) form)
+    ≡ told number words (hint_of (whole before (Some form ∷ forms_in lines)) (bytes_in words)) (word_of_fault before (whole before (Some form ∷ forms_in lines)) (bytes_in words) form) (line_faults before (whole before (Some form ∷ forms_in lines)) form)
     ++ inside_lints (number + 1) names (with_line before form) lines
 inside-next number names before words (LoopLine name) lines e = refl
 inside-next number names before words (ArrayLine name cells) lines e = refl
@@ -200,7 +202,7 @@ tells_none number before line table faults block h is = (
 
 pub tells_no : (number : ℕ) (before : List Form) (line : List ℕ) (form : Form) (table : Table) (old faults : List LintFault) (block : List Form) (word : ℕ) → line_form (words_of line) ≡ Some form
     → stands before form ≡ false → IsTable before table → word ≡ syntax_word (words_of line) form
-    → faults ≡ old ++ fault_at number Syntax (spot_at (placed_words line) word) ∷ []
+    → faults ≡ old ++ fault_at number Syntax (spot_at (placed_words line) word) Nothing ∷ []
     → Tells number before line table old faults block false
 tells_no number before line form table old faults block word h s is w pushed = (
   before,
@@ -209,14 +211,14 @@ tells_no number before line form table old faults block word h s is w pushed = (
       let words = placed_words line in
       let full = whole before (Some form ∷ forms_in lines) in
       let e = no-end before form s in
-      let telling : told number words (word_of_fault before full (bytes_in words) form) (line_faults before full form) ≡ fault_at number Syntax (spot_at words word) ∷ []
-      = ap (λ b. told number words (word_of_fault before full (bytes_in words) form) (cond b (faults_of before full form) (Syntax ∷ []))) s
-      ∙ ap (λ n. fault_at number Syntax (spot_at words n) ∷ []) (sym (w ∙ ap (λ b. syntax_word b form) (sym (same_words line)))) in (
+      let telling : told number words (hint_of full (bytes_in words)) (word_of_fault before full (bytes_in words) form) (line_faults before full form) ≡ fault_at number Syntax (spot_at words word) Nothing ∷ []
+      = ap (λ b. told number words (hint_of full (bytes_in words)) (word_of_fault before full (bytes_in words) form) (cond b (faults_of before full form) (Syntax ∷ []))) s
+      ∙ ap (λ n. fault_at number Syntax (spot_at words n) Nothing ∷ []) (sym (w ∙ ap (λ b. syntax_word b form) (sym (same_words line)))) in (
         ap (λ form. old ++ inside_lints number names before (line_with words form ∷ lines)) h
             ∙ ap (λ fs. old ++ fs) (inside-next number names before words form lines e)
             ∙ ap (λ fs. old ++ (fs ++ inside_lints (number + 1) names (with_line before form) lines)) telling
-            ∙ ap (λ b. old ++ (fault_at number Syntax (spot_at words word) ∷ [] ++ inside_lints (number + 1) names b lines)) (with-no before form s)
-            ∙ sym (append_assoc old (fault_at number Syntax (spot_at words word) ∷ []) (inside_lints (number + 1) names before lines))
+            ∙ ap (λ b. old ++ (fault_at number Syntax (spot_at words word) Nothing ∷ [] ++ inside_lints (number + 1) names b lines)) (with-no before form s)
+            ∙ sym (append_assoc old (fault_at number Syntax (spot_at words word) Nothing ∷ []) (inside_lints (number + 1) names before lines))
             ∙ ap (λ fs. fs ++ inside_lints (number + 1) names before lines) (sym pushed),
         ap (λ b. whole b (forms_in lines)) (sym (with-no before form s)) ∙ sym (whole-next before form (forms_in lines) e)
             ∙ ap (λ form. whole before (form ∷ forms_in lines)) (sym h) ∙ whole-is,
@@ -228,7 +230,7 @@ found_bytes before block line form found are = subst (λ b. AreFound before bloc
 
 pub tells_yes : (number : ℕ) (before : List Form) (line : List ℕ) (form : Form) (new : Table) (old faults : List LintFault) (block : List Form) (found : Found) → line_form (words_of line) ≡ Some form
     → is_end form ≡ false → stands before form ≡ true → IsTable (before ++ form ∷ []) new → AreFound before block (words_of line) form found
-    → faults ≡ old ++ told_all number (placed_words line) found
+    → faults ≡ old ++ told_all number (placed_words line) (hint_of block (bytes_in (placed_words line))) found
     → Tells number before line new old faults block false
 tells_yes number before line form new old faults block found h e s is are pushed = (
   before ++ form ∷ [],
@@ -237,15 +239,15 @@ tells_yes number before line form new old faults block found h e s is are pushed
       let words = placed_words line in
       let full = whole before (Some form ∷ forms_in lines) in
       let fully : full ≡ block = ap (λ form. whole before (form ∷ forms_in lines)) (sym h) ∙ whole-is in
-      let telling : told number words (word_of_fault before full (bytes_in words) form) (line_faults before full form) ≡ told_all number words found
-      = ap (λ b. told number words (word_of_fault before full (bytes_in words) form) (cond b (faults_of before full form) (Syntax ∷ []))) s
-      ∙ ap (λ b. told number words (word_of_fault before b (bytes_in words) form) (faults_of before b form)) fully
-      ∙ sym ((found_bytes before block line form found are).same number words) in (
+      let telling : told number words (hint_of full (bytes_in words)) (word_of_fault before full (bytes_in words) form) (line_faults before full form) ≡ told_all number words (hint_of block (bytes_in words)) found
+      = ap (λ b. told number words (hint_of full (bytes_in words)) (word_of_fault before full (bytes_in words) form) (cond b (faults_of before full form) (Syntax ∷ []))) s
+      ∙ ap (λ b. told number words (hint_of b (bytes_in words)) (word_of_fault before b (bytes_in words) form) (faults_of before b form)) fully
+      ∙ sym ((found_bytes before block line form found are).same number words (hint_of block (bytes_in words))) in (
         ap (λ form. old ++ inside_lints number names before (line_with words form ∷ lines)) h
             ∙ ap (λ fs. old ++ fs) (inside-next number names before words form lines e)
             ∙ ap (λ fs. old ++ (fs ++ inside_lints (number + 1) names (with_line before form) lines)) telling
-            ∙ ap (λ b. old ++ (told_all number words found ++ inside_lints (number + 1) names b lines)) (with-yes before form s)
-            ∙ sym (append_assoc old (told_all number words found) (inside_lints (number + 1) names (before ++ form ∷ []) lines))
+            ∙ ap (λ b. old ++ (told_all number words (hint_of block (bytes_in words)) found ++ inside_lints (number + 1) names b lines)) (with-yes before form s)
+            ∙ sym (append_assoc old (told_all number words (hint_of block (bytes_in words)) found) (inside_lints (number + 1) names (before ++ form ∷ []) lines))
             ∙ ap (λ fs. fs ++ inside_lints (number + 1) names (before ++ form ∷ []) lines) (sym pushed),
         ap (λ b. whole b (forms_in lines)) (sym (with-yes before form s)) ∙ sym (whole-next before form (forms_in lines) e) ∙ fully,
       ),
@@ -253,15 +255,17 @@ tells_yes number before line form new old faults block found h e s is are pushed
 
 pub tells_end : (number : ℕ) (before : List Form) (line : List ℕ) (form : Form) (new : Table) (old faults : List LintFault) (block : List Form) (found : Found) → line_form (words_of line) ≡ Some form
     → form ≡ EndLine → AreFound before block (words_of line) form found
-    → faults ≡ old ++ told_all number (placed_words line) found
+    → faults ≡ old ++ told_all number (placed_words line) (hint_of block (bytes_in (placed_words line))) found
     → Tells number before line new old faults block true
 tells_end number before line form new old faults block found h e are pushed names lines whole-is =
     let words = placed_words line in
-    let telling : told number words (word_of_fault before before (bytes_in words) EndLine) (faults_of before before EndLine) ≡ told_all number words found
-    = ap (λ f. told number words (word_of_fault before block (bytes_in words) f) (faults_of before block f)) (sym e) ∙ sym ((found_bytes before block line form found are).same number words) in
+    let fully : before ≡ block = ap (λ form. whole before (form ∷ forms_in lines)) (sym (h ∙ ap Some e)) ∙ whole-is in
+    let telling : told number words (hint_of before (bytes_in words)) (word_of_fault before before (bytes_in words) EndLine) (faults_of before before EndLine) ≡ told_all number words (hint_of block (bytes_in words)) found
+    = ap (λ b. told number words (hint_of b (bytes_in words)) (word_of_fault before before (bytes_in words) EndLine) (faults_of before before EndLine)) fully
+    ∙ ap (λ f. told number words (hint_of block (bytes_in words)) (word_of_fault before block (bytes_in words) f) (faults_of before block f)) (sym e) ∙ sym ((found_bytes before block line form found are).same number words (hint_of block (bytes_in words))) in
     ap (λ form. old ++ inside_lints number names before (line_with words form ∷ lines)) (h ∙ ap Some e)
     ∙ ap (λ fs. old ++ (fs ++ outside_lints (number + 1) names lines)) telling
-    ∙ sym (append_assoc old (told_all number words found) (outside_lints (number + 1) names lines))
+    ∙ sym (append_assoc old (told_all number words (hint_of block (bytes_in words)) found) (outside_lints (number + 1) names lines))
     ∙ ap (λ fs. fs ++ outside_lints (number + 1) names lines) (sym pushed)
 
 end-is : (form : Form) → is_end form ≡ true → form ≡ EndLine
@@ -277,12 +281,20 @@ end-is Malformed e = absurd (true≢false (sym e))
 pub gathers_last : (before : List Form) (line : List ℕ) (form : Form) (table : Table) → line_form (words_of line) ≡ Some form → is_end form ≡ true → IsTable before table → Gathers before line table true
 gathers_last before line form table h e is = gathers_end before line form table h (end-is form e) is
 
+tells-at : (number : ℕ) (before : List Form) (line : List ℕ) (form : Form) (new : Table) (old faults : List LintFault) (block : List Form) (found : Found) (end : Bool)
+    → line_form (words_of line) ≡ Some form → is_end form ≡ end → stands before form ≡ true → IsTable (before ++ form ∷ []) new → AreFound before block (words_of line) form found
+    → faults ≡ old ++ told_all number (placed_words line) (hint_of block (bytes_in (placed_words line))) found
+    → Tells number before line new old faults block end
+tells-at number before line form new old faults block found true h e s is are pushed = tells_end number before line form new old faults block found h (end-is form e) are pushed
+tells-at number before line form new old faults block found false h e s is are pushed = tells_yes number before line form new old faults block found h e s is are pushed
+
 pub tells_stands : (number : ℕ) (before : List Form) (line : List ℕ) (form : Form) (new : Table) (old faults : List LintFault) (block : List Form) (found : Found) (end : Bool)
     → line_form (words_of line) ≡ Some form → is_end form ≡ end → stands before form ≡ true → IsTable (before ++ form ∷ []) new → AreFound before block (words_of line) form found
-    → faults ≡ old ++ told_all number (placed_words line) found
+    → faults ≡ old ++ told_all number (placed_words line) (hint_of block (words_of line)) found
     → Tells number before line new old faults block end
-tells_stands number before line form new old faults block found true h e s is are pushed = tells_end number before line form new old faults block found h (end-is form e) are pushed
-tells_stands number before line form new old faults block found false h e s is are pushed = tells_yes number before line form new old faults block found h e s is are pushed
+tells_stands number before line form new old faults block found end h e s is are pushed =
+    tells-at number before line form new old faults block found end h e s is are
+    (pushed ∙ ap (λ words. old ++ told_all number (placed_words line) (hint_of block words) found) (sym (same_words line)))
 
 -- numbers of a line that is read are near
 pub near_read : (line : List ℕ) (form : Form) → line_form (words_of line) ≡ Some form → IsNearForm form

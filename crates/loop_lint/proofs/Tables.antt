@@ -1,5 +1,5 @@
 -- What is known of names with one more line.
-use Rattle.std.proofs.Common.{◌≡◌, ◌≢◌, ◌==◌, ℕ, zero, suc, ◌+◌, ◌<◌, ◌≤◌, ◌||◌, ◌&&◌, Bool, true, false, not, cond, List, [], ◌∷◌, ◌++◌, length, get_or, set, Option, Some, None, refl, sym, ◌∙◌, ap, arith, eqb, eq-eqb, replicate, is_some, unwrap_or}
+use Rattle.std.proofs.Common.{◌≡◌, ◌≢◌, ◌==◌, ℕ, zero, suc, ◌+◌, ◌<◌, ◌≤◌, ◌||◌, ◌&&◌, Bool, true, false, not, cond, List, [], ◌∷◌, ◌++◌, length, map, get_or, set, Option, Some, None, refl, sym, ◌∙◌, ap, arith, eqb, eq-eqb, replicate, is_some, unwrap_or}
 use Rattle.std.proofs.lemmas.Bool.{eqb-true, true≢false}
 use Rattle.std.proofs.lemmas.List.Folds.{list_any-append}
 use Rattle.std.proofs.Math.ListN.{length-set}
@@ -19,7 +19,9 @@ use Rattle.loop_reader.specs.Meaning.{any_name, has_init, has_inits, declared, d
 use Rattle.loop_lint.specs.inner.Near.{one_if, IsNear, IsNearForm}
 use Rattle.loop_reader.proofs.lookups.Declared.{at, same_word-sym, same_word-yes, option_or-none, declared-counted, declared-push, how_many-push}
 use Rattle.loop_reader.proofs.faults.Checking.{or-none}
-use Rattle.loop_lint.specs.inner.Tables.{covers, is_bare, declared_seen, flag_of, known_at, known_with, place_of, with_declared, with_init, with_out, nothing, IsTable}
+use Rattle.loop_lint.specs.Hints.{declares}
+use Rattle.loop_lint.proofs.Hinting.{names_more}
+use Rattle.loop_lint.specs.inner.Tables.{covers, is_bare, declared_seen, flag_of, known_at, known_with, place_of, with_declared, with_init, with_names, with_out, nothing, IsTable}
 use Rattle.loop_lint.specs.declared.block.Declared.{Declared}
 use Rattle.loop_lint.specs.declared.block.Declared.TheVariants as variants
 use Rattle.loop_lint.specs.declared.block.Known.{Known}
@@ -155,10 +157,11 @@ any-push p before form = list_any-append p before (form ∷ []) ∙ ap (λ b. li
 
 pub table_more : (before : List Form) (form : Form) (old new : Table) → IsTable before old → IsNearForm form
     → ((q : List ℕ) → known_at new.names q ≡ known_with q old.arrays old.params old.statements form (known_at old.names q))
+    → map (λ (n : Bor (List ℕ)). n.now) new.order.items ≡ with_names (map (λ (n : Bor (List ℕ)). n.now) old.order.items) (declares form)
     → new.arrays ≡ old.arrays + one_if (is_array form) → new.params ≡ old.params + one_if (is_param form) → new.statements ≡ old.statements + one_if (is_statement form)
     → new.statement ≡ (old.statement || is_statement form) → new.out ≡ (old.out || is_out form)
     → IsTable (before ++ form ∷ []) new
-table_more before form old new is near names arrays params statements statement out = record {
+table_more before form old new is near names order arrays params statements statement out = record {
   declares = λ q.
       ap (λ (k : Known). option_map declared_seen k.declared) (names q)
       ∙ declared-with q old.arrays old.params old.statements form (known_at old.names q)
@@ -179,6 +182,7 @@ table_more before form old new is near names arrays params statements statement 
       ap (λ (k : Known). length k.inits) (names q)
       ∙ long-with q old.arrays old.params old.statements form (known_at old.names q)
       ∙ is.long q;
+  order = order ∙ names_more before form (map (λ (n : Bor (List ℕ)). n.now) old.order.items) is.order;
   arrays = arrays ∙ ap (λ n. n + one_if (is_array form)) is.arrays ∙ sym (how_many-push is_array before form);
   params = params ∙ ap (λ n. n + one_if (is_param form)) is.params ∙ sym (how_many-push is_param before form);
   statements = statements ∙ ap (λ n. n + one_if (is_statement form)) is.statements ∙ sym (how_many-push is_statement before form);
@@ -191,13 +195,14 @@ table_more before form old new is near names arrays params statements statement 
 pub empty_known : (names : BTreeMap (Bor (List ℕ)) Known) → names.entries ≡ [] → (q : List ℕ) → known_at names q ≡ nothing
 empty_known names h q = ap (λ es. unwrap_or (lookup (is_at (λ (k : Bor (List ℕ)). slice_cmp nat_cmp q k.now)) es) nothing) h
 
-pub table_none : (table : Table) → ((q : List ℕ) → known_at table.names q ≡ nothing) → table.arrays ≡ 0 → table.params ≡ 0 → table.statements ≡ 0 → table.statement ≡ false → table.out ≡ false → IsTable [] table
+pub table_none : (table : Table) → ((q : List ℕ) → known_at table.names q ≡ nothing) → table.order.items ≡ [] → table.arrays ≡ 0 → table.params ≡ 0 → table.statements ≡ 0 → table.statement ≡ false → table.out ≡ false → IsTable [] table
 unfolding declared
-table_none table names arrays params statements statement out = record {
+table_none table names order arrays params statements statement out = record {
   declares = λ q. ap (λ (k : Known). option_map declared_seen k.declared) (names q);
   gives = λ q number h. ap (λ (k : Known). flag_of k.inits number) (names q) ∙ none-flag number h;
   lives = λ q. ap (λ (k : Known). k.out) (names q);
   long = λ q. ap (λ (k : Known). length k.inits) (names q);
+  order = ap (map (λ (n : Bor (List ℕ)). n.now)) order;
   arrays = arrays;
   params = params;
   statements = statements;

@@ -1,4 +1,6 @@
 pub use Rattle.loop_reader.specs.Meaning
+pub mod Hints
+pub mod Lacks
 pub mod Lints
 pub mod Misfits
 pub mod Parts

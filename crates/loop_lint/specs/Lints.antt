@@ -10,9 +10,12 @@ use Rattle.loop_reader.specs.Meaning.{Kinds, faults_of, forms_of, line_faults, o
 use Rattle.loop_reader.specs.declared.fault.LoopFault.{LoopFault}
 use Rattle.loop_reader.specs.declared.fault.LoopFaultKind.{LoopFaultKind}
 use Rattle.loop_reader.specs.declared.fault.LoopFaultKind.TheVariants.{Limit, NoEnd, Syntax}
+use Rattle.loop_lint.specs.Hints.{hint_of, no_hint}
 use Rattle.loop_lint.specs.Parts.{syntax_word, word_of_fault, word_of_opening}
 use Rattle.loop_lint.specs.Words.{Placed, placed_words, spot_at}
 use Rattle.loop_lint.specs.declared.spots.Spot.{Spot}
+use Rattle.loop_lint.specs.declared.fault.Hint.{Hint}
+use Rattle.loop_lint.specs.declared.fault.Hint.TheVariants.{Nothing}
 use Rattle.loop_lint.specs.declared.fault.LintFault.{LintFault}
 
 -- a line of a text: one without words, or the words of one and the form that they have
@@ -40,17 +43,17 @@ forms_in lines = map form_in lines
 abbrev pub bytes_in : List Placed → List (List ℕ)
 bytes_in words = map (λ (w : Placed). w.bytes) words
 
--- a fault of a line at a spot of it
-abbrev pub fault_at : ℕ → LoopFaultKind → Spot → LintFault
-fault_at line kind spot = record { line = line; column = spot.column; width = spot.width; kind = kind }
+-- a fault of a line at a spot of it, with what helps to mend it
+abbrev pub fault_at : ℕ → LoopFaultKind → Spot → Hint → LintFault
+fault_at line kind spot hint = record { line = line; column = spot.column; width = spot.width; kind = kind; hint = hint }
 
--- the faults of a line that has these words, each at the word with the number that is told for its kind
-abbrev pub told : ℕ → List Placed → (LoopFaultKind → ℕ) → Kinds → List LintFault
-told line words word kinds = map (λ kind. fault_at line kind (spot_at words (word kind))) kinds
+-- the faults of a line that has these words, each at the word with the number that is told for its kind, with what is told for both
+abbrev pub told : ℕ → List Placed → (LoopFaultKind → ℕ → Hint) → (LoopFaultKind → ℕ) → Kinds → List LintFault
+told line words hint word kinds = map (λ kind. fault_at line kind (spot_at words (word kind)) (hint kind (word kind))) kinds
 
 -- a text that ends inside a loop is told so of the line after its last, at column 1
 abbrev pub no_end : ℕ → LintFault
-no_end line = record { line = line; column = 1; width = 0; kind = NoEnd }
+no_end line = record { line = line; column = 1; width = 0; kind = NoEnd; hint = Nothing }
 
 -- the faults of lines outside a block and of those inside one, from the line of this number on, as their meaning lists them.
 -- names are those of the loops so far, and before the standing lines of the block so far
@@ -59,23 +62,23 @@ abbrev mutual
   outside_lints line names [] = []
   outside_lints line names (Blank ∷ lines) = outside_lints (line + 1) names lines
   outside_lints line names (Words words (LoopLine name) ∷ lines) =
-      told line words (word_of_opening names name) (opening_faults names name) ++ inside_lints (line + 1) (names ++ name ∷ []) [] lines
+      told line words no_hint (word_of_opening names name) (opening_faults names name) ++ inside_lints (line + 1) (names ++ name ∷ []) [] lines
   outside_lints line names (Words words form ∷ lines) =
-      told line words (λ kind. syntax_word (bytes_in words) form) (Syntax ∷ []) ++ outside_lints (line + 1) names lines
+      told line words no_hint (λ kind. syntax_word (bytes_in words) form) (Syntax ∷ []) ++ outside_lints (line + 1) names lines
 
   pub inside_lints : ℕ → List (List ℕ) → List Form → List TextLine → List LintFault
   inside_lints line names before [] = no_end line ∷ []
   inside_lints line names before (Blank ∷ lines) = inside_lints (line + 1) names before lines
   inside_lints line names before (Words words EndLine ∷ lines) =
-      told line words (word_of_fault before before (bytes_in words) EndLine) (faults_of before before EndLine) ++ outside_lints (line + 1) names lines
+      told line words (hint_of before (bytes_in words)) (word_of_fault before before (bytes_in words) EndLine) (faults_of before before EndLine) ++ outside_lints (line + 1) names lines
   inside_lints line names before (Words words form ∷ lines) =
-      told line words (word_of_fault before (whole before (Some form ∷ forms_in lines)) (bytes_in words) form)
+      told line words (hint_of (whole before (Some form ∷ forms_in lines)) (bytes_in words)) (word_of_fault before (whole before (Some form ∷ forms_in lines)) (bytes_in words) form)
       (line_faults before (whole before (Some form ∷ forms_in lines)) form)
       ++ inside_lints (line + 1) names (with_line before form) lines
 
 -- a text with more bytes than it may have is told so of line 0
 abbrev pub too_long : LintFault
-too_long = record { line = 0; column = 0; width = 0; kind = Limit }
+too_long = record { line = 0; column = 0; width = 0; kind = Limit; hint = Nothing }
 
 -- all faults of a text, with the words that they are about
 unfoldable pub lints_in : List ℕ → List LintFault

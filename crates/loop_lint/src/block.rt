@@ -1,21 +1,26 @@
 //! What lines of a block declare and give, by the names.
 
-ghost use Rattle.std.specs.Prelude.{◌≡◌, ◌+◌, ◌<◌, ◌≤◌, ◌^◌, ◌||◌, [], ℕ, List, OnOk, if◌then◌else◌};
+ghost use Rattle.std.specs.Prelude.{◌≡◌, ◌+◌, ◌<◌, ◌≤◌, ◌^◌, ◌||◌, [], ℕ, List, OnOk, if◌then◌else◌, map};
 ghost use Rattle.machine_data.specs.Opcodes.{same_word};
 ghost use Rattle.loop_lines.specs.Forms as spec;
 ghost use Rattle.loop_lines.specs.Parsed.{form_seen};
 ghost use Rattle.loop_reader.specs.Meaning.{is_array, is_out, is_param, is_statement, stands};
+ghost use Rattle.loop_lint.specs.Hints.{declares};
 ghost use Rattle.loop_lint.specs.inner.Near.{one_if, IsNear, IsNearForm};
-ghost use Rattle.loop_lint.specs.inner.Tables.{covers, known_at, known_with, place_of, with_declared, with_init, with_out, IsTable};
+ghost use Rattle.loop_lint.specs.inner.Tables.{covers, known_at, known_with, place_of, with_declared, with_init, with_name, with_names, with_out, IsTable};
 ghost use Rattle.machine_data.specs.declared.limits.TheConstants.{MAX_DISTANCE};
 
 use loop_lines::Form;
 use machine_data::OutOfMemory;
+use machine_data::limits::{MAX_ARRAYS, MAX_PARAMETERS, MAX_STATEMENTS};
 use std::alloc::Global;
 use std::collections::BTreeMap;
 
 /// How many numbers an initial value may be told: 0 to 16, and one too great.
 const NUMBERS: usize = 18;
+
+/// How many names of a block are kept in their order: as many as a block may declare.
+const MOST_NAMES: usize = MAX_ARRAYS + MAX_PARAMETERS + MAX_STATEMENTS;
 
 /// What a name stands for: an array, a parameter or the value of a statement, by its number from 0.
 #[derive(Clone, Copy)]
@@ -75,6 +80,8 @@ impl Known {
 #[derive(Drop)]
 pub(crate) struct Table<'a> {
     pub(crate) names: BTreeMap<&'a [u8], Known>,
+    /// The names that lines declare, in their order: the first [`MOST_NAMES`].
+    pub(crate) order: Vec<&'a [u8]>,
     pub(crate) arrays: usize,
     pub(crate) params: usize,
     pub(crate) statements: usize,
@@ -91,6 +98,7 @@ impl<'a> Table<'a> {
     {
         Table {
             names: BTreeMap::new(alloc),
+            order: Vec::new(alloc),
             arrays: 0,
             params: 0,
             statements: 0,
@@ -124,6 +132,7 @@ impl<'a> Table<'a> {
         requires near { IsNearForm (form_seen form.now) }
         requires room { self.old.arrays + self.old.params + self.old.statements + 1 < 2 ^ 64 }
         ensures names { OnOk result ((q : List ℕ) → known_at self.new.names q ≡ known_with q self.old.arrays self.old.params self.old.statements (form_seen form.now) (known_at self.old.names q)) }
+        ensures order { OnOk result (map (λ n. n.now) self.new.order.items ≡ with_names (map (λ n. n.now) self.old.order.items) (declares (form_seen form.now))) }
         ensures arrays { OnOk result (self.new.arrays ≡ self.old.arrays + one_if (is_array (form_seen form.now))) }
         ensures params { OnOk result (self.new.params ≡ self.old.params + one_if (is_param (form_seen form.now))) }
         ensures statements { OnOk result (self.new.statements ≡ self.old.statements + one_if (is_statement (form_seen form.now))) }
@@ -134,16 +143,19 @@ impl<'a> Table<'a> {
         match form {
             Form::Array(name, _) => {
                 declare(&mut self.names, *name, Declared::Array(self.arrays))?;
+                keep(&mut self.order, *name)?;
                 self.arrays += 1;
             }
             Form::Param(name, _) => {
                 declare(&mut self.names, *name, Declared::Param(self.params))?;
+                keep(&mut self.order, *name)?;
                 self.params += 1;
             }
             Form::Init(name, number, _) => give(&mut self.names, *name, *number)?,
             Form::Statement(source) => {
                 if let Some(name) = source.name {
                     declare(&mut self.names, name, Declared::Value(self.statements))?;
+                    keep(&mut self.order, name)?;
                 }
                 self.statements += 1;
                 self.statement = true;
@@ -216,5 +228,15 @@ fn mark<'a>(names: &mut BTreeMap<&'a [u8], Known>, name: &'a [u8]) -> Result<(),
     let mut known = look_up(names, name);
     known.out = true;
     put(names, name, known)?;
+    Ok(())
+}
+
+/// Keeps a name after the others, unless there are enough.
+fn keep<'a>(order: &mut Vec<&'a [u8]>, name: &'a [u8]) -> Result<(), OutOfMemory>
+    ensures { OnOk result (map (λ n. n.now) order.new.items ≡ with_name (map (λ n. n.now) order.old.items) name.now) }
+{
+    if order.len() < MOST_NAMES {
+        order.push(name)?;
+    }
     Ok(())
 }

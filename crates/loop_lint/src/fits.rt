@@ -104,7 +104,7 @@ fn count_before(text: &[u8], byte: u8) -> usize
 
 /// What stands before the first byte of this value, and what follows it.
 #[tactic(auto, using(crate::proofs::Signs::any_there, crate::proofs::Signs::none_there))]
-fn split_at_byte(text: &[u8], byte: u8) -> Option<(&[u8], &[u8])>
+pub(crate) fn split_at_byte(text: &[u8], byte: u8) -> Option<(&[u8], &[u8])>
     ensures { MatchOption result
         (list_any (λ c. c == byte) text.now ≡ false)
         (λ x. (list_any (λ c. c == byte) text.now ≡ true)

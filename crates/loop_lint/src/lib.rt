@@ -4,7 +4,9 @@
 mod block;
 mod fault;
 mod fits;
+mod hints;
 mod judge;
+mod lacks;
 mod laws;
 mod lint;
 mod misfit;
@@ -15,6 +17,8 @@ mod spots;
 mod tell;
 mod uses;
 
-pub use fault::LintFault;
+pub use fault::{Hint, LintFault};
+pub use hints::name_in;
+pub use lacks::{LoopLint, NoTable, lint_loops_for};
 pub use laws::words_are_words;
 pub use lint::lint_loops;

@@ -3,6 +3,7 @@
 ghost use Rattle.std.specs.Prelude.{◌≡◌, ◌+◌, ◌||◌, ◌<◌, ◌≤◌, ◌^◌, ◌++◌, [], ℕ, List, IfOk, OnOk, length, map};
 ghost use Rattle.machine_data.specs.Opcodes.{same_word};
 ghost use Rattle.loop_reader.specs.Meaning.{loops_in, opening_faults};
+ghost use Rattle.loop_lint.specs.Hints.{no_hint};
 ghost use Rattle.loop_lint.specs.Lints.{AreFaults, BeginsAs, outside_lints, plain, text_lines, told};
 ghost use Rattle.loop_lint.specs.Parts.{word_of_opening};
 ghost use Rattle.loop_lint.specs.Words.{placed_words};
@@ -37,7 +38,7 @@ fn tell_opening<'a>(
     name: &'a [u8],
 ) -> Result<(), OutOfMemory>
     ensures told { OnOk result ((before : List (List ℕ)) → AreNames before names.old loops
-        → faults.new.items ≡ faults.old.items ++ told line.entry.number (placed_words line.entry.bytes.now) (word_of_opening before name.now) (opening_faults before name.now)) }
+        → faults.new.items ≡ faults.old.items ++ told line.entry.number (placed_words line.entry.bytes.now) no_hint (word_of_opening before name.now) (opening_faults before name.now)) }
     ensures names { OnOk result ((q : List ℕ) → is_among names.new q ≡ (is_among names.old q || same_word q name.now)) }
 {
     let limit = word_if(is_long(name), 1).or(word_if(loops >= MAX_LOOPS, 0));
@@ -129,7 +130,7 @@ pub fn lint_loops(alloc: Global, text: &[u8]) -> Result<Vec<LintFault>, OutOfMem
 {
     let mut faults = Vec::new(alloc);
     if text.len() > MAX_TEXT {
-        faults.push(LintFault::TOO_LONG)?;
+        faults.push(LintFault::too_long())?;
         return Ok(faults);
     }
     tell_text(alloc, &mut faults, text)?;

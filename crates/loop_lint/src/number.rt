@@ -6,7 +6,7 @@ ghost use Rattle.loop_lines.specs.Forms.{int_of, is_number};
 ghost use Rattle.loop_lint.specs.Parts.{is_wide_int};
 
 /// The value of digits, or `u64::MAX` where it is above. `None` if the word is no number.
-fn digits_of(word: &[u8]) -> Option<u64>
+pub(crate) fn digits_of(word: &[u8]) -> Option<u64>
     ensures { result ≡ (if is_number word.now then Some (min (digits_value 10 word.now) (2 ^ 64 - 1)) else None) }
 {
     if word.is_empty() {

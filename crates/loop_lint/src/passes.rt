@@ -7,11 +7,13 @@ ghost use Rattle.loop_lines.specs.Words.{words_of};
 ghost use Rattle.loop_reader.specs.Meaning.{forms_of, whole};
 ghost use Rattle.loop_lint.specs.Lints.{inside_lints, outside_lints, text_lines};
 ghost use Rattle.loop_lint.specs.Parts.{syntax_word};
+ghost use Rattle.loop_lint.specs.inner.Names.{IsBlock};
 ghost use Rattle.loop_lint.specs.inner.Passes.{is_end, Gathers, Tells};
 ghost use Rattle.loop_lint.specs.inner.Tables.{IsTable};
 
 use crate::block::Table;
 use crate::fault::LintFault;
+use crate::hints::Block;
 use crate::judge::judge;
 use crate::misfit::misfit;
 use crate::tell::{Line, tell, tell_all};
@@ -75,13 +77,14 @@ fn gather(alloc: Global, text: &[u8]) -> Result<Table<'_>, OutOfMemory>
 
 /// Tells the faults of a line of a block, after the lines before it. The result is whether it ends the block.
 fn tell_line<'a>(
+    alloc: Global,
     faults: &mut Vec<LintFault>,
     before: &mut Table<'a>,
-    block: &Table<'_>,
+    block: &Block<'_>,
     line: Line<'a>,
 ) -> Result<bool, OutOfMemory>
     requires room { before.old.arrays + before.old.params + before.old.statements + 1 < 2 ^ 64 }
-    ensures told { IfOk result (λ end. (lines forms : List spec.Form) → IsTable lines before.old → IsTable forms block.now
+    ensures told { IfOk result (λ end. (lines forms : List spec.Form) → IsTable lines before.old → IsBlock forms block.now
         → Tells line.entry.number lines line.entry.bytes.now before.new faults.old.items faults.new.items forms end) }
     ensures count { IfOk result (λ end. before.new.arrays + before.new.params + before.new.statements ≤ before.old.arrays + before.old.params + before.old.statements + 1) }
 {
@@ -93,8 +96,8 @@ fn tell_line<'a>(
         tell(faults, line, LoopFaultKind::Syntax, Some(word))?;
         return Ok(false);
     }
-    let found = judge(before, block, line.bytes, &form);
-    tell_all(faults, line, found)?;
+    let found = judge(before, &block.table, line.bytes, &form);
+    tell_all(alloc, faults, line, block, found)?;
     before.add(&form)?;
     Ok(is_end(&form))
 }
@@ -114,14 +117,15 @@ pub(crate) fn tell_block<'a>(
     ensures shorter { IfOk result (λ r. length r.1.now ≤ length text.now) }
     ensures past { IfOk result (λ r. number ≤ r.0) }
 {
-    let block = gather(alloc, text)?;
+    let table = gather(alloc, text)?;
+    let block = Block::new(alloc, table)?;
     let mut before = Table::new(alloc);
     let mut rest = text;
     let mut at = number;
     while !rest.is_empty() {
         let (bytes, after) = next_line(rest);
         let line = Line { number: at, bytes };
-        let ends = tell_line(faults, &mut before, &block, line)?;
+        let ends = tell_line(alloc, faults, &mut before, &block, line)?;
         rest = after;
         at += 1;
         if ends {

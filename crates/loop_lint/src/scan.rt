@@ -1,6 +1,6 @@
 //! The first word of a rest of a line.
 
-ghost use Rattle.std.specs.Prelude.{◌≡◌, ◌+◌, ◌<◌, ◌≤◌, ◌^◌, [], ◌∷◌, length, false, IfSome, MatchOption};
+ghost use Rattle.std.specs.Prelude.{◌≡◌, ◌+◌, ◌<◌, ◌≤◌, ◌^◌, [], ◌∷◌, length, false, slice_index_or, IfSome, MatchOption};
 ghost use Rattle.std.specs.List.{position_or_len};
 ghost use Rattle.loop_lines.specs.Words.{is_blank, starts_blank, stops_word, words_of};
 ghost use Rattle.loop_lint.specs.Words.{after_word, words_from};
@@ -92,4 +92,20 @@ pub(crate) fn next_word(rest: &[u8]) -> Option<(&[u8], &[u8])>
 {
     let (word, after) = first_word(rest, 1)?;
     Some((word.bytes, after))
+}
+
+/// The word with this number, from 0, or nothing where there are fewer.
+pub(crate) fn word_at(line: &[u8], number: usize) -> &[u8]
+    ensures { result.now ≡ slice_index_or (words_of line.now) number [] }
+{
+    let mut rest = line;
+    let mut left = number;
+    while let Some((word, after)) = next_word(rest) {
+        if left == 0 {
+            return word;
+        }
+        left -= 1;
+        rest = after;
+    }
+    &[]
 }

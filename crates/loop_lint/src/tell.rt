@@ -1,13 +1,22 @@
 //! The faults of a line, told at the words that they are about.
 
-ghost use Rattle.std.specs.Prelude.{◌≡◌, ◌+◌, ◌<◌, ◌^◌, ◌++◌, length, OnOk};
-ghost use Rattle.loop_lint.specs.Words.{placed_words};
+ghost use Rattle.std.specs.Prelude.{◌≡◌, ◌+◌, ◌<◌, ◌^◌, ◌++◌, [], ◌∷◌, List, length, OnOk};
+ghost use Rattle.loop_lines.specs.Forms as spec;
+ghost use Rattle.loop_lines.specs.Words.{words_of};
+ghost use Rattle.loop_reader.specs.declared.fault.LoopFaultKind.TheVariants.{MissingInit, UnknownName};
+ghost use Rattle.loop_lint.specs.Hints.{hint_of, no_hint};
+ghost use Rattle.loop_lint.specs.Lints.{fault_at};
+ghost use Rattle.loop_lint.specs.Words.{placed_words, spot_at};
 ghost use Rattle.loop_lint.specs.inner.Founds.{told_all, told_if};
+ghost use Rattle.loop_lint.specs.inner.Names.{IsBlock};
 
-use crate::fault::LintFault;
+use crate::fault::{Hint, LintFault};
+use crate::hints::{Block, missing_inits, near_name};
+use crate::scan::word_at;
 use crate::spots::spot_at;
 use loop_reader::LoopFaultKind;
 use machine_data::OutOfMemory;
+use std::alloc::Global;
 
 /// For each kind of faults of a standing line the number of the word, from 0, that the fault is about, where the line has it.
 #[derive(Clone, Copy)]
@@ -37,43 +46,94 @@ pub(crate) struct Line<'a> {
     pub(crate) bytes: &'a [u8],
 }
 
-/// Tells a fault of a line at the word with this number, if it has it.
+/// Tells a fault of a line at the word with this number.
+fn tell_at(
+    faults: &mut Vec<LintFault>,
+    line: Line<'_>,
+    kind: LoopFaultKind,
+    word: usize,
+    hint: Hint,
+) -> Result<(), OutOfMemory>
+    ensures { OnOk result (faults.new.items ≡ faults.old.items ++ fault_at line.entry.number kind (spot_at (placed_words line.entry.bytes.now) word) hint ∷ []) }
+{
+    let spot = spot_at(line.bytes, word);
+    faults.push(LintFault::at(line.number, kind, spot, hint))?;
+    Ok(())
+}
+
+/// Tells a fault of a line at the word with this number, if it has it, with nothing that helps to mend it.
 pub(crate) fn tell(
     faults: &mut Vec<LintFault>,
     line: Line<'_>,
     kind: LoopFaultKind,
     word: Option<usize>,
 ) -> Result<(), OutOfMemory>
-    ensures { OnOk result (faults.new.items ≡ faults.old.items ++ told_if line.entry.number (placed_words line.entry.bytes.now) kind word) }
+    ensures { OnOk result (faults.new.items ≡ faults.old.items ++ told_if line.entry.number (placed_words line.entry.bytes.now) no_hint kind word) }
 {
-    if let Some(word) = word {
-        let spot = spot_at(line.bytes, word);
-        faults.push(LintFault {
-            line: line.number,
-            column: spot.column,
-            width: spot.width,
-            kind,
-        })?;
+    match word {
+        Some(word) => tell_at(faults, line, kind, word, Hint::Nothing),
+        None => Ok(()),
     }
+}
+
+/// Tells an unknown name at the word with this number, if there is one, with the nearest name.
+fn tell_unknown(
+    alloc: Global,
+    faults: &mut Vec<LintFault>,
+    line: Line<'_>,
+    block: &Block<'_>,
+    word: Option<usize>,
+) -> Result<(), OutOfMemory>
+    ensures { OnOk result ((forms : List spec.Form) → IsBlock forms block.now
+        → faults.new.items ≡ faults.old.items ++ told_if line.entry.number (placed_words line.entry.bytes.now) (hint_of forms (words_of line.entry.bytes.now)) UnknownName word) }
+{
+    let Some(word) = word else {
+        return Ok(());
+    };
+    let hint = near_name(alloc, block, line.bytes, word_at(line.bytes, word))?;
+    tell_at(faults, line, LoopFaultKind::UnknownName, word, hint)?;
     Ok(())
 }
 
-/// Tells the faults of a line.
-pub(crate) fn tell_all(
+/// Tells missing initial values at the word with this number, if there are some, with their numbers.
+fn tell_missing(
+    alloc: Global,
     faults: &mut Vec<LintFault>,
     line: Line<'_>,
+    block: &Block<'_>,
+    word: Option<usize>,
+) -> Result<(), OutOfMemory>
+    ensures { OnOk result ((forms : List spec.Form) → IsBlock forms block.now
+        → faults.new.items ≡ faults.old.items ++ told_if line.entry.number (placed_words line.entry.bytes.now) (hint_of forms (words_of line.entry.bytes.now)) MissingInit word) }
+{
+    let Some(word) = word else {
+        return Ok(());
+    };
+    let hint = missing_inits(alloc, block, word_at(line.bytes, word))?;
+    tell_at(faults, line, LoopFaultKind::MissingInit, word, hint)?;
+    Ok(())
+}
+
+/// Tells the faults of a line of a block.
+pub(crate) fn tell_all(
+    alloc: Global,
+    faults: &mut Vec<LintFault>,
+    line: Line<'_>,
+    block: &Block<'_>,
     found: Found,
 ) -> Result<(), OutOfMemory>
-    ensures { OnOk result (faults.new.items ≡ faults.old.items ++ told_all line.entry.number (placed_words line.entry.bytes.now) found) }
+    ensures { OnOk result ((forms : List spec.Form) → IsBlock forms block.now
+        → faults.new.items ≡ faults.old.items ++ told_all line.entry.number (placed_words line.entry.bytes.now) (hint_of forms (words_of line.entry.bytes.now)) found) }
 {
     tell(faults, line, LoopFaultKind::Limit, found.limit)?;
     tell(faults, line, LoopFaultKind::RepeatedName, found.repeated)?;
-    tell(faults, line, LoopFaultKind::UnknownName, found.unknown)?;
+    tell_unknown(alloc, faults, line, block, found.unknown)?;
     tell(
         faults,
         line,
         LoopFaultKind::UseBeforeDefinition,
         found.early,
     )?;
-    tell(faults, line, LoopFaultKind::MissingInit, found.missing)
+    tell_missing(alloc, faults, line, block, found.missing)?;
+    Ok(())
 }

@@ -27,7 +27,7 @@ use Rattle.solution_reader.specs.declared.fault.SolutionFault.{SolutionFault}
 use Rattle.solution_reader.specs.Data.{SolutionData as TextSolution}
 use Rattle.solution_reader.specs.Meaning.{size_fault, solutions_in_text}
 use Rattle.problem_printouts.specs.Solving.{AnswersSolve}
-use Rattle.command_line.specs.declared.command.Format.{Format}
+use Rattle.settings.specs.declared.format.Format.{Format}
 use Rattle.problem_printouts.specs.Judging.{AnswersCheck, IsFaultOf}
 use Rattle.problem_printouts.specs.declared.answers.Answers.{Answers}
 use Rattle.problem_printouts.specs.declared.fault.ProblemsFault.{ProblemsFault}
@@ -185,6 +185,10 @@ report-take report.Dot text (Ok told) h = rw (forms_in-take text) at h
 report-take report.Dot text (Err (problems.Problems fault)) h = rw (forms_in-take text) at h
 report-take report.Dot text (Err (problems.Solutions fault)) h = h
 report-take report.Dot text (Err problems.Memory) h = h
+report-take (report.Scheduled settings) text (Ok told) h = rw (forms_in-take text) at h
+report-take (report.Scheduled settings) text (Err (problems.Problems fault)) h = rw (forms_in-take text) at h
+report-take (report.Scheduled settings) text (Err (problems.Solutions fault)) h = h
+report-take (report.Scheduled settings) text (Err problems.Memory) h = h
 report-take (report.Explain settings) text (Ok told) h = rw (forms_in-take text) at h
 report-take (report.Explain settings) text (Err (problems.Problems fault)) h = rw (forms_in-take text) at h
 report-take (report.Explain settings) text (Err (problems.Solutions fault)) h = h

@@ -3,15 +3,20 @@ use Rattle.std.proofs.Common.{◌≡◌, ◌∙◌, ap, refl, subst, sym, ℕ, �
 use Rattle.std.specs.Prelude.{[], ◌∷◌, Ok, Err}
 use Rattle.std.proofs.lemmas.List.{take_all}
 use Rattle.std.proofs.lemmas.Bool.{cases_lt, lt-ltb}
+use Rattle.machine.specs.MachineText.{machine_of}
 use Rattle.machine.specs.declared.fault.MachineFault.TheVariants.{Limit}
 use Rattle.machine_lint.specs.Lints as machines
 use Rattle.machine_lint.specs.Places.{nowhere}
 use Rattle.machine_lint.specs.declared.place.MachineLint.{MachineLint}
 use Rattle.loops.specs.LoopFaultKind.TheVariants as kinds
 use Rattle.loop_lint.specs.Lints.{AreFaults, faults_in, lints_in, too_long}
+use Rattle.loop_lint.specs.Lacks.{AreToldOn, faults_among, lacks_for, lacks_in, merged}
 use Rattle.loop_lint.specs.declared.fault.LintFault.{LintFault}
+use Rattle.loop_lint.specs.declared.lacks.LoopLint.{LoopLint}
+use Rattle.loop_lint.specs.declared.lacks.LoopLint.TheVariants as told_as
+use Rattle.machine_data.specs.Machines.{MachineData}
 use Rattle.lint_text.specs.Lines.{loop_text}
-use Rattle.lint_text.specs.Printout.{AreOfLoops, AreOfMachine, loop_lines, machine_lines}
+use Rattle.lint_text.specs.Printout.{AreOfLoops, AreOfMachine, loop_lines, machine_in, machine_lines, machine_read}
 use Rattle.lint_text.specs.Document.{document_text, loop_value, loop_values, machine_values}
 use Rattle.lint_text.specs.declared.printout.LintText.{LintText}
 use Rattle.lint_text.specs.declared.printout.Named.{Named}
@@ -19,8 +24,8 @@ use Rattle.command_line.specs.declared.command.LintTexts.{LintTexts}
 use Rattle.command_line.specs.declared.command.LintTexts.TheVariants as lint
 use Rattle.modsched.specs.Devices.{most_read}
 use Rattle.modsched.specs.Engine.{Ending, IsLintAs, IsNamed, LintBrings}
-use Rattle.command_line.specs.declared.command.Format.{Format}
-use Rattle.command_line.specs.declared.command.Format.TheVariants as format
+use Rattle.settings.specs.declared.format.Format.{Format}
+use Rattle.settings.specs.declared.format.Format.TheVariants as format
 use Rattle.modsched.proofs.Lengths.{loops_in-take, machine_of-take, taken_too_long}
 
 told-long : (text : List ℕ) → 1048576 < length text → machines.told_of text ≡ machines.Just (nowhere (Limit (codes "text")) ∷ [])
@@ -58,24 +63,49 @@ are-whole text faults h = elim (cases_lt most_read (length text)) [
   | inr within ↦ subst (λ (t : List ℕ). AreFaults t faults) (take_all most_read text within) h
 ]
 
--- no word is shown of a text that is too long
-shows-none : (path text other : List ℕ) (faults : List LintFault) → faults ≡ too_long ∷ [] → loop_text path text faults ≡ loop_text path other faults
-shows-none path text other faults is = rw is refl
+lacks-long : (machine : Option MachineData) (text : List ℕ) → 1048576 < length text → lacks_for machine text ≡ []
+unfolding lacks_in
+lacks-long None text h = refl
+lacks-long (Some machine) text h = rw (lt-ltb 1048576 (length text) h) refl
 
-shows-whole : (path text : List ℕ) (faults : List LintFault) → AreFaults (take most_read text) faults → loop_text path text faults ≡ loop_text path (take most_read text) faults
-shows-whole path text faults h = elim (cases_lt most_read (length text)) [
-  | inl more ↦ shows-none path text (take most_read text) faults (h.words ∙ lints-long (take most_read text) (taken_too_long text more).0)
-  | inr within ↦ ap (λ (t : List ℕ). loop_text path t faults) (sym (take_all most_read text within))
+lacks-whole : (machine : Option MachineData) (text : List ℕ) → lacks_for machine (take most_read text) ≡ lacks_for machine text
+lacks-whole machine text = elim (cases_lt most_read (length text)) [
+  | inl more ↦ let long = taken_too_long text more in lacks-long machine (take most_read text) long.0 ∙ sym (lacks-long machine text long.1)
+  | inr within ↦ ap (lacks_for machine) (take_all most_read text within)
+]
+
+told-whole : (machine : Option MachineData) (text : List ℕ) (lints : List LoopLint) → AreToldOn machine (take most_read text) lints → AreToldOn machine text lints
+told-whole machine text lints h = record {
+  faults = are-whole text (faults_among lints) h.faults;
+  first = rw (loops_in-take text) at h.first;
+  all = h.all ∙ ap (merged (faults_among lints)) (lacks-whole machine text);
+}
+
+-- of a text that is too long just that is told
+only-long : (machine : Option MachineData) (text : List ℕ) (lints : List LoopLint) → most_read < length text → AreToldOn machine (take most_read text) lints → lints ≡ told_as.Fault too_long ∷ []
+only-long machine text lints more h =
+    let long = (taken_too_long text more).0 in
+    h.all ∙ ap (λ (fs : List LintFault). merged fs (lacks_for machine (take most_read text))) (h.faults.words ∙ lints-long (take most_read text) long)
+    ∙ ap (merged (too_long ∷ [])) (lacks-long machine (take most_read text) long)
+
+-- no word is shown of a text that is too long
+shows-none : (path text other : List ℕ) (lints : List LoopLint) → lints ≡ told_as.Fault too_long ∷ [] → loop_text path text lints ≡ loop_text path other lints
+shows-none path text other lints is = rw is refl
+
+shows-whole : (machine : Option MachineData) (path text : List ℕ) (lints : List LoopLint) → AreToldOn machine (take most_read text) lints → loop_text path text lints ≡ loop_text path (take most_read text) lints
+shows-whole machine path text lints h = elim (cases_lt most_read (length text)) [
+  | inl more ↦ shows-none path text (take most_read text) lints (only-long machine text lints more h)
+  | inr within ↦ ap (λ (t : List ℕ). loop_text path t lints) (sym (take_all most_read text within))
 ]
 
 -- .. as values of a document
-values-none : (path text other : List ℕ) (faults : List LintFault) → faults ≡ too_long ∷ [] → map (loop_value path text) faults ≡ map (loop_value path other) faults
-values-none path text other faults is = rw is refl
+values-none : (path text other : List ℕ) (lints : List LoopLint) → lints ≡ told_as.Fault too_long ∷ [] → map (loop_value path text) lints ≡ map (loop_value path other) lints
+values-none path text other lints is = rw is refl
 
-values-whole : (path text : List ℕ) (faults : List LintFault) → AreFaults (take most_read text) faults → map (loop_value path text) faults ≡ map (loop_value path (take most_read text)) faults
-values-whole path text faults h = elim (cases_lt most_read (length text)) [
-  | inl more ↦ values-none path text (take most_read text) faults (h.words ∙ lints-long (take most_read text) (taken_too_long text more).0)
-  | inr within ↦ ap (λ (t : List ℕ). map (loop_value path t) faults) (sym (take_all most_read text within))
+values-whole : (machine : Option MachineData) (path text : List ℕ) (lints : List LoopLint) → AreToldOn machine (take most_read text) lints → map (loop_value path text) lints ≡ map (loop_value path (take most_read text)) lints
+values-whole machine path text lints h = elim (cases_lt most_read (length text)) [
+  | inl more ↦ values-none path text (take most_read text) lints (only-long machine text lints more h)
+  | inr within ↦ ap (λ (t : List ℕ). map (loop_value path t) lints) (sym (take_all most_read text within))
 ]
 
 -- the same path with the whole text
@@ -86,7 +116,7 @@ whole text named = record named { text = record named.text { now = text } }
 abbrev SameMachine : Option Named → Option Named → List MachineLint → Type 0
 SameMachine other named lints = (machine_lines other lints ≡ machine_lines named lints) × (machine_values other lints ≡ machine_values named lints)
 
-abbrev SameLoops : Option Named → Option Named → List LintFault → Type 0
+abbrev SameLoops : Option Named → Option Named → List LoopLint → Type 0
 SameLoops other named faults = (loop_lines other faults ≡ loop_lines named faults) × (loop_values other faults ≡ loop_values named faults)
 
 -- a text that was given, read as far as it is
@@ -95,6 +125,7 @@ record MachineWhole (path text : List ℕ) (named : Option Named) (lints : List 
   is_named : IsNamed (Some (path, text)) other
   are : AreOfMachine other lints
   same : SameMachine other named lints
+  read : machine_in other ≡ machine_in named
 
 machine-whole : (path text : List ℕ) (named : Option Named) (lints : List MachineLint) → IsNamed (Some (path, take most_read text)) named → AreOfMachine named lints
     → MachineWhole path text named lints
@@ -110,39 +141,45 @@ machine-whole path text (Some named) lints is are =
         rw (its_text, machine_of-take text) at are.1,
       );
       same = (refl, refl);
+      read = ap machine_read (sym (ap machine_of its_text ∙ machine_of-take text));
     }
 
-record LoopsWhole (path text : List ℕ) (named : Option Named) (faults : List LintFault) : Type 0 where
+-- the same is told of loops on another text of the same machine
+on-same : (machine other loops : Option Named) (faults : List LoopLint) → machine_in other ≡ machine_in machine → AreOfLoops machine loops faults → AreOfLoops other loops faults
+on-same machine other None faults same are = are
+on-same machine other (Some named) faults same are = subst (λ (m : Option MachineData). AreToldOn m named.text.now faults) (sym same) are
+
+record LoopsWhole (machine : Option Named) (path text : List ℕ) (named : Option Named) (faults : List LoopLint) : Type 0 where
   other : Option Named
   is_named : IsNamed (Some (path, text)) other
-  are : AreOfLoops other faults
+  are : AreOfLoops machine other faults
   same : SameLoops other named faults
 
-loops-whole : (path text : List ℕ) (named : Option Named) (faults : List LintFault) → IsNamed (Some (path, take most_read text)) named → AreOfLoops named faults
-    → LoopsWhole path text named faults
-loops-whole path text None faults is are = absurd (cc)
-loops-whole path text (Some named) faults is are =
+loops-whole : (machine : Option Named) (path text : List ℕ) (named : Option Named) (faults : List LoopLint) → IsNamed (Some (path, take most_read text)) named → AreOfLoops machine named faults
+    → LoopsWhole machine path text named faults
+loops-whole machine path text None faults is are = absurd (cc)
+loops-whole machine path text (Some named) faults is are =
     let pair : (named.path.now, named.text.now) ≡ (path, take most_read text) = cc in
     let its_path : named.path.now ≡ path = ap (λ (p : List ℕ × List ℕ). p.0) pair in
     let its_text : named.text.now ≡ take most_read text = ap (λ (p : List ℕ × List ℕ). p.1) pair in
-    let taken : AreFaults (take most_read text) faults = subst (λ (t : List ℕ). AreFaults t faults) its_text are.0 in record {
+    let taken : AreToldOn (machine_in machine) (take most_read text) faults = subst (λ (t : List ℕ). AreToldOn (machine_in machine) t faults) its_text are in record {
       other = Some (whole text named);
       is_named = ap (λ (p : List ℕ). Some (p, text)) its_path;
-      are = (are-whole text faults taken, rw (its_text, loops_in-take text) at are.1);
+      are = told-whole (machine_in machine) text faults taken;
       same = (
-        shows-whole named.path.now text faults taken ∙ ap (λ (t : List ℕ). loop_text named.path.now t faults) (sym its_text),
-        values-whole named.path.now text faults taken ∙ ap (λ (t : List ℕ). map (loop_value named.path.now t) faults) (sym its_text),
+        shows-whole (machine_in machine) named.path.now text faults taken ∙ ap (λ (t : List ℕ). loop_text named.path.now t faults) (sym its_text),
+        values-whole (machine_in machine) named.path.now text faults taken ∙ ap (λ (t : List ℕ). map (loop_value named.path.now t) faults) (sym its_text),
       );
     }
 
 -- what is shown of texts in a format has faults, and so is shown of other texts with these
 record Retells (format : Format) (machine loops : Option Named) (printed : LintText) : Type 0 where
   lints : List MachineLint
-  faults : List LintFault
+  faults : List LoopLint
   of_machine : AreOfMachine machine lints
-  of_loops : AreOfLoops loops faults
+  of_loops : AreOfLoops machine loops faults
   again : (other_machine other_loops : Option Named) → AreOfMachine other_machine lints → SameMachine other_machine machine lints
-      → AreOfLoops other_loops faults → SameLoops other_loops loops faults → IsLintAs format other_machine other_loops printed
+      → AreOfLoops other_machine other_loops faults → SameLoops other_loops loops faults → IsLintAs format other_machine other_loops printed
 
 retells : (format : Format) (machine loops : Option Named) (printed : LintText) → IsLintAs format machine loops printed → Retells format machine loops printed
 retells format.Text machine loops printed h = record {
@@ -189,12 +226,12 @@ lint-take format (lint.Machine path) first last (Ok answer) h =
       printed = h.printed;
       is_machine = machine.is_named;
       is_loops = h.is_loops;
-      is_text = told.again machine.other h.loops machine.are machine.same told.of_loops (refl, refl);
+      is_text = told.again machine.other h.loops machine.are machine.same (on-same h.machine machine.other h.loops told.faults machine.read told.of_loops) (refl, refl);
       is_answer = h.is_answer;
     }
 lint-take format (lint.Loops path) first last (Ok answer) h =
     let told = retells format h.machine h.loops h.printed h.is_text in
-    let loops = loops-whole _ last h.loops told.faults h.is_loops told.of_loops in record {
+    let loops = loops-whole h.machine _ last h.loops told.faults h.is_loops told.of_loops in record {
       machine = h.machine;
       loops = loops.other;
       printed = h.printed;
@@ -206,7 +243,7 @@ lint-take format (lint.Loops path) first last (Ok answer) h =
 lint-take format (lint.Both machine_path loops_path) first last (Ok answer) h =
     let told = retells format h.machine h.loops h.printed h.is_text in
     let machine = machine-whole _ first h.machine told.lints h.is_machine told.of_machine in
-    let loops = loops-whole _ last h.loops told.faults h.is_loops told.of_loops in record {
+    let loops = loops-whole machine.other _ last h.loops told.faults h.is_loops (on-same h.machine machine.other h.loops told.faults machine.read told.of_loops) in record {
       machine = machine.other;
       loops = loops.other;
       printed = h.printed;

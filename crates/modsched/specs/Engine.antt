@@ -12,9 +12,9 @@ use Rattle.command_line.specs.declared.command.Work.TheVariants.{Plain, OnMachin
 use Rattle.command_line.specs.declared.command.Task.{Task}
 use Rattle.command_line.specs.declared.command.Task.TheVariants as task
 use Rattle.command_line.specs.declared.command.Search as search
-use Rattle.command_line.specs.declared.command.Search.TheVariants.{Schedule, Json, Explain, Vary, Total, Run}
-use Rattle.command_line.specs.declared.command.Format.{Format}
-use Rattle.command_line.specs.declared.command.Format.TheVariants as format
+use Rattle.command_line.specs.declared.command.Search.TheVariants.{Schedule, Json, Explain, Scheduled, Vary, Total, Run}
+use Rattle.settings.specs.declared.format.Format.{Format}
+use Rattle.settings.specs.declared.format.Format.TheVariants as format
 use Rattle.command_line.specs.Lines.{first_path}
 use Rattle.devices.specs.Devices.{most_read}
 use Rattle.file_faults.specs.Answers.{AnswersAlone, AnswersFile}
@@ -31,6 +31,7 @@ use Rattle.printouts.specs.Outcomes.{Outcome, Written}
 use Rattle.printouts.specs.Plain.{IsPlainText}
 use Rattle.printouts.specs.Run.{IsRunText}
 use Rattle.printouts.specs.Schedule.{IsListingText, IsListingDocument}
+use Rattle.scheduled_printouts.specs.Graphs.{AreScheduledGraphs}
 use Rattle.variants.specs.Texts.{IsVaryText}
 use Rattle.variants.specs.Documents.{IsVaryDocument}
 use Rattle.variants.specs.Totals.{IsVaryTotal}
@@ -43,6 +44,7 @@ use Rattle.problem_printouts.specs.Solving.{AnswersSolve}
 use Rattle.problem_printouts.specs.Judging.{AnswersCheck}
 use Rattle.problem_printouts.specs.Graphing.{AnswersDot, AnswersEdges}
 use Rattle.problem_printouts.specs.Explaining.{AnswersExplain}
+use Rattle.problem_printouts.specs.Scheduling.{AnswersScheduled}
 use Rattle.problem_printouts.specs.declared.answers.Answers.{Answers}
 use Rattle.problem_printouts.specs.declared.fault.ProblemsFault.{ProblemsFault}
 use Rattle.exit_status.specs.Statuses.{refusal_of_file, refusal_of_machine, refusal_of_problems}
@@ -104,6 +106,7 @@ abbrev pub IsSearchText : ℕ → ℕ → search.Search → MachineData → List
 IsSearchText ratio ceiling Schedule machine loops written = IsListingText ratio ceiling machine loops written
 IsSearchText ratio ceiling Json machine loops written = IsListingDocument ratio ceiling machine loops written
 IsSearchText ratio ceiling Explain machine loops written = IsExplainText ratio ceiling machine loops written
+IsSearchText ratio ceiling Scheduled machine loops written = AreScheduledGraphs ratio ceiling machine loops written
 IsSearchText ratio ceiling (Vary format.Text) machine loops written = IsVaryText ratio ceiling machine loops written
 IsSearchText ratio ceiling (Vary format.Json) machine loops written = IsVaryDocument ratio ceiling machine loops written
 IsSearchText ratio ceiling Total machine loops written = IsVaryTotal ratio ceiling machine loops written
@@ -181,6 +184,7 @@ abbrev pub AnswersReport : Report → List ℕ → Result Answers ProblemsFault 
 AnswersReport report.Edges text outcome = AnswersEdges text outcome
 AnswersReport report.Dot text outcome = AnswersDot text outcome
 AnswersReport (report.Explain settings) text outcome = AnswersExplain settings text outcome
+AnswersReport (report.Scheduled settings) text outcome = AnswersScheduled settings text outcome
 
 -- the machine's text whose faults are told, with its path: the first text where loops are read after it, and else the last
 abbrev pub machine_to_lint : LintTexts → List ℕ → List ℕ → Option (List ℕ × List ℕ)

@@ -2,6 +2,7 @@
 use Rattle.std.specs.Prelude.{◌≡◌, ◌≤◌, ℕ, List, ◌++◌}
 use Rattle.std.specs.List.{flat_map, zip}
 use Rattle.machine.specs.Machines.{MachineData}
+use Rattle.machine_data.specs.declared.limits.TheConstants.{MAX_TRIP}
 use Rattle.loops.specs.Loops.{LoopData}
 use Rattle.loops.specs.Run.{opening_of}
 use Rattle.kernel.specs.declared.kernels.parts.Parts.{Parts}
@@ -41,5 +42,5 @@ pub record IsRunText (trip ratio ceiling : ℕ) (machine : MachineData) (loops :
 
 -- the lines of the run of a kernel that runs as its loop are those of the loop's plain run
 abbrev pub KernelsTellPlainLines : Type 0
-KernelsTellPlainLines = (trip : ℕ) (loop : LoopData) (kernel : Parts) → trip ≤ 100000 → RunsAsLoop kernel loop
+KernelsTellPlainLines = (trip : ℕ) (loop : LoopData) (kernel : Parts) → trip ≤ MAX_TRIP → RunsAsLoop kernel loop
     → kernel_lines trip loop kernel ≡ plain_lines trip loop

@@ -1,6 +1,10 @@
-pub mod Names
-pub mod Heads
-pub mod Whys
+pub mod Arrows
+pub mod Causes
+pub mod Dot
 pub mod Edges
 pub mod Escapes
-pub mod Dot
+pub mod Heads
+pub mod Names
+pub mod Nodes
+pub mod Scheduled
+pub mod Whys

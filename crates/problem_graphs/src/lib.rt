@@ -1,6 +1,8 @@
-//! The operations of a scheduling problem and what they wait for, as lines and as a graph in the language of Graphviz.
+//! The operations of a scheduling problem and what they wait for, as lines and as a graph in the language of Graphviz, also with its solution.
 #![tactic(auto)]
 
+mod arrows;
+mod causes;
 mod demands;
 mod dot;
 mod edges;
@@ -8,12 +10,16 @@ mod escapes;
 mod heads;
 mod laws;
 mod names;
+mod nodes;
+mod scheduled;
 mod whys;
 
+pub use causes::cause_word;
 pub use demands::read_edge;
 pub use dot::push_dot;
 pub use edges::{push_edge, push_edges};
 pub use heads::push_problem_line;
 pub use laws::names_are_read_back;
 pub use names::{push_op_name, push_unit_name};
+pub use scheduled::push_scheduled;
 pub use whys::Why;

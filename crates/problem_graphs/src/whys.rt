@@ -1,7 +1,7 @@
 //! Why one operation waits for another one.
 
 ghost use Rattle.std.specs.Prelude.{◌≡◌, ◌++◌, OnOk};
-ghost use Rattle.problem_graphs.specs.Dot.{why_label};
+ghost use Rattle.problem_graphs.specs.Arrows.{why_label};
 ghost use Rattle.problem_graphs.specs.Whys.{why_text};
 
 use crate::escapes::push_escaped_name;

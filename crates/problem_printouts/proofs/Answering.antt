@@ -2,7 +2,7 @@
 use Rattle.std.proofs.Common.{◌≡◌, ◌≢◌, ℕ, List, refl, sym, subst, ap, ◌∙◌}
 use Rattle.std.specs.Prelude.{Result, Ok, Err, ◌⊎◌}
 use Rattle.std.proofs.Common.{inl, inr}
-use Rattle.command_line.specs.declared.command.Format.{Format}
+use Rattle.settings.specs.declared.format.Format.{Format}
 use Rattle.settings.specs.Settings.{SettingsData}
 use Rattle.problem_tables.specs.Data.{FileData}
 use Rattle.problem_tables.specs.declared.fault.Wrong.{Wrong as ProblemWrong}

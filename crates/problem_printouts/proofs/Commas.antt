@@ -3,7 +3,7 @@ use Rattle.std.proofs.Common.{◌≡◌, ◌∙◌, ℕ, ◌+◌, ◌-◌, Bool,
 use Rattle.std.specs.Prelude.{codes, cond, IfOk, Result, Ok, Err}
 use Rattle.std.specs.List.{AllZip, flat_map, join_by}
 use Rattle.std.proofs.lemmas.List.Sums.{sum_by-cons}
-use Rattle.command_line.specs.declared.command.Format.TheVariants.{Json}
+use Rattle.settings.specs.declared.format.Format.TheVariants.{Json}
 use Rattle.settings.specs.Settings.{SettingsData}
 use Rattle.problem_tables.specs.Data.{FileData, ProblemData as TextProblem}
 use Rattle.writing.specs.Words.{told}

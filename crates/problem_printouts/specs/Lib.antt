@@ -5,4 +5,5 @@ pub mod Solving
 pub mod Judging
 pub mod Graphing
 pub mod Explaining
+pub mod Scheduling
 pub mod inner

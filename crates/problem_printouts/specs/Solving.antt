@@ -1,8 +1,8 @@
 -- What is printed where the problems of a text are solved.
 use Rattle.std.specs.Prelude.{◌≡◌, ℕ, Bool, codes, List, ◌++◌, Result}
 use Rattle.std.specs.List.{AllZip, join_by}
-use Rattle.command_line.specs.declared.command.Format.{Format}
-use Rattle.command_line.specs.declared.command.Format.TheVariants.{Text, Json}
+use Rattle.settings.specs.declared.format.Format.{Format}
+use Rattle.settings.specs.declared.format.Format.TheVariants.{Text, Json}
 use Rattle.settings.specs.Settings.{SettingsData}
 use Rattle.problems.specs.Problems.{ProblemData}
 use Rattle.problem_tables.specs.Data.{FileData, ProblemData as TextProblem}

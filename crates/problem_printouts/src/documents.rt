@@ -1,7 +1,7 @@
 //! What the problems of a file come to as one JSON document.
 
 ghost use Rattle.std.specs.Prelude.{◌≡◌, ◌<◌, ◌≤◌, ◌-◌, ◌++◌, codes, drop, length, IfOk};
-ghost use Rattle.command_line.specs.declared.command.Format.TheVariants.{Json};
+ghost use Rattle.settings.specs.declared.format.Format.TheVariants.{Json};
 ghost use Rattle.problem_reader.specs.Files.{problem_at};
 ghost use Rattle.writing.specs.Words.{told};
 ghost use Rattle.problem_printouts.specs.Solving.{IsAnswer, IsSolveDocument};
@@ -13,10 +13,9 @@ use crate::answers::Answers;
 use crate::sharing::{Piece, made};
 use crate::solving::push_next;
 use crate::walk::{Teller, push_all};
-use command_line::Format;
 use machine_data::OutOfMemory;
-use problem_reader::ProblemFile;
-use settings::Settings;
+use problem_reader::{KeptDrafts, ProblemFile};
+use settings::{Format, Settings};
 use std::alloc::Global;
 use std::thread::Threads;
 use writing::{Text, push_told};
@@ -26,17 +25,29 @@ fn push_listed(
     alloc: Global,
     text: &mut Vec<u8>,
     file: &ProblemFile,
+    drafts: &mut KeptDrafts<'_>,
     number: usize,
     settings: &Settings,
     places: &mut Vec<Option<Piece>>,
 ) -> Result<bool, OutOfMemory>
     requires there { number < length file.now.problems }
+    requires drafts { drafts.old ≡ file.now }
     requires places { AreInPlace file.now settings.now Json places.old.items }
+    ensures same { drafts.new ≡ drafts.old }
     ensures kept { AreInPlace file.now settings.now Json places.new.items }
     ensures answer { IfOk result (IsOneMore (IsAfterComma (IsAnswer file.now settings.now Json (problem_at file.now number))) text.old.items text.new.items) }
 {
     text.push_piece(",")?;
-    push_next(alloc, text, file, number, settings, Format::Json, places)
+    push_next(
+        alloc,
+        text,
+        file,
+        drafts,
+        number,
+        settings,
+        Format::Json,
+        places,
+    )
 }
 
 /// What each problem comes to as JSON after a comma, with what workers made of them.
@@ -44,18 +55,20 @@ fn push_listed(
 struct Listing<'a> {
     alloc: Global,
     file: &'a ProblemFile,
+    drafts: KeptDrafts<'a>,
     settings: &'a Settings,
     places: Vec<Option<Piece>>,
 }
 
 impl<'a> Teller for Listing<'a> {
-    ghost use Rattle.command_line.specs.declared.command.Format.TheVariants.{Json};
+    ghost use Rattle.std.specs.Prelude.{◌≡◌};
+    ghost use Rattle.settings.specs.declared.format.Format.TheVariants.{Json};
     ghost use Rattle.problem_printouts.specs.inner.Asked.Question.{Document};
     ghost use Rattle.problem_printouts.specs.inner.Pieces.{AreInPlace};
 
     ghost asked = { λ t. record { file = t.file.now; question = Document t.settings.now } };
 
-    ghost ready = { λ t. AreInPlace t.file.now t.settings.now Json t.places.items };
+    ghost ready = { λ t. (t.drafts ≡ t.file.now) × AreInPlace t.file.now t.settings.now Json t.places.items };
 
     fn problems(&self) -> usize {
         self.file.problems()
@@ -66,6 +79,7 @@ impl<'a> Teller for Listing<'a> {
             self.alloc,
             text,
             self.file,
+            &mut self.drafts,
             number,
             self.settings,
             &mut self.places,
@@ -120,6 +134,7 @@ pub(crate) fn documented<R: Threads + Sync>(
     let mut listing = Listing {
         alloc,
         file,
+        drafts: KeptDrafts::of(file),
         settings,
         places,
     };

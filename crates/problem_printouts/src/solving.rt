@@ -1,7 +1,7 @@
 //! What is printed where the problems of a text are solved.
 
-ghost use Rattle.std.specs.Prelude.{◌<◌, length, IfOk};
-ghost use Rattle.command_line.specs.declared.command.Format.TheVariants.{Text};
+ghost use Rattle.std.specs.Prelude.{◌≡◌, ◌<◌, length, IfOk};
+ghost use Rattle.settings.specs.declared.format.Format.TheVariants.{Text};
 ghost use Rattle.problem_reader.specs.Files.{problem_at};
 ghost use Rattle.problem_printouts.specs.Solving.{AnswersSolve, IsAnswer, IsSolveIn, IsSolveText};
 ghost use Rattle.problem_printouts.specs.inner.Pieces.{AreInPlace, IsPiece};
@@ -13,10 +13,9 @@ use crate::fault::ProblemsFault;
 use crate::pieces::push_answer;
 use crate::sharing::{Piece, made, taken};
 use crate::walk::{Teller, push_all};
-use command_line::Format;
 use machine_data::OutOfMemory;
-use problem_reader::{ProblemFile, read_problems};
-use settings::Settings;
+use problem_reader::{KeptDrafts, ProblemFile, read_problems};
+use settings::{Format, Settings};
 use std::alloc::Global;
 use std::thread::Threads;
 
@@ -40,19 +39,22 @@ pub(crate) fn push_next(
     alloc: Global,
     text: &mut Vec<u8>,
     file: &ProblemFile,
+    drafts: &mut KeptDrafts<'_>,
     number: usize,
     settings: &Settings,
     format: Format,
     places: &mut Vec<Option<Piece>>,
 ) -> Result<bool, OutOfMemory>
     requires there { number < length file.now.problems }
+    requires drafts { drafts.old ≡ file.now }
     requires places { AreInPlace file.now settings.now format places.old.items }
+    ensures same { drafts.new ≡ drafts.old }
     ensures kept { AreInPlace file.now settings.now format places.new.items }
     ensures answer { IfOk result (IsOneMore (IsAnswer file.now settings.now format (problem_at file.now number)) text.old.items text.new.items) }
 {
     match taken(places, number, file, settings, format) {
         Some(piece) => push_piece(text, &piece, file, settings, format),
-        None => push_answer(alloc, text, file, number, settings, format),
+        None => push_answer(alloc, text, file, drafts, number, settings, format),
     }
 }
 
@@ -61,18 +63,20 @@ pub(crate) fn push_next(
 struct Solving<'a> {
     alloc: Global,
     file: &'a ProblemFile,
+    drafts: KeptDrafts<'a>,
     settings: &'a Settings,
     places: Vec<Option<Piece>>,
 }
 
 impl<'a> Teller for Solving<'a> {
-    ghost use Rattle.command_line.specs.declared.command.Format.TheVariants.{Text};
+    ghost use Rattle.std.specs.Prelude.{◌≡◌};
+    ghost use Rattle.settings.specs.declared.format.Format.TheVariants.{Text};
     ghost use Rattle.problem_printouts.specs.inner.Asked.Question.{Solve};
     ghost use Rattle.problem_printouts.specs.inner.Pieces.{AreInPlace};
 
     ghost asked = { λ t. record { file = t.file.now; question = Solve t.settings.now } };
 
-    ghost ready = { λ t. AreInPlace t.file.now t.settings.now Text t.places.items };
+    ghost ready = { λ t. (t.drafts ≡ t.file.now) × AreInPlace t.file.now t.settings.now Text t.places.items };
 
     fn problems(&self) -> usize {
         self.file.problems()
@@ -83,6 +87,7 @@ impl<'a> Teller for Solving<'a> {
             self.alloc,
             text,
             self.file,
+            &mut self.drafts,
             number,
             self.settings,
             Format::Text,
@@ -104,6 +109,7 @@ fn solved<R: Threads + Sync>(
     let mut solving = Solving {
         alloc,
         file,
+        drafts: KeptDrafts::of(file),
         settings,
         places,
     };

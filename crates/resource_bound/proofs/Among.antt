@@ -1,6 +1,7 @@
 -- The choices of the operations that have one number of alternatives.
 use Rattle.std.proofs.Common.{◌≡◌, ◌≢◌, ℕ, zero, suc, ◌+◌, ◌-◌, ◌<◌, ◌≤◌, ◌==◌, Bool, true, false, cond, List, [], ◌∷◌, ◌++◌, length, get_or, map, take, set, refl, sym, ap, ◌∙◌, arith, filter}
-use Rattle.std.specs.List.{flat_map, range_with_len, zip}
+use Rattle.std.specs.List.{All, flat_map, range_with_len, zip}
+use Rattle.std.proofs.lemmas.List.Elements.{All-head, All-tail}
 use Rattle.std.proofs.lemmas.List.{append-nil, append_assoc}
 use Rattle.std.proofs.lemmas.Bool.{eq-eqb, ne_eqb}
 use Rattle.machine_data.specs.declared.alternative.Row.{Row}
@@ -116,3 +117,31 @@ passed-from operations choices a (suc n) =
 
 pub passed_all : (operations : List (List (List Row))) (choices : List ℕ) → passed operations choices 16 ≡ by_freedom_too operations choices
 passed_all operations choices = passed-from operations choices 0 16
+
+-- among more alternatives than any operation has nothing is chosen
+among-none : (operations : List (List (List Row))) (choices : List ℕ) (most n : ℕ) → All (λ (alternatives : List (List Row)). length alternatives ≤ most) operations → most < n
+    → choices_among operations choices n ≡ []
+among-none [] choices most n few past = refl
+among-none (first ∷ operations) [] most n few past = refl
+among-none (first ∷ operations) (k ∷ choices) most n few past =
+    let here : length first ≤ most = All-head (λ (alternatives : List (List Row)). length alternatives ≤ most) first operations few in
+    let ne : length first ≢ n = omega arith in
+    among-no first operations k choices n ne
+    ∙ among-none operations choices most n (All-tail (λ (alternatives : List (List Row)). length alternatives ≤ most) first operations few) past
+
+passed-rest : (operations : List (List (List Row))) (choices : List ℕ) (most k : ℕ) → All (λ (alternatives : List (List Row)). length alternatives ≤ most) operations
+    → passed operations choices (k + most) ≡ passed operations choices most
+passed-rest operations choices most zero few = let same : 0 + most ≡ most = omega arith in ap (passed operations choices) same
+passed-rest operations choices most (suc k) few =
+    let next : suc k + most ≡ suc (k + most) = omega arith in
+    ap (passed operations choices) next
+    ∙ ap (λ l. l ++ choices_among operations choices (suc (k + most))) (passed-rest operations choices most k few)
+    ∙ ap (λ l. passed operations choices most ++ l) (among-none operations choices most (suc (k + most)) few (omega arith))
+    ∙ append-nil (passed operations choices most)
+
+-- nor in passes for more
+pub passed-past : (operations : List (List (List Row))) (choices : List ℕ) (most n : ℕ) → All (λ (alternatives : List (List Row)). length alternatives ≤ most) operations → most ≤ n
+    → passed operations choices n ≡ passed operations choices most
+passed-past operations choices most n few past =
+    let all : n ≡ (n - most) + most = omega arith in
+    ap (passed operations choices) all ∙ passed-rest operations choices most (n - most) few

@@ -1,15 +1,16 @@
 -- The choices made so far, with one more, and the rows that they take.
-use Rattle.std.proofs.Common.{◌≡◌, ◌≢◌, ℕ, zero, suc, ◌+◌, ◌-◌, ◌<◌, ◌==◌, Bool, true, false, cond, List, [], ◌∷◌, ◌++◌, length, get_or, take, set, refl, sym, ap, ◌∙◌, subst, arith, filter}
+use Rattle.std.proofs.Common.{◌≡◌, ◌≢◌, ℕ, zero, suc, ◌+◌, ◌-◌, ◌<◌, ◌≤◌, ◌==◌, Bool, true, false, cond, List, [], ◌∷◌, ◌++◌, length, get_or, take, set, refl, sym, ap, ◌∙◌, subst, arith, filter}
+use Rattle.std.specs.List.{All}
 use Rattle.std.proofs.lemmas.List.{append-nil, append_assoc}
 use Rattle.std.proofs.lemmas.List.Elements.{filter_more}
 use Rattle.std.proofs.lemmas.Bool.{eq-eqb, ne_eqb}
 use Rattle.machine_data.specs.declared.alternative.Row.{Row}
 use Rattle.graph.specs.Units.{IsBest, AreBest, by_freedom, chosen_rows}
 use Rattle.graph.specs.Uses.{Tallies}
-use Rattle.graph.proofs.unit_bound.Passes.{passes, passes-more, passes_all}
+use Rattle.graph.proofs.unit_bound.Passes.{passes, passes-more, passes_all, passes_past}
 use Rattle.resource_bound.specs.Choices.{AreUnitChoices, by_freedom_too, choices_among, rows_at}
 use Rattle.resource_bound.specs.inner.Tallies.{HasChosen, TakesChoice}
-use Rattle.resource_bound.proofs.Among.{among-taken, among-passed, passed, passed-kept, passed-more, passed_all}
+use Rattle.resource_bound.proofs.Among.{among-taken, among-passed, passed, passed-kept, passed-more, passed-past, passed_all}
 
 best-push : (taken : List Row) (operations : List (List (List Row))) (choices : List ℕ) (alternatives : List (List Row)) (choice : ℕ)
     → AreBest taken operations choices → IsBest (taken ++ chosen_rows operations choices) alternatives choice
@@ -130,3 +131,14 @@ choices-all operations choices n counts greatest sixteen h each =
       each = each;
       best = subst (λ l. AreBest [] l (by_freedom_too operations choices)) order (subst (AreBest [] (passes operations n)) too h.best);
     }
+
+-- all passes, of which those for more alternatives than any operation has choose nothing
+pub choices-past : (operations : List (List (List Row))) (choices : List ℕ) (most n : ℕ) (counts : List ℕ) (greatest : ℕ) → n ≡ most
+    → All (λ (alternatives : List (List Row)). length alternatives ≤ most) operations → most ≤ 16
+    → HasChosen (passes operations n) (passed operations choices n) counts greatest → length choices ≡ length operations
+    → AreUnitChoices operations choices
+choices-past operations choices most n counts greatest at few low h each =
+    let order : passes operations n ≡ passes operations 16 = ap (passes operations) at ∙ sym (passes_past operations most 16 few low) in
+    let too : passed operations choices n ≡ passed operations choices 16 = ap (passed operations choices) at ∙ sym (passed-past operations choices most 16 few low) in
+    choices-all operations choices 16 counts greatest refl
+    (subst (λ l. HasChosen l (passed operations choices 16) counts greatest) order (subst (λ l. HasChosen (passes operations n) l counts greatest) too h)) each

@@ -2,6 +2,7 @@
 
 ghost use Rattle.std.specs.Prelude.{◌≡◌, ◌≢◌, ℕ, ◌*◌, ◌-◌, ◌<◌, ◌≤◌, ◌==◌, ◌++◌, List, Vec, length, filter, IfOk};
 ghost use Rattle.std.specs.Global.{Global};
+ghost use Rattle.std.specs.List.{All};
 ghost use Rattle.machine_data.specs.declared.alternative.Row.{Row};
 ghost use Rattle.graph.specs.TablesAnswer.{TablesAnswer};
 ghost use Rattle.graph.specs.Units.{first_without_table, operations_of};
@@ -48,6 +49,19 @@ fn choose_among<O: Offers>(
     tally
 }
 
+/// The greatest number of alternatives that an operation has, 0 where there is no operation.
+fn most_alternatives<O: Offers>(operations: &O) -> usize
+    requires { O.sound operations.now }
+    ensures all { All (λ (alternatives : List (List Row)). length alternatives ≤ result) (O.operations operations.now) }
+    ensures few { result ≤ MAX_OPERATION_ALTERNATIVES }
+{
+    let mut most = 0;
+    for number in 0..operations.count() {
+        most = most.max(operations.alternatives(number).len());
+    }
+    most
+}
+
 /// The choices of at most 128 operations.
 fn choices_of<O: Offers>(alloc: Global, operations: &O) -> Result<Vec<u8>, OutOfMemory>
     requires sound { O.sound operations.now }
@@ -56,7 +70,8 @@ fn choices_of<O: Offers>(alloc: Global, operations: &O) -> Result<Vec<u8>, OutOf
 {
     let mut choices = vec![in alloc; 0u8; operations.count()]?;
     let mut tally = Tally::none();
-    for freedom in 1..=MAX_OPERATION_ALTERNATIVES {
+    let most = most_alternatives(operations);
+    for freedom in 1..most + 1 {
         tally = choose_among(operations, freedom, tally, &mut choices);
     }
     Ok(choices)

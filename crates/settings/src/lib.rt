@@ -1,13 +1,19 @@
-//! The settings of a listing: how hard it is tried to find a kernel, and by how many workers.
+//! What a command is given as numbers and words: the settings of a search (how hard it is tried to find a kernel, and by how many
+//! workers), a trip count, and the format of what it prints.
 #![tactic(auto)]
 
 ghost use Rattle.std.specs.Prelude.{◌≡◌, ◌↔◌, IsOk, IfOk, IfErr};
 ghost use Rattle.settings.specs.Settings.{AreSettings, IsOutside};
 
+mod format;
+mod trip;
+
+pub use format::Format;
 use machine_data::limits::{MAX_CEILING, MAX_CUT, MAX_RATIO, MAX_WORKERS};
 use std::fmt;
 use std::marker::Model;
 use thiserror::Error;
+pub use trip::{TRIP_LIMIT, Trip};
 
 /// The settings of a listing. Contracts see the four numbers.
 #[derive(Clone, Copy, Debug, PartialEq, Eq)]

@@ -1,3 +1,4 @@
 pub mod Explaining
 pub mod Joining
+pub mod Scheduling
 pub mod Varying

@@ -3,4 +3,5 @@
 pub(crate) mod explaining;
 pub(crate) mod plain;
 pub(crate) mod runs;
+pub(crate) mod scheduling;
 pub(crate) mod varying;

@@ -11,7 +11,7 @@ use crate::told::told_name;
 use machine_data::OutOfMemory;
 use problems::Draft;
 use serde_json::{Value, json};
-use solution_text::{Register, carried, register_behind};
+use solution_text::{Register, carried, register_after};
 use solutions::Solution;
 use std::alloc::Global;
 
@@ -45,7 +45,7 @@ fn push_initial(
     requires few { iterations ≤ 16 }
     ensures ok { OnOk result (map view values.new.items ≡ map view values.old.items ++ cons_option (initial_at solution.now value iterations) []) }
 {
-    let Some(register) = register_behind(solution, value, iterations) else {
+    let Some(register) = register_after(solution, value, iterations) else {
         return Ok(());
     };
     let draft = solution.problem().draft();

@@ -14,7 +14,7 @@ use machine_data::{OutOfMemory, Row};
 use problems::Draft;
 use registers::Read;
 use serde_json::{Value, json};
-use solution_text::register_behind;
+use solution_text::register_after;
 use solutions::Solution;
 use std::alloc::Global;
 
@@ -71,7 +71,7 @@ fn push_read(
     if read.reader != op {
         return Ok(());
     }
-    let register = register_behind(solution, read.value, read.distance + stage);
+    let register = register_after(solution, read.value, read.distance + stage);
     push_register(alloc, values, solution.problem().draft(), register)
 }
 
@@ -112,12 +112,7 @@ fn push_write(
     if draft.values[value].maker != op {
         return Ok(());
     }
-    push_register(
-        alloc,
-        values,
-        draft,
-        register_behind(solution, value, stage),
-    )
+    push_register(alloc, values, draft, register_after(solution, value, stage))
 }
 
 /// The registers that an operation of this stage writes.

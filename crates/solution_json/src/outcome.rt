@@ -4,7 +4,7 @@ ghost use Rattle.std.specs.Prelude.{◌≡◌, ◌≤◌, ◌++◌, ℕ, List, f
 ghost use Rattle.std.specs.Option.{option_copied};
 ghost use Rattle.serde_json.specs.View.{members_view, view};
 ghost use Rattle.serde_json.specs.Written.{compact_text, has_float};
-ghost use Rattle.solutions.specs.Told.{IsLastEvidence, IsTold};
+ghost use Rattle.solutions.specs.Told.{IsLastEvidence, IsSearched};
 ghost use Rattle.solution_json.specs.Outcomes.{IsJsonOf, IsObjectOf, IsOutcomeJson, failed_object, head_members, met_object};
 
 use crate::bounds::told_circuit;
@@ -18,7 +18,7 @@ use modulo::Culprit;
 use outcome_text::{circuit_of, fullest_of, is_met};
 use problems::Problem;
 use serde_json::{Map, ToValue, Value};
-use solutions::{Cause, Outcome, Solution, Told};
+use solutions::{Cause, Outcome, Solution, Solved};
 use std::alloc::Global;
 
 /// The members that tell the bounds of a problem, and what they are due to.
@@ -144,8 +144,8 @@ fn push_told(
     push_value(alloc, text, &told)
 }
 
-/// Appends what a problem comes to, as [`solve_told`](solutions::solve_told) told it, as a JSON object without blanks: its bounds with a
-/// critical circuit and the fullest units, and its solution, or why there is none. The result is whether it is solved.
+/// Appends what a problem comes to, as [`solve_with_culprit`](solutions::solve_with_culprit) solved it, as a JSON object without blanks: its
+/// bounds with a critical circuit and the fullest units, and its solution, or why there is none. The result is whether it is solved.
 ///
 /// # Errors
 /// Memory ran out. The text is left with a part of all that.
@@ -154,11 +154,18 @@ pub fn push_outcome_json(
     text: &mut Vec<u8>,
     name: &str,
     problem: &Problem,
-    told: &Told,
+    solved: &Solved,
 ) -> Result<bool, OutOfMemory>
-    requires { IsTold problem.now told.now }
+    requires { IsSearched problem.now solved.now }
     ensures told { IfOk result (λ met. (answer : List ℕ) × (text.new.items ≡ text.old.items ++ answer) × IsOutcomeJson name.now problem.now met answer) }
 {
-    push_told(alloc, text, name, problem, &told.outcome, told.culprit())?;
-    Ok(is_met(&told.outcome))
+    push_told(
+        alloc,
+        text,
+        name,
+        problem,
+        &solved.outcome,
+        solved.culprit.as_ref(),
+    )?;
+    Ok(is_met(&solved.outcome))
 }

@@ -24,5 +24,5 @@ listed-more {X} f old before new xs i d within b n =
     n ∙ ap (λ t. t ++ f (get_or xs i d)) b ∙ flat_map_more f old (take i xs) (get_or xs i d) ∙ ap (λ (ys : List X). old ++ flat_map f ys) (sym (take_more xs i d within))
 
 -- one more piece after those before it
-pub behind : (old before mid more new : List ℕ) → mid ≡ old ++ before → new ≡ mid ++ more → new ≡ old ++ (before ++ more)
-behind old before mid more new a b = b ∙ ap (λ t. t ++ more) a ∙ append_assoc old before more
+pub and-then : (old before mid more new : List ℕ) → mid ≡ old ++ before → new ≡ mid ++ more → new ≡ old ++ (before ++ more)
+and-then old before mid more new a b = b ∙ ap (λ t. t ++ more) a ∙ append_assoc old before more

@@ -17,7 +17,7 @@ use Rattle.solutions.specs.Runs.{home_in, run_of}
 use Rattle.solutions.specs.Solutions.{SolutionData, IsLawfulSolution, IsNumberIn, files_of, lives_of_solution}
 use Rattle.solutions.proofs.Lives.{length-files}
 use Rattle.solutions.proofs.Rightness.{at-place, has-file, right-number}
-use Rattle.solution_text.specs.Registers.{register_behind}
+use Rattle.solution_text.specs.Registers.{register_after}
 use Rattle.solution_text.specs.Values.{life_of}
 
 home-at : (f : ℕ × ℕ → Home) (files numbers : List ℕ) (v : ℕ) (d : Home) → length numbers ≡ length files → v < length files
@@ -42,20 +42,20 @@ file-is values value v there e = get_or-map (λ (v : Value). v.file) values valu
 -- the register of a value of a rotating file, and that of another one has none
 pub rotating-is : (s : SolutionData) (value file registers above : ℕ) → IsLawfulSolution s → value < length s.problem.draft.values.items
     → slice_index (files_of s.problem.draft) value ≡ file → slice_get s.problem.draft.files.items file ≡ Some (Rotating registers)
-    → Some (record { file = file; number = (slice_index s.numbers value + above) % registers }) ≡ register_behind (home_of (run_of s) value) above
+    → Some (record { file = file; number = (slice_index s.numbers value + above) % registers }) ≡ register_after (home_of (run_of s) value) above
 rotating-is s value file registers above is there e kind =
     let here : slice_get s.problem.draft.files.items (slice_index (files_of s.problem.draft) value) ≡ Some (Rotating registers)
     = ap (slice_get s.problem.draft.files.items) e ∙ kind in
-    sym (ap (λ (h : Home). register_behind h above) (home-is s value is there ∙ ap (λ (k : Option File). home_in k (slice_index (files_of s.problem.draft) value) (slice_index s.numbers value)) here
+    sym (ap (λ (h : Home). register_after h above) (home-is s value is there ∙ ap (λ (k : Option File). home_in k (slice_index (files_of s.problem.draft) value) (slice_index s.numbers value)) here
     ∙ ap (λ n. home_in (Some (Rotating registers)) n (slice_index s.numbers value)) e))
 
 pub unallotted-is : (s : SolutionData) (value file above : ℕ) → IsLawfulSolution s → value < length s.problem.draft.values.items
     → slice_index (files_of s.problem.draft) value ≡ file → slice_get s.problem.draft.files.items file ≡ Some Unallotted
-    → None ≡ register_behind (home_of (run_of s) value) above
+    → None ≡ register_after (home_of (run_of s) value) above
 unallotted-is s value file above is there e kind =
     let here : slice_get s.problem.draft.files.items (slice_index (files_of s.problem.draft) value) ≡ Some Unallotted
     = ap (slice_get s.problem.draft.files.items) e ∙ kind in
-    sym (ap (λ (h : Home). register_behind h above) (home-is s value is there ∙ ap (λ (k : Option File). home_in k (slice_index (files_of s.problem.draft) value) (slice_index s.numbers value)) here))
+    sym (ap (λ (h : Home). register_after h above) (home-is s value is there ∙ ap (λ (k : Option File). home_in k (slice_index (files_of s.problem.draft) value) (slice_index s.numbers value)) here))
 
 -- the number of a value of a rotating file is that of one of its registers
 pub number-below : (s : SolutionData) (value file registers : ℕ) → IsLawfulSolution s → value < length s.problem.draft.values.items

@@ -12,7 +12,7 @@ use Rattle.solutions.proofs.Lives.{length-lives}
 use Rattle.writing.specs.Words.{told}
 use Rattle.solution_text.specs.Names.{name_in}
 use Rattle.solution_text.specs.Values.{file_of, life_of, live_text}
-use Rattle.solution_text.proofs.Loops.{behind}
+use Rattle.solution_text.proofs.Loops.{and-then}
 use Rattle.solution_text.proofs.Places.{file-is, life-is}
 
 pub live-pushed : (s : SolutionData) (value : ℕ) (p : ProblemData) (draft : Draft) (names : List (List ℕ)) (v : Value) (life : Lifetime) (old one two new : List ℕ)
@@ -27,8 +27,8 @@ live-pushed s value p draft names v life old one two new same_problem same_draft
     let name : name_in names v.file ≡ name_in s.problem.draft.names.files.items (file_of s value)
     = ap (λ (ns : List (List ℕ)). name_in ns v.file) (same_names ∙ ap (λ (e : Draft). e.names.files.items) here)
     ∙ ap (name_in s.problem.draft.names.files.items) (sym filed) in
-    behind old _ two (told (codes " to ") (life_of s value).last) new
-    (behind old (name_in s.problem.draft.names.files.items (file_of s value)) one (told (codes ": live ") (life_of s value).first) two
+    and-then old _ two (told (codes " to ") (life_of s value).last) new
+    (and-then old (name_in s.problem.draft.names.files.items (file_of s value)) one (told (codes ": live ") (life_of s value).first) two
     (a ∙ ap (λ t. old ++ t) name)
     (b ∙ ap (λ (l : Lifetime). one ++ told (codes ": live ") l.first) (sym lived)))
     (d ∙ ap (λ (l : Lifetime). two ++ told (codes " to ") l.last) (sym lived))

@@ -10,21 +10,21 @@ use Rattle.solution_text.specs.declared.named.Register.{Register}
 use Rattle.solution_text.specs.Names.{file_name}
 
 -- the register that is `above` after a home's number, counted round its file; none where the values are allotted to none
-abbrev pub register_behind : Home → ℕ → Option Register
-register_behind (Rotates file registers number) above = Some (record { file = file; number = (number + above) % registers })
-register_behind Unallotted above = None
+abbrev pub register_after : Home → ℕ → Option Register
+register_after (Rotates file registers number) above = Some (record { file = file; number = (number + above) % registers })
+register_after Unallotted above = None
 
 -- where its maker puts a value
 abbrev pub destination_of : SolutionData → ℕ → Option Register
-destination_of s value = register_behind (home_of (run_of s) value) (stage_of (run_of s) (value_of (run_of s) value).maker)
+destination_of s value = register_after (home_of (run_of s) value) (stage_of (run_of s) (value_of (run_of s) value).maker)
 
 -- where a read finds its value
 abbrev pub source_of : SolutionData → Read → Option Register
-source_of s reading = register_behind (home_of (run_of s) reading.value) (reading.distance + stage_of (run_of s) reading.reader)
+source_of s reading = register_after (home_of (run_of s) reading.value) (reading.distance + stage_of (run_of s) reading.reader)
 
 -- where the instance `iterations` iterations before the first one is put before the first turn
 abbrev pub opening_of : SolutionData → ℕ → ℕ → Option Register
-opening_of s value iterations = register_behind (home_of (run_of s) value) iterations
+opening_of s value iterations = register_after (home_of (run_of s) value) iterations
 
 -- `FILE.K`
 abbrev pub register_text : Draft → Register → List ℕ

@@ -3,7 +3,7 @@
 ghost use Rattle.std.specs.Prelude.{◌≡◌, ◌++◌, ◌<◌, ◌≤◌, length, OnOk};
 ghost use Rattle.instances.specs.Runs.{home_of};
 ghost use Rattle.solutions.specs.Runs.{run_of};
-ghost use Rattle.solution_text.specs.Registers.{register_behind, register_text, spaced_register};
+ghost use Rattle.solution_text.specs.Registers.{register_after, register_text, spaced_register};
 
 use crate::names::push_name;
 use machine_data::OutOfMemory;
@@ -23,10 +23,10 @@ pub struct Register {
 /// The register that is `above` after the number of a value, counted round its file; `None` if the file is unallotted. By the
 /// stage of its maker it is where that puts the value, by the distance and the stage of a read where that finds it, and by a
 /// number of iterations where the instance that many iterations before the first one is put before the first turn.
-pub fn register_behind(solution: &Solution, value: usize, above: u64) -> Option<Register>
+pub fn register_after(solution: &Solution, value: usize, above: u64) -> Option<Register>
     requires there { value < length solution.now.problem.draft.values.items }
     requires few { above ≤ 4096 }
-    ensures { result ≡ register_behind (home_of (run_of solution.now) value) above }
+    ensures { result ≡ register_after (home_of (run_of solution.now) value) above }
 {
     let draft = solution.problem().draft();
     let file = draft.values[value].file;

@@ -1,9 +1,10 @@
 //! The lines of the operations of a solution.
 
-ghost use Rattle.std.specs.Prelude.{◌≡◌, ◌++◌, ◌<◌, length, OnOk};
+ghost use Rattle.std.specs.Prelude.{◌≡◌, ◌++◌, ◌<◌, codes, length, OnOk};
 ghost use Rattle.std.specs.List.{flat_map};
 ghost use Rattle.modulo.specs.Schedules.{stage_of};
 ghost use Rattle.solutions.specs.Solutions.{schedule_of};
+ghost use Rattle.writing.specs.Words.{told};
 ghost use Rattle.solution_text.specs.Operations.{hold_text, op_line, op_lines, placed_text, slot_text};
 
 use crate::names::push_name;
@@ -12,6 +13,40 @@ use machine_data::{OutOfMemory, Row};
 use problems::Draft;
 use solutions::Solution;
 use writing::{Text, push_told};
+
+/// Appends by which of its alternatives an operation is issued. Most are told by one piece.
+fn push_choice(text: &mut Vec<u8>, choice: usize) -> Result<(), OutOfMemory>
+    ensures ok { OnOk result (text.new.items ≡ text.old.items ++ told (codes " by ") choice) }
+{
+    match choice {
+        0 => text.push_piece(" by 0"),
+        1 => text.push_piece(" by 1"),
+        2 => text.push_piece(" by 2"),
+        3 => text.push_piece(" by 3"),
+        _ => push_told(text, " by ", choice as u64),
+    }
+}
+
+/// Appends a stage that is told by more than one piece, and a colon.
+fn push_late_stage(text: &mut Vec<u8>, stage: u64) -> Result<(), OutOfMemory>
+    ensures ok { OnOk result (text.new.items ≡ text.old.items ++ (told (codes " stage ") stage ++ codes ":")) }
+{
+    push_told(text, " stage ", stage)?;
+    text.push_piece(":")
+}
+
+/// Appends a stage and a colon. Most stages are told by one piece.
+fn push_stage(text: &mut Vec<u8>, stage: u64) -> Result<(), OutOfMemory>
+    ensures ok { OnOk result (text.new.items ≡ text.old.items ++ (told (codes " stage ") stage ++ codes ":")) }
+{
+    match stage {
+        0 => text.push_piece(" stage 0:"),
+        1 => text.push_piece(" stage 1:"),
+        2 => text.push_piece(" stage 2:"),
+        3 => text.push_piece(" stage 3:"),
+        _ => push_late_stage(text, stage),
+    }
+}
 
 /// Appends when an operation is issued in iteration 0, and by which of its alternatives.
 fn push_placed(text: &mut Vec<u8>, solution: &Solution, op: usize) -> Result<(), OutOfMemory>
@@ -22,7 +57,7 @@ fn push_placed(text: &mut Vec<u8>, solution: &Solution, op: usize) -> Result<(),
     text.push_piece("op ")?;
     push_name(text, draft.names.operations.as_slice(), op)?;
     push_told(text, " time ", solution.time(op))?;
-    push_told(text, " by ", solution.alternative(op) as u64)
+    push_choice(text, solution.alternative(op))
 }
 
 /// Appends a blank, then a unit that an operation holds, and how many cycles after its issue.
@@ -54,8 +89,7 @@ fn push_slot(text: &mut Vec<u8>, solution: &Solution, op: usize) -> Result<(), O
 {
     let problem = solution.problem();
     push_told(text, " # row ", solution.time(op) % solution.ii())?;
-    push_told(text, " stage ", stage_of(solution, op))?;
-    text.push_piece(":")?;
+    push_stage(text, stage_of(solution, op))?;
     let alternatives = problem.scheduling().alternatives()[op].as_slice();
     push_holds(
         text,

@@ -12,9 +12,9 @@ use modulo::Culprit;
 use problems::Problem;
 use solutions::Outcome;
 
-/// Appends the text of what a problem gives, as [`solve_told`](solutions::solve_told) found it: its bounds, other lines on it that
-/// are given as they are, and its solution, or why the last interval that was tried gives none and its culprits, which are
-/// [`Told::culprit`](solutions::Told::culprit).
+/// Appends the text of what a problem gives, as [`solve_with_culprit`](solutions::solve_with_culprit) or
+/// [`solve_told`](solutions::solve_told) found it: its bounds, other lines on it that are given as they are, and its solution, or why
+/// the last interval that was tried gives none and its culprits.
 ///
 /// # Errors
 /// [`OutOfMemory`] where memory ran out. The text is left with a part of all that.

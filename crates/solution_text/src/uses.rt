@@ -5,7 +5,7 @@ ghost use Rattle.modulo.specs.Schedules.{stage_of};
 ghost use Rattle.solutions.specs.Solutions.{schedule_of};
 ghost use Rattle.solution_text.specs.Operations.{headed, read_text, reads_text, uses_text, write_text, writes_head, writes_text};
 
-use crate::named::{push_spaced, register_behind};
+use crate::named::{push_spaced, register_after};
 use machine_data::OutOfMemory;
 use registers::Read;
 use solutions::Solution;
@@ -28,7 +28,7 @@ fn push_read(
     if read.reader != op {
         return Ok(());
     }
-    let register = register_behind(solution, read.value, read.distance + stage);
+    let register = register_after(solution, read.value, read.distance + stage);
     push_spaced(text, solution.problem().draft(), register)
 }
 
@@ -67,7 +67,7 @@ fn push_write(
     if draft.values[value].maker != op {
         return Ok(());
     }
-    push_spaced(text, draft, register_behind(solution, value, stage))
+    push_spaced(text, draft, register_after(solution, value, stage))
 }
 
 /// Appends the registers that an operation of this stage writes.

@@ -6,7 +6,7 @@ ghost use Rattle.problems.specs.declared.draft.File.TheVariants.{Rotating, Unall
 ghost use Rattle.solutions.specs.Runs.{run_of};
 ghost use Rattle.solution_text.specs.Values.{initial_line, initial_lines, initials_of, live_text, value_line, value_line_in, value_lines};
 
-use crate::named::{push_register, register_behind};
+use crate::named::{push_register, register_after};
 use crate::names::push_name;
 use machine_data::OutOfMemory;
 use problems::File;
@@ -109,7 +109,7 @@ fn push_initial(
     requires few { iterations ≤ 16 }
     ensures ok { OnOk result (text.new.items ≡ text.old.items ++ initial_line solution.now value iterations) }
 {
-    let Some(register) = register_behind(solution, value, iterations) else {
+    let Some(register) = register_after(solution, value, iterations) else {
         return Ok(());
     };
     let draft = solution.problem().draft();

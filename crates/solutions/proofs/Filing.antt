@@ -1,5 +1,5 @@
 -- The entries of the values of one file.
-use Rattle.std.proofs.Common.{◌≡◌, ◌≢◌, ℕ, suc, zero, ◌+◌, ◌<◌, ◌≤◌, Bool, true, false, List, [], ◌∷◌, ◌++◌, length, get_or, set, take, drop, filter, cond, refl, sym, ap, ◌∙◌, inl, inr, arith, append_assoc, append-nil}
+use Rattle.std.proofs.Common.{◌≡◌, ◌≢◌, ◌⊎◌, ℕ, suc, zero, ◌+◌, ◌<◌, ◌≤◌, Bool, true, false, List, [], ◌∷◌, ◌++◌, length, get_or, set, take, drop, filter, cond, refl, sym, ap, ◌∙◌, inl, inr, arith, append_assoc, append-nil}
 use Rattle.std.specs.Prelude.{◌==◌, count_by, slice_get, slice_index}
 use Rattle.std.specs.List.{All}
 use Rattle.std.proofs.lemmas.Bool.{cases_Bool, cond-true, eqb-true, eq-eqb, ne_eqb}
@@ -243,3 +243,50 @@ none_other (f ∷ files) (x ∷ xs) [] file xl yl all value not = absurd (omega 
 none_other (f ∷ files) (x ∷ xs) (y ∷ ys) file xl yl all zero not = absurd (not (All-head (λ other. other ≡ file) f files all))
 none_other (f ∷ files) (x ∷ xs) (y ∷ ys) file xl yl all (suc value) not =
     none_other files xs ys file (omega arith) (omega arith) (All-tail (λ other. other ≡ file) f files all) value not
+
+-- at each place of a file stands one of its values
+
+record StandsAt (files : List ℕ) (file place : ℕ) : Type 0 where
+  value : ℕ
+  there : value < length files
+  is_file : slice_index files value ≡ file
+  is_place : rank files file value ≡ place
+
+stands-next : (f : ℕ) (files : List ℕ) (file place more : ℕ) → length (cond (f == file) (f ∷ []) []) + place ≡ more → StandsAt files file place → StandsAt (f ∷ files) file more
+stands-next f files file place more count s = record {
+  value = suc s.value;
+  there = let t = s.there in omega arith;
+  is_file = s.is_file;
+  is_place = by (f == file) count;
+}
+  where
+    by : (b : Bool) → length (cond b (f ∷ []) []) + place ≡ more → length (cond b (f ∷ filter (λ other. other == file) (take s.value files)) (filter (λ other. other == file) (take s.value files))) ≡ more
+    by true e = let r = s.is_place in omega arith
+    by false e = let r = s.is_place in omega arith
+
+stands-more : (f : ℕ) (files : List ℕ) (file : ℕ) → ((place : ℕ) → place < length (filter (λ other. other == file) files) → StandsAt files file place)
+    → ((f == file) ≡ true) ⊎ ((f == file) ≡ false) → (place : ℕ) → place < length (filter (λ other. other == file) (f ∷ files)) → StandsAt (f ∷ files) file place
+stands-more f files file rest (inl hit) zero lt = record { value = 0; there = omega arith; is_file = eqb-true f file hit; is_place = refl }
+stands-more f files file rest (inl hit) (suc place) lt =
+    let l : suc place < suc (length (filter (λ other. other == file) files)) = rw hit at lt in
+    stands-next f files file place (suc place) (rw hit (omega arith)) (rest place (omega arith))
+stands-more f files file rest (inr miss) place lt =
+    let l : place < length (filter (λ other. other == file) files) = rw miss at lt in
+    stands-next f files file place place (rw miss (omega arith)) (rest place l)
+
+stands-at : (files : List ℕ) (file place : ℕ) → place < length (filter (λ other. other == file) files) → StandsAt files file place
+stands-at [] file place lt = absurd (omega arith)
+stands-at (f ∷ files) file place lt = stands-more f files file (stands-at files file) (cases_Bool (f == file)) place lt
+
+-- a value with so many of its file before it
+pub record ValueAt (files : List ℕ) (file place : ℕ) : Type 0 where
+  pub value : ℕ
+  pub there : value < length files
+  pub is_file : slice_index files value ≡ file
+  pub is_place : place_in files file value ≡ place
+
+pub value-at : (files : List ℕ) (file place : ℕ) → place < count_by (λ other. other == file) files → ValueAt files file place
+value-at files file place lt =
+    let c = counted files file in
+    let s = stands-at files file place (omega arith) in
+    record { value = s.value; there = s.there; is_file = s.is_file; is_place = sym (rank-is files file s.value) ∙ s.is_place }

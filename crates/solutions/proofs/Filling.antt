@@ -1,18 +1,19 @@
 -- Numbers that are written file by file.
-use Rattle.std.proofs.Common.{◌≡◌, ◌≢◌, ◌⊎◌, ℕ, ◌+◌, ◌<◌, ◌≤◌, List, length, get_or, Some, None, sym, ap, ◌∙◌, subst, inl, inr, arith}
+use Rattle.std.proofs.Common.{◌≡◌, ◌≢◌, ◌⊎◌, ℕ, ◌+◌, ◌<◌, ◌≤◌, Bool, true, false, List, [], ◌∷◌, ◌++◌, length, take, get_or, Some, None, refl, sym, ap, ◌∙◌, subst, inl, inr, arith}
 use Rattle.std.specs.Prelude.{◌==◌, count_by, slice_get, slice_index, Option, MatchOption, Result, Ok, Err, IfOk}
 use Rattle.std.specs.List.{All}
 use Rattle.std.proofs.lemmas.Bool.{cases_eq}
+use Rattle.std.proofs.lemmas.List.{length-take, take_all}
 use Rattle.std.proofs.lemmas.Option.{slice_get-get_or}
 use Rattle.problems.specs.declared.draft.File.{File}
 use Rattle.problems.specs.declared.draft.File.TheVariants.{Rotating, Unallotted}
 use Rattle.registers.specs.declared.lifetime.Lifetime.{Lifetime}
-use Rattle.registers.specs.Allotments.{AreLeast}
+use Rattle.registers.specs.Allotments.{AreLeast, HaveNone, IsLawfulAllotment}
 use Rattle.registers.specs.Numberless.{HasNoneAt}
 use Rattle.registers.proofs.allotted.Least.{place-within}
 use Rattle.solutions.specs.Files.{in_file}
-use Rattle.solutions.specs.inner.Filling.{AreFilled, IsFilled, Lacks, LacksFirst}
-use Rattle.solutions.proofs.Filing.{same_in_file, length-in_file, all_in_file, all_before}
+use Rattle.solutions.specs.inner.Filling.{AreFilled, IsFilled, IsFound, Lacks, LacksFirst}
+use Rattle.solutions.proofs.Filing.{same_in_file, length-in_file, all_in_file, all_before, value-at}
 
 -- the numbers of the first `end` files are the least ones
 abbrev pub FilledBelow : ℕ → List File → List ℕ → List Lifetime → List ℕ → ℕ → Type 0
@@ -93,6 +94,50 @@ filled-all ii registers files lives numbers file (Ok (Some value)) each_life eac
           (subst (λ (ls : List Lifetime). HasNoneAt ii registers ls numbers value) (sym (all_in_file files file lives each_life all)) none);
     }
 filled-all ii registers files lives numbers file (Err error) each_life each all h = tt
+
+-- where it is not told which value has no number
+
+-- the value of a file that has none
+pub left-out : (ii registers : ℕ) (files : List ℕ) (lives : List Lifetime) (file : ℕ) → length lives ≡ length files → HaveNone ii registers (in_file files file lives)
+    → (value : ℕ) × Lacks ii files lives file value (Rotating registers)
+left-out ii registers files lives file long none =
+    let within : none.place < length (in_file files file lives) = place-within (in_file files file lives) none.life none.place none.is_life in
+    let counted = length-in_file files file lives long in
+    let at = value-at files file none.place (omega arith) in
+    let each : length none.numbers ≤ none.place = (let e = none.least_before.each in let l = length-take none.place (in_file files file lives) in omega arith) in
+    let all : none.numbers ≡ take none.place none.numbers = sym (take_all none.place none.numbers each) in
+    let here : HasNoneAt ii registers (in_file files file lives) none.numbers none.place = record {
+      life = none.life;
+      is_life = none.is_life;
+      least_before = subst (AreLeast ii registers (take none.place (in_file files file lives))) all none.least_before;
+      none = λ number h. none.none number
+          (subst (λ ns. IsLawfulAllotment ii registers (take none.place (in_file files file lives) ++ none.life ∷ []) (ns ++ number ∷ [])) (sym all) h);
+    } in (
+      at.value,
+      record {
+        there = at.there;
+        is_file = at.is_file;
+        numbers = none.numbers;
+        has_none = subst (HasNoneAt ii registers (in_file files file lives) none.numbers) (sym at.is_place) here;
+      },
+    )
+
+-- where all values are of the file
+pub found-all : {E : Type 0} (ii registers : ℕ) (files : List ℕ) (lives : List Lifetime) (numbers : List ℕ) (file : ℕ) (result : Result Bool E)
+    → length lives ≡ length files → length numbers ≡ length files → All (λ other. other ≡ file) files
+    → (result ≡ Ok true → AreLeast ii registers lives numbers) → (result ≡ Ok false → HaveNone ii registers lives)
+    → IfOk result (IsFound ii files lives numbers file (Rotating registers))
+found-all ii registers files lives numbers file (Ok true) each_life each all least none =
+    subst (λ (ls : List Lifetime). AreLeast ii registers ls (in_file files file numbers)) (sym (all_in_file files file lives each_life all))
+    (subst (AreLeast ii registers lives) (sym (all_in_file files file numbers each all)) (least refl))
+found-all ii registers files lives numbers file (Ok false) each_life each all least none =
+    left-out ii registers files lives file each_life (subst (HaveNone ii registers) (sym (all_in_file files file lives each_life all)) (none refl))
+found-all ii registers files lives numbers file (Err error) each_life each all least none = tt
+
+pub lacks-some : (ii : ℕ) (kinds : List File) (files : List ℕ) (lives : List Lifetime) (numbers : List ℕ) (file : ℕ) (kind : File) → slice_get kinds file ≡ Some kind
+    → FilledBelow ii kinds files lives numbers file → ((value : ℕ) × Lacks ii files lives file value kind)
+    → (f : ℕ) × (value : ℕ) × LacksFirst ii kinds files lives f value
+lacks-some ii kinds files lives numbers file kind is filled lacks = (file, lacks.0, lacks-first ii kinds files lives numbers file lacks.0 kind is filled lacks.1)
 
 -- one file more, by what is written for it
 pub record IsMore (ii : ℕ) (kinds : List File) (files : List ℕ) (lives : List Lifetime) (numbers : List ℕ) (end : ℕ) : Type 0 where

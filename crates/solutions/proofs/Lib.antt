@@ -10,3 +10,4 @@ pub mod Numbered
 pub mod Copying
 mod Blamed
 pub mod Telling
+mod Searching

@@ -11,7 +11,9 @@ use Rattle.solutions.specs.Files.{in_file}
 use Rattle.solutions.specs.inner.Filling.{AreFilled, Lacks, LacksFirst}
 use Rattle.solutions.specs.inner.Judging.{AreApart}
 use Rattle.solutions.specs.Breaks.{AreRight}
-use Rattle.solutions.specs.Outcomes.{Gives, HasNoNumber, IsPlacedAs, LacksRegister}
+use Rattle.solutions.specs.declared.solving.outcome.Cause.{Cause}
+use Rattle.solutions.specs.declared.solving.outcome.Cause.TheVariants.{Registers}
+use Rattle.solutions.specs.Outcomes.{FailsBy, Gives, HasNoNumber, IsPlacedAs, LacksRegister}
 use Rattle.solutions.specs.Solutions.{SolutionData, IsLawfulSolution, IsNumberIn, files_of, lives_at, schedule_of}
 use Rattle.solutions.proofs.Lives.{length-files}
 
@@ -55,6 +57,12 @@ lacks-from p schedule file value placed lacks = record {
       has_none = left.has_none;
     }
     of-kind Unallotted is left = absurd left
+
+-- where it is not told which value has no number
+pub lacks-some-from : (p : ProblemData) (schedule : ScheduleData) → IsPlacedAs p schedule.ii schedule
+    → ((file : ℕ) × (value : ℕ) × LacksFirst schedule.ii p.draft.files.items (files_of p.draft) (lives_at p.draft schedule) file value)
+    → (cause : Cause) × FailsBy p schedule.ii cause
+lacks-some-from p schedule placed lacks = (Registers lacks.0 lacks.1, lacks-from p schedule lacks.0 lacks.1 placed lacks.2)
 
 pub lawful-from : (p : ProblemData) (schedule : ScheduleData) (numbers : List ℕ) → IsProblem p → IsSchedule schedule → schedule.problem ≡ p.scheduling → AreRight p.draft schedule.ii numbers
     → AreApart schedule.ii p.draft.files.items (files_of p.draft) (lives_at p.draft schedule) numbers → IsLawfulSolution (solution_of p schedule numbers)

@@ -10,7 +10,7 @@ use Rattle.solutions.specs.declared.solving.tried.Failure.{Failure}
 use Rattle.solutions.specs.Outcomes.{FailsBy, cause_of}
 
 -- somebody keeps the attempt at an interval from a schedule, by this cause
-pub record IsBehind (problem : ProblemData) (ii : ℕ) (cause : Cause) (found : Option Culprit) : Type 0 where
+pub record IsKeptBy (problem : ProblemData) (ii : ℕ) (cause : Cause) (found : Option Culprit) : Type 0 where
   pub culprit : Culprit
   pub is_found : found ≡ Some culprit
   pub same_cause : cause_of (failure_of culprit) ≡ cause
@@ -18,9 +18,9 @@ pub record IsBehind (problem : ProblemData) (ii : ℕ) (cause : Cause) (found : 
 
 -- the culprits of a cause; of a lack of registers nobody but the value that the cause names
 abbrev pub IsEvidence : ProblemData → ℕ → Cause → Option Culprit → Type 0
-IsEvidence problem ii Table found = IsBehind problem ii Table found
-IsEvidence problem ii Budget found = IsBehind problem ii Budget found
-IsEvidence problem ii Stages found = IsBehind problem ii Stages found
+IsEvidence problem ii Table found = IsKeptBy problem ii Table found
+IsEvidence problem ii Budget found = IsKeptBy problem ii Budget found
+IsEvidence problem ii Stages found = IsKeptBy problem ii Stages found
 IsEvidence problem ii (Registers file value) found = found ≡ None
 
 -- an interval gives no solution, by this cause, and these are its culprits

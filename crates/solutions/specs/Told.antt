@@ -5,6 +5,7 @@ use Rattle.modulo.specs.declared.outcome.attempts.Culprit.{Culprit}
 use Rattle.problems.specs.Problems.{ProblemData}
 use Rattle.solutions.specs.declared.solving.outcome.Outcome.{Outcome}
 use Rattle.solutions.specs.declared.solving.outcome.Outcome.TheVariants.{Met, Failed}
+use Rattle.solutions.specs.declared.solving.solve.Solved.{Solved}
 use Rattle.solutions.specs.declared.solving.told.Told.{Told}
 use Rattle.solutions.specs.declared.solving.tried.Failure.{Failure}
 use Rattle.solutions.specs.Failures.{FailsFor, IsEvidence}
@@ -32,3 +33,9 @@ pub record IsTold (problem : ProblemData) (told : Told) : Type 0 where
 abbrev pub IsLastEvidence : ProblemData → Outcome → Option Culprit → Type 0
 IsLastEvidence problem (Met s) found = found ≡ None
 IsLastEvidence problem (Failed cause) found = IsEvidence problem (last_of problem) cause found
+
+-- the outcome of a problem, with those culprits
+pub record IsSearched (problem : ProblemData) (solved : Solved) : Type 0 where
+  pub is_solved : IsSolved problem solved.outcome
+  pub is_right : IsRightOutcome solved.outcome
+  pub evidence : IsLastEvidence problem solved.outcome solved.culprit

@@ -12,7 +12,7 @@ pub use judging::broken::Broken;
 pub use laws::{broken_is_unlawful, gives_is_lawful, lawful_solutions_are_runs, one_outcome};
 pub use solution::Solution;
 pub use solving::outcome::{Cause, Outcome};
-pub use solving::solve::solve;
+pub use solving::solve::{Solved, solve, solve_with_culprit};
 pub use solving::told::{Told, solve_told};
 pub use solving::trials::Trials;
 pub use solving::tried::{Failure, Tried};

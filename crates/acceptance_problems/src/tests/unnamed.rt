@@ -12,7 +12,7 @@ use problem_reader::read_problems;
 use problems::{Draft, Names, Problem};
 use settings::Settings;
 use solution_text::{Missing, push_broken, push_failed, push_missing};
-use solutions::{Broken, Cause, solve_told};
+use solutions::{Broken, Cause, solve_with_culprit};
 use std::alloc::Global;
 use std::test::Fail;
 
@@ -84,8 +84,8 @@ fn edges_and_a_solution(rt: HostRuntime) -> Result<(), Fail> {
     let problem = problem(alloc)?;
     let mut text = Vec::new(alloc);
     push_edges(alloc, &mut text, "sum", &problem)?;
-    let told = solve_told(alloc, &problem)?;
-    let is_met = push_outcome(alloc, &mut text, "sum", &problem, &told)?;
+    let solved = solve_with_culprit(alloc, &problem)?;
+    let is_met = push_outcome(alloc, &mut text, "sum", &problem, &solved)?;
     assert!(rt; is_met && text.as_slice() == SOLVED);
     Ok(())
 }

@@ -57,6 +57,10 @@ const LINES: &[(&[&str], &str)] = &[
         "Loops { loops: \"l\", names: [], work: OnMachine { machine: \"m\", task: Search(Settings { ratio: 64, ceiling: 255, workers: 4, cut: 4 }, Json) } }",
     ),
     (
+        &["dot", "m", "--scheduled", "l", "--ceiling", "0"],
+        "Loops { loops: \"l\", names: [], work: OnMachine { machine: \"m\", task: Search(Settings { ratio: 6, ceiling: 0, workers: 4, cut: 4 }, Scheduled) } }",
+    ),
+    (
         &["explain", "m", "--workers", "+1", "l", "--cut", "256"],
         "Loops { loops: \"l\", names: [], work: OnMachine { machine: \"m\", task: Search(Settings { ratio: 6, ceiling: 32, workers: 1, cut: 256 }, Explain) } }",
     ),
@@ -106,6 +110,10 @@ const LINES: &[(&[&str], &str)] = &[
     ),
     (&["edges", "p"], "Problems { problems: \"p\", told: Edges }"),
     (&["dot", "p"], "Problems { problems: \"p\", told: Dot }"),
+    (
+        &["dot", "p", "--scheduled"],
+        "Problems { problems: \"p\", told: Scheduled(Settings { ratio: 6, ceiling: 32, workers: 4, cut: 4 }) }",
+    ),
     (
         &["explain", "--ceiling", "9", "p"],
         "Problems { problems: \"p\", told: Explain(Settings { ratio: 6, ceiling: 9, workers: 4, cut: 4 }) }",

@@ -4,7 +4,7 @@ ghost use Rattle.std.specs.Prelude.{◌≡◌, codes, false, Some, IfOk};
 ghost use Rattle.clap.specs.Words.{app_of, new_app, new_rule, rule_of};
 ghost use Rattle.clap.specs.declared.builder.action.ArgAction.TheVariants.{SetTrue};
 ghost use Rattle.clap.specs.declared.builder.command.Command.TheViews.{out-Command};
-ghost use Rattle.command_line.specs.Lines.{program_line, bare_line, with_kernels, with_reports, with_problems, plain_line, search_line, schedule_line, vary_line, explain_line, either_line, either_with_names, run_line, lint_line, solve_line, check_line, with_paths, with_search, path_rule, spare_rule, machine_only_rule, total_rule, loop_rule, trip_rule, option_rule, ratio_rule, ceiling_rule, workers_rule, cut_rule, format_rule};
+ghost use Rattle.command_line.specs.Lines.{program_line, bare_line, with_kernels, with_reports, with_problems, plain_line, search_line, schedule_line, vary_line, explain_line, dot_line, either_line, either_with_names, run_line, lint_line, solve_line, check_line, with_paths, with_search, path_rule, spare_rule, machine_only_rule, total_rule, scheduled_rule, loop_rule, trip_rule, option_rule, ratio_rule, ceiling_rule, workers_rule, cut_rule, format_rule};
 ghost use Rattle.command_line.specs.inner.Made.{IsAdded};
 
 use crate::help;
@@ -57,14 +57,13 @@ fn with_kernels<'a>(alloc: Global, command: Command<'a>) -> Result<Command<'a>, 
 fn with_reports<'a>(alloc: Global, command: Command<'a>) -> Result<Command<'a>, OutOfMemory>
     ensures { IfOk result (λ c. app_of c ≡ with_reports (app_of command.entry)) }
 {
-    use help::{BOUNDS_ABOUT, BOUNDS_LONG_ABOUT, DOT_ABOUT, DOT_LONG_ABOUT};
+    use help::{BOUNDS_ABOUT, BOUNDS_LONG_ABOUT};
     use help::{EDGES_ABOUT, EDGES_LONG_ABOUT};
     let made = over_files(alloc, "bounds", BOUNDS_ABOUT, BOUNDS_LONG_ABOUT);
     let command = add(command, made)?;
     let made = over_named(alloc, "edges", EDGES_ABOUT, EDGES_LONG_ABOUT);
     let command = add(command, made)?;
-    let made = over_named(alloc, "dot", DOT_ABOUT, DOT_LONG_ABOUT);
-    let command = add(command, made)?;
+    let command = add(command, dot(alloc))?;
     let command = add(command, plain(alloc))?;
     add(command, lint(alloc))
 }
@@ -167,6 +166,15 @@ fn explain<'a>(alloc: Global) -> Result<Command<'a>, OutOfMemory>
         help::EXPLAIN_LONG_ABOUT,
     )?;
     with_search(alloc, command)
+}
+
+// The subcommand `dot`.
+fn dot<'a>(alloc: Global) -> Result<Command<'a>, OutOfMemory>
+    ensures app { IfOk result (λ c. app_of c ≡ dot_line) }
+    ensures local { IfOk result (λ c. (out-Command c).has_globals ≡ false) }
+{
+    let command = over_named(alloc, "dot", help::DOT_ABOUT, help::DOT_LONG_ABOUT)?;
+    with_search(alloc, command)?.arg(scheduled(alloc))
 }
 
 // The subcommand `schedule`.
@@ -325,6 +333,14 @@ fn total<'a>(alloc: Global) -> Arg<'a>
     ensures local { result.global ≡ false }
 {
     switch(alloc, "total", help::TOTAL)
+}
+
+// That the graphs show the schedules.
+fn scheduled<'a>(alloc: Global) -> Arg<'a>
+    ensures rule { rule_of result ≡ scheduled_rule }
+    ensures local { result.global ≡ false }
+{
+    switch(alloc, "scheduled", help::SCHEDULED)
 }
 
 // An option without a value.

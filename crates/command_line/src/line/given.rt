@@ -2,18 +2,18 @@
 
 ghost use Rattle.std.specs.Prelude.{◌≡◌, ◌≢◌, ◌<◌, ◌^◌, ℕ, Bool, List, map, codes, string_bytes, option_map, None, IfOk, IfSome, IfNone};
 ghost use Rattle.clap.specs.Words.{Text, all_of, first_of, found_of, rows_of, subcommand_rows_of};
-ghost use Rattle.command_line.specs.declared.command.Format.{Format};
+ghost use Rattle.settings.specs.declared.format.Format.{Format};
 ghost use Rattle.command_line.specs.declared.command.LintTexts.{LintTexts};
 ghost use Rattle.command_line.specs.declared.command.Search.{Search};
+ghost use Rattle.command_line.specs.declared.command.Task.TheVariants as task;
 ghost use Rattle.command_line.specs.Lines.{Says, SaysFormat, SaysSwitch, AreTexts, AreTextsGiven, SaysTrip, SaysWorkers, SaysNumber, SaySettings, switch_word, Means, MeansNamed, names_in, AreLoopsGiven, AreProblemsGiven, IsReportGiven, IsWorkGiven, IsTaskGiven, IsSearchGiven};
 ghost use Rattle.settings.specs.Settings.{SettingsData};
 
-use crate::command::{Command, Format, LintTexts, Report, Search, Task, Work};
-use crate::trip::Trip;
+use crate::command::{Command, LintTexts, Report, Search, Task, Work};
 use clap::ArgMatches;
 use machine_data::OutOfMemory;
 use machine_data::limits::MAX_WORKERS;
-use settings::Settings;
+use settings::{Format, Settings, Trip};
 use std::alloc::Global;
 
 /// The command that a subcommand and its values mean.
@@ -98,12 +98,27 @@ fn report_given(name: &str, values: &ArgMatches<'_>) -> Option<Report>
 {
     match name {
         "edges" => Some(Report::Edges),
-        "dot" => Some(Report::Dot),
+        "dot" => graphs_given(values),
         "explain" => match settings_given(values) {
             Some(settings) => Some(Report::Explain(settings)),
             None => None,
         },
         _ => None,
+    }
+}
+
+// The graphs of problems, with their schedules or without.
+fn graphs_given(values: &ArgMatches<'_>) -> Option<Report>
+    ensures meant { IfSome result (λ told. IsReportGiven told (codes "dot") (rows_of (found_of values.now))) }
+    ensures none { IfNone result ((told : Report) → ¬ IsReportGiven told (codes "dot") (rows_of (found_of values.now))) }
+{
+    let scheduled = switch_given(values, "scheduled")?;
+    if !scheduled {
+        return Some(Report::Dot);
+    }
+    match settings_given(values) {
+        Some(settings) => Some(Report::Scheduled(settings)),
+        None => None,
     }
 }
 
@@ -302,11 +317,31 @@ fn task_given(name: &str, values: &ArgMatches<'_>) -> Option<Task>
     match name {
         "bounds" => Some(Task::Bounds),
         "edges" => Some(Task::Edges),
-        "dot" => Some(Task::Dot),
-        _ => match (settings_given(values), search_given(name, values)) {
-            (Some(settings), Some(search)) => Some(Task::Search(settings, search)),
-            _ => None,
-        },
+        "dot" => dot_given(values),
+        _ => searched(name, values),
+    }
+}
+
+// The graphs of loops, with their schedules or without.
+fn dot_given(values: &ArgMatches<'_>) -> Option<Task>
+    ensures meant { IfSome result (λ t. IsTaskGiven t (codes "dot") (rows_of (found_of values.now))) }
+    ensures none { IfNone result ((t : Task) → ¬ IsTaskGiven t (codes "dot") (rows_of (found_of values.now))) }
+{
+    let scheduled = switch_given(values, "scheduled")?;
+    if !scheduled {
+        return Some(Task::Dot);
+    }
+    searched("dot", values)
+}
+
+// What is told of the kernels, where they are searched for.
+fn searched(name: &str, values: &ArgMatches<'_>) -> Option<Task>
+    ensures meant { IfSome result (λ t. IsTaskGiven t name.now (rows_of (found_of values.now))) }
+    ensures none { IfNone result ((settings : SettingsData) (search : Search) → ¬ IsTaskGiven (task.Search settings search) name.now (rows_of (found_of values.now))) }
+{
+    match (settings_given(values), search_given(name, values)) {
+        (Some(settings), Some(search)) => Some(Task::Search(settings, search)),
+        _ => None,
     }
 }
 
@@ -323,12 +358,26 @@ fn search_given(name: &str, values: &ArgMatches<'_>) -> Option<Search>
         },
         "json" => Some(Search::Json),
         "explain" => Some(Search::Explain),
+        "dot" => scheduled_given(values),
         "vary" => vary_given(values),
         "run" => match trip_given(values) {
             Some(trip) => Some(Search::Run(trip)),
             None => None,
         },
         _ => None,
+    }
+}
+
+// The graphs of loops with their schedules.
+fn scheduled_given(values: &ArgMatches<'_>) -> Option<Search>
+    ensures meant { IfSome result (λ s. IsSearchGiven s (codes "dot") (rows_of (found_of values.now))) }
+    ensures none { IfNone result ((s : Search) → ¬ IsSearchGiven s (codes "dot") (rows_of (found_of values.now))) }
+{
+    let scheduled = switch_given(values, "scheduled")?;
+    if scheduled {
+        Some(Search::Scheduled)
+    } else {
+        None
     }
 }
 

@@ -1,6 +1,6 @@
 //! Why an interval failed, as text.
 
-ghost use Rattle.std.specs.Prelude.{◌≡◌, ◌<◌, ◌++◌, length, Some, OnOk};
+ghost use Rattle.std.specs.Prelude.{◌≡◌, ◌<◌, ◌++◌, ℕ, length, Some, OnOk};
 ghost use Rattle.std.specs.List.{All, flat_map};
 ghost use Rattle.ims.specs.Culprits.{AnswersCulprit};
 ghost use Rattle.ims.specs.Problems.{budget_of};
@@ -60,10 +60,9 @@ fn push_life(text: &mut Vec<u8>, innermost: &Loop, life: Lifetime) -> Result<(),
 fn push_culprit(
     text: &mut Vec<u8>,
     prepared: &Prepared,
-    _interval: u64,
     culprit: &Culprit,
 ) -> Result<(), OutOfMemory>
-    requires is { AnswersCulprit prepared.now _interval (budget_of prepared.now) (Some culprit.now) }
+    requires is { (ii : ℕ) × AnswersCulprit prepared.now ii (budget_of prepared.now) (Some culprit.now) }
     ensures ok { OnOk result (text.new.items ≡ text.old.items ++ culprit_text prepared.now.loop culprit.now) }
 {
     let innermost = prepared.innermost();
@@ -78,14 +77,13 @@ fn push_culprit(
 pub(crate) fn push_reason(
     text: &mut Vec<u8>,
     prepared: &Prepared,
-    interval: u64,
     reason: &Reason,
 ) -> Result<(), OutOfMemory>
-    requires is { IsReason prepared.now interval reason.now }
+    requires is { (ii : ℕ) × IsReason prepared.now ii reason.now }
     ensures ok { OnOk result (text.new.items ≡ text.old.items ++ reason_text prepared.now.loop reason.now) }
 {
     match reason {
-        Reason::Attempt(culprit) => push_culprit(text, prepared, interval, culprit),
+        Reason::Attempt(culprit) => push_culprit(text, prepared, culprit),
         Reason::Register(life) => push_life(text, prepared.innermost(), *life),
     }
 }

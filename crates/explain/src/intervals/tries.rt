@@ -1,56 +1,64 @@
-//! The lines of the intervals that are tried.
+//! The lines of the intervals that were tried.
 
-ghost use Rattle.std.specs.Prelude.{◌≡◌, ◌-◌, ◌<◌, ◌≤◌, ◌++◌, ℕ, List, [], ◌∷◌, Vec, map, IfOk, OnOk};
+ghost use Rattle.std.specs.Prelude.{◌≡◌, ◌++◌, ℕ, List, Vec, map, IfOk, OnOk};
 ghost use Rattle.std.specs.Global.{Global};
+ghost use Rattle.std.specs.List.{All};
 ghost use Rattle.ims.specs.Problems.{mii_of};
-ghost use Rattle.candidates.specs.Outcomes.{FailsBy};
 ghost use Rattle.candidates.specs.Reasons.{IsReason};
-ghost use Rattle.explain.specs.inner.Evidence.{HasEvidence, choice_of};
-ghost use Rattle.explain.specs.Tries.{AreTries, hold_line, is_least_possible, kernel_line, least_line, why_text};
-ghost use Rattle.explain.specs.Holds.{IsHold};
-ghost use Rattle.explain.specs.declared.intervals.hold.Hold.{Hold};
+ghost use Rattle.candidates.specs.declared.evidence.Reason.{Reason};
+ghost use Rattle.told_choices.specs.Told.{IsTold, choice_of};
+ghost use Rattle.explain.specs.Runs.{runs_text};
+ghost use Rattle.explain.specs.Tries.{AreTries, IsEnd, hold_line, kernel_line, least_line, why_text};
 
-use crate::intervals::chosen::Chosen;
-use crate::intervals::hold::{Hold, hold_of};
 use crate::intervals::reason_texts::push_reason;
 use crate::intervals::runs::push_runs;
-use candidates::{Cause, Reason, Trials, Tried};
+use candidates::Reason;
 use ims::Prepared;
 use machine_data::OutOfMemory;
 use std::alloc::Global;
+use told_choices::{Chosen, Hold, Told, hold_of, is_least_possible};
 use writing::{Text, push_both, push_told};
 
-/// What is told of an interval, in cycles, that gives no kernel: the cause and its culprits.
-fn why_of(
-    alloc: Global,
-    prepared: &Prepared,
-    interval: u64,
-    reason: &Reason,
-) -> Result<Vec<u8>, OutOfMemory>
-    requires is { IsReason prepared.now interval reason.now }
+/// What is told of an interval that gives no kernel: the cause and its culprits.
+fn why_of(alloc: Global, prepared: &Prepared, reason: &Reason) -> Result<Vec<u8>, OutOfMemory>
+    requires is { (ii : ℕ) × IsReason prepared.now ii reason.now }
     ensures ok { IfOk result (λ why. why.items ≡ why_text prepared.now.loop reason.now) }
 {
     let mut why = Vec::new(alloc);
     push_both(&mut why, " ", reason.cause().word())?;
     why.push_piece(":")?;
-    push_reason(&mut why, prepared, interval, reason)?;
+    push_reason(&mut why, prepared, reason)?;
     Ok(why)
 }
 
-/// Appends what is told of an interval, in cycles, that gives no kernel to what is told of those before it.
-fn push_why(
+/// What is told of each interval that gives no kernel.
+fn whys_of(
     alloc: Global,
-    whys: &mut Vec<Vec<u8>>,
     prepared: &Prepared,
-    interval: u64,
-    reason: &Reason,
-) -> Result<(), OutOfMemory>
-    requires is { IsReason prepared.now interval reason.now }
-    ensures ok { OnOk result (map (λ (why : Vec ℕ Global). why.items) whys.new.items ≡ map (λ (why : Vec ℕ Global). why.items) whys.old.items ++ why_text prepared.now.loop reason.now ∷ []) }
+    reasons: &[Reason],
+) -> Result<Vec<Vec<u8>>, OutOfMemory>
+    requires are { All (λ (reason : Reason). (ii : ℕ) × IsReason prepared.now ii reason) reasons.now }
+    ensures ok { IfOk result (λ whys. map (λ (why : Vec ℕ Global). why.items) whys.items ≡ map (why_text prepared.now.loop) reasons.now) }
 {
-    let why = why_of(alloc, prepared, interval, reason)?;
-    whys.push(why)?;
-    Ok(())
+    let mut whys = Vec::with_capacity(alloc, reasons.len())?;
+    for reason in reasons {
+        whys.push(why_of(alloc, prepared, reason)?)?;
+    }
+    Ok(whys)
+}
+
+/// Appends the lines of the intervals, from the least one on, that give no kernel.
+fn push_failures(
+    alloc: Global,
+    text: &mut Vec<u8>,
+    prepared: &Prepared,
+    told: &Told,
+) -> Result<(), OutOfMemory>
+    requires told { IsTold prepared.now told.now }
+    ensures ok { OnOk result (text.new.items ≡ text.old.items ++ runs_text (mii_of prepared.now) (map (why_text prepared.now.loop) told.now.reasons.items)) }
+{
+    let whys = whys_of(alloc, prepared, told.reasons.as_slice())?;
+    push_runs(text, prepared.mii(), whys.as_slice())
 }
 
 /// Appends the line of an interval, in cycles, that gives a kernel of `stages` stages.
@@ -95,63 +103,40 @@ fn push_met(
     push_least(text, least)
 }
 
-/// Whether an interval, in cycles, is what the fullest set of units or the recurrences need.
-fn is_least(prepared: &Prepared, need: u16, interval: u64) -> bool
-    ensures { result ≡ is_least_possible prepared.now need interval }
-{
-    u64::from(need).max(prepared.recurrences()) == interval
-}
-
-/// Appends the lines of a chosen interval, in cycles, that gives a kernel of `stages` stages, with the cause of the interval before it.
+/// Appends the lines of the interval that is chosen, where there is one.
 fn push_end(
     text: &mut Vec<u8>,
     prepared: &Prepared,
     need: u16,
     free: bool,
-    interval: u64,
-    stages: u64,
-    before: Cause,
+    told: &Told,
 ) -> Result<(), OutOfMemory>
-    requires low { mii_of prepared.now ≤ interval }
-    requires before { mii_of prepared.now < interval → FailsBy prepared.now (interval - 1) before }
-    ensures ok { OnOk result ((hold : Hold) × IsHold prepared.now free interval hold × (text.new.items ≡ text.old.items ++ ((kernel_line interval stages ++ hold_line hold) ++ least_line (is_least_possible prepared.now need interval)))) }
+    requires told { IsTold prepared.now told.now }
+    ensures ok { OnOk result ((end : List ℕ) × IsEnd prepared.now need free (choice_of told.now.chosen) end × (text.new.items ≡ text.old.items ++ end)) }
 {
-    let hold = hold_of(prepared, free, interval, before);
-    let least = is_least(prepared, need, interval);
-    push_met(text, interval, stages, hold, least)
+    match &told.chosen {
+        Chosen::Met(ii, met) => {
+            let hold = hold_of(prepared, free, told.reasons.as_slice());
+            let least = is_least_possible(prepared, need, *ii);
+            push_met(text, *ii, met.kernel.parts().stages, hold, least)
+        }
+        Chosen::Failed(_) => Ok(()),
+    }
 }
 
-/// Tries a loop's intervals one after another until one gives a kernel, and appends what each gives. What is
-/// chosen is that of the loop. The fullest set of units needs an interval of `need` cycles; `free` tells that no circuit needs the
-/// recurrence-constrained bound.
-pub(crate) fn push_tries<'a>(
+/// Appends what each interval gives that was tried. The fullest set of units needs an interval of `need` cycles; `free` tells that no
+/// circuit needs the recurrence-constrained bound.
+pub(crate) fn push_tries(
     alloc: Global,
     text: &mut Vec<u8>,
     need: u16,
     free: bool,
-    prepared: &'a Prepared,
-) -> Result<Chosen<'a>, OutOfMemory>
-    ensures exact { IfOk result (λ chosen. (tries : List ℕ) × AreTries prepared.now need free (choice_of chosen) tries × (text.new.items ≡ text.old.items ++ tries)) }
-    ensures evidence { IfOk result (HasEvidence prepared.now) }
+    prepared: &Prepared,
+    told: &Told,
+) -> Result<(), OutOfMemory>
+    requires told { IsTold prepared.now told.now }
+    ensures ok { OnOk result ((tries : List ℕ) × AreTries prepared.now need free (choice_of told.now.chosen) tries × (text.new.items ≡ text.old.items ++ tries)) }
 {
-    let mut trials = Trials::of(prepared);
-    let mut whys = Vec::new(alloc);
-    let mut last = Cause::Table;
-    for above in 0..prepared.ceiling() + 1 {
-        let interval = prepared.mii() + above;
-        match trials.try_told(alloc, interval)? {
-            Tried::Met(met) => {
-                let stages = met.kernel.parts().stages;
-                push_runs(text, prepared.mii(), whys.as_slice())?;
-                push_end(text, prepared, need, free, interval, stages, last)?;
-                return Ok(Chosen::Met(interval, met));
-            }
-            Tried::Failed(reason) => {
-                push_why(alloc, &mut whys, prepared, interval, &reason)?;
-                last = reason.cause();
-            }
-        }
-    }
-    push_runs(text, prepared.mii(), whys.as_slice())?;
-    Ok(Chosen::Failed(last))
+    push_failures(alloc, text, prepared, told)?;
+    push_end(text, prepared, need, free, told)
 }

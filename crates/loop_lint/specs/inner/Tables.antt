@@ -1,5 +1,5 @@
 -- What lines of a block say of names, in a table.
-use Rattle.std.specs.Prelude.{◌≡◌, ℕ, zero, suc, ◌&&◌, Bool, true, false, if◌then◌else◌, List, length, not, Option, Some, None, option_map, replicate, slice_index_or, slice_set, unwrap_or}
+use Rattle.std.specs.Prelude.{◌≡◌, ℕ, zero, suc, ◌&&◌, ◌+◌, ◌++◌, [], ◌∷◌, map, nat_lt, Bool, true, false, if◌then◌else◌, List, length, not, Option, Some, None, option_map, replicate, slice_index_or, slice_set, unwrap_or}
 use Rattle.std.specs.Borrow.{Bor}
 use Rattle.std.specs.BTreeMap.{BTreeMap, get_by}
 use Rattle.std.specs.Cmp.Lexicographic.{slice_cmp}
@@ -10,6 +10,8 @@ use Rattle.machine_data.specs.Opcodes.{same_word}
 use Rattle.loop_lines.specs.Forms.{Form, ArrayLine, ParamLine, InitLine, StatementLine, OutLine}
 use Rattle.loop_reader.specs.Meaning as meaning
 use Rattle.loop_reader.specs.Meaning.{any_name, declared, has_out, has_statement, how_many, is_array, is_init, is_out_of, is_param, is_statement}
+use Rattle.machine_data.specs.declared.limits.TheConstants.{MAX_ARRAYS, MAX_PARAMETERS, MAX_STATEMENTS}
+use Rattle.loop_lint.specs.Hints.{names_of}
 use Rattle.loop_lint.specs.inner.Near.{IsNear}
 use Rattle.loop_lint.specs.declared.block.Declared.{Declared}
 use Rattle.loop_lint.specs.declared.block.Declared.TheVariants as variants
@@ -65,12 +67,21 @@ known_with q arrays params statements (StatementLine source) known = if any_name
 known_with q arrays params statements (OutLine name) known = if same_word q name then with_out known else known
 known_with q arrays params statements form known = known
 
+-- names with one more, unless there are enough
+abbrev pub with_name : List (List ℕ) → List ℕ → List (List ℕ)
+with_name names name = if nat_lt (length names) (MAX_ARRAYS + MAX_PARAMETERS + MAX_STATEMENTS) then names ++ name ∷ [] else names
+
+abbrev pub with_names : List (List ℕ) → List (List ℕ) → List (List ℕ)
+with_names names [] = names
+with_names names (other ∷ others) = with_names (with_name names other) others
+
 -- a table has what some lines say
 pub record IsTable (lines : List Form) (table : Table) : Type 0 where
   pub declares : (q : List ℕ) → option_map declared_seen (known_at table.names q).declared ≡ declared lines q
   pub gives : (q : List ℕ) (number : Option ℕ) → IsNear number → flag_of (known_at table.names q).inits number ≡ list_any (is_init q number) lines
   pub lives : (q : List ℕ) → (known_at table.names q).out ≡ list_any (is_out_of q) lines
   pub long : (q : List ℕ) → length (known_at table.names q).inits ≡ 18
+  pub order : map (λ (n : Bor (List ℕ)). n.now) table.order.items ≡ names_of lines
   pub arrays : table.arrays ≡ how_many is_array lines
   pub params : table.params ≡ how_many is_param lines
   pub statements : table.statements ≡ how_many is_statement lines

@@ -13,7 +13,7 @@ use exit_status::Status;
 use printouts::Printout;
 use problem_printouts::{
     Answers, ProblemsFault, check_printout, dot_printout, edges_printout, explain_printout,
-    solve_printout,
+    scheduled_printout, solve_printout,
 };
 use settings::Settings;
 use std::alloc::Global;
@@ -41,6 +41,9 @@ pub(crate) fn report_text(alloc: Global, told: &Report, problems: &[u8]) -> Resu
     match told {
         Report::Edges => problems_ending(edges_printout(alloc, problems)),
         Report::Dot => problems_ending(dot_printout(alloc, problems)),
+        Report::Scheduled(settings) => {
+            problems_ending(scheduled_printout(alloc, problems, settings))
+        }
         Report::Explain(settings) => problems_ending(explain_printout(alloc, problems, settings)),
     }
 }

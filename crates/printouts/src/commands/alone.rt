@@ -1,6 +1,7 @@
 //! What the searches for kernels write, where the calling thread alone searches.
 
 ghost use Rattle.std.specs.Prelude.{◌≤◌, vec_len};
+ghost use Rattle.machine_data.specs.declared.limits.TheConstants.{MAX_LOOPS};
 ghost use Rattle.graph.specs.Units.{first_lacking};
 ghost use Rattle.file_faults.specs.Answers.{AnswersOn};
 ghost use Rattle.printouts.specs.Run.{IsRunText};
@@ -9,12 +10,11 @@ ghost use Rattle.printouts.specs.Schedule.{IsListingDocument, IsListingText};
 use crate::commands::kernel_runs::run_printout;
 use crate::commands::listings::{document_printout, listing_printout};
 use crate::output::printout::Printout;
-use command_line::Trip;
 use file_faults::FileFault;
 use loops::Loop;
 use machine::Machine;
 use one_thread::pipeline_alone;
-use settings::Settings;
+use settings::{Settings, Trip};
 use std::alloc::Global;
 
 /// What `schedule` writes. There are at most 1,024 loops, which is the most that a text has.
@@ -27,7 +27,7 @@ pub fn schedule_alone(
     loops: Vec<Loop>,
     settings: &Settings,
 ) -> Result<Printout, FileFault>
-    requires few { vec_len loops ≤ 1024 }
+    requires few { vec_len loops ≤ MAX_LOOPS }
     ensures { AnswersOn (IsListingText settings.now.ratio settings.now.ceiling machine.now loops.items) (first_lacking machine.now loops.items) result }
 {
     let (_, listing) = pipeline_alone(alloc, machine, loops, settings)?;
@@ -44,7 +44,7 @@ pub fn json_alone(
     loops: Vec<Loop>,
     settings: &Settings,
 ) -> Result<Printout, FileFault>
-    requires few { vec_len loops ≤ 1024 }
+    requires few { vec_len loops ≤ MAX_LOOPS }
     ensures { AnswersOn (IsListingDocument settings.now.ratio settings.now.ceiling machine.now loops.items) (first_lacking machine.now loops.items) result }
 {
     let (_, listing) = pipeline_alone(alloc, machine, loops, settings)?;
@@ -62,7 +62,7 @@ pub fn run_alone(
     trip: Trip,
     settings: &Settings,
 ) -> Result<Printout, FileFault>
-    requires few { vec_len loops ≤ 1024 }
+    requires few { vec_len loops ≤ MAX_LOOPS }
     ensures { AnswersOn (IsRunText trip settings.now.ratio settings.now.ceiling machine.now loops.items) (first_lacking machine.now loops.items) result }
 {
     let (prepared, listing) = pipeline_alone(alloc, machine, loops, settings)?;

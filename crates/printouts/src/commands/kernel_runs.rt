@@ -1,6 +1,7 @@
 //! What `run` writes.
 
 ghost use Rattle.std.specs.Prelude.{◌≡◌, ◌≤◌, ◌++◌, IfOk, OnOk, map};
+ghost use Rattle.machine_data.specs.declared.limits.TheConstants.{MAX_CEILING};
 ghost use Rattle.std.specs.List.{AllZip, flat_map, zip};
 ghost use Rattle.ims.specs.Problems.{ProblemData};
 ghost use Rattle.candidates.specs.declared.listings.Row as row;
@@ -16,11 +17,11 @@ use crate::commands::listings::are_met;
 use crate::output::printout::Printout;
 use crate::output::run_lines::{push_run, within_limits};
 use candidates::{Choice, Listing, Row, write_last, write_row};
-use command_line::Trip;
 use ims::Prepared;
 use kernel::{Kernel, simulate};
 use loops::{Loop, opening};
 use machine::OutOfMemory;
+use settings::Trip;
 use std::alloc::Global;
 
 /// What `run` writes of prepared loops with their listing.
@@ -82,7 +83,7 @@ pub fn push_choice(
     listed: &Row,
     trip: Trip,
 ) -> Result<(), OutOfMemory>
-    requires ceiling { ceiling ≤ 255 }
+    requires ceiling { ceiling ≤ MAX_CEILING }
     requires row { IsRow listed.now }
     requires choice { IsChoice prepared.now listed.now.choice }
     ensures { OnOk result (text.new.items ≡ text.old.items ++ choice_lines trip ceiling prepared.now.loop listed.now listed.now.choice) }
@@ -99,7 +100,7 @@ fn push_row(
     row: &Row,
     trip: Trip,
 ) -> Result<(), OutOfMemory>
-    requires ceiling { ceiling ≤ 255 }
+    requires ceiling { ceiling ≤ MAX_CEILING }
     requires row { IsRow row.now }
     requires runs { IsRunnable innermost.now row.now.choice }
     ensures { OnOk result (text.new.items ≡ text.old.items ++ choice_lines trip ceiling innermost.now row.now row.now.choice) }
@@ -133,7 +134,7 @@ fn push_failed(
     ceiling: u64,
     row: &Row,
 ) -> Result<(), OutOfMemory>
-    requires ceiling { ceiling ≤ 255 }
+    requires ceiling { ceiling ≤ MAX_CEILING }
     requires row { IsRow row.now }
     ensures { OnOk result (text.new.items ≡ text.old.items ++ row_text ceiling row.now) }
 {

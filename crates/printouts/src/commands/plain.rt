@@ -8,10 +8,10 @@ ghost use Rattle.printouts.specs.Plain.{IsPlainText, plain_lines};
 use crate::output::lines::push_last;
 use crate::output::printout::Printout;
 use crate::output::run_lines::{push_run, within_limits};
-use command_line::Trip;
 use file_faults::FileFault;
 use loops::{Loop, opening, run_from};
 use machine::OutOfMemory;
+use settings::Trip;
 use std::alloc::Global;
 
 /// What `plain` writes.

@@ -1,6 +1,6 @@
 -- What may be asked of the problems of a file.
 use Rattle.std.specs.Prelude.{List}
-use Rattle.command_line.specs.declared.command.Format.TheVariants.{Text, Json}
+use Rattle.settings.specs.declared.format.Format.TheVariants.{Text, Json}
 use Rattle.settings.specs.Settings.{SettingsData}
 use Rattle.problem_graphs.specs.Dot.{IsDotText}
 use Rattle.problem_graphs.specs.Edges.{IsEdgesText}
@@ -9,6 +9,7 @@ use Rattle.solution_reader.specs.Data.{SolutionData as TextSolution}
 use Rattle.problem_printouts.specs.Explaining.{IsReasonsAnswer}
 use Rattle.problem_printouts.specs.Graphing.{IsGraphAnswer}
 use Rattle.problem_printouts.specs.Judging.{IsVerdict}
+use Rattle.problem_printouts.specs.Scheduling.{IsScheduledAnswer}
 use Rattle.problem_printouts.specs.Solving.{IsAnswer}
 use Rattle.problem_printouts.specs.Told.{Answer}
 use Rattle.problem_printouts.specs.inner.Listed.{IsAfterComma}
@@ -20,6 +21,7 @@ pub data Question : Type 0 where
   Edges : Question
   Draw : Question
   Explain : SettingsData → Question
+  DrawScheduled : SettingsData → Question
 
 -- a question about the problems of a file
 pub record Asked : Type 0 where
@@ -33,6 +35,7 @@ IsAnswerTo file (Check list) problem answer = IsVerdict file list problem answer
 IsAnswerTo file Edges problem answer = IsGraphAnswer IsEdgesText file problem answer
 IsAnswerTo file Draw problem answer = IsGraphAnswer IsDotText file problem answer
 IsAnswerTo file (Explain settings) problem answer = IsReasonsAnswer file settings problem answer
+IsAnswerTo file (DrawScheduled settings) problem answer = IsScheduledAnswer file settings problem answer
 
 -- the answers to a question
 abbrev pub Answering : Asked → TextProblem → Answer → Type 0

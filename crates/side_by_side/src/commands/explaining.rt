@@ -1,6 +1,6 @@
 //! What `explain` writes.
 
-ghost use Rattle.std.specs.Prelude.{◌≡◌, ◌<◌, ◌≤◌, length, count_by, IfOk, IfSome, slice_index_or, vec_len};
+ghost use Rattle.std.specs.Prelude.{◌≡◌, ◌<◌, ◌≤◌, length, count_by, IfOk, slice_index_or, vec_len};
 ghost use Rattle.std.specs.List.{All};
 ghost use Rattle.graph.specs.Units.{first_lacking};
 ghost use Rattle.ims.specs.Problems.{ProblemData};
@@ -9,7 +9,7 @@ ghost use Rattle.printouts.specs.Explain.{IsExplainText};
 ghost use Rattle.side_by_side.specs.inner.Explained.{ExplainsPrepared, IsExplainedPart};
 ghost use Rattle.side_by_side.specs.inner.Parts.{met_of};
 
-use crate::parts::jobs::{Jobs, shared};
+use crate::parts::jobs::{Jobs, loop_jobs};
 use crate::parts::joined::joined;
 use crate::parts::part::Part;
 use crate::parts::slots::parts_of;
@@ -42,23 +42,10 @@ pub fn explain_text_on<R: Threads + Sync>(
 ) -> Result<Printout, FileFault>
     ensures { AnswersOn (IsExplainText settings.now.ratio settings.now.ceiling machine.now loops.items) (first_lacking machine.now loops.items) result }
 {
-    match explain_jobs(alloc, loops.as_slice(), settings.workers()) {
+    match loop_jobs(alloc, loops.as_slice(), settings.workers(), EXPLAINED) {
         Some(jobs) => explain_by(rt, alloc, machine, loops, settings, &jobs),
         None => explain_text(alloc, machine, loops, settings),
     }
-}
-
-/// The jobs of loops that are explained.
-fn explain_jobs(alloc: Global, loops: &[Loop], workers: usize) -> Option<Jobs>
-    ensures each { IfSome result (λ s. vec_len s.list ≡ length loops.now) }
-    ensures within { IfSome result (λ s. All (λ (j : _). j.number < length loops.now) s.list.items) }
-{
-    shared(
-        alloc,
-        loops.len(),
-        workers,
-        &|number| { EXPLAINED.saturating_mul(loops[number].statements().len() as u64) },
-    )
 }
 
 /// What `explain` writes, by these jobs.

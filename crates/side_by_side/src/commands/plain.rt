@@ -9,11 +9,11 @@ use crate::parts::jobs::{Jobs, shared};
 use crate::parts::joined::joined;
 use crate::parts::part::Part;
 use crate::parts::slots::parts_of;
-use command_line::Trip;
 use file_faults::FileFault;
 use loops::Loop;
 use machine::OutOfMemory;
 use printouts::{Printout, plain_text, push_last, push_plain};
+use settings::Trip;
 use std::alloc::Global;
 use std::thread::Threads;
 

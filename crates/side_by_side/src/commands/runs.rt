@@ -15,10 +15,10 @@ use crate::parts::joined::joined;
 use crate::parts::part::Part;
 use crate::parts::slots::parts_of;
 use candidates::Listing;
-use command_line::Trip;
 use ims::Prepared;
 use machine::OutOfMemory;
 use printouts::{Printout, are_met, push_choice, push_counts, run_printout};
+use settings::Trip;
 use std::alloc::Global;
 use std::thread::Threads;
 

@@ -1,8 +1,9 @@
 //! The jobs of workers: a part of a text each, and how much work it is to make it.
 
-ghost use Rattle.std.specs.Prelude.{◌≡◌, ◌<◌, ◌≤◌, ◌-◌, ◌+◌, ℕ, [], IfOk, IfSome, vec_capacity, vec_len};
+ghost use Rattle.std.specs.Prelude.{◌≡◌, ◌<◌, ◌≤◌, ◌-◌, ◌+◌, ℕ, [], IfOk, IfSome, length, vec_capacity, vec_len};
 ghost use Rattle.std.specs.List.{All};
 
+use loops::Loop;
 use machine::OutOfMemory;
 use std::alloc::Global;
 use std::cmp::Reverse;
@@ -51,6 +52,24 @@ pub(crate) fn shared<W: Fn(usize) -> u64>(
     }
     list.sort_unstable_by_key(|job| Reverse(job.work));
     Some(Jobs { list, workers })
+}
+
+/// The jobs of loops, of which each statement is so much work.
+pub(crate) fn loop_jobs(
+    alloc: Global,
+    loops: &[Loop],
+    workers: usize,
+    statement: u64,
+) -> Option<Jobs>
+    ensures each { IfSome result (λ s. vec_len s.list ≡ length loops.now) }
+    ensures within { IfSome result (λ s. All (λ (j : _). j.number < length loops.now) s.list.items) }
+{
+    shared(
+        alloc,
+        loops.len(),
+        workers,
+        &|number| { statement.saturating_mul(loops[number].statements().len() as u64) },
+    )
 }
 
 /// The jobs of `parts` parts, in their order.

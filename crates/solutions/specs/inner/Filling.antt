@@ -1,5 +1,5 @@
 -- Numbers of values, written file by file.
-use Rattle.std.specs.Prelude.{◌≡◌, ℕ, ◌<◌, List, length, Some, slice_get, slice_index}
+use Rattle.std.specs.Prelude.{◌≡◌, ℕ, ◌<◌, Bool, true, false, List, length, Some, slice_get, slice_index}
 use Rattle.problems.specs.declared.draft.File.{File}
 use Rattle.problems.specs.declared.draft.File.TheVariants.{Rotating, Unallotted}
 use Rattle.registers.specs.declared.lifetime.Lifetime.{Lifetime}
@@ -35,3 +35,13 @@ pub record LacksFirst (ii : ℕ) (kinds : List File) (files : List ℕ) (lives :
 pub record AreFilled (ii : ℕ) (kinds : List File) (files : List ℕ) (lives : List Lifetime) (numbers : List ℕ) : Type 0 where
   pub filled : (file : ℕ) (kind : File) → slice_get kinds file ≡ Some kind → IsFilled ii files lives numbers file kind
   pub zero : (value : ℕ) → slice_get kinds (slice_index files value) ≡ Some Unallotted → slice_index numbers value ≡ 0
+
+-- the same, where it is not told which value has none
+
+abbrev pub IsFound : ℕ → List ℕ → List Lifetime → List ℕ → ℕ → File → Bool → Type 0
+IsFound ii files lives numbers file kind true = IsFilled ii files lives numbers file kind
+IsFound ii files lives numbers file kind false = (value : ℕ) × Lacks ii files lives file value kind
+
+abbrev pub AreFound : ℕ → List File → List ℕ → List Lifetime → List ℕ → Bool → Type 0
+AreFound ii kinds files lives numbers true = AreFilled ii kinds files lives numbers
+AreFound ii kinds files lives numbers false = (file : ℕ) × (value : ℕ) × LacksFirst ii kinds files lives file value

@@ -3,17 +3,18 @@
 ghost use Rattle.std.specs.Prelude.{◌≡◌, ◌<◌, ◌≤◌, length, replicate, None, IfOk};
 ghost use Rattle.modulo.specs.Problems.{budget_of};
 ghost use Rattle.problems.specs.Drafts.{plain_values};
-ghost use Rattle.solutions.specs.Trying.{IsTried};
+ghost use Rattle.solutions.specs.Trying.{IsMet, IsTried};
 ghost use Rattle.solutions.specs.Outcomes.{IsPlacedAs, first_of, last_of};
 ghost use Rattle.solutions.specs.Solutions.{files_of};
 
 use crate::solution::Solution;
 use crate::solving::outcome::Cause;
 use crate::solving::tried::{Failure, Tried};
+use crate::values::found::find_numbers;
 use crate::values::lives::{files, lives_at, plain};
 use crate::values::numbers::fill_numbers;
 use machine_data::OutOfMemory;
-use modulo::{Answer, Schedule, answer_on};
+use modulo::{Answer, Schedule, Try, answer_on, attempt_on};
 use mrt::{DefaultTable, ModuloTable};
 use problems::Problem;
 use std::alloc::Global;
@@ -87,6 +88,29 @@ impl<'a> Trials<'a> {
         }
     }
 
+    /// The solution that the problem gives at an interval, as [`Trials::try_told`] finds it, if it gives one. Where it gives none, this
+    /// is known sooner, since it is not told why.
+    ///
+    /// # Errors
+    /// Memory ran out. This says nothing of the problem.
+    pub fn try_met(&mut self, alloc: Global, ii: u64) -> Result<Option<Solution<'a>>, OutOfMemory>
+        requires from_first { first_of self.old ≤ ii }
+        requires to_last { ii ≤ last_of self.old }
+        ensures same { self.new ≡ self.old }
+        ensures exact { IfOk result (IsMet self.old ii) }
+    {
+        let mut table = self.table_at(alloc, ii)?;
+        let scheduling = self.problem.scheduling();
+        let answer = attempt_on(alloc, scheduling, &mut table, budget(scheduling));
+        self.table = Some(table);
+        match answer? {
+            Try::Placed(schedule) => {
+                met_by(alloc, self.problem, &self.values, &self.files, schedule)
+            }
+            Try::Failed(_) => Ok(None),
+        }
+    }
+
     /// The problem's table at an interval, with nothing placed, made from the last one where there is one.
     fn table_at(&mut self, alloc: Global, ii: u64) -> Result<DefaultTable, OutOfMemory>
         requires from_first { first_of self.old ≤ ii }
@@ -152,6 +176,41 @@ fn numbered<'a>(
             let solution = Solution::new(problem, schedule, numbers, lives);
             Ok(Tried::Met(solution))
         }
+    }
+}
+
+/// The solution of a schedule and the least numbers, if each value has one. `values` are those of the problem, as registers take
+/// them, and `files` has the file of each.
+fn met_by<'a>(
+    alloc: Global,
+    problem: &'a Problem,
+    values: &[registers::Value],
+    files: &[usize],
+    schedule: Schedule<'a>,
+) -> Result<Option<Solution<'a>>, OutOfMemory>
+    requires placed { IsPlacedAs problem.now schedule.ii schedule }
+    requires values { values.now ≡ plain_values problem.now.draft }
+    requires files { files.now ≡ files_of problem.now.draft }
+    ensures { IfOk result (IsMet problem.now schedule.entry.ii) }
+{
+    let draft = problem.draft();
+    let kinds = draft.files.as_slice();
+    let ii = schedule.ii();
+    let lives = lives_at(alloc, problem, values, &schedule)?;
+    let mut numbers = vec![in alloc; 0; values.len()]?;
+    let found = find_numbers(
+        alloc,
+        ii,
+        kinds,
+        files,
+        lives.as_slice(),
+        numbers.as_mut_slice(),
+    )?;
+    if found {
+        let solution = Solution::new(problem, schedule, numbers, lives);
+        Ok(Some(solution))
+    } else {
+        Ok(None)
     }
 }
 

@@ -17,7 +17,7 @@ use std::alloc::Global;
 pub(crate) const MAX_VALUES: usize = 256;
 
 /// Whether all values are of one file.
-fn are_all_of(files: &[usize], file: usize) -> bool
+pub(crate) fn are_all_of(files: &[usize], file: usize) -> bool
     ensures { IsTrue result → All (λ other. other ≡ file) files.now }
 {
     files.iter().all(|other| *other == file)

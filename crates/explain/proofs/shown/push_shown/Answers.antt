@@ -1,9 +1,9 @@
 use Rattle.std.proofs.Common.{sym, subst}
 use Rattle.std.proofs.lemmas.Result.{on_ok_weaker}
 use Rattle.schedule_lines.specs.ScheduleTexts.{schedule_text}
-use Rattle.explain.specs.inner.Evidence.{HasEvidence, choice_of}
+use Rattle.told_choices.specs.Told.{HasEvidence, choice_of}
 use Rattle.explain.specs.Shown.{IsShown}
-use Rattle.explain.specs.declared.intervals.chosen.Chosen.{Chosen}
+use Rattle.told_choices.specs.declared.chosen.Chosen.{Chosen}
 use Rattle.explain.proofs.Showing.{shown-of, suits-of}
 use Rattle.explain.proofs.shown.push_shown.Goals as goal
 

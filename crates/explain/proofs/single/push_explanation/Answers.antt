@@ -6,5 +6,5 @@ use Rattle.explain.proofs.single.push_explanation.Goals as goal
 pub returns : goal.returns
 returns c = record {
   exact = subst (λ (choice : Choice). (part : List ℕ) × IsExplained c.args.units.now c.args.need c.args.prepared.now choice part × (c.push_chosen.new.text.items ≡ c.args.text.now.items ++ part))
-      (sym c.into_choice.ensures.value) c.in_ok-chosen.ensures.exact;
+      (sym c.into_choice.ensures.value) c.in_ok-push_chosen.ensures.ok;
 }

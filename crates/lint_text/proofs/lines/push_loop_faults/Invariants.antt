@@ -3,8 +3,8 @@ use Rattle.lint_text.specs.Lines.{loop_text}
 use Rattle.lint_text.specs.inner.Cursors.{IsFrom}
 use Rattle.lint_text.proofs.lines.push_loop_faults.Given as goal
 
-abbrev pub invariant-loop-fault : goal.invariant-loop-fault
-invariant-loop-fault l = record {
-  text : l.text.items ≡ l.fn.text.items ++ loop_text l.path l.bytes (take l.fault-index l.faults);
+abbrev pub invariant-loop-lint : goal.invariant-loop-lint
+invariant-loop-lint l = record {
+  text : l.text.items ≡ l.fn.text.items ++ loop_text l.path l.bytes (take l.lint-index l.lints);
   from : IsFrom l.bytes l.from;
 }

@@ -6,7 +6,7 @@ use Rattle.loop_lint.proofs.lint.lint_loops.Goals as goal
 pub returns-then-text-gt-MAX_TEXT : goal.returns-then-text-gt-MAX_TEXT
 returns-then-text-gt-MAX_TEXT c =
     let none : c.new-faults.result.items ≡ [] = search rules in
-    let are = faults_long c.args.text.now c.push.new.self.items c.if-text-gt-MAX_TEXT.true (c.in_ok-push.ensures.items ∙ ap (λ fs. fs ++ too_long ∷ []) none) in
+    let are = faults_long c.args.text.now c.push.new.self.items c.if-text-gt-MAX_TEXT.true (c.in_ok-push.ensures.items ∙ ap (λ t. c.new-faults.result.items ++ t ∷ []) c.too_long.ensures ∙ ap (λ fs. fs ++ too_long ∷ []) none) in
     record { exact = are; first = begins_told c.args.text.now c.push.new.self.items are }
 
 pub returns : goal.returns

@@ -12,4 +12,4 @@ returns-clause-table c = λ before is.
     let form = form_seen c.in-Some.form in
     let added = c.in_ok-add.ensures in
     gathers_yes before c.args.line.now form c.add.new.self (sym c.in-Some.ensures) (sym c.is_end.ensures ∙ c.if-is_end.false) (sym (c.allows.ensures before is) ∙ c.if-not-allows.false)
-    (table_more before form c.args.table.now c.add.new.self is (near_read c.args.line.now form (sym c.in-Some.ensures)) added.names added.arrays added.params added.statements added.statement added.out)
+    (table_more before form c.args.table.now c.add.new.self is (near_read c.args.line.now form (sym c.in-Some.ensures)) added.names added.order added.arrays added.params added.statements added.statement added.out)

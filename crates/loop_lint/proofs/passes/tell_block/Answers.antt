@@ -3,8 +3,8 @@ use Rattle.loop_reader.specs.Meaning.{forms_of, whole}
 use Rattle.loop_lint.proofs.Passing.{told_first, told_next}
 use Rattle.loop_lint.proofs.passes.tell_block.Goals as goal
 
-pub loop-rest-init : goal.loop-rest-init
-loop-rest-init c =
+pub loop-alloc-init : goal.loop-alloc-init
+loop-alloc-init c =
     let t = c.new-before.ensures in
     record {
       told = told_first c.args.number c.args.text.now c.args.faults.now.items c.new-before.result t;
@@ -13,13 +13,13 @@ loop-rest-init c =
       past = omega arith;
     }
 
-pub loop-rest-preserved : goal.loop-rest-preserved
-loop-rest-preserved c =
-    let v = c.loop-rest.invariant in
+pub loop-alloc-preserved : goal.loop-alloc-preserved
+loop-alloc-preserved c =
+    let v = c.loop-alloc.invariant in
     let line = c.in_ok-ends.ensures in
     record {
-      told = told_next c.args.number c.args.text.now (whole [] (forms_of c.args.text.now)) c.args.faults.now.items c.loop-rest.at c.loop-rest.rest.now c.next_line.result.0.now c.next_line.result.1.now c.loop-rest.before c.tell_line.new.before c.loop-rest.faults.items c.tell_line.new.faults.items c.in_ok-ends.ends
-          c.next_line.ensures.lines c.if-ends.false (λ lines is. line.told lines (whole [] (forms_of c.args.text.now)) is c.in_ok-block.ensures) v.told;
+      told = told_next c.args.number c.args.text.now (whole [] (forms_of c.args.text.now)) c.args.faults.now.items c.loop-alloc.at c.loop-alloc.rest.now c.next_line.result.0.now c.next_line.result.1.now c.loop-alloc.before c.tell_line.new.before c.loop-alloc.faults.items c.tell_line.new.faults.items c.in_ok-ends.ends
+          c.next_line.ensures.lines c.if-ends.false (λ lines is. line.told lines (whole [] (forms_of c.args.text.now)) is (c.in_ok-block.ensures (whole [] (forms_of c.args.text.now)) c.in_ok-table.ensures)) v.told;
       room = omega (arith, v.room, line.count, c.next_line.ensures.shorter);
       numbers = omega (arith, v.numbers, c.next_line.ensures.shorter);
       past = omega (arith, v.past);

@@ -1,5 +1,5 @@
 use Rattle.std.proofs.Common.{[], subst, sym, arith}
-use Rattle.command_line.specs.declared.command.Format.TheVariants.{Json}
+use Rattle.settings.specs.declared.format.Format.TheVariants.{Json}
 use Rattle.problem_tables.specs.Data.{ProblemData as TextProblem}
 use Rattle.problem_printouts.specs.Solving.{IsAnswer}
 use Rattle.problem_printouts.specs.Told.{Answer}

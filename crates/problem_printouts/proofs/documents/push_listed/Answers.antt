@@ -1,4 +1,4 @@
-use Rattle.command_line.specs.declared.command.Format.TheVariants.{Json}
+use Rattle.settings.specs.declared.format.Format.TheVariants.{Json}
 use Rattle.problem_reader.specs.Files.{problem_at}
 use Rattle.problem_printouts.specs.Solving.{IsAnswer}
 use Rattle.problem_printouts.proofs.Answered.{if-ok}

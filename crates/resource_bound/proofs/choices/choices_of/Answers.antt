@@ -5,7 +5,7 @@ use Rattle.graph.specs.Uses.{AtMost}
 use Rattle.graph.proofs.unit_bound.Passes.{passes}
 use Rattle.resource_bound.specs.inner.Tallies.{HasChosen}
 use Rattle.resource_bound.proofs.Among.{passed}
-use Rattle.resource_bound.proofs.Chosen.{chosen-pass, choices-all}
+use Rattle.resource_bound.proofs.Chosen.{chosen-pass, choices-past}
 use Rattle.resource_bound.proofs.choices.choices_of.Goals as goal
 
 pub loop-freedom-preserved : goal.loop-freedom-preserved
@@ -35,10 +35,11 @@ loop-freedom-preserved g c =
 
 pub returns : goal.returns
 returns g c =
-    let past : 16 < c.loop-freedom.freedom = c.loop-freedom-test.false in
-    let end : c.loop-freedom.freedom ≤ 17 = c.loop-freedom.auto.freedom-end (omega arith) in
-    let sixteen : c.loop-freedom.freedom - 1 ≡ 16 = omega arith in
+    let past : c.most_alternatives-most.result + 1 ≤ c.loop-freedom.freedom = c.loop-freedom-test.false in
+    let end : c.loop-freedom.freedom ≤ c.most_alternatives-most.result + 1 = c.loop-freedom.auto.freedom-end (omega arith) in
+    let at : c.loop-freedom.freedom - 1 ≡ c.most_alternatives-most.result = omega arith in
     record {
-      exact = choices-all (g.O.Offers.operations c.args.operations.now) c.loop-freedom.choices.items (c.loop-freedom.freedom - 1) c.loop-freedom.tally.counts c.loop-freedom.tally.greatest
-          sixteen c.loop-freedom.invariant.chosen c.loop-freedom.invariant.each;
+      exact = choices-past (g.O.Offers.operations c.args.operations.now) c.loop-freedom.choices.items c.most_alternatives-most.result (c.loop-freedom.freedom - 1)
+          c.loop-freedom.tally.counts c.loop-freedom.tally.greatest at c.most_alternatives-most.ensures.all c.most_alternatives-most.ensures.few
+          c.loop-freedom.invariant.chosen c.loop-freedom.invariant.each;
     }

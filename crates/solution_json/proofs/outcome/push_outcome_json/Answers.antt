@@ -6,7 +6,7 @@ returns c = record {
     c.in_ok-push_told.ensures.0,
     c.in_ok-push_told.ensures.1,
     record {
-      outcome = c.args.told.now.outcome;
+      outcome = c.args.solved.now.outcome;
       is_solved = c.requires.is_solved;
       is_right = c.requires.is_right;
       same_met = c.is_met.ensures;

@@ -1,8 +1,9 @@
 use Rattle.std.proofs.Common.{◌≡◌, ◌∙◌, codes, Option, Some, None, IfSome, IfNone, subst}
 use Rattle.clap.specs.Words.{Text, found_of, first_of, rows_of}
 use Rattle.clap.proofs.WalkLemmas.{first_value-rows}
-use Rattle.command_line.specs.declared.command.Format.{Format}
-use Rattle.command_line.specs.Lines.{SaysFormat, format_word}
+use Rattle.settings.specs.declared.format.Format.{Format}
+use Rattle.command_line.specs.Lines.{SaysFormat}
+use Rattle.settings.specs.Formats.{format_word}
 use Rattle.command_line.proofs.LineLemmas.{none-says, some-says}
 use Rattle.command_line.proofs.line.given.format_given.Goals as goal
 

@@ -1,0 +1,3 @@
+pub mod Arrows
+pub mod Labels
+pub mod Nodes

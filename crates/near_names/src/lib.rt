@@ -1,0 +1,10 @@
+//! The name that is nearest to a word which names nothing.
+#![tactic(auto)]
+
+mod names;
+#[cfg(test)]
+mod tests;
+mod words;
+
+pub use names::nearest;
+pub use words::Word;

@@ -1,7 +1,0 @@
-use Rattle.problem_graphs.specs.Dot.{node_line}
-use Rattle.graph_text.proofs.Texts.{numbered-more}
-use Rattle.problem_graphs.proofs.dot.push_nodes.Goals as goal
-
-pub loop-op-preserved : goal.loop-op-preserved
-loop-op-preserved c =
-    numbered-more (node_line c.args.draft.now) c.args.text.now.items c.loop-op.text.items c.push_node.new.text.items c.loop-op.op c.loop-op.invariant c.in_ok-push_node.ensures.ok

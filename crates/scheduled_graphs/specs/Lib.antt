@@ -1,0 +1,5 @@
+pub mod Arrows
+pub mod Drawn
+pub mod Graphs
+pub mod Heads
+pub mod Nodes

@@ -1,0 +1,22 @@
+-- What workers draw of loops with their schedules.
+use Rattle.std.specs.Prelude.{◌≡◌, ℕ, List}
+use Rattle.machine.specs.Machines.{MachineData}
+use Rattle.loops.specs.Loops.{LoopData}
+use Rattle.ims.specs.Problems.{ProblemData}
+use Rattle.candidates.specs.Listings.{is_met}
+use Rattle.one_thread.specs.Files.{ArePrepared}
+use Rattle.printouts.specs.Outcomes.{Written}
+use Rattle.scheduled_printouts.specs.Graphs.{AreScheduledGraphs, DrawnData, IsDrawn}
+use Rattle.side_by_side.specs.declared.parts.part.Part.{Part}
+
+-- the graph of a problem, with whether its choice is a kernel
+pub record IsDrawnPart (problem : ProblemData) (part : Part) : Type 0 where
+  pub drawn : DrawnData
+  pub is_drawn : IsDrawn problem drawn
+  pub met : part.met ≡ is_met drawn.choice
+  pub is_text : part.text.items ≡ drawn.text
+
+-- the graphs of loops which are prepared as these problems
+abbrev pub DrawsPrepared : List ProblemData → Written → Type 0
+DrawsPrepared problems written = (ratio ceiling : ℕ) (machine : MachineData) (loops : List LoopData) → ArePrepared machine ratio ceiling loops problems
+    → AreScheduledGraphs ratio ceiling machine loops written

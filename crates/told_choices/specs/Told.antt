@@ -1,0 +1,32 @@
+-- What is told of a loop: what is chosen for it, with the evidence, and why the intervals before give no kernel.
+use Rattle.std.specs.Prelude.{ℕ, ◌+◌, ◌-◌}
+use Rattle.std.specs.List.{AllZip, range_with_len}
+use Rattle.ims.specs.Problems.{ProblemData, mii_of}
+use Rattle.candidates.specs.declared.choices.Choice.{Choice}
+use Rattle.candidates.specs.declared.choices.Choice.TheVariants as choice
+use Rattle.candidates.specs.Choices.{IsChoice, IsUnmet}
+use Rattle.candidates.specs.Reasons.{FailsFor, IsMet}
+use Rattle.told_choices.specs.declared.chosen.Chosen.{Chosen}
+use Rattle.told_choices.specs.declared.chosen.Chosen.TheVariants.{Met, Failed}
+use Rattle.told_choices.specs.declared.told.Told.{Told}
+
+-- what is chosen, without the evidence
+abbrev pub choice_of : Chosen → Choice
+choice_of (Met ii met) = choice.Met ii met.kernel
+choice_of (Failed cause) = choice.Failed cause
+
+-- the schedule and the registers are those that the interval gives, where there is one
+abbrev pub HasEvidence : ProblemData → Chosen → Type 0
+HasEvidence problem (Met ii met) = IsMet problem ii met
+HasEvidence problem (Failed cause) = IsUnmet problem cause
+
+-- how many intervals are tried that give no kernel: all before the chosen one, or all
+abbrev pub failures_of : ProblemData → Choice → ℕ
+failures_of problem (choice.Met ii kernel) = ii - mii_of problem
+failures_of problem (choice.Failed cause) = problem.ceiling + 1
+
+-- the choice of a loop with its evidence, and a reason for each interval, from the least one on, that was tried and gives no kernel
+pub record IsTold (problem : ProblemData) (told : Told) : Type 0 where
+  pub is_choice : IsChoice problem (choice_of told.chosen)
+  pub has_evidence : HasEvidence problem told.chosen
+  pub are_reasons : AllZip (FailsFor problem) (range_with_len (mii_of problem) (failures_of problem (choice_of told.chosen))) told.reasons.items

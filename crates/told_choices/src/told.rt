@@ -1,0 +1,52 @@
+//! The least interval of a loop that gives a kernel, and why those before it give none.
+
+ghost use Rattle.std.specs.Prelude.{IfOk};
+ghost use Rattle.told_choices.specs.Told.{IsTold};
+
+use crate::chosen::Chosen;
+use candidates::{Cause, Reason, Trials, Tried};
+use ims::Prepared;
+use machine_data::OutOfMemory;
+use std::alloc::Global;
+
+/// What is chosen for a loop, and why each interval that was tried and gives no kernel gives none.
+#[derive(Drop)]
+pub struct Told<'a> {
+    /// Why each interval that was tried and gives no kernel gives none: from the least one on, one after another.
+    pub reasons: Vec<Reason>,
+    /// What is chosen, with the evidence of it.
+    pub chosen: Chosen<'a>,
+}
+
+/// The choice of a loop, as [`first_success`](candidates::first_success) makes it, by one attempt at each interval: with the
+/// schedule and the registers of its kernel, and why each interval that was tried gives none.
+///
+/// # Errors
+/// Memory ran out.
+pub fn choose_told<'a>(alloc: Global, prepared: &'a Prepared) -> Result<Told<'a>, OutOfMemory>
+    ensures told { IfOk result (IsTold prepared.now) }
+{
+    let mut trials = Trials::of(prepared);
+    let mut reasons = Vec::new(alloc);
+    let mut last = Cause::Table;
+    for above in 0..prepared.ceiling() + 1 {
+        let ii = prepared.mii() + above;
+        match trials.try_told(alloc, ii) {
+            Err(fault) => return Err(fault),
+            Ok(Tried::Met(met)) => {
+                return Ok(Told {
+                    reasons,
+                    chosen: Chosen::Met(ii, met),
+                });
+            }
+            Ok(Tried::Failed(reason)) => {
+                last = reason.cause();
+                reasons.push(reason)?;
+            }
+        }
+    }
+    Ok(Told {
+        reasons,
+        chosen: Chosen::Failed(last),
+    })
+}
