@@ -42,7 +42,7 @@ pub record IsWritten (xs before after : List ℕ) : Type 0 where
   pub same_length : length after ≡ length before
   pub room : length xs ≤ length before
   pub each : (k : ℕ) → k < length xs → slice_index after k ≡ slice_index xs k
-  pub behind : (k : ℕ) → length xs ≤ k → k < length before → slice_index after k ≡ slice_index before k
+  pub rest : (k : ℕ) → length xs ≤ k → k < length before → slice_index after k ≡ slice_index before k
 
 -- the problem that is given
 pub record IsGiven (given : GivenProblem) (ratio ceiling : ℕ) (problem : ProblemData) : Type 0 where

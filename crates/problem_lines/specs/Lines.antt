@@ -9,7 +9,7 @@ use Rattle.problem_lines.specs.Fits.{fault_on, misfit, surplus}
 use Rattle.problem_lines.specs.Forms.{Form, MachineLine, UnitsLine, FileLine, KindLine, ProblemLine, OpLine, ValueLine, ReadLine, EdgeLine, EndLine, HoldForm, hold_of}
 use Rattle.problem_lines.specs.Keywords.{keyword_named}
 use Rattle.problem_lines.specs.Numbers.{integer_of, number_of}
-use Rattle.problem_lines.specs.Words.{Placed, LeftWords, behind, word_at}
+use Rattle.problem_lines.specs.Words.{Placed, LeftWords, column_after, word_at}
 use Rattle.problem_lines.specs.declared.fault.Expected.{Expected}
 use Rattle.problem_lines.specs.declared.fault.Expected.TheVariants.{Keyword, Name, UnitName, Number, Integer, Hold, Latency, Storage, Bar, Of, Lands, In, Distance, Offset, Delay}
 use Rattle.problem_lines.specs.declared.fault.LineFault.{LineFault}
@@ -65,31 +65,31 @@ places words.Edge ws = Name ∷ Name ∷ Delay ∷ Integer ∷ Distance ∷ Numb
 places words.End ws = []
 
 -- the words after one word `out`, if it is the first
-abbrev pub behind_out : List Placed → List Placed
-behind_out [] = []
-behind_out (w ∷ ws) = if is_word w (codes "out") then ws else w ∷ ws
+abbrev pub after_out : List Placed → List Placed
+after_out [] = []
+after_out (w ∷ ws) = if is_word w (codes "out") then ws else w ∷ ws
 
 -- the fault of what stands after the places: only of a value's may follow a word, `out`
 abbrev pub end_fault : first.Keyword → List Placed → Option LineFault
-end_fault words.Value ws = surplus (behind_out ws)
+end_fault words.Value ws = surplus (after_out ws)
 end_fault keyword ws = surplus ws
 
 -- faults
 
 -- the column after the first word, or this one where there is none
-abbrev pub behind_first : ℕ → List Placed → ℕ
-behind_first column [] = column
-behind_first column (w ∷ ws) = behind w
+abbrev pub column_after_first : ℕ → List Placed → ℕ
+column_after_first column [] = column
+column_after_first column (w ∷ ws) = column_after w
 
-abbrev pub behind_one : List Placed → List Placed
-behind_one [] = []
-behind_one (w ∷ ws) = ws
+abbrev pub after_one : List Placed → List Placed
+after_one [] = []
+after_one (w ∷ ws) = ws
 
 -- the first fault of words that stand after a column and have to fit these places, and after them this
 abbrev pub places_fault : (List Placed → Option LineFault) → ℕ → List Expected → List Placed → Option LineFault
 places_fault end column [] ws = end ws
 places_fault end column (what ∷ more) ws =
-    option_or (misfit column what ws) (places_fault end (behind_first column ws) more (behind_one ws))
+    option_or (misfit column what ws) (places_fault end (column_after_first column ws) more (after_one ws))
 
 -- what words say that fit their places
 
@@ -147,7 +147,7 @@ with_keyword w (Err fault) = Err fault
 
 abbrev pub word_line : Option first.Keyword → Placed → List Placed → Result (Option LineForm) LineFault
 word_line None w ws = Err (fault_on Keyword w)
-word_line (Some keyword) w ws = with_keyword w (keyword_line keyword (record { words = ws; after = behind w }))
+word_line (Some keyword) w ws = with_keyword w (keyword_line keyword (record { words = ws; after = column_after w }))
 
 -- a line, which says nothing where it has no words
 abbrev pub line_form : List Placed → Result (Option LineForm) LineFault

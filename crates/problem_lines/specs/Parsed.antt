@@ -21,9 +21,9 @@ form_seen (forms.Edge from to delay distance) = spec.EdgeLine (word_seen from) (
 form_seen forms.End = spec.EndLine
 
 -- a line after its keyword
-abbrev pub behind_seen : Result Form LineFault → Result spec.Form LineFault
-behind_seen (Ok form) = Ok (form_seen form)
-behind_seen (Err fault) = Err fault
+abbrev pub result_seen : Result Form LineFault → Result spec.Form LineFault
+result_seen (Ok form) = Ok (form_seen form)
+result_seen (Err fault) = Err fault
 
 abbrev pub line_seen : Line → LineForm
 line_seen line = record { column = line.column; width = line.width; form = form_seen line.form }

@@ -5,7 +5,7 @@ use Rattle.problem_lines.specs.Keywords.{solution_keyword_named}
 use Rattle.problem_lines.specs.Lines.{places_fault, unless_fault}
 use Rattle.problem_lines.specs.Numbers.{number_of}
 use Rattle.problem_lines.specs.SolutionForms.{SolutionForm, SolutionBegins, OpTime, ValueNumber, SolutionEnds}
-use Rattle.problem_lines.specs.Words.{Placed, LeftWords, behind, word_at}
+use Rattle.problem_lines.specs.Words.{Placed, LeftWords, column_after, word_at}
 use Rattle.problem_lines.specs.declared.fault.Expected.{Expected}
 use Rattle.problem_lines.specs.declared.fault.Expected.TheVariants.{Name, Number, SolutionKeyword, Ii, Time, By, NumberWord}
 use Rattle.problem_lines.specs.declared.fault.LineFault.{LineFault}
@@ -42,7 +42,7 @@ with_solution_keyword w (Err fault) = Err fault
 
 abbrev pub solution_word_line : Option first.SolutionKeyword → Placed → List Placed → Result (Option SolutionLineForm) LineFault
 solution_word_line None w ws = Err (fault_on SolutionKeyword w)
-solution_word_line (Some keyword) w ws = with_solution_keyword w (solution_rest keyword (record { words = ws; after = behind w }))
+solution_word_line (Some keyword) w ws = with_solution_keyword w (solution_rest keyword (record { words = ws; after = column_after w }))
 
 -- a line, which says nothing where it has no words
 abbrev pub solution_line_form : List Placed → Result (Option SolutionLineForm) LineFault

@@ -32,8 +32,8 @@ abbrev pub placed_words : List ℕ → List Placed
 placed_words line = words_from 1 line
 
 -- the column after a word's last byte
-abbrev pub behind : Placed → ℕ
-behind w = w.column + length w.bytes
+abbrev pub column_after : Placed → ℕ
+column_after w = w.column + length w.bytes
 
 -- what is left of a line after some words, and the column after the last of them
 pub record LeftWords : Type 0 where

@@ -2,7 +2,7 @@
 
 ghost use Rattle.std.specs.Prelude.{◌≡◌};
 ghost use Rattle.problem_lines.specs.Lines.{keyword_line, line_form};
-ghost use Rattle.problem_lines.specs.Parsed.{behind_seen, seen};
+ghost use Rattle.problem_lines.specs.Parsed.{result_seen, seen};
 ghost use Rattle.problem_lines.specs.Words.{placed_words};
 ghost use Rattle.problem_lines.specs.declared.keyword.Keyword.TheVariants as keywords;
 
@@ -69,7 +69,7 @@ pub fn line_of(line: &[u8]) -> Result<Option<Line<'_>>, LineFault>
             what: Expected::Keyword,
         });
     };
-    let form = form_behind(keyword, &mut left)?;
+    let form = form_after(keyword, &mut left)?;
     Ok(Some(Line {
         column: word.column,
         width: word.bytes.len(),
@@ -78,8 +78,8 @@ pub fn line_of(line: &[u8]) -> Result<Option<Line<'_>>, LineFault>
 }
 
 /// What a line says after its keyword.
-fn form_behind<'a>(keyword: Keyword, left: &mut Left<'a>) -> Result<Form<'a>, LineFault>
-    ensures { behind_seen result ≡ keyword_line keyword left.old }
+fn form_after<'a>(keyword: Keyword, left: &mut Left<'a>) -> Result<Form<'a>, LineFault>
+    ensures { result_seen result ≡ keyword_line keyword left.old }
 {
     match keyword {
         Keyword::Machine => machine_line(left),
@@ -97,7 +97,7 @@ fn form_behind<'a>(keyword: Keyword, left: &mut Left<'a>) -> Result<Form<'a>, Li
 
 /// `machine NAME`
 fn machine_line<'a>(left: &mut Left<'a>) -> Result<Form<'a>, LineFault>
-    ensures { behind_seen result ≡ keyword_line keywords.Machine left.old }
+    ensures { result_seen result ≡ keyword_line keywords.Machine left.old }
 {
     let name = left.name()?;
     left.finish()?;
@@ -106,7 +106,7 @@ fn machine_line<'a>(left: &mut Left<'a>) -> Result<Form<'a>, LineFault>
 
 /// `units NAME NAME ..`
 fn units_line<'a>(left: &mut Left<'a>) -> Result<Form<'a>, LineFault>
-    ensures { behind_seen result ≡ keyword_line keywords.Units left.old }
+    ensures { result_seen result ≡ keyword_line keywords.Units left.old }
 {
     let names = left.copied();
     take_units(left)?;
@@ -115,7 +115,7 @@ fn units_line<'a>(left: &mut Left<'a>) -> Result<Form<'a>, LineFault>
 
 /// `file NAME rotating NUM`, or `file NAME unallotted`
 fn file_line<'a>(left: &mut Left<'a>) -> Result<Form<'a>, LineFault>
-    ensures { behind_seen result ≡ keyword_line keywords.File left.old }
+    ensures { result_seen result ≡ keyword_line keywords.File left.old }
 {
     let name = left.name()?;
     let storage = left.take(Expected::Storage)?;
@@ -130,7 +130,7 @@ fn file_line<'a>(left: &mut Left<'a>) -> Result<Form<'a>, LineFault>
 
 /// `kind NAME latency NUM | HOLD HOLD .. | ..`
 fn kind_line<'a>(left: &mut Left<'a>) -> Result<Form<'a>, LineFault>
-    ensures { behind_seen result ≡ keyword_line keywords.Kind left.old }
+    ensures { result_seen result ≡ keyword_line keywords.Kind left.old }
 {
     let name = left.name()?;
     left.take(Expected::Latency)?;
@@ -143,7 +143,7 @@ fn kind_line<'a>(left: &mut Left<'a>) -> Result<Form<'a>, LineFault>
 
 /// `problem NAME`
 fn problem_line<'a>(left: &mut Left<'a>) -> Result<Form<'a>, LineFault>
-    ensures { behind_seen result ≡ keyword_line keywords.Problem left.old }
+    ensures { result_seen result ≡ keyword_line keywords.Problem left.old }
 {
     let name = left.name()?;
     left.finish()?;
@@ -152,7 +152,7 @@ fn problem_line<'a>(left: &mut Left<'a>) -> Result<Form<'a>, LineFault>
 
 /// `op NAME KIND`
 fn op_line<'a>(left: &mut Left<'a>) -> Result<Form<'a>, LineFault>
-    ensures { behind_seen result ≡ keyword_line keywords.Op left.old }
+    ensures { result_seen result ≡ keyword_line keywords.Op left.old }
 {
     let name = left.name()?;
     let kind = left.name()?;
@@ -162,7 +162,7 @@ fn op_line<'a>(left: &mut Left<'a>) -> Result<Form<'a>, LineFault>
 
 /// `value NAME of OP lands NUM in FILE`, after which `out` may follow
 fn value_line<'a>(left: &mut Left<'a>) -> Result<Form<'a>, LineFault>
-    ensures { behind_seen result ≡ keyword_line keywords.Value left.old }
+    ensures { result_seen result ≡ keyword_line keywords.Value left.old }
 {
     let name = left.name()?;
     left.take(Expected::Of)?;
@@ -178,7 +178,7 @@ fn value_line<'a>(left: &mut Left<'a>) -> Result<Form<'a>, LineFault>
 
 /// `read OP VALUE`, after which a distance may follow, and an offset after that
 fn read_line<'a>(left: &mut Left<'a>) -> Result<Form<'a>, LineFault>
-    ensures { behind_seen result ≡ keyword_line keywords.Read left.old }
+    ensures { result_seen result ≡ keyword_line keywords.Read left.old }
 {
     let reader = left.name()?;
     let value = left.name()?;
@@ -198,7 +198,7 @@ fn read_line<'a>(left: &mut Left<'a>) -> Result<Form<'a>, LineFault>
 
 /// `edge OP OP delay INT distance NUM`
 fn edge_line<'a>(left: &mut Left<'a>) -> Result<Form<'a>, LineFault>
-    ensures { behind_seen result ≡ keyword_line keywords.Edge left.old }
+    ensures { result_seen result ≡ keyword_line keywords.Edge left.old }
 {
     let from = left.name()?;
     let to = left.name()?;
@@ -212,7 +212,7 @@ fn edge_line<'a>(left: &mut Left<'a>) -> Result<Form<'a>, LineFault>
 
 /// `end`
 fn end_line<'a>(left: &mut Left<'a>) -> Result<Form<'a>, LineFault>
-    ensures { behind_seen result ≡ keyword_line keywords.End left.old }
+    ensures { result_seen result ≡ keyword_line keywords.End left.old }
 {
     left.finish()?;
     Ok(Form::End)

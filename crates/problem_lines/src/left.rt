@@ -4,8 +4,8 @@ ghost use Rattle.std.specs.Prelude.{◌≡◌, ◌==◌, [], ◌∷◌, true, co
 ghost use Rattle.problem_lines.specs.Fits.{fits, misfit, surplus};
 ghost use Rattle.problem_lines.specs.Numbers.{integer_of, number_of};
 ghost use Rattle.problem_lines.specs.Seen.{word_seen};
-ghost use Rattle.problem_lines.specs.Lines.{behind_out, is_word};
-ghost use Rattle.problem_lines.specs.Words.{Placed, behind, left_of, word_at};
+ghost use Rattle.problem_lines.specs.Lines.{after_out, is_word};
+ghost use Rattle.problem_lines.specs.Words.{Placed, column_after, left_of, word_at};
 ghost use Rattle.problem_lines.specs.declared.fault.Expected.TheVariants as expected;
 ghost use Rattle.problem_lines.specs.inner.Cursors.{starts_bar};
 ghost use Rattle.problem_lines.specs.inner.Pieces.{fault_seen, placed};
@@ -103,7 +103,7 @@ impl<'a> Left<'a> {
     /// Takes the next word.
     pub(crate) fn next(&mut self) -> Option<Piece<'a>>
         ensures words { MatchOption result (self.old.words ≡ []) (λ p. self.old.words ≡ placed p ∷ self.new.words) }
-        ensures after { MatchOption result (self.new ≡ self.old) (λ p. self.new.after ≡ behind (placed p)) }
+        ensures after { MatchOption result (self.new ≡ self.old) (λ p. self.new.after ≡ column_after (placed p)) }
     {
         let (piece, rest) = first_word(self.rest, self.column)?;
         self.rest = rest;
@@ -127,7 +127,7 @@ impl<'a> Left<'a> {
         ensures fault { fault_seen result ≡ misfit self.old.after what self.old.words }
         ensures word { IfOk result (λ p. self.old.words ≡ placed p ∷ self.new.words) }
         ensures fits { IfOk result (λ p. fits what p.bytes.now ≡ true) }
-        ensures after { IfOk result (λ p. self.new.after ≡ behind (placed p)) }
+        ensures after { IfOk result (λ p. self.new.after ≡ column_after (placed p)) }
     {
         let column = self.column;
         match self.next() {
@@ -144,7 +144,7 @@ impl<'a> Left<'a> {
     pub(crate) fn name(&mut self) -> Result<Word<'a>, LineFault>
         ensures fault { fault_seen result ≡ misfit self.old.after expected.Name self.old.words }
         ensures word { IfOk result (λ w. self.old.words ≡ word_seen w ∷ self.new.words) }
-        ensures after { IfOk result (λ w. self.new.after ≡ behind (word_seen w)) }
+        ensures after { IfOk result (λ w. self.new.after ≡ column_after (word_seen w)) }
     {
         let column = self.column;
         match self.next() {
@@ -163,7 +163,7 @@ impl<'a> Left<'a> {
     /// Takes the next word, which has to be a number.
     pub(crate) fn number(&mut self) -> Result<Number, LineFault>
         ensures fault { fault_seen result ≡ misfit self.old.after expected.Number self.old.words }
-        ensures word { IfOk result (λ n. (w : Placed) × (self.old.words ≡ w ∷ self.new.words) × (n ≡ number_of w) × (self.new.after ≡ behind w)) }
+        ensures word { IfOk result (λ n. (w : Placed) × (self.old.words ≡ w ∷ self.new.words) × (n ≡ number_of w) × (self.new.after ≡ column_after w)) }
     {
         let column = self.column;
         let Some(piece) = self.next() else {
@@ -182,7 +182,7 @@ impl<'a> Left<'a> {
     /// Takes the next word, which has to be an integer.
     pub(crate) fn integer(&mut self) -> Result<Integer, LineFault>
         ensures fault { fault_seen result ≡ misfit self.old.after expected.Integer self.old.words }
-        ensures word { IfOk result (λ n. (w : Placed) × (self.old.words ≡ w ∷ self.new.words) × (n ≡ integer_of w) × (self.new.after ≡ behind w)) }
+        ensures word { IfOk result (λ n. (w : Placed) × (self.old.words ≡ w ∷ self.new.words) × (n ≡ integer_of w) × (self.new.after ≡ column_after w)) }
     {
         let piece = self.take(Expected::Integer)?;
         Ok(integer_in(piece.bytes, piece.column))
@@ -201,7 +201,7 @@ impl<'a> Left<'a> {
     /// Takes the next word if it is `out`. The result is whether it was.
     pub(crate) fn take_out(&mut self) -> bool
         ensures out { result ≡ is_word (word_at self.old.words 0) (codes "out") }
-        ensures words { self.new.words ≡ behind_out self.old.words }
+        ensures words { self.new.words ≡ after_out self.old.words }
     {
         match first_word(self.rest, self.column) {
             Some((piece, rest)) if is_text(piece.bytes, "out") => {

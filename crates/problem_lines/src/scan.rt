@@ -4,7 +4,7 @@ ghost use Rattle.std.specs.Prelude.{◌≡◌, ℕ, ◌+◌, ◌<◌, ◌≤◌,
 ghost use Rattle.std.specs.List.{list_all, position_or_len};
 ghost use Rattle.loop_lines.specs.Words.{is_blank, starts_blank, stops_word};
 ghost use Rattle.problem_lines.specs.Names.{is_printable};
-ghost use Rattle.problem_lines.specs.Words.{behind, words_from};
+ghost use Rattle.problem_lines.specs.Words.{column_after, words_from};
 ghost use Rattle.problem_lines.specs.inner.Pieces.{placed};
 
 use crate::eights::count_named;
@@ -109,8 +109,8 @@ fn count_word(text: &[u8]) -> Extent
 #[tactic(auto, using(crate::proofs::Cuts::words_none))]
 pub(crate) fn first_word(rest: &[u8], column: usize) -> Option<(Piece<'_>, &[u8])>
     requires { column + length rest.now < 2 ^ 64 }
-    ensures words { MatchOption result (words_from column rest.now ≡ []) (λ x. words_from column rest.now ≡ placed x.0 ∷ words_from (behind (placed x.0)) x.1.now) }
-    ensures room { IfSome result (λ x. behind (placed x.0) + length x.1.now < 2 ^ 64) }
+    ensures words { MatchOption result (words_from column rest.now ≡ []) (λ x. words_from column rest.now ≡ placed x.0 ∷ words_from (column_after (placed x.0)) x.1.now) }
+    ensures room { IfSome result (λ x. column_after (placed x.0) + length x.1.now < 2 ^ 64) }
 {
     let (text, start) = without_blanks(rest, column);
     let word = count_word(text);

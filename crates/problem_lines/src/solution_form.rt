@@ -54,7 +54,7 @@ pub fn solution_line_of(line: &[u8]) -> Result<Option<SolutionLine<'_>>, LineFau
             what: Expected::SolutionKeyword,
         });
     };
-    let form = rest_behind(keyword, &mut left)?;
+    let form = rest_after(keyword, &mut left)?;
     Ok(Some(SolutionLine {
         column: word.column,
         width: word.bytes.len(),
@@ -63,7 +63,7 @@ pub fn solution_line_of(line: &[u8]) -> Result<Option<SolutionLine<'_>>, LineFau
 }
 
 /// What a line says after its keyword.
-fn rest_behind<'a>(
+fn rest_after<'a>(
     keyword: SolutionKeyword,
     left: &mut Left<'a>,
 ) -> Result<SolutionForm<'a>, LineFault>

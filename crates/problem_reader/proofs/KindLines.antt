@@ -11,7 +11,7 @@ use Rattle.problem_lines.specs.Forms.{Form, KindLine, HoldForm, hold_of}
 use Rattle.problem_lines.specs.Keywords.{keyword_named}
 use Rattle.problem_lines.specs.Lines.{LineForm, alternatives_in, end_fault, hold_places, holds_in, is_bar, kind_places, line_form, places, places_fault, says, unless_fault, with_keyword, word_line}
 use Rattle.problem_lines.specs.Names.{is_hold}
-use Rattle.problem_lines.specs.Words.{Placed, behind}
+use Rattle.problem_lines.specs.Words.{Placed, column_after}
 use Rattle.problem_lines.specs.declared.fault.Expected.{Expected}
 use Rattle.problem_lines.specs.declared.fault.Expected.TheVariants.{Name, Number, Hold, Latency, Bar}
 use Rattle.problem_lines.specs.declared.fault.LineFault.{LineFault}
@@ -39,8 +39,8 @@ fit-if false fault o h = absurd (let no : ⊥ = cc in no)
 
 -- a word that fits its place
 fit : (end : List Placed → Option LineFault) (column : ℕ) (what : Expected) (more : List Expected) (w : Placed) (ws : List Placed) → places_fault end column (what ∷ more) (w ∷ ws) ≡ None
-    → (fits what w.bytes ≡ true) × (places_fault end (behind w) more ws ≡ None)
-fit end column what more w ws h = fit-if (fits what w.bytes) (fault_on what w) (places_fault end (behind w) more ws) h
+    → (fits what w.bytes ≡ true) × (places_fault end (column_after w) more ws ≡ None)
+fit end column what more w ws h = fit-if (fits what w.bytes) (fault_on what w) (places_fault end (column_after w) more ws) h
 
 -- no word
 unfit : (end : List Placed → Option LineFault) (column : ℕ) (what : Expected) (more : List Expected) → places_fault end column (what ∷ more) [] ≡ None → ⊥
@@ -63,8 +63,8 @@ held-first true w ws never h = absurd (never refl)
 held-first false w ws never h = (omega arith, h)
 
 held-next : (end : List Placed → Option LineFault) (b : Bool) (column : ℕ) (w : Placed) (ws : List Placed)
-    → (places_fault end (behind w) (hold_places true ws) ws ≡ None → AreHeld true ws)
-    → (places_fault end (behind w) (hold_places false ws) ws ≡ None → AreHeld false ws)
+    → (places_fault end (column_after w) (hold_places true ws) ws ≡ None → AreHeld true ws)
+    → (places_fault end (column_after w) (hold_places false ws) ws ≡ None → AreHeld false ws)
     → places_fault end column (if b then Bar ∷ hold_places true ws else Hold ∷ hold_places false ws) (w ∷ ws) ≡ None
     → All HasHold (if b then holds_in ws ∷ alternatives_in ws else alternatives_in ws)
 held-next end true column w ws after within h =
@@ -77,8 +77,8 @@ held-from end true column [] h = absurd (unfit end column Hold [] h)
 held-from end false column [] h = All-nil HasHold
 held-from end true column (w ∷ ws) h =
     let is = fit end column Hold (hold_places false ws) w ws h in
-    held-first (is_bar w) w ws (no-bar w.bytes is.0) (held-from end false (behind w) ws is.1)
-held-from end false column (w ∷ ws) h = held-next end (is_bar w) column w ws (held-from end true (behind w) ws) (held-from end false (behind w) ws) h
+    held-first (is_bar w) w ws (no-bar w.bytes is.0) (held-from end false (column_after w) ws is.1)
+held-from end false column (w ∷ ws) h = held-next end (is_bar w) column w ws (held-from end true (column_after w) ws) (held-from end false (column_after w) ws) h
 
 bar-held : (b : Bool) (ws : List Placed) → b ≡ true → AreHeld true ws
     → (1 ≤ length (if b then holds_in ws ∷ alternatives_in ws else alternatives_in ws)) × All HasHold (if b then holds_in ws ∷ alternatives_in ws else alternatives_in ws)
@@ -90,22 +90,22 @@ kind-held : (end : List Placed → Option LineFault) (column : ℕ) (ws : List P
 kind-held end column [] h = absurd (unfit end column Name (Latency ∷ Number ∷ Bar ∷ hold_places true []) h)
 kind-held end column (a ∷ []) h =
     let one = fit end column Name (Latency ∷ Number ∷ Bar ∷ hold_places true []) a [] h in
-    absurd (unfit end (behind a) Latency (Number ∷ Bar ∷ hold_places true []) one.1)
+    absurd (unfit end (column_after a) Latency (Number ∷ Bar ∷ hold_places true []) one.1)
 kind-held end column (a ∷ b ∷ []) h =
     let one = fit end column Name (Latency ∷ Number ∷ Bar ∷ hold_places true []) a (b ∷ []) h in
-    let two = fit end (behind a) Latency (Number ∷ Bar ∷ hold_places true []) b [] one.1 in
-    absurd (unfit end (behind b) Number (Bar ∷ hold_places true []) two.1)
+    let two = fit end (column_after a) Latency (Number ∷ Bar ∷ hold_places true []) b [] one.1 in
+    absurd (unfit end (column_after b) Number (Bar ∷ hold_places true []) two.1)
 kind-held end column (a ∷ b ∷ c ∷ []) h =
     let one = fit end column Name (Latency ∷ Number ∷ Bar ∷ hold_places true []) a (b ∷ c ∷ []) h in
-    let two = fit end (behind a) Latency (Number ∷ Bar ∷ hold_places true []) b (c ∷ []) one.1 in
-    let three = fit end (behind b) Number (Bar ∷ hold_places true []) c [] two.1 in
-    absurd (unfit end (behind c) Bar (hold_places true []) three.1)
+    let two = fit end (column_after a) Latency (Number ∷ Bar ∷ hold_places true []) b (c ∷ []) one.1 in
+    let three = fit end (column_after b) Number (Bar ∷ hold_places true []) c [] two.1 in
+    absurd (unfit end (column_after c) Bar (hold_places true []) three.1)
 kind-held end column (a ∷ b ∷ c ∷ d ∷ ws) h =
     let one = fit end column Name (Latency ∷ Number ∷ Bar ∷ hold_places true ws) a (b ∷ c ∷ d ∷ ws) h in
-    let two = fit end (behind a) Latency (Number ∷ Bar ∷ hold_places true ws) b (c ∷ d ∷ ws) one.1 in
-    let three = fit end (behind b) Number (Bar ∷ hold_places true ws) c (d ∷ ws) two.1 in
-    let four = fit end (behind c) Bar (hold_places true ws) d ws three.1 in
-    bar-held (is_bar d) ws four.0 (held-from end true (behind d) ws four.1)
+    let two = fit end (column_after a) Latency (Number ∷ Bar ∷ hold_places true ws) b (c ∷ d ∷ ws) one.1 in
+    let three = fit end (column_after b) Number (Bar ∷ hold_places true ws) c (d ∷ ws) two.1 in
+    let four = fit end (column_after c) Bar (hold_places true ws) d ws three.1 in
+    bar-held (is_bar d) ws four.0 (held-from end true (column_after d) ws four.1)
 
 -- lines
 
@@ -120,7 +120,7 @@ held-unless keyword w ws (Some fault) h = tt
 
 held-word : (keyword : Option first.Keyword) (w : Placed) (ws : List Placed) → LineHasHolds (word_line keyword w ws)
 held-word None w ws = tt
-held-word (Some keyword) w ws = held-unless keyword w ws (places_fault (end_fault keyword) (behind w) (places keyword ws) ws) (says-held keyword (behind w) ws)
+held-word (Some keyword) w ws = held-unless keyword w ws (places_fault (end_fault keyword) (column_after w) (places keyword ws) ws) (says-held keyword (column_after w) ws)
 
 pub line-held : (ws : List Placed) → LineHasHolds (line_form ws)
 line-held [] = tt

@@ -11,7 +11,7 @@ use Rattle.ims.specs.Schedules.{ScheduleData}
 use Rattle.schedule_lines.specs.declared.grids.columns.Column.{Column}
 use Rattle.schedule_lines.specs.declared.grids.grid.Grid.{Grid}
 use Rattle.schedule_lines.specs.declared.slots.Slots.{Slots}
-use Rattle.schedule_lines.specs.Columns.{cell_behind, full_mark, head_line, live_width, padded, row_line, row_width, unit_name, unit_width, used_units}
+use Rattle.schedule_lines.specs.Columns.{cell_after, full_mark, head_line, live_width, padded, row_line, row_width, unit_name, unit_width, used_units}
 use Rattle.schedule_lines.specs.Slots.{is_used, live_count, slot_text}
 use Rattle.schedule_lines.specs.inner.Grids.{HasCells, IsGrid, cells_in, column_of, columns_in, head_in, names_in, row_in}
 use Rattle.schedule_lines.specs.inner.Tables.{AreSlots, text_at}
@@ -32,29 +32,29 @@ columns-below machine schedule =
     All-map (λ (column : Column). column.unit < length machine.units) (column_of machine schedule) (used_units machine schedule) (units-below machine schedule)
 
 pub names-same : (machine : MachineData) (schedule : ScheduleData) (units : List ℕ)
-    → names_in machine (map (column_of machine schedule) units) ≡ flat_map (λ unit. cell_behind (unit_width machine schedule unit) (unit_name machine unit)) units
+    → names_in machine (map (column_of machine schedule) units) ≡ flat_map (λ unit. cell_after (unit_width machine schedule unit) (unit_name machine unit)) units
 names-same machine schedule [] = refl
-names-same machine schedule (unit ∷ units) = ap (λ t. cell_behind (unit_width machine schedule unit) (unit_name machine unit) ++ t) (names-same machine schedule units)
+names-same machine schedule (unit ∷ units) = ap (λ t. cell_after (unit_width machine schedule unit) (unit_name machine unit) ++ t) (names-same machine schedule units)
 
 pub cells-same : (machine : MachineData) (schedule : ScheduleData) (slots : Slots) (row : ℕ) → AreSlots schedule slots → row < schedule.ii → (units : List ℕ)
     → All (λ unit. unit < 64) units
-    → cells_in slots (map (column_of machine schedule) units) row ≡ flat_map (λ unit. cell_behind (unit_width machine schedule unit) (slot_text schedule unit row)) units
+    → cells_in slots (map (column_of machine schedule) units) row ≡ flat_map (λ unit. cell_after (unit_width machine schedule unit) (slot_text schedule unit row)) units
 cells-same machine schedule slots row are lt [] all = refl
 cells-same machine schedule slots row are lt (unit ∷ units) all =
-    let rest : List ℕ = flat_map (λ unit. cell_behind (unit_width machine schedule unit) (slot_text schedule unit row)) units in
-    ap (λ t. cell_behind (unit_width machine schedule unit) (text_at slots.takers.items slots.texts.items unit row) ++ t)
+    let rest : List ℕ = flat_map (λ unit. cell_after (unit_width machine schedule unit) (slot_text schedule unit row)) units in
+    ap (λ t. cell_after (unit_width machine schedule unit) (text_at slots.takers.items slots.texts.items unit row) ++ t)
     (cells-same machine schedule slots row are lt units (λ k d h. all (suc k) d (omega arith)))
-    ∙ ap (λ t. cell_behind (unit_width machine schedule unit) t ++ rest) (text-is schedule slots are unit row (all 0 0 (omega arith)) lt)
+    ∙ ap (λ t. cell_after (unit_width machine schedule unit) t ++ rest) (text-is schedule slots are unit row (all 0 0 (omega arith)) lt)
 
 pub head-is : (machine : MachineData) (schedule : ScheduleData) (grid : Grid) → IsGrid machine schedule grid → head_in machine grid ≡ head_line machine schedule
 unfolding head_line
 head-is machine schedule grid is =
-    let names : names_in machine grid.columns.items ≡ flat_map (λ unit. cell_behind (unit_width machine schedule unit) (unit_name machine unit)) (used_units machine schedule)
+    let names : names_in machine grid.columns.items ≡ flat_map (λ unit. cell_after (unit_width machine schedule unit) (unit_name machine unit)) (used_units machine schedule)
     = ap (names_in machine) is.columns ∙ names-same machine schedule (used_units machine schedule) in
-    ap (λ w. padded w (codes "row") ++ (names_in machine grid.columns.items ++ (cell_behind grid.live_width (codes "live") ++ codes "\n"))) is.row_width
-    ∙ ap (λ t. padded (row_width schedule) (codes "row") ++ (t ++ (cell_behind grid.live_width (codes "live") ++ codes "\n"))) names
+    ap (λ w. padded w (codes "row") ++ (names_in machine grid.columns.items ++ (cell_after grid.live_width (codes "live") ++ codes "\n"))) is.row_width
+    ∙ ap (λ t. padded (row_width schedule) (codes "row") ++ (t ++ (cell_after grid.live_width (codes "live") ++ codes "\n"))) names
     ∙ ap (λ w. padded (row_width schedule) (codes "row")
-    ++ (flat_map (λ unit. cell_behind (unit_width machine schedule unit) (unit_name machine unit)) (used_units machine schedule) ++ (cell_behind w (codes "live") ++ codes "\n"))) is.live_width
+    ++ (flat_map (λ unit. cell_after (unit_width machine schedule unit) (unit_name machine unit)) (used_units machine schedule) ++ (cell_after w (codes "live") ++ codes "\n"))) is.live_width
 
 pub row-is : (machine : MachineData) (schedule : ScheduleData) (grid : Grid) → IsGrid machine schedule grid → length machine.units ≤ 64 → (row : ℕ) → row < schedule.ii
     → row_in grid row ≡ row_line machine schedule row
@@ -62,14 +62,14 @@ unfolding row_line
 row-is machine schedule grid is few row lt =
     let units : List ℕ = used_units machine schedule in
     let below : All (λ unit. unit < 64) units = λ k d h. let b = units-below machine schedule k d h in omega arith in
-    let cells : cells_in grid.slots grid.columns.items row ≡ flat_map (λ unit. cell_behind (unit_width machine schedule unit) (slot_text schedule unit row)) units
+    let cells : cells_in grid.slots grid.columns.items row ≡ flat_map (λ unit. cell_after (unit_width machine schedule unit) (slot_text schedule unit row)) units
     = ap (λ (columns : List Column). cells_in grid.slots columns row) is.columns ∙ cells-same machine schedule grid.slots row is.slots lt units below in
     let count : get_or grid.counts.items row 0 ≡ live_count schedule row
     = ap (λ counts. get_or counts row 0) is.counts ∙ get_or-map-range_with_len (live_count schedule) 0 schedule.ii row row 0 lt (omega arith) in
-    let end : ℕ → ℕ → ℕ → List ℕ = λ width n greatest. cell_behind width (decimal n) ++ (full_mark n greatest ++ codes "\n") in
+    let end : ℕ → ℕ → ℕ → List ℕ = λ width n greatest. cell_after width (decimal n) ++ (full_mark n greatest ++ codes "\n") in
     ap (λ w. padded w (decimal row) ++ (cells_in grid.slots grid.columns.items row ++ end grid.live_width (get_or grid.counts.items row 0) grid.greatest)) is.row_width
     ∙ ap (λ t. padded (row_width schedule) (decimal row) ++ (t ++ end grid.live_width (get_or grid.counts.items row 0) grid.greatest)) cells
-    ∙ ap (λ t. padded (row_width schedule) (decimal row) ++ (flat_map (λ unit. cell_behind (unit_width machine schedule unit) (slot_text schedule unit row)) units ++ t))
+    ∙ ap (λ t. padded (row_width schedule) (decimal row) ++ (flat_map (λ unit. cell_after (unit_width machine schedule unit) (slot_text schedule unit row)) units ++ t))
     (ap (λ w. end w (get_or grid.counts.items row 0) grid.greatest) is.live_width ∙ ap (λ n. end (live_width schedule) n grid.greatest) count ∙ ap (end (live_width schedule) (live_count schedule row)) is.greatest)
 
 pub has-cells : (machine : MachineData) (schedule : ScheduleData) (grid : Grid) → IsGrid machine schedule grid → length machine.units ≤ 64 → (row : ℕ) → row < schedule.ii

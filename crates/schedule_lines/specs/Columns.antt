@@ -14,8 +14,8 @@ width_of cells = greatest_of (map length cells)
 abbrev pub padded : ℕ → List ℕ → List ℕ
 padded width cell = replicate (width - length cell) 32 ++ cell
 
-abbrev pub cell_behind : ℕ → List ℕ → List ℕ
-cell_behind width cell = codes " " ++ padded width cell
+abbrev pub cell_after : ℕ → List ℕ → List ℕ
+cell_after width cell = codes " " ++ padded width cell
 
 -- the units that some operation takes, in the machine's order
 unfoldable pub used_units : MachineData → ScheduleData → List ℕ
@@ -44,12 +44,12 @@ full_mark count greatest = if nat_lt 0 count && (count == greatest) then codes "
 unfoldable pub head_line : MachineData → ScheduleData → List ℕ
 head_line machine schedule =
     padded (row_width schedule) (codes "row")
-    ++ (flat_map (λ unit. cell_behind (unit_width machine schedule unit) (unit_name machine unit)) (used_units machine schedule)
-    ++ (cell_behind (live_width schedule) (codes "live") ++ codes "\n"))
+    ++ (flat_map (λ unit. cell_after (unit_width machine schedule unit) (unit_name machine unit)) (used_units machine schedule)
+    ++ (cell_after (live_width schedule) (codes "live") ++ codes "\n"))
 
 -- the line of a row
 unfoldable pub row_line : MachineData → ScheduleData → ℕ → List ℕ
 row_line machine schedule row =
     padded (row_width schedule) (decimal row)
-    ++ (flat_map (λ unit. cell_behind (unit_width machine schedule unit) (slot_text schedule unit row)) (used_units machine schedule)
-    ++ (cell_behind (live_width schedule) (decimal (live_count schedule row)) ++ (full_mark (live_count schedule row) (greatest_live schedule) ++ codes "\n")))
+    ++ (flat_map (λ unit. cell_after (unit_width machine schedule unit) (slot_text schedule unit row)) (used_units machine schedule)
+    ++ (cell_after (live_width schedule) (decimal (live_count schedule row)) ++ (full_mark (live_count schedule row) (greatest_live schedule) ++ codes "\n")))

@@ -1,14 +1,14 @@
 -- Lists of what each of some things is told, from the first on.
 use Rattle.std.proofs.Common.{◌≡◌, ℕ, suc, ◌+◌, ◌<◌, ◌≤◌, List, [], ◌∷◌, ◌++◌, length, get_or, drop, Option, Some, None, Result, Ok, Err, refl, sym, ◌∙◌, ap, append_assoc, drop-cons, add-one}
 use Rattle.std.proofs.lemmas.List.{drop_all}
-use Rattle.solution_reader.specs.Resolved.{each_told, behind_told}
+use Rattle.solution_reader.specs.Resolved.{each_told, with_told}
 
 -- what was found goes in front
 abbrev pub ahead : {A : Type 0} → List A → Result (List A) ℕ → Result (List A) ℕ
 ahead found (Ok more) = Ok (found ++ more)
 ahead found (Err number) = Err number
 
-ahead-more : {A : Type 0} (found : List A) (told : A) (rest : Result (List A) ℕ) → ahead found (behind_told told rest) ≡ ahead (found ++ told ∷ []) rest
+ahead-more : {A : Type 0} (found : List A) (told : A) (rest : Result (List A) ℕ) → ahead found (with_told told rest) ≡ ahead (found ++ told ∷ []) rest
 ahead-more found told (Ok more) = ap Ok (sym (append_assoc found (told ∷ []) more))
 ahead-more found told (Err number) = refl
 

@@ -8,7 +8,7 @@ use Rattle.problem_lines.specs.SolutionForms.{SolutionForm, SolutionBegins, OpTi
 use Rattle.problem_lines.specs.SolutionLines.{SolutionLineForm}
 use Rattle.solution_reader.specs.Data.{HeadData, OpData, ValueData, op_names, value_names, solution_names}
 use Rattle.solution_reader.specs.Faults.{first_of, unless, on_line, one_more, stands, meaning_fault, line_fault}
-use Rattle.solution_reader.specs.Sofar.{TextLine, begins, since, head_behind, head_from, head_in, op_told, value_told, ops_in, values_in, solution_with, ended_by, solutions_from, solutions_in}
+use Rattle.solution_reader.specs.Sofar.{TextLine, begins, since, head_after, head_from, head_in, op_told, value_told, ops_in, values_in, solution_with, ended_by, solutions_from, solutions_in}
 use Rattle.solution_reader.specs.declared.fault.Part.TheVariants as part
 use Rattle.solution_reader.specs.declared.fault.Told.{Told}
 use Rattle.solution_reader.specs.declared.fault.Wrong.{Wrong}
@@ -27,9 +27,9 @@ since-push : (lines : List TextLine) (line : TextLine) (sofar : List TextLine) �
 since-push [] line sofar = refl
 since-push (first ∷ lines) line sofar = since-at sofar first lines line (begins first.form) refl (since-push lines line)
 
-head-push : (lines : List TextLine) (line : TextLine) (head : Option HeadData) → head_from head (lines ++ line ∷ []) ≡ head_behind (head_from head lines) line.number line.form
+head-push : (lines : List TextLine) (line : TextLine) (head : Option HeadData) → head_from head (lines ++ line ∷ []) ≡ head_after (head_from head lines) line.number line.form
 head-push [] line head = refl
-head-push (first ∷ lines) line head = head-push lines line (head_behind head first.number first.form)
+head-push (first ∷ lines) line head = head-push lines line (head_after head first.number first.form)
 
 solutions-push : (lines : List TextLine) (line : TextLine) (before : List TextLine) → solutions_from before (lines ++ line ∷ []) ≡ solutions_from before lines ++ ended_by (before ++ lines) line.form
 solutions-push [] line before = append-nil (ended_by before line.form) ∙ ap (λ ls. ended_by ls line.form) (sym (append-nil before))
@@ -86,7 +86,7 @@ ended-kept : (before : List TextLine) (s : SofarData) (line : TextLine) → IsSo
 ended-kept before s line is none = is.ended ∙ sym (append-nil (solutions_in before)) ∙ ap (λ ss. solutions_in before ++ ss) (sym none) ∙ sym (solutions-more before line)
 
 begins-next : (before : List TextLine) (s : SofarData) (line : TextLine) (head : HeadData) → IsSofar before s → is_none s.begun.head ≡ true → begins line.form ≡ true → ended_by before line.form ≡ []
-    → head_behind (head_in before) line.number line.form ≡ Some head
+    → head_after (head_in before) line.number line.form ≡ Some head
     → IsSofar (before ++ line ∷ []) (record { begun = record { ended = s.begun.ended; head = Some head }; ops = s.ops; values = s.values })
 begins-next before s line head is outside first none behind =
     let no : is_some (head_in before) ≡ false = ap is_some (sym is.head) ∙ outside-is s.begun.head outside in
@@ -101,7 +101,7 @@ begins-next before s line head is outside first none behind =
     }
 
 tells-next : (before : List TextLine) (s : SofarData) (line : TextLine) (ops : List OpData) (values : List ValueData) → IsSofar before s → is_some s.begun.head ≡ true → begins line.form ≡ false → ended_by before line.form ≡ []
-    → head_behind (head_in before) line.number line.form ≡ head_in before
+    → head_after (head_in before) line.number line.form ≡ head_in before
     → ops ≡ s.ops ++ filter_map (λ (line : TextLine). op_told line.number line.form) (line ∷ [])
     → values ≡ s.values ++ filter_map (λ (line : TextLine). value_told line.number line.form) (line ∷ [])
     → IsSofar (before ++ line ∷ []) (record { begun = s.begun; ops = ops; values = values })

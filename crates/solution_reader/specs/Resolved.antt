@@ -32,15 +32,15 @@ value_named values name = find (λ (v : ValueData). same_word name v.name.bytes)
 -- the lists
 
 -- one more in front
-abbrev pub behind_told : {A : Type 0} → A → Result (List A) ℕ → Result (List A) ℕ
-behind_told told (Ok more) = Ok (told ∷ more)
-behind_told told (Err number) = Err number
+abbrev pub with_told : {A : Type 0} → A → Result (List A) ℕ → Result (List A) ℕ
+with_told told (Ok more) = Ok (told ∷ more)
+with_told told (Err number) = Err number
 
 -- what each of these is, or the number of the first, counted from this one on, that is nothing
 abbrev pub each_told : {A : Type 0} → ℕ → List (Option A) → Result (List A) ℕ
 each_told number [] = Ok []
 each_told number (None ∷ more) = Err number
-each_told number (Some told ∷ more) = behind_told told (each_told (number + 1) more)
+each_told number (Some told ∷ more) = with_told told (each_told (number + 1) more)
 
 -- the list that is found, or the number of the first that has nothing
 abbrev pub told_of : {A : Type 0} → Result (Vec A Global) ℕ → Result (List A) ℕ

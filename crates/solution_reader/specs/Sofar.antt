@@ -21,14 +21,14 @@ since sofar (line ∷ lines) = if begins line.form then since [] lines else sinc
 -- the solution under way
 
 -- how the solution under way begins after one more line, if there is one
-abbrev pub head_behind : Option HeadData → ℕ → SolutionForm → Option HeadData
-head_behind head number (SolutionBegins name ii) = Some (record { name = name; line = number; ii = ii.value })
-head_behind head number SolutionEnds = None
-head_behind head number form = head
+abbrev pub head_after : Option HeadData → ℕ → SolutionForm → Option HeadData
+head_after head number (SolutionBegins name ii) = Some (record { name = name; line = number; ii = ii.value })
+head_after head number SolutionEnds = None
+head_after head number form = head
 
 abbrev pub head_from : Option HeadData → List TextLine → Option HeadData
 head_from head [] = head
-head_from head (line ∷ lines) = head_from (head_behind head line.number line.form) lines
+head_from head (line ∷ lines) = head_from (head_after head line.number line.form) lines
 
 -- how the solution under way begins: it is that of the last line that begins or ends one, if that begins one
 abbrev pub head_in : List TextLine → Option HeadData

@@ -7,7 +7,7 @@ use Rattle.ims.specs.Schedules.{ScheduleData}
 use Rattle.schedule_lines.specs.declared.grids.columns.Column.{Column}
 use Rattle.schedule_lines.specs.declared.grids.grid.Grid.{Grid}
 use Rattle.schedule_lines.specs.declared.slots.Slots.{Slots}
-use Rattle.schedule_lines.specs.Columns.{cell_behind, full_mark, live_width, padded, row_width, unit_name, unit_width, used_units}
+use Rattle.schedule_lines.specs.Columns.{cell_after, full_mark, live_width, padded, row_width, unit_name, unit_width, used_units}
 use Rattle.schedule_lines.specs.Slots.{greatest_live, live_counts}
 use Rattle.schedule_lines.specs.inner.Tables.{AreSlots, text_at}
 
@@ -30,10 +30,10 @@ pub record IsGrid (machine : MachineData) (schedule : ScheduleData) (grid : Grid
 
 -- the cells of a line in the columns of units
 abbrev pub names_in : MachineData → List Column → List ℕ
-names_in machine columns = flat_map (λ (column : Column). cell_behind column.width (unit_name machine column.unit)) columns
+names_in machine columns = flat_map (λ (column : Column). cell_after column.width (unit_name machine column.unit)) columns
 
 abbrev pub cells_in : Slots → List Column → ℕ → List ℕ
-cells_in slots columns row = flat_map (λ (column : Column). cell_behind column.width (text_at slots.takers.items slots.texts.items column.unit row)) columns
+cells_in slots columns row = flat_map (λ (column : Column). cell_after column.width (text_at slots.takers.items slots.texts.items column.unit row)) columns
 
 -- the slots of a row are there for these columns
 pub record HasCells (slots : Slots) (columns : List Column) (row : ℕ) : Type 0 where
@@ -43,10 +43,10 @@ pub record HasCells (slots : Slots) (columns : List Column) (row : ℕ) : Type 0
 -- the lines by what the grid keeps
 abbrev pub head_in : MachineData → Grid → List ℕ
 head_in machine grid =
-    padded grid.row_width (codes "row") ++ (names_in machine grid.columns.items ++ (cell_behind grid.live_width (codes "live") ++ codes "\n"))
+    padded grid.row_width (codes "row") ++ (names_in machine grid.columns.items ++ (cell_after grid.live_width (codes "live") ++ codes "\n"))
 
 abbrev pub row_in : Grid → ℕ → List ℕ
 row_in grid row =
     let count = slice_index grid.counts.items row in
     padded grid.row_width (decimal row)
-    ++ (cells_in grid.slots grid.columns.items row ++ (cell_behind grid.live_width (decimal count) ++ (full_mark count grid.greatest ++ codes "\n")))
+    ++ (cells_in grid.slots grid.columns.items row ++ (cell_after grid.live_width (decimal count) ++ (full_mark count grid.greatest ++ codes "\n")))

@@ -1,7 +1,7 @@
 //! Cells of a grid.
 
 ghost use Rattle.std.specs.Prelude.{◌≡◌, ◌++◌, decimal, length, replicate, OnOk};
-ghost use Rattle.schedule_lines.specs.Columns.{cell_behind, padded};
+ghost use Rattle.schedule_lines.specs.Columns.{cell_after, padded};
 
 use itoa::Buffer;
 use machine_data::OutOfMemory;
@@ -47,7 +47,7 @@ pub(crate) fn push_padded_number(
 
 /// Appends a cell that is not the first of its line.
 pub(crate) fn push_cell(text: &mut Vec<u8>, width: usize, cell: &[u8]) -> Result<(), OutOfMemory>
-    ensures ok { OnOk result (text.new.items ≡ text.old.items ++ cell_behind width cell.now) }
+    ensures ok { OnOk result (text.new.items ≡ text.old.items ++ cell_after width cell.now) }
 {
     text.push_piece(" ")?;
     push_padded(text, width, cell)
