@@ -79,7 +79,7 @@ class Rounds:
         if bool(found) != (status != 0):
             raise Mismatch(f"bounds ends with {status}, and lint tells\n{lines}")
         faults = [self.parted(line) for line in found]
-        self.first(status, said.strip(), faults)
+        self.first(status, said.strip().removeprefix("modsched: "), faults)
         for path, line, column, rest in faults:
             self.placed(machine if path == self.machine else loops, path, line, column, rest)
         self.document(found)
@@ -99,7 +99,7 @@ class Rounds:
         of_loops = [it for it in faults if it[0] == self.loops]
         if (status == 4) != bool(of_machine):
             raise Mismatch(f"{said}: lint tells {len(of_machine)} faults of the machine")
-        table = re.fullmatch(r"loops: loop \w* ?no table for (\w+)|loops: loop (\w+): no table for (\w+)", said)
+        table = re.fullmatch(r"loops: loop \w+: no table for (\w+)", said)
         if status == 4:
             kind = next(it for it in KINDS if said.startswith(f"machine: {it}"))
             subject = said.removeprefix(f"machine: {kind}").removeprefix(" at").strip()
@@ -107,11 +107,11 @@ class Rounds:
             if kind not in told or (kind not in ("limit", "not TOML", "not UTF-8") and subject.split(".")[-1] not in told):
                 raise Mismatch(f"{said}, and the first that lint tells is {told}")
         elif table:
-            if not any(f"{table[1] or table[3]}: no table" in it[3] for it in of_loops):
+            if not any(f"{table[1]}: no table" in it[3] for it in of_loops):
                 raise Mismatch(f"{said}, and lint tells {of_loops}")
         else:
-            line, kind = re.fullmatch(r"loops: line (\d+): (.*)", said).groups()
-            if of_loops[0][1] != int(line) or kind not in of_loops[0][3]:
+            refused = re.fullmatch(r"loops: line (\d+): (.*)", said)
+            if not refused or of_loops[0][1] != int(refused[1]) or refused[2] not in of_loops[0][3]:
                 raise Mismatch(f"{said}, and the first that lint tells is {of_loops[0]}")
 
     def placed(self, text, path, line, column, rest):
