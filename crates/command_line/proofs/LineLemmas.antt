@@ -22,7 +22,7 @@ use Rattle.command_line.specs.declared.command.LintTexts.{LintTexts}
 use Rattle.command_line.specs.declared.command.Report.{Report}
 use Rattle.command_line.specs.declared.command.Report.TheVariants as report
 use Rattle.command_line.specs.declared.command.Search.{Search}
-use Rattle.command_line.specs.declared.command.Search.TheVariants.{Schedule, Json, Explain, Scheduled, Vary, Total, Run}
+use Rattle.command_line.specs.declared.command.Search.TheVariants.{Schedule, Json, Explain, Page, Scheduled, Vary, Total, Run}
 use Rattle.command_line.specs.declared.command.Task.{Task}
 use Rattle.command_line.specs.declared.command.Task.TheVariants as task
 use Rattle.command_line.specs.declared.command.Work.{Work}
@@ -129,7 +129,8 @@ pub schedule-formless : (rows : List Row) (name : Text) → name ≡ codes "sche
 schedule-formless rows name is none Schedule h = none format.Text h.1
 schedule-formless rows name is none Json (inl h) = schedule-word 0 name (codes "json") is (λ e. omega arith) h
 schedule-formless rows name is none Json (inr h) = none format.Json h.1
-schedule-formless rows name is none Explain h = schedule-word 0 name (codes "explain") is (λ e. omega arith) h
+schedule-formless rows name is none (Explain format) h = schedule-word 0 name (codes "explain") is (λ e. omega arith) h.0
+schedule-formless rows name is none Page h = schedule-word 0 name (codes "explain") is (λ e. omega arith) h.0
 schedule-formless rows name is none Scheduled h = schedule-word 0 name (codes "dot") is (λ e. omega arith) h.0
 schedule-formless rows name is none (Vary format) h = schedule-word 0 name (codes "vary") is (λ e. omega arith) h.0
 schedule-formless rows name is none Total h = schedule-word 0 name (codes "vary") is (λ e. omega arith) h.0
@@ -153,7 +154,8 @@ vary-others rows one all Total h = all h
 vary-others rows one all Schedule h = apart-vary (codes "schedule") (λ e. omega arith) h.0
 vary-others rows one all Json (inl h) = apart-vary (codes "json") (λ e. omega arith) h
 vary-others rows one all Json (inr h) = apart-vary (codes "schedule") (λ e. omega arith) h.0
-vary-others rows one all Explain h = apart-vary (codes "explain") (λ e. omega arith) h
+vary-others rows one all (Explain format) h = apart-vary (codes "explain") (λ e. omega arith) h.0
+vary-others rows one all Page h = apart-vary (codes "explain") (λ e. omega arith) h.0
 vary-others rows one all Scheduled h = apart-vary (codes "dot") (λ e. omega arith) h.0
 vary-others rows one all (Run trip) h = apart-vary (codes "run") (λ e. omega arith) h.0
 
@@ -175,7 +177,8 @@ other-search : (s : Search) (name : Text) (rows : List Row) → IsSearchGiven s 
 other-search Schedule name rows h = other-schedule name h.0
 other-search Json name rows (inr h) = other-schedule name h.0
 other-search Json name rows (inl h) = (other-word 0 name (codes "json") (codes "solve") (λ e. omega arith) h, other-word 0 name (codes "json") (codes "check") (λ e. omega arith) h, other-word 0 name (codes "json") (codes "lint") (λ e. omega arith) h)
-other-search Explain name rows h = other-explain name h
+other-search (Explain format) name rows h = other-explain name h.0
+other-search Page name rows h = other-explain name h.0
 other-search Scheduled name rows h = other-dot name h.0
 other-search (Vary format) name rows h = other-vary name h.0
 other-search Total name rows h = other-vary name h.0
@@ -318,9 +321,12 @@ IsRead-error (Refused text) e kinds s told (inl memory) = absurd (told.1 memory)
 IsRead-error (Refused text) e kinds s told (inr among) = inl (kind_of e, among, told.0)
 IsRead-error Memory e kinds s told has = tt
 
--- another word is none of `dot`
+-- another word is none of `dot`, nor of `explain`
 apart-dot : (word : Text) → (get_or (codes "dot") 0 0 ≡ get_or word 0 0 → ⊥) → codes "dot" ≡ word → ⊥
 apart-dot word apart same = other-word 0 (codes "dot") (codes "dot") word apart refl same
+
+apart-explain : (place : ℕ) (word : Text) → (get_or (codes "explain") place 0 ≡ get_or word place 0 → ⊥) → codes "explain" ≡ word → ⊥
+apart-explain place word apart same = other-word place (codes "explain") (codes "explain") word apart refl same
 
 -- `dot` searches for no kernel but where the schedule is wanted
 pub dot-searches : (rows : List Row) → ¬ SaysSwitch (first_of (codes "scheduled") rows) true → (s : Search) → ¬ IsSearchGiven s (codes "dot") rows
@@ -328,7 +334,8 @@ dot-searches rows none Scheduled h = none h.1
 dot-searches rows none Schedule h = apart-dot (codes "schedule") (λ e. omega arith) h.0
 dot-searches rows none Json (inl h) = apart-dot (codes "json") (λ e. omega arith) h
 dot-searches rows none Json (inr h) = apart-dot (codes "schedule") (λ e. omega arith) h.0
-dot-searches rows none Explain h = apart-dot (codes "explain") (λ e. omega arith) h
+dot-searches rows none (Explain format) h = apart-dot (codes "explain") (λ e. omega arith) h.0
+dot-searches rows none Page h = apart-dot (codes "explain") (λ e. omega arith) h.0
 dot-searches rows none (Vary format) h = apart-dot (codes "vary") (λ e. omega arith) h.0
 dot-searches rows none Total h = apart-dot (codes "vary") (λ e. omega arith) h.0
 dot-searches rows none (Run trip) h = apart-dot (codes "run") (λ e. omega arith) h.0
@@ -358,6 +365,26 @@ dot-reports rows on none report.Edges h = apart-dot (codes "edges") (λ e. omega
 dot-reports rows on none report.Dot h = on h.1
 dot-reports rows on none (report.Scheduled settings) h = none _ (h.1, h.2)
 dot-reports rows on none (report.Explain settings) h = apart-dot (codes "explain") (λ e. omega arith) h.0
+
+-- .. and `explain`
+pub explain-reports : (rows : List Row) → ((settings : SettingsData) → SaySettings settings rows → ¬ SaysFormat (first_of (codes "format") rows) format.Text)
+    → (told : Report) → ¬ IsReportGiven told (codes "explain") rows
+explain-reports rows none report.Edges h = apart-explain 1 (codes "edges") (λ e. omega arith) h
+explain-reports rows none report.Dot h = apart-explain 0 (codes "dot") (λ e. omega arith) h.0
+explain-reports rows none (report.Scheduled settings) h = apart-explain 0 (codes "dot") (λ e. omega arith) h.0
+explain-reports rows none (report.Explain settings) h = none _ h.1 h.2
+
+pub explain-searches : (rows : List Row) → ((f : Format) → ¬ SaysFormat (first_of (codes "format") rows) f) → ¬ (first_of (codes "format") rows ≡ Some (codes "html"))
+    → (s : Search) → ¬ IsSearchGiven s (codes "explain") rows
+explain-searches rows none page Schedule h = apart-explain 0 (codes "schedule") (λ e. omega arith) h.0
+explain-searches rows none page Json (inl h) = apart-explain 0 (codes "json") (λ e. omega arith) h
+explain-searches rows none page Json (inr h) = apart-explain 0 (codes "schedule") (λ e. omega arith) h.0
+explain-searches rows none page (Explain f) h = none f h.1
+explain-searches rows none page Page h = page h.1
+explain-searches rows none page Scheduled h = apart-explain 0 (codes "dot") (λ e. omega arith) h.0
+explain-searches rows none page (Vary f) h = apart-explain 0 (codes "vary") (λ e. omega arith) h.0
+explain-searches rows none page Total h = apart-explain 0 (codes "vary") (λ e. omega arith) h.0
+explain-searches rows none page (Run trip) h = apart-explain 0 (codes "run") (λ e. omega arith) h.0
 
 -- a subcommand that is none of these three tells of loops what a search gives
 pub searches-alone : (rows : List Row) (name : Text) → (name ≡ codes "bounds" → ⊥) → (name ≡ codes "edges" → ⊥) → (name ≡ codes "dot" → ⊥)

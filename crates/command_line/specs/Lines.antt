@@ -20,7 +20,7 @@ use Rattle.command_line.specs.declared.command.Work.TheVariants.{Plain, OnMachin
 use Rattle.command_line.specs.declared.command.Task.{Task}
 use Rattle.command_line.specs.declared.command.Task.TheVariants as task
 use Rattle.command_line.specs.declared.command.Search.{Search}
-use Rattle.command_line.specs.declared.command.Search.TheVariants.{Schedule, Json, Explain, Scheduled, Vary, Total, Run}
+use Rattle.command_line.specs.declared.command.Search.TheVariants.{Schedule, Json, Explain, Page, Scheduled, Vary, Total, Run}
 use Rattle.command_line.specs.declared.line.Usage.{Usage}
 use Rattle.command_line.specs.declared.line.Usage.TheVariants.{Help, Refused, Memory}
 use Rattle.machine_data.specs.declared.limits.TheConstants.{MAX_CEILING, MAX_CUT, MAX_RATIO, MAX_TRIP, MAX_WORKERS}
@@ -100,9 +100,9 @@ run_line = with_search (with_rule (with_paths (codes "run")) trip_rule)
 abbrev pub format_rule : Rule
 format_rule = option_rule (codes "format") (codes "text")
 
--- `explain MACHINE LOOPS` and `explain PROBLEMS`, and the four
+-- `explain MACHINE LOOPS` and `explain PROBLEMS`, the four, and `--format FORMAT`
 unfoldable pub explain_line : App
-explain_line = with_search (either_with_names (codes "explain"))
+explain_line = with_rule (with_search (either_with_names (codes "explain"))) format_rule
 
 -- `--scheduled`, which has no value
 abbrev pub scheduled_rule : Rule
@@ -246,7 +246,8 @@ SaysSwitch word is_given = word ≡ Some (switch_word is_given)
 abbrev pub IsSearchGiven : Search → Text → List Row → Type 0
 IsSearchGiven Schedule name given = (name ≡ codes "schedule") × SaysFormat (first_of (codes "format") given) format.Text
 IsSearchGiven Json name given = (name ≡ codes "json") ⊎ ((name ≡ codes "schedule") × SaysFormat (first_of (codes "format") given) format.Json)
-IsSearchGiven Explain name given = name ≡ codes "explain"
+IsSearchGiven (Explain format) name given = (name ≡ codes "explain") × SaysFormat (first_of (codes "format") given) format
+IsSearchGiven Page name given = (name ≡ codes "explain") × (first_of (codes "format") given ≡ Some (codes "html"))
 IsSearchGiven Scheduled name given = (name ≡ codes "dot") × SaysSwitch (first_of (codes "scheduled") given) true
 IsSearchGiven (Vary format) name given = (name ≡ codes "vary")
     × SaysSwitch (first_of (codes "total") given) false
@@ -283,7 +284,7 @@ abbrev pub IsReportGiven : Report → Text → List Row → Type 0
 IsReportGiven report.Edges name given = name ≡ codes "edges"
 IsReportGiven report.Dot name given = (name ≡ codes "dot") × SaysSwitch (first_of (codes "scheduled") given) false
 IsReportGiven (report.Scheduled settings) name given = (name ≡ codes "dot") × SaysSwitch (first_of (codes "scheduled") given) true × SaySettings settings given
-IsReportGiven (report.Explain settings) name given = (name ≡ codes "explain") × SaySettings settings given
+IsReportGiven (report.Explain settings) name given = (name ≡ codes "explain") × SaySettings settings given × SaysFormat (first_of (codes "format") given) format.Text
 
 -- .. was given one path alone, that of problems, and no name of a loop, and tells that of them
 abbrev pub AreProblemsGiven : Text → Report → Text → List Row → Type 0

@@ -111,7 +111,9 @@ pub enum Search {
     /// The listing as a JSON document.
     Json,
     /// Why each loop has its interval.
-    Explain,
+    Explain(Format),
+    /// The same as a page for a browser.
+    Page,
     /// The dependences of each loop, as graphs for Graphviz that show the schedule.
     Scheduled,
     /// What variants of the machine bring each loop.

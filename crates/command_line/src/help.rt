@@ -137,6 +137,10 @@ order of the file, its line of `modsched bounds`, and then
 The causes are those of `modsched schedule`. The last line is that of the listing. A thread takes one loop
 after another, so the cut changes nothing here.
 
+With --format json prints all of that as one JSON document, on one line: an object with `failed`, `loops`, `met`
+and `version`, which is 1. With --format html prints it as a page that any browser opens, without a network:
+charts of the kernel, of when values live, of an iteration with the next two and of the dependences.
+
 With one path alone, that of scheduling problems, tells the same of each problem, up to what holds its interval,
 and then its solution, as `modsched solve` prints it.";
 
@@ -373,6 +377,10 @@ number";
 
 pub(crate) const FORMAT: &str =
     "The format of what is printed: `text`, lines for people, or `json`, one document for programs";
+
+pub(crate) const FORMAT_OR_PAGE: &str =
+    "The format of what is printed: `text`, lines for people; `json`, one document for programs; or `html`, a
+page for a browser. For scheduling problems `text` alone";
 
 pub(crate) const SCHEDULED: &str = "Draw the graphs with the schedule of each loop or problem";
 

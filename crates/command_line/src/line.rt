@@ -72,6 +72,14 @@ fn is_format(values: &ArgMatches<'_>) -> bool {
     }
 }
 
+// Whether it names a page.
+fn is_page(values: &ArgMatches<'_>) -> bool {
+    match values.get_str("format") {
+        Some(word) => word == "html",
+        None => false,
+    }
+}
+
 // What is wrong where words have the form of a line, and mean no command.
 fn refusal(matches: &ArgMatches<'_>) -> &'static str {
     match matches.subcommand() {
@@ -94,6 +102,12 @@ fn refusal_of(name: &str, values: &ArgMatches<'_>) -> &'static str {
         }
         _ if values.contains_id("loop") && !values.contains_id("loops") => {
             "error: '--loop' takes a machine and loops\n\nFor more information, try '--help'.\n"
+        }
+        "explain" if is_format(values) || is_page(values) => {
+            "error: '--format' takes a machine and loops\n\nFor more information, try '--help'.\n"
+        }
+        "explain" => {
+            "error: '--format' is neither 'text' nor 'json' nor 'html'\n\nFor more information, try '--help'.\n"
         }
         _ => MISSING,
     }

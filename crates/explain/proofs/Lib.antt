@@ -1,6 +1,6 @@
 pub mod Circuits
+pub mod Objects
 pub mod Parts
 pub mod Reasoned
-pub mod Running
 pub mod Showing
 pub mod Tried

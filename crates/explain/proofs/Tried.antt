@@ -14,7 +14,8 @@ use Rattle.told_choices.specs.Holds.{IsHold}
 use Rattle.told_choices.specs.Least.{is_least_possible}
 use Rattle.told_choices.specs.Told.{failures_of}
 use Rattle.told_choices.proofs.Held.{reason-at}
-use Rattle.explain.specs.Tries.{IsEnd, hold_line, kernel_line, least_line}
+use Rattle.reason_lines.specs.Least.{least_line}
+use Rattle.explain.specs.Tries.{IsEnd, hold_line, kernel_line}
 
 -- each reason is that of some interval
 pub reasons-of : (p : ProblemData) (n : ℕ) (reasons : List Reason) → AllZip (FailsFor p) (range_with_len (mii_of p) n) reasons

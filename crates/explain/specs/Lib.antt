@@ -1,7 +1,7 @@
 pub mod CircuitTexts
 pub mod Explanations
+pub mod Objects
 pub mod Reasons
-pub mod Runs
 pub mod SetLines
 pub mod Shown
 pub mod Tries

@@ -1,5 +1,5 @@
 -- The lines of the intervals that are tried.
-use Rattle.std.specs.Prelude.{◌≡◌, ℕ, ◌<◌, ◌≤◌, Bool, true, if◌then◌else◌, codes, List, [], ◌++◌, map}
+use Rattle.std.specs.Prelude.{◌≡◌, ℕ, ◌<◌, ◌≤◌, Bool, true, codes, List, [], ◌++◌, map}
 use Rattle.std.specs.List.{range_with_len, AllZip}
 use Rattle.loop_data.specs.Loops.{LoopData}
 use Rattle.graph.specs.Schedules.{IsLawfulSchedule}
@@ -17,8 +17,9 @@ use Rattle.told_choices.specs.declared.hold.Hold.{Hold}
 use Rattle.told_choices.specs.Holds.{IsHold, hold_word}
 use Rattle.told_choices.specs.Least.{is_least_possible}
 use Rattle.told_choices.specs.Told.{failures_of}
+use Rattle.reason_lines.specs.Least.{least_line}
+use Rattle.reason_lines.specs.Runs.{runs_text}
 use Rattle.explain.specs.Reasons.{reason_text}
-use Rattle.explain.specs.Runs.{runs_text}
 
 -- ` CAUSE:`, and its culprits
 abbrev pub why_text : LoopData → Reason → List ℕ
@@ -31,10 +32,6 @@ kernel_line ii stages = (told (codes "try ") ii ++ told (codes " kernel stages "
 -- `held by WORD`, with a line feed
 abbrev pub hold_line : Hold → List ℕ
 hold_line hold = (codes "held by " ++ hold_word hold) ++ codes "\n"
-
--- `least possible`, with a line feed, where that is so
-abbrev pub least_line : Bool → List ℕ
-least_line least = if least then codes "least possible\n" else []
 
 -- where an interval is what the fullest set of units or the recurrences need, no lawful schedule has a shorter one
 abbrev pub LeastIsLeast : Type 0

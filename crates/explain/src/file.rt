@@ -14,7 +14,6 @@ ghost use Rattle.explain.specs.declared.file.Tally.{Tally};
 ghost use Rattle.explain.specs.declared.file.UnitLines.{UnitLines};
 ghost use Rattle.unit_sets.specs.Fullest.{IsFullest};
 
-use crate::set_line::push_set_line;
 use crate::shown::push_shown;
 use crate::single::push_chosen;
 use candidates::{Choice, prepare};
@@ -24,6 +23,7 @@ use ims::Prepared;
 use loop_data::Loop;
 use machine_data::limits::MAX_STATEMENTS;
 use machine_data::{Machine, OutOfMemory};
+use reason_lines::push_set_line;
 use resource_bound::{push_unit_lines, unit_choices};
 use settings::Settings;
 use std::alloc::Global;
@@ -77,7 +77,11 @@ struct UnitLines {
 }
 
 /// The fullest set of units of a loop.
-fn set_of(alloc: Global, machine: &Machine, innermost: &Loop) -> Result<UnitSet, OutOfMemory>
+pub(crate) fn set_of(
+    alloc: Global,
+    machine: &Machine,
+    innermost: &Loop,
+) -> Result<UnitSet, OutOfMemory>
     requires { first_without_table machine.now innermost.now ≡ None }
     ensures exact { IfOk result (IsFullest (operations_of machine.now innermost.now)) }
 {

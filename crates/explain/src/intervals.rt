@@ -1,5 +1,4 @@
 //! The intervals that are tried, and why they fail.
 
 pub(crate) mod reason_texts;
-pub(crate) mod runs;
 pub(crate) mod tries;

@@ -4,6 +4,7 @@ use Rattle.serde_json.specs.Data.{Data, array, member, no_members, object}
 use Rattle.serde_json.specs.View.{items_of}
 use Rattle.serde_json.specs.Written.{has_float, items_have_float}
 use Rattle.loop_lint.specs.declared.lacks.LoopLint.{LoopLint}
+use Rattle.machine_lint.specs.Hints.{declared_units}
 use Rattle.machine_lint.specs.declared.place.MachineLint.{MachineLint}
 use Rattle.lint_text.specs.Document.{loop_value, loop_values, machine_value, machine_values}
 use Rattle.lint_text.specs.declared.printout.Named.{Named}
@@ -26,7 +27,7 @@ loops-whole (Some named) faults = mapped (loop_value named.path.now named.text.n
 
 pub all-whole : (machine loops : Option Named) (lints : List MachineLint) (faults : List LoopLint) → items_have_float (items_of (machine_values machine lints ++ loop_values loops faults)) ≡ false
 all-whole None loops lints faults = loops-whole loops faults
-all-whole (Some named) loops lints faults = mapped-then (machine_value named.path.now) lints (loop_values loops faults) (λ lint. refl) (loops-whole loops faults)
+all-whole (Some named) loops lints faults = mapped-then (machine_value named.path.now (declared_units named.text.now)) lints (loop_values loops faults) (λ lint. refl) (loops-whole loops faults)
 
 pub document_whole : (values : List Data) → items_have_float (items_of values) ≡ false → has_float (object (member (codes "faults") (array (items_of values)) no_members)) ≡ false
 document_whole values h = neither _ _ h refl

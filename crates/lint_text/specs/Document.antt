@@ -5,6 +5,7 @@ use Rattle.serde_json.specs.View.{items_of}
 use Rattle.serde_json.specs.Written.{compact_text}
 use Rattle.loop_lint.specs.Lacks.{column_of, line_of}
 use Rattle.loop_lint.specs.declared.lacks.LoopLint.{LoopLint}
+use Rattle.machine_lint.specs.Hints.{declared_units}
 use Rattle.machine_lint.specs.declared.place.MachineLint.{MachineLint}
 use Rattle.lint_text.specs.Lines.{word_in}
 use Rattle.lint_text.specs.Machines.{machine_message, machine_word}
@@ -23,9 +24,9 @@ fault_value path line column word message =
     (member (codes "path") (string path)
     (member (codes "word") (string word) no_members)))))
 
--- a fault of a machine text with this path
-abbrev pub machine_value : List ℕ → MachineLint → Data
-machine_value path lint = fault_value path lint.line lint.column (machine_word lint) (machine_message lint)
+-- a fault of a machine text with this path that declares these units
+abbrev pub machine_value : List ℕ → List (List ℕ) → MachineLint → Data
+machine_value path units lint = fault_value path lint.line lint.column (machine_word lint) (machine_message units lint)
 
 -- what is told of this line of a loop text with this path
 abbrev pub line_value : List ℕ → List ℕ → LoopLint → Data
@@ -37,7 +38,7 @@ loop_value path text lint = line_value path (line_at text (line_of lint)) lint
 -- the faults of each text, if it is given
 abbrev pub machine_values : Option Named → List MachineLint → List Data
 machine_values None lints = []
-machine_values (Some named) lints = map (machine_value named.path.now) lints
+machine_values (Some named) lints = map (machine_value named.path.now (declared_units named.text.now)) lints
 
 abbrev pub loop_values : Option Named → List LoopLint → List Data
 loop_values None faults = []

@@ -1,6 +1,7 @@
 -- Lines of faults: `PATH:LINE:COL: WORD: WHAT`.
 use Rattle.std.specs.Prelude.{ℕ, codes, List, [], ◌∷◌, ◌++◌, flat_map}
 use Rattle.writing.specs.Words.{ended, told}
+use Rattle.machine_lint.specs.Hints.{declared_units}
 use Rattle.machine_lint.specs.declared.place.MachineLint.{MachineLint}
 use Rattle.loop_lint.specs.Lacks.{column_of, line_of, width_of}
 use Rattle.loop_lint.specs.declared.lacks.LoopLint.{LoopLint}
@@ -30,9 +31,10 @@ abbrev pub text_told : List ℕ → List ℕ
 text_told [] = []
 text_told (c ∷ cs) = (c ∷ cs) ++ codes ": "
 
--- a fault of a machine text with this path
-abbrev pub machine_line : List ℕ → MachineLint → List ℕ
-machine_line path lint = (place_text path lint.line lint.column ++ text_told (machine_word lint)) ++ ended (machine_message lint)
+-- a fault of a machine text with this path that declares these units
+abbrev pub machine_line : List ℕ → List (List ℕ) → MachineLint → List ℕ
+machine_line path units lint = (place_text path lint.line lint.column ++ text_told (machine_word lint)) ++ ended (machine_message units lint)
 
-abbrev pub machine_text : List ℕ → List MachineLint → List ℕ
-machine_text path lints = flat_map (machine_line path) lints
+-- faults of a machine text with this path and these bytes
+abbrev pub machine_text : List ℕ → List ℕ → List MachineLint → List ℕ
+machine_text path text lints = flat_map (machine_line path (declared_units text)) lints

@@ -1,14 +1,16 @@
 -- A fault of a machine text in words: where it is, what stands there, and what is expected.
-use Rattle.std.specs.Prelude.{ℕ, codes, decimal, List, [], ◌++◌}
+use Rattle.std.specs.Prelude.{ℕ, codes, decimal, List, [], ◌++◌, Option, Some, None}
 use Rattle.std.specs.Fmt.{signed_decimal}
 use Rattle.machine.specs.Faults.{key_text}
 use Rattle.machine.specs.declared.fault.MachineFault.{MachineFault}
 use Rattle.machine.specs.declared.fault.MachineFault.TheVariants as fault
+use Rattle.machine_lint.specs.Hints.{near_name}
 use Rattle.machine_lint.specs.declared.place.MachineLint.{MachineLint}
 use Rattle.machine_lint.specs.declared.spots.Found.{Found}
 use Rattle.machine_lint.specs.declared.spots.Found.TheVariants as found
 use Rattle.machine_lint.specs.declared.spots.Spot.{Spot}
 use Rattle.machine_lint.specs.declared.spots.Spot.TheVariants as spot
+use Rattle.lint_text.specs.What.{name_text}
 
 -- the number of an element, from 0
 abbrev pub index_text : ℕ → List ℕ
@@ -79,5 +81,11 @@ machine_what at fault.Memory = codes "out of memory"
 abbrev pub machine_word : MachineLint → List ℕ
 machine_word lint = spot_text lint.spot ++ found_text lint.found
 
-abbrev pub machine_message : MachineLint → List ℕ
-machine_message lint = machine_what lint.spot lint.fault
+-- the name that may be meant, if one is near
+abbrev pub near_text : Option (List ℕ) → List ℕ
+near_text None = []
+near_text (Some name) = name_text name
+
+-- what is said of a fault of a text that declares these units
+abbrev pub machine_message : List (List ℕ) → MachineLint → List ℕ
+machine_message units lint = machine_what lint.spot lint.fault ++ near_text (near_name units lint)

@@ -40,7 +40,7 @@ SilentOn machine (Some named) lints = SilentWith machine named.text.now lints
 -- their lines
 abbrev pub machine_lines : Option Named → List MachineLint → List ℕ
 machine_lines None lints = []
-machine_lines (Some named) lints = machine_text named.path.now lints
+machine_lines (Some named) lints = machine_text named.path.now named.text.now lints
 
 abbrev pub loop_lines : Option Named → List LoopLint → List ℕ
 loop_lines None faults = []

@@ -14,7 +14,8 @@ use crate::what::loop_message;
 use crate::words::{piece_at, shown_word};
 use loop_lint::LoopLint;
 use machine_data::OutOfMemory;
-use machine_lint::MachineLint;
+use machine_lint::{MachineLint, declared_units};
+use near_names::Word;
 use serde_json::{Value, json};
 use std::alloc::Global;
 
@@ -38,12 +39,17 @@ fn told_fault(
     })
 }
 
-/// A fault of a machine text.
-fn told_machine(alloc: Global, path: &str, lint: &MachineLint) -> Result<Value, OutOfMemory>
-    ensures { IfOk result (λ v. view v ≡ machine_value path.now lint.now) }
+/// A fault of a machine text that declares these units.
+fn told_machine(
+    alloc: Global,
+    path: &str,
+    units: &[Word],
+    lint: &MachineLint,
+) -> Result<Value, OutOfMemory>
+    ensures { IfOk result (λ v. view v ≡ machine_value path.now units.now lint.now) }
 {
     let word = machine_word(alloc, lint)?;
-    let message = machine_message(alloc, lint)?;
+    let message = machine_message(alloc, units, lint)?;
     told_fault(
         alloc,
         path,
@@ -71,16 +77,17 @@ fn told_loop(alloc: Global, path: &str, line: &[u8], lint: &LoopLint) -> Result<
     )
 }
 
-/// Pushes a fault of a machine text.
+/// Pushes a fault of a machine text that declares these units.
 fn add_machine(
     alloc: Global,
     values: &mut Vec<Value>,
     path: &str,
+    units: &[Word],
     lint: &MachineLint,
 ) -> Result<(), OutOfMemory>
-    ensures { OnOk result (map view values.new.items ≡ map view values.old.items ++ machine_value path.now lint.now ∷ []) }
+    ensures { OnOk result (map view values.new.items ≡ map view values.old.items ++ machine_value path.now units.now lint.now ∷ []) }
 {
-    let value = told_machine(alloc, path, lint)?;
+    let value = told_machine(alloc, path, units, lint)?;
     values.push(value)?;
     Ok(())
 }
@@ -100,17 +107,18 @@ fn add_loop(
     Ok(())
 }
 
-/// Pushes the faults of a machine text.
+/// Pushes the faults of a machine text that declares these units.
 fn add_lints(
     alloc: Global,
     values: &mut Vec<Value>,
     path: &str,
+    units: &[Word],
     lints: &[MachineLint],
 ) -> Result<(), OutOfMemory>
-    ensures { OnOk result (map view values.new.items ≡ map view values.old.items ++ map (machine_value path.now) lints.now) }
+    ensures { OnOk result (map view values.new.items ≡ map view values.old.items ++ map (machine_value path.now units.now) lints.now) }
 {
     for lint in lints {
-        add_machine(alloc, values, path, lint)?;
+        add_machine(alloc, values, path, units, lint)?;
     }
     Ok(())
 }
@@ -145,10 +153,11 @@ fn add_given_lints(
 ) -> Result<(), OutOfMemory>
     ensures { OnOk result (map view values.new.items ≡ map view values.old.items ++ machine_values machine.entry lints.now) }
 {
-    match machine {
-        Some(named) => add_lints(alloc, values, named.path, lints),
-        None => Ok(()),
-    }
+    let Some(named) = machine else {
+        return Ok(());
+    };
+    let units = declared_units(alloc, named.text)?;
+    add_lints(alloc, values, named.path, units.as_slice(), lints)
 }
 
 /// Pushes the faults of a loop text, if one is given.

@@ -3,11 +3,13 @@
 ghost use Rattle.std.specs.Prelude.{◌≡◌, ◌++◌, IfOk, OnOk, codes, decimal, string_bytes};
 ghost use Rattle.std.specs.Fmt.{signed_decimal};
 ghost use Rattle.machine.specs.Faults.{key_text};
-ghost use Rattle.lint_text.specs.Machines.{found_text, index_text, limits_text, machine_message, machine_what, machine_word, spot_text, table_text, wanted_text};
+ghost use Rattle.lint_text.specs.Machines.{found_text, index_text, limits_text, machine_message, machine_what, machine_word, near_text, spot_text, table_text, wanted_text};
 
+use crate::what::push_name;
 use machine::{Key, MachineFault};
 use machine_data::OutOfMemory;
-use machine_lint::{Found, MachineLint, Spot};
+use machine_lint::{Found, MachineLint, Spot, near_name};
+use near_names::Word;
 use std::alloc::Global;
 use writing::{push_integer, push_told};
 
@@ -248,9 +250,26 @@ fn machine_what(alloc: Global, spot: &Spot, fault: &MachineFault) -> Result<Stri
     }
 }
 
-/// What is wrong, in words.
-pub(crate) fn machine_message(alloc: Global, lint: &MachineLint) -> Result<String, OutOfMemory>
-    ensures { IfOk result (λ text. string_bytes text ≡ machine_message lint.now) }
+/// Pushes the name that may be meant, if one is near.
+fn push_near(text: &mut String, near: Option<Word>) -> Result<(), OutOfMemory>
+    ensures { OnOk result (string_bytes text.new ≡ string_bytes text.old ++ near_text near) }
 {
-    machine_what(alloc, &lint.spot, &lint.fault)
+    match near {
+        Some(name) => push_name(text, name.as_bytes()),
+        None => Ok(()),
+    }
+}
+
+/// What is wrong in a text that declares these units, in words.
+pub(crate) fn machine_message(
+    alloc: Global,
+    units: &[Word],
+    lint: &MachineLint,
+) -> Result<String, OutOfMemory>
+    ensures { IfOk result (λ text. string_bytes text ≡ machine_message units.now lint.now) }
+{
+    let near = near_name(alloc, units, lint)?;
+    let mut text = machine_what(alloc, &lint.spot, &lint.fault)?;
+    push_near(&mut text, near)?;
+    Ok(text)
 }

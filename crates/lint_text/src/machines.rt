@@ -1,12 +1,13 @@
 //! Lines of the faults of a machine text.
 
-ghost use Rattle.std.specs.Prelude.{◌≡◌, ◌++◌, OnOk};
+ghost use Rattle.std.specs.Prelude.{◌≡◌, ◌++◌, OnOk, flat_map};
 ghost use Rattle.lint_text.specs.Lines.{machine_line, machine_text, text_told};
 
 use crate::machine_words::{machine_message, machine_word};
 use crate::places::push_place;
 use machine_data::OutOfMemory;
-use machine_lint::MachineLint;
+use machine_lint::{MachineLint, declared_units};
+use near_names::Word;
 use std::alloc::Global;
 use writing::{Text, push_line};
 
@@ -21,23 +22,40 @@ fn push_text(text: &mut Vec<u8>, word: &str) -> Result<(), OutOfMemory>
     text.push_piece(": ")
 }
 
-/// Pushes the line of a fault of a machine text.
+/// Pushes the line of a fault of a machine text that declares these units.
 fn push_machine_fault(
     alloc: Global,
     text: &mut Vec<u8>,
     path: &str,
+    units: &[Word],
     lint: &MachineLint,
 ) -> Result<(), OutOfMemory>
-    ensures { OnOk result (text.new.items ≡ text.old.items ++ machine_line path.now lint.now) }
+    ensures { OnOk result (text.new.items ≡ text.old.items ++ machine_line path.now units.now lint.now) }
 {
     let word = machine_word(alloc, lint)?;
-    let message = machine_message(alloc, lint)?;
+    let message = machine_message(alloc, units, lint)?;
     push_place(text, path, lint.line, lint.column)?;
     push_text(text, word.as_str())?;
     push_line(text, message.as_str())
 }
 
-/// Pushes a line for each fault of the machine text that has this path.
+/// Pushes the lines of faults of a machine text that declares these units.
+fn push_lines(
+    alloc: Global,
+    text: &mut Vec<u8>,
+    path: &str,
+    units: &[Word],
+    lints: &[MachineLint],
+) -> Result<(), OutOfMemory>
+    ensures { OnOk result (text.new.items ≡ text.old.items ++ flat_map (machine_line path.now units.now) lints.now) }
+{
+    for lint in lints {
+        push_machine_fault(alloc, text, path, units, lint)?;
+    }
+    Ok(())
+}
+
+/// Pushes a line for each of these faults of the machine text that has this path and these bytes.
 ///
 /// # Errors
 /// Memory ran out. The text has some of the lines after it, and maybe the beginning of one.
@@ -45,12 +63,11 @@ pub fn push_machine_faults(
     alloc: Global,
     text: &mut Vec<u8>,
     path: &str,
+    bytes: &[u8],
     lints: &[MachineLint],
 ) -> Result<(), OutOfMemory>
-    ensures { OnOk result (text.new.items ≡ text.old.items ++ machine_text path.now lints.now) }
+    ensures { OnOk result (text.new.items ≡ text.old.items ++ machine_text path.now bytes.now lints.now) }
 {
-    for lint in lints {
-        push_machine_fault(alloc, text, path, lint)?;
-    }
-    Ok(())
+    let units = declared_units(alloc, bytes)?;
+    push_lines(alloc, text, path, units.as_slice(), lints)
 }

@@ -92,7 +92,7 @@ fn push_machine(
     ensures { OnOk result (text.new.items ≡ text.old.items ++ machine_lines machine.entry lints.now) }
 {
     match machine {
-        Some(named) => push_machine_faults(alloc, text, named.path, lints),
+        Some(named) => push_machine_faults(alloc, text, named.path, named.text, lints),
         None => Ok(()),
     }
 }

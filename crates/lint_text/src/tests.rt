@@ -50,6 +50,17 @@ saxpy.loops:19:5: mov: no table: the machine has none for this opcode
 saxpy.loops:20:1: no end: the text ends inside a loop, expected end
 ";
 
+/// Of two names that are as near the first is told.
+const OF_NAMES: &str = "vliw.toml:1:1: register = 8: unknown key: did you mean registers?
+vliw.toml:0:0: registers: missing key
+vliw.toml:4:6: ops.laod: unknown opcode: did you mean load?
+vliw.toml:5:1: ops.laod.latncy = 3: unknown key: did you mean latency?
+vliw.toml:0:0: ops.laod.latency: missing key
+vliw.toml:6:1: ops.laod.alts[0][0] = \"men@0\": unknown unit men: did you mean mem?
+vliw.toml:6:1: ops.laod.alts[1][0] = \"alu@0\": unknown unit alu: did you mean alu0?
+vliw.toml:6:1: ops.laod.alts[2][0] = \"adder@0\": unknown unit adder
+";
+
 /// What is printed of a machine text and of the loop text above.
 fn printed(alloc: Global, machine: &[u8], loops: &[u8]) -> Result<LintText, Fail> {
     let machine = Named {
@@ -88,5 +99,15 @@ fn tells_where_a_machine_is_no_toml(rt: HostRuntime) -> Result<(), Fail> {
         assert_eq!(rt; str::from_utf8(&told.text).unwrap_or(""), line);
         assert!(rt; told.machine_faults && !told.loop_faults);
     }
+    Ok(())
+}
+
+#[test]
+fn tells_the_names_that_may_be_meant(rt: HostRuntime) -> Result<(), Fail> {
+    let machine =
+        b"register = 8\nunits = [\"mem\", \"alu0\", \"alu1\"]\n\n[ops.laod]\nlatncy = 3\nalts = [[\"men@0\"], [\"alu@0\"], [\"adder@0\"]]\n";
+    let told = printed(rt.alloc(), machine, b"")?;
+    assert_eq!(rt; str::from_utf8(&told.text).unwrap_or(""), OF_NAMES);
+    assert!(rt; told.machine_faults && !told.loop_faults);
     Ok(())
 }

@@ -145,7 +145,7 @@ fn push_inits(text: &mut String, word: &[u8], numbers: &[u8]) -> Result<(), OutO
 }
 
 /// Pushes a name that may be meant.
-fn push_name(text: &mut String, name: &[u8]) -> Result<(), OutOfMemory>
+pub(crate) fn push_name(text: &mut String, name: &[u8]) -> Result<(), OutOfMemory>
     ensures { OnOk result (string_bytes text.new ≡ string_bytes text.old ++ name_text name.now) }
 {
     text.push_str(": did you mean ")?;

@@ -1,5 +1,6 @@
 pub mod All
 pub mod Among
+pub mod Declared
 pub mod First
 pub mod FirstRows
 pub mod FirstTree

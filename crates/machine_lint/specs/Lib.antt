@@ -7,4 +7,5 @@ pub mod Places
 pub mod Tree
 pub mod HasFault
 pub mod Lints
+pub mod Hints
 pub mod inner

@@ -2,6 +2,7 @@
 //! texts tells the first alone, and no place.
 #![tactic(auto)]
 
+mod hints;
 mod judge;
 mod lint;
 mod place;
@@ -10,6 +11,7 @@ mod search;
 mod spots;
 mod tree;
 
+pub use hints::{declared_units, near_name};
 pub use lint::lint_machine;
 pub use place::MachineLint;
 pub use spots::{Found, Spot};

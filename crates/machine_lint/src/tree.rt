@@ -95,7 +95,7 @@ fn judge_keys(
 }
 
 /// The first elements of an array, and none of what is no array.
-fn elements(value: Option<&Value>, most: usize) -> &[Value]
+pub(crate) fn elements(value: Option<&Value>, most: usize) -> &[Value]
     ensures { map view result.now ≡ take most (items_of (option_map (λ v. view v.now) value.entry)) }
 {
     let Some(value) = value else {
@@ -336,7 +336,7 @@ fn judge_alternatives(
 }
 
 /// The value at a key.
-fn look_up<'a>(table: &'a Table, name: &str) -> Option<&'a Value>
+pub(crate) fn look_up<'a>(table: &'a Table, name: &str) -> Option<&'a Value>
     ensures { option_map (λ v. view v.now) result ≡ get_member name.now (table_view table.entry.now) }
 {
     table.get(name)

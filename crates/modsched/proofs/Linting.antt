@@ -1,10 +1,11 @@
 -- What is told of texts of which no more is read than shows that they are too long.
-use Rattle.std.proofs.Common.{◌≡◌, ◌∙◌, ap, refl, subst, sym, ℕ, ◌<◌, List, ◌++◌, Option, None, Some, length, map, take, codes, inl, inr}
+use Rattle.std.proofs.Common.{◌≡◌, ◌∙◌, ap, refl, subst, sym, ℕ, ◌<◌, List, ◌++◌, Option, None, Some, flat_map, length, map, take, codes, inl, inr}
 use Rattle.std.specs.Prelude.{[], ◌∷◌, Ok, Err}
 use Rattle.std.proofs.lemmas.List.{take_all}
 use Rattle.std.proofs.lemmas.Bool.{cases_lt, lt-ltb}
 use Rattle.machine.specs.MachineText.{machine_of}
 use Rattle.machine.specs.declared.fault.MachineFault.TheVariants.{Limit}
+use Rattle.machine_lint.specs.Hints.{declared_units}
 use Rattle.machine_lint.specs.Lints as machines
 use Rattle.machine_lint.specs.Places.{nowhere}
 use Rattle.machine_lint.specs.declared.place.MachineLint.{MachineLint}
@@ -15,9 +16,9 @@ use Rattle.loop_lint.specs.declared.fault.LintFault.{LintFault}
 use Rattle.loop_lint.specs.declared.lacks.LoopLint.{LoopLint}
 use Rattle.loop_lint.specs.declared.lacks.LoopLint.TheVariants as told_as
 use Rattle.machine_data.specs.Machines.{MachineData}
-use Rattle.lint_text.specs.Lines.{loop_text}
+use Rattle.lint_text.specs.Lines.{loop_text, machine_line}
 use Rattle.lint_text.specs.Printout.{AreOfLoops, AreOfMachine, loop_lines, machine_in, machine_lines, machine_read}
-use Rattle.lint_text.specs.Document.{document_text, loop_value, loop_values, machine_values}
+use Rattle.lint_text.specs.Document.{document_text, loop_value, loop_values, machine_value, machine_values}
 use Rattle.lint_text.specs.declared.printout.LintText.{LintText}
 use Rattle.lint_text.specs.declared.printout.Named.{Named}
 use Rattle.command_line.specs.declared.command.LintTexts.{LintTexts}
@@ -50,6 +51,17 @@ tells-whole text lints h = elim (cases_lt most_read (length text)) [
       subst (λ (t : machines.Told). machines.Tells (take most_read text) t lints) (told-long (take most_read text) long.0) h in
       subst (λ (t : machines.Told). machines.Tells text t lints) (sym (told-long text long.1)) just
   | inr within ↦ subst (λ (t : List ℕ). machines.Tells t (machines.told_of t) lints) (take_all most_read text within) h
+]
+
+-- .. and with the units that the whole of it declares
+units-long : (text : List ℕ) → 1048576 < length text → declared_units text ≡ []
+unfolding declared_units
+units-long text h = rw (lt-ltb 1048576 (length text) h) refl
+
+units-whole : (text : List ℕ) → declared_units text ≡ declared_units (take most_read text)
+units-whole text = elim (cases_lt most_read (length text)) [
+  | inl more ↦ let long = taken_too_long text more in units-long text long.1 ∙ sym (units-long (take most_read text) long.0)
+  | inr within ↦ ap declared_units (sym (take_all most_read text within))
 ]
 
 -- .. of a text of loops
@@ -133,14 +145,18 @@ machine-whole path text None lints is are = absurd (cc)
 machine-whole path text (Some named) lints is are =
     let pair : (named.path.now, named.text.now) ≡ (path, take most_read text) = cc in
     let its_path : named.path.now ≡ path = ap (λ (p : List ℕ × List ℕ). p.0) pair in
-    let its_text : named.text.now ≡ take most_read text = ap (λ (p : List ℕ × List ℕ). p.1) pair in record {
+    let its_text : named.text.now ≡ take most_read text = ap (λ (p : List ℕ × List ℕ). p.1) pair in
+    let units : declared_units text ≡ declared_units named.text.now = units-whole text ∙ ap declared_units (sym its_text) in record {
       other = Some (whole text named);
       is_named = ap (λ (p : List ℕ). Some (p, text)) its_path;
       are = (
         tells-whole text lints (subst (λ (t : List ℕ). machines.Tells t (machines.told_of t) lints) its_text are.0),
         rw (its_text, machine_of-take text) at are.1,
       );
-      same = (refl, refl);
+      same = (
+        ap (λ (us : List (List ℕ)). flat_map (machine_line named.path.now us) lints) units,
+        ap (λ (us : List (List ℕ)). map (machine_value named.path.now us) lints) units,
+      );
       read = ap machine_read (sym (ap machine_of its_text ∙ machine_of-take text));
     }
 

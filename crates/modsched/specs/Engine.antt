@@ -12,7 +12,7 @@ use Rattle.command_line.specs.declared.command.Work.TheVariants.{Plain, OnMachin
 use Rattle.command_line.specs.declared.command.Task.{Task}
 use Rattle.command_line.specs.declared.command.Task.TheVariants as task
 use Rattle.command_line.specs.declared.command.Search as search
-use Rattle.command_line.specs.declared.command.Search.TheVariants.{Schedule, Json, Explain, Scheduled, Vary, Total, Run}
+use Rattle.command_line.specs.declared.command.Search.TheVariants.{Schedule, Json, Explain, Page, Scheduled, Vary, Total, Run}
 use Rattle.settings.specs.declared.format.Format.{Format}
 use Rattle.settings.specs.declared.format.Format.TheVariants as format
 use Rattle.command_line.specs.Lines.{first_path}
@@ -26,6 +26,7 @@ use Rattle.loops.specs.LoopFault.{LoopFault}
 use Rattle.loops.specs.Meaning.{loops_in}
 use Rattle.printouts.specs.Bounds.{IsBoundsText}
 use Rattle.printouts.specs.Explain.{IsExplainText}
+use Rattle.printouts.specs.ExplainDocuments.{IsExplainDocument, IsExplainPage}
 use Rattle.printouts.specs.Graphs.{IsDotText, IsEdgesText}
 use Rattle.printouts.specs.Outcomes.{Outcome, Written}
 use Rattle.printouts.specs.Plain.{IsPlainText}
@@ -105,7 +106,9 @@ first_for command left = if reads_first command then left else Some []
 abbrev pub IsSearchText : ℕ → ℕ → search.Search → MachineData → List LoopData → Written → Type 0
 IsSearchText ratio ceiling Schedule machine loops written = IsListingText ratio ceiling machine loops written
 IsSearchText ratio ceiling Json machine loops written = IsListingDocument ratio ceiling machine loops written
-IsSearchText ratio ceiling Explain machine loops written = IsExplainText ratio ceiling machine loops written
+IsSearchText ratio ceiling (Explain format.Text) machine loops written = IsExplainText ratio ceiling machine loops written
+IsSearchText ratio ceiling (Explain format.Json) machine loops written = IsExplainDocument ratio ceiling machine loops written
+IsSearchText ratio ceiling Page machine loops written = IsExplainPage ratio ceiling machine loops written
 IsSearchText ratio ceiling Scheduled machine loops written = AreScheduledGraphs ratio ceiling machine loops written
 IsSearchText ratio ceiling (Vary format.Text) machine loops written = IsVaryText ratio ceiling machine loops written
 IsSearchText ratio ceiling (Vary format.Json) machine loops written = IsVaryDocument ratio ceiling machine loops written

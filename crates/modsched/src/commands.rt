@@ -33,8 +33,8 @@ use printouts::{Printout, bounds_text, dot_text, edges_text};
 use searches::{json_text, run_text, schedule_text};
 use settings::Settings;
 use side_by_side::{
-    explain_text_on, plain_text_on, scheduled_text_on, vary_document_on, vary_text_on,
-    vary_total_on,
+    explain_document_on, explain_page_on, explain_text_on, plain_text_on, scheduled_text_on,
+    vary_document_on, vary_text_on, vary_total_on,
 };
 use std::alloc::Global;
 use std::thread::Threads;
@@ -157,7 +157,9 @@ fn search_text<R: Threads + Sync>(
     match search {
         Search::Schedule => schedule_text(rt, alloc, machine, loops, settings),
         Search::Json => json_text(rt, alloc, machine, loops, settings),
-        Search::Explain => explain_text_on(rt, alloc, machine, loops, settings),
+        Search::Explain(Format::Text) => explain_text_on(rt, alloc, machine, loops, settings),
+        Search::Explain(Format::Json) => explain_document_on(rt, alloc, machine, loops, settings),
+        Search::Page => explain_page_on(rt, alloc, machine, loops, settings),
         Search::Scheduled => scheduled_text_on(rt, alloc, machine, loops, settings),
         Search::Vary(Format::Text) => vary_text_on(rt, alloc, machine, loops, settings),
         Search::Vary(Format::Json) => vary_document_on(rt, alloc, machine, loops, settings),

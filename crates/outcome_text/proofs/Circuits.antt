@@ -1,5 +1,5 @@
 -- The circuit that the recurrence-constrained bound is due to.
-use Rattle.std.proofs.Common.{ℕ, ◌-◌, ◌<◌, ◌≤◌, List, [], ◌∷◌, length, inl, inr, arith}
+use Rattle.std.proofs.Common.{◌-◌, ◌<◌, ◌≤◌, List, [], ◌∷◌, length, inl, inr, arith}
 use Rattle.std.proofs.lemmas.Int.{ints}
 use Rattle.graph.specs.Dependences.{EdgeData}
 use Rattle.graph.specs.Walks.{FitsCircuits}

@@ -1,12 +1,14 @@
 //! The line of the units that the resource-constrained lower bound is due to.
 
-ghost use Rattle.std.specs.Prelude.{◌≡◌, ℕ, ◌≤◌, ◌<◌, ◌==◌, ◌++◌, List, length, count_by, IfOk, OnOk};
+ghost use Rattle.std.specs.Prelude.{◌≡◌, ℕ, ◌≤◌, ◌<◌, ◌==◌, ◌++◌, List, length, count_by, slice_index, IfOk, OnOk};
 ghost use Rattle.std.specs.List.{All};
 ghost use Rattle.machine_data.specs.declared.alternative.Row.{Row};
+ghost use Rattle.machine_data.specs.declared.limits.TheConstants.{MAX_UNITS};
 ghost use Rattle.machine_data.specs.Alternative.{AreAlternatives};
 ghost use Rattle.graph.specs.Units.{chosen_rows, use_of};
 ghost use Rattle.resource_bound.specs.Choices.{rows_at};
 ghost use Rattle.outcome_text.specs.Notes.{AreFullest, full_line, units_with};
+ghost use Rattle.outcome_text.specs.inner.Counts.{AreUses, IsCounted};
 
 use crate::listed::push_listed;
 use machine_data::{Alternatives, OutOfMemory, Row};
@@ -52,37 +54,73 @@ pub fn use_of(operations: &[Alternatives], choices: &[u8], unit: usize) -> u64
     uses
 }
 
-/// The rows of all choices, in the order of the operations.
-fn chosen_rows(
-    alloc: Global,
-    operations: &[Alternatives],
-    choices: &[u8],
-) -> Result<Vec<Row>, OutOfMemory>
-    requires { length choices.now ≡ length operations.now }
-    ensures { IfOk result (λ rows. rows.items ≡ chosen_rows operations.now choices.now) }
+/// As many units as a row could name.
+const UNITS: usize = 256;
+
+/// Adds to the count of each unit how many of the rows use it.
+fn count_rows(rows: &[Row], counts: &mut [u16])
+    requires few { length rows.now ≤ 16 }
+    requires long { length counts.old ≡ UNITS }
+    requires room { (unit : ℕ) → unit < UNITS → slice_index counts.old unit ≤ 2048 }
+    ensures { IsCounted rows.now counts.old counts.new }
 {
-    let mut rows = Vec::with_capacity(alloc, operations.len())?;
-    for number in 0..operations.len() {
-        rows.extend_from_slice(rows_at(operations, choices, number))?;
+    for row in rows {
+        let unit = usize::from(row.unit);
+        let count = counts[unit] + 1;
+        counts[unit] = count;
     }
-    Ok(rows)
 }
 
-/// Of `units` units, in order, those that exactly `uses` of the rows use.
-fn units_with(
+/// Counts how many of the rows of all choices use each unit.
+fn count_uses(operations: &[Alternatives], choices: &[u8], counts: &mut [u16])
+    requires each { length choices.now ≡ length operations.now }
+    requires few { length operations.now ≤ 128 }
+    requires long { length counts.old ≡ UNITS }
+    requires none { (unit : ℕ) → slice_index counts.old unit ≡ 0 }
+    ensures { AreUses (chosen_rows operations.now choices.now) counts.new }
+{
+    for number in 0..operations.len() {
+        count_rows(rows_at(operations, choices, number), counts);
+    }
+}
+
+/// Of `units` units, in order, those of which exactly `uses` uses are counted.
+fn units_counted(
     alloc: Global,
     units: usize,
-    rows: &[Row],
+    counts: &[u16],
     uses: u64,
 ) -> Result<Vec<usize>, OutOfMemory>
-    ensures { IfOk result (λ full. full.items ≡ units_with units rows.now uses) }
+    requires few { units ≤ MAX_UNITS }
+    requires long { length counts.now ≡ UNITS }
+    ensures { IfOk result (λ full. (rows : List Row) → AreUses rows counts.now → full.items ≡ units_with units rows uses) }
 {
     let mut full = Vec::new(alloc);
     for unit in 0..units {
-        if rows_with(rows, unit) == uses {
+        let count = u64::from(counts[unit]);
+        if count == uses {
             full.push(unit)?;
         }
     }
+    Ok(full)
+}
+
+/// Of `units` units, in order, those that exactly `uses` rows of all choices use.
+fn units_with(
+    alloc: Global,
+    units: usize,
+    operations: &[Alternatives],
+    choices: &[u8],
+    uses: u64,
+) -> Result<Vec<usize>, OutOfMemory>
+    requires units { units ≤ MAX_UNITS }
+    requires each { length choices.now ≡ length operations.now }
+    requires few { length operations.now ≤ 128 }
+    ensures { IfOk result (λ full. full.items ≡ units_with units (chosen_rows operations.now choices.now) uses) }
+{
+    let mut counts = [0; UNITS];
+    count_uses(operations, choices, &mut counts);
+    let full = units_counted(alloc, units, &counts, uses)?;
     Ok(full)
 }
 
@@ -98,11 +136,11 @@ pub fn fullest_of(alloc: Global, problem: &Problem) -> Result<Vec<usize>, OutOfM
     prove!(scheduling.operations() <= 128);
     let operations = scheduling.alternatives();
     let choices = unit_choices_of(alloc, operations)?;
-    let rows = chosen_rows(alloc, operations, choices.as_slice())?;
     units_with(
         alloc,
         problem.draft().units,
-        rows.as_slice(),
+        operations,
+        choices.as_slice(),
         scheduling.resources(),
     )
 }

@@ -1,4 +1,5 @@
 pub mod KernelLines
+pub mod Objects
 pub mod PlainLines
 pub mod Runnable
 pub mod Shapes

@@ -1,5 +1,5 @@
 -- Failures of intervals, one after another, and what holds the interval after them.
-use Rattle.std.proofs.Common.{◌≡◌, ℕ, ◌+◌, ◌-◌, ◌≤◌, List, [], ◌∷◌, length, Some, None, refl, sym, ◌∙◌, subst, arith}
+use Rattle.std.proofs.Common.{◌≡◌, ℕ, ◌+◌, ◌-◌, ◌≤◌, List, [], ◌∷◌, length, Some, None, refl, ◌∙◌, subst, arith}
 use Rattle.std.specs.Prelude.{slice_get}
 use Rattle.std.specs.List.{AllZip, range_with_len}
 use Rattle.std.proofs.lemmas.List.FromFn.{length-range_with_len}
@@ -15,12 +15,8 @@ use Rattle.problem_reasons.specs.declared.hold.Hold.TheVariants as hold
 use Rattle.problem_reasons.specs.Holds.{IsHold}
 
 -- the failures of so many intervals are so many
-pub each-told : (p : ProblemData) (n : ℕ) (failures : List Failure) → AllZip (FailsFor p) (range_with_len (first_of p) n) failures → length failures ≡ n
+each-told : (p : ProblemData) (n : ℕ) (failures : List Failure) → AllZip (FailsFor p) (range_with_len (first_of p) n) failures → length failures ≡ n
 each-told p n failures are = AllZip-long (FailsFor p) (range_with_len (first_of p) n) failures are ∙ length-range_with_len (first_of p) n
-
-pub all-told : (p : ProblemData) (n : ℕ) (failures : List Failure) → AllZip (FailsFor p) (range_with_len (first_of p) n) failures
-    → AllZip (FailsFor p) (range_with_len (first_of p) (length failures)) failures
-all-told p n failures are = subst (λ k. AllZip (FailsFor p) (range_with_len (first_of p) k) failures) (sym (each-told p n failures are)) are
 
 -- one failure for each interval before
 abbrev AreBefore : ProblemData → ℕ → List Failure → Type 0

@@ -1,4 +1,5 @@
 pub mod Units
+pub mod Sets
 pub mod CircuitTexts
 pub mod Holds
 pub mod Tries

@@ -1,10 +1,10 @@
 -- The lines of the intervals that are tried.
-use Rattle.std.specs.Prelude.{◌≡◌, ℕ, codes, List, [], ◌++◌}
-use Rattle.std.specs.List.{range_with_len}
-use Rattle.graph_text.specs.Texts.{AreTexts}
+use Rattle.std.specs.Prelude.{◌≡◌, ℕ, ◌<◌, ◌≤◌, true, codes, List, [], ◌++◌, map}
+use Rattle.std.specs.List.{AllZip, range_with_len}
+use Rattle.graph.specs.Schedules.{IsLawfulSchedule}
 use Rattle.modulo.specs.Schedules.{stages_of}
 use Rattle.problems.specs.declared.draft.Draft.{Draft}
-use Rattle.problems.specs.Problems.{ProblemData}
+use Rattle.problems.specs.Problems.{ProblemData, IsProblem}
 use Rattle.solutions.specs.declared.solving.outcome.Outcome.{Outcome}
 use Rattle.solutions.specs.declared.solving.outcome.Outcome.TheVariants.{Met, Failed}
 use Rattle.solutions.specs.declared.solving.tried.Failure.{Failure}
@@ -13,13 +13,17 @@ use Rattle.solutions.specs.Outcomes.{IsSolved, first_of}
 use Rattle.solutions.specs.Solutions.{schedule_of}
 use Rattle.solutions.specs.Told.{failures_of}
 use Rattle.solution_text.specs.Texts.{cause_text}
+use Rattle.reason_lines.specs.Least.{is_least_possible, least_line}
+use Rattle.reason_lines.specs.Runs.{runs_text}
+use Rattle.unit_sets.specs.declared.fullest.UnitSet.{UnitSet}
+use Rattle.unit_sets.specs.Fullest.{IsFullest}
 use Rattle.writing.specs.Words.{told}
 use Rattle.problem_reasons.specs.declared.hold.Hold.{Hold}
 use Rattle.problem_reasons.specs.Holds.{IsHold, hold_word}
 
--- `try I CAUSE`, with its culprits, with a line feed
-abbrev pub try_line : Draft → ℕ → Failure → List ℕ
-try_line draft ii failure = ((told (codes "try ") ii ++ codes " ") ++ cause_text draft failure.cause failure.culprit) ++ codes "\n"
+-- ` CAUSE`, with its culprits
+abbrev pub why_text : Draft → Failure → List ℕ
+why_text draft failure = codes " " ++ cause_text draft failure.cause failure.culprit
 
 -- `try I solution stages S`, with a line feed
 abbrev pub met_line : ℕ → ℕ → List ℕ
@@ -29,17 +33,25 @@ met_line ii stages = (told (codes "try ") ii ++ told (codes " solution stages ")
 abbrev pub hold_line : Hold → List ℕ
 hold_line hold = (codes "held by " ++ hold_word hold) ++ codes "\n"
 
--- the interval of the solution, and what holds it, where there is one
-abbrev pub IsEnd : ProblemData → Outcome → List ℕ → Type 0
-IsEnd problem (Met s) text = (hold : Hold) × IsHold problem s.ii hold × (text ≡ met_line s.ii (stages_of (schedule_of s)) ++ hold_line hold)
-IsEnd problem (Failed cause) text = text ≡ []
+-- where an interval is what the fullest set of units or the recurrences need, no lawful schedule of the problem has a shorter one
+abbrev pub LeastIsLeast : Type 0
+LeastIsLeast = (problem : ProblemData) (set : UnitSet) (ii shorter : ℕ) (times choices : List ℕ) → IsProblem problem → IsFullest problem.scheduling.operations set
+    → is_least_possible set.need problem.scheduling.recurrences ii ≡ true → 0 < shorter
+    → IsLawfulSchedule shorter problem.scheduling.operations problem.scheduling.graph.edges times choices → ii ≤ shorter
 
--- what a problem comes to, with a line for each interval, from the least one on, that gives no solution, with its cause and what is
--- after it
-pub record AreTries (problem : ProblemData) (outcome : Outcome) (text : List ℕ) : Type 0 where
+-- the interval of the solution, what holds it, and whether no shorter one is possible, where there is one. The fullest set of units has
+-- a need
+abbrev pub IsEnd : ProblemData → ℕ → Outcome → List ℕ → Type 0
+IsEnd problem need (Met s) text = (hold : Hold) × IsHold problem s.ii hold
+    × (text ≡ (met_line s.ii (stages_of (schedule_of s)) ++ hold_line hold) ++ least_line (is_least_possible need problem.scheduling.recurrences s.ii))
+IsEnd problem need (Failed cause) text = text ≡ []
+
+-- what a problem comes to, with the cause and the culprits of each interval, from the least one on, that gives no solution: a line for
+-- neighbouring ones of which the same is told
+pub record AreTries (problem : ProblemData) (need : ℕ) (outcome : Outcome) (text : List ℕ) : Type 0 where
   pub is_solved : IsSolved problem outcome
-  pub lines : List ℕ
-  pub are_lines : AreTexts (FailsFor problem) (try_line problem.draft) (range_with_len (first_of problem) (failures_of problem outcome)) lines
+  pub failures : List Failure
+  pub are_failures : AllZip (FailsFor problem) (range_with_len (first_of problem) (failures_of problem outcome)) failures
   pub end : List ℕ
-  pub is_end : IsEnd problem outcome end
-  pub is_text : text ≡ lines ++ end
+  pub is_end : IsEnd problem need outcome end
+  pub is_text : text ≡ runs_text (first_of problem) (map (why_text problem.draft) failures) ++ end

@@ -23,7 +23,7 @@ range-below n = λ k d lt.
     let e : get_or (range_with_len 0 n) k d ≡ 0 + k = get_or-range_with_len 0 n k d (omega arith) in
     omega arith
 
-units-below : (machine : MachineData) (schedule : ScheduleData) → All (λ unit. unit < length machine.units) (used_units machine schedule)
+pub units-below : (machine : MachineData) (schedule : ScheduleData) → All (λ unit. unit < length machine.units) (used_units machine schedule)
 unfolding used_units
 units-below machine schedule = All-filter (is_used schedule) (λ unit. unit < length machine.units) (range_with_len 0 (length machine.units)) (range-below (length machine.units))
 

@@ -1,9 +1,8 @@
 -- The graphs of loops that workers draw are those of the loops.
-use Rattle.std.proofs.Common.{◌≡◌, ◌&&◌, ◌∙◌, ◌<◌, ℕ, suc, Bool, List, [], ◌∷◌, ◌++◌, length, get_or, refl, sym, ap, ap₂, arith}
+use Rattle.std.proofs.Common.{◌≡◌, ◌&&◌, ◌<◌, ℕ, suc, Bool, List, [], ◌∷◌, ◌++◌, length, get_or, refl, ap₂, arith}
 use Rattle.std.specs.List.{flat_map, list_all}
 use Rattle.ims.specs.Problems.{ProblemData}
-use Rattle.candidates.specs.Listings.{is_met}
-use Rattle.scheduled_printouts.specs.Graphs.{AreDrawn, DrawnData}
+use Rattle.scheduled_printouts.specs.Graphs.{AreDrawn}
 use Rattle.side_by_side.specs.declared.parts.part.Part.{Part}
 use Rattle.side_by_side.specs.inner.Parts.{met_of, text_of}
 use Rattle.side_by_side.specs.inner.Scheduled.{IsDrawnPart}

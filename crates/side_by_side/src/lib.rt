@@ -6,6 +6,7 @@ mod commands;
 mod parts;
 
 pub use commands::explaining::explain_text_on;
+pub use commands::objects::{explain_document_on, explain_page_on};
 pub use commands::plain::plain_text_on;
 pub use commands::runs::run_text_on;
 pub use commands::scheduling::scheduled_text_on;

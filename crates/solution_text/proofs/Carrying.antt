@@ -44,7 +44,7 @@ of_other-more reads i value before after first d within b other a =
 
 -- no distance is above 16
 
-few-in : (reads : List Read) (value : ℕ) → All (λ (r : Read). r.distance ≤ 16) reads → farthest (reads_of reads value) ≤ 16
+pub few-in : (reads : List Read) (value : ℕ) → All (λ (r : Read). r.distance ≤ 16) reads → farthest (reads_of reads value) ≤ 16
 few-in [] value all = omega arith
 few-in (r ∷ reads) value all =
     let rest : farthest (reads_of reads value) ≤ 16 = few-in reads value (λ k d lt. all (suc k) d (omega arith)) in

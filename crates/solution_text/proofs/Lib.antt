@@ -3,3 +3,6 @@ pub mod Places
 pub mod Meant
 pub mod Shown
 pub mod Carrying
+pub mod Chaining
+pub mod Owned
+pub mod Raising

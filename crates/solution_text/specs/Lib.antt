@@ -8,3 +8,4 @@ pub mod Texts
 pub mod Outcomes
 pub mod Verdicts
 pub mod Promises
+pub mod inner

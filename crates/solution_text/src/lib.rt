@@ -2,6 +2,7 @@
 //! them; and what a check says of them.
 #![tactic(auto)]
 
+mod chains;
 mod failures;
 mod files;
 mod heads;

@@ -1,14 +1,17 @@
 //! The lines of the operations of a solution.
 
-ghost use Rattle.std.specs.Prelude.{◌≡◌, ◌++◌, ◌<◌, codes, length, OnOk};
+ghost use Rattle.std.specs.Prelude.{◌≡◌, ◌++◌, ◌<◌, ◌≤◌, codes, length, OnOk};
 ghost use Rattle.std.specs.List.{flat_map};
 ghost use Rattle.modulo.specs.Schedules.{stage_of};
 ghost use Rattle.solutions.specs.Solutions.{schedule_of};
 ghost use Rattle.writing.specs.Words.{told};
 ghost use Rattle.solution_text.specs.Operations.{hold_text, op_line, op_lines, placed_text, slot_text};
+ghost use Rattle.solution_text.specs.inner.Chains.{AreChained, makers_of, readers_of};
 
+use crate::chains::{Chains, chain_reads, chain_values};
 use crate::names::push_name;
 use crate::uses::push_uses;
+use machine_data::limits::{MAX_READS, MAX_STATEMENTS, MAX_VALUES};
 use machine_data::{OutOfMemory, Row};
 use problems::Draft;
 use solutions::Solution;
@@ -109,22 +112,97 @@ fn stage_of(solution: &Solution, op: usize) -> u64
 
 /// Appends the line of an operation.
 #[tactic(auto, unfolding(crate::specs::Operations::op_line))]
-fn push_op(text: &mut Vec<u8>, solution: &Solution, op: usize) -> Result<(), OutOfMemory>
-    requires { op < length solution.now.problem.scheduling.operations }
+fn push_op(
+    text: &mut Vec<u8>,
+    solution: &Solution,
+    op: usize,
+    of_readers: Chains<'_>,
+    of_makers: Chains<'_>,
+) -> Result<(), OutOfMemory>
+    requires there { op < length solution.now.problem.scheduling.operations }
+    requires reader { op < length of_readers.firsts.now }
+    requires readers { AreChained (readers_of solution.now.problem.draft.reads.items) 0 of_readers.firsts.now of_readers.nexts.now }
+    requires maker { op < length of_makers.firsts.now }
+    requires makers { AreChained (makers_of solution.now.problem.draft.values.items) 0 of_makers.firsts.now of_makers.nexts.now }
     ensures ok { OnOk result (text.new.items ≡ text.old.items ++ op_line solution.now op) }
 {
     push_placed(text, solution, op)?;
     push_slot(text, solution, op)?;
-    push_uses(text, solution, op, stage_of(solution, op))?;
+    let stage = stage_of(solution, op);
+    push_uses(text, solution, op, stage, of_readers, of_makers)?;
     text.push_piece("\n")
 }
+
+/// Appends the lines of all operations, in order, where their reads and their values are chained.
+fn push_chained(
+    text: &mut Vec<u8>,
+    solution: &Solution,
+    of_readers: Chains<'_>,
+    of_makers: Chains<'_>,
+) -> Result<(), OutOfMemory>
+    requires each_reader { length of_readers.firsts.now ≡ length solution.now.problem.scheduling.operations }
+    requires readers { AreChained (readers_of solution.now.problem.draft.reads.items) 0 of_readers.firsts.now of_readers.nexts.now }
+    requires each_maker { length of_makers.firsts.now ≡ length solution.now.problem.scheduling.operations }
+    requires makers { AreChained (makers_of solution.now.problem.draft.values.items) 0 of_makers.firsts.now of_makers.nexts.now }
+    ensures ok { OnOk result (text.new.items ≡ text.old.items ++ op_lines solution.now) }
+{
+    for op in 0..solution.problem().scheduling().operations() {
+        push_op(text, solution, op, of_readers, of_makers)?;
+    }
+    Ok(())
+}
+
+/// Appends the lines of all operations, in order, with room for as many chained reads as there are.
+fn push_in(
+    text: &mut Vec<u8>,
+    solution: &Solution,
+    next_reads: &mut [u16],
+) -> Result<(), OutOfMemory>
+    requires { length solution.now.problem.draft.reads.items ≤ length next_reads.old }
+    ensures ok { OnOk result (text.new.items ≡ text.old.items ++ op_lines solution.now) }
+{
+    let draft = solution.problem().draft();
+    let (operations, reads, values) = (
+        draft.operations.len(),
+        draft.reads.len(),
+        draft.values.len(),
+    );
+    let mut first_reads = [0; MAX_STATEMENTS];
+    chain_reads(
+        draft.reads.as_slice(),
+        &mut first_reads[..operations],
+        &mut next_reads[..reads],
+    );
+    let mut first_values = [0; MAX_STATEMENTS];
+    let mut next_values = [0; MAX_VALUES];
+    chain_values(
+        draft.values.as_slice(),
+        &mut first_values[..operations],
+        &mut next_values[..values],
+    );
+    let of_readers = Chains {
+        firsts: &first_reads[..operations],
+        nexts: &next_reads[..reads],
+    };
+    let of_makers = Chains {
+        firsts: &first_values[..operations],
+        nexts: &next_values[..values],
+    };
+    push_chained(text, solution, of_readers, of_makers)
+}
+
+/// Reads for which there is little room to clear: most problems have no more.
+const FEW_READS: usize = 512;
 
 /// Appends the lines of all operations, in order.
 pub(crate) fn push_ops(text: &mut Vec<u8>, solution: &Solution) -> Result<(), OutOfMemory>
     ensures ok { OnOk result (text.new.items ≡ text.old.items ++ op_lines solution.now) }
 {
-    for op in 0..solution.problem().scheduling().operations() {
-        push_op(text, solution, op)?;
+    if solution.problem().draft().reads.len() <= FEW_READS {
+        let mut few = [0; FEW_READS];
+        push_in(text, solution, &mut few)
+    } else {
+        let mut all = [0; MAX_READS];
+        push_in(text, solution, &mut all)
     }
-    Ok(())
 }

@@ -3,31 +3,30 @@
 ghost use Rattle.std.specs.Prelude.{◌≡◌, ◌++◌, ◌==◌, ◌<◌, ◌≤◌, codes, length, take, if◌then◌else◌, OnOk};
 ghost use Rattle.modulo.specs.Schedules.{stage_of};
 ghost use Rattle.solutions.specs.Solutions.{schedule_of};
-ghost use Rattle.solution_text.specs.Operations.{headed, read_text, reads_text, uses_text, write_text, writes_head, writes_text};
+ghost use Rattle.solution_text.specs.Operations.{headed, reads_text, uses_text, writes_head, writes_text};
+ghost use Rattle.solution_text.specs.Registers.{source_of, spaced_register};
+ghost use Rattle.solution_text.specs.inner.Chains.{AreChained, makers_of, readers_of};
 
+use crate::chains::Chains;
 use crate::named::{push_spaced, register_after};
 use machine_data::OutOfMemory;
 use registers::Read;
 use solutions::Solution;
 use writing::Text;
 
-/// Appends the register that a read of an operation of this stage finds its value in; nothing of a read of another one.
-fn push_read(
+/// Appends the register that a read of an operation of this stage finds its value in.
+fn push_source(
     text: &mut Vec<u8>,
     solution: &Solution,
-    op: usize,
     stage: u64,
     read: Read,
 ) -> Result<(), OutOfMemory>
-    requires stage { stage ≡ stage_of (schedule_of solution.now) op }
+    requires stage { stage ≡ stage_of (schedule_of solution.now) read.reader }
     requires few { stage < 64 }
     requires value { read.value < length solution.now.problem.draft.values.items }
     requires distance { read.distance ≤ 16 }
-    ensures ok { OnOk result (text.new.items ≡ text.old.items ++ read_text solution.now op read) }
+    ensures ok { OnOk result (text.new.items ≡ text.old.items ++ spaced_register solution.now.problem.draft (source_of solution.now read)) }
 {
-    if read.reader != op {
-        return Ok(());
-    }
     let register = register_after(solution, read.value, read.distance + stage);
     push_spaced(text, solution.problem().draft(), register)
 }
@@ -38,36 +37,21 @@ fn push_read_registers(
     solution: &Solution,
     op: usize,
     stage: u64,
+    of_readers: Chains<'_>,
 ) -> Result<(), OutOfMemory>
     requires stage { stage ≡ stage_of (schedule_of solution.now) op }
     requires few { stage < 64 }
+    requires there { op < length of_readers.firsts.now }
+    requires chained { AreChained (readers_of solution.now.problem.draft.reads.items) 0 of_readers.firsts.now of_readers.nexts.now }
     ensures ok { OnOk result (text.new.items ≡ text.old.items ++ reads_text solution.now op) }
 {
     let reads = solution.problem().draft().reads.as_slice();
-    for read in reads {
-        push_read(text, solution, op, stage, *read)?;
+    let mut at = of_readers.first(op);
+    while at < reads.len() {
+        push_source(text, solution, stage, reads[at])?;
+        at = of_readers.next(at);
     }
     Ok(())
-}
-
-/// Appends the register that an operation of this stage puts a value into; nothing of a value of another one.
-fn push_write(
-    text: &mut Vec<u8>,
-    solution: &Solution,
-    op: usize,
-    stage: u64,
-    value: usize,
-) -> Result<(), OutOfMemory>
-    requires stage { stage ≡ stage_of (schedule_of solution.now) op }
-    requires few { stage < 64 }
-    requires there { value < length solution.now.problem.draft.values.items }
-    ensures ok { OnOk result (text.new.items ≡ text.old.items ++ write_text solution.now op value) }
-{
-    let draft = solution.problem().draft();
-    if draft.values[value].maker != op {
-        return Ok(());
-    }
-    push_spaced(text, draft, register_after(solution, value, stage))
 }
 
 /// Appends the registers that an operation of this stage writes.
@@ -76,13 +60,20 @@ fn push_write_registers(
     solution: &Solution,
     op: usize,
     stage: u64,
+    of_makers: Chains<'_>,
 ) -> Result<(), OutOfMemory>
     requires stage { stage ≡ stage_of (schedule_of solution.now) op }
     requires few { stage < 64 }
+    requires there { op < length of_makers.firsts.now }
+    requires chained { AreChained (makers_of solution.now.problem.draft.values.items) 0 of_makers.firsts.now of_makers.nexts.now }
     ensures ok { OnOk result (text.new.items ≡ text.old.items ++ writes_text solution.now op) }
 {
-    for value in 0..solution.problem().draft().values.len() {
-        push_write(text, solution, op, stage, value)?;
+    let draft = solution.problem().draft();
+    let values = draft.values.as_slice();
+    let mut value = of_makers.first(op);
+    while value < values.len() {
+        push_spaced(text, draft, register_after(solution, value, stage))?;
+        value = of_makers.next(value);
     }
     Ok(())
 }
@@ -102,15 +93,18 @@ fn push_reads(
     solution: &Solution,
     op: usize,
     stage: u64,
+    of_readers: Chains<'_>,
 ) -> Result<(), OutOfMemory>
     requires stage { stage ≡ stage_of (schedule_of solution.now) op }
     requires few { stage < 64 }
+    requires there { op < length of_readers.firsts.now }
+    requires chained { AreChained (readers_of solution.now.problem.draft.reads.items) 0 of_readers.firsts.now of_readers.nexts.now }
     ensures ok { OnOk result (text.new.items ≡ text.old.items ++ headed (codes "; reads") (reads_text solution.now op)) }
 {
     let start = text.len();
     text.push_piece("; reads")?;
     let end = text.len();
-    push_read_registers(text, solution, op, stage)?;
+    push_read_registers(text, solution, op, stage, of_readers)?;
     without_empty(text, start, end);
     Ok(())
 }
@@ -121,16 +115,19 @@ fn push_writes(
     solution: &Solution,
     op: usize,
     stage: u64,
+    of_makers: Chains<'_>,
     head: &str,
 ) -> Result<(), OutOfMemory>
     requires stage { stage ≡ stage_of (schedule_of solution.now) op }
     requires few { stage < 64 }
+    requires there { op < length of_makers.firsts.now }
+    requires chained { AreChained (makers_of solution.now.problem.draft.values.items) 0 of_makers.firsts.now of_makers.nexts.now }
     ensures ok { OnOk result (text.new.items ≡ text.old.items ++ headed head.now (writes_text solution.now op)) }
 {
     let start = text.len();
     text.push_piece(head)?;
     let end = text.len();
-    push_write_registers(text, solution, op, stage)?;
+    push_write_registers(text, solution, op, stage, of_makers)?;
     without_empty(text, start, end);
     Ok(())
 }
@@ -148,13 +145,19 @@ pub(crate) fn push_uses(
     solution: &Solution,
     op: usize,
     stage: u64,
+    of_readers: Chains<'_>,
+    of_makers: Chains<'_>,
 ) -> Result<(), OutOfMemory>
     requires stage { stage ≡ stage_of (schedule_of solution.now) op }
     requires few { stage < 64 }
+    requires reader { op < length of_readers.firsts.now }
+    requires readers { AreChained (readers_of solution.now.problem.draft.reads.items) 0 of_readers.firsts.now of_readers.nexts.now }
+    requires maker { op < length of_makers.firsts.now }
+    requires makers { AreChained (makers_of solution.now.problem.draft.values.items) 0 of_makers.firsts.now of_makers.nexts.now }
     ensures ok { OnOk result (text.new.items ≡ text.old.items ++ uses_text solution.now op) }
 {
     let start = text.len();
-    push_reads(text, solution, op, stage)?;
+    push_reads(text, solution, op, stage, of_readers)?;
     let head = writes_head(text.len() > start);
-    push_writes(text, solution, op, stage, head)
+    push_writes(text, solution, op, stage, of_makers, head)
 }

@@ -1,15 +1,20 @@
 //! The lines of the values of a solution, and of the registers that hold values of before the first iteration.
 
-ghost use Rattle.std.specs.Prelude.{◌≡◌, ◌++◌, ◌<◌, ◌≤◌, length, Some, OnOk};
+ghost use Rattle.std.specs.Prelude.{◌≡◌, ◌++◌, ◌<◌, ◌≤◌, length, map, Some, OnOk};
+ghost use Rattle.std.specs.List.{All};
 ghost use Rattle.instances.specs.Runs.{carried_by};
 ghost use Rattle.problems.specs.declared.draft.File.TheVariants.{Rotating, Unallotted};
+ghost use Rattle.registers.specs.declared.value.Read.{Read};
 ghost use Rattle.solutions.specs.Runs.{run_of};
 ghost use Rattle.solution_text.specs.Values.{initial_line, initial_lines, initials_of, live_text, value_line, value_line_in, value_lines};
+ghost use Rattle.solution_text.specs.inner.Carried.{AreCarried, IsRaised, out_of};
 
 use crate::named::{push_register, register_after};
 use crate::names::push_name;
 use machine_data::OutOfMemory;
-use problems::File;
+use machine_data::limits::MAX_VALUES;
+use problems::{File, Value};
+use registers::Read;
 use solutions::Solution;
 use writing::{Text, push_told};
 
@@ -121,28 +126,97 @@ fn push_initial(
     text.push_piece("\n")
 }
 
-/// Appends the lines of the initial values of a value.
+/// Appends the lines of the initial values of a value that is carried on for this many iterations.
 #[tactic(auto, unfolding(crate::specs::Values::initials_of))]
 fn push_initials_of(
     text: &mut Vec<u8>,
     solution: &Solution,
     value: usize,
+    iterations: u64,
 ) -> Result<(), OutOfMemory>
-    requires { value < length solution.now.problem.draft.values.items }
+    requires there { value < length solution.now.problem.draft.values.items }
+    requires carried { iterations ≡ carried_by (run_of solution.now) value }
+    requires few { iterations ≤ 16 }
     ensures ok { OnOk result (text.new.items ≡ text.old.items ++ initials_of solution.now value) }
 {
-    for before in 0..carried(solution, value) {
+    for before in 0..iterations {
         push_initial(text, solution, value, before + 1)?;
     }
     Ok(())
 }
 
+/// Writes of each value whether it is live at the end, as the number of iterations that it is then carried on.
+fn fill_outs(values: &[Value], iterations: &mut [u64])
+    requires { length iterations.old ≡ length values.now }
+    ensures { iterations.new ≡ map out_of values.now }
+{
+    for k in 0..values.len() {
+        iterations[k] = if values[k].out { 1 } else { 0 };
+    }
+}
+
+/// Raises the entry of each value to the distances of its reads.
+fn raise_to_reads(reads: &[Read], iterations: &mut [u64])
+    requires { All (λ (r : Read). r.value < length iterations.old) reads.now }
+    ensures { IsRaised reads.now iterations.old iterations.new }
+{
+    for read in reads {
+        let most = read.distance.max(iterations[read.value]);
+        iterations[read.value] = most;
+    }
+}
+
+/// Writes how many iterations each value is carried on.
+fn fill_carried(solution: &Solution, iterations: &mut [u64])
+    requires { length iterations.old ≡ length solution.now.problem.draft.values.items }
+    ensures { AreCarried solution.now iterations.new }
+{
+    let draft = solution.problem().draft();
+    fill_outs(draft.values.as_slice(), iterations);
+    raise_to_reads(draft.reads.as_slice(), iterations);
+}
+
+/// Appends the lines of all initial values, value by value; `iterations` has how many iterations each value is carried on.
+fn push_carried(
+    text: &mut Vec<u8>,
+    solution: &Solution,
+    iterations: &[u64],
+) -> Result<(), OutOfMemory>
+    requires { AreCarried solution.now iterations.now }
+    ensures ok { OnOk result (text.new.items ≡ text.old.items ++ initial_lines solution.now) }
+{
+    for value in 0..solution.problem().draft().values.len() {
+        push_initials_of(text, solution, value, iterations[value])?;
+    }
+    Ok(())
+}
+
+/// Appends the lines of all initial values, value by value, with room for as many values as there are.
+fn push_initials_in(
+    text: &mut Vec<u8>,
+    solution: &Solution,
+    room: &mut [u64],
+) -> Result<(), OutOfMemory>
+    requires { length solution.now.problem.draft.values.items ≤ length room.old }
+    ensures ok { OnOk result (text.new.items ≡ text.old.items ++ initial_lines solution.now) }
+{
+    let count = solution.problem().draft().values.len();
+    fill_carried(solution, &mut room[..count]);
+    push_carried(text, solution, &room[..count])
+}
+
+/// Values for which there is little room to clear: most problems have no more.
+const FEW_VALUES: usize = 128;
+
 /// Appends the lines of all initial values, value by value.
 pub(crate) fn push_initials(text: &mut Vec<u8>, solution: &Solution) -> Result<(), OutOfMemory>
     ensures ok { OnOk result (text.new.items ≡ text.old.items ++ initial_lines solution.now) }
 {
-    for value in 0..solution.problem().draft().values.len() {
-        push_initials_of(text, solution, value)?;
+    if solution.problem().draft().values.len() <= FEW_VALUES {
+        let mut few = [0; FEW_VALUES];
+        push_initials_in(text, solution, &mut few)
+    } else {
+        let mut all = [0; MAX_VALUES];
+        push_initials_in(text, solution, &mut all)
     }
-    Ok(())
 }

@@ -62,7 +62,15 @@ const LINES: &[(&[&str], &str)] = &[
     ),
     (
         &["explain", "m", "--workers", "+1", "l", "--cut", "256"],
-        "Loops { loops: \"l\", names: [], work: OnMachine { machine: \"m\", task: Search(Settings { ratio: 6, ceiling: 32, workers: 1, cut: 256 }, Explain) } }",
+        "Loops { loops: \"l\", names: [], work: OnMachine { machine: \"m\", task: Search(Settings { ratio: 6, ceiling: 32, workers: 1, cut: 256 }, Explain(Text)) } }",
+    ),
+    (
+        &["explain", "m", "l", "--format", "json"],
+        "Loops { loops: \"l\", names: [], work: OnMachine { machine: \"m\", task: Search(Settings { ratio: 6, ceiling: 32, workers: 4, cut: 4 }, Explain(Json)) } }",
+    ),
+    (
+        &["explain", "--format=html", "m", "l"],
+        "Loops { loops: \"l\", names: [], work: OnMachine { machine: \"m\", task: Search(Settings { ratio: 6, ceiling: 32, workers: 4, cut: 4 }, Page) } }",
     ),
     (
         &["vary", "m", "--ratio", "3", "l"],

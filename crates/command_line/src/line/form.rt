@@ -165,7 +165,7 @@ fn explain<'a>(alloc: Global) -> Result<Command<'a>, OutOfMemory>
         help::EXPLAIN_ABOUT,
         help::EXPLAIN_LONG_ABOUT,
     )?;
-    with_search(alloc, command)
+    with_search(alloc, command)?.arg(format_or_page(alloc))
 }
 
 // The subcommand `dot`.
@@ -436,6 +436,14 @@ fn format<'a>(alloc: Global) -> Arg<'a>
     ensures local { result.global ≡ false }
 {
     option(alloc, "format", "FORMAT", "text", help::FORMAT)
+}
+
+// The same, or that it is told as a page.
+fn format_or_page<'a>(alloc: Global) -> Arg<'a>
+    ensures rule { rule_of result ≡ format_rule }
+    ensures local { result.global ≡ false }
+{
+    option(alloc, "format", "FORMAT", "text", help::FORMAT_OR_PAGE)
 }
 
 // An option that may be left out.

@@ -99,10 +99,7 @@ fn report_given(name: &str, values: &ArgMatches<'_>) -> Option<Report>
     match name {
         "edges" => Some(Report::Edges),
         "dot" => graphs_given(values),
-        "explain" => match settings_given(values) {
-            Some(settings) => Some(Report::Explain(settings)),
-            None => None,
-        },
+        "explain" => reasons_given(values),
         _ => None,
     }
 }
@@ -119,6 +116,18 @@ fn graphs_given(values: &ArgMatches<'_>) -> Option<Report>
     match settings_given(values) {
         Some(settings) => Some(Report::Scheduled(settings)),
         None => None,
+    }
+}
+
+// Why problems have their intervals, which is told as text alone.
+fn reasons_given(values: &ArgMatches<'_>) -> Option<Report>
+    ensures meant { IfSome result (λ told. IsReportGiven told (codes "explain") (rows_of (found_of values.now))) }
+    ensures none { IfNone result ((told : Report) → ¬ IsReportGiven told (codes "explain") (rows_of (found_of values.now))) }
+{
+    let settings = settings_given(values)?;
+    match format_given(values)? {
+        Format::Text => Some(Report::Explain(settings)),
+        Format::Json => None,
     }
 }
 
@@ -357,7 +366,7 @@ fn search_given(name: &str, values: &ArgMatches<'_>) -> Option<Search>
             None => None,
         },
         "json" => Some(Search::Json),
-        "explain" => Some(Search::Explain),
+        "explain" => explain_given(values),
         "dot" => scheduled_given(values),
         "vary" => vary_given(values),
         "run" => match trip_given(values) {
@@ -365,6 +374,21 @@ fn search_given(name: &str, values: &ArgMatches<'_>) -> Option<Search>
             None => None,
         },
         _ => None,
+    }
+}
+
+// Why loops have their intervals, in one of the formats or as a page.
+fn explain_given(values: &ArgMatches<'_>) -> Option<Search>
+    ensures meant { IfSome result (λ s. IsSearchGiven s (codes "explain") (rows_of (found_of values.now))) }
+    ensures none { IfNone result ((s : Search) → ¬ IsSearchGiven s (codes "explain") (rows_of (found_of values.now))) }
+{
+    let word = values.get_str("format")?;
+    if word == "html" {
+        return Some(Search::Page);
+    }
+    match Format::named(word) {
+        Some(format) => Some(Search::Explain(format)),
+        None => None,
     }
 }
 

@@ -7,14 +7,15 @@ ghost use Rattle.ims.specs.Problems.{mii_of};
 ghost use Rattle.candidates.specs.Reasons.{IsReason};
 ghost use Rattle.candidates.specs.declared.evidence.Reason.{Reason};
 ghost use Rattle.told_choices.specs.Told.{IsTold, choice_of};
-ghost use Rattle.explain.specs.Runs.{runs_text};
-ghost use Rattle.explain.specs.Tries.{AreTries, IsEnd, hold_line, kernel_line, least_line, why_text};
+ghost use Rattle.reason_lines.specs.Least.{least_line};
+ghost use Rattle.reason_lines.specs.Runs.{runs_text};
+ghost use Rattle.explain.specs.Tries.{AreTries, IsEnd, hold_line, kernel_line, why_text};
 
 use crate::intervals::reason_texts::push_reason;
-use crate::intervals::runs::push_runs;
 use candidates::Reason;
 use ims::Prepared;
 use machine_data::OutOfMemory;
+use reason_lines::{push_least, push_runs};
 use std::alloc::Global;
 use told_choices::{Chosen, Hold, Told, hold_of, is_least_possible};
 use writing::{Text, push_both, push_told};
@@ -76,16 +77,6 @@ fn push_hold(text: &mut Vec<u8>, hold: Hold) -> Result<(), OutOfMemory>
 {
     push_both(text, "held by ", hold.word())?;
     text.push_piece("\n")
-}
-
-/// Appends the line that no shorter interval is possible, if that is so.
-fn push_least(text: &mut Vec<u8>, least: bool) -> Result<(), OutOfMemory>
-    ensures ok { OnOk result (text.new.items ≡ text.old.items ++ least_line least) }
-{
-    if !least {
-        return Ok(());
-    }
-    text.push_piece("least possible\n")
 }
 
 /// Appends the lines of an interval, in cycles, that gives a kernel of `stages` stages.

@@ -14,7 +14,10 @@ use rotating::{Lifetime, live_in};
 use std::alloc::Global;
 
 /// How many registers hold a value in each row; the lifetimes are those of the schedule.
-pub(crate) fn counts_of(
+///
+/// # Errors
+/// [`OutOfMemory`] where memory ran out.
+pub fn counts_of(
     alloc: Global,
     schedule: &Schedule,
     lives: &[Lifetime],
@@ -30,7 +33,7 @@ pub(crate) fn counts_of(
 }
 
 /// The greatest of the numbers, 0 where there are none.
-pub(crate) fn greatest_of(counts: &[u64]) -> u64
+pub fn greatest_of(counts: &[u64]) -> u64
     ensures { result ≡ greatest_of counts.now }
 {
     let mut greatest = 0;

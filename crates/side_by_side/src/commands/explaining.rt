@@ -25,7 +25,7 @@ use std::alloc::Global;
 use std::thread::Threads;
 
 /// About how much work the explanation of a loop is for each of its statements, in statements that are executed once.
-const EXPLAINED: u64 = 400;
+pub(crate) const EXPLAINED: u64 = 400;
 
 /// What `explain` writes, by at most as many workers as the settings say, side by side. One worker starts no thread, and
 /// neither do a single loop and loops with few statements.

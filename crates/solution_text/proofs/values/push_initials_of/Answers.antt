@@ -10,8 +10,8 @@ loop-before-preserved c = numbered-more (λ k. initial_line c.args.solution.now 
 pub returns : goal.returns
 unfolding initials_of
 returns c =
-    let all : c.loop-before.before ≡ c.carried-before-end.result = omega arith in
+    let all : c.loop-before.before ≡ c.args.iterations = omega arith in
     record {
       ok = c.loop-before.invariant
-          ∙ ap (λ n. c.args.text.now.items ++ flat_map (λ k. initial_line c.args.solution.now c.args.value (k + 1)) (range_with_len 0 n)) (all ∙ c.carried-before-end.ensures.value);
+          ∙ ap (λ n. c.args.text.now.items ++ flat_map (λ k. initial_line c.args.solution.now c.args.value (k + 1)) (range_with_len 0 n)) (all ∙ c.requires.carried);
     }

@@ -6,7 +6,8 @@ use Rattle.candidates.specs.declared.evidence.Reason.{Reason}
 use Rattle.candidates.specs.Reasons.{FailsFor}
 use Rattle.told_choices.specs.Holds.{IsHold}
 use Rattle.told_choices.specs.Told.{choice_of}
-use Rattle.explain.specs.Tries.{hold_line, kernel_line, least_line}
+use Rattle.reason_lines.specs.Least.{least_line}
+use Rattle.explain.specs.Tries.{hold_line, kernel_line}
 use Rattle.explain.proofs.Tried.{met-end}
 use Rattle.explain.proofs.intervals.tries.push_end.Goals as goal
 

@@ -1,4 +1,4 @@
-use Rattle.std.proofs.Common.{◌≡◌, ◌∙◌, ℕ, Bool, List, sym, subst, ap, arith, of_calls, rules}
+use Rattle.std.proofs.Common.{◌∙◌, ℕ, Bool, List, sym, subst, ap, arith, of_calls, rules}
 use Rattle.std.specs.List.{list_all}
 use Rattle.scheduled_printouts.specs.Graphs.{AreDrawn}
 use Rattle.side_by_side.specs.declared.parts.part.Part.{Part}

@@ -1,7 +1,0 @@
-use Rattle.std.proofs.Common.{◌≡◌, ◌++◌}
-use Rattle.std.specs.List.{flat_map, range_with_len}
-use Rattle.explain.specs.SetLines.{member_text}
-use Rattle.explain.proofs.set_line.push_members.Given as goal
-
-abbrev pub invariant-loop-unit : goal.invariant-loop-unit
-invariant-loop-unit l = l.text.items ≡ l.initial.text.items ++ flat_map (member_text l.machine l.set) (range_with_len 0 l.unit)

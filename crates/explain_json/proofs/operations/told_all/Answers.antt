@@ -1,0 +1,8 @@
+use Rattle.explain_json.specs.Operations.{operation_object}
+use Rattle.explain_json.proofs.Lists.{numbered-more}
+use Rattle.explain_json.proofs.operations.told_all.Goals as goal
+
+pub loop-op-preserved : goal.loop-op-preserved
+loop-op-preserved c =
+    numbered-more (operation_object c.args.prepared.now c.args.heights.now) c.loop-op.values.items c.push.new.self.items c.in_ok-told_operation.field-0 c.loop-op.op c.loop-op.invariant
+    c.in_ok-told_operation.ensures c.in_ok-push.ensures.items

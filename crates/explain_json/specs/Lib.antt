@@ -1,0 +1,9 @@
+pub mod Parts
+pub mod Edges
+pub mod Units
+pub mod Tries
+pub mod Operations
+pub mod Kernels
+pub mod Loops
+pub mod Documents
+pub mod inner

@@ -1,0 +1,153 @@
+//! The kernel of a loop, with its schedule and its registers.
+
+ghost use Rattle.std.specs.Prelude.{◌≡◌, ◌-◌, length, IfOk};
+ghost use Rattle.std.specs.List.{All};
+ghost use Rattle.serde_json.specs.Data.{array, string};
+ghost use Rattle.serde_json.specs.View.{items_of, view};
+ghost use Rattle.candidates.specs.Reasons.{IsMet};
+ghost use Rattle.overlap.specs.Lifetimes.{lifetimes_of};
+ghost use Rattle.schedule_lines.specs.Columns.{used_units};
+ghost use Rattle.schedule_lines.specs.Slots.{greatest_live, live_counts};
+ghost use Rattle.explain_json.specs.Parts.{array_of, counts_value};
+ghost use Rattle.explain_json.specs.Units.{unit_name};
+ghost use Rattle.explain_json.specs.inner.Objects.{kernel_of};
+ghost use Rattle.explain_json.specs.Kernels.{kernel_object, slots_of, values_value};
+
+use crate::names::told_unit_names;
+use crate::slots::told_slots;
+use crate::values::{told_counts, told_values};
+use candidates::{Met, Reason};
+use ims::Prepared;
+use machine_data::{Machine, OutOfMemory};
+use rotating::lifetimes;
+use schedule_lines::{Takers, counts_of, greatest_of};
+use serde_json::{Value, json};
+use std::alloc::Global;
+use told_choices::{hold_of, is_least_possible};
+use unit_sets::UnitSet;
+
+/// What is told of the units that operations take.
+#[derive(Drop)]
+struct Used {
+    /// How many units of the machine no operation takes.
+    idle: usize,
+    slots: Value,
+    units: Value,
+}
+
+/// What is told of a schedule and its registers.
+#[derive(Drop)]
+struct Scheduled {
+    live: Value,
+    max_live: u64,
+    values: Value,
+}
+
+/// The slots that are taken, and by which units.
+fn slots_in(alloc: Global, machine: &Machine, met: &Met) -> Result<(Vec<u8>, Value), OutOfMemory>
+    ensures used { IfOk result (λ both. both.0.items ≡ used_units machine.now met.now.schedule) }
+    ensures slots { IfOk result (λ both. view both.1 ≡ array (items_of (slots_of met.now.schedule (used_units machine.now met.now.schedule)))) }
+{
+    let takers = Takers::of(alloc, &met.schedule)?;
+    let used = takers.units(alloc, machine)?;
+    let slots = told_slots(alloc, &takers, used.as_slice(), met.schedule.ii())?;
+    Ok((used, slots))
+}
+
+/// What is told of the units that operations take.
+fn used_of(alloc: Global, machine: &Machine, met: &Met) -> Result<Used, OutOfMemory>
+    ensures idle { IfOk result (λ u. u.idle ≡ length machine.now.units - length (used_units machine.now met.now.schedule)) }
+    ensures slots { IfOk result (λ u. view u.slots ≡ array (items_of (slots_of met.now.schedule (used_units machine.now met.now.schedule)))) }
+    ensures units { IfOk result (λ u. view u.units ≡ array_of (λ unit. string (unit_name machine.now unit)) (used_units machine.now met.now.schedule)) }
+{
+    let (used, slots) = slots_in(alloc, machine, met)?;
+    let units = told_unit_names(alloc, machine, used.as_slice())?;
+    Ok(Used {
+        idle: machine.units().len().saturating_sub(used.len()),
+        slots,
+        units,
+    })
+}
+
+/// What is told of the schedule and the registers of a kernel.
+fn told_schedule(
+    alloc: Global,
+    _prepared: &Prepared,
+    _ii: u64,
+    met: &Met,
+) -> Result<Scheduled, OutOfMemory>
+    requires { IsMet _prepared.now _ii met.now }
+    ensures live { IfOk result (λ s. view s.live ≡ counts_value (live_counts met.now.schedule)) }
+    ensures most { IfOk result (λ s. s.max_live ≡ greatest_live met.now.schedule) }
+    ensures values { IfOk result (λ s. view s.values ≡ values_value (lifetimes_of met.now.schedule) met.now.allotment.numbers) }
+{
+    let lives = lifetimes(alloc, &met.schedule)?;
+    let listed = lives.as_slice();
+    let counts = counts_of(alloc, &met.schedule, listed)?;
+    let live = told_counts(alloc, counts.as_slice())?;
+    let values = told_values(alloc, listed, met.allotment.numbers())?;
+    Ok(Scheduled {
+        live,
+        max_live: greatest_of(counts.as_slice()),
+        values,
+    })
+}
+
+/// A kernel, by what is told of it.
+fn told_with(
+    alloc: Global,
+    held: &str,
+    least: bool,
+    ii: u64,
+    registers: u16,
+    stages: u64,
+    used: Used,
+    told: Scheduled,
+) -> Result<Value, OutOfMemory>
+    ensures { IfOk result (λ v. view v ≡ kernel_of held.now used.idle ii least (view told.live) told.max_live registers (view used.slots) stages (view used.units) (view told.values)) }
+{
+    json!(in alloc; {
+        "held_by": held,
+        "idle_units": used.idle,
+        "ii": ii,
+        "least_possible": least,
+        "live": told.live,
+        "max_live": told.max_live,
+        "registers": registers,
+        "slots": used.slots,
+        "stages": stages,
+        "units": used.units,
+        "values": told.values
+    })
+}
+
+/// The kernel of an interval; `free` tells that no circuit needs the recurrence-constrained bound, and the reasons are those of the
+/// intervals before.
+pub(crate) fn told_kernel(
+    alloc: Global,
+    machine: &Machine,
+    set: &UnitSet,
+    free: bool,
+    prepared: &Prepared,
+    reasons: &[Reason],
+    ii: u64,
+    met: &Met,
+) -> Result<Value, OutOfMemory>
+    requires { IsMet prepared.now ii met.now }
+    ensures { IfOk result (λ v. view v ≡ kernel_object machine.now set.now free prepared.now reasons.now ii met.now) }
+{
+    let used = used_of(alloc, machine, met)?;
+    let told = told_schedule(alloc, prepared, ii, met)?;
+    let held = hold_of(prepared, free, reasons).word();
+    let least = is_least_possible(prepared, set.need, ii);
+    told_with(
+        alloc,
+        held,
+        least,
+        ii,
+        prepared.registers(),
+        met.kernel.parts().stages,
+        used,
+        told,
+    )
+}

@@ -1,0 +1,132 @@
+//! The intervals that were tried.
+
+ghost use Rattle.std.specs.Prelude.{◌≡◌, ◌≤◌, [], ◌++◌, codes, map, IfOk, OnOk};
+ghost use Rattle.serde_json.specs.Data.{member, no_members, object, string};
+ghost use Rattle.serde_json.specs.View.{view};
+ghost use Rattle.candidates.specs.declared.evidence.Reason.TheVariants.{Attempt, Register};
+ghost use Rattle.modulo.specs.declared.outcome.attempts.Culprit.TheVariants.{Late};
+ghost use Rattle.explain_json.specs.Parts.{count_value, counts_value};
+ghost use Rattle.explain_json.specs.Tries.{chosen_try, failure_object, failures_from, kernel_try, tried_value};
+
+use candidates::Reason;
+use ims::{Culprit, Prepared};
+use machine_data::OutOfMemory;
+use rotating::Lifetime;
+use serde_json::{Value, json};
+use std::alloc::Global;
+use told_choices::{Chosen, Told};
+
+/// The numbers of operations, in order.
+fn told_numbers(alloc: Global, ops: &[usize]) -> Result<Value, OutOfMemory>
+    ensures { IfOk result (λ v. view v ≡ counts_value ops.now) }
+{
+    let mut values = Vec::with_capacity(alloc, ops.len())?;
+    for op in ops {
+        values.push(Value::from(*op))?;
+    }
+    Ok(Value::Array(values))
+}
+
+/// An interval with this outcome, and operations.
+fn told_ops(
+    alloc: Global,
+    interval: u64,
+    ops: &[usize],
+    outcome: &str,
+) -> Result<Value, OutOfMemory>
+    ensures { IfOk result (λ v. view v ≡ object (member (codes "interval") (count_value interval) (member (codes "operations") (counts_value ops.now) (member (codes "outcome") (string outcome.now) no_members)))) }
+{
+    json!(in alloc; {
+        "interval": interval,
+        "operations": told_numbers(alloc, ops)?,
+        "outcome": outcome
+    })
+}
+
+/// An interval at which an operation is too late, and when it is issued.
+fn told_late(alloc: Global, interval: u64, op: usize, time: u64) -> Result<Value, OutOfMemory>
+    ensures { IfOk result (λ v. view v ≡ failure_object interval (Attempt (Late op time))) }
+{
+    json!(in alloc; {
+        "interval": interval,
+        "operations": told_numbers(alloc, &[op])?,
+        "outcome": "stages",
+        "time": time
+    })
+}
+
+/// An interval at which a value has no register, and when it lives.
+fn told_life(alloc: Global, interval: u64, life: Lifetime) -> Result<Value, OutOfMemory>
+    ensures { IfOk result (λ v. view v ≡ failure_object interval (Register life)) }
+{
+    json!(in alloc; {
+        "first": life.first,
+        "interval": interval,
+        "last": life.last,
+        "operations": told_numbers(alloc, &[usize::from(life.operation)])?,
+        "outcome": "registers"
+    })
+}
+
+/// An interval that gives no kernel, and why.
+fn told_failure(alloc: Global, interval: u64, reason: &Reason) -> Result<Value, OutOfMemory>
+    ensures { IfOk result (λ v. view v ≡ failure_object interval reason.now) }
+{
+    match reason {
+        Reason::Attempt(Culprit::Blocked(op)) => told_ops(alloc, interval, &[*op], "table"),
+        Reason::Attempt(Culprit::Unplaced(ops)) => {
+            told_ops(alloc, interval, ops.as_slice(), "budget")
+        }
+        Reason::Attempt(Culprit::Late(op, time)) => told_late(alloc, interval, *op, *time),
+        Reason::Register(life) => told_life(alloc, interval, *life),
+    }
+}
+
+/// Intervals that give no kernel, from the least one on.
+fn told_failures(alloc: Global, least: u64, reasons: &[Reason]) -> Result<Vec<Value>, OutOfMemory>
+    requires { least ≤ 8192 }
+    ensures { IfOk result (λ values. map view values.items ≡ failures_from least reasons.now) }
+{
+    let mut values = Vec::with_capacity(alloc, reasons.len())?;
+    for number in 0..reasons.len() {
+        values.push(told_failure(alloc, least + number as u64, &reasons[number])?)?;
+    }
+    Ok(values)
+}
+
+/// Adds the interval that is chosen, where there is one.
+fn push_chosen(alloc: Global, values: &mut Vec<Value>, chosen: &Chosen) -> Result<(), OutOfMemory>
+    ensures ok { OnOk result (map view values.new.items ≡ map view values.old.items ++ chosen_try chosen.now) }
+{
+    match chosen {
+        Chosen::Met(interval, met) => {
+            let stages = met.kernel.parts().stages;
+            Ok(values.push(told_kernel(alloc, *interval, stages)?)?)
+        }
+        Chosen::Failed(_) => Ok(()),
+    }
+}
+
+/// An interval that gives a kernel of so many stages.
+fn told_kernel(alloc: Global, interval: u64, stages: u64) -> Result<Value, OutOfMemory>
+    ensures { IfOk result (λ v. view v ≡ kernel_try interval stages) }
+{
+    json!(in alloc; {
+        "interval": interval,
+        "outcome": "kernel",
+        "stages": stages
+    })
+}
+
+/// All intervals that were tried.
+pub(crate) fn told_tried(
+    alloc: Global,
+    prepared: &Prepared,
+    told: &Told,
+) -> Result<Value, OutOfMemory>
+    ensures { IfOk result (λ v. view v ≡ tried_value prepared.now told.now) }
+{
+    let mut values = told_failures(alloc, prepared.mii(), told.reasons.as_slice())?;
+    push_chosen(alloc, &mut values, &told.chosen)?;
+    Ok(Value::Array(values))
+}

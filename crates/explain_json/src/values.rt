@@ -1,0 +1,50 @@
+//! The values of a scheduled loop, and how many of them live in each row.
+
+ghost use Rattle.std.specs.Prelude.{◌≡◌, length, IfOk};
+ghost use Rattle.serde_json.specs.View.{view};
+ghost use Rattle.explain_json.specs.Kernels.{value_object, values_value};
+ghost use Rattle.explain_json.specs.Parts.{counts_value};
+
+use machine_data::OutOfMemory;
+use rotating::Lifetime;
+use serde_json::{Value, json};
+use std::alloc::Global;
+
+/// A value with this lifetime and the number of its register.
+fn told_value(alloc: Global, life: Lifetime, number: usize) -> Result<Value, OutOfMemory>
+    ensures { IfOk result (λ v. view v ≡ value_object life number) }
+{
+    json!(in alloc; {
+        "first": life.first,
+        "last": life.last,
+        "operation": life.operation,
+        "register": number
+    })
+}
+
+/// All values, each with the number at its place.
+pub(crate) fn told_values(
+    alloc: Global,
+    lives: &[Lifetime],
+    numbers: &[usize],
+) -> Result<Value, OutOfMemory>
+    requires each { length numbers.now ≡ length lives.now }
+    ensures { IfOk result (λ v. view v ≡ values_value lives.now numbers.now) }
+{
+    let mut values = Vec::with_capacity(alloc, lives.len())?;
+    for k in 0..lives.len() {
+        values.push(told_value(alloc, lives[k], numbers[k])?)?;
+    }
+    Ok(Value::Array(values))
+}
+
+/// How many registers are live in each row.
+pub(crate) fn told_counts(alloc: Global, counts: &[u64]) -> Result<Value, OutOfMemory>
+    ensures { IfOk result (λ v. view v ≡ counts_value counts.now) }
+{
+    let mut values = Vec::with_capacity(alloc, counts.len())?;
+    for count in counts {
+        values.push(Value::from(*count))?;
+    }
+    Ok(Value::Array(values))
+}
