@@ -87,12 +87,12 @@ HoldsText-end most left now after buffer other n m below room kept r s e = recor
       ∙ ap (λ (xs : List ℕ). Some xs) (drop_all n bytes (short bytes h) ∙ sym (drop_all most bytes (less bytes h)));
 }
   where
-    behind : 0 < length (drop n other)
-    behind = let long : length (drop n other) ≡ length other - n = length-drop n other in omega arith
+    following : 0 < length (drop n other)
+    following = let long : length (drop n other) ≡ length other - n = length-drop n other in omega arith
 
     short : (bytes : List ℕ) → left ≡ Some bytes → length bytes ≤ n
     short bytes h =
-        let none : length (drop n bytes) ≡ 0 = ap length (s.whole (drop n bytes) (r.known bytes h) e behind) in
+        let none : length (drop n bytes) ≡ 0 = ap length (s.whole (drop n bytes) (r.known bytes h) e following) in
         let long : length (drop n bytes) ≡ length bytes - n = length-drop n bytes in
         omega arith
 

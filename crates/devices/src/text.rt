@@ -57,7 +57,7 @@ impl From<OutOfMemory> for ReadTextError {
 }
 
 // Reads into a buffer after its first bytes.
-fn read_behind<I: Input>(input: &mut I, buffer: &mut [u8], filled: usize) -> Result<usize, Fault>
+fn read_after<I: Input>(input: &mut I, buffer: &mut [u8], filled: usize) -> Result<usize, Fault>
     requires fresh { I.failed input.old < 2 ^ 64 - 1 }
     requires room { filled ≤ length buffer.old }
     ensures reads { IfOk result (λ n. Reads (I.left input.old) (I.left input.new) (drop filled buffer.new) n) }
@@ -110,7 +110,7 @@ fn read_more<I: Input>(
     ensures memory { IsErrOf result ReadTextError.Memory → I.failed input.new ≡ I.failed input.old }
 {
     make_room(buffer, filled, most)?;
-    let n = read_behind(input, buffer, filled)?;
+    let n = read_after(input, buffer, filled)?;
     Ok(n)
 }
 

@@ -86,7 +86,7 @@ stands-one run trip place cycle v k w l one other = elim (other.last v k one.the
   | inl same ↦ same
   | inr before ↦ elim (one.last w l other.there other.within other.here other.landed) [
     | inl same ↦ (sym same.0, sym same.1)
-    | inr behind ↦ absurd (omega arith)
+    | inr after ↦ absurd (omega arith)
   ]
 ]
 

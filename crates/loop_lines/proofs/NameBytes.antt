@@ -103,7 +103,7 @@ past_other word n e h other =
           let at = passes_at_first is_at word 0 there in
           elim (cases_lt m n) [
             | inl before ↦ absurd (true≢false (sym at ∙ none_at (get_or word m 0) (stands_before word n m e before)))
-            | inr behind ↦
+            | inr after ↦
                 let same : m ≡ n = omega arith in
                 absurd (other (subst (λ (k : ℕ). get_or word k 0 ≡ 64) same (eqb-true (get_or word m 0) 64 at)))
           ]

@@ -28,20 +28,20 @@ length-words_of rest =
     omega (arith, length-pieces_of line, length-take (position_or_len (λ c. c == 35) rest) rest)
 
 -- integers in front of others
-abbrev pub behind : List (Option ℤ) → Option (List (Option ℤ)) → Option (List (Option ℤ))
-behind done rest = option_map (λ others. done ++ others) rest
+abbrev pub after : List (Option ℤ) → Option (List (Option ℤ)) → Option (List (Option ℤ))
+after done rest = option_map (λ others. done ++ others) rest
 
-behind-with : (done : List (Option ℤ)) (v : Option ℤ) (rest : Option (List (Option ℤ))) → behind done (with_int (Some v) rest) ≡ behind (done ++ v ∷ []) rest
-behind-with done v None = refl
-behind-with done v (Some others) = ap Some (sym (append_assoc done (v ∷ []) others))
+after-with : (done : List (Option ℤ)) (v : Option ℤ) (rest : Option (List (Option ℤ))) → after done (with_int (Some v) rest) ≡ after (done ++ v ∷ []) rest
+after-with done v None = refl
+after-with done v (Some others) = ap Some (sym (append_assoc done (v ∷ []) others))
 
 -- one more integer is read
 pub ints-more : (all : Option (List (Option ℤ))) (done : List (Option ℤ)) (word : List ℕ) (pieces others : List (List ℕ)) (v : Option ℤ)
-    → all ≡ behind done (ints_of pieces) → pieces ≡ word ∷ others → Some v ≡ int_of word → all ≡ behind (done ++ v ∷ []) (ints_of others)
+    → all ≡ after done (ints_of pieces) → pieces ≡ word ∷ others → Some v ≡ int_of word → all ≡ after (done ++ v ∷ []) (ints_of others)
 ints-more all done word pieces others v e p i =
-    e ∙ ap (λ ps. behind done (ints_of ps)) p ∙ ap (λ r. behind done (with_int r (ints_of others))) (sym i) ∙ behind-with done v (ints_of others)
+    e ∙ ap (λ ps. after done (ints_of ps)) p ∙ ap (λ r. after done (with_int r (ints_of others))) (sym i) ∙ after-with done v (ints_of others)
 
-pub ints-start : (all : Option (List (Option ℤ))) → all ≡ behind [] all
+pub ints-start : (all : Option (List (Option ℤ))) → all ≡ after [] all
 ints-start None = refl
 ints-start (Some ints) = refl
 

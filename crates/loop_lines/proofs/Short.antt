@@ -27,8 +27,8 @@ no_stop d h = grind (arith, nat_tests)
 stop_at : (text : List ℕ) (n : ℕ) → begins_stop (drop n text) ≡ true → n < length text → stops_word (get_or text n 0) ≡ true
 stop_at text n stop lt = sym (ap begins_stop (drop_more text n 0 lt)) ∙ stop
 
-stops_behind : (text : List ℕ) (n : ℕ) → n ≤ length text → ((k : ℕ) → k < n → is_ascii_digit (get_or text k 0) ≡ true) → begins_stop (drop n text) ≡ true → position_or_len stops_word text ≡ n
-stops_behind text n within all stop = position_or_len_is stops_word text n 0 within (λ k lt. no_stop (get_or text k 0) (all k lt)) (stop_at text n stop)
+stops_after : (text : List ℕ) (n : ℕ) → n ≤ length text → ((k : ℕ) → k < n → is_ascii_digit (get_or text k 0) ≡ true) → begins_stop (drop n text) ≡ true → position_or_len stops_word text ≡ n
+stops_after text n within all stop = position_or_len_is stops_word text n 0 within (λ k lt. no_stop (get_or text k 0) (all k lt)) (stop_at text n stop)
 
 one_further : (text : List ℕ) → position_or_len stops_word (45 ∷ text) ≡ 1 + position_or_len stops_word text
 one_further text = refl
@@ -43,7 +43,7 @@ pub short_taken : (rest word text digits after : List ℕ) (negative : Bool) (n 
     → 0 < n → n ≤ length text → ((k : ℕ) → k < n → is_ascii_digit (get_or text k 0) ≡ true) → digits ≡ take n text → after ≡ drop n text → begins_stop after ≡ true
     → words_of rest ≡ cond negative (45 ∷ digits) digits ∷ words_of after
 short_taken rest word text digits after negative n same is some within all d a stop =
-    let ends : position_or_len stops_word text ≡ n = stops_behind text n within all (sym (ap begins_stop a) ∙ stop) in
+    let ends : position_or_len stops_word text ≡ n = stops_after text n within all (sym (ap begins_stop a) ∙ stop) in
     sym same ∙ ap words_of is ∙ short_word negative text n some ends ∙ rw (d, a) refl
 
 -- numbers

@@ -9,12 +9,12 @@ use Rattle.std.proofs.lemmas.Option.{none-some, same_Some}
 
 -- an element and those before it
 
-behind : {X : Type 0} (front : List X) (x : X) (after : List X) → slice_get (front ++ x ∷ after) (length front) ≡ Some x
-behind [] x after = refl
-behind (y ∷ front) x after = behind front x after
+first-after : {X : Type 0} (front : List X) (x : X) (after : List X) → slice_get (front ++ x ∷ after) (length front) ≡ Some x
+first-after [] x after = refl
+first-after (y ∷ front) x after = first-after front x after
 
 pub at-front : {X : Type 0} (xs front : List X) (x : X) (after : List X) → xs ≡ front ++ x ∷ after → slice_get xs (length front) ≡ Some x
-at-front xs front x after e = ap (λ ys. slice_get ys (length front)) e ∙ behind front x after
+at-front xs front x after e = ap (λ ys. slice_get ys (length front)) e ∙ first-after front x after
 
 pub front-within : {X : Type 0} (xs front : List X) (x : X) (after : List X) → xs ≡ front ++ x ∷ after → length front < length xs
 front-within xs front x after e = omega (arith, ap length e, length-append front (x ∷ after))

@@ -105,9 +105,9 @@ alternatives-of units count (holds ∷ more) few held h =
     let faults : List (Option Told) = alternative_room count holds ∷ holds_fault units [] holds ∷ alternatives_fault units (count + 1) more ∷ [] in
     let some = All-head HasHold holds more held in
     let room = alternative-low count holds some (none-at faults 0 h) in
-    let behind = alternatives-of units (count + 1) more (omega (arith, room)) (All-tail HasHold holds more held) (none-at faults 2 h) in
-    let size = behind.0 in
-    (omega (arith, size), All-cons (AreRows (length units)) (map (hold_in units) holds) (map (map (hold_in units)) more) (rows-of units holds some (none-at faults 1 h)) behind.1)
+    let after = alternatives-of units (count + 1) more (omega (arith, room)) (All-tail HasHold holds more held) (none-at faults 2 h) in
+    let size = after.0 in
+    (omega (arith, size), All-cons (AreRows (length units)) (map (hold_in units) holds) (map (map (hold_in units)) more) (rows-of units holds some (none-at faults 1 h)) after.1)
 
 -- kinds
 

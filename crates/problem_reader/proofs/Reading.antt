@@ -219,24 +219,24 @@ read-end text t line rest short r none here =
     sym (ap data_or (short-forms text short ∙ r.meaning ∙ ap (forms_from line r.before) (no-lines rest none)
     ∙ ap (λ b. if b then Err (end_fault line) else Ok r.before) (ap (λ (x : TablesData). x.inside) (sym r.sofar.is) ∙ here)))
 
-machines-behind : (before : List Form) (first : Form) (forms : List Form) → machines_from (before ++ first ∷ []) forms ≡ ended_from (before ++ first ∷ []) forms ++ last_machine ((before ++ first ∷ []) ++ forms)
+machines-after : (before : List Form) (first : Form) (forms : List Form) → machines_from (before ++ first ∷ []) forms ≡ ended_from (before ++ first ∷ []) forms ++ last_machine ((before ++ first ∷ []) ++ forms)
     → machines_from (before ++ first ∷ []) forms ≡ ended_from (before ++ first ∷ []) forms ++ last_machine (before ++ first ∷ forms)
-machines-behind before first forms h = h ∙ ap (λ b. ended_from (before ++ first ∷ []) forms ++ last_machine b) (append_assoc before (first ∷ []) forms)
+machines-after before first forms h = h ∙ ap (λ b. ended_from (before ++ first ∷ []) forms ++ last_machine b) (append_assoc before (first ∷ []) forms)
 
 machines-are : (before forms : List Form) → machines_from before forms ≡ ended_from before forms ++ last_machine (before ++ forms)
 machines-are before [] = ap last_machine (sym (append-nil before))
 machines-are before (MachineLine name ∷ forms) =
     ap (λ ms. last_machine before ++ ms) (machines-are (before ++ MachineLine name ∷ []) forms ∙ ap (λ b. ended_from (before ++ MachineLine name ∷ []) forms ++ last_machine b) (append_assoc before (MachineLine name ∷ []) forms))
     ∙ sym (append_assoc (last_machine before) (ended_from (before ++ MachineLine name ∷ []) forms) (last_machine (before ++ MachineLine name ∷ forms)))
-machines-are before (UnitsLine names ∷ forms) = machines-behind before (UnitsLine names) forms (machines-are (before ++ UnitsLine names ∷ []) forms)
-machines-are before (FileLine name storage ∷ forms) = machines-behind before (FileLine name storage) forms (machines-are (before ++ FileLine name storage ∷ []) forms)
-machines-are before (KindLine name latency alternatives ∷ forms) = machines-behind before (KindLine name latency alternatives) forms (machines-are (before ++ KindLine name latency alternatives ∷ []) forms)
-machines-are before (ProblemLine name ∷ forms) = machines-behind before (ProblemLine name) forms (machines-are (before ++ ProblemLine name ∷ []) forms)
-machines-are before (OpLine name kind ∷ forms) = machines-behind before (OpLine name kind) forms (machines-are (before ++ OpLine name kind ∷ []) forms)
-machines-are before (ValueLine name maker lands file out ∷ forms) = machines-behind before (ValueLine name maker lands file out) forms (machines-are (before ++ ValueLine name maker lands file out ∷ []) forms)
-machines-are before (ReadLine reader value distance offset ∷ forms) = machines-behind before (ReadLine reader value distance offset) forms (machines-are (before ++ ReadLine reader value distance offset ∷ []) forms)
-machines-are before (EdgeLine from to delay distance ∷ forms) = machines-behind before (EdgeLine from to delay distance) forms (machines-are (before ++ EdgeLine from to delay distance ∷ []) forms)
-machines-are before (EndLine ∷ forms) = machines-behind before EndLine forms (machines-are (before ++ EndLine ∷ []) forms)
+machines-are before (UnitsLine names ∷ forms) = machines-after before (UnitsLine names) forms (machines-are (before ++ UnitsLine names ∷ []) forms)
+machines-are before (FileLine name storage ∷ forms) = machines-after before (FileLine name storage) forms (machines-are (before ++ FileLine name storage ∷ []) forms)
+machines-are before (KindLine name latency alternatives ∷ forms) = machines-after before (KindLine name latency alternatives) forms (machines-are (before ++ KindLine name latency alternatives ∷ []) forms)
+machines-are before (ProblemLine name ∷ forms) = machines-after before (ProblemLine name) forms (machines-are (before ++ ProblemLine name ∷ []) forms)
+machines-are before (OpLine name kind ∷ forms) = machines-after before (OpLine name kind) forms (machines-are (before ++ OpLine name kind ∷ []) forms)
+machines-are before (ValueLine name maker lands file out ∷ forms) = machines-after before (ValueLine name maker lands file out) forms (machines-are (before ++ ValueLine name maker lands file out ∷ []) forms)
+machines-are before (ReadLine reader value distance offset ∷ forms) = machines-after before (ReadLine reader value distance offset) forms (machines-are (before ++ ReadLine reader value distance offset ∷ []) forms)
+machines-are before (EdgeLine from to delay distance ∷ forms) = machines-after before (EdgeLine from to delay distance) forms (machines-are (before ++ EdgeLine from to delay distance ∷ []) forms)
+machines-are before (EndLine ∷ forms) = machines-after before EndLine forms (machines-are (before ++ EndLine ∷ []) forms)
 
 file-is : (before : List Form) → (with_machine_ended (tables_of before)).ended ≡ file_data before
 file-is before =

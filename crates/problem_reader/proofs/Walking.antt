@@ -61,15 +61,15 @@ if_end EndLine before = problem_of before ∷ []
 if_end form before = []
 
 -- after one line more
-ended-behind : (before : List Form) (first : Form) (forms : List Form) (form : Form)
+ended-after : (before : List Form) (first : Form) (forms : List Form) (form : Form)
     → ended_from (before ++ first ∷ []) (forms ++ form ∷ []) ≡ ended_from (before ++ first ∷ []) forms ++ if_machine form ((before ++ first ∷ []) ++ forms)
     → ended_from (before ++ first ∷ []) (forms ++ form ∷ []) ≡ ended_from (before ++ first ∷ []) forms ++ if_machine form (before ++ first ∷ forms)
-ended-behind before first forms form h = h ∙ ap (λ b. ended_from (before ++ first ∷ []) forms ++ if_machine form b) (append_assoc before (first ∷ []) forms)
+ended-after before first forms form h = h ∙ ap (λ b. ended_from (before ++ first ∷ []) forms ++ if_machine form b) (append_assoc before (first ∷ []) forms)
 
-problems-behind : (before : List Form) (first : Form) (forms : List Form) (form : Form)
+problems-after : (before : List Form) (first : Form) (forms : List Form) (form : Form)
     → problems_from (before ++ first ∷ []) (forms ++ form ∷ []) ≡ problems_from (before ++ first ∷ []) forms ++ if_end form ((before ++ first ∷ []) ++ forms)
     → problems_from (before ++ first ∷ []) (forms ++ form ∷ []) ≡ problems_from (before ++ first ∷ []) forms ++ if_end form (before ++ first ∷ forms)
-problems-behind before first forms form h = h ∙ ap (λ b. problems_from (before ++ first ∷ []) forms ++ if_end form b) (append_assoc before (first ∷ []) forms)
+problems-after before first forms form h = h ∙ ap (λ b. problems_from (before ++ first ∷ []) forms ++ if_end form b) (append_assoc before (first ∷ []) forms)
 
 ended-push : (before forms : List Form) (form : Form) → ended_from before (forms ++ form ∷ []) ≡ ended_from before forms ++ if_machine form (before ++ forms)
 ended-push before [] (MachineLine name) = append-nil (last_machine before) ∙ ap last_machine (sym (append-nil before))
@@ -86,15 +86,15 @@ ended-push before (MachineLine name ∷ forms) form =
     ap (λ ms. last_machine before ++ ms) (ended-push (before ++ MachineLine name ∷ []) forms form)
     ∙ sym (append_assoc (last_machine before) (ended_from (before ++ MachineLine name ∷ []) forms) (if_machine form ((before ++ MachineLine name ∷ []) ++ forms)))
     ∙ ap (λ b. (last_machine before ++ ended_from (before ++ MachineLine name ∷ []) forms) ++ if_machine form b) (append_assoc before (MachineLine name ∷ []) forms)
-ended-push before (UnitsLine names ∷ forms) form = ended-behind before (UnitsLine names) forms form (ended-push (before ++ UnitsLine names ∷ []) forms form)
-ended-push before (FileLine name storage ∷ forms) form = ended-behind before (FileLine name storage) forms form (ended-push (before ++ FileLine name storage ∷ []) forms form)
-ended-push before (KindLine name latency alternatives ∷ forms) form = ended-behind before (KindLine name latency alternatives) forms form (ended-push (before ++ KindLine name latency alternatives ∷ []) forms form)
-ended-push before (ProblemLine name ∷ forms) form = ended-behind before (ProblemLine name) forms form (ended-push (before ++ ProblemLine name ∷ []) forms form)
-ended-push before (OpLine name kind ∷ forms) form = ended-behind before (OpLine name kind) forms form (ended-push (before ++ OpLine name kind ∷ []) forms form)
-ended-push before (ValueLine name maker lands file out ∷ forms) form = ended-behind before (ValueLine name maker lands file out) forms form (ended-push (before ++ ValueLine name maker lands file out ∷ []) forms form)
-ended-push before (ReadLine reader value distance offset ∷ forms) form = ended-behind before (ReadLine reader value distance offset) forms form (ended-push (before ++ ReadLine reader value distance offset ∷ []) forms form)
-ended-push before (EdgeLine from to delay distance ∷ forms) form = ended-behind before (EdgeLine from to delay distance) forms form (ended-push (before ++ EdgeLine from to delay distance ∷ []) forms form)
-ended-push before (EndLine ∷ forms) form = ended-behind before EndLine forms form (ended-push (before ++ EndLine ∷ []) forms form)
+ended-push before (UnitsLine names ∷ forms) form = ended-after before (UnitsLine names) forms form (ended-push (before ++ UnitsLine names ∷ []) forms form)
+ended-push before (FileLine name storage ∷ forms) form = ended-after before (FileLine name storage) forms form (ended-push (before ++ FileLine name storage ∷ []) forms form)
+ended-push before (KindLine name latency alternatives ∷ forms) form = ended-after before (KindLine name latency alternatives) forms form (ended-push (before ++ KindLine name latency alternatives ∷ []) forms form)
+ended-push before (ProblemLine name ∷ forms) form = ended-after before (ProblemLine name) forms form (ended-push (before ++ ProblemLine name ∷ []) forms form)
+ended-push before (OpLine name kind ∷ forms) form = ended-after before (OpLine name kind) forms form (ended-push (before ++ OpLine name kind ∷ []) forms form)
+ended-push before (ValueLine name maker lands file out ∷ forms) form = ended-after before (ValueLine name maker lands file out) forms form (ended-push (before ++ ValueLine name maker lands file out ∷ []) forms form)
+ended-push before (ReadLine reader value distance offset ∷ forms) form = ended-after before (ReadLine reader value distance offset) forms form (ended-push (before ++ ReadLine reader value distance offset ∷ []) forms form)
+ended-push before (EdgeLine from to delay distance ∷ forms) form = ended-after before (EdgeLine from to delay distance) forms form (ended-push (before ++ EdgeLine from to delay distance ∷ []) forms form)
+ended-push before (EndLine ∷ forms) form = ended-after before EndLine forms form (ended-push (before ++ EndLine ∷ []) forms form)
 
 problems-push : (before forms : List Form) (form : Form) → problems_from before (forms ++ form ∷ []) ≡ problems_from before forms ++ if_end form (before ++ forms)
 problems-push before [] (MachineLine name) = refl
@@ -107,15 +107,15 @@ problems-push before [] (ValueLine name maker lands file out) = refl
 problems-push before [] (ReadLine reader value distance offset) = refl
 problems-push before [] (EdgeLine from to delay distance) = refl
 problems-push before [] EndLine = ap (λ b. problem_of b ∷ []) (sym (append-nil before))
-problems-push before (MachineLine name ∷ forms) form = problems-behind before (MachineLine name) forms form (problems-push (before ++ MachineLine name ∷ []) forms form)
-problems-push before (UnitsLine names ∷ forms) form = problems-behind before (UnitsLine names) forms form (problems-push (before ++ UnitsLine names ∷ []) forms form)
-problems-push before (FileLine name storage ∷ forms) form = problems-behind before (FileLine name storage) forms form (problems-push (before ++ FileLine name storage ∷ []) forms form)
-problems-push before (KindLine name latency alternatives ∷ forms) form = problems-behind before (KindLine name latency alternatives) forms form (problems-push (before ++ KindLine name latency alternatives ∷ []) forms form)
-problems-push before (ProblemLine name ∷ forms) form = problems-behind before (ProblemLine name) forms form (problems-push (before ++ ProblemLine name ∷ []) forms form)
-problems-push before (OpLine name kind ∷ forms) form = problems-behind before (OpLine name kind) forms form (problems-push (before ++ OpLine name kind ∷ []) forms form)
-problems-push before (ValueLine name maker lands file out ∷ forms) form = problems-behind before (ValueLine name maker lands file out) forms form (problems-push (before ++ ValueLine name maker lands file out ∷ []) forms form)
-problems-push before (ReadLine reader value distance offset ∷ forms) form = problems-behind before (ReadLine reader value distance offset) forms form (problems-push (before ++ ReadLine reader value distance offset ∷ []) forms form)
-problems-push before (EdgeLine from to delay distance ∷ forms) form = problems-behind before (EdgeLine from to delay distance) forms form (problems-push (before ++ EdgeLine from to delay distance ∷ []) forms form)
+problems-push before (MachineLine name ∷ forms) form = problems-after before (MachineLine name) forms form (problems-push (before ++ MachineLine name ∷ []) forms form)
+problems-push before (UnitsLine names ∷ forms) form = problems-after before (UnitsLine names) forms form (problems-push (before ++ UnitsLine names ∷ []) forms form)
+problems-push before (FileLine name storage ∷ forms) form = problems-after before (FileLine name storage) forms form (problems-push (before ++ FileLine name storage ∷ []) forms form)
+problems-push before (KindLine name latency alternatives ∷ forms) form = problems-after before (KindLine name latency alternatives) forms form (problems-push (before ++ KindLine name latency alternatives ∷ []) forms form)
+problems-push before (ProblemLine name ∷ forms) form = problems-after before (ProblemLine name) forms form (problems-push (before ++ ProblemLine name ∷ []) forms form)
+problems-push before (OpLine name kind ∷ forms) form = problems-after before (OpLine name kind) forms form (problems-push (before ++ OpLine name kind ∷ []) forms form)
+problems-push before (ValueLine name maker lands file out ∷ forms) form = problems-after before (ValueLine name maker lands file out) forms form (problems-push (before ++ ValueLine name maker lands file out ∷ []) forms form)
+problems-push before (ReadLine reader value distance offset ∷ forms) form = problems-after before (ReadLine reader value distance offset) forms form (problems-push (before ++ ReadLine reader value distance offset ∷ []) forms form)
+problems-push before (EdgeLine from to delay distance ∷ forms) form = problems-after before (EdgeLine from to delay distance) forms form (problems-push (before ++ EdgeLine from to delay distance ∷ []) forms form)
 problems-push before (EndLine ∷ forms) form =
     ap (λ ps. problem_of before ∷ ps) (problems-push (before ++ EndLine ∷ []) forms form
     ∙ ap (λ b. problems_from (before ++ EndLine ∷ []) forms ++ if_end form b) (append_assoc before (EndLine ∷ []) forms))

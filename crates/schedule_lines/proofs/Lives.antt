@@ -14,10 +14,10 @@ values-within n [] = All-nil (λ value. value < n + 0)
 values-within n (s ∷ statements) =
     let rest : List ℕ = values_from (n + 1) statements in
     let P : ℕ → Type 0 = λ value. value < n + length (s ∷ statements) in
-    let behind : All P rest = λ k d lt. let h = values-within (n + 1) statements k d lt in omega arith in
+    let after : All P rest = λ k d lt. let h = values-within (n + 1) statements k d lt in omega arith in
     elim (cases_Bool (is_some s.name)) [
-      | inl on ↦ subst (All P) (sym (cond-true (is_some s.name) (n ∷ rest) rest on)) (All-cons P n rest (omega arith) behind)
-      | inr off ↦ subst (All P) (sym (cond-false (is_some s.name) (n ∷ rest) rest off)) behind
+      | inl on ↦ subst (All P) (sym (cond-true (is_some s.name) (n ∷ rest) rest on)) (All-cons P n rest (omega arith) after)
+      | inr off ↦ subst (All P) (sym (cond-false (is_some s.name) (n ∷ rest) rest off)) after
     ]
 
 pub lives-within : (schedule : ScheduleData) → All (λ (life : Lifetime). life.operation < length schedule.problem.loop.statements) (lifetimes_of schedule)

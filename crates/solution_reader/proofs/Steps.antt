@@ -88,12 +88,12 @@ ended-kept before s line is none = is.ended ∙ sym (append-nil (solutions_in be
 begins-next : (before : List TextLine) (s : SofarData) (line : TextLine) (head : HeadData) → IsSofar before s → is_none s.begun.head ≡ true → begins line.form ≡ true → ended_by before line.form ≡ []
     → head_after (head_in before) line.number line.form ≡ Some head
     → IsSofar (before ++ line ∷ []) (record { begun = record { ended = s.begun.ended; head = Some head }; ops = s.ops; values = s.values })
-begins-next before s line head is outside first none behind =
+begins-next before s line head is outside first none after =
     let no : is_some (head_in before) ≡ false = ap is_some (sym is.head) ∙ outside-is s.begun.head outside in
-    let inside : is_some (head_in (before ++ line ∷ [])) ≡ true = ap is_some (head-push before line None ∙ behind) in
+    let inside : is_some (head_in (before ++ line ∷ [])) ≡ true = ap is_some (head-push before line None ∙ after) in
     record {
       ended = ended-kept before s line is none;
-      head = sym (head-push before line None ∙ behind);
+      head = sym (head-push before line None ∙ after);
       ops = λ h. is.no_ops no ∙ sym (told-none (λ (line : TextLine). op_told line.number line.form) before line first);
       values = λ h. is.no_values no ∙ sym (told-none (λ (line : TextLine). value_told line.number line.form) before line first);
       no_ops = λ h. cc;
@@ -105,12 +105,12 @@ tells-next : (before : List TextLine) (s : SofarData) (line : TextLine) (ops : L
     → ops ≡ s.ops ++ filter_map (λ (line : TextLine). op_told line.number line.form) (line ∷ [])
     → values ≡ s.values ++ filter_map (λ (line : TextLine). value_told line.number line.form) (line ∷ [])
     → IsSofar (before ++ line ∷ []) (record { begun = s.begun; ops = ops; values = values })
-tells-next before s line ops values is inside first none behind is_ops is_values =
+tells-next before s line ops values is inside first none after is_ops is_values =
     let yes : is_some (head_in before) ≡ true = ap is_some (sym is.head) ∙ inside in
-    let still : is_some (head_in (before ++ line ∷ [])) ≡ true = ap is_some (head-push before line None ∙ behind) ∙ yes in
+    let still : is_some (head_in (before ++ line ∷ [])) ≡ true = ap is_some (head-push before line None ∙ after) ∙ yes in
     record {
       ended = ended-kept before s line is none;
-      head = is.head ∙ sym (head-push before line None ∙ behind);
+      head = is.head ∙ sym (head-push before line None ∙ after);
       ops = λ h. is_ops ∙ ap (λ os. os ++ filter_map (λ (line : TextLine). op_told line.number line.form) (line ∷ [])) (is.ops yes)
           ∙ sym (told-more (λ (line : TextLine). op_told line.number line.form) before line first);
       values = λ h. is_values ∙ ap (λ vs. vs ++ filter_map (λ (line : TextLine). value_told line.number line.form) (line ∷ [])) (is.values yes)

@@ -6,5 +6,5 @@ abbrev pub invariant-loop-op : goal.invariant-loop-op
 invariant-loop-op l = record {
   same_length : length l.alternatives ≡ length l.initial.alternatives;
   each : (k : ℕ) → k < l.op → slice_index l.alternatives k ≡ slice_index l.solution.choices k;
-  behind : (k : ℕ) → l.op ≤ k → k < length l.initial.alternatives → slice_index l.alternatives k ≡ slice_index l.initial.alternatives k;
+  after : (k : ℕ) → l.op ≤ k → k < length l.initial.alternatives → slice_index l.alternatives k ≡ slice_index l.initial.alternatives k;
 }

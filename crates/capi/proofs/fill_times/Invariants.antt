@@ -6,5 +6,5 @@ abbrev pub invariant-loop-op : goal.invariant-loop-op
 invariant-loop-op l = record {
   same_length : length l.times ≡ length l.initial.times;
   each : (k : ℕ) → k < l.op → slice_index l.times k ≡ slice_index l.solution.times k;
-  behind : (k : ℕ) → l.op ≤ k → k < length l.initial.times → slice_index l.times k ≡ slice_index l.initial.times k;
+  after : (k : ℕ) → l.op ≤ k → k < length l.initial.times → slice_index l.times k ≡ slice_index l.initial.times k;
 }

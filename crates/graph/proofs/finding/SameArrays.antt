@@ -22,14 +22,14 @@ link-less : (statements : List Statement) (array i op j : ℕ) → i + 1 ≡ op
     → ((s : Statement) (place : Place) → slice_get statements i ≡ Some s → s.place ≡ Some place → place.array ≡ array → ⊥)
     → IsLink statements array op j → IsLink statements array i j
 link-less statements array i op j at none link =
-    let behind : op ≤ j = link.behind in
-    record { behind = omega arith; skips = skips-less statements array i op j at none link.skips; touches = link.touches }
+    let following : op ≤ j = link.following in
+    record { following = omega arith; skips = skips-less statements array i op j at none link.skips; touches = link.touches }
 
 pub linked_end : (statements : List Statement) (op : ℕ) (first next : List ℕ) → op ≡ length statements
     → ((array : ℕ) → array < 256 → slice_index first array ≡ op) → AreLinked statements op first next
 linked_end statements op first next end all = record {
   first_of = λ array below. (let e : slice_index first array ≡ op = all array below in record {
-    behind = omega arith;
+    following = omega arith;
     skips = λ k s place from to is has touches. omega arith;
     touches = λ s is. absurd (let within : slice_index first array < length statements = slice_get_within statements (slice_index first array) s is in omega arith);
   });
@@ -61,7 +61,7 @@ linked-more statements i op first next s place at is has few long within linked 
     let same_place : (t : Statement) (other : Place) → slice_get statements i ≡ Some t → t.place ≡ Some other → other ≡ place
     = λ t other got holds. (let places : Some place ≡ Some other = sym has ∙ ap (λ (x : Statement). x.place) (same t got) ∙ holds in cc) in
     let here_link : IsLink statements place.array i i = record {
-      behind = omega arith;
+      following = omega arith;
       skips = λ k t other from to got holds touches. omega arith;
       touches = λ t got. (place, sym (ap (λ (x : Statement). x.place) (same t got)) ∙ has, refl);
     } in

@@ -42,9 +42,9 @@ differs_from_rows ii unit time x (r ∷ rows) others apart h =
     (λ same. (ne_eqb x (residue_of ii r time) (λ e. apart 0 r (omega arith) (eqb-true r.unit unit same) (sym e)), rest))
     (λ other. rest)
 
-time_behind : (times : List ℕ) (q : ℕ) → slice_index (drop 1 times) q ≡ slice_index times (suc q)
-time_behind [] q = refl
-time_behind (t ∷ times) q = refl
+time_after : (times : List ℕ) (q : ℕ) → slice_index (drop 1 times) q ≡ slice_index times (suc q)
+time_after [] q = refl
+time_after (t ∷ times) q = refl
 
 differs_from_all : (ii unit x : ℕ) (operations : List (List Row)) (times : List ℕ)
     → ((q j : ℕ) (d : Row) → q < length operations → j < length (get_or operations q []) → (get_or (get_or operations q []) j d).unit ≡ unit
@@ -56,7 +56,7 @@ differs_from_all ii unit x (rows ∷ rest) times apart =
     (λ j d. apart 0 j d (omega arith))
     (differs_from_all ii unit x rest (drop 1 times)
     (λ q j d l m u e. apart (suc q) j d (omega arith) m u
-    (ap (residue_of ii (get_or (get_or rest q []) j d)) (sym (time_behind times q)) ∙ e)))
+    (ap (residue_of ii (get_or (get_or rest q []) j d)) (sym (time_after times q)) ∙ e)))
 
 distinct_rows : (ii unit time : ℕ) (rows : List Row) (others : List ℕ) → IsDistinct eqb others
     → ((i j : ℕ) (d : Row) → i < length rows → j < length rows → (get_or rows i d).unit ≡ unit → (get_or rows j d).unit ≡ unit
@@ -89,8 +89,8 @@ distinct_all ii unit (rows ∷ rest) times apart =
     (distinct_all ii unit rest (drop 1 times)
     (λ p q i j d l m n o meet.
     let a : rows_meet ii (get_or (get_or rest p []) i d) (slice_index times (suc p)) (get_or (get_or rest q []) j d) (slice_index times (suc q)) ≡ true
-    = ap (λ t. rows_meet ii (get_or (get_or rest p []) i d) t (get_or (get_or rest q []) j d) (slice_index times (suc q))) (sym (time_behind times p))
-    ∙ ap (λ t. rows_meet ii (get_or (get_or rest p []) i d) (slice_index (drop 1 times) p) (get_or (get_or rest q []) j d) t) (sym (time_behind times q))
+    = ap (λ t. rows_meet ii (get_or (get_or rest p []) i d) t (get_or (get_or rest q []) j d) (slice_index times (suc q))) (sym (time_after times p))
+    ∙ ap (λ t. rows_meet ii (get_or (get_or rest p []) i d) (slice_index (drop 1 times) p) (get_or (get_or rest q []) j d) t) (sym (time_after times q))
     ∙ meet in
     let s = apart (suc p) (suc q) i j d (omega arith) (omega arith) n o a in
     let e : suc p ≡ suc q = s.0 in
@@ -102,7 +102,7 @@ distinct_all ii unit (rows ∷ rest) times apart =
     let meet : rows_meet ii (get_or rows i c) (slice_index times 0) (get_or (get_or rest q []) j c) (slice_index times (suc q)) ≡ true
     = meet_from ii (get_or rows i c) (get_or (get_or rest q []) j c) (slice_index times 0) (slice_index times (suc q))
     (ap (λ (r : Row). r.unit) same ∙ u ∙ sym v)
-    (ap (λ r. residue_of ii r (slice_index times 0)) same ∙ sym e ∙ ap (residue_of ii (get_or (get_or rest q []) j c)) (time_behind times q)) in
+    (ap (λ r. residue_of ii r (slice_index times 0)) same ∙ sym e ∙ ap (residue_of ii (get_or (get_or rest q []) j c)) (time_after times q)) in
     let s : 0 ≡ suc q = (apart 0 (suc q) i j c (omega arith) (omega arith) l n meet).0 in
     absurd (omega arith)))
 

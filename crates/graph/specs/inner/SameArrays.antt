@@ -10,7 +10,7 @@ Skips statements array i j = (k : ℕ) (s : Statement) (place : Place) → i ≤
 
 -- of the statements from one on, this is the first that touches the array, if there is one
 pub record IsLink (statements : List Statement) (array from link : ℕ) : Type 0 where
-  pub behind : from ≤ link
+  pub following : from ≤ link
   pub skips : Skips statements array from link
   pub touches : (s : Statement) → slice_get statements link ≡ Some s → (place : Place) × (s.place ≡ Some place) × (place.array ≡ array)
 

@@ -9,7 +9,7 @@ use Rattle.ims.specs.Problems.{ProblemData, IsProblem, without_loop}
 use Rattle.ims.specs.Promises.{OneProblem}
 use Rattle.modulo.specs.Problems as problems
 use Rattle.modulo.proofs.problems.OneProblems as given
-use Rattle.modulo.proofs.states.Filtered.{in_rest, behind}
+use Rattle.modulo.proofs.states.Filtered.{in_rest, after}
 
 -- ---- edges that ascend are one list where they are the same edges
 level_or : (x y : ℕ) (P Q : Type 0) → (x < y) ⊎ ((x ≡ y) × P) → (y < x) ⊎ ((y ≡ x) × Q) → (P → Q → ⊥) → ⊥
@@ -53,7 +53,7 @@ same_first x y xs ys a b one other =
 
 among_rest : (x y : EdgeData) (xs ys : List EdgeData) → AllPairs Precedes (x ∷ xs) → x ≡ y → Among (x ∷ xs) (y ∷ ys) → Among xs ys
 among_rest x y xs ys a same one e c =
-    let p = one e (behind x xs e c) in
+    let p = one e (after x xs e c) in
     elim (in_rest y ys e p.0 p.1 p.2) [
       | inl is ↦
           let q : Precedes x e = first_precedes x xs e a c in

@@ -24,11 +24,11 @@ split-at : (lines : List LineEntry) (i : ℕ) (d : LineEntry) → i < length lin
 split-at lines i d h = sym (take-append-drop i lines) ∙ ap (λ xs. take i lines ++ xs) (cut-at lines i d h)
 
 -- the lines of a block after line `i`, which is one of its first `sound` lines
-abbrev pub behind : List LineEntry → ℕ → List LineEntry → ℕ → List Form
-behind index sound lines i = forms_in (drop (i + 1) lines) ++ forms_in (drop sound index)
+abbrev pub forms_past : List LineEntry → ℕ → List LineEntry → ℕ → List Form
+forms_past index sound lines i = forms_in (drop (i + 1) lines) ++ forms_in (drop sound index)
 
 pub block-at : (index lines : List LineEntry) (sound i : ℕ) (d : LineEntry) → lines ≡ take sound index → i < length lines
-    → forms_in index ≡ forms_in (take i lines) ++ form_seen (get_or lines i d).form ∷ behind index sound lines i
+    → forms_in index ≡ forms_in (take i lines) ++ form_seen (get_or lines i d).form ∷ forms_past index sound lines i
 block-at index lines sound i d e h =
     let f : LineEntry → Form = λ x. form_seen x.form in
     let one = get_or lines i d in
@@ -57,13 +57,13 @@ pub line-fault : (index lines : List LineEntry) (sound i : ℕ) (d : LineEntry) 
     → IsGiven (forms_in index) (forms_in (take i lines)) inits outs
     → kinds_at (forms_in index) counts inits outs (form_seen (get_or lines i d).form) ≡ faults_of (forms_in (take i lines)) (forms_in index) (form_seen (get_or lines i d).form)
 line-fault index lines sound i d counts inits outs e h b ea ep es g =
-    line-kinds (forms_in index) (forms_in (take i lines)) (form_seen (get_or lines i d).form) (behind index sound lines i) counts inits outs (block-at index lines sound i d e h) b ea ep es g
+    line-kinds (forms_in index) (forms_in (take i lines)) (form_seen (get_or lines i d).form) (forms_past index sound lines i) counts inits outs (block-at index lines sound i d e h) b ea ep es g
 
 pub line-near : (index lines : List LineEntry) (sound i : ℕ) (d : LineEntry) → lines ≡ take sound index → i < length lines → IsBlock (forms_in index) → IsNearForm (form_seen (get_or lines i d).form)
 line-near index lines sound i d e h b =
     let at = block-at index lines sound i d e h in
-    all-at IsNearForm (forms_in (take i lines)) (form_seen (get_or lines i d).form) (behind index sound lines i)
-    (near-block (forms_in (take i lines) ++ form_seen (get_or lines i d).form ∷ behind index sound lines i) (subst IsBlock at b))
+    all-at IsNearForm (forms_in (take i lines)) (form_seen (get_or lines i d).form) (forms_past index sound lines i)
+    (near-block (forms_in (take i lines) ++ form_seen (get_or lines i d).form ∷ forms_past index sound lines i) (subst IsBlock at b))
 
 faults-at : (block before : List Form) (lines : List LineEntry) (i : ℕ) (d : LineEntry) → i < length lines
     → entry_faults block before (drop i lines) ≡ at_line (get_or lines i d).line (faults_of before block (form_seen (get_or lines i d).form)) ++ entry_faults block (before ++ form_seen (get_or lines i d).form ∷ []) (drop (i + 1) lines)

@@ -89,9 +89,9 @@ pub has-right : {X : Type 0} (xs ys : List X) (x : X) → Has ys x → Has (xs +
 has-right [] ys x h = h
 has-right (z ∷ xs) ys x h = has-later z (xs ++ ys) x (has-right xs ys x h)
 
-pub has-behind : {X : Type 0} (o : Option X) (xs : List X) (x : X) → Has xs x → Has (cons_option o xs) x
-has-behind None xs x h = h
-has-behind (Some y) xs x h = has-later y xs x h
+pub has-after : {X : Type 0} (o : Option X) (xs : List X) (x : X) → Has xs x → Has (cons_option o xs) x
+has-after None xs x h = h
+has-after (Some y) xs x h = has-later y xs x h
 
 pub has-first : {X : Type 0} (o : Option X) (xs : List X) (x : X) → o ≡ Some x → Has (cons_option o xs) x
 has-first None xs x h = absurd (none-some x h)
@@ -106,7 +106,7 @@ pub run-has : {X : Type 0} (g : ℕ → Option X) (low : ℕ) (numbers : List �
 run-has g low [] high run n x l h e = absurd (omega arith)
 run-has g low (m ∷ numbers) high run n x l h e =
     ⊎_elim (λ same. has-first (g m) (filter_map g numbers) x (ap g (sym run.0 ∙ same) ∙ e))
-    (λ other. has-behind (g m) (filter_map g numbers) x (run-has g (low + 1) numbers high run.1 n x (omega arith) h e))
+    (λ other. has-after (g m) (filter_map g numbers) x (run-has g (low + 1) numbers high run.1 n x (omega arith) h e))
     (cases_eq low n)
 
 run-under : (low : ℕ) (numbers : List ℕ) (high : ℕ) → IsRun low numbers high → low ≤ high

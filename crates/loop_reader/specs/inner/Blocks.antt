@@ -55,10 +55,10 @@ StopsAt number lines entries (stops.Open line) =
     × ((names : List (List ℕ)) → inside_faults number names [] lines ≡ entry_faults (forms_in entries) [] entries ++ at_line line (NoEnd ∷ []))
 
 -- the line where they stop and the text after it are within this bound
-abbrev pub IsBehind : ℕ → Stop → Type 0
-IsBehind bound (stops.End line rest) = line + 1 + length rest.now ≤ bound
-IsBehind bound (stops.Unfit line rest) = line + 1 + length rest.now ≤ bound
-IsBehind bound (stops.Open line) = line ≤ bound
+abbrev pub EndsBy : ℕ → Stop → Type 0
+EndsBy bound (stops.End line rest) = line + 1 + length rest.now ≤ bound
+EndsBy bound (stops.Unfit line rest) = line + 1 + length rest.now ≤ bound
+EndsBy bound (stops.Open line) = line ≤ bound
 
 -- how many lines of each form there are
 pub record IsCounts (block : List Form) (counts : Counts) : Type 0 where

@@ -28,7 +28,7 @@ pub record IsBlockRead (name : List ℕ) (number : ℕ) (text : List ℕ) (block
   pub found : block.found ≡ loop_of (name, whole [] (forms_of text))
   pub well_formed : IsLoop block.found
   pub past : number < block.line
-  pub behind : block.line + length block.rest.now ≤ number + length text
+  pub ends_by : block.line + length block.rest.now ≤ number + length text
 
 -- the answer for a block whose lines have numbers from this one on
 abbrev pub AnswersBlock : List ℕ → ℕ → List ℕ → Result BlockRead LoopFault → Type 0

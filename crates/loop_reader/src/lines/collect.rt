@@ -4,7 +4,7 @@ ghost use Rattle.std.specs.Prelude.{◌≡◌, ◌+◌, ◌≤◌, ◌<◌, ◌^
 ghost use Rattle.loop_lines.specs.Forms as spec;
 ghost use Rattle.loop_reader.specs.Meaning.{stands, has_statement, has_out, is_statement, is_out, whole, forms_of};
 ghost use Rattle.loop_lines.specs.Parsed.{form_seen};
-ghost use Rattle.loop_reader.specs.inner.Blocks.{forms_in, StopsAt, StopsBlock, IsBehind, IsPast};
+ghost use Rattle.loop_reader.specs.inner.Blocks.{forms_in, StopsAt, StopsBlock, EndsBy, IsPast};
 ghost use Rattle.loop_reader.specs.declared.lines.entry.LineEntry.{LineEntry};
 
 use crate::lines::entry::LineEntry;
@@ -70,7 +70,7 @@ fn collect<'a>(
 ) -> Result<(Seen, Stop<'a>), OutOfMemory>
     requires { number + length text.now < 2 ^ 32 }
     ensures stops { IfOk result (λ r. StopsAt number (forms_of text.now) lines.new.items r.1) }
-    ensures behind { IfOk result (λ r. IsBehind (number + length text.now) r.1) }
+    ensures ends_by { IfOk result (λ r. EndsBy (number + length text.now) r.1) }
     ensures past { IfOk result (λ r. IsPast number r.1) }
     ensures statement { IfOk result (λ r. r.0.statement ≡ has_statement (forms_in lines.new.items)) }
     ensures out { IfOk result (λ r. r.0.out ≡ has_out (forms_in lines.new.items)) }
@@ -145,7 +145,7 @@ pub(crate) fn collect_block<'a>(
     ensures whole { IfOk result (λ r. forms_in lines.new.items ≡ whole [] (forms_of text.now)) }
     ensures stops { IfOk result (λ r. StopsBlock number (forms_of text.now) lines.new.items r.0 r.1) }
     ensures sound { IfOk result (λ r. r.0 ≤ length lines.new.items) }
-    ensures behind { IfOk result (λ r. IsBehind (number + length text.now) r.1) }
+    ensures ends_by { IfOk result (λ r. EndsBy (number + length text.now) r.1) }
     ensures past { IfOk result (λ r. IsPast number r.1) }
     ensures few { IfOk result (λ _. length lines.new.items < 2 ^ 33) }
 {

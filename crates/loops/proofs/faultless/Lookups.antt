@@ -19,7 +19,7 @@ use Rattle.loop_reader.specs.Meaning.{Declared, AnArray, AParam, AValue, declare
 use Rattle.loops.specs.Text.{array_name, param_name, value_name}
 use Rattle.loop_reader.proofs.faults.Checking.{not-from}
 use Rattle.loop_reader.proofs.lookups.Declared.{declared_after, declared-append, how_many-cons, same_word-here, same_word-yes}
-use Rattle.loop_reader.proofs.making.Numbered.{Has, has-behind, has-first}
+use Rattle.loop_reader.proofs.making.Numbered.{Has, has-after, has-first}
 use Rattle.loops.proofs.returned.Written.{array_form, param_form, init_form, statement_form, out_form, body_forms}
 use Rattle.loops.proofs.spelling.LoopNames.{get-some}
 
@@ -76,7 +76,7 @@ first_declared-none name before [] h = refl
 first_declared-none name before (form ∷ forms) h =
     ap (λ o. option_or o (first_declared name (before ++ form ∷ []) forms))
     (declared_by-none name (how_many is_array before) (how_many is_param before) (how_many is_statement before) form (λ e. h (has-first (name_in form) (names_in forms) name e)))
-    ∙ first_declared-none name (before ++ form ∷ []) forms (λ k. h (has-behind (name_in form) (names_in forms) name k))
+    ∙ first_declared-none name (before ++ form ∷ []) forms (λ k. h (has-after (name_in form) (names_in forms) name k))
 
 -- a name that no line declares
 pub declared-none : (name : List ℕ) (forms : List Form) → (Has (names_in forms) name → ⊥) → declared forms name ≡ None

@@ -135,9 +135,9 @@ init_value-from l name n (i ∷ inits) z h =
     (λ e. let rest = init_value-from l name n inits z e in (rest.0, has-later i inits rest.0 rest.1, rest.2, rest.3, rest.4))
     (from-either (value_in name n (init_form l i)) (init_value name n (map (init_form l) inits)) z h)
 
-some-behind : (o rest : Option ℤ) (z : ℤ) → rest ≡ Some z → (w : ℤ) × (option_or o rest ≡ Some w)
-some-behind None rest z h = (z, h)
-some-behind (Some w) rest z h = (w, refl)
+some-after : (o rest : Option ℤ) (z : ℤ) → rest ≡ Some z → (w : ℤ) × (option_or o rest ≡ Some w)
+some-after None rest z h = (z, h)
+some-after (Some w) rest z h = (w, refl)
 
 value-own : (l : LoopData) (i : Initial) → value_in (value_name l i.statement) i.number (init_form l i) ≡ Some i.value
 value-own l i =
@@ -151,7 +151,7 @@ init_value-some l (j ∷ inits) zero i e =
     (i.value, ap value (same_Some j i e) ∙ ap (λ o. option_or o (init_value (value_name l i.statement) i.number (map (init_form l) inits))) (value-own l i))
 init_value-some l (j ∷ inits) (suc k) i e =
     let rest = init_value-some l inits k i e in
-    some-behind (value_in (value_name l i.statement) i.number (init_form l j)) (init_value (value_name l i.statement) i.number (map (init_form l) inits)) rest.0 rest.1
+    some-after (value_in (value_name l i.statement) i.number (init_form l j)) (init_value (value_name l i.statement) i.number (map (init_form l) inits)) rest.0 rest.1
 
 -- and each of the loop's is found by its name and number
 init_value-there : (l : LoopData) → IsLoop l → (i : Initial) → Has l.inits i → init_value (value_name l i.statement) i.number (body_forms l) ≡ Some i.value

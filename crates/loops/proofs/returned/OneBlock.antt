@@ -73,8 +73,8 @@ some-statement : (l : LoopData) (statements : List Statement) → 1 ≤ length s
 some-statement l [] h = absurd (omega arith)
 some-statement l (s ∷ statements) h = refl
 
-any-behind : (p : Form → Bool) (xs ys : List Form) → list_any p ys ≡ true → list_any p (xs ++ ys) ≡ true
-any-behind p xs ys h = list_any-append p xs ys ∙ or_right (list_any p xs) (list_any p ys) h
+any-after : (p : Form → Bool) (xs ys : List Form) → list_any p ys ≡ true → list_any p (xs ++ ys) ≡ true
+any-after p xs ys h = list_any-append p xs ys ∙ or_right (list_any p xs) (list_any p ys) h
 
 -- all lines of a loop
 
@@ -89,7 +89,7 @@ body-standing l is =
     let p = standing-map IsHead param_form (λ before x h. head-step before (param_form x) h refl refl) l.params arrays a.1 in
     let i = standing-map IsHead (init_form l) (λ before x h. head-step before (init_form l x) h refl refl) l.inits (arrays ++ params) p.1 in
     let s = standing-map (λ before. has_out before ≡ false) (statement_form l) (λ before x h. (ap not h, any-kept is_out before (statement_form l x) false h refl)) l.statements ((arrays ++ params) ++ inits) i.1.1 in
-    let some = any-behind is_statement ((arrays ++ params) ++ inits) statements (some-statement l l.statements is.statements_some) in
+    let some = any-after is_statement ((arrays ++ params) ++ inits) statements (some-statement l l.statements is.statements_some) in
     let o = standing-map (λ before. has_statement before ≡ true) (out_form l) (λ before x h. (h, any-kept is_statement before (out_form l x) true h refl)) l.outs (((arrays ++ params) ++ inits) ++ statements) some in
     standing-join [] (((arrays ++ params) ++ inits) ++ statements) outs
     (standing-join [] ((arrays ++ params) ++ inits) statements (standing-join [] (arrays ++ params) inits (standing-join [] arrays params a.0 p.0) i.0) s.0) o.0

@@ -20,8 +20,8 @@ pub(crate) fn demand(time: u64, edge: Edge, ii: u64) -> u64
     ensures exact { IsDemand ii time edge result }
     ensures below { result < time + 128 }
 {
-    let behind = (ii * u64::from(edge.distance)) as i64;
-    let least = time as i64 + i64::from(edge.delay) - behind;
+    let after = (ii * u64::from(edge.distance)) as i64;
+    let least = time as i64 + i64::from(edge.delay) - after;
     if least < 0 { 0 } else { least as u64 }
 }
 

@@ -56,9 +56,9 @@ option-cases (Some x) xs y c = elim (contains-cases x xs y c) [
 option-there : {X : Type 0} (o : Option X) (xs : List X) (y : X) → o ≡ Some y → Contains (cons_option o xs) y
 option-there o xs y e = subst (λ p. Contains (cons_option p xs) y) (sym e) (contains-head y xs)
 
-pub option-behind : {X : Type 0} (o : Option X) (xs : List X) (y : X) → Contains xs y → Contains (cons_option o xs) y
-option-behind None xs y c = c
-option-behind (Some x) xs y c = contains-tail x xs y c
+pub option-after : {X : Type 0} (o : Option X) (xs : List X) (y : X) → Contains xs y → Contains (cons_option o xs) y
+option-after None xs y c = c
+option-after (Some x) xs y c = contains-tail x xs y c
 
 in-from_sequence : (schedule : ScheduleData) (allotment : AllotmentData) (memory : MemoryData) (cycle op : ℕ) (statements : List Statement) (w : Write)
     → Contains (sequence_in schedule allotment memory cycle op statements) w → IsIn schedule allotment memory cycle op statements w
@@ -82,7 +82,7 @@ sequence-from_in schedule allotment memory cycle op (x ∷ statements) zero s w 
     (ap (λ n. write_now schedule allotment memory cycle n x) z ∙ ap (λ y. write_now schedule allotment memory cycle (op + 0) y) same ∙ e)
 sequence-from_in schedule allotment memory cycle op (x ∷ statements) (suc k) s w there e =
     let z : (op + 1) + k ≡ op + suc k = omega arith in
-    option-behind (write_now schedule allotment memory cycle op x) (sequence_in schedule allotment memory cycle (op + 1) statements) w
+    option-after (write_now schedule allotment memory cycle op x) (sequence_in schedule allotment memory cycle (op + 1) statements) w
     (sequence-from_in schedule allotment memory cycle (op + 1) statements k s w there (ap (λ n. write_now schedule allotment memory cycle n s) z ∙ e))
 
 -- an operation of the row and the stages writes in the cycle
@@ -152,7 +152,7 @@ sequence-from_issued schedule allotment memory (suc cycle) w some op iteration s
       | inl before ↦
           Contains-append_left (sequence_before schedule allotment memory cycle) (sequence_in schedule allotment memory cycle 0 schedule.problem.loop.statements) w
           (sequence-from_issued schedule allotment memory cycle w some op iteration s there within before e)
-      | inr behind ↦
+      | inr after ↦
           let at : issue_of schedule.ii schedule.times op iteration ≡ cycle = omega arith in
           let z : 0 + op ≡ op = omega arith in
           Contains-append_right (sequence_before schedule allotment memory cycle) (sequence_in schedule allotment memory cycle 0 schedule.problem.loop.statements) w

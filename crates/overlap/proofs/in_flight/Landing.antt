@@ -75,9 +75,9 @@ last-from w lands found (v ∷ ws) c yes' b all =
       | inl here ↦
           ap (λ x. last_landed_from found lands (x ∷ ws)) here ∙ last-yes found lands w ws yes'
           ∙ ap (λ o. last_landed_from o lands ws) (takes w found b) ∙ found-stays w lands ws tail
-      | inr behind ↦ elim (cases_Bool (lands v)) [
-        | inl met ↦ last-yes found lands v ws met ∙ last-from w lands (later_of found v) ws behind yes' (stays_beaten w found v b (all v (contains-head v ws) met)) tail
-        | inr unmet ↦ last-no found lands v ws unmet ∙ last-from w lands found ws behind yes' b tail
+      | inr after ↦ elim (cases_Bool (lands v)) [
+        | inl met ↦ last-yes found lands v ws met ∙ last-from w lands (later_of found v) ws after yes' (stays_beaten w found v b (all v (contains-head v ws) met)) tail
+        | inr unmet ↦ last-no found lands v ws unmet ∙ last-from w lands found ws after yes' b tail
       ]
     ]
 

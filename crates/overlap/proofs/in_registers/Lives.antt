@@ -14,7 +14,7 @@ use Rattle.graph.specs.Units.{greatest_of}
 use Rattle.ims.specs.Schedules.{ScheduleData, IsSchedule}
 use Rattle.overlap.specs.Lifetimes.{Use, distance_to, uses_from, uses_of, carried, landing_of, read_at, last_read, last_landing, first_cycle, last_cycle, values_from, values_of, rank_of}
 use Rattle.overlap.proofs.in_flight.Landing.{contains-cases, contains-head, contains-tail}
-use Rattle.overlap.proofs.in_flight.Issued.{option-behind, option-cases}
+use Rattle.overlap.proofs.in_flight.Issued.{option-after, option-cases}
 use Rattle.loop_data.proofs.Instances.{slice_get-within, split-there}
 
 -- the greatest of some numbers
@@ -39,7 +39,7 @@ contains-filter_map : {X Y : Type 0} (f : X → Option Y) (xs : List X) (x : X) 
 contains-filter_map f [] x y c e = absurd (let l = c.1 in omega arith)
 contains-filter_map f (z ∷ xs) x y c e = elim (contains-cases z xs x c) [
   | inl same ↦ subst (λ o. Contains (cons_option o (filter_map f xs)) y) (sym (ap f same ∙ e)) (contains-head y (filter_map f xs))
-  | inr d ↦ option-behind (f z) (filter_map f xs) y (contains-filter_map f xs x y d e)
+  | inr d ↦ option-after (f z) (filter_map f xs) y (contains-filter_map f xs x y d e)
 ]
 
 use-from : (value reader : ℕ) (statements : List Statement) (k distance : ℕ) (s : Statement) → slice_get statements k ≡ Some s → Contains s.operands (Value value distance)
@@ -110,8 +110,8 @@ use-from_back value reader (x ∷ statements) u c =
           let r : reader ≡ u.reader = ap (λ (y : Use). y.reader) m.2 in
           let d : m.0 ≡ u.distance = ap (λ (y : Use). y.distance) m.2 in
           (0, x, refl, omega arith, subst (λ o. Contains x.operands o) (operand-at value f.0 m.0 f.2 ∙ ap (Value value) d) f.1)
-      | inr behind ↦
-          let r = use-from_back value (reader + 1) statements u behind in
+      | inr after ↦
+          let r = use-from_back value (reader + 1) statements u after in
           (suc r.0, r.1, r.2, let e = r.3 in omega arith, r.4)
     ]
 

@@ -67,8 +67,8 @@ use-from loop number (x ∷ statements) listed r c = elim (Contains-append_cases
       let m = contains-map_back (λ (y : Use). read_of number y.reader y.distance) (uses_of loop x) r here in
       let z : number + 0 ≡ number = omega arith in
       subst (IsUse loop) m.2 (x, ap (slice_get (values_of loop)) (sym z) ∙ listed 0 x refl, use-back loop x m.0 m.1, refl)
-  | inr behind ↦ use-from loop (number + 1) statements
-      (λ k y e. ap (slice_get (values_of loop)) (let z : (number + 1) + k ≡ number + suc k = omega arith in z) ∙ listed (suc k) y e) r behind
+  | inr after ↦ use-from loop (number + 1) statements
+      (λ k y e. ap (slice_get (values_of loop)) (let z : (number + 1) + k ≡ number + suc k = omega arith in z) ∙ listed (suc k) y e) r after
 ]
 
 use-of_read : (loop : LoopData) (r : Read) → Contains (reads_of_loop loop) r → IsUse loop r

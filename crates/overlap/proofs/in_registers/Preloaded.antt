@@ -35,7 +35,7 @@ found-in (x ∷ ps) r v p c e all =
           ap value (cond-false (eqb x.register r) (Some x) rest (ne_eqb x.register r other))
           ∙ elim (contains-cases x ps p c) [
             | inl here ↦ absurd (other (ap (λ (q : Preload). q.register) here ∙ e))
-            | inr behind ↦ found-in ps r v p behind e (λ q d f. all q (contains-tail x ps q d) f)
+            | inr after ↦ found-in ps r v p after e (λ q d f. all q (contains-tail x ps q d) f)
           ]
     ]
 

@@ -27,13 +27,13 @@ put-front (y ∷ xs) (suc k) x lt =
     let z : suc k + 1 ≡ suc (k + 1) = omega arith in
     ap (λ n. take n (y ∷ set xs k x)) z ∙ ap (λ zs. y ∷ zs) (put-front xs k x (omega arith))
 
-put-behind : {X : Type 0} (xs : List X) (k : ℕ) (x : X) → drop (k + 1) (set xs k x) ≡ drop (k + 1) xs
-put-behind [] zero x = refl
-put-behind [] (suc k) x = refl
-put-behind (y ∷ xs) zero x = refl
-put-behind (y ∷ xs) (suc k) x =
+put-after : {X : Type 0} (xs : List X) (k : ℕ) (x : X) → drop (k + 1) (set xs k x) ≡ drop (k + 1) xs
+put-after [] zero x = refl
+put-after [] (suc k) x = refl
+put-after (y ∷ xs) zero x = refl
+put-after (y ∷ xs) (suc k) x =
     let z : suc k + 1 ≡ suc (k + 1) = omega arith in
-    ap (λ n. drop n (y ∷ set xs k x)) z ∙ put-behind xs k x ∙ ap (λ n. drop n (y ∷ xs)) (sym z)
+    ap (λ n. drop n (y ∷ set xs k x)) z ∙ put-after xs k x ∙ ap (λ n. drop n (y ∷ xs)) (sym z)
 
 drop-more : {X : Type 0} (xs : List X) (k : ℕ) → drop (k + 1) xs ≡ drop 1 (drop k xs)
 drop-more [] zero = refl
@@ -42,8 +42,8 @@ drop-more (y ∷ xs) zero = refl
 drop-more (y ∷ xs) (suc k) = let z : suc k + 1 ≡ suc (k + 1) = omega arith in ap (λ n. drop n (y ∷ xs)) z ∙ drop-more xs k
 
 -- what stands after a place that is written stays
-pub behind-more : {X : Type 0} (xs ys : List X) (k : ℕ) (x : X) → drop k xs ≡ drop k ys → drop (k + 1) (set xs k x) ≡ drop (k + 1) ys
-behind-more xs ys k x e = put-behind xs k x ∙ drop-more xs k ∙ ap (drop 1) e ∙ sym (drop-more ys k)
+pub after-more : {X : Type 0} (xs ys : List X) (k : ℕ) (x : X) → drop k xs ≡ drop k ys → drop (k + 1) (set xs k x) ≡ drop (k + 1) ys
+after-more xs ys k x e = put-after xs k x ∙ drop-more xs k ∙ ap (drop 1) e ∙ sym (drop-more ys k)
 
 pub zero-at : (n v : ℕ) → slice_index (replicate n 0) v ≡ 0
 zero-at zero v = refl

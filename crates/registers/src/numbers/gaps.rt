@@ -90,18 +90,18 @@ pub(crate) fn take(gaps: &mut Vec<Gap>, k: usize, at: u64, length: u64) -> Resul
 {
     let gap = gaps[k];
     let before = at - gap.start;
-    let behind = Gap {
+    let remainder = Gap {
         start: at + length + 1,
         room: gap.room - before - length - 1,
     };
     if before == 0 {
-        gaps[k] = behind;
+        gaps[k] = remainder;
     } else {
         gaps[k] = Gap {
             start: gap.start,
             room: before,
         };
-        gaps.insert(k + 1, behind)?;
+        gaps.insert(k + 1, remainder)?;
     }
     Ok(())
 }

@@ -33,15 +33,15 @@ fn raise_reads(ii: u64, times: &[u64], reads: &[Read], carried: &mut [u64], ends
 }
 
 /// The lifetime of a value that is read at most `farthest` iterations later, and for the last time in
-/// the cycle before `behind`; if that is 0, the value is never read.
-fn live_of(ii: u64, times: &[u64], end: u64, value: Value, farthest: u64, behind: u64) -> Lifetime
+/// the cycle before `after`; if that is 0, the value is never read.
+fn live_of(ii: u64, times: &[u64], end: u64, value: Value, farthest: u64, after: u64) -> Lifetime
     requires maker { value.maker < length times.now }
     requires few { length times.now ≤ 256 }
     requires issued { All (λ time. time ≤ 1048576) times.now }
     requires lands { value.lands ≤ MAX_LATENCY }
     ensures operation { result.operation ≡ value.maker }
     ensures first { result.first ≡ first_cycle ii (landing_of times.now value) (max farthest (if value.out then 1 else 0)) }
-    ensures last { result.last ≡ max (last_or (landing_of times.now value) behind) (if value.out then end else 0) }
+    ensures last { result.last ≡ max (last_or (landing_of times.now value) after) (if value.out then end else 0) }
 {
     let landing = times[value.maker] + value.lands;
     let first = if value.out || farthest > 0 {
@@ -49,7 +49,7 @@ fn live_of(ii: u64, times: &[u64], end: u64, value: Value, farthest: u64, behind
     } else {
         landing
     };
-    let last = if behind > 0 { behind - 1 } else { landing };
+    let last = if after > 0 { after - 1 } else { landing };
     Lifetime {
         operation: value.maker as u8,
         first,

@@ -6,7 +6,7 @@ use Rattle.loop_reader.specs.declared.lines.entry.LineEntry.{LineEntry}
 use Rattle.loop_reader.specs.declared.fault.LoopFaultKind.TheVariants.{Syntax}
 use Rattle.loop_reader.specs.Meaning.{how_many, forms_of, faults_of, at_line, is_statement, whole, outside_faults, blocks_of, loop_of}
 use Rattle.loop_lines.specs.Parsed.{form_seen}
-use Rattle.loop_reader.specs.inner.Blocks.{forms_in, entry_faults, StopsBlock, IsBehind, IsPast}
+use Rattle.loop_reader.specs.inner.Blocks.{forms_in, entry_faults, StopsBlock, EndsBy, IsPast}
 use Rattle.loop_reader.specs.declared.fault.LoopFault.{LoopFault}
 use Rattle.loop_reader.specs.inner.Checks.{first_in}
 use Rattle.loop_reader.proofs.blocks.Blocking.{end-kinds, statement-there, stop-front, first-front, after-front, first-end, no-end-kinds}
@@ -71,7 +71,7 @@ returns c =
     let h = subst (λ ls. StopsBlock c.args.number (forms_of c.args.text.now) ls c.in_ok-sound.sound c.in_ok-sound.stop) (sym same) c.in_ok-sound.ensures.stops in
     let at = subst (StopsBlock c.args.number (forms_of c.args.text.now) c.new-index.result c.in_ok-sound.sound) c.in-End.is h in
     let good = no-end-kinds (faults_of block block EndLine) (c.in_default-check_end.ensures.fault ∙ ap first_in (end-kinds block c.in_ok-counts.counts.statements counted)) in
-    let behind = subst (IsBehind (c.args.number + length c.args.text.now)) c.in-End.is c.in_ok-sound.ensures.behind in
+    let ends_by = subst (EndsBy (c.args.number + length c.args.text.now)) c.in-End.is c.in_ok-sound.ensures.ends_by in
     let all : block ≡ whole [] (forms_of c.args.text.now) = ap forms_in same ∙ c.in_ok-sound.ensures.whole in
     record {
       faults = λ names.
@@ -81,5 +81,5 @@ returns c =
       found = c.in_ok-found.ensures.value ∙ ap (λ b. loop_of (c.args.name.now, b)) all;
       well_formed = c.in_ok-found.ensures.well_formed;
       past = let past = subst (IsPast c.args.number) c.in-End.is c.in_ok-sound.ensures.past in omega arith;
-      behind = behind;
+      ends_by = ends_by;
     }

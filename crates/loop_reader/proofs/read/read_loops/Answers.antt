@@ -81,7 +81,7 @@ returns-in_err-block-in-Loop-clause-exact c =
     c.in_err-block-in-Loop.ensures)
 
 pub loop-rest-smaller : goal.loop-rest-smaller
-loop-rest-smaller c = let h = c.in_ok-block-in-Loop.ensures in let past = h.past in let behind = h.behind in omega arith
+loop-rest-smaller c = let h = c.in_ok-block-in-Loop.ensures in let past = h.past in let ends_by = h.ends_by in omega arith
 
 pub loop-rest-preserved : goal.loop-rest-preserved
 loop-rest-preserved c =
@@ -91,7 +91,7 @@ loop-rest-preserved c =
     let block = c.in_ok-block-in-Loop.block in
     let h = c.in_ok-block-in-Loop.ensures in
     let past = h.past in
-    let behind = h.behind in
+    let ends_by = h.ends_by in
     let name = c.in-Loop.name.now in
     let form = ap (λ f. Some (form_seen f)) (sym c.in-Loop.is) ∙ c.in-Some.ensures in
     let next = forms-next c.loop-rest.rest.now c.next_line.result.0.now c.next_line.result.1.now (Some (LoopLine name)) c.next_line.ensures.lines form in

@@ -30,7 +30,7 @@ loop-from-smaller c =
     let link : IsLink c.args.statements.now c.in-Some.place.array (c.loop-from.from + 1) (get_or c.args.same.now.next c.loop-from.from 0)
     = next-link c.args.statements.now c.args.same.now.first c.args.same.now.next c.in-Some.place.array c.loop-from.from c.index-statements-from.result
     c.requires.linked at (c.loop-from.invariant.touches c.in-Some.place c.in-Some.is c.index-statements-from.result at) in
-    let behind : c.loop-from.from + 1 ≤ get_or c.args.same.now.next c.loop-from.from 0 = link.behind in
+    let following : c.loop-from.from + 1 ≤ get_or c.args.same.now.next c.loop-from.from 0 = link.following in
     let within : c.loop-from.from < length c.args.statements.now = c.loop-from-test.true in
     let less : length c.args.statements.now - get_or c.args.same.now.next c.loop-from.from 0 < length c.args.statements.now - c.loop-from.from = omega arith in
     less

@@ -8,7 +8,7 @@ use Rattle.loop_reader.proofs.lookups.Declared.{how_many-more, one_if-le}
 use Rattle.loop_reader.specs.inner.Found.{AreFound}
 use Rattle.loop_reader.proofs.lookups.Finding.{found-none, found-more, found-all}
 use Rattle.loop_reader.proofs.faults.Giving.{given-none}
-use Rattle.loop_reader.proofs.faults.Turns.{behind, block-at, line-fault, line-near, turn-faulty, turn-good, turn-given, same-given}
+use Rattle.loop_reader.proofs.faults.Turns.{forms_past, block-at, line-fault, line-near, turn-faulty, turn-good, turn-given, same-given}
 use Rattle.loop_reader.proofs.checks.check.first_fault.Goals as goal
 
 -- what stands past the last line
@@ -36,7 +36,7 @@ take_line-requires-clause-here c =
     let i = c.loop-entry.entry-index in
     let lines = take c.args.sound c.lines.result.now in (
       forms_in (take i lines),
-      behind c.args.index.now c.args.sound lines i,
+      forms_past c.args.index.now c.args.sound lines i,
       block-at c.args.index.now lines c.args.sound i none v.items c.loop-entry-test.true,
       record { arrays = v.arrays; params = v.params; statements = v.statements },
     )

@@ -25,7 +25,7 @@ returns-then-not-allows c =
           (reads-same _ _ _ _ _ _ next v.reads)
           (other-than-end c.in-Some.form c.in_default.not-End)
           (sym (c.allows.ensures (forms_in c.loop-rest.lines.items) (sym v.statement) (sym v.out)) ∙ c.if-not-allows.true);
-      behind = omega arith;
+      ends_by = omega arith;
       past = v.past;
       few = omega (arith, v.few);
       statement = v.statement;

@@ -5,7 +5,7 @@ use Rattle.registers.specs.declared.value.Value.{Value}
 use Rattle.registers.specs.declared.value.Read.{Read}
 use Rattle.registers.specs.Values.{greatest_of, landing_of, first_cycle, live_of, lives_from, lives_of, read_at, reads_of}
 use Rattle.registers.specs.inner.Lasts.{last_or}
-use Rattle.registers.proofs.lives.Listed.{behind-more, drop-at, drop-none, last-is, put-front, zero-at}
+use Rattle.registers.proofs.lives.Listed.{after-more, drop-at, drop-none, last-is, put-front, zero-at}
 use Rattle.registers.proofs.values.lives.fill_lives.Goals as goal
 
 pub loop-k-preserved : goal.loop-k-preserved
@@ -27,12 +27,12 @@ loop-k-preserved c =
     let zero = zero-at 256 k in
     let far_table = c.raise_reads.ensures.carried k (omega arith) in
     let far : slice_index c.raise_reads.new.carried k ≡ greatest_of (map (λ (r : Read). r.distance) (reads_of reads k)) = omega arith in
-    let behind_table = c.raise_reads.ensures.ends k (omega arith) in
-    let behind : slice_index c.raise_reads.new.ends k ≡ greatest_of (map (λ (r : Read). read_at ii times r + 1) (reads_of reads k)) = omega arith in
+    let after_table = c.raise_reads.ensures.ends k (omega arith) in
+    let after : slice_index c.raise_reads.new.ends k ≡ greatest_of (map (λ (r : Read). read_at ii times r + 1) (reads_of reads k)) = omega arith in
     let first : life.first ≡ (live_of ii times end reads k x).first
     = c.live_of.ensures.first ∙ ap (λ n. first_cycle ii (landing_of times x) (max n (if x.out then 1 else 0))) far in
     let last : life.last ≡ (live_of ii times end reads k x).last
-    = c.live_of.ensures.last ∙ ap (λ n. max (last_or (landing_of times x) n) (if x.out then end else 0)) behind
+    = c.live_of.ensures.last ∙ ap (λ n. max (last_or (landing_of times x) n) (if x.out then end else 0)) after
     ∙ ap (λ n. max n (if x.out then end else 0)) (last-is (read_at ii times) (landing_of times x) (reads_of reads k)) in
     let lives : life ≡ live_of ii times end reads k x
     = ap (λ n. record { operation = n; first = life.first; last = life.last }) c.live_of.ensures.operation
@@ -45,7 +45,7 @@ loop-k-preserved c =
           ∙ ap (λ (l : Lifetime). take k c.loop-k.lives ++ l ∷ rest) lives
           ∙ ap (λ (vs : List Value). take k c.loop-k.lives ++ lives_from ii times end reads k vs) (sym at)
           ∙ c.loop-k.invariant.front;
-      rest = behind-more c.loop-k.lives c.args.lives.now k life c.loop-k.invariant.rest;
+      rest = after-more c.loop-k.lives c.args.lives.now k life c.loop-k.invariant.rest;
     }
 
 pub returns-clause-exact : goal.returns-clause-exact
