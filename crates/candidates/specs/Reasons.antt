@@ -1,5 +1,5 @@
 -- Why an interval failed, and what it gives with the evidence of it.
-use Rattle.std.specs.Prelude.{◌≡◌, ℕ, Some}
+use Rattle.std.specs.Prelude.{◌≡◌, ℕ, Option, Some}
 use Rattle.modulo.specs.Culprits.{failure_of}
 use Rattle.ims.specs.Culprits.{AnswersCulprit}
 use Rattle.ims.specs.Problems.{ProblemData, budget_of}
@@ -9,6 +9,7 @@ use Rattle.registers.specs.Numberless.{HasNone}
 use Rattle.overlap.specs.Allotments.{LeastFor}
 use Rattle.overlap.specs.Emission.{emitted}
 use Rattle.overlap.specs.Lifetimes.{lifetimes_of}
+use Rattle.rotating.specs.Needs.{IsNeed}
 use Rattle.candidates.specs.declared.evidence.Met as evidence
 use Rattle.candidates.specs.declared.evidence.Reason.{Reason}
 use Rattle.candidates.specs.declared.evidence.Reason.TheVariants.{Attempt, Register}
@@ -23,18 +24,19 @@ use Rattle.candidates.specs.Outcomes.{FailsBy, Gives, IsPlacedAs, cause_of}
 -- the cause that a reason is after
 abbrev pub reason_cause : Reason → Cause
 reason_cause (Attempt culprit) = cause_of (failure_of culprit)
-reason_cause (Register life) = Registers
+reason_cause (Register life need) = Registers
 
--- the attempt places all operations, and this is the first value that has no register
-pub record LacksFor (problem : ProblemData) (ii : ℕ) (life : Lifetime) : Type 0 where
+-- the attempt places all operations, this is the first value that has no register, and this is how many registers all values need
+pub record LacksFor (problem : ProblemData) (ii : ℕ) (life : Lifetime) (need : Option ℕ) : Type 0 where
   pub schedule : ScheduleData
   pub is_schedule : IsPlacedAs problem ii schedule
   pub none : HasNone schedule.ii problem.registers (lifetimes_of schedule) life
+  pub is_need : IsNeed schedule need
 
 -- why an interval failed
 abbrev pub IsReason : ProblemData → ℕ → Reason → Type 0
 IsReason problem ii (Attempt culprit) = AnswersCulprit problem ii (budget_of problem) (Some culprit)
-IsReason problem ii (Register life) = LacksFor problem ii life
+IsReason problem ii (Register life need) = LacksFor problem ii life need
 
 -- an interval gives no kernel, by the cause of this reason, and for this reason
 pub record FailsFor (problem : ProblemData) (ii : ℕ) (reason : Reason) : Type 0 where

@@ -10,7 +10,7 @@ use ims::{Answer, Culprit, Prepared, Schedule, answer_on};
 use kernel::Kernel;
 use machine_data::OutOfMemory;
 use mrt::DefaultTable;
-use rotating::{Allotment, Allotted, Lifetime, allot_or_lack, emit};
+use rotating::{Allotment, Allotted, Lifetime, allot_or_lack, emit, least_registers};
 use std::alloc::Global;
 
 /// Why an interval failed.
@@ -18,8 +18,9 @@ use std::alloc::Global;
 pub enum Reason {
     /// What keeps the attempt from a schedule.
     Attempt(Culprit),
-    /// The first value of the schedule that has no register.
-    Register(Lifetime),
+    /// The first value of the schedule that has no register, and the [least number of registers](least_registers) for which
+    /// each value has one, if there is such a number.
+    Register(Lifetime, Option<u64>),
 }
 
 impl Reason {
@@ -31,7 +32,7 @@ impl Reason {
             Reason::Attempt(Culprit::Blocked(_)) => Cause::Table,
             Reason::Attempt(Culprit::Unplaced(_)) => Cause::Budget,
             Reason::Attempt(Culprit::Late(_, _)) => Cause::Stages,
-            Reason::Register(_) => Cause::Registers,
+            Reason::Register(_, _) => Cause::Registers,
         }
     }
 }
@@ -75,7 +76,10 @@ pub(crate) fn tried_on<'a>(
     };
     let allotment = match allot_or_lack(alloc, &schedule, u64::from(prepared.registers()))? {
         Allotted::All(allotment) => allotment,
-        Allotted::Lacks(life) => return Ok(Tried::Failed(Reason::Register(life))),
+        Allotted::Lacks(life) => {
+            let need = least_registers(alloc, &schedule)?;
+            return Ok(Tried::Failed(Reason::Register(life, need)));
+        }
     };
     let kernel = emit(alloc, prepared.innermost(), &schedule, &allotment)?;
     Ok(Tried::Met(Met {

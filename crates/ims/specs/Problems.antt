@@ -26,6 +26,10 @@ pub record ProblemData : Type 0 where
 abbrev pub without_loop : ProblemData → modulo.ProblemData
 without_loop problem = record { graph = problem.graph; operations = problem.operations; resources = problem.resources; recurrences = problem.recurrences; ratio = problem.ratio; ceiling = problem.ceiling }
 
+-- a loop with all that an attempt is given, on a machine with this many registers
+abbrev pub with_loop : LoopData → ℕ → modulo.ProblemData → ProblemData
+with_loop loop registers problem = record { loop = loop; graph = problem.graph; operations = problem.operations; registers = registers; resources = problem.resources; recurrences = problem.recurrences; ratio = problem.ratio; ceiling = problem.ceiling }
+
 -- the least interval that is tried
 abbrev pub mii_of : ProblemData → ℕ
 mii_of problem = max problem.resources problem.recurrences

@@ -9,4 +9,5 @@ pub use Rattle.registers.specs.Numberless
 pub use Rattle.registers.specs.Residues
 pub mod Allotting
 pub mod CheckAnswers
+pub mod Needs
 pub mod inner

@@ -1,3 +1,4 @@
 //! Registers for values.
 
 pub(crate) mod allotment;
+pub(crate) mod need;

@@ -3,10 +3,10 @@
 ghost use Rattle.std.specs.Prelude.{◌≡◌, ◌≤◌, max, length};
 ghost use Rattle.graph.specs.TablesAnswer.{TablesAnswer};
 ghost use Rattle.graph.specs.Units.{first_without_table};
-ghost use Rattle.ims.specs.Problems.{IsProblem, IsProblemOf, mii_of, without_loop};
+ghost use Rattle.ims.specs.Problems.{IsProblem, IsProblemOf, mii_of, with_loop, without_loop};
 ghost use Rattle.machine_data.specs.declared.limits.TheConstants.{MAX_CEILING, MAX_RATIO};
 
-use crate::problem::offers::offers;
+use crate::problem::loop_problem::loop_problem;
 use graph::{Edges, GraphFault};
 use loop_data::Loop;
 use machine_data::{Alternatives, Machine};
@@ -52,15 +52,20 @@ impl Prepared {
         requires ceiling { ceiling ≤ MAX_CEILING }
         ensures exact { TablesAnswer (first_without_table machine.now innermost) (IsProblemOf machine.now innermost ratio ceiling) result }
     {
-        let edges = graph::edges(alloc, machine, &innermost)?;
-        let alternatives = offers(alloc, machine, &innermost)?;
-        let problem = Problem::new(alloc, edges, alternatives, ratio, ceiling)?;
-        let registers = machine.registers();
-        Ok(Prepared {
+        let problem = loop_problem(alloc, machine, &innermost, ratio, ceiling)?;
+        Ok(Prepared::of(machine, innermost, problem))
+    }
+
+    /// A loop with what [`loop_problem`](crate::loop_problem) finds for it on the machine.
+    pub fn of(machine: &Machine, innermost: Loop, problem: Problem) -> Prepared
+        requires { IsProblem (with_loop innermost machine.now.registers problem) }
+        ensures { result ≡ with_loop innermost machine.now.registers problem }
+    {
+        Prepared {
             innermost,
             problem,
-            registers,
-        })
+            registers: machine.registers(),
+        }
     }
 
     /// The problem of its operations, which an attempt is made at.

@@ -81,7 +81,7 @@ impl Allotment {
 }
 
 /// `count` zeros.
-fn zeros(alloc: Global, count: usize) -> Result<Vec<usize>, OutOfMemory>
+pub(crate) fn zeros(alloc: Global, count: usize) -> Result<Vec<usize>, OutOfMemory>
     ensures { IfOk result (λ v. vec_len v ≡ count) }
 {
     vec![in alloc; 0; count]

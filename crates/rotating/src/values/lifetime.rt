@@ -11,8 +11,9 @@ use machine_data::OutOfMemory;
 use overlap::Lifetime;
 use std::alloc::Global;
 
-/// The cycle in which the last operation of iteration 0 has landed.
-fn last_landing(schedule: &Schedule) -> u64
+/// The cycle in which the last result of iteration 0 has landed, in cycles from the beginning of the iteration: how long one
+/// iteration takes.
+pub fn last_landing(schedule: &Schedule) -> u64
     ensures { result ≡ last_landing schedule.now }
 {
     let edges = schedule.prepared().edges();
