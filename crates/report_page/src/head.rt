@@ -1,6 +1,6 @@
 //! The page before the document. Made of clients/report/head.html by clients/report/page_parts, and not to be edited.
 
-/// The bytes of clients/report/head.html.
+/// Bytes of clients/report/head.html.
 pub(crate) const HEAD: &str = r##"<!doctype html>
 <html lang="en">
 <head>
