@@ -13,28 +13,36 @@ function triedPart(loop) {
 }
 function unitPart(loop) {
   const ii = loop.kernel ? loop.kernel.ii : loop.mii, places = new Map((loop.kernel ? loop.kernel.units : []).map((name, at) => [name, at]));
-  const held = at => loop.kernel.slots.filter(it => it.unit === at).length, share = count => Math.round(100 * count / ii) + " %";
-  if (isOfProblems) return problemUnits(loop, at => (places.has(at) ? held(places.get(at)) : 0), share);
+  const held = name => loop.kernel.slots.filter(it => it.unit === places.get(name)).length;
+  const share = (name, count) => count + ", " + (places.has(name) ? percentOf(loop.kernel, places.get(name), count) : 0) + " %";
+  if (isOfProblems) return problemUnits(loop, held, share);
   const all = [...loop.units, ...[...places.keys()].filter(name => !loop.units.some(it => it.name === name)).map(name => ({ name, uses: 0,
     users: [] }))];
   const rows = all.map(it => {
-    const inKernel = loop.kernel ? (places.has(it.name) ? held(places.get(it.name)) : 0) : null;
+    const inKernel = loop.kernel ? held(it.name) : null;
     const bar = make("span", { class: "bar", "aria-hidden": "true" },
       make("i", { style: "width:" + Math.min(100, 100 * (inKernel === null ? it.uses : inKernel) / ii) + "%" }));
     const users = it.users.map(user => nameOf(loop, user.operation) + (user.uses > 1 ? "*" + user.uses : "")).join(" ");
     return [make("span", { class: "mono" }, it.name), it.uses + (it.full ? " full" : ""),
-      ...(inKernel === null ? [] : [make("span", { class: "whole" }, bar, inKernel + ", " + share(inKernel))]),
+      ...(inKernel === null ? [] : [make("span", { class: "whole" }, bar, share(it.name, inKernel))]),
       make("span", { class: "mono" }, users)];
   });
   const heads = ["unit", "bound", ...(loop.kernel ? ["kernel"] : []), "operations"];
   return part("Units", "In how many cycles of an iteration each is held: as the bound counts it, with the operations of that count"
-    + (loop.kernel ? ", and in the kernel." : "."), make("div", { class: "scroll", "data-part": "units" }, table(heads, rows)));
+    + (loop.kernel ? ", and in the kernel." : "."), make("div", { class: "scroll", "data-part": "units" }, table(heads, rows)), loop.set && setSays(loop.set));
+}
+// The fullest set of units. Without recurrences an unrolled body comes near the fraction.
+function setSays({ units, rows, need }) {
+  const isWhole = rows % units.length === 0, each = isWhole ? cycles(rows / units.length) : rows + "/" + units.length + " cycles";
+  return make("p", { class: "said", "data-part": "set" }, "The fullest set of units is " + listed(units) + ", with " + counted(rows, "row") + " on "
+    + counted(units.length, "unit") + ": " + each + ", need " + need + ". No schedule has an interval below " + need
+    + (isWhole ? "." : "; as far as units go, an unrolled body would come near " + each + " an iteration."));
 }
 function problemUnits(loop, held, share) {
   const rows = loop.units.map(({ name, full }) => {
     const count = loop.kernel && held(name), bar = loop.kernel && make("span", { class: "bar", "aria-hidden": "true" },
       make("i", { style: "width:" + 100 * count / loop.kernel.ii + "%" }));
-    return [make("span", { class: "mono" }, name), full ? "full" : "", ...(loop.kernel ? [make("span", { class: "whole" }, bar, count + ", " + share(count))] : [])];
+    return [make("span", { class: "mono" }, name), full ? "full" : "", ...(loop.kernel ? [make("span", { class: "whole" }, bar, share(name, count))] : [])];
   });
   return part("Units", "Full are those that the bound of " + cycles(loop.resources) + " is due to." + (loop.kernel ? " In the kernel each is held in so many cycles of a turn." : ""),
     make("div", { class: "scroll named", "data-part": "units" }, table(["unit", "bound", ...(loop.kernel ? ["kernel"] : [])], rows)));
@@ -62,13 +70,15 @@ function circuitPart(loop) {
 }
 function factsOf(loop) {
   const kernel = loop.kernel, operations = loop.operations.length;
-  const facts = kernel ? [[kernel.ii, "interval, in cycles"],
+  const facts = kernel ? [[kernel.ii, "interval, in cycles" + (isLeast(kernel) ? ": least possible" : "")],
     [kernel.held_by, kernel.held_by === "neither" ? "bound holds it" : "hold" + (kernel.held_by.endsWith("s") || kernel.held_by === "both" ? "" : "s") + " it"]]
     : [["none", "interval up to " + loop.failed_to], [loop.cause, "cause at " + loop.failed_to]];
   facts.push([loop.mii, "MII"], [loop.resources, "ResMII, by units"], [loop.recurrences, "RecMII, by recurrences"]);
   if (kernel) facts.push([kernel.stages, kernel.stages === 1 ? "stage" : "stages"], [spanOf(loop), "cycles an iteration"],
+    ...(kernel.extra_turns === undefined ? [] : [[turnsOf(kernel), "turns for N iterations"]]),
     ...kernel.files.filter(it => it.values.length || !it.name).map(it => [it.max_live + (it.registers === null ? "" : " of " + it.registers),
-      it.name ? "live in " + cut(it.name) : "registers live"]));
+      it.name ? "live in " + cut(it.name) : "registers live"]),
+    ...(kernel.need === undefined || !kernel.values.length ? [] : [[(kernel.need ?? "over 256") + " of " + kernel.registers, "registers needed"]]));
   if (kernel && kernel.unroll) facts.push([kernel.unroll, kernel.unroll === 1 ? "copy of the body" : "copies of the body"]);
   facts.push([operations, operations === 1 ? "operation" : "operations"]);
   return make("ul", { class: "facts" }, facts.map(([number, says]) => make("li", {}, make("b", {}, number), make("span", {}, says))));
