@@ -19,11 +19,11 @@ from browser import Browser, found  # noqa: E402
 from document import text_of  # noqa: E402
 from report import document_of_problems, page_of, printed, program_beside  # noqa: E402
 
-# The picture, the machine or the text of problems, what is open, light or dark, and the height of the window; 0 is for the whole page.
+# The picture, the machine or the text of problems, what is open, light or dark, and a selector of the last element that is on it.
 PICTURES = [
-    ("report", "small_dsp.toml", "loop-histogram", "light", 1188),
-    ("report_dark", "clustered.toml", "loop-recurrence2", "dark", 0),
-    ("report_problems", "clustered.txt", "problem-complex_multiply", "light", 1440),
+    ("report", "small_dsp.toml", "loop-histogram", "light", "[data-chart=iteration]"),
+    ("report_dark", "clustered.toml", "loop-recurrence2", "dark", "section"),
+    ("report_problems", "clustered.txt", "problem-complex_multiply", "light", "[data-chart=iteration]"),
 ]
 
 
@@ -50,16 +50,15 @@ def main(wanted: list[str]) -> None:
     browser = Browser(found() or sys.exit("pictures: there is no Chromium here"))
     try:
         with tempfile.TemporaryDirectory() as room:
-            for name, what, opened, scheme, height in PICTURES:
+            for name, what, opened, scheme, last in PICTURES:
                 if wanted and name not in wanted:
                     continue
                 with open(f"{room}/page.html", "w", encoding="utf-8") as it:
                     it.write(page_for(what, room))
                 browser.media(scheme)
-                browser.size(1400, height or 900)
+                browser.size(1400, 2000)
                 browser.open(f"{room}/page.html", f"#{opened}")
-                if not height:
-                    browser.size(1400, browser.value("document.documentElement.scrollHeight"))
+                browser.size(1400, browser.value(f"Math.ceil(document.querySelector('{last}').getBoundingClientRect().bottom) + 10"))
                 browser.picture(f"{room}/{name}.png")
                 quantised = ["pngquant", "--force", "--speed", "1", "--output", f"{ROOT}/docs/pictures/{name}.png", "128", f"{room}/{name}.png"]
                 subprocess.run(quantised, check=True)
