@@ -2,7 +2,7 @@
 
 ghost use Rattle.rotating.specs.Allotments.{Suits};
 
-use figures::figures_of;
+use figures::{Figures, figures_of};
 use ims::{Prepared, Schedule};
 use kernel::kernel_text;
 use loops::read_loops;
@@ -179,26 +179,37 @@ const FIGURED: [Wanted; 3] = [
     },
 ];
 
+/// The figures of the schedule of a case.
+fn figured(alloc: Global, case: &Case) -> Result<Figures, Fail> {
+    let prepared = prepared(alloc, case)?;
+    let ii = u64::from(case.ii).clamp(1, 16384);
+    let schedule = Schedule::check(alloc, &prepared, ii, case.places)?.ok_or("no schedule")?;
+    Ok(figures_of(alloc, &schedule)?)
+}
+
+/// How long an iteration of it takes, and how many registers its values need.
+fn measured(alloc: Global, case: &Case) -> Result<(u64, Option<u64>), Fail> {
+    let prepared = prepared(alloc, case)?;
+    let ii = u64::from(case.ii).clamp(1, 16384);
+    let schedule = Schedule::check(alloc, &prepared, ii, case.places)?.ok_or("no schedule")?;
+    Ok((last_landing(&schedule), least_registers(alloc, &schedule)?))
+}
+
+/// Whether the slacks are those that are wanted.
+fn has_slacks(figures: &Figures, wanted: &Wanted) -> bool {
+    figures.slacks.as_slice() == wanted.slacks
+}
+
 #[test]
 fn figures_of_schedules(rt: HostRuntime) -> Result<(), Fail> {
     for wanted in &FIGURED {
-        let prepared = prepared(rt.alloc(), &wanted.case)?;
-        let ii = u64::from(wanted.case.ii).clamp(1, 16384);
-        let schedule = Schedule::check(rt.alloc(), &prepared, ii, wanted.case.places)?.ok_or(
-            "no schedule",
-        )?;
-        let figures = figures_of(rt.alloc(), &schedule)?;
+        let figures = figured(rt.alloc(), &wanted.case)?;
         assert_eq!(rt; figures.cycles, wanted.cycles, "{}", wanted.case.text);
-        assert_eq!(rt;
-            figures.slacks.as_slice(),
-            wanted.slacks,
-            "{}",
-            wanted.case.text
-        );
+        assert!(rt; has_slacks(&figures, wanted), "{}", wanted.case.text);
         assert_eq!(rt; figures.need, Some(wanted.need), "{}", wanted.case.text);
-        assert_eq!(rt; last_landing(&schedule), wanted.cycles);
-        let need = least_registers(rt.alloc(), &schedule)?;
-        assert_eq!(rt; need, Some(wanted.need));
+        let (cycles, need) = measured(rt.alloc(), &wanted.case)?;
+        assert_eq!(rt; cycles, wanted.cycles, "{}", wanted.case.text);
+        assert_eq!(rt; need, Some(wanted.need), "{}", wanted.case.text);
     }
     Ok(())
 }
