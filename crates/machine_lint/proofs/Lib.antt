@@ -5,6 +5,7 @@ pub mod First
 pub mod FirstRows
 pub mod FirstTree
 pub mod Had
+pub mod Keys
 pub mod Steps
 pub mod Told
 pub mod Turns

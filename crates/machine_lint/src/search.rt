@@ -1,7 +1,7 @@
 //! Where the words of keys stand in a text.
 
-ghost use Rattle.std.specs.Prelude.{◌≡◌, ◌+◌, ◌≤◌, ◌<◌, ◌^◌, length, ◌==◌, ◌||◌, if◌then◌else◌, false, IfSome, true};
-ghost use Rattle.machine_lint.specs.Words.{bare_at, bare_before, comment_after, first_key, first_word, is_blank, is_key_at, is_key_byte, is_mark, is_word_at, key_from, leads_on, table_from, inside_from};
+ghost use Rattle.std.specs.Prelude.{◌≡◌, ◌+◌, ◌≤◌, ◌<◌, ◌^◌, drop, length, ◌==◌, ◌&&◌, ◌||◌, if◌then◌else◌, false, IfSome, true};
+ghost use Rattle.machine_lint.specs.Words.{bare_at, bare_before, comment_after, first_key, first_word, is_blank, is_key_byte, is_mark, is_word_at, key_from, leads_on, table_from, inside_from};
 
 /// Whether a byte may stand in a key without quotes.
 fn is_key_byte(byte: u8) -> bool
@@ -95,21 +95,14 @@ fn ends_in_comment(text: &[u8]) -> bool
     begun
 }
 
-/// Whether a word stands at an offset as a key does, and in no comment.
-#[tactic(auto, unfolding(crate::specs::Words::is_key_at))]
-fn is_key_at(text: &[u8], word: &str, at: usize) -> bool
+/// Whether a word stands at an offset, and what comes after a key comes after it.
+fn is_led_at(text: &[u8], word: &str, at: usize) -> bool
     requires inside { at < length text.now }
     requires short { length text.now < 2 ^ 32 }
-    ensures is { result ≡ is_key_at text.now word.now at }
+    ensures is { result ≡ (is_word_at text.now word.now at && leads_on (drop (at + length word.now) text.now)) }
     ensures inside { result ≡ true → at + length word.now ≤ length text.now }
 {
-    if !is_word_at(text, word, at) {
-        return false;
-    }
-    if !leads_on(&text[at + word.len()..]) {
-        return false;
-    }
-    !ends_in_comment(&text[..at])
+    is_word_at(text, word, at) && leads_on(&text[at + word.len()..])
 }
 
 /// The first place from an offset on at which a word stands as a key does.
@@ -118,10 +111,12 @@ fn first_key(text: &[u8], word: &str, from: usize) -> Option<usize>
     ensures is { result ≡ first_key text.now word.now from }
     ensures inside { IfSome result (λ at. at + length word.now ≤ length text.now) }
 {
+    let mut begun = ends_in_comment(&text[..from.min(text.len())]);
     for at in from..text.len() {
-        if is_key_at(text, word, at) {
+        if !begun && is_led_at(text, word, at) {
             return Some(at);
         }
+        begun = comments_on(begun, text[at]);
     }
     None
 }
