@@ -1,10 +1,13 @@
 pub mod All
 pub mod Among
+pub mod Bare
 pub mod Declared
 pub mod First
 pub mod FirstRows
 pub mod FirstTree
 pub mod Had
+pub mod Keys
+pub mod Marks
 pub mod Steps
 pub mod Told
 pub mod Turns

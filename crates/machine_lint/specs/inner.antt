@@ -1,2 +1,3 @@
 pub mod Ats
+pub mod Indexes
 pub mod Tables

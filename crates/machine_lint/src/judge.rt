@@ -11,7 +11,8 @@ ghost use Rattle.machine.specs.declared.fault.MachineFault.TheVariants.{Limit, R
 ghost use Rattle.toml.specs.View.{view};
 ghost use Rattle.toml.specs.Data.{string};
 
-use crate::place::{MachineLint, NOWHERE, place_of};
+use crate::index::Indexed;
+use crate::place::{MachineLint, place_of};
 use crate::rows::{is_unit_name, is_within as is_between, near_row, row_words};
 use crate::spots::{At, Found, key, shown};
 use machine::limits::{MAX_ALTERNATIVES, MAX_LATENCY, MAX_REGISTERS, MAX_ROWS, MAX_UNITS};
@@ -113,7 +114,7 @@ fn limit_of(at: At<'_>) -> &'static str
 pub(crate) fn tell(
     alloc: Global,
     lints: &mut Vec<MachineLint>,
-    text: &[u8],
+    text: &Indexed<'_>,
     at: At<'_>,
     value: &Value,
     fault: MachineFault,
@@ -154,7 +155,7 @@ fn miss(alloc: Global, lints: &mut Vec<MachineLint>, at: At<'_>) -> Result<(), O
 fn tell_type(
     alloc: Global,
     lints: &mut Vec<MachineLint>,
-    text: &[u8],
+    text: &Indexed<'_>,
     at: At<'_>,
     value: &Value,
 ) -> Result<(), OutOfMemory>
@@ -169,7 +170,7 @@ fn tell_type(
 fn tell_limit(
     alloc: Global,
     lints: &mut Vec<MachineLint>,
-    text: &[u8],
+    text: &Indexed<'_>,
     at: At<'_>,
     value: &Value,
 ) -> Result<(), OutOfMemory>
@@ -184,7 +185,7 @@ fn tell_limit(
 pub(crate) fn tell_key(
     alloc: Global,
     lints: &mut Vec<MachineLint>,
-    text: &[u8],
+    text: &Indexed<'_>,
     at: At<'_>,
     value: &Value,
 ) -> Result<(), OutOfMemory>
@@ -199,7 +200,7 @@ pub(crate) fn tell_key(
 pub(crate) fn tell_repeat(
     alloc: Global,
     lints: &mut Vec<MachineLint>,
-    text: &[u8],
+    text: &Indexed<'_>,
     at: At<'_>,
     value: &Value,
 ) -> Result<(), OutOfMemory>
@@ -215,7 +216,7 @@ pub(crate) fn tell_repeat(
 pub(crate) fn judge_value(
     alloc: Global,
     lints: &mut Vec<MachineLint>,
-    text: &[u8],
+    text: &Indexed<'_>,
     at: At<'_>,
     value: Option<&Value>,
 ) -> Result<(), OutOfMemory>

@@ -3,6 +3,7 @@
 #![tactic(auto)]
 
 mod hints;
+mod index;
 mod judge;
 mod lint;
 mod place;

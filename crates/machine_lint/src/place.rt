@@ -1,10 +1,11 @@
 //! Where faults stand in a text.
 
-ghost use Rattle.std.specs.Prelude.{◌≡◌, ◌≤◌, ◌<◌, ◌^◌, length, IfSome};
-ghost use Rattle.machine_lint.specs.Places.{lint_at, nowhere, offset_of, place_at, place_of};
+ghost use Rattle.std.specs.Prelude.{◌≡◌, ◌+◌, ◌++◌, ◌≤◌, ◌<◌, ◌^◌, [], ◌∷◌, ℕ, List, length, option_map};
+ghost use Rattle.machine_lint.specs.Places.{lint_at, nowhere, offset_of, place_after, place_at, place_of};
 ghost use Rattle.machine_lint.specs.inner.Ats.{spot_at};
+ghost use Rattle.machine_lint.specs.inner.Indexes.{mark_at};
 
-use crate::search::{find_in_table, find_key, find_table};
+use crate::index::{Indexed, Mark};
 use crate::spots::{At, Found, Spot};
 use machine::MachineFault;
 
@@ -64,52 +65,72 @@ pub(crate) struct Place {
 /// No place.
 pub(crate) const NOWHERE: Place = Place { line: 0, column: 0 };
 
+/// The first place of a text.
+pub(crate) const START: Place = Place { line: 1, column: 1 };
+
+impl Place {
+    /// The place after a byte that stands here.
+    pub(crate) fn after(self, byte: u8) -> Place
+        requires line { self.line ≤ 2 ^ 32 }
+        requires column { self.column ≤ 2 ^ 32 }
+        ensures is { (text : List ℕ) → self ≡ place_after text → result ≡ place_after (text ++ byte ∷ []) }
+        ensures line { result.line ≤ self.line + 1 }
+        ensures column { result.column ≤ self.column + 1 }
+    {
+        if byte == b'\n' {
+            Place {
+                line: self.line + 1,
+                column: 1,
+            }
+        } else {
+            Place {
+                line: self.line,
+                column: self.column + 1,
+            }
+        }
+    }
+}
+
 /// Where the byte with this offset stands, or the end of the text.
-fn place_at(text: &[u8], offset: usize) -> Place
+pub(crate) fn place_at(text: &[u8], offset: usize) -> Place
     requires inside { offset ≤ length text.now }
     requires short { length text.now < 2 ^ 32 }
     ensures { result ≡ place_at text.now offset }
 {
-    let mut place = Place { line: 1, column: 1 };
+    let mut place = START;
     let before = &text[..offset];
     for byte in before {
-        if *byte == b'\n' {
-            place.line += 1;
-            place.column = 1;
-        } else {
-            place.column += 1;
-        }
+        place = place.after(*byte);
     }
     place
 }
 
-/// The offset of the key's word.
-fn offset_of(text: &[u8], at: At<'_>) -> Option<usize>
+/// The mark of the key's word.
+fn mark_of(text: &Indexed<'_>, at: At<'_>) -> Option<Mark>
     requires short { length text.now < 2 ^ 32 }
-    ensures is { result ≡ offset_of text.now (spot_at at.entry) }
-    ensures inside { IfSome result (λ offset. offset ≤ length text.now) }
+    ensures { result ≡ option_map (mark_at text.now) (offset_of text.now (spot_at at.entry)) }
 {
     match at {
-        At::TopKey(key) => find_key(text, key, 0),
-        At::Units | At::Unit(_) => find_key(text, "units", 0),
-        At::Registers => find_key(text, "registers", 0),
-        At::Ops => find_key(text, "ops", 0),
-        At::Table(word) => find_table(text, word),
-        At::TableKey(word, key) => find_in_table(text, word, key),
-        At::Latency(word) => find_in_table(text, word, "latency"),
+        At::TopKey(key) => text.find_key(key, 0),
+        At::Units | At::Unit(_) => text.find_key("units", 0),
+        At::Registers => text.find_key("registers", 0),
+        At::Ops => text.find_key("ops", 0),
+        At::Table(word) => text.find_table(word),
+        At::TableKey(word, key) => text.find_in_table(word, key),
+        At::Latency(word) => text.find_in_table(word, "latency"),
         At::Alternatives(word) | At::Alternative(word, _) | At::Row(word, _, _) => {
-            find_in_table(text, word, "alts")
+            text.find_in_table(word, "alts")
         }
     }
 }
 
 /// Where the key's word stands, if it does.
-pub(crate) fn place_of(text: &[u8], at: At<'_>) -> Place
+pub(crate) fn place_of(text: &Indexed<'_>, at: At<'_>) -> Place
     requires short { length text.now < 2 ^ 32 }
     ensures { result ≡ place_of text.now (spot_at at.entry) }
 {
-    match offset_of(text, at) {
-        Some(offset) => place_at(text, offset),
+    match mark_of(text, at) {
+        Some(mark) => mark.place,
         None => NOWHERE,
     }
 }

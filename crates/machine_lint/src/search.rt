@@ -1,17 +1,17 @@
 //! Where the words of keys stand in a text.
 
-ghost use Rattle.std.specs.Prelude.{◌≡◌, ◌+◌, ◌≤◌, ◌<◌, ◌^◌, length, ◌==◌, ◌||◌, if◌then◌else◌, false, IfSome, true};
-ghost use Rattle.machine_lint.specs.Words.{bare_at, bare_before, comment_after, first_key, first_word, is_blank, is_key_at, is_key_byte, is_mark, is_word_at, key_from, leads_on, table_from, inside_from};
+ghost use Rattle.std.specs.Prelude.{◌≡◌, ◌+◌, ◌≤◌, ◌<◌, ◌^◌, drop, length, ◌==◌, ◌&&◌, ◌||◌, if◌then◌else◌, false, IfSome, true};
+ghost use Rattle.machine_lint.specs.Words.{bare_at, bare_before, comment_after, first_key, first_word, is_blank, is_key_byte, is_mark, is_word_at, key_from, leads_on};
 
 /// Whether a byte may stand in a key without quotes.
-fn is_key_byte(byte: u8) -> bool
+pub(crate) fn is_key_byte(byte: u8) -> bool
     ensures { result ≡ is_key_byte byte }
 {
     byte.is_ascii_alphanumeric() || byte == b'_' || byte == b'-'
 }
 
 /// Whether such a byte stands at an offset.
-fn bare_at(text: &[u8], at: usize) -> bool
+pub(crate) fn bare_at(text: &[u8], at: usize) -> bool
     ensures { result ≡ bare_at text.now at }
 {
     match text.get(at) {
@@ -21,7 +21,7 @@ fn bare_at(text: &[u8], at: usize) -> bool
 }
 
 /// Whether such a byte stands right before an offset.
-fn bare_before(text: &[u8], at: usize) -> bool
+pub(crate) fn bare_before(text: &[u8], at: usize) -> bool
     ensures { result ≡ bare_before text.now at }
 {
     if at == 0 {
@@ -63,7 +63,7 @@ fn is_mark(byte: u8) -> bool
 }
 
 /// Whether blanks and then `=`, `.` or `]` come first in a text.
-fn leads_on(text: &[u8]) -> bool
+pub(crate) fn leads_on(text: &[u8]) -> bool
     ensures { result ≡ leads_on text.now }
 {
     for byte in text {
@@ -75,7 +75,7 @@ fn leads_on(text: &[u8]) -> bool
 }
 
 /// Whether a byte is in a comment or ends one, by whether the byte before it is in one.
-fn comments_on(begun: bool, byte: u8) -> bool
+pub(crate) fn comments_on(begun: bool, byte: u8) -> bool
     ensures { result ≡ (if byte == 10 then false else begun || (byte == 35)) }
 {
     if byte == b'\n' {
@@ -95,21 +95,14 @@ fn ends_in_comment(text: &[u8]) -> bool
     begun
 }
 
-/// Whether a word stands at an offset as a key does, and in no comment.
-#[tactic(auto, unfolding(crate::specs::Words::is_key_at))]
-fn is_key_at(text: &[u8], word: &str, at: usize) -> bool
+/// Whether a word stands at an offset, and what comes after a key comes after it.
+fn is_led_at(text: &[u8], word: &str, at: usize) -> bool
     requires inside { at < length text.now }
     requires short { length text.now < 2 ^ 32 }
-    ensures is { result ≡ is_key_at text.now word.now at }
+    ensures is { result ≡ (is_word_at text.now word.now at && leads_on (drop (at + length word.now) text.now)) }
     ensures inside { result ≡ true → at + length word.now ≤ length text.now }
 {
-    if !is_word_at(text, word, at) {
-        return false;
-    }
-    if !leads_on(&text[at + word.len()..]) {
-        return false;
-    }
-    !ends_in_comment(&text[..at])
+    is_word_at(text, word, at) && leads_on(&text[at + word.len()..])
 }
 
 /// The first place from an offset on at which a word stands as a key does.
@@ -118,10 +111,12 @@ fn first_key(text: &[u8], word: &str, from: usize) -> Option<usize>
     ensures is { result ≡ first_key text.now word.now from }
     ensures inside { IfSome result (λ at. at + length word.now ≤ length text.now) }
 {
+    let mut begun = ends_in_comment(&text[..from.min(text.len())]);
     for at in from..text.len() {
-        if is_key_at(text, word, at) {
+        if !begun && is_led_at(text, word, at) {
             return Some(at);
         }
+        begun = comments_on(begun, text[at]);
     }
     None
 }
@@ -150,31 +145,5 @@ pub(crate) fn find_key(text: &[u8], word: &str, from: usize) -> Option<usize>
     match first_key(text, word, from) {
         Some(at) => Some(at),
         None => first_word(text, word, from),
-    }
-}
-
-/// The place of a word after the first `ops`.
-#[tactic(auto, unfolding(crate::specs::Words::table_from))]
-pub(crate) fn find_table(text: &[u8], word: &str) -> Option<usize>
-    requires short { length text.now < 2 ^ 32 }
-    ensures is { result ≡ table_from text.now word.now }
-    ensures inside { IfSome result (λ at. at + length word.now ≤ length text.now) }
-{
-    match find_key(text, "ops", 0) {
-        Some(at) => find_key(text, word, at + 3),
-        None => None,
-    }
-}
-
-/// The place of a key after the word of its table.
-#[tactic(auto, unfolding(crate::specs::Words::inside_from))]
-pub(crate) fn find_in_table(text: &[u8], word: &str, key: &str) -> Option<usize>
-    requires short { length text.now < 2 ^ 32 }
-    ensures is { result ≡ inside_from text.now word.now key.now }
-    ensures inside { IfSome result (λ at. at + length key.now ≤ length text.now) }
-{
-    match find_table(text, word) {
-        Some(at) => find_key(text, key, at + word.len()),
-        None => None,
     }
 }

@@ -11,6 +11,7 @@ ghost use Rattle.machine_lint.specs.inner.Tables.{table_or};
 ghost use Rattle.toml.specs.Data.{get_member};
 ghost use Rattle.toml.specs.View.{table_view, view};
 
+use crate::index::Indexed;
 use crate::judge::{
     is_unit_of, judge_value, same_row, same_text, tell, tell_key, tell_repeat, text_of,
 };
@@ -24,8 +25,8 @@ use toml::{Table, Value};
 
 /// The text whose tree is judged, the units that it gives, and the table that is judged.
 #[derive(Clone, Copy)]
-struct Within<'a> {
-    text: &'a [u8],
+struct Within<'a, 'b> {
+    text: &'a Indexed<'b>,
     units: Option<&'a Value>,
     word: &'a str,
 }
@@ -62,7 +63,7 @@ fn key_at<'a>(word: Option<&'a str>, name: &'a str) -> At<'a>
 fn judge_key(
     alloc: Global,
     lints: &mut Vec<MachineLint>,
-    text: &[u8],
+    text: &Indexed<'_>,
     word: Option<&str>,
     name: &str,
     value: &Value,
@@ -81,7 +82,7 @@ fn judge_key(
 fn judge_keys(
     alloc: Global,
     lints: &mut Vec<MachineLint>,
-    text: &[u8],
+    text: &Indexed<'_>,
     word: Option<&str>,
     table: &Table,
 ) -> Result<(), OutOfMemory>
@@ -113,7 +114,7 @@ pub(crate) fn elements(value: Option<&Value>, most: usize) -> &[Value]
 fn judge_repeated_unit(
     alloc: Global,
     lints: &mut Vec<MachineLint>,
-    text: &[u8],
+    text: &Indexed<'_>,
     before: &[Value],
     unit: &Value,
 ) -> Result<(), OutOfMemory>
@@ -160,7 +161,7 @@ fn is_row_among(rows: &[Value], row: &Value) -> bool
 fn judge_unit(
     alloc: Global,
     lints: &mut Vec<MachineLint>,
-    text: &[u8],
+    text: &Indexed<'_>,
     before: &[Value],
     unit: &Value,
 ) -> Result<(), OutOfMemory>
@@ -176,7 +177,7 @@ fn judge_unit(
 fn judge_units(
     alloc: Global,
     lints: &mut Vec<MachineLint>,
-    text: &[u8],
+    text: &Indexed<'_>,
     units: Option<&Value>,
 ) -> Result<(), OutOfMemory>
     requires short { length text.now < 2 ^ 32 }
@@ -190,7 +191,7 @@ fn judge_units(
 fn judge_unit_list(
     alloc: Global,
     lints: &mut Vec<MachineLint>,
-    text: &[u8],
+    text: &Indexed<'_>,
     units: &[Value],
 ) -> Result<(), OutOfMemory>
     requires short { length text.now < 2 ^ 32 }
@@ -209,7 +210,7 @@ fn judge_unit_list(
 fn judge_unknown_unit(
     alloc: Global,
     lints: &mut Vec<MachineLint>,
-    within: Within<'_>,
+    within: Within<'_, '_>,
     at: At<'_>,
     row: &Value,
 ) -> Result<(), OutOfMemory>
@@ -231,7 +232,7 @@ fn judge_unknown_unit(
 fn judge_repeated_row(
     alloc: Global,
     lints: &mut Vec<MachineLint>,
-    text: &[u8],
+    text: &Indexed<'_>,
     at: At<'_>,
     before: &[Value],
     row: &Value,
@@ -250,7 +251,7 @@ fn judge_repeated_row(
 fn judge_row(
     alloc: Global,
     lints: &mut Vec<MachineLint>,
-    within: Within<'_>,
+    within: Within<'_, '_>,
     number: usize,
     before: &[Value],
     row: &Value,
@@ -268,7 +269,7 @@ fn judge_row(
 fn judge_rows(
     alloc: Global,
     lints: &mut Vec<MachineLint>,
-    within: Within<'_>,
+    within: Within<'_, '_>,
     number: usize,
     rows: &[Value],
 ) -> Result<(), OutOfMemory>
@@ -288,7 +289,7 @@ fn judge_rows(
 fn judge_alternative(
     alloc: Global,
     lints: &mut Vec<MachineLint>,
-    within: Within<'_>,
+    within: Within<'_, '_>,
     before: &[Value],
     alternative: &Value,
 ) -> Result<(), OutOfMemory>
@@ -305,7 +306,7 @@ fn judge_alternative(
 fn judge_alternative_list(
     alloc: Global,
     lints: &mut Vec<MachineLint>,
-    within: Within<'_>,
+    within: Within<'_, '_>,
     alternatives: &[Value],
 ) -> Result<(), OutOfMemory>
     requires short { length within.text.now < 2 ^ 32 }
@@ -324,7 +325,7 @@ fn judge_alternative_list(
 fn judge_alternatives(
     alloc: Global,
     lints: &mut Vec<MachineLint>,
-    within: Within<'_>,
+    within: Within<'_, '_>,
     value: Option<&Value>,
 ) -> Result<(), OutOfMemory>
     requires short { length within.text.now < 2 ^ 32 }
@@ -347,7 +348,7 @@ pub(crate) fn look_up<'a>(table: &'a Table, name: &str) -> Option<&'a Value>
 fn judge_table(
     alloc: Global,
     lints: &mut Vec<MachineLint>,
-    within: Within<'_>,
+    within: Within<'_, '_>,
     keys: &Table,
 ) -> Result<(), OutOfMemory>
     requires short { length within.text.now < 2 ^ 32 }
@@ -365,7 +366,7 @@ fn judge_table(
 fn judge_inside(
     alloc: Global,
     lints: &mut Vec<MachineLint>,
-    within: Within<'_>,
+    within: Within<'_, '_>,
     value: &Value,
 ) -> Result<(), OutOfMemory>
     requires short { length within.text.now < 2 ^ 32 }
@@ -382,7 +383,7 @@ fn judge_inside(
 fn judge_word(
     alloc: Global,
     lints: &mut Vec<MachineLint>,
-    text: &[u8],
+    text: &Indexed<'_>,
     word: &str,
     value: &Value,
 ) -> Result<(), OutOfMemory>
@@ -401,7 +402,7 @@ fn judge_word(
 fn judge_entry(
     alloc: Global,
     lints: &mut Vec<MachineLint>,
-    within: Within<'_>,
+    within: Within<'_, '_>,
     value: &Value,
 ) -> Result<(), OutOfMemory>
     requires short { length within.text.now < 2 ^ 32 }
@@ -417,7 +418,7 @@ fn judge_entry(
 fn judge_entries(
     alloc: Global,
     lints: &mut Vec<MachineLint>,
-    text: &[u8],
+    text: &Indexed<'_>,
     units: Option<&Value>,
     tables: &Table,
 ) -> Result<(), OutOfMemory>
@@ -440,7 +441,7 @@ fn judge_entries(
 fn judge_tables(
     alloc: Global,
     lints: &mut Vec<MachineLint>,
-    text: &[u8],
+    text: &Indexed<'_>,
     units: Option<&Value>,
     ops: Option<&Value>,
 ) -> Result<(), OutOfMemory>
@@ -474,13 +475,14 @@ pub(crate) fn judge_tree(
     requires short { length text.now < 2 ^ 32 }
     ensures { IfOk result (λ lints. lints.items ≡ tree_told text.now (table_view tree.now)) }
 {
+    let text = Indexed::new(alloc, text)?;
     let mut lints = Vec::new(alloc);
     let units = look_up(tree, "units");
     let registers = look_up(tree, "registers");
     let ops = look_up(tree, "ops");
-    judge_keys(alloc, &mut lints, text, None, tree)?;
-    judge_units(alloc, &mut lints, text, units)?;
-    judge_value(alloc, &mut lints, text, At::Registers, registers)?;
-    judge_tables(alloc, &mut lints, text, units, ops)?;
+    judge_keys(alloc, &mut lints, &text, None, tree)?;
+    judge_units(alloc, &mut lints, &text, units)?;
+    judge_value(alloc, &mut lints, &text, At::Registers, registers)?;
+    judge_tables(alloc, &mut lints, &text, units, ops)?;
     Ok(lints)
 }
