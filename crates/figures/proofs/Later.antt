@@ -1,10 +1,10 @@
 -- What is kept when one operation is issued later.
-use Rattle.std.proofs.Common.{◌≡◌, ◌≢◌, ℕ, zero, suc, ◌+◌, ◌*◌, ◌<◌, ◌≤◌, min, max, pos, ◌+ℤ◌, ◌≤ℤ◌, eqb, List, [], ◌∷◌, ◌++◌, length, filter, map, set, zip, ap, ◌∙◌, subst, inl, inr, arith, length-set, get_or-set_same, get_or-set_other, eq-eqb}
+use Rattle.std.proofs.Common.{◌≡◌, ◌≢◌, ℕ, zero, suc, ◌+◌, ◌*◌, ◌<◌, ◌≤◌, min, pos, ◌+ℤ◌, ◌≤ℤ◌, Bool, eqb, List, [], ◌∷◌, ◌++◌, length, get_or, filter, map, set, zip, ap, ◌∙◌, subst, inl, inr, arith, length-set, get_or-set_same, get_or-set_other, eq-eqb}
 use Rattle.std.specs.Prelude.{slice_index}
 use Rattle.std.specs.List.{All, Contains}
-use Rattle.std.proofs.lemmas.Bool.{cases_Bool, cases_eq, cond-true, cond-false}
+use Rattle.std.proofs.lemmas.Bool.{cases_Bool, cases_eq, cond-true, cond-false, eqb-true}
 use Rattle.std.proofs.lemmas.Int.{ints}
-use Rattle.std.proofs.lemmas.List.Elements.{All-nil, All-cons, All-head, All-tail, All-push, All-weaker, All-contains}
+use Rattle.std.proofs.lemmas.List.Elements.{All-nil, All-cons, All-head, All-tail, All-push, All-weaker, All-same, All-filter, All-contains, All-contains_itself, filter_passes}
 use Rattle.graph.specs.Dependences.{EdgeData}
 use Rattle.graph.specs.Schedules.{KeepsEdge}
 use Rattle.graph.specs.Units.{greatest_of}
@@ -138,8 +138,8 @@ slack-lowered schedule op edges e slack spare timed there from to tight by =
     record {
       ends = omega arith;
       allows = All-push (Allows schedule op (min slack spare)) edges e
-      (All-weaker (Allows schedule op slack) (Allows schedule op (min slack spare)) (λ x a other. let h = a other in omega (arith, ints)) edges by.allows)
-      (λ other. omega (arith, ints));
+          (All-weaker (Allows schedule op slack) (Allows schedule op (min slack spare)) (λ x a other. let h = a other in omega (arith, ints)) edges by.allows)
+          (λ other. omega (arith, ints));
       greatest = λ more may. (
           let later : List ℕ = set times op (slice_index times op + more) in
           let here : slice_index later e.from ≡ slice_index times op + more = ap (slice_index later) from ∙ get_or-set_same times op (slice_index times op + more) 0 timed in
@@ -162,3 +162,32 @@ slack-end schedule is op slack there by =
       };
       greatest = by.greatest;
     }
+
+-- the edges that are gone through
+
+pub record IsOut (schedule : ScheduleData) (op : ℕ) (e : EdgeData) : Type 0 where
+  pub from : e.from ≡ op
+  pub there : Contains schedule.problem.graph.edges e
+  pub from_few : e.from < length schedule.problem.operations
+  pub to_few : e.to < length schedule.problem.operations
+  pub kept : KeepsEdge schedule.ii schedule.times e
+
+pub all-out : (schedule : ScheduleData) → IsSchedule schedule → (op : ℕ) → (outgoing : List EdgeData) → outgoing ≡ filter (λ (e : EdgeData). eqb e.from op) schedule.problem.graph.edges
+    → All (IsOut schedule op) outgoing
+all-out schedule is op outgoing same =
+    let edges : List EdgeData = schedule.problem.graph.edges in
+    let test : EdgeData → Bool = λ (e : EdgeData). eqb e.from op in
+    let latencies : List ℕ = schedule.problem.graph.latencies in
+    let each = is.problem.is_problem.each_latency in
+    All-same (IsOut schedule op) outgoing (filter test edges) same (λ k d lt.
+    let e : EdgeData = get_or (filter test edges) k d in
+    let there : Contains edges e = All-filter test (Contains edges) edges (All-contains_itself edges) k d lt in
+    let ends : (e.from < length latencies) × (e.to < length latencies)
+    = All-contains (λ (x : EdgeData). (x.from < length latencies) × (x.to < length latencies)) edges e is.problem.is_problem.graph.ends there in
+    record {
+      from = eqb-true e.from op (filter_passes test edges k d lt);
+      there = there;
+      from_few = omega (arith, ends.0);
+      to_few = omega (arith, ends.1);
+      kept = All-contains (KeepsEdge schedule.ii schedule.times) edges e is.lawful.keeps_edges there;
+    })
