@@ -1,3 +1,5 @@
+pub mod Busy
+pub mod Joined
 pub mod Lines
 pub mod Lives
 pub mod Marks

@@ -12,8 +12,9 @@ use Rattle.schedule_lines.specs.declared.grids.columns.Column.{Column}
 use Rattle.schedule_lines.specs.declared.grids.grid.Grid.{Grid}
 use Rattle.schedule_lines.specs.declared.slots.Slots.{Slots}
 use Rattle.schedule_lines.specs.Columns.{cell_after, full_mark, head_line, live_width, padded, row_line, row_width, unit_name, unit_width, used_units}
+use Rattle.schedule_lines.specs.ScheduleTexts.{use_text}
 use Rattle.schedule_lines.specs.Slots.{is_used, live_count, slot_text}
-use Rattle.schedule_lines.specs.inner.Grids.{HasCells, IsGrid, cells_in, column_of, columns_in, head_in, names_in, row_in}
+use Rattle.schedule_lines.specs.inner.Grids.{HasCells, IsGrid, cells_in, column_of, columns_in, head_in, names_in, row_in, uses_in}
 use Rattle.schedule_lines.specs.inner.Tables.{AreSlots, text_at}
 use Rattle.schedule_lines.proofs.Texts.{text-is}
 
@@ -35,6 +36,10 @@ pub names-same : (machine : MachineData) (schedule : ScheduleData) (units : List
     → names_in machine (map (column_of machine schedule) units) ≡ flat_map (λ unit. cell_after (unit_width machine schedule unit) (unit_name machine unit)) units
 names-same machine schedule [] = refl
 names-same machine schedule (unit ∷ units) = ap (λ t. cell_after (unit_width machine schedule unit) (unit_name machine unit) ++ t) (names-same machine schedule units)
+
+pub uses-same : (machine : MachineData) (schedule : ScheduleData) (units : List ℕ) → uses_in machine schedule (map (column_of machine schedule) units) ≡ flat_map (use_text machine schedule) units
+uses-same machine schedule [] = refl
+uses-same machine schedule (unit ∷ units) = ap (λ t. use_text machine schedule unit ++ t) (uses-same machine schedule units)
 
 pub cells-same : (machine : MachineData) (schedule : ScheduleData) (slots : Slots) (row : ℕ) → AreSlots schedule slots → row < schedule.ii → (units : List ℕ)
     → All (λ unit. unit < 64) units

@@ -1,5 +1,5 @@
 -- What stands in the slots of the modulo reservation table of a schedule, and how many registers are live in each row.
-use Rattle.std.specs.Prelude.{◌≡◌, ℕ, ◌<◌, Bool, true, List, codes, ◌++◌, length, filter, map, Option, Some, None, is_some, slice_get, slice_index}
+use Rattle.std.specs.Prelude.{◌≡◌, ℕ, ◌*◌, ◌/◌, ◌<◌, Bool, true, List, codes, ◌++◌, length, count_by, filter, map, Option, Some, None, is_some, slice_get, slice_index}
 use Rattle.std.specs.List.{list_any, range_with_len}
 use Rattle.machine_data.specs.declared.alternative.Row.{Row}
 use Rattle.graph.specs.Units.{greatest_of}
@@ -45,6 +45,14 @@ slot_text schedule unit row = taker_text schedule (slot_taker schedule unit row)
 -- some operation takes the unit in some row
 unfoldable pub is_used : ScheduleData → ℕ → Bool
 is_used schedule unit = list_any (λ row. is_some (slot_taker schedule unit row)) (rows_in schedule)
+
+-- in how many rows some operation takes the unit
+unfoldable pub busy_count : ScheduleData → ℕ → ℕ
+busy_count schedule unit = count_by (λ row. is_some (slot_taker schedule unit row)) (rows_in schedule)
+
+-- in how many hundredths of the interval the unit is taken, rounded down
+abbrev pub percent_of : ScheduleData → ℕ → ℕ
+percent_of schedule unit = (100 * busy_count schedule unit) / schedule.ii
 
 -- how many registers hold a value in a row, how many in each, and how many in the fullest one
 unfoldable pub live_count : ScheduleData → ℕ → ℕ

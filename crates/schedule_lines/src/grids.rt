@@ -4,3 +4,4 @@ pub(crate) mod cells;
 pub(crate) mod columns;
 pub(crate) mod counts;
 pub(crate) mod grid;
+pub(crate) mod uses;

@@ -3,10 +3,10 @@
 ghost use Rattle.std.specs.Prelude.{◌≡◌, ◌<◌, ◌++◌, [], ◌∷◌, filter, length, IfOk, OnOk};
 ghost use Rattle.std.specs.List.{All};
 ghost use Rattle.schedule_lines.specs.Columns.{used_units};
-ghost use Rattle.schedule_lines.specs.Slots.{is_used, slot_taker};
+ghost use Rattle.schedule_lines.specs.Slots.{is_used, percent_of, slot_taker};
 ghost use Rattle.machine_data.specs.declared.limits.TheConstants.{MAX_UNITS};
 
-use crate::takers::takers_of;
+use crate::takers::{percent_in, takers_of};
 use ims::Schedule;
 use machine_data::limits::MAX_UNITS;
 use machine_data::{Machine, OutOfMemory};
@@ -67,6 +67,14 @@ impl<'s, 'a> Takers<'s, 'a> {
             used |= self.taker(unit, row).is_some();
         }
         used
+    }
+
+    /// In how many hundredths of the interval a unit is taken, rounded down: 0 to 100.
+    pub fn percent(&self, unit: u8) -> u64
+        requires { unit < MAX_UNITS }
+        ensures { result ≡ percent_of self.now unit }
+    {
+        percent_in(self.schedule, self.places.as_slice(), unit)
     }
 
     /// Adds a unit, if some operation takes it.

@@ -3,7 +3,7 @@
 ghost use Rattle.std.specs.Prelude.{◌≡◌, ◌<◌, ◌≤◌, ◌*◌, ◌^◌, ℕ, length, if◌then◌else◌, slice_index, IfOk};
 ghost use Rattle.std.specs.List.{All};
 ghost use Rattle.mrt.specs.Taken.{takes};
-ghost use Rattle.schedule_lines.specs.Slots.{rows_at};
+ghost use Rattle.schedule_lines.specs.Slots.{percent_of, rows_at};
 ghost use Rattle.schedule_lines.specs.inner.Tables.{AreTakersFrom, taker_in};
 ghost use Rattle.machine_data.specs.declared.limits.TheConstants.{MAX_INTERVAL};
 
@@ -13,7 +13,7 @@ use machine_data::{OutOfMemory, Row};
 use std::alloc::Global;
 
 /// The reservation table by which an operation is issued.
-fn rows_at<'a>(schedule: &Schedule<'a>, op: usize) -> &'a [Row]
+pub(crate) fn rows_at<'a>(schedule: &Schedule<'a>, op: usize) -> &'a [Row]
     requires { op < length schedule.now.problem.operations }
     ensures value { result.now ≡ rows_at schedule.now op }
     ensures units { All (λ r. r.unit < MAX_UNITS) result.now }
@@ -59,4 +59,21 @@ pub(crate) fn takers_of(alloc: Global, schedule: &Schedule) -> Result<Vec<u8>, O
     let mut takers = vec![in alloc; 0u8; schedule.ii() as usize * MAX_UNITS]?;
     fill_takers(schedule, &mut takers);
     Ok(takers)
+}
+
+/// In how many hundredths of the interval a unit is taken, rounded down.
+pub(crate) fn percent_in(schedule: &Schedule, takers: &[u8], unit: u8) -> u64
+    requires long { length takers.now ≡ schedule.now.ii * 64 }
+    requires each { AreTakersFrom schedule.now 0 takers.now }
+    requires unit { unit < MAX_UNITS }
+    ensures { result ≡ percent_of schedule.now unit }
+{
+    let ii = schedule.ii();
+    let mut busy = 0;
+    for row in 0..ii {
+        if takers[row as usize * MAX_UNITS + usize::from(unit)] > 0 {
+            busy += 1;
+        }
+    }
+    100 * busy / ii
 }

@@ -8,6 +8,7 @@ use Rattle.schedule_lines.specs.declared.grids.columns.Column.{Column}
 use Rattle.schedule_lines.specs.declared.grids.grid.Grid.{Grid}
 use Rattle.schedule_lines.specs.declared.slots.Slots.{Slots}
 use Rattle.schedule_lines.specs.Columns.{cell_after, full_mark, live_width, padded, row_width, unit_name, unit_width, used_units}
+use Rattle.schedule_lines.specs.ScheduleTexts.{use_text}
 use Rattle.schedule_lines.specs.Slots.{greatest_live, live_counts}
 use Rattle.schedule_lines.specs.inner.Tables.{AreSlots, text_at}
 
@@ -34,6 +35,10 @@ names_in machine columns = flat_map (λ (column : Column). cell_after column.wid
 
 abbrev pub cells_in : Slots → List Column → ℕ → List ℕ
 cells_in slots columns row = flat_map (λ (column : Column). cell_after column.width (text_at slots.takers.items slots.texts.items column.unit row)) columns
+
+-- how much of the interval the units of columns are taken
+abbrev pub uses_in : MachineData → ScheduleData → List Column → List ℕ
+uses_in machine schedule columns = flat_map (λ (column : Column). use_text machine schedule column.unit) columns
 
 -- the slots of a row are there for these columns
 pub record HasCells (slots : Slots) (columns : List Column) (row : ℕ) : Type 0 where
