@@ -2,10 +2,10 @@
 
 ghost use Rattle.std.specs.Prelude.{◌≡◌, ◌<◌, ℕ, length};
 ghost use Rattle.std.specs.List.{All};
-ghost use Rattle.side_by_side.specs.inner.Parts.{IsMadeBelow};
+ghost use Rattle.shared_jobs.specs.inner.Slots.{IsMadeBelow};
 
-use crate::parts::jobs::Job;
-use machine::OutOfMemory;
+use crate::jobs::Job;
+use machine_data::OutOfMemory;
 use std::alloc::Global;
 use std::sync::atomic::{AtomicUsize, Ordering};
 use std::thread::{self, Threads};
