@@ -10,8 +10,8 @@ use machine_data::OutOfMemory;
 use writing::{Text, push_both, push_with_sign};
 
 /// Appends the constant of a subscript with its sign, unless it is 0.
-fn push_offset(text: &mut Vec<u8>, offset: i8) -> Result<(), OutOfMemory>
-    ensures ok { OnOk result (text.new.items ≡ text.old.items ++ offset_text offset) }
+fn push_offset<T: Text>(text: &mut T, offset: i8) -> Result<(), OutOfMemory>
+    ensures ok { OnOk result (T.bytes text.new ≡ T.bytes text.old ++ offset_text offset) }
 {
     match offset {
         0 => Ok(()),
@@ -28,9 +28,9 @@ fn array_name(innermost: &Loop, array: u8) -> &str
 }
 
 /// Appends a place as it stands in a loop text.
-fn push_place(text: &mut Vec<u8>, innermost: &Loop, place: Place) -> Result<(), OutOfMemory>
+fn push_place<T: Text>(text: &mut T, innermost: &Loop, place: Place) -> Result<(), OutOfMemory>
     requires { IsPlace innermost.now place }
-    ensures ok { OnOk result (text.new.items ≡ text.old.items ++ place_word innermost.now place) }
+    ensures ok { OnOk result (T.bytes text.new ≡ T.bytes text.old ++ place_word innermost.now place) }
 {
     push_both(text, array_name(innermost, place.array), "[i")?;
     push_offset(text, place.offset)?;
@@ -39,9 +39,9 @@ fn push_place(text: &mut Vec<u8>, innermost: &Loop, place: Place) -> Result<(), 
 
 /// Appends the name of the operation of this number: that of its value, or for a store its place as it
 /// stands in a loop text.
-pub fn push_name(text: &mut Vec<u8>, innermost: &Loop, number: u8) -> Result<(), OutOfMemory>
+pub fn push_name<T: Text>(text: &mut T, innermost: &Loop, number: u8) -> Result<(), OutOfMemory>
     requires { number < length innermost.now.statements }
-    ensures ok { OnOk result (text.new.items ≡ text.old.items ++ op_name innermost.now number) }
+    ensures ok { OnOk result (T.bytes text.new ≡ T.bytes text.old ++ op_name innermost.now number) }
 {
     let statement = &innermost.statements()[usize::from(number)];
     match (&statement.name, statement.place) {

@@ -14,10 +14,11 @@ member_text name set unit = if is_in (units_in set.units) unit then codes " " ++
 abbrev pub members_text : (ℕ → List ℕ) → ℕ → UnitSet → List ℕ
 members_text name number set = flat_map (member_text name set) (range_with_len 0 number)
 
--- ` take R rows, need K`
-abbrev pub counts_text : ℕ → ℕ → List ℕ
-counts_text rows need = told (codes " take ") rows ++ told (codes " rows, need ") need
+-- ` take R rows: R/U cycles, need K`, of U units
+abbrev pub counts_text : UnitSet → List ℕ
+counts_text set =
+    (told (codes " take ") set.rows ++ told (codes " rows: ") set.rows) ++ (told (codes "/") set.size ++ told (codes " cycles, need ") set.need)
 
--- `units U V .. take R rows, need K`, with a line feed
+-- `units U V .. take R rows: R/U cycles, need K`, with a line feed
 abbrev pub set_line : (ℕ → List ℕ) → ℕ → UnitSet → List ℕ
-set_line name number set = ((codes "units" ++ members_text name number set) ++ counts_text set.rows set.need) ++ codes "\n"
+set_line name number set = ((codes "units" ++ members_text name number set) ++ counts_text set) ++ codes "\n"

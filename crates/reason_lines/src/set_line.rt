@@ -41,16 +41,18 @@ fn push_members<N: UnitNames>(
     Ok(())
 }
 
-/// Appends how many rows the units of a set take, and how many cycles they need.
-fn push_counts(text: &mut Vec<u8>, rows: u16, need: u16) -> Result<(), OutOfMemory>
-    ensures ok { OnOk result (text.new.items ≡ text.old.items ++ counts_text rows need) }
+/// Appends how many rows the units of a set take, for how many units, and how many cycles they need.
+fn push_counts(text: &mut Vec<u8>, set: &UnitSet) -> Result<(), OutOfMemory>
+    ensures ok { OnOk result (text.new.items ≡ text.old.items ++ counts_text set.now) }
 {
-    push_told(text, " take ", u64::from(rows))?;
-    push_told(text, " rows, need ", u64::from(need))
+    push_told(text, " take ", u64::from(set.rows))?;
+    push_told(text, " rows: ", u64::from(set.rows))?;
+    push_told(text, "/", u64::from(set.size))?;
+    push_told(text, " cycles, need ", u64::from(set.need))
 }
 
-/// Appends the line of the fullest set of units: `units U V .. take R rows, need K`, with the names of the set's units in their order, how
-/// many rows of them each iteration takes at least, and how many cycles the set needs.
+/// Appends the line of the fullest set of units: `units U V .. take R rows: R/U cycles, need K`, with the names of the set's units in their order,
+/// how many rows of them each iteration takes at least, these over the number of the units, and how many whole cycles that is: the set's need.
 ///
 /// # Errors
 /// Memory ran out. The text is left with a part of that.
@@ -63,6 +65,6 @@ pub fn push_set_line<N: UnitNames>(
 {
     text.push_piece("units")?;
     push_members(text, units, set)?;
-    push_counts(text, set.rows, set.need)?;
+    push_counts(text, set)?;
     text.push_piece("\n")
 }

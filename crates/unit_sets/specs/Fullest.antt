@@ -72,9 +72,10 @@ IsReached (suc rounds) operations set = (before : ℕ) × IsReached rounds opera
 abbrev pub need_of : List (List (List Row)) → ℕ → ℕ
 need_of operations set = (set_rows (units_in set) operations + (length (units_in set) - 1)) / length (units_in set)
 
--- the set that is reached after all rounds, with the rows of its units that the operations have at least, and what it needs
+-- the set that is reached after all rounds, with the number of its units, the rows of them that the operations have at least, and what it needs
 pub record IsFullest (operations : List (List (List Row))) (set : UnitSet) : Type 0 where
   pub reached : IsReached ROUNDS operations set.units
+  pub is_size : set.size ≡ length (units_in set.units)
   pub is_rows : set.rows ≡ set_rows (units_in set.units) operations
   pub is_need : set.need ≡ need_of operations set.units
 

@@ -21,6 +21,8 @@ use std::alloc::Global;
 pub struct UnitSet {
     /// The set: bit `u` tells whether unit `u` is one of it.
     pub units: u64,
+    /// How many units it has.
+    pub size: u32,
     /// How many rows of these units the operations have at least, whichever alternatives they take.
     pub rows: u16,
     /// The least interval, in cycles, at which the units have so many slots: the rows over their number, rounded up.
@@ -71,6 +73,7 @@ fn fullest_of<O: Offers>(operations: &O, sets: &[u64]) -> UnitSet
     }
     UnitSet {
         units: best.units,
+        size: best.size,
         rows: best.rows,
         need: need_of(best.rows, best.size),
     }

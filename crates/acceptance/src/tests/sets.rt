@@ -82,14 +82,19 @@ end
 
 #[test]
 fn finds_fullest_sets(rt: HostRuntime) -> Result<(), Fail> {
-    for (machine, text, units, rows, need) in [
-        (M1, ACC, 1, 2, 2),
+    for (machine, text, units, size, rows, need) in [
+        (M1, ACC, 1, 1, 2, 2),
         // The seven rows of a, b and c are not below 3 for each.
-        (CHAINED, SEVEN, 0b1110, 7, 3),
-        (SLOTS, FIVE, 0b11000, 5, 3),
+        (CHAINED, SEVEN, 0b1110, 3, 7, 3),
+        (SLOTS, FIVE, 0b11000, 2, 5, 3),
     ] {
         let found = fullest_of(rt.alloc(), machine, text)?;
-        let wanted = UnitSet { units, rows, need };
+        let wanted = UnitSet {
+            units,
+            size,
+            rows,
+            need,
+        };
         assert_eq!(rt; found, wanted, "{text}");
     }
     Ok(())

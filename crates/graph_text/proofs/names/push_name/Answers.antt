@@ -5,12 +5,12 @@ use Rattle.graph_text.proofs.Parts.{op-named, place-there}
 use Rattle.graph_text.proofs.names.push_name.Goals as goal
 
 pub push_place-requires : goal.push_place-requires
-push_place-requires c =
+push_place-requires g c =
     place-there c.args.innermost.now c.statements.result.now c.from.result c.args.number c.index-statements-from.result _ c.statements.ensures.well_formed
     c.statements.ensures.value c.from.ensures c.requires c.index-statements-from.is c.in-None-Some.is-1
 
 pub returns-in-Some-default : goal.returns-in-Some-default
-returns-in-Some-default c =
+returns-in-Some-default g c =
     let s = c.index-statements-from.result in
     let e : op_name c.args.innermost.now c.args.number ≡ c.in-Some-default.name
     = op-named c.args.innermost.now c.statements.result.now c.from.result c.args.number s c.statements.ensures.value c.from.ensures c.requires c.index-statements-from.is
@@ -18,7 +18,7 @@ returns-in-Some-default c =
     rw e (search rules)
 
 pub returns-in-None-Some : goal.returns-in-None-Some
-returns-in-None-Some c =
+returns-in-None-Some g c =
     let s = c.index-statements-from.result in
     let e : op_name c.args.innermost.now c.args.number ≡ place_word c.args.innermost.now c.in-None-Some.place
     = op-named c.args.innermost.now c.statements.result.now c.from.result c.args.number s c.statements.ensures.value c.from.ensures c.requires c.index-statements-from.is
@@ -27,7 +27,7 @@ returns-in-None-Some c =
     rw e (search rules)
 
 pub returns-in-None-None : goal.returns-in-None-None
-returns-in-None-None c =
+returns-in-None-None g c =
     let s = c.index-statements-from.result in
     let e = op-named c.args.innermost.now c.statements.result.now c.from.result c.args.number s c.statements.ensures.value c.from.ensures c.requires c.index-statements-from.is
     ∙ ap (λ name. name_or_place c.args.innermost.now name s.place) c.in-None-None.is-0

@@ -1,4 +1,4 @@
-use Rattle.std.proofs.Common.{◌≡◌, ◌<◌, ◌≤◌, ℕ, length, vec_len}
+use Rattle.std.proofs.Common.{◌≡◌, ◌≤◌, ℕ, length, vec_len}
 use Rattle.overlap.specs.Allotments.{NoneFor}
 use Rattle.overlap.specs.Lifetimes.{lifetimes_of}
 use Rattle.rotating.proofs.numbers.need.least_registers.Given as goal
