@@ -3,10 +3,11 @@
 use super::gates::{Limited, Roll, came};
 use super::given::{LISTING, LOOPS, MACHINE};
 use candidates::{Settings, listing_text};
+use machine::OutOfMemory;
 use std::alloc::Global;
 use std::test::Fail;
 use std::thread::Threads;
-use workers::{Gate, pipeline_file};
+use workers::{Gate, OpenGate, pipeline_file};
 
 /// The text of the listing of the loops, with a ceiling of 3.
 fn listed<R: Threads + Sync, G: Gate + Sync>(
@@ -16,16 +17,37 @@ fn listed<R: Threads + Sync, G: Gate + Sync>(
     cut: u64,
     gate: &G,
 ) -> Result<String, Fail> {
+    listed_of(rt, alloc, LOOPS, workers, cut, gate)
+}
+
+/// The same of other loops.
+fn listed_of<R: Threads + Sync, G: Gate + Sync>(
+    rt: &R,
+    alloc: Global,
+    loops: &str,
+    workers: usize,
+    cut: u64,
+    gate: &G,
+) -> Result<String, Fail> {
     let settings = Settings::new(6, 3, workers, cut)?;
     let listing = pipeline_file(
         rt,
         alloc,
         MACHINE.as_bytes(),
-        LOOPS.as_bytes(),
+        loops.as_bytes(),
         &settings,
         gate,
     )?;
     Ok(listing_text(alloc, &listing)?)
+}
+
+/// A text this many times.
+fn repeated(alloc: Global, text: &str, times: usize) -> Result<String, OutOfMemory> {
+    let mut whole = String::new(alloc);
+    for _ in 0..times {
+        whole.push_str(text)?;
+    }
+    Ok(whole)
 }
 
 // There are 12 intervals, and a piece has as many as the cut.
@@ -46,6 +68,20 @@ fn workers_that_stop_change_no_listing(rt: HostRuntime) -> Result<(), Fail> {
     for most in [0, 1, 7] {
         let text = listed(&rt, rt.alloc(), 3, 1, &Limited::new(most))?;
         assert_eq!(rt; text.as_str(), LISTING);
+    }
+    Ok(())
+}
+
+// 339 texts of 8 statements are enough work that two workers prepare the loops.
+#[test]
+fn many_loops_are_listed_in_order(rt: HostRuntime) -> Result<(), Fail> {
+    let loops = repeated(rt.alloc(), LOOPS, 339)?;
+    let listed = LISTING.strip_suffix("loops 3 met 3 failed 0\n");
+    let mut wanted = repeated(rt.alloc(), listed.unwrap_or_default(), 339)?;
+    wanted.push_str("loops 1017 met 1017 failed 0\n")?;
+    for workers in [1, 2] {
+        let text = listed_of(&rt, rt.alloc(), loops.as_str(), workers, 2, &OpenGate)?;
+        assert_eq!(rt; text.as_str(), wanted.as_str());
     }
     Ok(())
 }
