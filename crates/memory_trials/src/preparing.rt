@@ -55,8 +55,8 @@ fn prepared_loops<R: Threads + Sync>(
 /// The text of the loops, in which each statement is a load.
 fn loads(alloc: Global) -> Result<String, OutOfMemory> {
     let mut text = String::new(alloc);
-    for _ in 0..LOOPS {
-        text.push_str("loop loads\narray a = 1 2 3\n")?;
+    for number in 0..LOOPS {
+        writeln!(text, "loop loads{number}\narray a = 1 2 3")?;
         push_loads(&mut text)?;
         text.push_str("end\n")?;
     }

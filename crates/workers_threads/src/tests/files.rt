@@ -1,10 +1,11 @@
 //! Files by workers in threads.
 
 use super::gates::{Limited, Roll, came};
-use super::given::{LISTING, LOOPS, MACHINE};
+use super::given::{LISTING, LOOPS, MACHINE, SUM, SUM_LISTED};
 use candidates::{Settings, listing_text};
 use machine::OutOfMemory;
 use std::alloc::Global;
+use std::fmt::Write;
 use std::test::Fail;
 use std::thread::Threads;
 use workers::{Gate, OpenGate, pipeline_file};
@@ -41,13 +42,13 @@ fn listed_of<R: Threads + Sync, G: Gate + Sync>(
     Ok(listing_text(alloc, &listing)?)
 }
 
-/// A text this many times.
-fn repeated(alloc: Global, text: &str, times: usize) -> Result<String, OutOfMemory> {
-    let mut whole = String::new(alloc);
-    for _ in 0..times {
-        whole.push_str(text)?;
+/// Lines this many times, each time after a name of its own.
+fn named(alloc: Global, lines: &str, times: usize) -> Result<String, OutOfMemory> {
+    let mut text = String::new(alloc);
+    for number in 0..times {
+        write!(text, "loop sum{number}{lines}")?;
     }
-    Ok(whole)
+    Ok(text)
 }
 
 // There are 12 intervals, and a piece has as many as the cut.
@@ -72,13 +73,12 @@ fn workers_that_stop_change_no_listing(rt: HostRuntime) -> Result<(), Fail> {
     Ok(())
 }
 
-// 339 texts of 8 statements are enough work that two workers prepare the loops.
+// 900 loops of 3 statements are enough work that two workers prepare them.
 #[test]
 fn many_loops_are_listed_in_order(rt: HostRuntime) -> Result<(), Fail> {
-    let loops = repeated(rt.alloc(), LOOPS, 339)?;
-    let listed = LISTING.strip_suffix("loops 3 met 3 failed 0\n");
-    let mut wanted = repeated(rt.alloc(), listed.unwrap_or_default(), 339)?;
-    wanted.push_str("loops 1017 met 1017 failed 0\n")?;
+    let loops = named(rt.alloc(), SUM, 900)?;
+    let mut wanted = named(rt.alloc(), SUM_LISTED, 900)?;
+    wanted.push_str("loops 900 met 900 failed 0\n")?;
     for workers in [1, 2] {
         let text = listed_of(&rt, rt.alloc(), loops.as_str(), workers, 2, &OpenGate)?;
         assert_eq!(rt; text.as_str(), wanted.as_str());
