@@ -242,8 +242,10 @@ def _units(lines: Lines, bounds: Bounds) -> list[UnitUse]:
 
 
 def _fullest(lines: Lines) -> UnitSet:
-    names, *numbers = lines.take(rf"units ({UNIT}(?: {UNIT})*) take ({NUMBER}) rows, need ({NUMBER})", "the fullest set of units")
-    fullest = UnitSet(tuple(names.split(" ")), *map(int, numbers))
+    form = rf"units ({UNIT}(?: {UNIT})*) take ({NUMBER}) rows(?:: ({NUMBER})/({NUMBER}) cycles)?, need ({NUMBER})"
+    names, rows, over, units, need = lines.take(form, "the fullest set of units")
+    fullest = UnitSet(tuple(names.split(" ")), int(rows), int(need))
+    lines.check(over is None or (over, int(units)) == (rows, len(fullest.names)), "not its rows over its units")
     lines.check(len(set(fullest.names)) == len(fullest.names), "a unit stands twice")
     lines.check(fullest.need == -(-fullest.rows // len(fullest.names)), "not the interval of its rows")
     return fullest
@@ -262,12 +264,14 @@ def _circuit(lines: Lines, bounds: Bounds) -> Circuit | None:
     return Circuit(delay, distance, needs, edges)
 
 
+# How many registers all values need.
+NEED = rf"(?:{NUMBER}|more than 256)"
 # The outcomes of an interval: the word after `try I`, what follows it, and of its groups how many are names.
 OUTCOMES = [
     ("table", rf": ({OPERATION})", 1),
     ("budget", rf": ({OPERATION}(?: {OPERATION})*)", 1),
     ("stages", rf": ({OPERATION}) at ({NUMBER})", 1),
-    ("registers", rf": ({WORD}) lives ({NUMBER}) to ({NUMBER})", 1),
+    ("registers", rf": ({WORD}) lives ({NUMBER}) to ({NUMBER})(?:, all need {NEED})?", 1),
     ("kernel", rf" stages ({NUMBER})", 0),
 ]
 
@@ -292,11 +296,22 @@ def _tried(lines: Lines, bounds: Bounds) -> list[Try]:
     return tried
 
 
+def _issues(lines: Lines, bounds: Bounds, stages: int) -> None:
+    """How long an iteration takes and when its operations are issued: lines that older programs don't print, and of which the document has nothing."""
+    if lines.match(rf"iteration {NUMBER} cycles") is None:
+        return
+    (extra,) = lines.take(rf"N iterations take N\+({NUMBER}) turns", "how many turns iterations take")
+    lines.check(int(extra) == stages - 1, "not the turns of its stages")
+    for number in range(bounds.operations):
+        lines.take(rf"op {OPERATION} at {NUMBER} slack {NUMBER}:(?: {UNIT}@{NUMBER})*", f"when operation {number} is issued")
+
+
 def _values(lines: Lines) -> list[Value]:
     values = []
     while (groups := lines.match(rf"value ({WORD}) lives ({NUMBER}) to ({NUMBER}) register ({NUMBER})")) is not None:
         name, *numbers = groups
         values.append(Value(name, *map(int, numbers)))
+    lines.match(rf"registers need {NEED}")
     return values
 
 
@@ -318,6 +333,15 @@ def _is_laid_out(lines: Lines, table: list[list[str]], full: list[bool]) -> bool
     return lines.lines[lines.at - len(table) : lines.at] == wanted
 
 
+def _shares(lines: Lines, units: list[str], rows: list[list[tuple[int, str, int]]]) -> None:
+    """In how many hundredths of the interval each unit is taken, where the program prints it."""
+    groups = lines.match(rf"use ({UNIT} {NUMBER}%(?: {UNIT} {NUMBER}%)*)")
+    if groups is not None:
+        taken = [sum(its == unit for row in rows for its, *_ in row) for unit in range(len(units))]
+        wanted = " ".join(f"{name} {100 * count // len(rows)}%" for name, count in zip(units, taken))
+        lines.check(groups[0] == wanted, "not the shares of the grid")
+
+
 def _grid(lines: Lines, interval: int) -> Grid:
     lines.take(rf" *row(?: +{UNIT})* +live", "the head of a grid")
     head = lines.lines[lines.at - 1].split()
@@ -333,6 +357,7 @@ def _grid(lines: Lines, interval: int) -> Grid:
     for row in table[1:]:
         slots = [(unit, *cell.rsplit("/", 1)) for unit, cell in enumerate(row[1:-1]) if cell != "."]
         rows.append([(unit, name, int(stage)) for unit, name, stage in slots])
+    _shares(lines, head[1:-1], rows)
     idle = lines.match(r"idle units ([1-9][0-9]*)")
     return Grid(head[1:-1], rows, live, int(idle[0]) if idle else 0)
 
@@ -352,6 +377,7 @@ def _explained(lines: Lines) -> Explained:
     is_least = max(fullest.need, bounds.recurrences) == tried[-1].interval
     if is_least:
         lines.take("least possible", "that no shorter interval is possible")
+    _issues(lines, bounds, tried[-1].numbers[0])
     values = _values(lines)
     return Explained(bounds, units, fullest, circuit, tried, held, is_least, values, _grid(lines, tried[-1].interval))
 

@@ -22,7 +22,7 @@ FACTS = """(async () => {
     return {
       name: section.dataset.loop, summary: section.querySelector(".summary").textContent, facts: texts(section, ".facts b"),
       slots: all("kernel", "td[data-op]").map(it => [+it.closest("tr").dataset.row, it.dataset.unit, +it.dataset.op, it.textContent, it.className]),
-      units: all("kernel", "thead th").map(it => it.textContent), live: all("kernel", "td.live").map(it => it.textContent),
+      units: all("kernel", "thead th").map(it => (it.querySelector(".unit") || it).textContent), percents: all("kernel", "thead .percent").map(it => it.textContent), live: all("kernel", "td.live").map(it => it.textContent),
       most: all("kernel", "td.most").map(it => it.closest("tr").dataset.row),
       issued: all("iteration", "g[data-op]").map(it => +it.dataset.op), ghosts: all("iteration", "[data-ghost]").map(it => [+it.dataset.ghost, +it.dataset.op]),
       issues: all("iteration", "g[data-op] rect.box").map(it => [+it.closest("g").dataset.op, it.x.baseVal.value, it.classList[1]]),
@@ -43,7 +43,8 @@ FACTS = """(async () => {
         folds: [...it.querySelectorAll("g[data-value]")].map(bar => [bar.dataset.value, bar.getBBox()]).map(([name, box]) => [name, box.x, box.width, box.y]),
         makers: [...it.querySelectorAll("g[data-value]")].map(bar => [bar.dataset.value, +bar.dataset.op]),
       })),
-      tips: all("graph", "g[data-op]").map(it => [+it.dataset.op, it.getAttribute("aria-label")]), held: cells(part("files")),
+      tips: all("graph", "g[data-op]").map(it => [+it.dataset.op, it.getAttribute("aria-label")]), set: texts(section, "[data-part=set]"), ranges: texts(section, "[data-chart=registers] figcaption p").join(" "),
+      says: texts(section, ".facts li"), slack: texts(section, "[data-chart=iteration] figcaption p").join(" "), held: cells(part("files")),
       sums: part("circuit") ? texts(part("circuit"), "tfoot td") : null,
       mute: marks.filter(it => !it.getAttribute("aria-label")).length, stops: marks.filter(it => it.tabIndex === 0).length, charts: section.querySelectorAll("figure").length,
       nameless: [...section.querySelectorAll("figure, figure svg[role]")].filter(it => !it.getAttribute("aria-label") && !document.getElementById(it.getAttribute("aria-labelledby"))).length,
@@ -93,6 +94,29 @@ def seen_of_all(loop: dict[str, Any], it: dict[str, Any]) -> Iterator[str]:
         yield f"the circuit's sum is not told: {it['graph']}"
 
 
+def counted(count: int, one: str) -> str:
+    """A number of things."""
+    return f"{count} {one}" + ("" if count == 1 else "s")
+
+
+def needed(registers: int | None) -> str:
+    """How many registers are needed."""
+    return "more than 256 registers" if registers is None else counted(registers, "register")
+
+
+def seen_of_set(loop: dict[str, Any], it: dict[str, Any]) -> Iterator[str]:
+    """The fullest set of units, which older programs don't tell of."""
+    told = loop.get("set")
+    if told is None:
+        yield from wrong_with({"set": []}, it)
+        return
+    rows, units = told["rows"], len(told["units"])
+    each = counted(rows // units, "cycle") if rows % units == 0 else f"{rows}/{units} cycles"
+    (says,) = it["set"] or [""]
+    if f"{counted(rows, 'row')} on {counted(units, 'unit')}: {each}, need {told['need']}." not in says or not all(name in says for name in told["units"][:7]):
+        yield f"the fullest set of units: {it['set']}"
+
+
 def seen_of_tables(loop: dict[str, Any], it: dict[str, Any], names: list[str]) -> Iterator[str]:
     """The tables of tried intervals and of units."""
     if [row[:2] for row in it["tried"]] != [[str(tried["interval"]), tried["outcome"]] for tried in loop["tried"]]:
@@ -101,12 +125,16 @@ def seen_of_tables(loop: dict[str, Any], it: dict[str, Any], names: list[str]) -
         told = [names[place] for place in tried.get("operations", [])][:7] + [str(tried[key]) for key in ("stages", "time", "first", "last") if key in tried]
         if not all(word in row[2] for word in told):
             yield f"evidence: {row} lacks one of {told}"
+        need = f"; all values need {needed(tried['need'])}" if "need" in tried else ""
+        if not row[2].endswith(need) or ("all values need" in row[2]) != (need != ""):
+            yield f"needed registers: {row}"
     for unit, row in zip(loop["units"], it["uses"]):
         users = " ".join(names[user["operation"]] + (f"*{user['uses']}" if user["uses"] > 1 else "") for user in unit["users"])
         if [row[0], row[1], row[-1]] != [unit["name"], f"{unit['uses']}{' full' * unit['full']}", users]:
             yield f"units: {row}"
     if len(it["uses"]) < len(loop["units"]):
         yield "units: some are not there"
+    yield from seen_of_set(loop, it)
 
 
 def seen_of_kernel(loop: dict[str, Any], it: dict[str, Any]) -> Iterator[str]:
@@ -114,7 +142,7 @@ def seen_of_kernel(loop: dict[str, Any], it: dict[str, Any]) -> Iterator[str]:
     kernel, operations = loop["kernel"], loop["operations"]
     names, count = [operation["name"] for operation in operations], len(operations)
     slots = [[slot["row"], kernel["units"][slot["unit"]], slot["operation"]] for slot in kernel["slots"]]
-    keys = ("latency", "height", "time", "stage", "row", "alternative")
+    keys = [key for key in ("latency", "height", "time", "stage", "row", "alternative", "slack") if key in operations[0]]
     most = [str(row) for row, live in enumerate(kernel["live"]) if live == kernel["max_live"] > 0]
     values = kernel["values"]
     wanted = {
@@ -136,6 +164,7 @@ def seen_of_kernel(loop: dict[str, Any], it: dict[str, Any]) -> Iterator[str]:
         operation = operations[place]
         if text != f"{operation['name']}{operation['stage']}" or ("held" in classes.split()) != (operation["row"] != row):
             yield f"the slot of {unit} in row {row}: {text} {classes}"
+    yield from seen_of_figures(loop, it)
     if f"MaxLive {kernel['max_live']} of {kernel['registers']}" not in it["registers"]:
         yield f"registers: {it['registers']}"
     folds = [names[v["operation"]] for v in values for _ in range(v["first"] // kernel["ii"], v["last"] // kernel["ii"] + 1)]
@@ -147,6 +176,40 @@ def seen_of_kernel(loop: dict[str, Any], it: dict[str, Any]) -> Iterator[str]:
     interval = "every cycle" if kernel["ii"] == 1 else f"every {kernel['ii']} cycles"
     if interval not in it["summary"] or str(kernel["ii"]) not in it["facts"] or kernel["held_by"] not in it["facts"]:
         yield f"summary: {it['summary']} {it['facts']}"
+
+
+def seen_of_figures(loop: dict[str, Any], it: dict[str, Any]) -> Iterator[str]:
+    """The figures of a kernel, each where the program tells it; and how much of the interval each unit is held."""
+    kernel, operations = loop["kernel"], loop["operations"]
+    held = [sum(slot["unit"] == unit for slot in kernel["slots"]) for unit in range(len(kernel["units"]))]
+    percent = [f"{it} %" for it in kernel.get("percent", [100 * rows // kernel["ii"] for rows in held])]
+    yield from wrong_with({"percents": percent}, it)
+    for name, rows, share in zip(kernel["units"], held, percent):
+        if [name, f"{rows}, {share}"] not in [[row[0], row[2]] for row in it["uses"]]:
+            yield f"units: {it['uses']}"
+    for place, label in it["tips"]:
+        its = [word for word in label.split(", ") if word.startswith("slack")]
+        if its != [f"slack {counted(it, 'cycle')}" for it in [operations[place].get("slack")] if it is not None]:
+            yield f"slack of operation {place}: {label}"
+    extra, need, has_values = kernel.get("extra_turns"), kernel.get("need"), bool(kernel["values"])
+    turns = f"N + {extra}" if extra else "N"
+    told = [
+        ("No schedule that keeps the dependences and the units has a shorter interval.", "summary", kernel.get("least_possible", False) and kernel["held_by"] != "one cycle"),
+        (f" N iterations take {turns} turns.", "summary", extra is not None),
+        (f" The schedule needs {needed(need)}.", "summary", "need" in kernel and has_values),
+        (f"an allotment is {need}.", "ranges", "need" in kernel and has_values),
+        ("The slack of an operation is", "slack", "slack" in operations[0]),
+    ]
+    for words, where, is_told in told:
+        if (words in it[where]) != is_told:
+            yield f"{where}: {words} {'' if is_told else 'not '}wanted in {it[where]}"
+    facts = {"interval, in cycles" + (": least possible" if kernel.get("least_possible") else ""): str(kernel["ii"])}
+    facts |= {"cycles an iteration": str(kernel["cycles"])} if "cycles" in kernel else {}
+    facts |= {"turns for N iterations": turns} if extra is not None else {}
+    facts |= {"registers needed": f"{need} of {kernel['registers']}"} if "need" in kernel and has_values else {}
+    for words, number in facts.items():
+        if number + words not in it["says"]:
+            yield f"facts: {it['says']} lack {number} {words}"
 
 
 def is_near(one: float, other: float) -> bool:

@@ -10,7 +10,6 @@ import os
 import subprocess
 import sys
 import tempfile
-from typing import Any
 
 HERE = os.path.dirname(os.path.realpath(__file__))
 ROOT = os.path.dirname(os.path.dirname(os.path.dirname(HERE)))
@@ -18,13 +17,13 @@ GALLERY, PROBLEMS = f"{ROOT}/examples/gallery", f"{ROOT}/examples/problems"
 sys.path[:0] = [HERE, os.path.dirname(HERE)]
 from browser import Browser, found  # noqa: E402
 from document import text_of  # noqa: E402
-from report import document_of, document_of_problems, page_of, program_beside  # noqa: E402
+from report import document_of_problems, page_of, printed, program_beside  # noqa: E402
 
-# The picture, the machine or the text of problems, what is open, light or dark, and the height of the window; 0 is for the whole page.
+# The picture, the machine or the text of problems, what is open, light or dark, and a selector of the last element that is on it.
 PICTURES = [
-    ("report", "small_dsp.toml", "loop-histogram", "light", 1188),
-    ("report_dark", "clustered.toml", "loop-recurrence2", "dark", 0),
-    ("report_problems", "clustered.txt", "problem-complex_multiply", "light", 1440),
+    ("report", "small_dsp.toml", "loop-histogram", "light", "[data-chart=iteration]"),
+    ("report_dark", "clustered.toml", "loop-recurrence2", "dark", "section"),
+    ("report_problems", "clustered.txt", "problem-complex_multiply", "light", "[data-chart=iteration]"),
 ]
 
 
@@ -39,11 +38,11 @@ def all_loops(room: str) -> str:
     return path
 
 
-def document_for(what: str, room: str) -> dict[str, Any]:
-    """The document for a machine of the gallery with all loops, or for a text of problems."""
+def page_for(what: str, room: str) -> str:
+    """The page for a machine of the gallery with all loops, or for a text of problems."""
     if what.endswith(".txt"):
-        return document_of_problems(program_beside(), f"{PROBLEMS}/{what}", [])
-    return document_of(program_beside(), f"{GALLERY}/machines/{what}", all_loops(room), [])
+        return page_of(text_of(document_of_problems(program_beside(), f"{PROBLEMS}/{what}", [])))
+    return printed(program_beside(), ["explain", f"{GALLERY}/machines/{what}", all_loops(room), "--format", "html"])
 
 
 def main(wanted: list[str]) -> None:
@@ -51,16 +50,15 @@ def main(wanted: list[str]) -> None:
     browser = Browser(found() or sys.exit("pictures: there is no Chromium here"))
     try:
         with tempfile.TemporaryDirectory() as room:
-            for name, what, opened, scheme, height in PICTURES:
+            for name, what, opened, scheme, last in PICTURES:
                 if wanted and name not in wanted:
                     continue
                 with open(f"{room}/page.html", "w", encoding="utf-8") as it:
-                    it.write(page_of(text_of(document_for(what, room))))
+                    it.write(page_for(what, room))
                 browser.media(scheme)
-                browser.size(1400, height or 900)
+                browser.size(1400, 2000)
                 browser.open(f"{room}/page.html", f"#{opened}")
-                if not height:
-                    browser.size(1400, browser.value("document.documentElement.scrollHeight"))
+                browser.size(1400, browser.value(f"Math.ceil(document.querySelector('{last}').getBoundingClientRect().bottom) + 10"))
                 browser.picture(f"{room}/{name}.png")
                 quantised = ["pngquant", "--force", "--speed", "1", "--output", f"{ROOT}/docs/pictures/{name}.png", "128", f"{room}/{name}.png"]
                 subprocess.run(quantised, check=True)

@@ -43,7 +43,7 @@ def seen_of_units(problem: dict[str, Any], it: dict[str, Any]) -> Iterator[str]:
         row = [unit["name"], "full" if unit["full"] else ""]
         if kernel:
             count = sum(kernel["units"][slot["unit"]] == unit["name"] for slot in kernel["slots"])
-            row.append(f"{count}, {int(100 * count / kernel['ii'] + 0.5)} %")
+            row.append(f"{count}, {100 * count // kernel['ii']} %")
         rows.append(row)
     yield from wrong_with({"uses": rows}, it)
 

@@ -11,8 +11,9 @@ import tempfile
 import unittest
 
 CLIENT = os.path.dirname(os.path.dirname(os.path.realpath(__file__)))
-sys.path.insert(0, CLIENT)
+sys.path[:0] = [CLIENT, f"{CLIENT}/tests"]
 import document  # noqa: E402
+import own_documents  # noqa: E402
 from lines import Edge, Misfit, Try, read_edges, read_explain  # noqa: E402
 
 # `t = load a[i]`, `s = add s@1 t`, `store b[i] s`; a load takes 3 cycles, all else 1; `load` and `store` need the unit mem, `add` the unit alu.
@@ -43,6 +44,21 @@ row    mem alu live
 idle units 1
 loops 1 met 1 failed 0
 """
+# The same of a newer program, which tells when each operation is issued and by which units, and some figures.
+SUM_EXPLAIN_NEWER = (
+    SUM_EXPLAIN.replace(
+        "least possible\n",
+        """least possible
+iteration 6 cycles
+N iterations take N+2 turns
+op t at 0 slack 0: mem@0
+op s at 3 slack 1: alu@0
+op b[i] at 5 slack 0: mem@0
+""",
+    )
+    .replace("register 1\n", "register 1\nregisters need 3\n")
+    .replace("idle", "use mem 100% alu 50%\nidle")
+)
 # What of the document of `json` the page's document is made of.
 SUM_ISSUED = [
     {"alternative": 0, "latency": 3, "opcode": "load", "row": 0, "stage": 0},
@@ -182,7 +198,8 @@ loops 1
         self.assertEqual(read_explain("loops 0 met 0 failed 0\n"), [])
 
     def test_causes(self):
-        (it,) = read_explain(causes("try 2 table: m", "try 3 budget: x b[i-4] y", "try 4 stages: s at 256", "try 5 to 6 registers: v lives 3 to 70"))
+        of_registers = ["try 5 to 6 registers: v lives 3 to 70", "try 7 registers: v lives 3 to 72, all need 9", "try 8 registers: v lives 3 to 74, all need more than 256"]
+        (it,) = read_explain(causes("try 2 table: m", "try 3 budget: x b[i-4] y", "try 4 stages: s at 256", *of_registers))
         self.assertEqual(
             it.tried,
             [
@@ -191,6 +208,8 @@ loops 1
                 Try(4, "stages", ("s",), (256,)),
                 Try(5, "registers", ("v",), (3, 70)),
                 Try(6, "registers", ("v",), (3, 70)),
+                Try(7, "registers", ("v",), (3, 72)),
+                Try(8, "registers", ("v",), (3, 74)),
             ],
         )
         self.assertIsNone(it.held)
@@ -259,6 +278,20 @@ loops 1
         with self.assertRaises(Misfit):
             read_explain(SUM_EXPLAIN.replace("  0    t/0", " 0     t/0"))
 
+    def test_newer_lines_of_explain(self):
+        self.assertEqual(read_explain(SUM_EXPLAIN_NEWER), read_explain(SUM_EXPLAIN))
+        self.misfits(
+            read_explain,
+            SUM_EXPLAIN_NEWER,
+            [
+                (11, "+2", "+3", "not the turns of its stages"),
+                (12, "slack 0", "slack -1", "when operation 0 is issued"),
+                (14, "mem@0", "mem", "when operation 2 is issued"),
+                (17, "need 3", "needs 3", "not the head of a grid"),
+                (21, "50%", "51%", "not the shares of the grid"),
+            ],
+        )
+
     def at_line(self, number: int, read, text: str):
         try:
             read(text)
@@ -273,6 +306,18 @@ class Document(unittest.TestCase):
 
     def test_running_sum(self):
         self.assertEqual(self.joined(SUM_EDGES, SUM_EXPLAIN, SUM_JSON), SUM_DOCUMENT)
+
+    def test_own_documents(self):
+        # (what the program prints itself of the running sum, of which the joined document has nothing but these keys less)
+        own = {"failed": 0, "loops": [own_documents.ROTATING], "met": 1, "version": 1}
+        self.assertEqual(own_documents.joined_of(own), SUM_DOCUMENT)
+        for loop in own_documents.DOCUMENT["loops"]:
+            self.assertLessEqual({"set"}, loop.keys())
+            kernel = loop.get("kernel")
+            self.assertEqual(["slack" in it for it in loop["operations"]], [kernel is not None] * len(loop["operations"]))
+            self.assertEqual(["need" in it for it in loop["tried"]], [it["outcome"] == "registers" for it in loop["tried"]])
+            if kernel:
+                self.assertLessEqual(own_documents.OF_KERNEL, kernel.keys())
 
     def test_no_kernel(self):
         (loop,) = self.joined(LONE_EDGES, LONE_EXPLAIN, listing(LONE_JSON))["loops"]

@@ -33,8 +33,8 @@ life-there s place life e =
     let z : value ≡ 0 + back.0 = back.3 in
     omega arith
 
-pub value-there : (p : ProblemData) (ii : ℕ) (life : Lifetime) → LacksFor p ii life → life.operation < length p.loop.statements
-value-there p ii life lacks =
+pub value-there : (p : ProblemData) (ii : ℕ) (life : Lifetime) (need : Option ℕ) → LacksFor p ii life need → life.operation < length p.loop.statements
+value-there p ii life need lacks =
     subst (λ (q : ProblemData). life.operation < length q.loop.statements) lacks.is_schedule.2 (life-there lacks.schedule lacks.none.place life lacks.none.is_life)
 
 -- ---- the operations that an attempt does not place

@@ -5,9 +5,11 @@ use Rattle.ims.specs.Problems.{ProblemData}
 use Rattle.overlap.specs.Allotments.{Suits}
 use Rattle.overlap.specs.Lifetimes.{lifetimes_of}
 use Rattle.registers.proofs.allotted.Least.{least-is_lawful}
+use Rattle.figures.specs.declared.figures.Figures.{Figures}
 use Rattle.candidates.specs.declared.evidence.Met.{Met}
 use Rattle.candidates.specs.Reasons.{IsMet}
 use Rattle.schedule_lines.specs.ScheduleTexts.{schedule_text}
+use Rattle.told_choices.specs.Told.{IsMetWith}
 use Rattle.explain.specs.Shown.{IsShownAt}
 
 -- the registers of an interval's kernel are those of its schedule's values
@@ -15,6 +17,15 @@ pub suits-of : (p : ProblemData) (ii : ℕ) (met : Met) → IsMet p ii met → S
 suits-of p ii met is = least-is_lawful met.schedule.ii met.allotment.registers (lifetimes_of met.schedule) met.allotment.numbers is.is_least
 
 -- what is shown of an interval's kernel
-pub shown-of : (machine : MachineData) (p : ProblemData) (ii : ℕ) (met : Met) → IsMet p ii met → IsShownAt machine p ii (schedule_text machine met.schedule met.allotment)
-shown-of machine p ii met is =
-    record { schedule = met.schedule; is_schedule = is.is_schedule; allotment = met.allotment; same_registers = is.same_registers; is_least = is.is_least; is_text = refl }
+pub shown-of : (machine : MachineData) (p : ProblemData) (ii : ℕ) (met : Met) (figures : Figures) → IsMetWith p ii met figures
+    → IsShownAt machine p ii (schedule_text machine met.schedule met.allotment figures)
+shown-of machine p ii met figures is = record {
+  schedule = met.schedule;
+  is_schedule = is.is_met.is_schedule;
+  allotment = met.allotment;
+  same_registers = is.is_met.same_registers;
+  is_least = is.is_met.is_least;
+  figures = figures;
+  are_figures = is.are_figures;
+  is_text = refl;
+}

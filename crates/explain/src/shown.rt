@@ -10,7 +10,7 @@ use schedule_lines::push_schedule;
 use std::alloc::Global;
 use told_choices::Chosen;
 
-/// Appends the schedule and the registers of a loop's kernel, and nothing where the loop has none.
+/// Appends the schedule of a loop's kernel, its figures and its registers, and nothing where the loop has none.
 pub(crate) fn push_shown(
     alloc: Global,
     text: &mut Vec<u8>,
@@ -22,7 +22,14 @@ pub(crate) fn push_shown(
     ensures ok { OnOk result ((part : List ℕ) × IsShown machine.now _prepared.now (choice_of chosen.now) part × (text.new.items ≡ text.old.items ++ part)) }
 {
     match chosen {
-        Chosen::Met(_, met) => push_schedule(alloc, text, machine, &met.schedule, &met.allotment),
+        Chosen::Met(_, met, figures) => push_schedule(
+            alloc,
+            text,
+            machine,
+            &met.schedule,
+            &met.allotment,
+            figures,
+        ),
         Chosen::Failed(_) => Ok(()),
     }
 }

@@ -17,11 +17,12 @@ use Rattle.modulo.specs.declared.outcome.attempts.Culprit.TheVariants.{Blocked, 
 use Rattle.registers.specs.declared.lifetime.Lifetime.{Lifetime}
 use Rattle.registers.specs.Crowds.{nobody}
 use Rattle.overlap.specs.Lifetimes.{lifetimes_of}
+use Rattle.figures.specs.declared.figures.Figures.{Figures}
 use Rattle.candidates.specs.declared.evidence.Met as evidence
 use Rattle.candidates.specs.declared.evidence.Reason.{Reason}
 use Rattle.candidates.specs.declared.evidence.Reason.TheVariants.{Attempt, Register}
 use Rattle.schedule_lines.specs.Columns.{used_units}
-use Rattle.schedule_lines.specs.Slots.{live_counts, rows_in, slot_taker}
+use Rattle.schedule_lines.specs.Slots.{live_counts, percent_of, rows_in, slot_taker}
 use Rattle.told_choices.specs.declared.chosen.Chosen.{Chosen}
 use Rattle.told_choices.specs.declared.chosen.Chosen.TheVariants.{Met, Failed}
 use Rattle.unit_sets.specs.declared.fullest.UnitSet.{UnitSet}
@@ -31,7 +32,7 @@ use Rattle.explain_json.specs.Edges.{IsEdgeObject, circuit_value, place_of}
 use Rattle.explain_json.specs.Kernels.{kernel_object, row_slots, slot_objects, slots_of, value_object, values_value}
 use Rattle.explain_json.specs.Loops.{Given, members_of, object_of, object_with}
 use Rattle.explain_json.specs.Operations.{operation_object, operations_value, placed_object}
-use Rattle.explain_json.specs.Parts.{array_of, count_value, counts_value, integer_value}
+use Rattle.explain_json.specs.Parts.{array_of, count_value, counts_value, integer_value, need_value}
 use Rattle.explain_json.specs.Tries.{chosen_try, failure_object, failures_from, tried_value}
 use Rattle.explain_json.specs.Units.{operations_in, set_object, unit_name, unit_objects, units_of, units_value, use_by, user_objects, users_of, uses_of}
 
@@ -68,6 +69,10 @@ several-whole f (n ∷ ns) each = append-whole (f n) (flat_map f ns) (each n) (s
 integer-whole : (z : ℤ) → IsWhole (integer_value z)
 integer-whole (pos n) = refl
 integer-whole (negsuc n) = refl
+
+need-whole : (need : Option ℕ) → IsWhole (need_value need)
+need-whole (Some n) = refl
+need-whole None = refl
 
 counts-whole : (ns : List ℕ) → IsWhole (counts_value ns)
 counts-whole ns = array-whole count_value ns (λ _. refl)
@@ -109,18 +114,18 @@ failure-whole : (ii : ℕ) (reason : Reason) → IsWhole (failure_object ii reas
 failure-whole ii (Attempt (Blocked op)) = refl
 failure-whole ii (Attempt (Unplaced ops)) = neither _ _ (counts-whole ops.items) refl
 failure-whole ii (Attempt (Late op time)) = refl
-failure-whole ii (Register life) = refl
+failure-whole ii (Register life need) = neither _ _ (need-whole need) refl
 
 failures-whole : (ii : ℕ) (reasons : List Reason) → AreWhole (failures_from ii reasons)
 failures-whole ii [] = tt
 failures-whole ii (reason ∷ reasons) = (failure-whole ii reason, failures-whole (ii + 1) reasons)
 
 chosen-whole : (chosen : Chosen) → AreWhole (chosen_try chosen)
-chosen-whole (Met ii met) = (refl, tt)
+chosen-whole (Met ii met figures) = (refl, tt)
 chosen-whole (Failed cause) = tt
 
 operations-whole : (p : ProblemData) (heights : List ℕ) (chosen : Chosen) → IsWhole (operations_value p heights chosen)
-operations-whole p heights (Met ii met) = array-whole (placed_object p heights met.schedule) (operations_in p) (λ _. refl)
+operations-whole p heights (Met ii met figures) = array-whole (placed_object p heights met.schedule figures.slacks.items) (operations_in p) (λ _. refl)
 operations-whole p heights (Failed cause) = array-whole (operation_object p heights) (operations_in p) (λ _. refl)
 
 slot-whole : (row place : ℕ) (taker : Option ℕ) → AreWhole (slot_objects row place taker)
@@ -136,21 +141,23 @@ slots-whole s used =
 values-whole : (lives : List Lifetime) (numbers : List ℕ) → IsWhole (values_value lives numbers)
 values-whole lives numbers = array-whole (λ k. value_object (slice_index_or lives k nobody) (slice_index numbers k)) (range_with_len 0 (length lives)) (λ _. refl)
 
-kernel-whole : (machine : MachineData) (set : UnitSet) (free : Bool) (p : ProblemData) (reasons : List Reason) (ii : ℕ) (met : evidence.Met)
-    → IsWhole (kernel_object machine set free p reasons ii met)
-kernel-whole machine set free p reasons ii met =
+kernel-whole : (machine : MachineData) (set : UnitSet) (free : Bool) (p : ProblemData) (reasons : List Reason) (ii : ℕ) (met : evidence.Met) (figures : Figures)
+    → IsWhole (kernel_object machine set free p reasons ii met figures)
+kernel-whole machine set free p reasons ii met figures =
     let used = used_units machine met.schedule in
     neither _ _ (counts-whole (live_counts met.schedule))
+    (neither _ _ (need-whole figures.need)
+    (neither _ _ (array-whole (λ unit. count_value (percent_of met.schedule unit)) used (λ _. refl))
     (neither _ _ (items-whole (slots_of met.schedule used) (slots-whole met.schedule used))
-    (neither _ _ (names-whole machine used) (neither _ _ (values-whole (lifetimes_of met.schedule) met.allotment.numbers) refl)))
+    (neither _ _ (names-whole machine used) (neither _ _ (values-whole (lifetimes_of met.schedule) met.allotment.numbers) refl)))))
 
 with-whole : (given : Given) (heights : List ℕ) (edges : List Data) (chosen : Chosen) → AreWhole edges
     → IsWhole (object_with given.machine given.set (length given.circuit == 0) given.problem given.told.reasons.items (members_of given heights edges chosen) chosen)
-with-whole given heights edges (Met ii met) whole =
+with-whole given heights edges (Met ii met figures) whole =
     neither _ _ (circuit-whole given.problem.graph.edges given.problem.recurrences given.circuit)
     (neither _ _ (items-whole edges whole)
-    (neither _ _ (kernel-whole given.machine given.set (length given.circuit == 0) given.problem given.told.reasons.items ii met)
-    (neither _ _ (operations-whole given.problem heights (Met ii met))
+    (neither _ _ (kernel-whole given.machine given.set (length given.circuit == 0) given.problem given.told.reasons.items ii met figures)
+    (neither _ _ (operations-whole given.problem heights (Met ii met figures))
     (neither _ _ (set-whole given.machine given.set)
     (neither _ _ (items-whole _ (append-whole (failures_from (mii_of given.problem) given.told.reasons.items) (chosen_try given.told.chosen)
     (failures-whole (mii_of given.problem) given.told.reasons.items) (chosen-whole given.told.chosen)))

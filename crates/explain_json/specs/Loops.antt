@@ -85,7 +85,7 @@ failed_object problem members cause =
 
 -- a loop with what is chosen for it; free tells that no circuit needs the recurrence-constrained bound
 abbrev pub object_with : MachineData → UnitSet → Bool → ProblemData → List Reason → MembersData → Chosen → Data
-object_with machine set free problem reasons members (Met ii met) = met_object problem members (kernel_object machine set free problem reasons ii met)
+object_with machine set free problem reasons members (Met ii met figures) = met_object problem members (kernel_object machine set free problem reasons ii met figures)
 object_with machine set free problem reasons members (Failed cause) = failed_object problem members cause
 
 abbrev pub object_of : Given → List ℕ → List Data → Data

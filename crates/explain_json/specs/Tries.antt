@@ -10,10 +10,10 @@ use Rattle.candidates.specs.declared.evidence.Reason.TheVariants.{Attempt, Regis
 use Rattle.told_choices.specs.declared.chosen.Chosen.{Chosen}
 use Rattle.told_choices.specs.declared.chosen.Chosen.TheVariants.{Met, Failed}
 use Rattle.told_choices.specs.declared.told.Told.{Told}
-use Rattle.explain_json.specs.Parts.{count_value, counts_value}
+use Rattle.explain_json.specs.Parts.{count_value, counts_value, need_value}
 
 -- an interval that gives no kernel for this reason: the operation that has no alternative, those that are not placed, the one that is
--- too late, or the one whose value has no register, with when that lives
+-- too late, or the one whose value has no register, with when that lives and how many registers all values need
 abbrev pub failure_object : ℕ → Reason → Data
 failure_object ii (Attempt (Blocked op)) =
     object (member (codes "interval") (count_value ii)
@@ -28,12 +28,13 @@ failure_object ii (Attempt (Late op time)) =
     (member (codes "operations") (counts_value (op ∷ []))
     (member (codes "outcome") (string (codes "stages"))
     (member (codes "time") (count_value time) no_members))))
-failure_object ii (Register life) =
+failure_object ii (Register life need) =
     object (member (codes "first") (count_value life.first)
     (member (codes "interval") (count_value ii)
     (member (codes "last") (count_value life.last)
+    (member (codes "need") (need_value need)
     (member (codes "operations") (counts_value (life.operation ∷ []))
-    (member (codes "outcome") (string (codes "registers")) no_members)))))
+    (member (codes "outcome") (string (codes "registers")) no_members))))))
 
 -- an interval that gives a kernel of so many stages
 abbrev pub kernel_try : ℕ → ℕ → Data
@@ -49,7 +50,7 @@ failures_from ii (reason ∷ reasons) = failure_object ii reason ∷ failures_fr
 
 -- the interval that is chosen, where there is one
 abbrev pub chosen_try : Chosen → List Data
-chosen_try (Met ii met) = kernel_try ii met.kernel.stages ∷ []
+chosen_try (Met ii met figures) = kernel_try ii met.kernel.stages ∷ []
 chosen_try (Failed cause) = []
 
 -- all intervals that were tried, from the least one on

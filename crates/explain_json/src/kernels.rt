@@ -7,16 +7,17 @@ ghost use Rattle.serde_json.specs.View.{items_of, view};
 ghost use Rattle.candidates.specs.Reasons.{IsMet};
 ghost use Rattle.overlap.specs.Lifetimes.{lifetimes_of};
 ghost use Rattle.schedule_lines.specs.Columns.{used_units};
-ghost use Rattle.schedule_lines.specs.Slots.{greatest_live, live_counts};
-ghost use Rattle.explain_json.specs.Parts.{array_of, counts_value};
+ghost use Rattle.schedule_lines.specs.Slots.{greatest_live, live_counts, percent_of};
+ghost use Rattle.explain_json.specs.Parts.{array_of, count_value, counts_value};
 ghost use Rattle.explain_json.specs.Units.{unit_name};
 ghost use Rattle.explain_json.specs.inner.Objects.{kernel_of};
 ghost use Rattle.explain_json.specs.Kernels.{kernel_object, slots_of, values_value};
 
 use crate::names::told_unit_names;
 use crate::slots::told_slots;
-use crate::values::{told_counts, told_values};
+use crate::values::{told_counts, told_need, told_percents, told_values};
 use candidates::{Met, Reason};
+use figures::Figures;
 use ims::Prepared;
 use machine_data::{Machine, OutOfMemory};
 use rotating::lifetimes;
@@ -31,6 +32,8 @@ use unit_sets::UnitSet;
 struct Used {
     /// How many units of the machine no operation takes.
     idle: usize,
+    /// In how many hundredths of the interval each unit is taken.
+    percents: Value,
     slots: Value,
     units: Value,
 }
@@ -43,27 +46,35 @@ struct Scheduled {
     values: Value,
 }
 
-/// The slots that are taken, and by which units.
-fn slots_in(alloc: Global, machine: &Machine, met: &Met) -> Result<(Vec<u8>, Value), OutOfMemory>
-    ensures used { IfOk result (λ both. both.0.items ≡ used_units machine.now met.now.schedule) }
-    ensures slots { IfOk result (λ both. view both.1 ≡ array (items_of (slots_of met.now.schedule (used_units machine.now met.now.schedule)))) }
+/// The units that operations take, in how many hundredths of the interval each is taken, and in which slots.
+fn slots_in(
+    alloc: Global,
+    machine: &Machine,
+    met: &Met,
+) -> Result<(Vec<u8>, Value, Value), OutOfMemory>
+    ensures used { IfOk result (λ all. all.0.items ≡ used_units machine.now met.now.schedule) }
+    ensures percents { IfOk result (λ all. view all.1 ≡ array_of (λ unit. count_value (percent_of met.now.schedule unit)) (used_units machine.now met.now.schedule)) }
+    ensures slots { IfOk result (λ all. view all.2 ≡ array (items_of (slots_of met.now.schedule (used_units machine.now met.now.schedule)))) }
 {
     let takers = Takers::of(alloc, &met.schedule)?;
     let used = takers.units(alloc, machine)?;
+    let percents = told_percents(alloc, &takers, used.as_slice())?;
     let slots = told_slots(alloc, &takers, used.as_slice(), met.schedule.ii())?;
-    Ok((used, slots))
+    Ok((used, percents, slots))
 }
 
 /// What is told of the units that operations take.
 fn used_of(alloc: Global, machine: &Machine, met: &Met) -> Result<Used, OutOfMemory>
     ensures idle { IfOk result (λ u. u.idle ≡ length machine.now.units - length (used_units machine.now met.now.schedule)) }
+    ensures percents { IfOk result (λ u. view u.percents ≡ array_of (λ unit. count_value (percent_of met.now.schedule unit)) (used_units machine.now met.now.schedule)) }
     ensures slots { IfOk result (λ u. view u.slots ≡ array (items_of (slots_of met.now.schedule (used_units machine.now met.now.schedule)))) }
     ensures units { IfOk result (λ u. view u.units ≡ array_of (λ unit. string (unit_name machine.now unit)) (used_units machine.now met.now.schedule)) }
 {
-    let (used, slots) = slots_in(alloc, machine, met)?;
+    let (used, percents, slots) = slots_in(alloc, machine, met)?;
     let units = told_unit_names(alloc, machine, used.as_slice())?;
     Ok(Used {
         idle: machine.units().len().saturating_sub(used.len()),
+        percents,
         slots,
         units,
     })
@@ -103,16 +114,22 @@ fn told_with(
     stages: u64,
     used: Used,
     told: Scheduled,
+    figures: &Figures,
 ) -> Result<Value, OutOfMemory>
-    ensures { IfOk result (λ v. view v ≡ kernel_of held.now used.idle ii least (view told.live) told.max_live registers (view used.slots) stages (view used.units) (view told.values)) }
+    ensures { IfOk result (λ v. view v ≡ kernel_of figures.now held.now used.idle ii least (view told.live) told.max_live (view used.percents) registers (view used.slots) stages (view used.units) (view told.values)) }
 {
+    let need = told_need(figures.need);
     json!(in alloc; {
+        "cycles": figures.cycles,
+        "extra_turns": stages.saturating_sub(1),
         "held_by": held,
         "idle_units": used.idle,
         "ii": ii,
         "least_possible": least,
         "live": told.live,
         "max_live": told.max_live,
+        "need": need,
+        "percent": used.percents,
         "registers": registers,
         "slots": used.slots,
         "stages": stages,
@@ -121,7 +138,7 @@ fn told_with(
     })
 }
 
-/// The kernel of an interval; `free` tells that no circuit needs the recurrence-constrained bound, and the reasons are those of the
+/// The kernel of an interval, with the figures of its schedule; `free` tells that no circuit needs the recurrence-constrained bound, and the reasons are those of the
 /// intervals before.
 pub(crate) fn told_kernel(
     alloc: Global,
@@ -132,9 +149,10 @@ pub(crate) fn told_kernel(
     reasons: &[Reason],
     ii: u64,
     met: &Met,
+    figures: &Figures,
 ) -> Result<Value, OutOfMemory>
     requires { IsMet prepared.now ii met.now }
-    ensures { IfOk result (λ v. view v ≡ kernel_object machine.now set.now free prepared.now reasons.now ii met.now) }
+    ensures { IfOk result (λ v. view v ≡ kernel_object machine.now set.now free prepared.now reasons.now ii met.now figures.now) }
 {
     let used = used_of(alloc, machine, met)?;
     let told = told_schedule(alloc, prepared, ii, met)?;
@@ -149,5 +167,6 @@ pub(crate) fn told_kernel(
         met.kernel.parts().stages,
         used,
         told,
+        figures,
     )
 }

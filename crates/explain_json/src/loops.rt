@@ -138,9 +138,11 @@ fn told_loop(
     ensures { IfOk result (λ v. view v ≡ object_with machine.now set.now free prepared.now told.now.reasons.items (seen members) told.now.chosen) }
 {
     match &told.chosen {
-        Chosen::Met(ii, met) => {
+        Chosen::Met(ii, met, figures) => {
             let reasons = told.reasons.as_slice();
-            let kernel = told_kernel(alloc, machine, set, free, prepared, reasons, *ii, met)?;
+            let kernel = told_kernel(
+                alloc, machine, set, free, prepared, reasons, *ii, met, figures,
+            )?;
             told_met(alloc, prepared, members, kernel)
         }
         Chosen::Failed(cause) => told_failed(alloc, prepared, members, *cause),

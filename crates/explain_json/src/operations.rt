@@ -42,18 +42,20 @@ fn told_operation(
     })
 }
 
-/// An operation of a loop that is scheduled, with its height.
+/// An operation of a loop that is scheduled, with its height and its slack.
 fn told_placed(
     alloc: Global,
     prepared: &Prepared,
     heights: &[u64],
     schedule: &Schedule,
+    slacks: &[u64],
     op: usize,
 ) -> Result<Value, OutOfMemory>
     requires there { op < length prepared.now.operations }
     requires each { length heights.now ≡ length prepared.now.operations }
+    requires each_slack { length slacks.now ≡ length prepared.now.operations }
     requires same { schedule.now.problem ≡ prepared.now }
-    ensures { IfOk result (λ v. view v ≡ placed_object prepared.now heights.now schedule.now op) }
+    ensures { IfOk result (λ v. view v ≡ placed_object prepared.now heights.now schedule.now slacks.now op) }
 {
     let height = heights[op];
     let time = schedule.time(op);
@@ -64,6 +66,7 @@ fn told_placed(
         "name": told_name(alloc, prepared.innermost(), op)?,
         "opcode": opcode_word(prepared, op),
         "row": time % schedule.ii(),
+        "slack": slacks[op],
         "stage": time / schedule.ii(),
         "time": time
     })
@@ -87,14 +90,16 @@ fn told_scheduled(
     prepared: &Prepared,
     heights: &[u64],
     schedule: &Schedule,
+    slacks: &[u64],
 ) -> Result<Value, OutOfMemory>
     requires each { length heights.now ≡ length prepared.now.operations }
+    requires each_slack { length slacks.now ≡ length prepared.now.operations }
     requires same { schedule.now.problem ≡ prepared.now }
-    ensures { IfOk result (λ v. view v ≡ array_of (placed_object prepared.now heights.now schedule.now) (operations_in prepared.now)) }
+    ensures { IfOk result (λ v. view v ≡ array_of (placed_object prepared.now heights.now schedule.now slacks.now) (operations_in prepared.now)) }
 {
     let mut values = Vec::with_capacity(alloc, heights.len())?;
     for op in 0..prepared.operations() {
-        values.push(told_placed(alloc, prepared, heights, schedule, op)?)?;
+        values.push(told_placed(alloc, prepared, heights, schedule, slacks, op)?)?;
     }
     Ok(Value::Array(values))
 }
@@ -111,7 +116,10 @@ pub(crate) fn told_operations(
     ensures { IfOk result (λ v. view v ≡ operations_value prepared.now heights.now chosen.now) }
 {
     match chosen {
-        Chosen::Met(_, met) => told_scheduled(alloc, prepared, heights, &met.schedule),
+        Chosen::Met(_, met, figures) => {
+            let slacks = figures.slacks.as_slice();
+            told_scheduled(alloc, prepared, heights, &met.schedule, slacks)
+        }
         Chosen::Failed(_) => told_all(alloc, prepared, heights),
     }
 }

@@ -8,6 +8,7 @@ ghost use Rattle.modulo.specs.declared.outcome.attempts.Culprit.TheVariants.{Lat
 ghost use Rattle.explain_json.specs.Parts.{count_value, counts_value};
 ghost use Rattle.explain_json.specs.Tries.{chosen_try, failure_object, failures_from, kernel_try, tried_value};
 
+use crate::values::told_need;
 use candidates::Reason;
 use ims::{Culprit, Prepared};
 use machine_data::OutOfMemory;
@@ -55,14 +56,21 @@ fn told_late(alloc: Global, interval: u64, op: usize, time: u64) -> Result<Value
     })
 }
 
-/// An interval at which a value has no register, and when it lives.
-fn told_life(alloc: Global, interval: u64, life: Lifetime) -> Result<Value, OutOfMemory>
-    ensures { IfOk result (λ v. view v ≡ failure_object interval (Register life)) }
+/// An interval at which a value has no register, when it lives, and how many registers all values need.
+fn told_life(
+    alloc: Global,
+    interval: u64,
+    life: Lifetime,
+    need: Option<u64>,
+) -> Result<Value, OutOfMemory>
+    ensures { IfOk result (λ v. view v ≡ failure_object interval (Register life need)) }
 {
+    let need = told_need(need);
     json!(in alloc; {
         "first": life.first,
         "interval": interval,
         "last": life.last,
+        "need": need,
         "operations": told_numbers(alloc, &[usize::from(life.operation)])?,
         "outcome": "registers"
     })
@@ -78,7 +86,7 @@ fn told_failure(alloc: Global, interval: u64, reason: &Reason) -> Result<Value, 
             told_ops(alloc, interval, ops.as_slice(), "budget")
         }
         Reason::Attempt(Culprit::Late(op, time)) => told_late(alloc, interval, *op, *time),
-        Reason::Register(life) => told_life(alloc, interval, *life),
+        Reason::Register(life, need) => told_life(alloc, interval, *life, *need),
     }
 }
 
@@ -99,7 +107,7 @@ fn push_chosen(alloc: Global, values: &mut Vec<Value>, chosen: &Chosen) -> Resul
     ensures ok { OnOk result (map view values.new.items ≡ map view values.old.items ++ chosen_try chosen.now) }
 {
     match chosen {
-        Chosen::Met(interval, met) => {
+        Chosen::Met(interval, met, _) => {
             let stages = met.kernel.parts().stages;
             Ok(values.push(told_kernel(alloc, *interval, stages)?)?)
         }

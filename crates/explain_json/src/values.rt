@@ -1,12 +1,16 @@
-//! The values of a scheduled loop, and how many of them live in each row.
+//! The values of a scheduled loop, how many of them live in each row, and numbers for each unit.
 
-ghost use Rattle.std.specs.Prelude.{◌≡◌, length, IfOk};
+ghost use Rattle.std.specs.Prelude.{◌≡◌, ◌<◌, length, IfOk};
+ghost use Rattle.std.specs.List.{All};
 ghost use Rattle.serde_json.specs.View.{view};
+ghost use Rattle.machine_data.specs.declared.limits.TheConstants.{MAX_UNITS};
+ghost use Rattle.schedule_lines.specs.Slots.{percent_of};
 ghost use Rattle.explain_json.specs.Kernels.{value_object, values_value};
-ghost use Rattle.explain_json.specs.Parts.{counts_value};
+ghost use Rattle.explain_json.specs.Parts.{array_of, count_value, counts_value, need_value};
 
 use machine_data::OutOfMemory;
 use rotating::Lifetime;
+use schedule_lines::Takers;
 use serde_json::{Value, json};
 use std::alloc::Global;
 
@@ -34,6 +38,32 @@ pub(crate) fn told_values(
     let mut values = Vec::with_capacity(alloc, lives.len())?;
     for k in 0..lives.len() {
         values.push(told_value(alloc, lives[k], numbers[k])?)?;
+    }
+    Ok(Value::Array(values))
+}
+
+/// How many registers values need.
+pub(crate) fn told_need(need: Option<u64>) -> Value
+    ensures { view result ≡ need_value need }
+{
+    match need {
+        Some(registers) => Value::from(registers),
+        None => Value::Null,
+    }
+}
+
+/// In how many hundredths of the interval each of these units is taken.
+pub(crate) fn told_percents(
+    alloc: Global,
+    takers: &Takers,
+    used: &[u8],
+) -> Result<Value, OutOfMemory>
+    requires { All (λ unit. unit < MAX_UNITS) used.now }
+    ensures { IfOk result (λ v. view v ≡ array_of (λ unit. count_value (percent_of takers.now unit)) used.now) }
+{
+    let mut values = Vec::with_capacity(alloc, used.len())?;
+    for unit in used {
+        values.push(Value::from(takers.percent(*unit)))?;
     }
     Ok(Value::Array(values))
 }

@@ -1,6 +1,6 @@
 //! The page before the document. Made of clients/report/head.html by clients/report/page_parts, and not to be edited.
 
-/// The bytes of clients/report/head.html.
+/// Bytes of clients/report/head.html.
 pub(crate) const HEAD: &str = r##"<!doctype html>
 <html lang="en">
 <head>
@@ -72,6 +72,7 @@ section.loop + section.loop { margin-top: 2.5rem; border-top: 3px solid var(--li
 .stack .scroll { max-height: 24rem; }
 .part h3 { margin-bottom: .4rem; }
 .part .said { margin: -.3rem 0 .5rem; }
+.part .scroll + .said { margin: .55rem 0 0; }
 .whole { white-space: nowrap; }
 figure, .part { margin: 0; max-width: 100%; min-width: min(100%, 24rem); background: var(--panel); border: 1px solid var(--line); border-radius: 8px; padding: .8rem .9rem .9rem; }
 figure { display: flex; flex-direction: column; }
@@ -101,6 +102,7 @@ table.kernel tbody th { position: sticky; left: 0; z-index: 1; background: var(-
 table.kernel thead th:first-child { left: 0; z-index: 3; }
 table.kernel thead th { height: 40px; line-height: 1.25; white-space: normal; min-width: 3.4rem; padding-top: .25rem; padding-bottom: .2rem; }
 table.kernel thead .bar { display: block; width: 100%; min-width: 2rem; height: 5px; margin: 3px 0 0; }
+table.kernel thead .percent { display: block; margin-top: 2px; font-size: 10.5px; font-weight: 400; color: var(--soft); white-space: nowrap; }
 table.kernel td.slot { box-shadow: inset 0 0 0 1px var(--shape); cursor: default; }
 table.kernel td.held { font-style: italic; box-shadow: inset 0 0 0 1px var(--line), inset 3px 0 0 var(--shape); }
 table.kernel td.slot sub { font-size: 9.5px; vertical-align: baseline; margin-left: .3em; font-style: normal; }

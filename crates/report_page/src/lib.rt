@@ -4,5 +4,6 @@
 mod head;
 mod page;
 mod tail;
+mod tail_rest;
 
 pub use page::push_page;

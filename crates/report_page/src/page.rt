@@ -1,10 +1,11 @@
 //! The page around a document.
 
 ghost use Rattle.std.specs.Prelude.{◌≡◌, ◌++◌, OnOk};
-ghost use Rattle.report_page.specs.Pages.{page_of};
+ghost use Rattle.report_page.specs.Pages.{page_of, tail};
 
 use crate::head::HEAD;
 use crate::tail::TAIL;
+use crate::tail_rest::TAIL_REST;
 use machine_data::OutOfMemory;
 use writing::Text;
 
@@ -18,5 +19,13 @@ pub fn push_page(text: &mut Vec<u8>, document: &[u8]) -> Result<(), OutOfMemory>
 {
     text.push_piece(HEAD)?;
     text.extend_from_slice(document)?;
-    text.push_piece(TAIL)
+    push_tail(text)
+}
+
+/// Appends what stands after a document. It is kept in two pieces.
+fn push_tail(text: &mut Vec<u8>) -> Result<(), OutOfMemory>
+    ensures ok { OnOk result (text.new.items ≡ text.old.items ++ tail) }
+{
+    text.push_piece(TAIL)?;
+    text.push_piece(TAIL_REST)
 }

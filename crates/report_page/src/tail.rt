@@ -1,7 +1,7 @@
-//! The page after the document. Made of clients/report/tail.html by clients/report/page_parts, and not to be edited.
+//! The page after the document, its first piece. Made of clients/report/tail.html by clients/report/page_parts, and not to be edited.
 
-/// The bytes of clients/report/tail.html.
-pub(crate) const TAIL: &str = r##"</script>
+/// Bytes of clients/report/tail.html.
+pub(crate) const TAIL: &str = r#"</script>
 <script>
 (function () {
 "use strict";
@@ -34,7 +34,7 @@ const ONE = isOfProblems ? "problem" : "loop", ANSWER = isOfProblems ? "solution
 const ofLoop = loop => {
   for (const it of loop.operations) Object.assign(it, { word: it.opcode, done: it.latency });
   const kernel = loop.kernel;
-  if (kernel) kernel.files = [{ name: "", at: 0, registers: kernel.registers, live: kernel.live, max_live: kernel.max_live,
+  if (kernel) kernel.files = [{ name: "", at: 0, registers: kernel.registers, need: kernel.need, live: kernel.live, max_live: kernel.max_live,
     values: kernel.values.map(it => ({ ...it, name: loop.operations[it.operation].name })) }];
   return loop;
 };
@@ -54,6 +54,7 @@ const ofProblem = problem => {
 // Words.
 const counted = (count, one, many) => count + " " + (count === 1 ? one : many || one + "s");
 const cycles = count => counted(count, "cycle");
+const neededRegisters = count => count === null ? "more than 256 registers" : counted(count, "register");
 const nameOf = (loop, place) => loop.operations[place].name;
 function listed(words, most = 8) {
   const shown = words.length > most ? [...words.slice(0, most - 1), counted(words.length - most + 1, "other")] : words;
@@ -71,6 +72,7 @@ function told(loop, place) {
   if (loop.kernel) {
     parts.push("issued in cycle " + it.time + ": stage " + it.stage + ", row " + it.row, "alternative " + it.alternative);
     if (!it.makes) parts.push("lands " + cycles(it.latency) + " later, in cycle " + (it.time + it.latency));
+    if (it.slack !== undefined) parts.push("slack " + cycles(it.slack));
   } else if (!it.makes) parts.push("latency " + cycles(it.latency), "height " + it.height);
   return it.makes ? [...parts, ...toldOfProblem(loop, it)] : parts;
 }
@@ -94,18 +96,19 @@ function evidence(loop, it) {
     case "table": return which + " collides with itself by each of its alternatives";
     case "budget": return "when all placements were made, " + which + " had no place";
     case "stages": return which + " would be issued in cycle " + it.time + ", in stage 64 or later";
-    default: return "no register is left for " + which + ", which lives from cycle " + it.first + " to cycle " + it.last;
+    default: return "no register is left for " + which + ", which lives from cycle " + it.first + " to cycle " + it.last
+      + (it.need === undefined ? "" : "; all values need " + neededRegisters(it.need));
   }
 }
-function unitsAsk(loop, they = "units") {
+function unitsNeed(loop, they = "units") {
   const full = loop.units.filter(it => it.full);
   const told = full.map(it => it.name + (it.users ? " (" + names(loop, it.users.map(user => user.operation)) + ")" : ""));
-  return they + " ask for " + cycles(loop.resources) + ", by " + listed(told, isOfProblems ? 8 : 3);
+  return they + " need " + cycles(loop.resources) + ", by " + listed(told, isOfProblems ? 8 : 3);
 }
-function recurrencesAsk(loop, they = "recurrences") {
-  if (!loop.circuit) return "no recurrence asks for more than 1 cycle";
+function recurrencesNeed(loop, they = "recurrences") {
+  if (!loop.circuit) return "no recurrence needs more than 1 cycle";
   const { delay, distance } = loop.circuit;
-  return they + " ask for " + cycles(loop.recurrences) + ", since a circuit of dependences takes " + cycles(delay) + " over " + counted(distance, "iteration")
+  return they + " need " + cycles(loop.recurrences) + ", since a circuit of dependences takes " + cycles(delay) + " over " + counted(distance, "iteration")
     + " (" + circuitNames(loop) + ")";
 }
 function circuitNames(loop) {
@@ -115,11 +118,11 @@ function circuitNames(loop) {
 }
 function whyHeld(loop) {
   const held = loop.kernel.held_by, before = loop.tried && loop.tried[loop.tried.length - 2];
-  if (held === "neither") return "That is above " + loop.mii + ", the greater of its bounds: " + unitsAsk(loop) + "; " + recurrencesAsk(loop) + ".";
-  if (held === "units") return "Units hold it: " + unitsAsk(loop, "they") + "; " + recurrencesAsk(loop) + ".";
-  if (held === "recurrences") return "Recurrences hold it: " + recurrencesAsk(loop, "they") + "; " + unitsAsk(loop) + ".";
-  if (held === "both") return "Units and recurrences hold it: " + unitsAsk(loop) + "; " + recurrencesAsk(loop) + ".";
-  if (held === "one cycle") return "No interval is shorter than one cycle: " + unitsAsk(loop) + "; " + recurrencesAsk(loop) + ".";
+  if (held === "neither") return "That is above " + loop.mii + ", the greater of its bounds: " + unitsNeed(loop) + "; " + recurrencesNeed(loop) + ".";
+  if (held === "units") return "Units hold it: " + unitsNeed(loop, "they") + "; " + recurrencesNeed(loop) + ".";
+  if (held === "recurrences") return "Recurrences hold it: " + recurrencesNeed(loop, "they") + "; " + unitsNeed(loop) + ".";
+  if (held === "both") return "Units and recurrences hold it: " + unitsNeed(loop) + "; " + recurrencesNeed(loop) + ".";
+  if (held === "one cycle") return "No interval is shorter than one cycle: " + unitsNeed(loop) + "; " + recurrencesNeed(loop) + ".";
   const word = { registers: "Registers hold", table: "A reservation table holds", budget: "The budget holds",
     stages: "The number of stages holds" }[held];
   return word + " it above " + loop.mii + ", the greater of its bounds: at " + before.interval + ", " + evidence(loop, before) + ".";
@@ -129,20 +132,25 @@ function summary(loop) {
   if (!kernel) return [
     make("b", {}, isOfProblems && loop.mii === loop.failed_to ? "The interval " + loop.mii + " gives no solution."
       : "No interval from " + loop.mii + " to " + loop.failed_to + " gives a " + ANSWER + "."), " At " + loop.failed_to + ", "
-      + evidence(loop, loop.evidence || loop.tried[loop.tried.length - 1]) + ". Its bounds: " + unitsAsk(loop) + "; " + recurrencesAsk(loop) + "."];
+      + evidence(loop, loop.evidence || loop.tried[loop.tried.length - 1]) + ". Its bounds: " + unitsNeed(loop) + "; " + recurrencesNeed(loop) + "."];
   return [
     make("b", {}, "A new iteration begins every " + (kernel.ii === 1 ? "cycle" : cycles(kernel.ii)) + "."), " " + whyHeld(loop)
+      + (isLeast(kernel) && kernel.held_by !== "one cycle" ? " No schedule that keeps the dependences and the units has a shorter interval." : "")
       + " An iteration takes "
       + cycles(span) + " and goes through " + counted(kernel.stages, "stage") + ", so that "
         + (kernel.stages === 1 ? "one is" : "up to " + kernel.stages + " are")
-      + " under way at a time. " + kernel.files.filter(it => it.values.length || !it.name).map(fileSays).join(" ")
+      + " under way at a time. " + (kernel.extra_turns === undefined ? "" : "N iterations take " + turnsOf(kernel) + " turns. ")
+      + kernel.files.filter(it => it.values.length || !it.name).map(fileSays).join(" ")
       + (kernel.unroll > 1 ? " With " + kernel.unroll + " copies of the body each instance of a value has a name of its own." : "")];
 }
-function fileSays({ name, registers, max_live: most }) {
+const isLeast = kernel => kernel.least_possible === true;
+const turnsOf = kernel => "N" + (kernel.extra_turns ? " + " + kernel.extra_turns : "");
+function fileSays({ name, registers, max_live: most, values, need }) {
   if (registers === null) return "At most " + counted(most, "instance") + " of values in " + name + (most === 1 ? " is" : " are") + " live at once.";
-  return "At most " + most + " of " + counted(registers, "rotating register") + (name ? " of " + name : "") + (most === 1 ? " holds" : " hold") + " a value at once.";
+  return "At most " + most + " of " + counted(registers, "rotating register") + (name ? " of " + name : "") + (most === 1 ? " holds" : " hold") + " a value at once."
+    + (need === undefined || !values.length ? "" : " The schedule needs " + neededRegisters(need) + ".");
 }
-const spanOf = loop => loop.kernel ? greatest(loop.operations.map(it => it.time + it.done), 1) : 0;
+const spanOf = loop => loop.kernel ? loop.kernel.cycles || greatest(loop.operations.map(it => it.time + it.done), 1) : 0;
 
 // How wide a chart may be before it is scrolled, in pixels.
 let widest = 0;
@@ -217,14 +225,16 @@ function following(marks, now, key, across) {
   return best;
 }
 
+// In how many hundredths of the interval a unit is held in so many rows, rounded down.
+const percentOf = ({ ii, percent }, unit, rows) => percent ? percent[unit] : Math.floor(100 * rows / ii);
 // The kernel: rows by units. Where a great interval has rows without operations, they are drawn as one.
 function kernelChart(loop) {
   const { ii, units, slots, idle_units: idle } = loop.kernel, files = loop.kernel.files.filter(it => it.values.length || !it.name);
   const taken = range(ii).map(() => []), uses = units.map(() => 0);
   for (const it of slots) { taken[it.row][it.unit] = it.operation; uses[it.unit]++; }
-  const head = units.map((unit, at) => make("th", { scope: "col", title: unit + " is held in " + uses[at] + " of " + cycles(ii) + " ("
-    + Math.round(100 * uses[at] / ii) + " %)" },
-    cut(unit).split("_").flatMap((word, at) => (at ? ["_", make("wbr"), word] : word)), make("span", { class: "bar" }, make("i", { style: "width:" + 100 * uses[at] / ii + "%" }))));
+  const head = units.map((unit, at) => make("th", { scope: "col", abbr: unit, title: unit + " is held in " + uses[at] + " of " + cycles(ii) },
+    make("span", { class: "unit" }, cut(unit).split("_").flatMap((word, at) => (at ? ["_", make("wbr"), word] : word))),
+    make("span", { class: "bar" }, make("i", { style: "width:" + 100 * uses[at] / ii + "%" })), make("span", { class: "percent" }, percentOf(loop.kernel, at, uses[at]) + " %")));
   const rows = [];
   for (let row = 0; row < ii; row++) {
     let end = row;
@@ -244,7 +254,7 @@ function kernelChart(loop) {
   const says = "Which operation takes each unit in each cycle of a turn. The small number is its stage."
     + (slots.some(it => loop.operations[it.operation].row !== it.row) ? " Slanted: the unit is held after the row of the issue." : "")
     + (idle ? " " + counted(idle, "unit") + " of the machine " + (idle === 1 ? "has" : "have") + " no operation." : "");
-  const key = stageKey(loop.kernel.stages, swatch(rect(1, 5, 14, 4, { style: "fill:var(--meter)" }), "share of the turn in which the unit is held"),
+  const key = stageKey(loop.kernel.stages, swatch(rect(1, 5, 14, 4, { style: "fill:var(--meter)" }), "share of the interval in which the unit is held"),
     files.length > 0 && make("li", {}, files.every(it => it.registers !== null) ? "live: registers with a value" : "live: instances of values"));
   return figure(loop, "kernel", "Kernel: " + cycles(ii) + " by " + counted(units.length, "unit"), says, chart, key, null);
 }
@@ -286,18 +296,19 @@ function iterationChart(loop) {
     stuck(1, 1, rect(0, 0, left - 4, top - 3, { class: "bandB" }), letters(6, 13, "stage", { class: "soft" }),
       letters(6, 29, "cycle", { class: "soft" })));
   const says = "Each operation in the cycle of its issue, by time. What is dashed are the same operations of the next two iterations, " + cycles(ii)
-    + " and " + cycles(2 * ii) + " later.";
+    + " and " + cycles(2 * ii) + " later." + (hasSlack(loop) ? " The slack of an operation is by how many cycles it could be issued later with all others where they are: each dependence"
+    + " is kept then, and the iteration takes no longer." : "");
   const key = stageKey(stages, swatch(rect(1, 1, 20, 12, { class: "ghost c0" }), "later iterations"),
     swatch(rect(1, 5, 20, 4, { class: "tail" }), isOfProblems ? "until the last result lands" : "until the result lands"));
   return figure(loop, "iteration", "One iteration: " + cycles(span) + ", " + counted(stages, "stage"), says, chart, key,
     opening("Operations as a table", () => operationTable(loop)));
 }
+const hasSlack = loop => loop.operations.some(it => it.slack !== undefined);
 function operationTable(loop) {
   if (isOfProblems) return problemTable(loop);
-  const heads = ["operation", "name", "opcode", "latency", "height"], classes = ["n", "mono", "", "n", "n", "n", "n", "n", "n"];
-  const rows = loop.operations.map((it, at) => [at, it.name, it.opcode, it.latency, it.height].concat(loop.kernel
-    ? [it.time, it.stage, it.row, it.alternative] : []));
-  return table(heads.concat(loop.kernel ? ["time", "stage", "row", "alternative"] : []), rows, classes);
+  const keys = ["name", "opcode", "latency", "height", ...(loop.kernel ? ["time", "stage", "row", "alternative"] : []), ...(hasSlack(loop) ? ["slack"] : [])];
+  return table(["operation", ...keys], loop.operations.map((it, at) => [at, ...keys.map(key => it[key])]),
+    ["n", ...keys.map(key => ({ name: "mono", opcode: "" })[key] ?? "n")]);
 }
 
 function problemTable(loop) {
@@ -328,7 +339,7 @@ function registerLabel({ name, registers }, it, fold) {
   return [register, (name ? cut(name, 16) + "." : "r") + register];
 }
 function registerChart(loop, file) {
-  const { ii } = loop.kernel, { live, max_live: most, registers } = file;
+  const { ii } = loop.kernel, { live, max_live: most, registers, need } = file;
   const folds = foldsOf(loop.kernel, file), lanes = [...new Set(folds.map(it => it.line))], labels = new Map(folds.map(it => [it.line, it.label]));
   const longest = greatest(folds.map(it => it.it.name.length), 3), fitting = Math.max(300 / ii, CHAR * longest + 14);
   const left = Math.max(92, 22 + CHAR * greatest(folds.map(it => it.label.length), 0)), top = 84, high = 20, base = 50;
@@ -356,7 +367,8 @@ function registerChart(loop, file) {
     : "Which value each register holds in each row of the turn, by the name that the turn gives it. "
     + "A value that lives on goes to the next higher name at the end of the turn. "
     + counted(lanes.length, "name") + " of " + registers + (lanes.length === 1 ? " is" : " are") + " in use; " + most + (most === 1 ? " is" : " are")
-      + " live at once at the most (MaxLive).";
+      + " live at once at the most (MaxLive)." + (need === undefined ? "" : " The least number of registers with which this schedule has an allotment is "
+      + (need === null ? "more than 256." : need + "."));
   const alternative = opening("Live ranges as a table", () => table(["value", "first cycle", "last cycle", "cycles", registers === null ? "copies" : "register"],
     file.values.map(it => [it.name, it.first, it.last, it.last - it.first + 1, registers === null ? it.copies : it.register]), ["mono", "n", "n", "n", "n"]));
   const title = "Live ranges " + (file.name ? "in " + file.name + " " : "") + "over the turn: MaxLive " + most + (registers === null ? "" : " of " + registers);
@@ -559,7 +571,7 @@ function graphNode(loop, it, y) {
       [...told(loop, it.place), waits.length ? "waits for: " + listed(waits) : "waits for nothing"]);
 }
 function circuitSays(loop) {
-  if (!loop.circuit) return "No circuit of dependences asks for more than an interval of 1 cycle.";
+  if (!loop.circuit) return "No circuit of dependences needs an interval of more than 1 cycle.";
   const edges = loop.circuit.edges.map(at => loop.edges[at]), { delay, distance, needs } = loop.circuit;
   const quotient = distance > 1 ? delay + " / " + distance + (delay % distance ? ", rounded up to " : " = ") : "";
   const sum = (numbers, whole) => numbers.length > 1 ? "s are " + numbers.join(" + ").replace(/\+ -/g, "- ") + " = " + whole : " is " + whole;
@@ -571,11 +583,12 @@ function circuitSays(loop) {
 }
 function graphFigure(loop, chart, drawn, shown) {
   const left = loop.edges.length - shown, kinds = ["value", "memory", "anti", "output", "order"].filter(kind => loop.edges.some(it => it.kind === kind));
-  const says = circuitSays(loop) + " Dashed edges go to a later iteration. A label is the delay in cycles, and behind @ the distance in iterations."
+  const says = circuitSays(loop)
+    + (kinds.length ? " Dashed edges go to a later iteration. A label is the delay in cycles, and after the @ the distance in iterations." : "")
     + (loop.kernel ? "" : " For want of a schedule the rows are the earliest cycles by the dependences within one iteration.")
     + (left ? " " + counted(left, "dependence") + (isOfProblems ? " " : " through memory ") + (left === 1 ? "is" : "are")
       + " left out of the picture and stand in the table." : "");
-  const alternative = opening(counted(loop.edges.length, "dependence") + " as a table (" + kinds.join(", ") + ")", () => edgeTable(loop, loop.edges));
+  const alternative = opening(counted(loop.edges.length, "dependence") + " as a table" + (kinds.length ? " (" + kinds.join(", ") + ")" : ""), () => edgeTable(loop, loop.edges));
   const only = loop.circuit && make("label", {}, make("input", { type: "checkbox" }), " the critical circuit alone");
   if (only) only.firstChild.addEventListener("change", event => drawn.classList.toggle("only", event.target.checked));
   return figure(loop, "graph", "Dependences: " + counted(loop.edges.length, "edge") + " of " + counted(loop.operations.length, "operation"), says,
@@ -585,224 +598,4 @@ function edgeTable(loop, edges) {
   return table(["from", "to", "kind", "delay", "distance"], edges.map(it => [it.from + " " + nameOf(loop, it.from), it.to + " " + nameOf(loop, it.to),
     kindOf(loop, it), it.delay, it.distance]), ["mono", "mono", "", "n", "n"]);
 }
-
-// Tables.
-function part(title, says, ...inside) {
-  return make("div", { class: "part" }, make("h3", {}, title), says && make("p", { class: "said" }, says), inside);
-}
-function triedPart(loop) {
-  const rows = (loop.tried || [loop.evidence]).map(it => Object.assign([it.interval, it.outcome, evidence(loop, it)], { taken: it.outcome === "kernel" }));
-  return part(loop.tried ? "Tried intervals" : "Last interval", null, make("div", { class: "scroll", "data-part": "tried" },
-    table(["interval", "outcome", "evidence"], rows, ["n", "", ""])));
-}
-function unitPart(loop) {
-  const ii = loop.kernel ? loop.kernel.ii : loop.mii, places = new Map((loop.kernel ? loop.kernel.units : []).map((name, at) => [name, at]));
-  const held = at => loop.kernel.slots.filter(it => it.unit === at).length, share = count => Math.round(100 * count / ii) + " %";
-  if (isOfProblems) return problemUnits(loop, at => (places.has(at) ? held(places.get(at)) : 0), share);
-  const all = [...loop.units, ...[...places.keys()].filter(name => !loop.units.some(it => it.name === name)).map(name => ({ name, uses: 0,
-    users: [] }))];
-  const rows = all.map(it => {
-    const inKernel = loop.kernel ? (places.has(it.name) ? held(places.get(it.name)) : 0) : null;
-    const bar = make("span", { class: "bar", "aria-hidden": "true" },
-      make("i", { style: "width:" + Math.min(100, 100 * (inKernel === null ? it.uses : inKernel) / ii) + "%" }));
-    const users = it.users.map(user => nameOf(loop, user.operation) + (user.uses > 1 ? "*" + user.uses : "")).join(" ");
-    return [make("span", { class: "mono" }, it.name), it.uses + (it.full ? " full" : ""),
-      ...(inKernel === null ? [] : [make("span", { class: "whole" }, bar, inKernel + ", " + share(inKernel))]),
-      make("span", { class: "mono" }, users)];
-  });
-  const heads = ["unit", "bound", ...(loop.kernel ? ["kernel"] : []), "operations"];
-  return part("Units", "In how many cycles of an iteration each is held: as the bound counts it, with the operations of that count"
-    + (loop.kernel ? ", and in the kernel." : "."), make("div", { class: "scroll", "data-part": "units" }, table(heads, rows)));
-}
-function problemUnits(loop, held, share) {
-  const rows = loop.units.map(({ name, full }) => {
-    const count = loop.kernel && held(name), bar = loop.kernel && make("span", { class: "bar", "aria-hidden": "true" },
-      make("i", { style: "width:" + 100 * count / loop.kernel.ii + "%" }));
-    return [make("span", { class: "mono" }, name), full ? "full" : "", ...(loop.kernel ? [make("span", { class: "whole" }, bar, count + ", " + share(count))] : [])];
-  });
-  return part("Units", "Full are those that the bound of " + cycles(loop.resources) + " is due to." + (loop.kernel ? " In the kernel each is held in so many cycles of a turn." : ""),
-    make("div", { class: "scroll named", "data-part": "units" }, table(["unit", "bound", ...(loop.kernel ? ["kernel"] : [])], rows)));
-}
-function filePart(loop) {
-  const { kernel, values, files } = loop, initial = kernel ? kernel.initial : [];
-  const rows = files.map((file, at) => {
-    const its = values.filter(it => it.file === at), mono = words => make("span", { class: "mono" }, words);
-    const before = initial.filter(it => values[it.value].file === at).map((it, at) => [at ? ", " : "",
-      make("span", { class: "whole" }, file.name + "." + it.register + " = " + values[it.value].name + " @" + it.distance)]);
-    return [mono(file.name), file.registers === null ? "unallotted" : file.registers, ...(kernel ? [kernel.files[at].max_live] : []),
-      mono(its.map(it => it.name).join(" ")), ...(initial.length ? [mono(before)] : [])];
-  });
-  const says = [initial.length > 0 && "Before the first turn some registers have to hold values of earlier iterations: x @2 is the value x of 2 iterations before the first one.",
-    kernel && kernel.unroll > 1 && "The body is repeated " + kernel.unroll + " times, so that each instance of an unallotted value has a name of its own."].filter(it => it);
-  const heads = ["file", "registers", ...(kernel ? ["MaxLive"] : []), "values", ...(initial.length ? ["before the first turn"] : [])];
-  return part("Register files", says.join(" "), make("div", { class: "scroll named", "data-part": "files" }, table(heads, rows, ["", "n", kernel ? "n" : ""])));
-}
-function circuitPart(loop) {
-  if (!loop.circuit) return part("Critical circuit", circuitSays(loop));
-  const { delay, distance, needs } = loop.circuit, it = edgeTable(loop, loop.circuit.edges.map(at => loop.edges[at]));
-  it.append(make("tfoot", {}, make("tr", { class: "taken" },
-    ["sum", "", "needs " + needs, delay, distance].map((text, at) => make("td", { class: at > 2 ? "n" : null }, text)))));
-  return part("Critical circuit", null, make("div", { class: "scroll", "data-part": "circuit" }, it));
-}
-function factsOf(loop) {
-  const kernel = loop.kernel, operations = loop.operations.length;
-  const facts = kernel ? [[kernel.ii, "interval, in cycles"],
-    [kernel.held_by, kernel.held_by === "neither" ? "bound holds it" : "hold" + (kernel.held_by.endsWith("s") || kernel.held_by === "both" ? "" : "s") + " it"]]
-    : [["none", "interval up to " + loop.failed_to], [loop.cause, "cause at " + loop.failed_to]];
-  facts.push([loop.mii, "MII"], [loop.resources, "ResMII, by units"], [loop.recurrences, "RecMII, by recurrences"]);
-  if (kernel) facts.push([kernel.stages, kernel.stages === 1 ? "stage" : "stages"], [spanOf(loop), "cycles an iteration"],
-    ...kernel.files.filter(it => it.values.length || !it.name).map(it => [it.max_live + (it.registers === null ? "" : " of " + it.registers),
-      it.name ? "live in " + cut(it.name) : "registers live"]));
-  if (kernel && kernel.unroll) facts.push([kernel.unroll, kernel.unroll === 1 ? "copy of the body" : "copies of the body"]);
-  facts.push([operations, operations === 1 ? "operation" : "operations"]);
-  return make("ul", { class: "facts" }, facts.map(([number, says]) => make("li", {}, make("b", {}, number), make("span", {}, says))));
-}
-function sectionOf(loop) {
-  const files = loop.kernel ? loop.kernel.files.filter(it => it.values.length || !it.name) : [];
-  const charts = loop.kernel ? [kernelChart(loop), files.map(it => registerChart(loop, it)), iterationChart(loop)] : [];
-  return make("section", { class: "loop", "aria-labelledby": ONE + "-" + loop.name, "data-loop": loop.name },
-    make("h2", { id: ONE + "-" + loop.name, tabindex: -1 }, loop.name), make("p", { class: "summary" }, summary(loop)), factsOf(loop),
-    make("div", { class: "charts" }, charts, graphChart(loop), make("div", { class: "stack" }, (loop.tried || loop.evidence) && triedPart(loop), loop.values && filePart(loop), unitPart(loop),
-      circuitPart(loop))));
-}
-
-// The list of loops.
-const MOST = 4;
-const ratioOf = loop => loop.kernel ? loop.kernel.ii / loop.mii : Infinity;
-const intervalOf = loop => loop.kernel ? loop.kernel.ii : Infinity;
-const holderOf = loop => loop.kernel ? loop.kernel.held_by : loop.cause;
-const heldBy = loop => "held by " + holderOf(loop) + (holderOf(loop) === "neither" ? " bound" : "");
-const ORDERS = { file: () => 0, ratio: (a, b) => ratioOf(b) - ratioOf(a) || 0, interval: (a, b) => intervalOf(b) - intervalOf(a) || 0,
-  name: (a, b) => (a.name < b.name ? -1 : 1) };
-function entryOf(loop, most) {
-  const ratio = loop.kernel ? Math.min(ratioOf(loop), MOST) : 0, says = loop.kernel ? loop.kernel.ii + " / " + loop.mii : "no " + ANSWER;
-  const spoken = loop.kernel ? loop.name + ", interval " + loop.kernel.ii + ", MII " + loop.mii + ", " + heldBy(loop) : loop.name
-    + ", no " + ANSWER + " up to " + loop.failed_to + ", " + loop.cause;
-  const bar = make("span", { class: "ratio" + (loop.kernel ? "" : " none"), "aria-hidden": "true" }, loop.kernel
-    && [make("i", { style: "width:" + 100 / most + "%" }), make("i", { style: "width:" + 100 * (ratio - 1) / most + "%" })]);
-  const link = make("a", { href: "#" + ONE + "-" + encodeURIComponent(loop.name), "aria-label": spoken, title: heldBy(loop), tabindex: -1 },
-    make("span", { class: "name" }, make("span", {}, loop.name), make("span", {}, says)), bar);
-  return make("li", {}, link);
-}
-const loops = isOfProblems ? whole.problems.map(ofProblem) : (whole.loops || []).map(ofLoop), byName = new Map(loops.map(it => [it.name, it]));
-const list = byId("list"), main = byId("main"), tip = byId("tip"), entries = new Map(), links = () => [...list.querySelectorAll("a")];
-let shown = loops; // those that the filter leaves, in their order
-let drawing = 0; // which call of `show` is at work
-let pointed = null; // the mark that the tip tells of
-
-function relist() {
-  const words = byId("filter").value.toLowerCase().split(/\s+/).filter(it => it);
-  const fits = it => words.every(word => (it.name + " " + holderOf(it) + (it.kernel ? "" : " no " + ANSWER)).toLowerCase().includes(word));
-  shown = loops.filter(fits).sort(ORDERS[byId("order").value]);
-  list.replaceChildren(...shown.map(it => entries.get(it)));
-  byId("shown").textContent = shown.length === loops.length ? "" : counted(shown.length, ONE) + " of " + loops.length;
-  if (!list.querySelector('a[tabindex="0"]') && shown.length) entries.get(shown[0]).firstChild.tabIndex = 0;
-}
-function stopAt(entry) {
-  for (const it of links()) it.tabIndex = -1;
-  entry.tabIndex = 0;
-}
-// The first loop is drawn at once. The others follow by and by, so that the page answers meanwhile, unless something else is to be shown.
-function drawNext(what, mine) {
-  const section = sectionOf(what[0]);
-  main.append(section);
-  seeGraph(section.querySelector("[data-chart=graph] .scroll"));
-  main.setAttribute("aria-busy", what.length > 1);
-  if (what.length > 1) setTimeout(() => mine === drawing && drawNext(what.slice(1), mine));
-}
-function show(what, isAsked) {
-  main.replaceChildren();
-  widest = clamp(520, main.clientWidth - 90, 2400);
-  if (what.length) drawNext(what, ++drawing);
-  for (const it of list.querySelectorAll("a[aria-current]")) it.removeAttribute("aria-current");
-  if (what.length === 1) {
-    const entry = entries.get(what[0]).firstChild;
-    stopAt(entry);
-    entry.setAttribute("aria-current", "true");
-    if (entry.isConnected) entry.scrollIntoView({ block: "nearest" });
-  }
-  window.scrollTo(0, 0);
-  if (isAsked && what.length) main.querySelector("h2").focus();
-}
-function addressed() {
-  try {
-    return decodeURIComponent(location.hash.replace("#" + ONE + "-", ""));
-  } catch (fault) {
-    return ""; // (a % that stands for no byte)
-  }
-}
-// Shows what the address says after #, or the first loop.
-function follow(isAsked) {
-  if (location.hash === "#all") return show(shown, isAsked);
-  const loop = byName.get(addressed());
-  if (loop || !isAsked) show(loop ? [loop] : loops.slice(0, 1), isAsked);
-}
-// What is told of an operation is told beside the pointer or the focus, and the operation stands out in all charts of its loop.
-function heat(node) {
-  for (const it of document.querySelectorAll(".hot")) it.classList.remove("hot");
-  for (const it of document.querySelectorAll(".quiet")) it.classList.remove("quiet");
-  const place = node && node.dataset.op, section = node && node.closest("section");
-  tip.hidden = !node || !tips.has(node);
-  if (!section) return;
-  const near = ["op", "from", "to"].map(it => "[data-" + it + '="' + place + '"]').join(", ");
-  for (const it of section.querySelectorAll(near)) it.classList.add("hot");
-  section.querySelector(".graph").classList.add("quiet");
-  if (tip.hidden) return;
-  tip.textContent = tips.get(node);
-  pointed = node;
-  beside();
-}
-function beside() {
-  const box = pointed.getBoundingClientRect(), own = tip.getBoundingClientRect();
-  tip.style.left = clamp(4, box.left, Math.max(innerWidth - own.width - 4, 4)) + "px";
-  tip.style.top = (box.bottom + own.height + 10 < innerHeight ? box.bottom + 6 : Math.max(box.top - own.height - 6, 4)) + "px";
-}
-function walk(event) {
-  const all = links(), at = all.indexOf(document.activeElement);
-  const to = { ArrowDown: at + 1, ArrowUp: at - 1, Home: 0, End: all.length - 1 }[event.key];
-  if (to === undefined || !all[to]) return;
-  event.preventDefault();
-  stopAt(all[to]);
-  all[to].focus();
-}
-// A table that is wider than paper is made smaller there. (A drawing is anyway.)
-function fitPaper() {
-  for (const it of document.querySelectorAll(".scroll")) it.style.setProperty("--fit", Math.min(1, 660 / it.scrollWidth));
-}
-function listen() {
-  main.addEventListener("mouseover", event => heat(event.target.closest("[data-op]")));
-  main.addEventListener("mouseleave", () => heat(null));
-  main.addEventListener("focusin", event => heat(event.target.closest("[data-op]")));
-  main.addEventListener("focusout", () => heat(null));
-  list.addEventListener("keydown", walk);
-  byId("filter").addEventListener("input", relist);
-  byId("order").addEventListener("change", relist);
-  byId("all").addEventListener("click", () => (location.hash === "#all" ? show(shown, true) : (location.hash = "all")));
-  addEventListener("scroll", () => tip.hidden || beside(), { capture: true, passive: true });
-  addEventListener("keydown", event => event.key === "Escape" && heat(null));
-  addEventListener("hashchange", () => follow(true));
-  addEventListener("beforeprint", fitPaper);
-}
-function start() {
-  const most = greatest(loops.map(it => it.kernel ? Math.min(ratioOf(it), MOST) : 1), 1);
-  for (const it of loops) entries.set(it, entryOf(it, most));
-  byId("counts").textContent = counted(loops.length, ONE) + ", "
-    + (whole.failed ? whole.met + " with a " + ANSWER + ", " + whole.failed + " without" : loops.length ? "each with a " + ANSWER : "nothing to show");
-  document.title = (loops.length === 1 ? loops[0].name : counted(loops.length, ONE)) + " \u2013 Modsched report";
-  if (isOfProblems) {
-    document.querySelector(".skip").textContent = "Skip to the problem";
-    byId("side").setAttribute("aria-label", "Problems");
-    document.querySelector(".both span").textContent = "problem";
-  }
-  listen();
-  relist();
-  follow(false);
-}
-if (whole.version === 1) start();
-else main.append(make("p", {}, "The document of this page has the version " + whole.version + ", which the page does not know."));
-document.documentElement.dataset.ready = Math.round(performance.now());
-})();
-</script>
-</body>
-</html>
-"##;
+"#;

@@ -4,6 +4,8 @@ use Rattle.std.specs.List.{AllZip, range_with_len}
 use Rattle.std.proofs.lemmas.List.FromFn.{map-range_with_len_more}
 use Rattle.std.proofs.lemmas.Slice.Zip.{all_zipped_more}
 use Rattle.ims.specs.Problems.{ProblemData, IsProblem, mii_of}
+use Rattle.figures.specs.declared.figures.Figures.{Figures}
+use Rattle.figures.specs.Figures.{AreFigures}
 use Rattle.candidates.specs.declared.evidence.Met.{Met}
 use Rattle.candidates.specs.declared.evidence.Reason.{Reason}
 use Rattle.candidates.specs.declared.evidence.Tried.TheVariants as tried
@@ -40,11 +42,12 @@ told-more p above mii last cause reason reasons is same t fails by =
           (all_zipped_more (FailsFor p) (range_with_len (mii_of p) above) reasons (mii_of p + above) reason t.are h);
     }
 
-pub told-met : (p : ProblemData) (above mii : ℕ) (last : Cause) (reasons : Vec Reason Global) (met : Met) → mii ≡ mii_of p
-    → AreTold p above last reasons.items → IsMet p (mii + above) met → above ≤ p.ceiling → IsTold p (record { reasons = reasons; chosen = chosen.Met (mii + above) met })
-told-met p above mii last reasons met same t is few = record {
+pub told-met : (p : ProblemData) (above mii : ℕ) (last : Cause) (reasons : Vec Reason Global) (met : Met) (figures : Figures) → mii ≡ mii_of p
+    → AreTold p above last reasons.items → IsMet p (mii + above) met → AreFigures met.schedule figures → above ≤ p.ceiling
+    → IsTold p (record { reasons = reasons; chosen = chosen.Met (mii + above) met figures })
+told-met p above mii last reasons met figures same t is figured few = record {
   is_choice = met_here p above mii last met.kernel t.risen (tried-is_given p (mii + above) (tried.Met met) is) few same;
-  has_evidence = is;
+  has_evidence = record { is_met = is; are_figures = figured };
   are_reasons = subst (λ n. AllZip (FailsFor p) (range_with_len (mii_of p) n) reasons.items) (count mii (mii_of p) above same) t.are;
 }
   where

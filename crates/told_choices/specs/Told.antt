@@ -2,6 +2,9 @@
 use Rattle.std.specs.Prelude.{ℕ, ◌+◌, ◌-◌}
 use Rattle.std.specs.List.{AllZip, range_with_len}
 use Rattle.ims.specs.Problems.{ProblemData, mii_of}
+use Rattle.figures.specs.declared.figures.Figures.{Figures}
+use Rattle.figures.specs.Figures.{AreFigures}
+use Rattle.candidates.specs.declared.evidence.Met as evidence
 use Rattle.candidates.specs.declared.choices.Choice.{Choice}
 use Rattle.candidates.specs.declared.choices.Choice.TheVariants as choice
 use Rattle.candidates.specs.Choices.{IsChoice, IsUnmet}
@@ -12,12 +15,17 @@ use Rattle.told_choices.specs.declared.told.Told.{Told}
 
 -- what is chosen, without the evidence
 abbrev pub choice_of : Chosen → Choice
-choice_of (Met ii met) = choice.Met ii met.kernel
+choice_of (Met ii met figures) = choice.Met ii met.kernel
 choice_of (Failed cause) = choice.Failed cause
 
--- the schedule and the registers are those that the interval gives, where there is one
+-- the schedule and the registers are those that the interval gives, and the figures are the schedule's
+pub record IsMetWith (problem : ProblemData) (ii : ℕ) (met : evidence.Met) (figures : Figures) : Type 0 where
+  pub is_met : IsMet problem ii met
+  pub are_figures : AreFigures met.schedule figures
+
+-- that, where there is an interval
 abbrev pub HasEvidence : ProblemData → Chosen → Type 0
-HasEvidence problem (Met ii met) = IsMet problem ii met
+HasEvidence problem (Met ii met figures) = IsMetWith problem ii met figures
 HasEvidence problem (Failed cause) = IsUnmet problem cause
 
 -- how many intervals are tried that give no kernel: all before the chosen one, or all

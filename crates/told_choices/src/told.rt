@@ -5,6 +5,7 @@ ghost use Rattle.told_choices.specs.Told.{IsTold};
 
 use crate::chosen::Chosen;
 use candidates::{Cause, Reason, Trials, Tried};
+use figures::figures_of;
 use ims::Prepared;
 use machine_data::OutOfMemory;
 use std::alloc::Global;
@@ -19,7 +20,7 @@ pub struct Told<'a> {
 }
 
 /// The choice of a loop, as [`first_success`](candidates::first_success) makes it, by one attempt at each interval: with the
-/// schedule and the registers of its kernel, and why each interval that was tried gives none.
+/// schedule, its figures and the registers of its kernel, and why each interval that was tried gives none.
 ///
 /// # Errors
 /// Memory ran out.
@@ -34,9 +35,10 @@ pub fn choose_told<'a>(alloc: Global, prepared: &'a Prepared) -> Result<Told<'a>
         match trials.try_told(alloc, ii) {
             Err(fault) => return Err(fault),
             Ok(Tried::Met(met)) => {
+                let figures = figures_of(alloc, &met.schedule)?;
                 return Ok(Told {
                     reasons,
-                    chosen: Chosen::Met(ii, met),
+                    chosen: Chosen::Met(ii, met, figures),
                 });
             }
             Ok(Tried::Failed(reason)) => {

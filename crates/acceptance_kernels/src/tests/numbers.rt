@@ -1,12 +1,13 @@
-//! Numbers of registers that are given for schedules that are given.
+//! Numbers of registers that are given for schedules that are given, and the figures of schedules.
 
 ghost use Rattle.rotating.specs.Allotments.{Suits};
 
+use figures::figures_of;
 use ims::{Prepared, Schedule};
 use kernel::kernel_text;
 use loops::read_loops;
 use machine::read_machine;
-use rotating::{Allotment, emit};
+use rotating::{Allotment, emit, last_landing, least_registers};
 use std::alloc::Global;
 use std::test::Fail;
 use worked_texts::{ACC, M1};
@@ -134,6 +135,70 @@ fn numbers_that_are_given(rt: HostRuntime) -> Result<(), Fail> {
     for case in &OTHERS {
         let text = found(rt.alloc(), case)?;
         assert_eq!(rt; text.as_str(), case.wanted, "{:?}", case.numbers);
+    }
+    Ok(())
+}
+
+/// The figures of a case: how long an iteration takes, the slack of each operation, and how many registers its values need.
+struct Wanted {
+    case: Case,
+    cycles: u64,
+    slacks: &'static [u64],
+    need: u64,
+}
+
+/// The running sum; with its store two cycles later, which the sum can wait for three cycles, and which keeps one value more alive; and two
+/// operations that nothing waits for but the end of the iteration.
+const FIGURED: [Wanted; 3] = [
+    Wanted {
+        case: SUMMING,
+        cycles: 6,
+        slacks: &[0, 1, 0],
+        need: 3,
+    },
+    Wanted {
+        case: Case {
+            places: &[(0, 0), (3, 0), (7, 0)],
+            ..SUMMING
+        },
+        cycles: 8,
+        slacks: &[0, 3, 0],
+        need: 4,
+    },
+    Wanted {
+        case: Case {
+            machine: SLOW,
+            text: KEPT,
+            ii: 1,
+            places: &[(0, 0), (0, 0)],
+            ..SUMMING
+        },
+        cycles: 3,
+        slacks: &[2, 0],
+        need: 4,
+    },
+];
+
+#[test]
+fn figures_of_schedules(rt: HostRuntime) -> Result<(), Fail> {
+    for wanted in &FIGURED {
+        let prepared = prepared(rt.alloc(), &wanted.case)?;
+        let ii = u64::from(wanted.case.ii).clamp(1, 16384);
+        let schedule = Schedule::check(rt.alloc(), &prepared, ii, wanted.case.places)?.ok_or(
+            "no schedule",
+        )?;
+        let figures = figures_of(rt.alloc(), &schedule)?;
+        assert_eq!(rt; figures.cycles, wanted.cycles, "{}", wanted.case.text);
+        assert_eq!(rt;
+            figures.slacks.as_slice(),
+            wanted.slacks,
+            "{}",
+            wanted.case.text
+        );
+        assert_eq!(rt; figures.need, Some(wanted.need), "{}", wanted.case.text);
+        assert_eq!(rt; last_landing(&schedule), wanted.cycles);
+        let need = least_registers(rt.alloc(), &schedule)?;
+        assert_eq!(rt; need, Some(wanted.need));
     }
     Ok(())
 }

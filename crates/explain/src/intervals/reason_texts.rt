@@ -14,6 +14,7 @@ use loop_data::Loop;
 use machine_data::OutOfMemory;
 use machine_data::limits::MAX_STATEMENTS;
 use rotating::Lifetime;
+use schedule_lines::push_need;
 use writing::{Text, push_told};
 
 /// Appends the name of an operation after a blank.
@@ -46,14 +47,21 @@ fn push_late(text: &mut Vec<u8>, innermost: &Loop, op: usize, time: u64) -> Resu
     push_told(text, " at ", time)
 }
 
-/// Appends the name of a value and when it lives.
-fn push_life(text: &mut Vec<u8>, innermost: &Loop, life: Lifetime) -> Result<(), OutOfMemory>
+/// Appends the name of a value, when it lives, and how many registers all values need.
+fn push_life(
+    text: &mut Vec<u8>,
+    innermost: &Loop,
+    life: Lifetime,
+    need: Option<u64>,
+) -> Result<(), OutOfMemory>
     requires { life.operation < length innermost.now.statements }
-    ensures ok { OnOk result (text.new.items ≡ text.old.items ++ life_text innermost.now life) }
+    ensures ok { OnOk result (text.new.items ≡ text.old.items ++ life_text innermost.now life need) }
 {
     push_named(text, innermost, usize::from(life.operation))?;
     push_told(text, " lives ", life.first)?;
-    push_told(text, " to ", life.last)
+    push_told(text, " to ", life.last)?;
+    text.push_piece(", all need ")?;
+    push_need(text, need)
 }
 
 /// Appends what keeps an attempt from a schedule.
@@ -84,6 +92,6 @@ pub(crate) fn push_reason(
 {
     match reason {
         Reason::Attempt(culprit) => push_culprit(text, prepared, culprit),
-        Reason::Register(life) => push_life(text, prepared.innermost(), *life),
+        Reason::Register(life, need) => push_life(text, prepared.innermost(), *life, *need),
     }
 }

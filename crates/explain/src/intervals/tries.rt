@@ -106,7 +106,7 @@ fn push_end(
     ensures ok { OnOk result ((end : List ℕ) × IsEnd prepared.now need free (choice_of told.now.chosen) end × (text.new.items ≡ text.old.items ++ end)) }
 {
     match &told.chosen {
-        Chosen::Met(ii, met) => {
+        Chosen::Met(ii, met, _) => {
             let hold = hold_of(prepared, free, told.reasons.as_slice());
             let least = is_least_possible(prepared, need, *ii);
             push_met(text, *ii, met.kernel.parts().stages, hold, least)

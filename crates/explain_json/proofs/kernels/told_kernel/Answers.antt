@@ -12,5 +12,5 @@ returns c =
     let used = c.in_ok-used.ensures in
     let told = c.in_ok-told.ensures in
     IfOk-weaker c.told_with.result _ _
-    (λ v h. h ∙ (λ i. kernel_of (held i) (used.idle i) c.args.ii (c.is_least_possible-least.ensures i) (told.live i) (told.most i) (c.registers.ensures.value i) (used.slots i) (stages i) (used.units i) (told.values i)))
+    (λ v h. h ∙ (λ i. kernel_of c.args.figures.now (held i) (used.idle i) c.args.ii (c.is_least_possible-least.ensures i) (told.live i) (told.most i) (used.percents i) (c.registers.ensures.value i) (used.slots i) (stages i) (used.units i) (told.values i)))
     c.told_with.ensures

@@ -20,7 +20,7 @@ returns-in-Ok-Met c =
     let few : at.above ≤ p.ceiling = (let e = c.ceiling-above-end.ensures.value in let t = c.loop-above-test.true in omega arith) in
     let tried = subst (λ (q : ProblemData). IsTried q ii c.in-Ok-Met.field-0) at.invariant.same c.in-Ok-Met.ensures.exact in
     let is : IsMet p ii c.in-Ok-Met.met = subst (IsTried p ii) c.in-Ok-Met.field-0-is tried in
-    record { told = told-met p at.above c.mii.result at.last at.reasons c.in-Ok-Met.met c.mii.ensures.value at.invariant.told is few }
+    record { told = told-met p at.above c.mii.result at.last at.reasons c.in-Ok-Met.met c.in_ok-figures-in-Ok-Met.figures c.mii.ensures.value at.invariant.told is c.in_ok-figures-in-Ok-Met.ensures few }
 
 pub loop-above-preserved : goal.loop-above-preserved
 loop-above-preserved c =

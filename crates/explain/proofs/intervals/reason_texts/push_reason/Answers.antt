@@ -9,4 +9,4 @@ pub push_life-requires : goal.push_life-requires
 push_life-requires c =
     let p = c.args.prepared.now in
     let a = subst (λ (r : Reason). IsReason p c.requires.is.0 r) c.in-Register.is c.requires.is.1 in
-    subst (λ (l : LoopData). c.in-Register.life.operation < length l.statements) (sym c.innermost.ensures.value) (value-there p c.requires.is.0 c.in-Register.life a)
+    subst (λ (l : LoopData). c.in-Register.life.operation < length l.statements) (sym c.innermost.ensures.value) (value-there p c.requires.is.0 c.in-Register.life c.in-Register.need a)

@@ -1,0 +1,5 @@
+pub use Rattle.ims.specs.Schedules
+pub use Rattle.overlap.specs.Lifetimes
+pub use Rattle.rotating.specs.Needs
+pub mod Slacks
+pub mod Figures
