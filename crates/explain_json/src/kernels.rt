@@ -8,7 +8,7 @@ ghost use Rattle.candidates.specs.Reasons.{IsMet};
 ghost use Rattle.overlap.specs.Lifetimes.{lifetimes_of};
 ghost use Rattle.schedule_lines.specs.Columns.{used_units};
 ghost use Rattle.schedule_lines.specs.Slots.{greatest_live, live_counts, percent_of};
-ghost use Rattle.explain_json.specs.Parts.{array_of, count_value, counts_value};
+ghost use Rattle.explain_json.specs.Parts.{array_of, count_value, counts_value, need_value};
 ghost use Rattle.explain_json.specs.Units.{unit_name};
 ghost use Rattle.explain_json.specs.inner.Objects.{kernel_of};
 ghost use Rattle.explain_json.specs.Kernels.{kernel_object, slots_of, values_value};
@@ -104,6 +104,28 @@ fn told_schedule(
     })
 }
 
+/// What is told of the figures of a schedule.
+#[derive(Drop)]
+struct Figured {
+    cycles: u64,
+    /// How many turns more than iterations a run has.
+    extra_turns: u64,
+    need: Value,
+}
+
+/// What is told of the figures of a schedule that has so many stages.
+fn told_figures(figures: &Figures, stages: u64) -> Figured
+    ensures cycles { result.cycles ≡ figures.now.cycles }
+    ensures extra { result.extra_turns ≡ stages - 1 }
+    ensures need { view result.need ≡ need_value figures.now.need }
+{
+    Figured {
+        cycles: figures.cycles,
+        extra_turns: stages.saturating_sub(1),
+        need: told_need(figures.need),
+    }
+}
+
 /// A kernel, by what is told of it.
 fn told_with(
     alloc: Global,
@@ -114,21 +136,20 @@ fn told_with(
     stages: u64,
     used: Used,
     told: Scheduled,
-    figures: &Figures,
+    figured: Figured,
 ) -> Result<Value, OutOfMemory>
-    ensures { IfOk result (λ v. view v ≡ kernel_of figures.now held.now used.idle ii least (view told.live) told.max_live (view used.percents) registers (view used.slots) stages (view used.units) (view told.values)) }
+    ensures { IfOk result (λ v. view v ≡ kernel_of figured.cycles figured.extra_turns held.now used.idle ii least (view told.live) told.max_live (view figured.need) (view used.percents) registers (view used.slots) stages (view used.units) (view told.values)) }
 {
-    let need = told_need(figures.need);
     json!(in alloc; {
-        "cycles": figures.cycles,
-        "extra_turns": stages.saturating_sub(1),
+        "cycles": figured.cycles,
+        "extra_turns": figured.extra_turns,
         "held_by": held,
         "idle_units": used.idle,
         "ii": ii,
         "least_possible": least,
         "live": told.live,
         "max_live": told.max_live,
-        "need": need,
+        "need": figured.need,
         "percent": used.percents,
         "registers": registers,
         "slots": used.slots,
@@ -158,15 +179,17 @@ pub(crate) fn told_kernel(
     let told = told_schedule(alloc, prepared, ii, met)?;
     let held = hold_of(prepared, free, reasons).word();
     let least = is_least_possible(prepared, set.need, ii);
+    let stages = met.kernel.parts().stages;
+    let figured = told_figures(figures, stages);
     told_with(
         alloc,
         held,
         least,
         ii,
         prepared.registers(),
-        met.kernel.parts().stages,
+        stages,
         used,
         told,
-        figures,
+        figured,
     )
 }

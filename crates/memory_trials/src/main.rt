@@ -7,6 +7,7 @@ mod answers;
 mod bare;
 mod files;
 mod given;
+mod preparing;
 mod sharing;
 mod single;
 mod three;
@@ -30,6 +31,7 @@ fn try_all(rt: &(impl AllocGlobal + Print + Threads + Sync), three: &Three) -> i
     single::try_schedule(rt, prepared)?;
     sharing::try_workers(rt, three)?;
     files::try_file(rt)?;
+    preparing::try_prepared(rt)?;
     sharing::try_bare_board(rt)?;
     bare::try_tables(rt, prepared)?;
     bare::try_numbers(rt)

@@ -1,4 +1,3 @@
 pub mod Explaining
 pub mod Joining
 pub mod Scheduling
-pub mod Varying

@@ -1,7 +1,5 @@
-//! The parts of a text, one for each loop: how they are shared among workers, made and joined.
+//! The parts of a text, one for each loop: how they are shared among workers and joined.
 
-pub(crate) mod drawn;
 pub(crate) mod jobs;
 pub(crate) mod joined;
 pub(crate) mod part;
-pub(crate) mod slots;

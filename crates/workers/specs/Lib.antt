@@ -13,3 +13,4 @@ pub use Rattle.reports.specs.declared.entry.Entry
 pub use Rattle.reports.specs.declared.entry.Found
 pub use Rattle.board_workers.specs.Settled
 pub use Rattle.board_workers.specs.Worked
+pub mod inner

@@ -9,6 +9,7 @@ ghost use Rattle.candidates.specs.Choices.{IsChoice};
 ghost use Rattle.candidates.specs.Promises.{IsRight};
 ghost use Rattle.one_thread.specs.Files.{AnswersFile, AnswersOn, HaveCeiling, ListsFile, ListsProblems, PreparesAndLists};
 
+use crate::preparing::prepare_by_workers;
 use board_workers::{Gate, run_workers};
 use candidates::{Listing, Pieces, Settings};
 use collecting::{Chosen, gather};
@@ -16,7 +17,7 @@ use file_faults::FileFault;
 use ims::Prepared;
 use loops::{Loop, read_loops};
 use machine::{Machine, OutOfMemory, read_machine};
-use one_thread::{list_choices, prepare_all};
+use one_thread::list_choices;
 use std::alloc::Global;
 use std::thread::Threads;
 
@@ -78,7 +79,7 @@ pub fn pipeline_on<R: Threads + Sync, G: Gate + Sync>(
     requires few { vec_len loops ≤ 1024 }
     ensures exact { AnswersOn (PreparesAndLists settings.now.ratio settings.now.ceiling machine.now loops.items) (first_lacking machine.now loops.items) result }
 {
-    match prepare_all(alloc, machine, loops, settings) {
+    match prepare_by_workers(rt, alloc, machine, loops, settings) {
         Ok(prepared) => match list(rt, alloc, prepared.as_slice(), settings, gate) {
             Ok(listing) => Ok((prepared, listing)),
             Err(fault) => Err(FileFault::from(fault)),

@@ -1,14 +1,13 @@
 -- Objects of what is there.
-use Rattle.std.specs.Prelude.{ℕ, ◌-◌, ◌==◌, Bool, codes, List}
+use Rattle.std.specs.Prelude.{ℕ, ◌==◌, Bool, codes, List}
 use Rattle.serde_json.specs.Data.{Data, boolean, string, array, object, member, no_members}
 use Rattle.serde_json.specs.View.{items_of}
 use Rattle.machine_data.specs.Machines.{MachineData}
 use Rattle.graph.specs.Dependences.{EdgeData}
 use Rattle.graph.specs.Walks.{delay_of, distance_of}
 use Rattle.ims.specs.Problems.{ProblemData}
-use Rattle.figures.specs.declared.figures.Figures.{Figures}
 use Rattle.explain_json.specs.Edges.{place_of}
-use Rattle.explain_json.specs.Parts.{array_of, count_value, integer_value, need_value}
+use Rattle.explain_json.specs.Parts.{array_of, count_value, integer_value}
 use Rattle.explain_json.specs.Units.{unit_name, users_of}
 
 -- a unit that is used by so many rows
@@ -28,17 +27,17 @@ circuit_object edges bound circuit =
     (member (codes "needs") (count_value bound) no_members))))
 
 -- a kernel, by what is told of it
-abbrev pub kernel_of : Figures → List ℕ → ℕ → ℕ → Bool → Data → ℕ → Data → ℕ → Data → ℕ → Data → Data → Data
-kernel_of figures held idle ii least live most percents registers slots stages units values =
-    object (member (codes "cycles") (count_value figures.cycles)
-    (member (codes "extra_turns") (count_value (stages - 1))
+abbrev pub kernel_of : ℕ → ℕ → List ℕ → ℕ → ℕ → Bool → Data → ℕ → Data → Data → ℕ → Data → ℕ → Data → Data → Data
+kernel_of cycles extra held idle ii least live most need percents registers slots stages units values =
+    object (member (codes "cycles") (count_value cycles)
+    (member (codes "extra_turns") (count_value extra)
     (member (codes "held_by") (string held)
     (member (codes "idle_units") (count_value idle)
     (member (codes "ii") (count_value ii)
     (member (codes "least_possible") (boolean least)
     (member (codes "live") live
     (member (codes "max_live") (count_value most)
-    (member (codes "need") (need_value figures.need)
+    (member (codes "need") need
     (member (codes "percent") percents
     (member (codes "registers") (count_value registers)
     (member (codes "slots") slots

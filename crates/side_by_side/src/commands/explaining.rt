@@ -9,10 +9,9 @@ ghost use Rattle.printouts.specs.Explain.{IsExplainText};
 ghost use Rattle.side_by_side.specs.inner.Explained.{ExplainsPrepared, IsExplainedPart};
 ghost use Rattle.side_by_side.specs.inner.Parts.{met_of};
 
-use crate::parts::jobs::{Jobs, loop_jobs};
+use crate::parts::jobs::loop_jobs;
 use crate::parts::joined::joined;
 use crate::parts::part::Part;
-use crate::parts::slots::parts_of;
 use explain::{Explained, push_last, push_prepared};
 use file_faults::FileFault;
 use ims::Prepared;
@@ -21,6 +20,7 @@ use machine::{Machine, OutOfMemory};
 use one_thread::prepare_all;
 use printouts::{Printout, explain_text};
 use settings::Settings;
+use shared_jobs::{Jobs, parts_of};
 use std::alloc::Global;
 use std::thread::Threads;
 

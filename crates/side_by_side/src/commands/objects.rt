@@ -8,8 +8,7 @@ ghost use Rattle.file_faults.specs.Answers.{AnswersOn};
 ghost use Rattle.printouts.specs.ExplainDocuments.{AreObjects, IsExplainDocument, IsExplainPage, IsObjectOf};
 
 use crate::commands::explaining::EXPLAINED;
-use crate::parts::jobs::{Jobs, loop_jobs};
-use crate::parts::slots::parts_of;
+use crate::parts::jobs::loop_jobs;
 use file_faults::FileFault;
 use ims::Prepared;
 use loops::Loop;
@@ -17,6 +16,7 @@ use machine::{Machine, OutOfMemory};
 use one_thread::prepare_all;
 use printouts::{Object, Printout, explain_objects, object_of, objects_document, objects_page};
 use settings::Settings;
+use shared_jobs::{Jobs, parts_of};
 use std::alloc::Global;
 use std::thread::Threads;
 

@@ -5,15 +5,14 @@ ghost use Rattle.std.specs.List.{All};
 ghost use Rattle.file_faults.specs.Answers.{AnswersOn};
 ghost use Rattle.printouts.specs.Plain.{IsPlainText, plain_lines};
 
-use crate::parts::jobs::{Jobs, shared};
 use crate::parts::joined::joined;
 use crate::parts::part::Part;
-use crate::parts::slots::parts_of;
 use file_faults::FileFault;
 use loops::Loop;
 use machine::OutOfMemory;
 use printouts::{Printout, plain_text, push_last, push_plain};
 use settings::Trip;
+use shared_jobs::{Jobs, parts_of, shared};
 use std::alloc::Global;
 use std::thread::Threads;
 

@@ -10,15 +10,14 @@ ghost use Rattle.printouts.specs.Run.{choice_lines, told_lines};
 ghost use Rattle.printouts.specs.Schedule.{are_met};
 
 use crate::commands::plain::run_work;
-use crate::parts::jobs::{Jobs, shared};
 use crate::parts::joined::joined;
 use crate::parts::part::Part;
-use crate::parts::slots::parts_of;
 use candidates::Listing;
 use ims::Prepared;
 use machine::OutOfMemory;
 use printouts::{Printout, are_met, push_choice, push_counts, run_printout};
 use settings::Trip;
+use shared_jobs::{Jobs, parts_of, shared};
 use std::alloc::Global;
 use std::thread::Threads;
 

@@ -9,10 +9,9 @@ ghost use Rattle.scheduled_printouts.specs.Graphs.{AreScheduledGraphs};
 ghost use Rattle.side_by_side.specs.inner.Parts.{met_of};
 ghost use Rattle.side_by_side.specs.inner.Scheduled.{DrawsPrepared, IsDrawnPart};
 
-use crate::parts::jobs::{Jobs, loop_jobs};
+use crate::parts::jobs::loop_jobs;
 use crate::parts::joined::joined;
 use crate::parts::part::Part;
-use crate::parts::slots::parts_of;
 use file_faults::FileFault;
 use ims::Prepared;
 use loops::Loop;
@@ -21,6 +20,7 @@ use one_thread::prepare_all;
 use printouts::Printout;
 use scheduled_printouts::{push_graph, scheduled_text};
 use settings::Settings;
+use shared_jobs::{Jobs, parts_of};
 use std::alloc::Global;
 use std::thread::Threads;
 

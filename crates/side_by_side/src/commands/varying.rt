@@ -11,8 +11,6 @@ ghost use Rattle.variants.specs.Texts.{IsVaryText};
 ghost use Rattle.variants.specs.Totals.{IsVaryTotal};
 ghost use Rattle.machine_data.specs.declared.limits.TheConstants.{MAX_LOOPS};
 
-use crate::parts::jobs::{Jobs, shared};
-use crate::parts::slots::parts_of;
 use file_faults::FileFault;
 use ims::Prepared;
 use loops::Loop;
@@ -20,6 +18,7 @@ use machine::{Machine, OutOfMemory};
 use one_thread::prepare_all;
 use printouts::Printout;
 use settings::Settings;
+use shared_jobs::{Jobs, parts_of, shared};
 use std::alloc::Global;
 use std::thread::Threads;
 use variants::{

@@ -1,4 +1,4 @@
-use Rattle.std.proofs.Common.{◌∙◌, ap}
+use Rattle.std.proofs.Common.{◌-◌, ◌∙◌, ap}
 use Rattle.std.proofs.lemmas.Result.{IfOk-weaker}
 use Rattle.kernel.specs.declared.kernels.parts.Parts.{Parts}
 use Rattle.told_choices.specs.Holds.{hold_word}
@@ -11,6 +11,7 @@ returns c =
     let stages = ap (λ (k : Parts). k.stages) c.parts.ensures.value in
     let used = c.in_ok-used.ensures in
     let told = c.in_ok-told.ensures in
+    let figured = c.told_figures-figured.ensures in
     IfOk-weaker c.told_with.result _ _
-    (λ v h. h ∙ (λ i. kernel_of c.args.figures.now (held i) (used.idle i) c.args.ii (c.is_least_possible-least.ensures i) (told.live i) (told.most i) (used.percents i) (c.registers.ensures.value i) (used.slots i) (stages i) (used.units i) (told.values i)))
+    (λ v h. h ∙ (λ i. kernel_of (figured.cycles i) ((figured.extra ∙ ap (λ n. n - 1) stages) i) (held i) (used.idle i) c.args.ii (c.is_least_possible-least.ensures i) (told.live i) (told.most i) (figured.need i) (used.percents i) (c.registers.ensures.value i) (used.slots i) (stages i) (used.units i) (told.values i)))
     c.told_with.ensures
