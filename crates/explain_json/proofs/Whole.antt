@@ -145,11 +145,10 @@ kernel-whole : (machine : MachineData) (set : UnitSet) (free : Bool) (p : Proble
     → IsWhole (kernel_object machine set free p reasons ii met figures)
 kernel-whole machine set free p reasons ii met figures =
     let used = used_units machine met.schedule in
-    neither _ _ (counts-whole (live_counts met.schedule))
-    (neither _ _ (need-whole figures.need)
-    (neither _ _ (array-whole (λ unit. count_value (percent_of met.schedule unit)) used (λ _. refl))
+    neither _ _ (neither _ _ (need-whole figures.need) (neither _ _ (array-whole (λ unit. count_value (percent_of met.schedule unit)) used (λ _. refl)) refl))
+    (neither _ _ (counts-whole (live_counts met.schedule))
     (neither _ _ (items-whole (slots_of met.schedule used) (slots-whole met.schedule used))
-    (neither _ _ (names-whole machine used) (neither _ _ (values-whole (lifetimes_of met.schedule) met.allotment.numbers) refl)))))
+    (neither _ _ (names-whole machine used) (neither _ _ (values-whole (lifetimes_of met.schedule) met.allotment.numbers) refl))))
 
 with-whole : (given : Given) (heights : List ℕ) (edges : List Data) (chosen : Chosen) → AreWhole edges
     → IsWhole (object_with given.machine given.set (length given.circuit == 0) given.problem given.told.reasons.items (members_of given heights edges chosen) chosen)

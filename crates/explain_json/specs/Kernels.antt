@@ -50,23 +50,28 @@ value_object life number =
 abbrev pub values_value : List Lifetime → List ℕ → Data
 values_value lives numbers = array_of (λ k. value_object (slice_index_or lives k nobody) (slice_index numbers k)) (range_with_len 0 (length lives))
 
+-- the figures of a schedule that has so many stages, with in how many hundredths of the interval each unit is taken
+abbrev pub figures_object : Figures → ℕ → Data → Data
+figures_object figures stages percents =
+    object (member (codes "cycles") (count_value figures.cycles)
+    (member (codes "extra_turns") (count_value (stages - 1))
+    (member (codes "need") (need_value figures.need)
+    (member (codes "percent") percents no_members))))
+
 -- the kernel of an interval, with the figures of its schedule: free tells that no circuit needs the recurrence-constrained bound, and the
 -- reasons are those of the intervals before
 abbrev pub kernel_object : MachineData → UnitSet → Bool → ProblemData → List Reason → ℕ → Met → Figures → Data
 kernel_object machine set free problem reasons ii met figures =
     let used = used_units machine met.schedule in
-    object (member (codes "cycles") (count_value figures.cycles)
-    (member (codes "extra_turns") (count_value (met.kernel.stages - 1))
+    object (member (codes "figures") (figures_object figures met.kernel.stages (array_of (λ unit. count_value (percent_of met.schedule unit)) used))
     (member (codes "held_by") (string (hold_word (hold_by problem free reasons)))
     (member (codes "idle_units") (count_value (length machine.units - length used))
     (member (codes "ii") (count_value ii)
     (member (codes "least_possible") (boolean (is_least_possible problem set.need ii))
     (member (codes "live") (counts_value (live_counts met.schedule))
     (member (codes "max_live") (count_value (greatest_live met.schedule))
-    (member (codes "need") (need_value figures.need)
-    (member (codes "percent") (array_of (λ unit. count_value (percent_of met.schedule unit)) used)
     (member (codes "registers") (count_value problem.registers)
     (member (codes "slots") (array (items_of (slots_of met.schedule used)))
     (member (codes "stages") (count_value met.kernel.stages)
     (member (codes "units") (array_of (λ unit. string (unit_name machine unit)) used)
-    (member (codes "values") (values_value (lifetimes_of met.schedule) met.allotment.numbers) no_members)))))))))))))))
+    (member (codes "values") (values_value (lifetimes_of met.schedule) met.allotment.numbers) no_members))))))))))))

@@ -8,10 +8,10 @@ ghost use Rattle.candidates.specs.Reasons.{IsMet};
 ghost use Rattle.overlap.specs.Lifetimes.{lifetimes_of};
 ghost use Rattle.schedule_lines.specs.Columns.{used_units};
 ghost use Rattle.schedule_lines.specs.Slots.{greatest_live, live_counts, percent_of};
-ghost use Rattle.explain_json.specs.Parts.{array_of, count_value, counts_value, need_value};
+ghost use Rattle.explain_json.specs.Parts.{array_of, count_value, counts_value};
 ghost use Rattle.explain_json.specs.Units.{unit_name};
 ghost use Rattle.explain_json.specs.inner.Objects.{kernel_of};
-ghost use Rattle.explain_json.specs.Kernels.{kernel_object, slots_of, values_value};
+ghost use Rattle.explain_json.specs.Kernels.{figures_object, kernel_object, slots_of, values_value};
 
 use crate::names::told_unit_names;
 use crate::slots::told_slots;
@@ -32,8 +32,8 @@ use unit_sets::UnitSet;
 struct Used {
     /// How many units of the machine no operation takes.
     idle: usize,
-    /// In how many hundredths of the interval each unit is taken.
-    percents: Value,
+    /// The figures of the schedule, and in how many hundredths of the interval each unit is taken.
+    figures: Value,
     slots: Value,
     units: Value,
 }
@@ -63,18 +63,44 @@ fn slots_in(
     Ok((used, percents, slots))
 }
 
-/// What is told of the units that operations take.
-fn used_of(alloc: Global, machine: &Machine, met: &Met) -> Result<Used, OutOfMemory>
+/// The figures of a schedule that has so many stages, with in how many hundredths of the interval each unit is taken.
+fn told_figures(
+    alloc: Global,
+    figures: &Figures,
+    stages: u64,
+    percents: Value,
+) -> Result<Value, OutOfMemory>
+    ensures { IfOk result (λ v. view v ≡ figures_object figures.now stages (view percents)) }
+{
+    let extra_turns = stages.saturating_sub(1);
+    let need = told_need(figures.need);
+    json!(in alloc; {
+        "cycles": figures.cycles,
+        "extra_turns": extra_turns,
+        "need": need,
+        "percent": percents
+    })
+}
+
+/// What is told of the units that operations take, and of the figures of a schedule that has so many stages.
+fn used_of(
+    alloc: Global,
+    machine: &Machine,
+    met: &Met,
+    figures: &Figures,
+    stages: u64,
+) -> Result<Used, OutOfMemory>
     ensures idle { IfOk result (λ u. u.idle ≡ length machine.now.units - length (used_units machine.now met.now.schedule)) }
-    ensures percents { IfOk result (λ u. view u.percents ≡ array_of (λ unit. count_value (percent_of met.now.schedule unit)) (used_units machine.now met.now.schedule)) }
+    ensures figures { IfOk result (λ u. view u.figures ≡ figures_object figures.now stages (array_of (λ unit. count_value (percent_of met.now.schedule unit)) (used_units machine.now met.now.schedule))) }
     ensures slots { IfOk result (λ u. view u.slots ≡ array (items_of (slots_of met.now.schedule (used_units machine.now met.now.schedule)))) }
     ensures units { IfOk result (λ u. view u.units ≡ array_of (λ unit. string (unit_name machine.now unit)) (used_units machine.now met.now.schedule)) }
 {
     let (used, percents, slots) = slots_in(alloc, machine, met)?;
+    let figures = told_figures(alloc, figures, stages, percents)?;
     let units = told_unit_names(alloc, machine, used.as_slice())?;
     Ok(Used {
         idle: machine.units().len().saturating_sub(used.len()),
-        percents,
+        figures,
         slots,
         units,
     })
@@ -104,28 +130,6 @@ fn told_schedule(
     })
 }
 
-/// What is told of the figures of a schedule.
-#[derive(Drop)]
-struct Figured {
-    cycles: u64,
-    /// How many turns more than iterations a run has.
-    extra_turns: u64,
-    need: Value,
-}
-
-/// What is told of the figures of a schedule that has so many stages.
-fn told_figures(figures: &Figures, stages: u64) -> Figured
-    ensures cycles { result.cycles ≡ figures.now.cycles }
-    ensures extra { result.extra_turns ≡ stages - 1 }
-    ensures need { view result.need ≡ need_value figures.now.need }
-{
-    Figured {
-        cycles: figures.cycles,
-        extra_turns: stages.saturating_sub(1),
-        need: told_need(figures.need),
-    }
-}
-
 /// A kernel, by what is told of it.
 fn told_with(
     alloc: Global,
@@ -136,21 +140,17 @@ fn told_with(
     stages: u64,
     used: Used,
     told: Scheduled,
-    figured: Figured,
 ) -> Result<Value, OutOfMemory>
-    ensures { IfOk result (λ v. view v ≡ kernel_of figured.cycles figured.extra_turns held.now used.idle ii least (view told.live) told.max_live (view figured.need) (view used.percents) registers (view used.slots) stages (view used.units) (view told.values)) }
+    ensures { IfOk result (λ v. view v ≡ kernel_of (view used.figures) held.now used.idle ii least (view told.live) told.max_live registers (view used.slots) stages (view used.units) (view told.values)) }
 {
     json!(in alloc; {
-        "cycles": figured.cycles,
-        "extra_turns": figured.extra_turns,
+        "figures": used.figures,
         "held_by": held,
         "idle_units": used.idle,
         "ii": ii,
         "least_possible": least,
         "live": told.live,
         "max_live": told.max_live,
-        "need": figured.need,
-        "percent": used.percents,
         "registers": registers,
         "slots": used.slots,
         "stages": stages,
@@ -175,12 +175,11 @@ pub(crate) fn told_kernel(
     requires { IsMet prepared.now ii met.now }
     ensures { IfOk result (λ v. view v ≡ kernel_object machine.now set.now free prepared.now reasons.now ii met.now figures.now) }
 {
-    let used = used_of(alloc, machine, met)?;
+    let stages = met.kernel.parts().stages;
+    let used = used_of(alloc, machine, met, figures, stages)?;
     let told = told_schedule(alloc, prepared, ii, met)?;
     let held = hold_of(prepared, free, reasons).word();
     let least = is_least_possible(prepared, set.need, ii);
-    let stages = met.kernel.parts().stages;
-    let figured = told_figures(figures, stages);
     told_with(
         alloc,
         held,
@@ -190,6 +189,5 @@ pub(crate) fn told_kernel(
         stages,
         used,
         told,
-        figured,
     )
 }

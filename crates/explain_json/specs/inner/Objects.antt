@@ -27,20 +27,17 @@ circuit_object edges bound circuit =
     (member (codes "needs") (count_value bound) no_members))))
 
 -- a kernel, by what is told of it
-abbrev pub kernel_of : ℕ → ℕ → List ℕ → ℕ → ℕ → Bool → Data → ℕ → Data → Data → ℕ → Data → ℕ → Data → Data → Data
-kernel_of cycles extra held idle ii least live most need percents registers slots stages units values =
-    object (member (codes "cycles") (count_value cycles)
-    (member (codes "extra_turns") (count_value extra)
+abbrev pub kernel_of : Data → List ℕ → ℕ → ℕ → Bool → Data → ℕ → ℕ → Data → ℕ → Data → Data → Data
+kernel_of figures held idle ii least live most registers slots stages units values =
+    object (member (codes "figures") figures
     (member (codes "held_by") (string held)
     (member (codes "idle_units") (count_value idle)
     (member (codes "ii") (count_value ii)
     (member (codes "least_possible") (boolean least)
     (member (codes "live") live
     (member (codes "max_live") (count_value most)
-    (member (codes "need") need
-    (member (codes "percent") percents
     (member (codes "registers") (count_value registers)
     (member (codes "slots") slots
     (member (codes "stages") (count_value stages)
     (member (codes "units") units
-    (member (codes "values") values no_members)))))))))))))))
+    (member (codes "values") values no_members))))))))))))
