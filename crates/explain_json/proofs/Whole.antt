@@ -1,16 +1,14 @@
 -- What is told of a loop has whole numbers alone.
-use Rattle.std.proofs.Common.{◌≡◌, ℕ, zero, suc, ◌+◌, ◌-◌, ◌==◌, ℤ, pos, negsuc, Bool, false, ◌||◌, List, [], ◌∷◌, ◌++◌, length, map, Option, Some, None, refl, ap₂, ap, ◌∙◌}
+use Rattle.std.proofs.Common.{◌≡◌, ℕ, zero, suc, ◌+◌, ◌==◌, ℤ, pos, negsuc, Bool, false, ◌||◌, List, [], ◌∷◌, ◌++◌, length, map, Option, Some, None, refl, ap₂, ap, ◌∙◌}
 use Rattle.std.specs.Prelude.{filter, slice_index}
 use Rattle.std.specs.List.{AllZip, flat_map, range_with_len, slice_index_or}
-use Rattle.serde_json.specs.Data.{Data, number, string}
-use Rattle.serde_json.specs.Find.{of_integer}
+use Rattle.serde_json.specs.Data.{Data, string}
 use Rattle.serde_json.specs.View.{items_of}
 use Rattle.serde_json.specs.Written.{has_float, items_have_float}
 use Rattle.machine_data.specs.Machines.{MachineData}
 use Rattle.loop_data.specs.Loops.{LoopData}
 use Rattle.graph.specs.Dependences.{EdgeData}
 use Rattle.graph.specs.Walks.{delay_of}
-use Rattle.graph_text.specs.declared.kind.Kind.{Kind}
 use Rattle.ims.specs.Problems.{ProblemData, mii_of}
 use Rattle.ims.specs.Schedules.{ScheduleData}
 use Rattle.modulo.specs.declared.outcome.attempts.Culprit.TheVariants.{Blocked, Unplaced, Late}
@@ -33,7 +31,7 @@ use Rattle.explain_json.specs.Kernels.{kernel_object, row_slots, slot_objects, s
 use Rattle.explain_json.specs.Loops.{Given, members_of, object_of, object_with}
 use Rattle.explain_json.specs.Operations.{operation_object, operations_value, placed_object}
 use Rattle.explain_json.specs.Parts.{array_of, count_value, counts_value, integer_value, need_value}
-use Rattle.explain_json.specs.Tries.{chosen_try, failure_object, failures_from, tried_value}
+use Rattle.explain_json.specs.Tries.{chosen_try, failure_object, failures_from}
 use Rattle.explain_json.specs.Units.{operations_in, set_object, unit_name, unit_objects, units_of, units_value, use_by, user_objects, users_of, uses_of}
 
 -- a value, or each of some, has whole numbers alone

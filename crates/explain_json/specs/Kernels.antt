@@ -8,7 +8,6 @@ use Rattle.ims.specs.Problems.{ProblemData}
 use Rattle.ims.specs.Schedules.{ScheduleData}
 use Rattle.registers.specs.declared.lifetime.Lifetime.{Lifetime}
 use Rattle.registers.specs.Crowds.{nobody}
-use Rattle.overlap.specs.Allotments.{AllotmentData}
 use Rattle.overlap.specs.Lifetimes.{lifetimes_of}
 use Rattle.figures.specs.declared.figures.Figures.{Figures}
 use Rattle.candidates.specs.declared.evidence.Met.{Met}

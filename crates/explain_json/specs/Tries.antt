@@ -4,7 +4,6 @@ use Rattle.serde_json.specs.Data.{Data, string, array, object, member, no_member
 use Rattle.serde_json.specs.View.{items_of}
 use Rattle.ims.specs.Problems.{ProblemData, mii_of}
 use Rattle.modulo.specs.declared.outcome.attempts.Culprit.TheVariants.{Blocked, Unplaced, Late}
-use Rattle.registers.specs.declared.lifetime.Lifetime.{Lifetime}
 use Rattle.candidates.specs.declared.evidence.Reason.{Reason}
 use Rattle.candidates.specs.declared.evidence.Reason.TheVariants.{Attempt, Register}
 use Rattle.told_choices.specs.declared.chosen.Chosen.{Chosen}

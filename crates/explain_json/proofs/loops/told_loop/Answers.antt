@@ -1,7 +1,4 @@
-use Rattle.std.proofs.Common.{List, sym, subst}
-use Rattle.std.specs.Prelude.{IfOk}
-use Rattle.serde_json.specs.View.{view}
-use Rattle.candidates.specs.declared.evidence.Reason.{Reason}
+use Rattle.std.proofs.Common.{subst}
 use Rattle.told_choices.specs.declared.chosen.Chosen.{Chosen}
 use Rattle.told_choices.specs.Told.{HasEvidence}
 use Rattle.explain_json.proofs.loops.told_loop.Goals as goal
