@@ -34,3 +34,12 @@ module _ (text word : List ℕ) (at : ℕ) where
   pub key-not-led : led_at ≡ false → is_key_at text word at ≡ false
   unfolding is_key_at
   key-not-led fails = rw fails refl
+
+  pub key-no-word : is_word_at text word at ≡ false → is_key_at text word at ≡ false
+  key-no-word fails = key-not-led (ap (λ b. b && leads_on (drop (at + length word) text)) fails)
+
+  pub key-unled : leads_on (drop (at + length word) text) ≡ false → is_key_at text word at ≡ false
+  key-unled fails = key-not-led (ap (λ b. is_word_at text word at && b) fails ∙ and-false (is_word_at text word at))
+
+  pub key-led : comment_after false (take at text) ≡ false → is_word_at text word at ≡ true → leads_on (drop (at + length word) text) ≡ true → is_key_at text word at ≡ true
+  key-led clear there led = key-there clear (rw (there, led) refl)

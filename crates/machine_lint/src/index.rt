@@ -4,11 +4,11 @@ ghost use Rattle.std.specs.Prelude.{◌≡◌, ◌+◌, ◌++◌, ◌<◌, ◌�
 ghost use Rattle.std.specs.List.{before_first, find, list_all, position};
 ghost use Rattle.std.specs.List.Sorted.{IsNonDecreasingBy};
 ghost use Rattle.machine_data.specs.Opcodes.{same_word};
-ghost use Rattle.machine_lint.specs.Words.{comment_after, inside_from, is_key_at, is_key_byte, is_word_at, key_from, leads_on, table_from};
+ghost use Rattle.machine_lint.specs.Words.{comment_after, inside_from, is_key_at, is_key_byte, is_word_at, key_from, table_from};
 ghost use Rattle.machine_lint.specs.inner.Indexes.{begins_word, is_bare, is_break, mark_at, marks_in};
 
 use crate::place::{Place, START, place_at};
-use crate::search::{bare_at, bare_before, comments_on, find_key, is_key_byte, leads_on};
+use crate::search::{bare_at, bare_before, comments_on, find_key, is_key_byte, leads_from};
 use machine::OutOfMemory;
 use std::alloc::Global;
 use std::collections::BTreeMap;
@@ -83,14 +83,6 @@ fn bare_word(text: &[u8], at: usize) -> &[u8]
         Some(end) => &rest[..end],
         None => rest,
     }
-}
-
-/// Whether a text from an offset on leads on as after a key.
-fn leads_from(text: &[u8], at: usize) -> bool
-    requires { at ≤ length text.now }
-    ensures { result ≡ leads_on (drop at text.now) }
-{
-    leads_on(&text[at..])
 }
 
 /// Takes the marks of a word out.

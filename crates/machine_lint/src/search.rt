@@ -1,6 +1,6 @@
 //! Where the words of keys stand in a text.
 
-ghost use Rattle.std.specs.Prelude.{◌≡◌, ◌+◌, ◌≤◌, ◌<◌, ◌^◌, drop, length, ◌==◌, ◌&&◌, ◌||◌, if◌then◌else◌, false, IfSome, true};
+ghost use Rattle.std.specs.Prelude.{◌≡◌, ◌+◌, ◌≤◌, ◌<◌, ◌^◌, drop, length, ◌==◌, ◌||◌, if◌then◌else◌, false, IfSome, true};
 ghost use Rattle.machine_lint.specs.Words.{bare_at, bare_before, comment_after, first_key, first_word, is_blank, is_key_byte, is_mark, is_word_at, key_from, leads_on};
 
 /// Whether a byte may stand in a key without quotes.
@@ -63,7 +63,7 @@ fn is_mark(byte: u8) -> bool
 }
 
 /// Whether blanks and then `=`, `.` or `]` come first in a text.
-pub(crate) fn leads_on(text: &[u8]) -> bool
+fn leads_on(text: &[u8]) -> bool
     ensures { result ≡ leads_on text.now }
 {
     for byte in text {
@@ -95,27 +95,51 @@ fn ends_in_comment(text: &[u8]) -> bool
     begun
 }
 
-/// Whether a word stands at an offset, and what comes after a key comes after it.
-fn is_led_at(text: &[u8], word: &str, at: usize) -> bool
-    requires inside { at < length text.now }
-    requires short { length text.now < 2 ^ 32 }
-    ensures is { result ≡ (is_word_at text.now word.now at && leads_on (drop (at + length word.now) text.now)) }
-    ensures inside { result ≡ true → at + length word.now ≤ length text.now }
+/// Whether a text from an offset on leads on as after a key.
+pub(crate) fn leads_from(text: &[u8], at: usize) -> bool
+    requires { at ≤ length text.now }
+    ensures { result ≡ leads_on (drop at text.now) }
 {
-    is_word_at(text, word, at) && leads_on(&text[at + word.len()..])
+    leads_on(&text[at..])
 }
 
-/// The first place from an offset on at which a word stands as a key does.
+/// The same, where it may be known that it does not.
+fn leads_unless(stuck: bool, text: &[u8], at: usize) -> bool
+    requires inside { at ≤ length text.now }
+    requires stuck { stuck ≡ true → leads_on (drop at text.now) ≡ false }
+    ensures { result ≡ leads_on (drop at text.now) }
+{
+    !stuck && leads_from(text, at)
+}
+
+/// Whether a blank stands at an offset. Then a text leads on from the next one as from there.
+fn is_blank_at(text: &[u8], at: usize) -> bool
+    ensures { result ≡ true → leads_on (drop (at + 1) text.now) ≡ leads_on (drop at text.now) }
+{
+    match text.get(at) {
+        Some(byte) => is_blank(*byte),
+        None => false,
+    }
+}
+
+/// The first place from an offset on at which a word stands as a key does. Blanks are gone over once, also for a word of
+/// blanks.
 fn first_key(text: &[u8], word: &str, from: usize) -> Option<usize>
     requires short { length text.now < 2 ^ 32 }
     ensures is { result ≡ first_key text.now word.now from }
     ensures inside { IfSome result (λ at. at + length word.now ≤ length text.now) }
 {
     let mut begun = ends_in_comment(&text[..from.min(text.len())]);
+    let mut stuck = false;
     for at in from..text.len() {
-        if !begun && is_led_at(text, word, at) {
-            return Some(at);
+        let end = at + word.len();
+        if !begun && is_word_at(text, word, at) {
+            if leads_unless(stuck, text, end) {
+                return Some(at);
+            }
+            stuck = true;
         }
+        stuck = stuck && is_blank_at(text, end);
         begun = comments_on(begun, text[at]);
     }
     None
