@@ -1,6 +1,7 @@
 //! The line of a circuit that the recurrence-constrained lower bound is due to.
 
 ghost use Rattle.std.specs.Prelude.{◌≡◌, ◌≤◌, ◌++◌, List, length, IfOk, OnOk};
+ghost use Rattle.machine_data.specs.declared.limits.TheConstants.{MAX_STATEMENTS};
 ghost use Rattle.graph.specs.Dependences.{EdgeData};
 ghost use Rattle.outcome_text.specs.Notes.{IsCircuitOf, circuit_line, stops_of, sums_text};
 
@@ -20,7 +21,7 @@ use writing::{Text, push_signed, push_told};
 /// Memory ran out.
 pub fn circuit_of(alloc: Global, scheduling: &modulo::Problem) -> Result<Vec<Edge>, OutOfMemory>
     ensures exact { IfOk result (λ circuit. IsCircuitOf scheduling.now circuit.items) }
-    ensures few { IfOk result (λ circuit. length circuit.items ≤ 128) }
+    ensures few { IfOk result (λ circuit. length circuit.items ≤ MAX_STATEMENTS) }
 {
     let bound = scheduling.recurrences();
     if bound <= 1 {
@@ -57,7 +58,7 @@ fn push_circuit_line(
     draft: &Draft,
     circuit: &[Edge],
 ) -> Result<(), OutOfMemory>
-    requires few { length circuit.now ≤ 128 }
+    requires few { length circuit.now ≤ MAX_STATEMENTS }
     ensures ok { OnOk result (text.new.items ≡ text.old.items ++ circuit_line draft.now circuit.now) }
 {
     if circuit.is_empty() {

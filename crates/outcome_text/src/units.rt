@@ -1,9 +1,9 @@
 //! The line of the units that the resource-constrained lower bound is due to.
 
-ghost use Rattle.std.specs.Prelude.{◌≡◌, ℕ, ◌≤◌, ◌<◌, ◌==◌, ◌++◌, List, length, count_by, slice_index, IfOk, OnOk};
+ghost use Rattle.std.specs.Prelude.{◌≡◌, ℕ, ◌*◌, ◌≤◌, ◌<◌, ◌==◌, ◌++◌, List, length, count_by, slice_index, IfOk, OnOk};
 ghost use Rattle.std.specs.List.{All};
 ghost use Rattle.machine_data.specs.declared.alternative.Row.{Row};
-ghost use Rattle.machine_data.specs.declared.limits.TheConstants.{MAX_UNITS};
+ghost use Rattle.machine_data.specs.declared.limits.TheConstants.{MAX_ROWS, MAX_UNITS};
 ghost use Rattle.machine_data.specs.Alternative.{AreAlternatives};
 ghost use Rattle.graph.specs.Units.{chosen_rows, use_of};
 ghost use Rattle.resource_bound.specs.Choices.{rows_at};
@@ -11,6 +11,7 @@ ghost use Rattle.outcome_text.specs.Notes.{AreFullest, full_line, units_with};
 ghost use Rattle.outcome_text.specs.inner.Counts.{AreUses, IsCounted};
 
 use crate::listed::push_listed;
+use machine_data::limits::MAX_STATEMENTS;
 use machine_data::{Alternatives, OutOfMemory, Row};
 use problems::{Draft, Problem};
 use resource_bound::unit_choices_of;
@@ -22,7 +23,7 @@ pub fn rows_at<'a>(operations: &'a [Alternatives], choices: &[u8], number: usize
     requires there { number < length operations.now }
     requires chosen { number < length choices.now }
     ensures value { result.now ≡ rows_at operations.now choices.now number }
-    ensures few { length result.now ≤ 16 }
+    ensures few { length result.now ≤ MAX_ROWS }
 {
     let choice = usize::from(choices[number]);
     match operations[number].as_slice().get(choice) {
@@ -44,7 +45,7 @@ pub fn rows_with(rows: &[Row], unit: usize) -> u64
 /// How many of the rows of all choices use a unit; there are at most 128 operations.
 pub fn use_of(operations: &[Alternatives], choices: &[u8], unit: usize) -> u64
     requires each { length choices.now ≡ length operations.now }
-    requires few { length operations.now ≤ 128 }
+    requires few { length operations.now ≤ MAX_STATEMENTS }
     ensures { result ≡ use_of (chosen_rows operations.now choices.now) unit }
 {
     let mut uses = 0;
@@ -59,9 +60,9 @@ const UNITS: usize = 256;
 
 /// Adds to the count of each unit how many of the rows use it.
 fn count_rows(rows: &[Row], counts: &mut [u16])
-    requires few { length rows.now ≤ 16 }
+    requires few { length rows.now ≤ MAX_ROWS }
     requires long { length counts.old ≡ UNITS }
-    requires room { (unit : ℕ) → unit < UNITS → slice_index counts.old unit ≤ 2048 }
+    requires room { (unit : ℕ) → unit < UNITS → slice_index counts.old unit ≤ MAX_ROWS * MAX_STATEMENTS }
     ensures { IsCounted rows.now counts.old counts.new }
 {
     for row in rows {
@@ -74,7 +75,7 @@ fn count_rows(rows: &[Row], counts: &mut [u16])
 /// Counts how many of the rows of all choices use each unit.
 fn count_uses(operations: &[Alternatives], choices: &[u8], counts: &mut [u16])
     requires each { length choices.now ≡ length operations.now }
-    requires few { length operations.now ≤ 128 }
+    requires few { length operations.now ≤ MAX_STATEMENTS }
     requires long { length counts.old ≡ UNITS }
     requires none { (unit : ℕ) → slice_index counts.old unit ≡ 0 }
     ensures { AreUses (chosen_rows operations.now choices.now) counts.new }
@@ -115,7 +116,7 @@ fn units_with(
 ) -> Result<Vec<usize>, OutOfMemory>
     requires units { units ≤ MAX_UNITS }
     requires each { length choices.now ≡ length operations.now }
-    requires few { length operations.now ≤ 128 }
+    requires few { length operations.now ≤ MAX_STATEMENTS }
     ensures { IfOk result (λ full. full.items ≡ units_with units (chosen_rows operations.now choices.now) uses) }
 {
     let mut counts = [0; UNITS];
@@ -133,7 +134,7 @@ pub fn fullest_of(alloc: Global, problem: &Problem) -> Result<Vec<usize>, OutOfM
     ensures { IfOk result (λ units. AreFullest problem.now units.items) }
 {
     let scheduling = problem.scheduling();
-    prove!(scheduling.operations() <= 128);
+    prove!(scheduling.operations() <= MAX_STATEMENTS);
     let operations = scheduling.alternatives();
     let choices = unit_choices_of(alloc, operations)?;
     units_with(

@@ -1,6 +1,7 @@
 //! The edges that reads and orders come to.
 
 ghost use Rattle.std.specs.Prelude.{◌≡◌, ◌≤◌};
+ghost use Rattle.machine_data.specs.declared.limits.TheConstants.{MAX_STATEMENTS};
 ghost use Rattle.problems.specs.Drafts.{IsOrder, IsRead, IsWellFormed, order_edge, read_edge};
 
 use graph::Edge;
@@ -24,7 +25,7 @@ pub fn read_edge(draft: &Draft, read: Read) -> Edge
 
 /// The edge of an order.
 pub(crate) fn order_edge(operations: usize, order: Order) -> Edge
-    requires few { operations ≤ 128 }
+    requires few { operations ≤ MAX_STATEMENTS }
     requires order { IsOrder operations order }
     ensures { result ≡ order_edge order }
 {

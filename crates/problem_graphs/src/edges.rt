@@ -2,6 +2,7 @@
 
 ghost use Rattle.std.specs.Prelude.{◌≡◌, ◌<◌, ◌≤◌, ◌++◌, ℕ, List, length, IfOk, OnOk};
 ghost use Rattle.std.specs.List.{flat_map};
+ghost use Rattle.machine_data.specs.declared.limits.TheConstants.{MAX_STATEMENTS};
 ghost use Rattle.graph.specs.Walks.{AreHeights};
 ghost use Rattle.modulo.specs.Problems.{mii_of};
 ghost use Rattle.problems.specs.Drafts.{IsOrder, IsRead, IsWellFormed};
@@ -103,7 +104,7 @@ fn push_reads(text: &mut Vec<u8>, draft: &Draft) -> Result<(), OutOfMemory>
 
 /// Appends the line of an order.
 fn push_order(text: &mut Vec<u8>, draft: &Draft, order: Order) -> Result<(), OutOfMemory>
-    requires few { length draft.now.operations.items ≤ 128 }
+    requires few { length draft.now.operations.items ≤ MAX_STATEMENTS }
     requires order { IsOrder (length draft.now.operations.items) order }
     ensures ok { OnOk result (text.new.items ≡ text.old.items ++ order_line draft.now order) }
 {

@@ -1,6 +1,7 @@
 -- What a text of scheduling problems means: its lines, or the first line at fault with its first fault.
 use Rattle.std.specs.Prelude.{ℕ, ◌+◌, ◌||◌, nat_lt, Bool, if◌then◌else◌, List, [], ◌∷◌, ◌++◌, length, map, Option, Some, None, Result, Ok, Err, count_by}
 use Rattle.std.specs.List.{list_all}
+use Rattle.machine_data.specs.declared.limits.TheConstants.{MAX_DISTANCE, MAX_FILES, MAX_KINDS, MAX_LATENCY, MAX_OFFSET, MAX_ORDERS, MAX_ORDER_DISTANCE, MAX_READS, MAX_STATEMENTS, MAX_VALUES}
 use Rattle.loop_lines.specs.Words.{lines_of}
 use Rattle.problem_lines.specs.Forms.{Form, MachineLine, UnitsLine, FileLine, KindLine, ProblemLine, OpLine, ValueLine, ReadLine, EdgeLine, EndLine}
 use Rattle.problem_lines.specs.Lines.{LineForm, line_form}
@@ -31,38 +32,38 @@ abbrev pub meaning_faults : List Form → (Wrong → Told) → Form → List (Op
 meaning_faults before told (MachineLine name) = new (machines_in before) name ∷ []
 meaning_faults before told (UnitsLine names) = units_fault (units_in before) names ∷ []
 meaning_faults before told (FileLine name storage) =
-    room_at told (length (files_in before)) 8 part.Files ∷ new (files_in before) name ∷ storage_fault storage ∷ []
+    room_at told (length (files_in before)) MAX_FILES part.Files ∷ new (files_in before) name ∷ storage_fault storage ∷ []
 meaning_faults before told (KindLine name latency alternatives) =
-    room_at told (length (kinds_in before)) 256 part.Kinds
+    room_at told (length (kinds_in before)) MAX_KINDS part.Kinds
     ∷ new (kinds_in before) name
-    ∷ in_range 1 64 latency
+    ∷ in_range 1 MAX_LATENCY latency
     ∷ alternatives_fault (units_in before) 0 alternatives
     ∷ []
 meaning_faults before told (ProblemLine name) =
     room_at told (length (problems_in before)) 4096 part.Problems ∷ new (problems_in before) name ∷ []
 meaning_faults before told (OpLine name kind) =
-    room_at told (length (ops_in before)) 128 part.Operations ∷ new (ops_in before) name ∷ known (kinds_in before) part.Kinds kind ∷ []
+    room_at told (length (ops_in before)) MAX_STATEMENTS part.Operations ∷ new (ops_in before) name ∷ known (kinds_in before) part.Kinds kind ∷ []
 meaning_faults before told (ValueLine name maker lands file out) =
-    room_at told (length (values_in before)) 256 part.Values
+    room_at told (length (values_in before)) MAX_VALUES part.Values
     ∷ new (values_in before) name
     ∷ known (ops_in before) part.Operations maker
-    ∷ in_range 0 64 lands
+    ∷ in_range 0 MAX_LATENCY lands
     ∷ known (files_in before) part.Files file
     ∷ []
 meaning_faults before told (ReadLine reader value distance offset) =
-    room_at told (count_by is_read (problem_lines before)) 2048 part.Reads
+    room_at told (count_by is_read (problem_lines before)) MAX_READS part.Reads
     ∷ known (ops_in before) part.Operations reader
     ∷ known (values_in before) part.Values value
-    ∷ offset_fault 16 distance
-    ∷ offset_fault 63 offset
+    ∷ offset_fault MAX_DISTANCE distance
+    ∷ offset_fault MAX_OFFSET offset
     ∷ unless (reads_forward before reader value distance) (on_word value wrong.Backward)
     ∷ []
 meaning_faults before told (EdgeLine from to delay distance) =
-    room_at told (count_by is_edge (problem_lines before)) 16384 part.Edges
+    room_at told (count_by is_edge (problem_lines before)) MAX_ORDERS part.Edges
     ∷ known (ops_in before) part.Operations from
     ∷ known (ops_in before) part.Operations to
     ∷ delay_fault delay
-    ∷ in_range 0 255 distance
+    ∷ in_range 0 MAX_ORDER_DISTANCE distance
     ∷ unless (goes_forward before from to distance) (on_word to wrong.Backward)
     ∷ []
 meaning_faults before told EndLine = unless (nat_lt 0 (length (ops_in before))) (told (wrong.Count part.Operations)) ∷ []

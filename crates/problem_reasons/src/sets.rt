@@ -6,6 +6,7 @@ ghost use Rattle.problem_reasons.specs.Sets.{set_line};
 
 use graph::OfList;
 use machine_data::OutOfMemory;
+use machine_data::limits::MAX_STATEMENTS;
 use problem_graphs::push_unit_name;
 use problems::Problem;
 use reason_lines::{UnitNames, push_set_line};
@@ -39,7 +40,7 @@ fn set_of(alloc: Global, problem: &Problem) -> Result<UnitSet, OutOfMemory>
     ensures { IfOk result (IsFullest problem.now.scheduling.operations) }
 {
     let scheduling = problem.scheduling();
-    prove!(scheduling.operations() <= 128);
+    prove!(scheduling.operations() <= MAX_STATEMENTS);
     fullest_set(
         alloc,
         &OfList {

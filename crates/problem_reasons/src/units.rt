@@ -8,6 +8,7 @@ ghost use Rattle.problem_graphs.specs.Names.{unit_name};
 ghost use Rattle.problem_reasons.specs.Units.{AreUnitLines, line_with, unit_line, user_text, users_text};
 
 use machine_data::OutOfMemory;
+use machine_data::limits::MAX_STATEMENTS;
 use outcome_text::{rows_at, rows_with, use_of};
 use problem_graphs::{push_op_name, push_unit_name};
 use problems::{Draft, Problem};
@@ -109,7 +110,7 @@ pub(crate) fn push_units(
     ensures ok { OnOk result ((units : List ℕ) × AreUnitLines problem.now units × (text.new.items ≡ text.old.items ++ units)) }
 {
     let scheduling = problem.scheduling();
-    prove!(scheduling.operations() <= 128);
+    prove!(scheduling.operations() <= MAX_STATEMENTS);
     let choices = unit_choices_of(alloc, scheduling.alternatives())?;
     push_unit_lines(text, problem, choices.as_slice())
 }

@@ -1,7 +1,8 @@
 -- What is wrong with the words of a line, by the names that lines before it declare.
-use Rattle.std.specs.Prelude.{ℕ, ℤ, pos, negsuc, ◌+◌, ◌==◌, ◌&&◌, nat_lt, nat_le, int_le, not, Bool, true, false, List, [], ◌∷◌, ◌++◌, length, Option, Some, None}
+use Rattle.std.specs.Prelude.{ℕ, ℤ, neg_ℤ, ◌+◌, ◌==◌, ◌&&◌, nat_lt, nat_le, int_le, not, Bool, true, false, List, [], ◌∷◌, ◌++◌, length, Option, Some, None}
 use Rattle.std.specs.Option.{option_or}
 use Rattle.std.specs.List.{list_any}
+use Rattle.machine_data.specs.declared.limits.TheConstants.{MAX_DELAY, MAX_OFFSET, MAX_OPERATION_ALTERNATIVES, MAX_REGISTERS, MAX_ROWS, MAX_UNITS}
 use Rattle.machine_data.specs.Opcodes.{same_word}
 use Rattle.problem_lines.specs.Forms.{HoldForm}
 use Rattle.problem_lines.specs.Lines.{LineForm}
@@ -57,13 +58,13 @@ in_range least most n = unless (nat_le least n.value && nat_le n.value most) (on
 abbrev pub units_fault : List (List ℕ) → List Placed → Option Told
 units_fault units [] = None
 units_fault units (name ∷ names) = first_of (
-    room_at (on_word name) (length units) 64 part.Units
+    room_at (on_word name) (length units) MAX_UNITS part.Units
     ∷ new units name
     ∷ units_fault (units ++ name.bytes ∷ []) names
     ∷ [])
 
 abbrev pub storage_fault : Storage → Option Told
-storage_fault (Rotating registers) = in_range 1 256 registers
+storage_fault (Rotating registers) = in_range 1 MAX_REGISTERS registers
 storage_fault Unallotted = None
 
 -- a number that is not told is 0
@@ -82,9 +83,9 @@ offset_fault most (Some n) = in_range 0 most n
 abbrev pub holds_fault : List (List ℕ) → List HoldForm → List HoldForm → Option Told
 holds_fault units sofar [] = None
 holds_fault units sofar (hold ∷ holds) = first_of (
-    room_at (on_word hold.unit) (length sofar) 16 part.Holds
+    room_at (on_word hold.unit) (length sofar) MAX_ROWS part.Holds
     ∷ known units part.Units hold.unit
-    ∷ offset_fault 63 hold.offset
+    ∷ offset_fault MAX_OFFSET hold.offset
     ∷ unless (not (list_any (same_hold hold) sofar)) (on_word hold.unit wrong.Repeated)
     ∷ holds_fault units (sofar ++ hold ∷ []) holds
     ∷ [])
@@ -92,7 +93,7 @@ holds_fault units sofar (hold ∷ holds) = first_of (
 -- an alternative more, told at its first hold, is too many
 abbrev pub alternative_room : ℕ → List HoldForm → Option Told
 alternative_room count [] = None
-alternative_room count (hold ∷ holds) = room_at (on_word hold.unit) count 16 part.Alternatives
+alternative_room count (hold ∷ holds) = room_at (on_word hold.unit) count MAX_OPERATION_ALTERNATIVES part.Alternatives
 
 -- the alternatives of a kind, after `count` others
 abbrev pub alternatives_fault : List (List ℕ) → ℕ → List (List HoldForm) → Option Told
@@ -107,7 +108,7 @@ alternatives_fault units count (holds ∷ more) = first_of (
 
 abbrev pub delay_fits : Option ℤ → Bool
 delay_fits None = false
-delay_fits (Some delay) = int_le (negsuc 63) delay && int_le delay (pos 64)
+delay_fits (Some delay) = int_le (neg_ℤ MAX_DELAY) delay && int_le delay MAX_DELAY
 
 abbrev pub delay_fault : Integer → Option Told
 delay_fault delay = unless (delay_fits delay.value) (record { column = delay.column; width = delay.width; what = wrong.Range })

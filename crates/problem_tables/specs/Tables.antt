@@ -1,6 +1,7 @@
 -- What the lines so far have said, as lists: the first fault of the next line, and the lists with it.
 use Rattle.std.specs.Prelude.{ℕ, pos, ◌-◌, ◌&&◌, ◌||◌, not, nat_lt, Bool, true, false, if◌then◌else◌, List, [], ◌∷◌, ◌++◌, length, Option, unwrap_or}
 use Rattle.std.specs.List.{slice_index_or}
+use Rattle.machine_data.specs.declared.limits.TheConstants.{MAX_DISTANCE, MAX_FILES, MAX_KINDS, MAX_LATENCY, MAX_OFFSET, MAX_ORDERS, MAX_ORDER_DISTANCE, MAX_READS, MAX_STATEMENTS, MAX_VALUES}
 use Rattle.problem_lines.specs.Forms.{Form, MachineLine, UnitsLine, FileLine, KindLine, ProblemLine, OpLine, ValueLine, ReadLine, EdgeLine, EndLine, HoldForm}
 use Rattle.problem_lines.specs.Lines.{LineForm}
 use Rattle.problem_lines.specs.Words.{Placed}
@@ -120,42 +121,42 @@ abbrev pub order_goes : Order → Bool
 order_goes order = nat_lt 0 order.distance || nat_lt order.from order.to
 
 abbrev pub file_faults : MachineParts → (Wrong → Told) → Placed → Storage → List (Option Told)
-file_faults machine told name storage = room_at told (length machine.file_names) 8 part.Files ∷ new machine.file_names name ∷ storage_fault storage ∷ []
+file_faults machine told name storage = room_at told (length machine.file_names) MAX_FILES part.Files ∷ new machine.file_names name ∷ storage_fault storage ∷ []
 
 -- without its alternatives
 abbrev pub kind_faults : MachineParts → (Wrong → Told) → Placed → Number → List (Option Told)
-kind_faults machine told name latency = room_at told (length machine.kind_names) 256 part.Kinds ∷ new machine.kind_names name ∷ in_range 1 64 latency ∷ []
+kind_faults machine told name latency = room_at told (length machine.kind_names) MAX_KINDS part.Kinds ∷ new machine.kind_names name ∷ in_range 1 MAX_LATENCY latency ∷ []
 
 abbrev pub op_faults : MachineParts → ProblemParts → (Wrong → Told) → Placed → Placed → List (Option Told)
 op_faults machine problem told name kind =
-    room_at told (length problem.operation_names) 128 part.Operations ∷ new problem.operation_names name ∷ known machine.kind_names part.Kinds kind ∷ []
+    room_at told (length problem.operation_names) MAX_STATEMENTS part.Operations ∷ new problem.operation_names name ∷ known machine.kind_names part.Kinds kind ∷ []
 
 abbrev pub value_faults : MachineParts → ProblemParts → (Wrong → Told) → Placed → Placed → Number → Placed → List (Option Told)
 value_faults machine problem told name maker lands stored =
-    room_at told (length problem.value_names) 256 part.Values
+    room_at told (length problem.value_names) MAX_VALUES part.Values
     ∷ new problem.value_names name
     ∷ known problem.operation_names part.Operations maker
-    ∷ in_range 0 64 lands
+    ∷ in_range 0 MAX_LATENCY lands
     ∷ known machine.file_names part.Files stored
     ∷ []
 
 abbrev pub read_faults : ProblemParts → (Wrong → Told) → Placed → Placed → Option Number → Option Number → List (Option Told)
 read_faults problem told reader value distance offset =
-    room_at told (length problem.reads) 2048 part.Reads
+    room_at told (length problem.reads) MAX_READS part.Reads
     ∷ known problem.operation_names part.Operations reader
     ∷ known problem.value_names part.Values value
-    ∷ offset_fault 16 distance
-    ∷ offset_fault 63 offset
+    ∷ offset_fault MAX_DISTANCE distance
+    ∷ offset_fault MAX_OFFSET offset
     ∷ unless (read_goes problem (read_of problem reader value distance offset)) (on_word value wrong.Backward)
     ∷ []
 
 abbrev pub order_faults : ProblemParts → (Wrong → Told) → Placed → Placed → Integer → Number → List (Option Told)
 order_faults problem told from to delay distance =
-    room_at told (length problem.orders) 16384 part.Edges
+    room_at told (length problem.orders) MAX_ORDERS part.Edges
     ∷ known problem.operation_names part.Operations from
     ∷ known problem.operation_names part.Operations to
     ∷ delay_fault delay
-    ∷ in_range 0 255 distance
+    ∷ in_range 0 MAX_ORDER_DISTANCE distance
     ∷ unless (order_goes (order_of problem from to delay distance)) (on_word to wrong.Backward)
     ∷ []
 

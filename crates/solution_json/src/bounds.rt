@@ -1,6 +1,7 @@
 //! What the bounds of a problem are due to.
 
 ghost use Rattle.std.specs.Prelude.{◌≡◌, ◌≤◌, length, IfOk};
+ghost use Rattle.machine_data.specs.declared.limits.TheConstants.{MAX_STATEMENTS};
 ghost use Rattle.serde_json.specs.View.{view};
 ghost use Rattle.outcome_text.specs.Notes.{stops_of};
 ghost use Rattle.solution_json.specs.Bounds.{circuit_value};
@@ -37,7 +38,7 @@ pub(crate) fn told_circuit(
     draft: &Draft,
     circuit: &[Edge],
 ) -> Result<Value, OutOfMemory>
-    requires few { length circuit.now ≤ 128 }
+    requires few { length circuit.now ≤ MAX_STATEMENTS }
     ensures { IfOk result (λ v. view v ≡ circuit_value draft.now circuit.now) }
 {
     if circuit.is_empty() {

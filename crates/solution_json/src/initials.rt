@@ -2,6 +2,7 @@
 
 ghost use Rattle.std.specs.Prelude.{◌≡◌, [], ◌++◌, ◌<◌, ◌≤◌, length, map, IfOk, OnOk};
 ghost use Rattle.std.specs.List.{cons_option};
+ghost use Rattle.machine_data.specs.declared.limits.TheConstants.{MAX_DISTANCE};
 ghost use Rattle.serde_json.specs.Data.{array};
 ghost use Rattle.serde_json.specs.View.{items_of, view};
 ghost use Rattle.solution_json.specs.Values.{initial_at, initial_object, initials, initials_of};
@@ -42,7 +43,7 @@ fn push_initial(
     iterations: u64,
 ) -> Result<(), OutOfMemory>
     requires there { value < length solution.now.problem.draft.values.items }
-    requires few { iterations ≤ 16 }
+    requires few { iterations ≤ MAX_DISTANCE }
     ensures ok { OnOk result (map view values.new.items ≡ map view values.old.items ++ cons_option (initial_at solution.now value iterations) []) }
 {
     let Some(register) = register_after(solution, value, iterations) else {

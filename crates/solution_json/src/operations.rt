@@ -2,6 +2,7 @@
 
 ghost use Rattle.std.specs.Prelude.{◌≡◌, [], ◌++◌, ◌<◌, ◌≤◌, length, map, IfOk, OnOk};
 ghost use Rattle.std.specs.List.{cons_option, range_with_len};
+ghost use Rattle.machine_data.specs.declared.limits.TheConstants.{MAX_DISTANCE, MAX_STAGES};
 ghost use Rattle.serde_json.specs.View.{view};
 ghost use Rattle.modulo.specs.Schedules.{stage_of};
 ghost use Rattle.solutions.specs.Solutions.{schedule_of};
@@ -63,9 +64,9 @@ fn push_read(
     read: Read,
 ) -> Result<(), OutOfMemory>
     requires stage { stage ≡ stage_of (schedule_of solution.now) op }
-    requires few { stage < 64 }
+    requires few { stage < MAX_STAGES }
     requires value { read.value < length solution.now.problem.draft.values.items }
-    requires distance { read.distance ≤ 16 }
+    requires distance { read.distance ≤ MAX_DISTANCE }
     ensures ok { OnOk result (map view values.new.items ≡ map view values.old.items ++ map (register_object solution.now.problem.draft) (cons_option (read_register solution.now op read) [])) }
 {
     if read.reader != op {
@@ -83,7 +84,7 @@ fn told_reads(
     stage: u64,
 ) -> Result<Value, OutOfMemory>
     requires stage { stage ≡ stage_of (schedule_of solution.now) op }
-    requires few { stage < 64 }
+    requires few { stage < MAX_STAGES }
     ensures { IfOk result (λ v. view v ≡ array_of (register_object solution.now.problem.draft) (registers_read solution.now op)) }
 {
     let mut values = Vec::new(alloc);
@@ -104,7 +105,7 @@ fn push_write(
     value: usize,
 ) -> Result<(), OutOfMemory>
     requires stage { stage ≡ stage_of (schedule_of solution.now) op }
-    requires few { stage < 64 }
+    requires few { stage < MAX_STAGES }
     requires there { value < length solution.now.problem.draft.values.items }
     ensures ok { OnOk result (map view values.new.items ≡ map view values.old.items ++ map (register_object solution.now.problem.draft) (cons_option (write_register solution.now op value) [])) }
 {
@@ -123,7 +124,7 @@ fn told_writes(
     stage: u64,
 ) -> Result<Value, OutOfMemory>
     requires stage { stage ≡ stage_of (schedule_of solution.now) op }
-    requires few { stage < 64 }
+    requires few { stage < MAX_STAGES }
     ensures { IfOk result (λ v. view v ≡ array_of (register_object solution.now.problem.draft) (registers_written solution.now op)) }
 {
     let mut values = Vec::new(alloc);
@@ -137,7 +138,7 @@ fn told_writes(
 fn stage_of(solution: &Solution, op: usize) -> u64
     requires { op < length solution.now.problem.scheduling.operations }
     ensures value { result ≡ stage_of (schedule_of solution.now) op }
-    ensures few { result < 64 }
+    ensures few { result < MAX_STAGES }
 {
     solution.time(op) / solution.ii()
 }

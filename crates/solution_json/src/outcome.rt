@@ -2,6 +2,7 @@
 
 ghost use Rattle.std.specs.Prelude.{◌≡◌, ◌≤◌, ◌++◌, ℕ, List, false, length, IfOk, OnOk};
 ghost use Rattle.std.specs.Option.{option_copied};
+ghost use Rattle.machine_data.specs.declared.limits.TheConstants.{MAX_STATEMENTS};
 ghost use Rattle.serde_json.specs.View.{members_view, view};
 ghost use Rattle.serde_json.specs.Written.{compact_text, has_float};
 ghost use Rattle.solutions.specs.Told.{IsLastEvidence, IsSearched};
@@ -29,7 +30,7 @@ fn head_of(
     circuit: &[Edge],
     units: &[usize],
 ) -> Result<Map<String, Value>, OutOfMemory>
-    requires few { length circuit.now ≤ 128 }
+    requires few { length circuit.now ≤ MAX_STATEMENTS }
     ensures { IfOk result (λ m. members_view m.entries ≡ head_members name.now problem.now circuit.now units.now) }
 {
     let draft = problem.draft();
@@ -58,7 +59,7 @@ fn told_met(
     units: &[usize],
     solution: &Solution,
 ) -> Result<Value, OutOfMemory>
-    requires few { length circuit.now ≤ 128 }
+    requires few { length circuit.now ≤ MAX_STATEMENTS }
     ensures { IfOk result (λ v. view v ≡ met_object name.now problem.now circuit.now units.now solution.now) }
 {
     let head = head_of(alloc, name, problem, circuit, units);
@@ -76,7 +77,7 @@ fn told_failed(
     cause: Cause,
     culprit: Option<&Culprit>,
 ) -> Result<Value, OutOfMemory>
-    requires few { length circuit.now ≤ 128 }
+    requires few { length circuit.now ≤ MAX_STATEMENTS }
     ensures { IfOk result (λ v. view v ≡ failed_object name.now problem.now circuit.now units.now cause (option_copied culprit.entry)) }
 {
     let scheduling = problem.scheduling();
@@ -98,7 +99,7 @@ fn told_outcome(
     outcome: &Outcome,
     culprit: Option<&Culprit>,
 ) -> Result<Value, OutOfMemory>
-    requires few { length circuit.now ≤ 128 }
+    requires few { length circuit.now ≤ MAX_STATEMENTS }
     requires evidence { IsLastEvidence problem.now outcome.now (option_copied culprit) }
     ensures { IfOk result (λ v. IsObjectOf name.now problem.now circuit.now units.now outcome.now (view v)) }
 {

@@ -21,12 +21,13 @@ life_of s value = slice_index_or (lives_of_solution s) value (record { operation
 abbrev pub file_of : SolutionData → ℕ → ℕ
 file_of s value = slice_index (files_of s.problem.draft) value
 
--- `FILE: live T1 to T2`: the first and the last cycle in which the value lives in iteration 0
+-- the file of a value, and the first and the last cycle in which the value lives in iteration 0
 abbrev pub live_text : SolutionData → ℕ → List ℕ
 live_text s value =
     (file_name s.problem.draft (file_of s value) ++ told (codes ": live ") (life_of s value).first) ++ told (codes " to ") (life_of s value).last
 
--- `value NAME number K # FILE: live T1 to T2` of a rotating file, and `# value NAME FILE: live T1 to T2, copies C` of an unallotted one
+-- of a value of a rotating file its name and its number, and after `#` its file and its life; of one of an unallotted file, all after `#`, its name,
+-- its file and its life, and how many of its instances live at once at the most
 abbrev pub value_line_in : SolutionData → ℕ → Option File → List ℕ
 value_line_in s value None = []
 value_line_in s value (Some (Rotating registers)) =

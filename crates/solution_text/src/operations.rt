@@ -2,6 +2,7 @@
 
 ghost use Rattle.std.specs.Prelude.{◌≡◌, ◌++◌, ◌<◌, ◌≤◌, codes, length, OnOk};
 ghost use Rattle.std.specs.List.{flat_map};
+ghost use Rattle.machine_data.specs.declared.limits.TheConstants.{MAX_STAGES};
 ghost use Rattle.modulo.specs.Schedules.{stage_of};
 ghost use Rattle.solutions.specs.Solutions.{schedule_of};
 ghost use Rattle.writing.specs.Words.{told};
@@ -105,7 +106,7 @@ fn push_slot(text: &mut Vec<u8>, solution: &Solution, op: usize) -> Result<(), O
 fn stage_of(solution: &Solution, op: usize) -> u64
     requires { op < length solution.now.problem.scheduling.operations }
     ensures value { result ≡ stage_of (schedule_of solution.now) op }
-    ensures few { result < 64 }
+    ensures few { result < MAX_STAGES }
 {
     solution.time(op) / solution.ii()
 }

@@ -1,6 +1,7 @@
 //! Which registers an operation reads and writes.
 
 ghost use Rattle.std.specs.Prelude.{◌≡◌, ◌++◌, ◌==◌, ◌<◌, ◌≤◌, codes, length, take, if◌then◌else◌, OnOk};
+ghost use Rattle.machine_data.specs.declared.limits.TheConstants.{MAX_DISTANCE, MAX_STAGES};
 ghost use Rattle.modulo.specs.Schedules.{stage_of};
 ghost use Rattle.solutions.specs.Solutions.{schedule_of};
 ghost use Rattle.solution_text.specs.Operations.{headed, reads_text, uses_text, writes_head, writes_text};
@@ -22,9 +23,9 @@ fn push_source(
     read: Read,
 ) -> Result<(), OutOfMemory>
     requires stage { stage ≡ stage_of (schedule_of solution.now) read.reader }
-    requires few { stage < 64 }
+    requires few { stage < MAX_STAGES }
     requires value { read.value < length solution.now.problem.draft.values.items }
-    requires distance { read.distance ≤ 16 }
+    requires distance { read.distance ≤ MAX_DISTANCE }
     ensures ok { OnOk result (text.new.items ≡ text.old.items ++ spaced_register solution.now.problem.draft (source_of solution.now read)) }
 {
     let register = register_after(solution, read.value, read.distance + stage);
@@ -40,7 +41,7 @@ fn push_read_registers(
     of_readers: Chains<'_>,
 ) -> Result<(), OutOfMemory>
     requires stage { stage ≡ stage_of (schedule_of solution.now) op }
-    requires few { stage < 64 }
+    requires few { stage < MAX_STAGES }
     requires there { op < length of_readers.firsts.now }
     requires chained { AreChained (readers_of solution.now.problem.draft.reads.items) 0 of_readers.firsts.now of_readers.nexts.now }
     ensures ok { OnOk result (text.new.items ≡ text.old.items ++ reads_text solution.now op) }
@@ -63,7 +64,7 @@ fn push_write_registers(
     of_makers: Chains<'_>,
 ) -> Result<(), OutOfMemory>
     requires stage { stage ≡ stage_of (schedule_of solution.now) op }
-    requires few { stage < 64 }
+    requires few { stage < MAX_STAGES }
     requires there { op < length of_makers.firsts.now }
     requires chained { AreChained (makers_of solution.now.problem.draft.values.items) 0 of_makers.firsts.now of_makers.nexts.now }
     ensures ok { OnOk result (text.new.items ≡ text.old.items ++ writes_text solution.now op) }
@@ -96,7 +97,7 @@ fn push_reads(
     of_readers: Chains<'_>,
 ) -> Result<(), OutOfMemory>
     requires stage { stage ≡ stage_of (schedule_of solution.now) op }
-    requires few { stage < 64 }
+    requires few { stage < MAX_STAGES }
     requires there { op < length of_readers.firsts.now }
     requires chained { AreChained (readers_of solution.now.problem.draft.reads.items) 0 of_readers.firsts.now of_readers.nexts.now }
     ensures ok { OnOk result (text.new.items ≡ text.old.items ++ headed (codes "; reads") (reads_text solution.now op)) }
@@ -119,7 +120,7 @@ fn push_writes(
     head: &str,
 ) -> Result<(), OutOfMemory>
     requires stage { stage ≡ stage_of (schedule_of solution.now) op }
-    requires few { stage < 64 }
+    requires few { stage < MAX_STAGES }
     requires there { op < length of_makers.firsts.now }
     requires chained { AreChained (makers_of solution.now.problem.draft.values.items) 0 of_makers.firsts.now of_makers.nexts.now }
     ensures ok { OnOk result (text.new.items ≡ text.old.items ++ headed head.now (writes_text solution.now op)) }
@@ -149,7 +150,7 @@ pub(crate) fn push_uses(
     of_makers: Chains<'_>,
 ) -> Result<(), OutOfMemory>
     requires stage { stage ≡ stage_of (schedule_of solution.now) op }
-    requires few { stage < 64 }
+    requires few { stage < MAX_STAGES }
     requires reader { op < length of_readers.firsts.now }
     requires readers { AreChained (readers_of solution.now.problem.draft.reads.items) 0 of_readers.firsts.now of_readers.nexts.now }
     requires maker { op < length of_makers.firsts.now }

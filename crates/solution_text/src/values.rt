@@ -2,6 +2,7 @@
 
 ghost use Rattle.std.specs.Prelude.{◌≡◌, ◌++◌, ◌<◌, ◌≤◌, length, map, Some, OnOk};
 ghost use Rattle.std.specs.List.{All};
+ghost use Rattle.machine_data.specs.declared.limits.TheConstants.{MAX_DISTANCE};
 ghost use Rattle.instances.specs.Runs.{carried_by};
 ghost use Rattle.problems.specs.declared.draft.File.TheVariants.{Rotating, Unallotted};
 ghost use Rattle.registers.specs.declared.value.Read.{Read};
@@ -90,7 +91,7 @@ pub(crate) fn push_values(text: &mut Vec<u8>, solution: &Solution) -> Result<(),
 pub fn carried(solution: &Solution, value: usize) -> u64
     requires { value < length solution.now.problem.draft.values.items }
     ensures value { result ≡ carried_by (run_of solution.now) value }
-    ensures few { result ≤ 16 }
+    ensures few { result ≤ MAX_DISTANCE }
 {
     let draft = solution.problem().draft();
     let mut iterations = if draft.values[value].out { 1 } else { 0 };
@@ -111,7 +112,7 @@ fn push_initial(
     iterations: u64,
 ) -> Result<(), OutOfMemory>
     requires there { value < length solution.now.problem.draft.values.items }
-    requires few { iterations ≤ 16 }
+    requires few { iterations ≤ MAX_DISTANCE }
     ensures ok { OnOk result (text.new.items ≡ text.old.items ++ initial_line solution.now value iterations) }
 {
     let Some(register) = register_after(solution, value, iterations) else {
@@ -136,7 +137,7 @@ fn push_initials_of(
 ) -> Result<(), OutOfMemory>
     requires there { value < length solution.now.problem.draft.values.items }
     requires carried { iterations ≡ carried_by (run_of solution.now) value }
-    requires few { iterations ≤ 16 }
+    requires few { iterations ≤ MAX_DISTANCE }
     ensures ok { OnOk result (text.new.items ≡ text.old.items ++ initials_of solution.now value) }
 {
     for before in 0..iterations {

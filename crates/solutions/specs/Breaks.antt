@@ -1,5 +1,6 @@
 -- What lists of places and numbers break first, where they are no solution.
 use Rattle.std.specs.Prelude.{◌≡◌, ◌≢◌, ℕ, ◌<◌, ◌≤◌, List, length, Some, slice_get, slice_index}
+use Rattle.machine_data.specs.declared.limits.TheConstants.{MAX_INTERVAL}
 use Rattle.modulo.specs.declared.schedules.breach.Breach.{Breach}
 use Rattle.modulo.specs.Breaches.{IsFirstBreach}
 use Rattle.modulo.specs.Schedules.{IsSchedule, as_listed}
@@ -14,7 +15,7 @@ use Rattle.solutions.specs.Files.{in_file, place_in}
 use Rattle.solutions.specs.Solutions.{IsLawfulSolution, IsRightNumber, files_of, listed, lives_of_solution}
 
 abbrev pub IsInterval : ℕ → Type 0
-IsInterval ii = (1 ≤ ii) × (ii ≤ 16384)
+IsInterval ii = (1 ≤ ii) × (ii ≤ MAX_INTERVAL)
 
 -- there is not one number for each value
 pub record BreaksNumbers (draft : Draft) (ii : ℕ) (numbers : List ℕ) : Type 0 where

@@ -2,6 +2,7 @@
 
 ghost use Rattle.std.specs.Prelude.{◌≡◌, ◌<◌, ◌≤◌, length, map, max, slice_get, IsTrue, Some};
 ghost use Rattle.std.specs.List.{All, range_with_len};
+ghost use Rattle.machine_data.specs.declared.limits.TheConstants.{MAX_INTERVAL};
 ghost use Rattle.problems.specs.declared.draft.Value.{Value};
 ghost use Rattle.registers.specs.declared.lifetime.Lifetime.{Lifetime};
 ghost use Rattle.registers.specs.Crowds.{crowd_in};
@@ -13,7 +14,7 @@ ghost use Rattle.solutions.specs.Solutions.{IsLawfulSolution, lives_of_solution}
 
 use crate::solution::Solution;
 use crate::values::files::gather;
-use crate::values::numbers::MAX_VALUES;
+use machine_data::limits::MAX_VALUES;
 use problems::{File, Value};
 use registers::{Lifetime, crowd_in};
 
@@ -71,7 +72,7 @@ impl<'a> Solution<'a> {
 /// How many instances of a value that lives so live at once at the most.
 fn copies_of(ii: u64, life: Lifetime) -> u64
     requires some { 1 ≤ ii }
-    requires few { ii ≤ 16384 }
+    requires few { ii ≤ MAX_INTERVAL }
     requires life { IsLifeSpan life }
     ensures { result ≡ copies_of ii life }
 {
@@ -97,9 +98,9 @@ fn fill_files(values: &[Value], files: &mut [usize])
 
 /// The most instances of these values that live in the cycle of a row.
 fn greatest_crowd(ii: u64, lives: &[Lifetime]) -> u64
-    requires few { ii ≤ 16384 }
+    requires few { ii ≤ MAX_INTERVAL }
     requires lives { All IsLifeSpan lives.now }
-    requires few_lives { length lives.now ≤ 256 }
+    requires few_lives { length lives.now ≤ MAX_VALUES }
     ensures { result ≡ greatest_of (map (λ row. crowd_in ii row lives.now (length lives.now)) (range_with_len 0 ii)) }
 {
     let mut greatest = 0;
@@ -111,8 +112,8 @@ fn greatest_crowd(ii: u64, lives: &[Lifetime]) -> u64
 
 /// The most instances of the values of a file that live in one cycle; `files` has the file of each value.
 fn max_live_in(ii: u64, files: &[usize], file: usize, lives: &[Lifetime]) -> u64
-    requires few { ii ≤ 16384 }
-    requires few_values { length files.now ≤ 256 }
+    requires few { ii ≤ MAX_INTERVAL }
+    requires few_values { length files.now ≤ MAX_VALUES }
     requires lives { All IsLifeSpan lives.now }
     requires each { length lives.now ≡ length files.now }
     ensures { result ≡ greatest_of (map (λ row. crowd_in ii row (in_file files.now file lives.now) (length (in_file files.now file lives.now))) (range_with_len 0 ii)) }
@@ -125,7 +126,7 @@ fn max_live_in(ii: u64, files: &[usize], file: usize, lives: &[Lifetime]) -> u64
 /// The most copies of a value of an unallotted file, and at least 1; `files` has the file of each value.
 fn unroll_in(ii: u64, kinds: &[File], files: &[usize], lives: &[Lifetime]) -> u64
     requires some { 1 ≤ ii }
-    requires few { ii ≤ 16384 }
+    requires few { ii ≤ MAX_INTERVAL }
     requires lives { All IsLifeSpan lives.now }
     requires each { length lives.now ≡ length files.now }
     ensures { result ≡ max 1 (greatest_of (map (copies_of ii) (unallotted_in kinds.now files.now lives.now))) }

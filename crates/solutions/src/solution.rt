@@ -2,6 +2,7 @@
 
 ghost use Rattle.std.specs.Prelude.{◌≡◌, ◌*◌, ◌<◌, ◌≤◌, [], length, slice_get, slice_index, Some};
 ghost use Rattle.std.specs.List.{slice_index_or};
+ghost use Rattle.machine_data.specs.declared.limits.TheConstants.{MAX_STAGES};
 ghost use Rattle.modulo.specs.Schedules.{stages_of};
 ghost use Rattle.solutions.specs.Solutions.{IsLawfulSolution, lives_at, lives_of_solution, schedule_of};
 
@@ -77,7 +78,7 @@ impl<'a> Solution<'a> {
     pub fn stages(&self) -> u64
         ensures value { result ≡ stages_of (schedule_of self.now) }
         ensures some { 1 ≤ result }
-        ensures few { result ≤ 64 }
+        ensures few { result ≤ MAX_STAGES }
         ensures well_formed { IsLawfulSolution self.now }
     {
         self.schedule.stages()
@@ -87,7 +88,7 @@ impl<'a> Solution<'a> {
     pub fn time(&self, op: usize) -> u64
         requires { op < length self.now.problem.scheduling.operations }
         ensures value { result ≡ slice_index self.now.times op }
-        ensures below { result < 64 * self.now.ii }
+        ensures below { result < MAX_STAGES * self.now.ii }
         ensures well_formed { IsLawfulSolution self.now }
     {
         self.schedule.time(op)

@@ -2,6 +2,7 @@
 use Rattle.std.specs.Prelude.{◌≡◌, ℕ, ◌+◌, ◌<◌, List, length, slice_index}
 use Rattle.machine_data.specs.declared.alternative.Row.{Row}
 use Rattle.graph.specs.Units.{use_of}
+use Rattle.outcome_text.specs.declared.units.TheConstants.{UNITS}
 
 -- the uses by these rows are added to those before
 pub record IsCounted (rows : List Row) (old new : List ℕ) : Type 0 where
@@ -10,5 +11,5 @@ pub record IsCounted (rows : List Row) (old new : List ℕ) : Type 0 where
 
 -- the counts are those of these rows, for each unit that a row could name
 pub record AreUses (rows : List Row) (counts : List ℕ) : Type 0 where
-  pub each : length counts ≡ 256
-  pub counted : (unit : ℕ) → unit < 256 → slice_index counts unit ≡ use_of rows unit
+  pub each : length counts ≡ UNITS
+  pub counted : (unit : ℕ) → unit < UNITS → slice_index counts unit ≡ use_of rows unit

@@ -1,6 +1,7 @@
 -- The holds of a `kind` line, taken in one by one.
 use Rattle.std.specs.Prelude.{◌≡◌, ◌&&◌, ◌==◌, ℕ, not, Bool, true, List, [], ◌∷◌, ◌++◌, length, map, Option}
 use Rattle.std.specs.List.{All, list_any}
+use Rattle.machine_data.specs.declared.limits.TheConstants.{MAX_OFFSET, MAX_OPERATION_ALTERNATIVES, MAX_ROWS}
 use Rattle.problem_lines.specs.Forms.{HoldForm}
 use Rattle.problems.specs.declared.draft.Hold.{Hold}
 use Rattle.problem_tables.specs.Data.{hold_in}
@@ -12,7 +13,7 @@ use Rattle.problem_tables.specs.declared.fault.Wrong.TheVariants as wrong
 
 -- the first hold of an alternative tells that this alternative, after `count` others, is too many
 abbrev pub crowd_fault : ℕ → List Hold → HoldForm → Option Told
-crowd_fault count [] hold = room_at (on_word hold.unit) count 16 part.Alternatives
+crowd_fault count [] hold = room_at (on_word hold.unit) count MAX_OPERATION_ALTERNATIVES part.Alternatives
 crowd_fault count (first ∷ sofar) hold = unless true (on_word hold.unit wrong.Place)
 
 abbrev pub same_row : Hold → Hold → Bool
@@ -22,9 +23,9 @@ same_row a b = (a.unit == b.unit) && (a.offset == b.offset)
 abbrev pub hold_fault : List (List ℕ) → ℕ → List Hold → HoldForm → Option Told
 hold_fault units count sofar hold = first_of (
     crowd_fault count sofar hold
-    ∷ room_at (on_word hold.unit) (length sofar) 16 part.Holds
+    ∷ room_at (on_word hold.unit) (length sofar) MAX_ROWS part.Holds
     ∷ known units part.Units hold.unit
-    ∷ offset_fault 63 hold.offset
+    ∷ offset_fault MAX_OFFSET hold.offset
     ∷ unless (not (list_any (same_row (hold_in units hold)) sofar)) (on_word hold.unit wrong.Repeated)
     ∷ [])
 

@@ -33,7 +33,7 @@ pub(crate) struct MachineTables<'a> {
 
 /// The fault of one more unit.
 fn unit_fault(units: &Names<'_>, name: Word<'_>) -> Option<Told>
-    ensures value { result ≡ first_of (room_at (on_word (word_seen name.entry)) (length units.now) 64 part.Units ∷ new units.now (word_seen name.entry) ∷ []) }
+    ensures value { result ≡ first_of (room_at (on_word (word_seen name.entry)) (length units.now) MAX_UNITS part.Units ∷ new units.now (word_seen name.entry) ∷ []) }
     ensures absent { IfNone result (has_name units.now name.entry.bytes.now ≡ false) }
 {
     if let Some(told) = word_room(name, units.len(), MAX_UNITS, Part::Units) {
@@ -44,7 +44,7 @@ fn unit_fault(units: &Names<'_>, name: Word<'_>) -> Option<Told>
 
 /// Takes one more unit in.
 fn take_unit<'a>(units: &mut Names<'a>, name: Word<'a>) -> Result<(), Refusal>
-    ensures fault { Refuses result (first_of (room_at (on_word (word_seen name.entry)) (length units.old) 64 part.Units ∷ new units.old (word_seen name.entry) ∷ [])) }
+    ensures fault { Refuses result (first_of (room_at (on_word (word_seen name.entry)) (length units.old) MAX_UNITS part.Units ∷ new units.old (word_seen name.entry) ∷ [])) }
     ensures taken { OnOk result (units.new ≡ units.old ++ name.entry.bytes.now ∷ []) }
 {
     if let Some(told) = unit_fault(units, name) {

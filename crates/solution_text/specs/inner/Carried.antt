@@ -1,5 +1,6 @@
 -- How many iterations values are carried on, told of all of them at once.
 use Rattle.std.specs.Prelude.{◌≡◌, ℕ, ◌<◌, ◌≤◌, max, if◌then◌else◌, List, length, map, slice_index}
+use Rattle.machine_data.specs.declared.limits.TheConstants.{MAX_DISTANCE}
 use Rattle.instances.specs.Runs.{carried_by}
 use Rattle.problems.specs.declared.draft.Value.{Value}
 use Rattle.registers.specs.declared.value.Read.{Read}
@@ -21,4 +22,4 @@ pub record IsRaised (reads : List Read) (old new : List ℕ) : Type 0 where
 pub record AreCarried (s : SolutionData) (iterations : List ℕ) : Type 0 where
   pub each : length iterations ≡ length s.problem.draft.values.items
   pub carried : (value : ℕ) → value < length iterations → slice_index iterations value ≡ carried_by (run_of s) value
-  pub few : (value : ℕ) → value < length iterations → slice_index iterations value ≤ 16
+  pub few : (value : ℕ) → value < length iterations → slice_index iterations value ≤ MAX_DISTANCE

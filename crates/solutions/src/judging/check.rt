@@ -12,9 +12,8 @@ use crate::judging::broken::Broken;
 use crate::solution::Solution;
 use crate::values::files::{gather, value_at};
 use crate::values::lives::{files, lives_at, plain};
-use crate::values::numbers::MAX_VALUES;
 use machine_data::OutOfMemory;
-use machine_data::limits::MAX_INTERVAL;
+use machine_data::limits::{MAX_INTERVAL, MAX_VALUES};
 use modulo::Schedule;
 use problems::{Draft, File, Problem};
 use registers::{Lifetime, first_meeting};
@@ -116,9 +115,9 @@ fn first_meeting_of(
     numbers: &[usize],
 ) -> Option<Broken>
     requires some { 1 ≤ ii }
-    requires few { ii ≤ 16384 }
+    requires few { ii ≤ MAX_INTERVAL }
     requires kinds { All IsFile kinds.now }
-    requires few_values { length files.now ≤ 256 }
+    requires few_values { length files.now ≤ MAX_VALUES }
     requires lives { All IsLifeSpan lives.now }
     requires each_life { length lives.now ≡ length files.now }
     requires each { length numbers.now ≡ length files.now }
@@ -143,9 +142,9 @@ fn meeting_in(
     numbers: &[usize],
 ) -> Option<Broken>
     requires some { 1 ≤ ii }
-    requires few { ii ≤ 16384 }
+    requires few { ii ≤ MAX_INTERVAL }
     requires kind { IsFile kind }
-    requires few_values { length files.now ≤ 256 }
+    requires few_values { length files.now ≤ MAX_VALUES }
     requires lives { All IsLifeSpan lives.now }
     requires each_life { length lives.now ≡ length files.now }
     requires each { length numbers.now ≡ length files.now }

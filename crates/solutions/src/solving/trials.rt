@@ -1,6 +1,7 @@
 //! Intervals of one problem, tried one after another.
 
 ghost use Rattle.std.specs.Prelude.{◌≡◌, ◌<◌, ◌≤◌, length, replicate, None, IfOk};
+ghost use Rattle.machine_data.specs.declared.limits.TheConstants.{MAX_BUDGET, MAX_INTERVAL};
 ghost use Rattle.modulo.specs.Problems.{budget_of};
 ghost use Rattle.problems.specs.Drafts.{plain_values};
 ghost use Rattle.solutions.specs.Trying.{IsMet, IsTried};
@@ -14,6 +15,7 @@ use crate::values::found::find_numbers;
 use crate::values::lives::{files, lives_at, plain};
 use crate::values::numbers::fill_numbers;
 use machine_data::OutOfMemory;
+use machine_data::limits::MAX_STATEMENTS;
 use modulo::{Answer, Schedule, Try, answer_on, attempt_on};
 use mrt::{DefaultTable, ModuloTable};
 use problems::Problem;
@@ -131,7 +133,7 @@ impl<'a> Trials<'a> {
 /// The table of a problem at an interval, with nothing placed.
 fn empty_table(alloc: Global, problem: &Problem, ii: u64) -> Result<DefaultTable, OutOfMemory>
     requires some { 0 < ii }
-    requires few { ii ≤ 16384 }
+    requires few { ii ≤ MAX_INTERVAL }
     ensures operations { IfOk result (λ table. table.operations ≡ problem.now.scheduling.operations) }
     ensures empty { IfOk result (λ table. table.placed ≡ replicate (length problem.now.scheduling.operations) None) }
     ensures interval { IfOk result (λ table. table.interval ≡ ii) }
@@ -217,9 +219,9 @@ fn met_by<'a>(
 /// How many placements an attempt may make.
 fn budget(scheduling: &modulo::Problem) -> u64
     ensures value { result ≡ budget_of scheduling.now }
-    ensures few { result ≤ 8192 }
+    ensures few { result ≤ MAX_BUDGET }
 {
     let operations = scheduling.operations() as u64;
-    prove!(operations <= 128);
+    prove!(operations <= MAX_STATEMENTS as u64);
     scheduling.ratio() * operations
 }

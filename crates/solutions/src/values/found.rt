@@ -5,7 +5,7 @@ ghost use Rattle.std.specs.List.{All};
 ghost use Rattle.problems.specs.declared.draft.File.TheVariants.{Rotating, Unallotted};
 ghost use Rattle.problems.specs.Drafts.{IsFile};
 ghost use Rattle.registers.specs.Residues.{IsLifeSpan};
-ghost use Rattle.machine_data.specs.declared.limits.TheConstants.{MAX_INTERVAL};
+ghost use Rattle.machine_data.specs.declared.limits.TheConstants.{MAX_INTERVAL, MAX_VALUES};
 ghost use Rattle.solutions.specs.inner.Filling.{AreFound, IsFound};
 
 use crate::values::files::{gather, spread};
@@ -28,7 +28,7 @@ fn find_all(
     requires some { 1 ≤ ii }
     requires few { ii ≤ MAX_INTERVAL }
     requires kind { IsFile (Rotating registers) }
-    requires few_values { length files.now ≤ 256 }
+    requires few_values { length files.now ≤ MAX_VALUES }
     requires all { All (λ other. other ≡ file) files.now }
     requires lives { All IsLifeSpan lives.now }
     requires each_life { length lives.now ≡ length files.now }
@@ -53,7 +53,7 @@ fn find_some(
     requires some { 1 ≤ ii }
     requires few { ii ≤ MAX_INTERVAL }
     requires kind { IsFile (Rotating registers) }
-    requires few_values { length files.now ≤ 256 }
+    requires few_values { length files.now ≤ MAX_VALUES }
     requires lives { All IsLifeSpan lives.now }
     requires each_life { length lives.now ≡ length files.now }
     requires each { length numbers.old ≡ length files.now }
@@ -88,7 +88,7 @@ fn find_in(
     requires some { 1 ≤ ii }
     requires few { ii ≤ MAX_INTERVAL }
     requires kind { IsFile kind }
-    requires few_values { length files.now ≤ 256 }
+    requires few_values { length files.now ≤ MAX_VALUES }
     requires lives { All IsLifeSpan lives.now }
     requires each_life { length lives.now ≡ length files.now }
     requires each { length numbers.old ≡ length files.now }
@@ -119,7 +119,7 @@ pub(crate) fn find_numbers(
     requires some { 1 ≤ ii }
     requires few { ii ≤ MAX_INTERVAL }
     requires kinds { All IsFile kinds.now }
-    requires few_values { length files.now ≤ 256 }
+    requires few_values { length files.now ≤ MAX_VALUES }
     requires lives { All IsLifeSpan lives.now }
     requires each_life { length lives.now ≡ length files.now }
     requires each { length numbers.old ≡ length files.now }

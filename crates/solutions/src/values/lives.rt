@@ -2,6 +2,7 @@
 
 ghost use Rattle.std.specs.Prelude.{◌≡◌, ◌*◌, ◌<◌, ◌≤◌, length, map, max, IfOk};
 ghost use Rattle.std.specs.List.{All};
+ghost use Rattle.machine_data.specs.declared.limits.TheConstants.{MAX_LATENCY};
 ghost use Rattle.modulo.specs.Schedules.{stages_of};
 ghost use Rattle.problems.specs.declared.draft.Value.{Value};
 ghost use Rattle.problems.specs.Drafts.{plain_values};
@@ -70,7 +71,7 @@ fn last_operation(schedule: &Schedule) -> u64
 /// The cycle in which the last value of iteration 0 lands.
 fn last_value(times: &[u64], values: &[registers::Value]) -> u64
     requires times { All (λ time. time ≤ 1048576) times.now }
-    requires values { All (λ (value : PlainValue). (value.maker < length times.now) × (value.lands ≤ 64)) values.now }
+    requires values { All (λ (value : PlainValue). (value.maker < length times.now) × (value.lands ≤ MAX_LATENCY)) values.now }
     ensures { result ≡ greatest_of (map (landing_of times.now) values.now) }
 {
     let mut greatest = 0;
@@ -83,7 +84,7 @@ fn last_value(times: &[u64], values: &[registers::Value]) -> u64
 /// The cycle up to which values that are live at the end last.
 fn end_at(schedule: &Schedule, times: &[u64], values: &[registers::Value]) -> u64
     requires times { times.now ≡ schedule.now.times }
-    requires values { All (λ (value : PlainValue). (value.maker < length times.now) × (value.lands ≤ 64)) values.now }
+    requires values { All (λ (value : PlainValue). (value.maker < length times.now) × (value.lands ≤ MAX_LATENCY)) values.now }
     ensures { result ≡ max (schedule.now.ii * stages_of schedule.now) (max (last_operation schedule.now) (greatest_of (map (landing_of times.now) values.now))) }
 {
     let stages = schedule.ii() * schedule.stages();

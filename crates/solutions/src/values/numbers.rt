@@ -2,6 +2,7 @@
 
 ghost use Rattle.std.specs.Prelude.{◌≡◌, ◌≢◌, ◌<◌, ◌≤◌, ℕ, length, slice_index, None, Some, IfOk, IsTrue, MatchOption};
 ghost use Rattle.std.specs.List.{All};
+ghost use Rattle.machine_data.specs.declared.limits.TheConstants.{MAX_INTERVAL, MAX_VALUES};
 ghost use Rattle.problems.specs.declared.draft.File.TheVariants.{Rotating, Unallotted};
 ghost use Rattle.problems.specs.Drafts.{IsFile};
 ghost use Rattle.registers.specs.Residues.{IsLifeSpan};
@@ -12,9 +13,6 @@ use machine_data::OutOfMemory;
 use problems::File;
 use registers::{Lifetime, fill_least};
 use std::alloc::Global;
-
-/// The most values of a problem.
-pub(crate) const MAX_VALUES: usize = 256;
 
 /// Whether all values are of one file.
 pub(crate) fn are_all_of(files: &[usize], file: usize) -> bool
@@ -35,7 +33,7 @@ fn fill_all(
     numbers: &mut [usize],
 ) -> Result<Option<usize>, OutOfMemory>
     requires some { 1 ≤ ii }
-    requires few { ii ≤ 16384 }
+    requires few { ii ≤ MAX_INTERVAL }
     requires kind { IsFile (Rotating registers) }
     requires all { All (λ other. other ≡ file) files.now }
     requires lives { All IsLifeSpan lives.now }
@@ -60,9 +58,9 @@ fn fill_some(
     numbers: &mut [usize],
 ) -> Result<Option<usize>, OutOfMemory>
     requires some { 1 ≤ ii }
-    requires few { ii ≤ 16384 }
+    requires few { ii ≤ MAX_INTERVAL }
     requires kind { IsFile (Rotating registers) }
-    requires few_values { length files.now ≤ 256 }
+    requires few_values { length files.now ≤ MAX_VALUES }
     requires lives { All IsLifeSpan lives.now }
     requires each_life { length lives.now ≡ length files.now }
     requires each { length numbers.old ≡ length files.now }
@@ -96,9 +94,9 @@ fn fill_file(
     numbers: &mut [usize],
 ) -> Result<Option<usize>, OutOfMemory>
     requires some { 1 ≤ ii }
-    requires few { ii ≤ 16384 }
+    requires few { ii ≤ MAX_INTERVAL }
     requires kind { IsFile kind }
-    requires few_values { length files.now ≤ 256 }
+    requires few_values { length files.now ≤ MAX_VALUES }
     requires lives { All IsLifeSpan lives.now }
     requires each_life { length lives.now ≡ length files.now }
     requires each { length numbers.old ≡ length files.now }
@@ -127,9 +125,9 @@ pub(crate) fn fill_numbers(
     numbers: &mut [usize],
 ) -> Result<Option<(usize, usize)>, OutOfMemory>
     requires some { 1 ≤ ii }
-    requires few { ii ≤ 16384 }
+    requires few { ii ≤ MAX_INTERVAL }
     requires kinds { All IsFile kinds.now }
-    requires few_values { length files.now ≤ 256 }
+    requires few_values { length files.now ≤ MAX_VALUES }
     requires lives { All IsLifeSpan lives.now }
     requires each_life { length lives.now ≡ length files.now }
     requires each { length numbers.old ≡ length files.now }
