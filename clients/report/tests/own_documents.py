@@ -6,7 +6,7 @@ import copy
 from typing import Any
 
 # The keys that `report.py` leaves out, by the object that they stand in.
-OF_LOOP, OF_KERNEL, OF_OPERATION, OF_TRIED = {"set"}, {"cycles", "extra_turns", "least_possible", "need", "percent"}, {"slack"}, {"need"}
+OF_LOOP, OF_KERNEL, OF_OPERATION, OF_TRIED = {"set"}, {"figures", "least_possible"}, {"slack"}, {"need"}
 
 
 def without(it: dict[str, Any], keys: set[str]) -> dict[str, Any]:
@@ -66,16 +66,13 @@ SUM: dict[str, Any] = {
 # 5 and not in 4. In row 1, cycles 3 and 5, both instances of s and one of t are live: 3 registers are needed, and 3 are enough. The unit alu is held in one of two rows.
 ROTATING = SUM | {
     "kernel": {
-        "cycles": 6,
-        "extra_turns": 2,
+        "figures": {"cycles": 6, "extra_turns": 2, "need": 3, "percent": [100, 50]},
         "held_by": "units",
         "idle_units": 1,
         "ii": 2,
         "least_possible": True,
         "live": [2, 3],
         "max_live": 3,
-        "need": 3,
-        "percent": [100, 50],
         "registers": 8,
         "slots": [slot(0, 0, 0), slot(1, 0, 2), slot(1, 1, 1)],
         "stages": 3,
@@ -89,16 +86,13 @@ ROTATING = SUM | {
 # The same with two registers. At the intervals 2 and 3, s lives for 4 cycles, so that in some row two instances of it and t are live. At 4 the loop is issued as before.
 FEW = SUM | {
     "kernel": {
-        "cycles": 6,
-        "extra_turns": 1,
+        "figures": {"cycles": 6, "extra_turns": 1, "need": 2, "percent": [50, 25]},
         "held_by": "registers",
         "idle_units": 1,
         "ii": 4,
         "least_possible": False,
         "live": [1, 1, 1, 2],
         "max_live": 2,
-        "need": 2,
-        "percent": [50, 25],
         "registers": 2,
         "slots": [slot(0, 0, 0), slot(1, 0, 2), slot(3, 1, 1)],
         "stages": 2,
@@ -119,16 +113,13 @@ FIVE: dict[str, Any] = {
     "circuit": None,
     "edges": [],
     "kernel": {
-        "cycles": 3,
-        "extra_turns": 0,
+        "figures": {"cycles": 3, "extra_turns": 0, "need": 2, "percent": [100, 66]},
         "held_by": "units",
         "idle_units": 0,
         "ii": 3,
         "least_possible": True,
         "live": [1, 2, 2],
         "max_live": 2,
-        "need": 2,
-        "percent": [100, 66],
         "registers": 8,
         "slots": [slot(0, 0, 0), slot(0, 1, 1), slot(1, 0, 2), slot(1, 1, 3), slot(2, 0, 4)],
         "stages": 1,
@@ -149,16 +140,13 @@ PUT: dict[str, Any] = {
     "circuit": None,
     "edges": [],
     "kernel": {
-        "cycles": 1,
-        "extra_turns": 0,
+        "figures": {"cycles": 1, "extra_turns": 0, "need": 1, "percent": [100]},
         "held_by": "one cycle",
         "idle_units": 1,
         "ii": 1,
         "least_possible": True,
         "live": [0],
         "max_live": 0,
-        "need": 1,
-        "percent": [100],
         "registers": 8,
         "slots": [slot(0, 0, 0)],
         "stages": 1,

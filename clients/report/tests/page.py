@@ -182,7 +182,8 @@ def seen_of_figures(loop: dict[str, Any], it: dict[str, Any]) -> Iterator[str]:
     """The figures of a kernel, each where the program tells it; and how much of the interval each unit is held."""
     kernel, operations = loop["kernel"], loop["operations"]
     held = [sum(slot["unit"] == unit for slot in kernel["slots"]) for unit in range(len(kernel["units"]))]
-    percent = [f"{it} %" for it in kernel.get("percent", [100 * rows // kernel["ii"] for rows in held])]
+    figures = kernel.get("figures", {})
+    percent = [f"{it} %" for it in figures.get("percent", [100 * rows // kernel["ii"] for rows in held])]
     yield from wrong_with({"percents": percent}, it)
     for name, rows, share in zip(kernel["units"], held, percent):
         if [name, f"{rows}, {share}"] not in [[row[0], row[2]] for row in it["uses"]]:
@@ -191,22 +192,22 @@ def seen_of_figures(loop: dict[str, Any], it: dict[str, Any]) -> Iterator[str]:
         its = [word for word in label.split(", ") if word.startswith("slack")]
         if its != [f"slack {counted(it, 'cycle')}" for it in [operations[place].get("slack")] if it is not None]:
             yield f"slack of operation {place}: {label}"
-    extra, need, has_values = kernel.get("extra_turns"), kernel.get("need"), bool(kernel["values"])
+    extra, need, has_values = figures.get("extra_turns"), figures.get("need"), bool(kernel["values"])
     turns = f"N + {extra}" if extra else "N"
     told = [
         ("No schedule that keeps the dependences and the units has a shorter interval.", "summary", kernel.get("least_possible", False) and kernel["held_by"] != "one cycle"),
         (f" N iterations take {turns} turns.", "summary", extra is not None),
-        (f" The schedule needs {needed(need)}.", "summary", "need" in kernel and has_values),
-        (f"an allotment is {need}.", "ranges", "need" in kernel and has_values),
+        (f" The schedule needs {needed(need)}.", "summary", "need" in figures and has_values),
+        (f"an allotment is {need}.", "ranges", "need" in figures and has_values),
         ("The slack of an operation is", "slack", "slack" in operations[0]),
     ]
     for words, where, is_told in told:
         if (words in it[where]) != is_told:
             yield f"{where}: {words} {'' if is_told else 'not '}wanted in {it[where]}"
     facts = {"interval, in cycles" + (": least possible" if kernel.get("least_possible") else ""): str(kernel["ii"])}
-    facts |= {"cycles an iteration": str(kernel["cycles"])} if "cycles" in kernel else {}
+    facts |= {"cycles an iteration": str(figures["cycles"])} if "cycles" in figures else {}
     facts |= {"turns for N iterations": turns} if extra is not None else {}
-    facts |= {"registers needed": f"{need} of {kernel['registers']}"} if "need" in kernel and has_values else {}
+    facts |= {"registers needed": f"{need} of {kernel['registers']}"} if "need" in figures and has_values else {}
     for words, number in facts.items():
         if number + words not in it["says"]:
             yield f"facts: {it['says']} lack {number} {words}"

@@ -34,6 +34,7 @@ const ONE = isOfProblems ? "problem" : "loop", ANSWER = isOfProblems ? "solution
 const ofLoop = loop => {
   for (const it of loop.operations) Object.assign(it, { word: it.opcode, done: it.latency });
   const kernel = loop.kernel;
+  if (kernel) Object.assign(kernel, kernel.figures);
   if (kernel) kernel.files = [{ name: "", at: 0, registers: kernel.registers, need: kernel.need, live: kernel.live, max_live: kernel.max_live,
     values: kernel.values.map(it => ({ ...it, name: loop.operations[it.operation].name })) }];
   return loop;

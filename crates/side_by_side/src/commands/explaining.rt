@@ -17,12 +17,12 @@ use file_faults::FileFault;
 use ims::Prepared;
 use loops::Loop;
 use machine::{Machine, OutOfMemory};
-use one_thread::prepare_all;
 use printouts::{Printout, explain_text};
 use settings::Settings;
 use shared_jobs::{Jobs, parts_of};
 use std::alloc::Global;
 use std::thread::Threads;
+use workers::prepare_by_workers;
 
 /// About how much work the explanation of a loop is for each of its statements, in statements that are executed once.
 pub(crate) const EXPLAINED: u64 = 400;
@@ -61,7 +61,7 @@ fn explain_by<R: Threads + Sync>(
     requires within { All (λ (j : _). j.number < vec_len loops) jobs.now.list.items }
     ensures { AnswersOn (IsExplainText settings.now.ratio settings.now.ceiling machine.now loops.items) (first_lacking machine.now loops.items) result }
 {
-    let prepared = prepare_all(alloc, machine, loops, settings)?;
+    let prepared = prepare_by_workers(rt, alloc, machine, loops, settings)?;
     let explained = explained_by(rt, alloc, machine, prepared.as_slice(), jobs)?;
     Ok(Printout::new(explained.text, explained.all_met))
 }

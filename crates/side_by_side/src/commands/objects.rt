@@ -13,12 +13,12 @@ use file_faults::FileFault;
 use ims::Prepared;
 use loops::Loop;
 use machine::{Machine, OutOfMemory};
-use one_thread::prepare_all;
 use printouts::{Object, Printout, explain_objects, object_of, objects_document, objects_page};
 use settings::Settings;
 use shared_jobs::{Jobs, parts_of};
 use std::alloc::Global;
 use std::thread::Threads;
+use workers::prepare_by_workers;
 
 /// What `explain --format json` writes, by at most as many workers as the settings say, side by side. One worker starts no
 /// thread, and neither do a single loop and loops with few statements.
@@ -85,7 +85,7 @@ fn objects_by<R: Threads + Sync>(
     requires within { All (λ (j : _). j.number < vec_len loops) jobs.now.list.items }
     ensures { AnswersOn (AreObjects settings.now.ratio settings.now.ceiling machine.now loops.items) (first_lacking machine.now loops.items) result }
 {
-    let prepared = prepare_all(alloc, machine, loops, settings)?;
+    let prepared = prepare_by_workers(rt, alloc, machine, loops, settings)?;
     let objects = made_by(rt, alloc, machine, prepared.as_slice(), jobs)?;
     Ok(objects)
 }

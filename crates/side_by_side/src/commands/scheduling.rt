@@ -16,13 +16,13 @@ use file_faults::FileFault;
 use ims::Prepared;
 use loops::Loop;
 use machine::{Machine, OutOfMemory};
-use one_thread::prepare_all;
 use printouts::Printout;
 use scheduled_printouts::{push_graph, scheduled_text};
 use settings::Settings;
 use shared_jobs::{Jobs, parts_of};
 use std::alloc::Global;
 use std::thread::Threads;
+use workers::prepare_by_workers;
 
 /// About how much work the schedule of a loop is for each of its statements, in statements that are executed once.
 const SCHEDULED: u64 = 400;
@@ -61,7 +61,7 @@ fn scheduled_by<R: Threads + Sync>(
     requires within { All (λ (j : _). j.number < vec_len loops) jobs.now.list.items }
     ensures { AnswersOn (AreScheduledGraphs settings.now.ratio settings.now.ceiling machine.now loops.items) (first_lacking machine.now loops.items) result }
 {
-    let prepared = prepare_all(alloc, machine, loops, settings)?;
+    let prepared = prepare_by_workers(rt, alloc, machine, loops, settings)?;
     let printout = drawn_by(rt, alloc, prepared.as_slice(), jobs)?;
     Ok(printout)
 }

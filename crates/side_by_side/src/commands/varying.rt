@@ -15,7 +15,6 @@ use file_faults::FileFault;
 use ims::Prepared;
 use loops::Loop;
 use machine::{Machine, OutOfMemory};
-use one_thread::prepare_all;
 use printouts::Printout;
 use settings::Settings;
 use shared_jobs::{Jobs, parts_of, shared};
@@ -25,6 +24,7 @@ use variants::{
     FileFindings, LoopFindings, find_all, findings_document, findings_of, findings_text,
     findings_total,
 };
+use workers::prepare_by_workers;
 
 /// About how much work the search on the variants of a machine is for each statement of a loop, in statements that are executed once.
 const VARIED: u64 = 2_000;
@@ -126,7 +126,7 @@ fn find_by<R: Threads + Sync>(
     requires within { All (λ (j : _). j.number < vec_len loops) jobs.now.list.items }
     ensures { AnswersOn (AreFound settings.now.ratio settings.now.ceiling machine.now loops.items) (first_lacking machine.now loops.items) result }
 {
-    let prepared = prepare_all(alloc, machine, loops, settings)?;
+    let prepared = prepare_by_workers(rt, alloc, machine, loops, settings)?;
     let loops = found_by(rt, alloc, machine, prepared.as_slice(), jobs)?;
     Ok(FileFindings { prepared, loops })
 }
