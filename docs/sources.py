@@ -10,6 +10,11 @@ IMPORT = re.compile(r"^\s*(?:unfoldable )?(pub )?(?:ghost )?use Rattle\.([\w.]+?
 HEAD = re.compile(r"(?:(?:abbrev|unfoldable|opaque|pub|record|data)\s+)+(\w+)")
 
 
+def unlinked(line):
+    """A line of a comment of src/ without its links: these name items of the code, which a page has not."""
+    return re.sub(r"\[([^\]]+)\]\([\w:]+\)", r"\1", line) if line.lstrip().startswith("///") else line
+
+
 @dataclass
 class Definition:
     """A definition of specs/, or a type or trait of src/: its text with its comments, and the names that its text uses."""
@@ -144,7 +149,7 @@ class Sources:
             if not line.rstrip().endswith((";", "}")):
                 while not (lines[last].endswith(";") if found[2] in ("type", "const") else lines[last] == "}"):
                     last += 1
-            item = [it for it in lines[first : last + 1] if not it.startswith("#[")]
+            item = [unlinked(it) for it in lines[first : last + 1] if not it.startswith("#[")]
             code = "\n".join(plain.split("\n")[number - 1 : last + 1])
             if found[2] == "enum":
                 code = re.sub(r"(?m)^    \w+", "", code)
