@@ -30,7 +30,7 @@ loops 1
 SUM_EXPLAIN = """loop acc ops 3 res 2 rec 1 mii 2
 unit mem uses 2 full: t b[i]
 unit alu uses 1: s
-units mem take 2 rows, need 2
+units mem take 2 rows: 2/1 cycles, need 2
 circuit delay 1 distance 1 needs 1
 edge 1 s 1 s value delay 1 distance 1
 try 2 kernel stages 3
@@ -136,7 +136,7 @@ loops 1
 """
 LONE_EXPLAIN = """loop lone ops 1 res 2 rec 1 mii 2
 unit u uses 2 full: m*2
-units u take 2 rows, need 2
+units u take 2 rows: 2/1 cycles, need 2
 circuit none
 try 2 table: m
 loops 1 met 0 failed 1
@@ -151,7 +151,7 @@ loops 1
 """
 TWICE_EXPLAIN = """loop twice ops 2 res 4 rec 1 mii 4
 unit m uses 4 full: b[i-1]*2 b[i-1]*2
-units m take 4 rows, need 4
+units m take 4 rows: 4/1 cycles, need 4
 circuit none
 try 4 kernel stages 1
 held by units
@@ -176,7 +176,7 @@ def listing(loop: dict) -> dict:
 
 def causes(*lines: str) -> str:
     """What `explain` prints of a loop of the bound 2 whose tried intervals have these lines."""
-    return "\n".join(["loop p ops 9 res 2 rec 1 mii 2", "units u take 2 rows, need 2", "circuit none", *lines, "loops 1 met 0 failed 1", ""])
+    return "\n".join(["loop p ops 9 res 2 rec 1 mii 2", "units u take 2 rows: 2/1 cycles, need 2", "circuit none", *lines, "loops 1 met 0 failed 1", ""])
 
 
 class Lines(unittest.TestCase):
