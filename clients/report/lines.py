@@ -245,8 +245,8 @@ def _fullest(lines: Lines) -> UnitSet:
     form = rf"units ({UNIT}(?: {UNIT})*) take ({NUMBER}) rows(?:: ({NUMBER})/({NUMBER}) cycles)?, need ({NUMBER})"
     names, rows, over, units, need = lines.take(form, "the fullest set of units")
     fullest = UnitSet(tuple(names.split(" ")), int(rows), int(need))
-    lines.check(over is None or (over, int(units)) == (rows, len(fullest.names)), "not its rows over its units")
     lines.check(len(set(fullest.names)) == len(fullest.names), "a unit stands twice")
+    lines.check(over is None or (over, int(units)) == (rows, len(fullest.names)), "not its rows over its units")
     lines.check(fullest.need == -(-fullest.rows // len(fullest.names)), "not the interval of its rows")
     return fullest
 

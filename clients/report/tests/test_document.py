@@ -258,6 +258,7 @@ loops 1
                 (3, "alu", "Alu", "not the fullest set"),
                 (3, "s", "s*1", "not the fullest set"),
                 (4, "mem", "mem mem", "a unit stands twice"),
+                (4, "2/1", "2/2", "not its rows over its units"),
                 (4, "need 2", "need 3", "not the interval of its rows"),
                 (5, "needs 1", "needs 2", "not the interval of its sums"),
                 (6, "delay 1", "delay 2", "other sums"),
