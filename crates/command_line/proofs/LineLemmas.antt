@@ -2,7 +2,7 @@
 use Rattle.std.proofs.Common.{◌≡◌, ◌⊎◌, ap, ℕ, List, Option, Some, None, Err, Ok, Result, IfOk, true, false, Bool, ◌||◌, ◌≤◌, ◌∙◌, codes, refl, sym, ap₂, subst, inl, inr, IfSome, IfNone, arith, get_or}
 use Rattle.clap.specs.declared.builder.command.Command as clap
 use Rattle.clap.specs.declared.builder.arg.Arg.{Arg}
-use Rattle.clap.specs.Words.{AddsArg, App, HasKind, Kinds, Row, Rule, Text, app_of, rule_of, with_rule, with_subcommand, all_of, first_of, is_simple, is_simple_and_free, kind_of}
+use Rattle.clap.specs.Words.{AddsArg, AddsSubcommand, App, HasKind, Kinds, Row, Rule, Text, app_of, rule_of, with_rule, with_subcommand, all_of, first_of, is_simple, is_simple_and_free, kind_of}
 use Rattle.clap.specs.declared.error.Error.{Error}
 use Rattle.command_line.specs.declared.line.Usage.{Usage}
 use Rattle.command_line.specs.declared.line.Usage.TheVariants.{Help, Refused, Memory}
@@ -11,9 +11,9 @@ use Rattle.clap.specs.declared.error.kind.ErrorKind.TheVariants.{OutOfMemory}
 use Rattle.command_line.specs.Lines.{IsRead, IsRequest, IsSearchGiven, IsTaskGiven, IsToldBy, IsWorkGiven, AreLoopsGiven, AreProblemsGiven, AreTexts, AreTextsGiven, IsReportGiven, Means, MeansNamed, SaysFormat, SaysNumber, SaysSwitch, SaySettings, switch_word}
 use Rattle.command_line.specs.Lines.{program_line, search_line, run_line, plain_line, schedule_line, vary_line, explain_line, dot_line, either_line, either_with_names, lint_line, solve_line, check_line}
 use Rattle.settings.specs.Settings.{AreSettings, SettingsData}
-use Rattle.clap.specs.declared.builder.command.Command.TheViews.{out-Command}
-use Rattle.command_line.specs.inner.Made.{IsAdded}
+use Rattle.command_line.specs.inner.Made.{HasLine, MakesLine, MakesProgram}
 use Rattle.std.proofs.lemmas.Bool.{and_parts}
+use Rattle.std.proofs.lemmas.Result.{IfOk-weaker}
 use Rattle.command_line.specs.declared.command.Command.{Command}
 use Rattle.command_line.specs.declared.command.Command.TheVariants as command
 use Rattle.settings.specs.declared.format.Format.{Format}
@@ -36,24 +36,29 @@ program_is_free = refl
 pub program_is_simple : is_simple program_line ≡ true
 program_is_simple = (and_parts _ _ program_is_free).0
 
--- an argument that is not global adds its rule
-pub adds : (old new : clap.Command) (arg : Arg) (app : App) (rule : Rule) → AddsArg old arg new → arg.global ≡ false
-    → app_of old ≡ app → rule_of arg ≡ rule → app_of new ≡ with_rule app rule
-adds old new arg app rule h local same is = h.shape local ∙ ap₂ with_rule same is
+-- an argument that is not global adds its rule, and makes nothing global
+pub adds : {E : Type 0} {made new : Result clap.Command E} (old : clap.Command) (arg : Arg) {line : App} → made ≡ Ok old → IfOk new (λ c. AddsArg old arg c)
+    → arg.global ≡ false → MakesLine line made → MakesLine (with_rule line (rule_of arg)) new
+adds {E = E} {made = made} {new = new} old arg {line = line} is added local has =
+    let at : HasLine line old = subst (λ (m : Result clap.Command E). IfOk m (λ c. HasLine line c)) is has.has_line in record {
+      has_line = IfOk-weaker new _ _
+          (λ c h. (h.shape local ∙ ap (λ (a : App). with_rule a (rule_of arg)) at.0, h.globals ∙ ap₂ (λ (a b : Bool). a || b) at.1 local)) added;
+    }
 
 -- a subcommand that has no global argument adds its line
-pub adds_subcommand : {E : Type 0} (old : clap.Command) (made : Result clap.Command E) (new : clap.Command) (app line : App) → IsAdded old made new
-    → IfOk made (λ c. (out-Command c).has_globals ≡ false) → app_of old ≡ app → IfOk made (λ c. app_of c ≡ line)
-    → app_of new ≡ with_subcommand app line.top
-adds_subcommand old (Ok sub) new app line h local same is = h.shape local ∙ ap₂ with_subcommand same (ap (λ (a : App). a.top) is)
-adds_subcommand old (Err e) new app line h local same is = absurd h
+pub adds_subcommand : {E : Type 0} {made other new : Result clap.Command E} (old sub : clap.Command) {line sub_line : App} → made ≡ Ok old → other ≡ Ok sub
+    → IfOk new (λ c. AddsSubcommand old sub c) → MakesProgram line made → MakesLine sub_line other → MakesProgram (with_subcommand line sub_line.top) new
+adds_subcommand {E = E} {made = made} {other = other} {new = new} old sub {line = line} {sub_line = sub_line} is sub_is added has sub_has =
+    let at : app_of old ≡ line = subst (λ (m : Result clap.Command E). IfOk m (λ c. app_of c ≡ line)) is has.is_line in
+    let sub_at : HasLine sub_line sub = subst (λ (m : Result clap.Command E). IfOk m (λ c. HasLine sub_line c)) sub_is sub_has.has_line in record {
+      is_line = IfOk-weaker new _ _ (λ c h. h.shape sub_at.1 ∙ ap₂ with_subcommand at (ap (λ (a : App). a.top) sub_at.0)) added;
+    }
 
--- and makes nothing global
-pub keeps : (old new : clap.Command) (arg : Arg) (globals : Bool) → AddsArg old arg new → arg.global ≡ false
-    → (out-Command old).has_globals ≡ globals → (out-Command new).has_globals ≡ globals
-keeps old new arg globals h local same =
-    let nothing : (globals || false) ≡ globals = elim globals as (λ (b : Bool). (b || false) ≡ b) [ true ↦ refl | false ↦ refl ] in
-    h.globals ∙ ap₂ (λ (a b : Bool). a || b) same local ∙ nothing
+-- an argument of this rule, which is not global
+pub ruled : {E : Type 0} {old new : Result clap.Command E} (arg : Arg) {line : App} {rule : Rule}
+    → ((app : App) → arg.global ≡ false → MakesLine app old → MakesLine (with_rule app (rule_of arg)) new) → arg.global ≡ false → rule_of arg ≡ rule
+    → MakesLine line old → MakesLine (with_rule line rule) new
+ruled {new = new} arg {line = line} added local is has = subst (λ (r : Rule). MakesLine (with_rule line r) new) is (added line local has)
 
 -- a word says one number
 says-one : (word : Option Text) (m n : ℕ) → SaysNumber word m → SaysNumber word n → m ≡ n

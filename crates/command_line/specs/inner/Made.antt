@@ -1,9 +1,17 @@
--- Subcommands that are added to a command.
-use Rattle.std.specs.Prelude.{Result, Ok, Err}
+-- Commands that are being made.
+use Rattle.std.specs.Prelude.{◌≡◌, false, Result, IfOk}
 use Rattle.clap.specs.declared.builder.command.Command.{Command}
-use Rattle.clap.specs.Words.{AddsSubcommand}
+use Rattle.clap.specs.declared.builder.command.Command.TheViews.{out-Command}
+use Rattle.clap.specs.Words.{App, app_of}
 
--- `new` is `old` with the subcommand that was made; without one there is no such command
-abbrev pub IsAdded : {E : Type 0} → Command → Result Command E → Command → Type 0
-IsAdded old (Ok subcommand) new = AddsSubcommand old subcommand new
-IsAdded old (Err e) new = ⊥
+-- a command has this line, and no global argument
+abbrev pub HasLine : App → Command → Type 0
+HasLine line command = (app_of command ≡ line) × ((out-Command command).has_globals ≡ false)
+
+-- what is made has this line, and no global argument
+pub record MakesLine {E : Type 0} (line : App) (made : Result Command E) : Type 0 where
+  pub has_line : IfOk made (λ command. HasLine line command)
+
+-- what is made has this line
+pub record MakesProgram {E : Type 0} (line : App) (made : Result Command E) : Type 0 where
+  pub is_line : IfOk made (λ command. app_of command ≡ line)

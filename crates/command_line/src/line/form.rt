@@ -1,11 +1,10 @@
 //! The form of the command line: its subcommands, their arguments and options.
 
-ghost use Rattle.std.specs.Prelude.{◌≡◌, codes, false, Some, IfOk};
-ghost use Rattle.clap.specs.Words.{app_of, new_app, new_rule, rule_of};
+ghost use Rattle.std.specs.Prelude.{◌≡◌, codes, false, Some};
+ghost use Rattle.clap.specs.Words.{App, app_of, new_app, new_rule, rule_of, with_rule, with_subcommand};
 ghost use Rattle.clap.specs.declared.builder.action.ArgAction.TheVariants.{SetTrue};
-ghost use Rattle.clap.specs.declared.builder.command.Command.TheViews.{out-Command};
 ghost use Rattle.command_line.specs.Lines.{program_line, bare_line, with_kernels, with_reports, with_problems, plain_line, search_line, schedule_line, vary_line, explain_line, dot_line, either_line, either_with_names, run_line, lint_line, solve_line, check_line, with_paths, with_search, path_rule, spare_rule, machine_only_rule, total_rule, scheduled_rule, loop_rule, trip_rule, option_rule, ratio_rule, ceiling_rule, workers_rule, cut_rule, format_rule};
-ghost use Rattle.command_line.specs.inner.Made.{IsAdded};
+ghost use Rattle.command_line.specs.inner.Made.{HasLine, MakesLine, MakesProgram};
 
 use crate::help;
 use clap::builder::ValueParser;
@@ -16,17 +15,21 @@ use std::alloc::Global;
 
 const VERSION: &str = "0.1.0";
 
+// A command that is being made, where memory lasts. The functions below hand on what was made as it is, and only `with` and `add` look
+// whether there is a command: the checker goes through the drops after each `?`, and those of a command are many.
+type Made<'a> = Result<Command<'a>, OutOfMemory>;
+
 /// The line of the program, without its own name.
 pub(super) fn program<'a>(alloc: Global) -> Result<Command<'a>, OutOfMemory>
-    ensures { IfOk result (λ c. app_of c ≡ program_line) }
+    ensures { MakesProgram program_line result }
 {
-    let command = with_kernels(alloc, bare_program(alloc)?)?;
-    with_problems(alloc, with_reports(alloc, command)?)
+    let made = with_kernels(alloc, bare_program(alloc));
+    with_problems(alloc, with_reports(alloc, made))
 }
 
 // The line of the program without a subcommand.
-fn bare_program<'a>(alloc: Global) -> Result<Command<'a>, OutOfMemory>
-    ensures { IfOk result (λ c. app_of c ≡ bare_line) }
+fn bare_program<'a>(alloc: Global) -> Made<'a>
+    ensures { MakesProgram bare_line result }
 {
     let command = Command::new(alloc, "modsched")
         .bin_name("modsched")?
@@ -41,225 +44,192 @@ fn bare_program<'a>(alloc: Global) -> Result<Command<'a>, OutOfMemory>
 }
 
 // A line with the subcommands that look for kernels.
-fn with_kernels<'a>(alloc: Global, command: Command<'a>) -> Result<Command<'a>, OutOfMemory>
-    ensures { IfOk result (λ c. app_of c ≡ with_kernels (app_of command.entry)) }
+fn with_kernels<'a>(alloc: Global, made: Made<'a>) -> Made<'a>
+    ensures { (line : App) → MakesProgram line made.entry → MakesProgram (with_kernels line) result }
 {
     use help::{JSON_ABOUT, JSON_LONG_ABOUT};
-    let command = add(command, schedule(alloc))?;
-    let command = add(command, run(alloc))?;
-    let made = search(alloc, "json", JSON_ABOUT, JSON_LONG_ABOUT);
-    let command = add(command, made)?;
-    let command = add(command, explain(alloc))?;
-    add(command, vary(alloc))
+    let first = add(made, schedule(alloc));
+    let second = add(first, run(alloc));
+    let json = search(alloc, "json", JSON_ABOUT, JSON_LONG_ABOUT);
+    let third = add(second, json);
+    let fourth = add(third, explain(alloc));
+    add(fourth, vary(alloc))
 }
 
 // A line with those that look for none.
-fn with_reports<'a>(alloc: Global, command: Command<'a>) -> Result<Command<'a>, OutOfMemory>
-    ensures { IfOk result (λ c. app_of c ≡ with_reports (app_of command.entry)) }
+fn with_reports<'a>(alloc: Global, made: Made<'a>) -> Made<'a>
+    ensures { (line : App) → MakesProgram line made.entry → MakesProgram (with_reports line) result }
 {
     use help::{BOUNDS_ABOUT, BOUNDS_LONG_ABOUT};
     use help::{EDGES_ABOUT, EDGES_LONG_ABOUT};
-    let made = over_files(alloc, "bounds", BOUNDS_ABOUT, BOUNDS_LONG_ABOUT);
-    let command = add(command, made)?;
-    let made = over_named(alloc, "edges", EDGES_ABOUT, EDGES_LONG_ABOUT);
-    let command = add(command, made)?;
-    let command = add(command, dot(alloc))?;
-    let command = add(command, plain(alloc))?;
-    add(command, lint(alloc))
+    let bounds = over_files(alloc, "bounds", BOUNDS_ABOUT, BOUNDS_LONG_ABOUT);
+    let first = add(made, bounds);
+    let edges = over_named(alloc, "edges", EDGES_ABOUT, EDGES_LONG_ABOUT);
+    let second = add(first, edges);
+    let third = add(second, dot(alloc));
+    let fourth = add(third, plain(alloc));
+    add(fourth, lint(alloc))
 }
 
 // A line with those that take problems.
-fn with_problems<'a>(alloc: Global, command: Command<'a>) -> Result<Command<'a>, OutOfMemory>
-    ensures { IfOk result (λ c. app_of c ≡ with_problems (app_of command.entry)) }
+fn with_problems<'a>(alloc: Global, made: Made<'a>) -> Made<'a>
+    ensures { (line : App) → MakesProgram line made.entry → MakesProgram (with_problems line) result }
 {
-    let command = add(command, solve(alloc))?;
-    add(command, check(alloc))
+    let first = add(made, solve(alloc));
+    add(first, check(alloc))
 }
 
-// The command with one more subcommand. Whether that was made is looked at here alone, since the checker goes through the drops
-// after each `?`.
-fn add<'a>(
-    command: Command<'a>,
-    made: Result<Command<'a>, OutOfMemory>,
-) -> Result<Command<'a>, OutOfMemory>
-    ensures { IfOk result (λ c. IsAdded command.entry made.entry c) }
+// The command with one more subcommand.
+fn add<'a>(old: Made<'a>, made: Made<'a>) -> Made<'a>
+    ensures { (line sub : App) → MakesProgram line old.entry → MakesLine sub made.entry → MakesProgram (with_subcommand line sub.top) result }
 {
+    let command = old?;
     command.subcommand(made?)
 }
 
-// A subcommand that has no argument yet.
-fn bare<'a>(alloc: Global, name: &'a str, about: &'a str, long_about: &'a str) -> Command<'a>
-    ensures app { app_of result ≡ new_app name.entry.now }
-    ensures local { (out-Command result).has_globals ≡ false }
+// The command with one more argument.
+fn with<'a>(made: Made<'a>, arg: Arg<'a>) -> Made<'a>
+    ensures { (line : App) → arg.entry.global ≡ false → MakesLine line made.entry → MakesLine (with_rule line (rule_of arg.entry)) result }
 {
-    Command::new(alloc, name)
-        .about(about)
-        .long_about(long_about)
-        .after_long_help(help::LIMITS)
+    let command = made?;
+    command.arg(arg)
+}
+
+// A subcommand that has no argument yet.
+fn bare<'a>(alloc: Global, name: &'a str, about: &'a str, long_about: &'a str) -> Made<'a>
+    ensures { MakesLine (new_app name.entry.now) result }
+{
+    Ok(
+        Command::new(alloc, name)
+            .about(about)
+            .long_about(long_about)
+            .after_long_help(help::LIMITS),
+    )
 }
 
 // A subcommand that has the paths of both files.
-fn over_files<'a>(
-    alloc: Global,
-    name: &'a str,
-    about: &'a str,
-    long_about: &'a str,
-) -> Result<Command<'a>, OutOfMemory>
-    ensures app { IfOk result (λ c. app_of c ≡ with_paths name.entry.now) }
-    ensures local { IfOk result (λ c. (out-Command c).has_globals ≡ false) }
+fn over_files<'a>(alloc: Global, name: &'a str, about: &'a str, long_about: &'a str) -> Made<'a>
+    ensures { MakesLine (with_paths name.entry.now) result }
 {
-    bare(alloc, name, about, long_about)
-        .arg(machine(alloc))?
-        .arg(loops(alloc))?
-        .arg(names(alloc))
+    let first = with(bare(alloc, name, about, long_about), machine(alloc));
+    let second = with(first, loops(alloc));
+    with(second, names(alloc))
 }
 
 // A subcommand that has the paths of both files, or that of problems alone.
-fn over_either<'a>(
-    alloc: Global,
-    name: &'a str,
-    about: &'a str,
-    long_about: &'a str,
-) -> Result<Command<'a>, OutOfMemory>
-    ensures app { IfOk result (λ c. app_of c ≡ either_line name.entry.now) }
-    ensures local { IfOk result (λ c. (out-Command c).has_globals ≡ false) }
+fn over_either<'a>(alloc: Global, name: &'a str, about: &'a str, long_about: &'a str) -> Made<'a>
+    ensures { MakesLine (either_line name.entry.now) result }
 {
-    bare(alloc, name, about, long_about)
-        .arg(machine_or_problems(alloc))?
-        .arg(spare_loops(alloc, help::SPARE_LOOPS))
+    let command = bare(alloc, name, about, long_about);
+    let first = with(command, machine_or_problems(alloc));
+    with(first, spare_loops(alloc, help::SPARE_LOOPS))
 }
 
 // Such a subcommand that has names of loops too.
-fn over_named<'a>(
-    alloc: Global,
-    name: &'a str,
-    about: &'a str,
-    long_about: &'a str,
-) -> Result<Command<'a>, OutOfMemory>
-    ensures app { IfOk result (λ c. app_of c ≡ either_with_names name.entry.now) }
-    ensures local { IfOk result (λ c. (out-Command c).has_globals ≡ false) }
+fn over_named<'a>(alloc: Global, name: &'a str, about: &'a str, long_about: &'a str) -> Made<'a>
+    ensures { MakesLine (either_with_names name.entry.now) result }
 {
-    over_either(alloc, name, about, long_about)?.arg(names(alloc))
+    with(over_either(alloc, name, about, long_about), names(alloc))
 }
 
 // The subcommand `lint`.
-fn lint<'a>(alloc: Global) -> Result<Command<'a>, OutOfMemory>
-    ensures app { IfOk result (λ c. app_of c ≡ lint_line) }
-    ensures local { IfOk result (λ c. (out-Command c).has_globals ≡ false) }
+fn lint<'a>(alloc: Global) -> Made<'a>
+    ensures { MakesLine lint_line result }
 {
-    bare(alloc, "lint", help::LINT_ABOUT, help::LINT_LONG_ABOUT)
-        .arg(machine_or_loops(alloc))?
-        .arg(spare_loops(alloc, help::LOOPS_OF_TWO))?
-        .arg(machine_only(alloc))?
-        .arg(format(alloc))
+    let command = bare(alloc, "lint", help::LINT_ABOUT, help::LINT_LONG_ABOUT);
+    let first = with(command, machine_or_loops(alloc));
+    let second = with(first, spare_loops(alloc, help::LOOPS_OF_TWO));
+    let third = with(second, machine_only(alloc));
+    with(third, format(alloc))
 }
 
 // The subcommand `explain`.
-fn explain<'a>(alloc: Global) -> Result<Command<'a>, OutOfMemory>
-    ensures app { IfOk result (λ c. app_of c ≡ explain_line) }
-    ensures local { IfOk result (λ c. (out-Command c).has_globals ≡ false) }
+fn explain<'a>(alloc: Global) -> Made<'a>
+    ensures { MakesLine explain_line result }
 {
-    let command = over_named(
-        alloc,
-        "explain",
-        help::EXPLAIN_ABOUT,
-        help::EXPLAIN_LONG_ABOUT,
-    )?;
-    with_search(alloc, command)?.arg(format_or_page(alloc))
+    use help::{EXPLAIN_ABOUT, EXPLAIN_LONG_ABOUT};
+    let command = over_named(alloc, "explain", EXPLAIN_ABOUT, EXPLAIN_LONG_ABOUT);
+    with(with_search(alloc, command), format_or_page(alloc))
 }
 
 // The subcommand `dot`.
-fn dot<'a>(alloc: Global) -> Result<Command<'a>, OutOfMemory>
-    ensures app { IfOk result (λ c. app_of c ≡ dot_line) }
-    ensures local { IfOk result (λ c. (out-Command c).has_globals ≡ false) }
+fn dot<'a>(alloc: Global) -> Made<'a>
+    ensures { MakesLine dot_line result }
 {
-    let command = over_named(alloc, "dot", help::DOT_ABOUT, help::DOT_LONG_ABOUT)?;
-    with_search(alloc, command)?.arg(scheduled(alloc))
+    let command = over_named(alloc, "dot", help::DOT_ABOUT, help::DOT_LONG_ABOUT);
+    with(with_search(alloc, command), scheduled(alloc))
 }
 
 // The subcommand `schedule`.
-fn schedule<'a>(alloc: Global) -> Result<Command<'a>, OutOfMemory>
-    ensures app { IfOk result (λ c. app_of c ≡ schedule_line) }
-    ensures local { IfOk result (λ c. (out-Command c).has_globals ≡ false) }
+fn schedule<'a>(alloc: Global) -> Made<'a>
+    ensures { MakesLine schedule_line result }
 {
     use help::{SCHEDULE_ABOUT, SCHEDULE_LONG_ABOUT};
-    search(alloc, "schedule", SCHEDULE_ABOUT, SCHEDULE_LONG_ABOUT)?.arg(format(alloc))
+    let command = search(alloc, "schedule", SCHEDULE_ABOUT, SCHEDULE_LONG_ABOUT);
+    with(command, format(alloc))
 }
 
 // The subcommand `vary`.
-fn vary<'a>(alloc: Global) -> Result<Command<'a>, OutOfMemory>
-    ensures app { IfOk result (λ c. app_of c ≡ vary_line) }
-    ensures local { IfOk result (λ c. (out-Command c).has_globals ≡ false) }
+fn vary<'a>(alloc: Global) -> Made<'a>
+    ensures { MakesLine vary_line result }
 {
-    search(alloc, "vary", help::VARY_ABOUT, help::VARY_LONG_ABOUT)?
-        .arg(total(alloc))?
-        .arg(format(alloc))
+    let command = search(alloc, "vary", help::VARY_ABOUT, help::VARY_LONG_ABOUT);
+    let first = with(command, total(alloc));
+    with(first, format(alloc))
 }
 
 // A subcommand that looks for kernels.
-fn search<'a>(
-    alloc: Global,
-    name: &'a str,
-    about: &'a str,
-    long_about: &'a str,
-) -> Result<Command<'a>, OutOfMemory>
-    ensures app { IfOk result (λ c. app_of c ≡ search_line name.entry.now) }
-    ensures local { IfOk result (λ c. (out-Command c).has_globals ≡ false) }
+fn search<'a>(alloc: Global, name: &'a str, about: &'a str, long_about: &'a str) -> Made<'a>
+    ensures { MakesLine (search_line name.entry.now) result }
 {
-    let command = over_files(alloc, name, about, long_about)?;
-    with_search(alloc, command)
+    with_search(alloc, over_files(alloc, name, about, long_about))
 }
 
 // The subcommand `run`.
-fn run<'a>(alloc: Global) -> Result<Command<'a>, OutOfMemory>
-    ensures app { IfOk result (λ c. app_of c ≡ run_line) }
-    ensures local { IfOk result (λ c. (out-Command c).has_globals ≡ false) }
+fn run<'a>(alloc: Global) -> Made<'a>
+    ensures { MakesLine run_line result }
 {
-    let command = over_files(alloc, "run", help::RUN_ABOUT, help::RUN_LONG_ABOUT)?;
-    with_search(alloc, command.arg(trip(alloc))?)
+    let command = over_files(alloc, "run", help::RUN_ABOUT, help::RUN_LONG_ABOUT);
+    with_search(alloc, with(command, trip(alloc)))
 }
 
 // The subcommand `plain`.
-fn plain<'a>(alloc: Global) -> Result<Command<'a>, OutOfMemory>
-    ensures app { IfOk result (λ c. app_of c ≡ plain_line) }
-    ensures local { IfOk result (λ c. (out-Command c).has_globals ≡ false) }
+fn plain<'a>(alloc: Global) -> Made<'a>
+    ensures { MakesLine plain_line result }
 {
-    bare(alloc, "plain", help::PLAIN_ABOUT, help::PLAIN_LONG_ABOUT)
-        .arg(loops(alloc))?
-        .arg(names(alloc))?
-        .arg(trip(alloc))?
-        .arg(workers(alloc))
+    let command = bare(alloc, "plain", help::PLAIN_ABOUT, help::PLAIN_LONG_ABOUT);
+    let first = with(command, loops(alloc));
+    let second = with(first, names(alloc));
+    let third = with(second, trip(alloc));
+    with(third, workers(alloc))
 }
 
 // The subcommand `solve`.
-fn solve<'a>(alloc: Global) -> Result<Command<'a>, OutOfMemory>
-    ensures app { IfOk result (λ c. app_of c ≡ solve_line) }
-    ensures local { IfOk result (λ c. (out-Command c).has_globals ≡ false) }
+fn solve<'a>(alloc: Global) -> Made<'a>
+    ensures { MakesLine solve_line result }
 {
     let command = bare(alloc, "solve", help::SOLVE_ABOUT, help::SOLVE_LONG_ABOUT);
-    with_search(alloc, command.arg(problems(alloc))?)?.arg(format(alloc))
+    let first = with(command, problems(alloc));
+    with(with_search(alloc, first), format(alloc))
 }
 
 // The subcommand `check`.
-fn check<'a>(alloc: Global) -> Result<Command<'a>, OutOfMemory>
-    ensures app { IfOk result (λ c. app_of c ≡ check_line) }
-    ensures local { IfOk result (λ c. (out-Command c).has_globals ≡ false) }
+fn check<'a>(alloc: Global) -> Made<'a>
+    ensures { MakesLine check_line result }
 {
-    bare(alloc, "check", help::CHECK_ABOUT, help::CHECK_LONG_ABOUT)
-        .arg(problems(alloc))?
-        .arg(solutions(alloc))
+    let command = bare(alloc, "check", help::CHECK_ABOUT, help::CHECK_LONG_ABOUT);
+    let first = with(command, problems(alloc));
+    with(first, solutions(alloc))
 }
 
 // A subcommand with the options of a search.
-fn with_search<'a>(alloc: Global, command: Command<'a>) -> Result<Command<'a>, OutOfMemory>
-    ensures app { IfOk result (λ c. app_of c ≡ with_search (app_of command.entry)) }
-    ensures local { IfOk result (λ c. (out-Command c).has_globals ≡ (out-Command command.entry).has_globals) }
+fn with_search<'a>(alloc: Global, made: Made<'a>) -> Made<'a>
+    ensures { (line : App) → MakesLine line made.entry → MakesLine (with_search line) result }
 {
-    command
-        .arg(ratio(alloc))?
-        .arg(ceiling(alloc))?
-        .arg(workers(alloc))?
-        .arg(cut(alloc))
+    let first = with(made, ratio(alloc));
+    let second = with(first, ceiling(alloc));
+    let third = with(second, workers(alloc));
+    with(third, cut(alloc))
 }
 
 // The path of the machine's file.

@@ -9,7 +9,7 @@ texts = map (λ w. w.now)
 
 pub returns-in-Some : goal.returns-in-Some
 returns-in-Some c =
-    let same : app_of c.in_ok-program.field-0 ≡ program_line = c.in_ok-program.ensures in
+    let same : app_of c.in_ok-program.field-0 ≡ program_line = c.in_ok-program.ensures.is_line in
     let words : List (List ℕ) = texts c.args.words.now in
     let rows : subcommand_rows_of c.in-Ok.matches ≡ subcommand_of program_line (texts c.args.words.now) =
     (c.in-Ok.ensures.matches (ap is_simple same ∙ program_is_simple)).1 ∙ ap (λ (a : App). subcommand_of a (texts c.args.words.now)) same in (
@@ -19,7 +19,7 @@ returns-in-Some c =
 
 pub returns-in-Ok : goal.returns-in-Ok
 returns-in-Ok c =
-    let same : app_of c.in_ok-program.field-0 ≡ program_line = c.in_ok-program.ensures in
+    let same : app_of c.in_ok-program.field-0 ≡ program_line = c.in_ok-program.ensures.is_line in
     let rows : subcommand_rows_of c.in-Ok.matches ≡ subcommand_of program_line (texts c.args.words.now) =
     (c.in-Ok.ensures.matches (ap is_simple same ∙ program_is_simple)).1 ∙ ap (λ (a : App). subcommand_of a (texts c.args.words.now)) same in
     inr (
@@ -29,7 +29,7 @@ returns-in-Ok c =
 
 pub returns : goal.returns
 returns c =
-    let same : app_of c.in_ok-program.field-0 ≡ program_line = c.in_ok-program.ensures in
+    let same : app_of c.in_ok-program.field-0 ≡ program_line = c.in_ok-program.ensures.is_line in
     let has : HasKind (fault_of (app_of c.in_ok-program.field-0) (texts c.args.words.now)) c.in-Err.error =
     c.in-Err.ensures.kinds (ap is_simple_and_free same ∙ program_is_free) in
     IsRead-error _ c.in-Err.error _ _ c.usage_of.ensures

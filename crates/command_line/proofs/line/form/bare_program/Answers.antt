@@ -27,4 +27,4 @@ returns c =
     ap app_of_fields c.after_long_help.ensures ∙ ap app_of_fields c.long_about.ensures ∙ ap app_of_fields c.about.ensures ∙ numbered in
     let wants : app_of c.subcommand_required.result ≡ demanding (versioned (bare (new_app (codes "modsched")))) =
     ap app_of_fields c.subcommand_required.ensures ∙ ap demanding told in
-    ap app_of_fields c.arg_required_else_help-command.ensures ∙ ap helpful wants
+    record { is_line = ap app_of_fields c.arg_required_else_help-command.ensures ∙ ap helpful wants }

@@ -1,10 +1,9 @@
-use Rattle.std.proofs.lemmas.Result.{IfOk-weaker}
 use Rattle.command_line.specs.Lines.{check_line}
-use Rattle.command_line.proofs.LineLemmas.{adds}
+use Rattle.command_line.proofs.LineLemmas.{ruled}
 use Rattle.command_line.proofs.line.form.check.Goals as goal
 
-pub returns-clause-app : goal.returns-clause-app
+pub returns : goal.returns
 unfolding check_line
-returns-clause-app c =
-    let first = adds _ _ _ _ _ c.in_ok-arg.ensures c.problems.ensures.local c.bare.ensures.app c.problems.ensures.rule in
-    IfOk-weaker c.arg-2.result _ _ (λ r h. adds _ _ _ _ _ h c.solutions.ensures.local first c.solutions.ensures.rule) c.arg-2.ensures
+returns c =
+    let first = ruled c.problems.result c.with-first.ensures c.problems.ensures.local c.problems.ensures.rule c.bare-command.ensures in
+    ruled c.solutions.result c.with.ensures c.solutions.ensures.local c.solutions.ensures.rule first

@@ -1,12 +1,8 @@
-use Rattle.std.proofs.Common.{◌∙◌, ap}
-use Rattle.std.proofs.lemmas.Result.{IfOk-weaker}
-use Rattle.clap.specs.Words.{App}
-use Rattle.command_line.specs.Lines.{dot_line, with_search}
-use Rattle.command_line.proofs.LineLemmas.{adds}
+use Rattle.command_line.specs.Lines.{dot_line}
+use Rattle.command_line.proofs.LineLemmas.{ruled}
 use Rattle.command_line.proofs.line.form.dot.Goals as goal
 
-pub returns-clause-app : goal.returns-clause-app
+pub returns : goal.returns
 unfolding dot_line
-returns-clause-app c =
-    let searched = c.in_ok-with_search.ensures.app ∙ ap (λ (a : App). with_search a) c.in_ok-command.ensures.app in
-    IfOk-weaker c.arg.result _ _ (λ r h. adds _ _ _ _ _ h c.scheduled.ensures.local searched c.scheduled.ensures.rule) c.arg.ensures
+returns c =
+    ruled c.scheduled.result c.with.ensures c.scheduled.ensures.local c.scheduled.ensures.rule (c.with_search.ensures _ c.over_named-command.ensures)

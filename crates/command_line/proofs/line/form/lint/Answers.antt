@@ -1,12 +1,11 @@
-use Rattle.std.proofs.lemmas.Result.{IfOk-weaker}
-use Rattle.command_line.specs.Lines.{either_line, lint_line}
-use Rattle.command_line.proofs.LineLemmas.{adds}
+use Rattle.command_line.specs.Lines.{lint_line, either_line}
+use Rattle.command_line.proofs.LineLemmas.{ruled}
 use Rattle.command_line.proofs.line.form.lint.Goals as goal
 
-pub returns-clause-app : goal.returns-clause-app
+pub returns : goal.returns
 unfolding lint_line either_line
-returns-clause-app c =
-    let first = adds _ _ _ _ _ c.in_ok-arg.ensures c.machine_or_loops.ensures.local c.bare.ensures.app c.machine_or_loops.ensures.rule in
-    let second = adds _ _ _ _ _ c.in_ok-arg-2.ensures c.spare_loops.ensures.local first c.spare_loops.ensures.rule in
-    let third = adds _ _ _ _ _ c.in_ok-arg-3.ensures c.machine_only.ensures.local second c.machine_only.ensures.rule in
-    IfOk-weaker c.arg-4.result _ _ (λ r h. adds _ _ _ _ _ h c.format.ensures.local third c.format.ensures.rule) c.arg-4.ensures
+returns c =
+    let first = ruled c.machine_or_loops.result c.with-first.ensures c.machine_or_loops.ensures.local c.machine_or_loops.ensures.rule c.bare-command.ensures in
+    let second = ruled c.spare_loops.result c.with-second.ensures c.spare_loops.ensures.local c.spare_loops.ensures.rule first in
+    let third = ruled c.machine_only.result c.with-third.ensures c.machine_only.ensures.local c.machine_only.ensures.rule second in
+    ruled c.format.result c.with.ensures c.format.ensures.local c.format.ensures.rule third

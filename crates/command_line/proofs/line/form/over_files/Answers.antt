@@ -1,9 +1,8 @@
-use Rattle.std.proofs.lemmas.Result.{IfOk-weaker}
-use Rattle.command_line.proofs.LineLemmas.{adds}
+use Rattle.command_line.proofs.LineLemmas.{ruled}
 use Rattle.command_line.proofs.line.form.over_files.Goals as goal
 
-pub returns-clause-app : goal.returns-clause-app
-returns-clause-app c =
-    let first = adds _ _ _ _ _ c.in_ok-arg.ensures c.machine.ensures.local c.bare.ensures.app c.machine.ensures.rule in
-    let second = adds _ _ _ _ _ c.in_ok-arg-2.ensures c.loops.ensures.local first c.loops.ensures.rule in
-    IfOk-weaker c.arg-3.result _ _ (λ r h. adds _ _ _ _ _ h c.names.ensures.local second c.names.ensures.rule) c.arg-3.ensures
+pub returns : goal.returns
+returns c =
+    let first = ruled c.machine.result c.with-first.ensures c.machine.ensures.local c.machine.ensures.rule c.bare.ensures in
+    let second = ruled c.loops.result c.with-second.ensures c.loops.ensures.local c.loops.ensures.rule first in
+    ruled c.names.result c.with.ensures c.names.ensures.local c.names.ensures.rule second

@@ -1,9 +1,8 @@
-use Rattle.std.proofs.lemmas.Result.{IfOk-weaker}
 use Rattle.command_line.specs.Lines.{either_with_names}
-use Rattle.command_line.proofs.LineLemmas.{adds}
+use Rattle.command_line.proofs.LineLemmas.{ruled}
 use Rattle.command_line.proofs.line.form.over_named.Goals as goal
 
-pub returns-clause-app : goal.returns-clause-app
+pub returns : goal.returns
 unfolding either_with_names
-returns-clause-app c =
-    IfOk-weaker c.arg.result _ _ (λ r h. adds _ _ _ _ _ h c.names.ensures.local c.in_ok-over_either.ensures.app c.names.ensures.rule) c.arg.ensures
+returns c =
+    ruled c.names.result c.with.ensures c.names.ensures.local c.names.ensures.rule c.over_either.ensures

@@ -1,12 +1,8 @@
-use Rattle.std.proofs.Common.{◌∙◌, ap}
-use Rattle.std.proofs.lemmas.Result.{IfOk-weaker}
-use Rattle.clap.specs.Words.{App}
-use Rattle.command_line.specs.Lines.{run_line, with_search}
-use Rattle.command_line.proofs.LineLemmas.{adds}
+use Rattle.command_line.specs.Lines.{run_line}
+use Rattle.command_line.proofs.LineLemmas.{ruled}
 use Rattle.command_line.proofs.line.form.run.Goals as goal
 
-pub returns-clause-app : goal.returns-clause-app
+pub returns : goal.returns
 unfolding run_line
-returns-clause-app c =
-    let all = adds _ _ _ _ _ c.in_ok-arg.ensures c.trip.ensures.local c.in_ok-command.ensures.app c.trip.ensures.rule in
-    IfOk-weaker c.with_search.result _ _ (λ r h. h ∙ ap (λ (a : App). with_search a) all) c.with_search.ensures.app
+returns c =
+    c.with_search.ensures _ (ruled c.trip.result c.with.ensures c.trip.ensures.local c.trip.ensures.rule c.over_files-command.ensures)

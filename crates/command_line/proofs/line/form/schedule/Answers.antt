@@ -1,9 +1,8 @@
-use Rattle.std.proofs.lemmas.Result.{IfOk-weaker}
 use Rattle.command_line.specs.Lines.{schedule_line}
-use Rattle.command_line.proofs.LineLemmas.{adds}
+use Rattle.command_line.proofs.LineLemmas.{ruled}
 use Rattle.command_line.proofs.line.form.schedule.Goals as goal
 
-pub returns-clause-app : goal.returns-clause-app
+pub returns : goal.returns
 unfolding schedule_line
-returns-clause-app c =
-    IfOk-weaker c.arg.result _ _ (λ r h. adds _ _ _ _ _ h c.format.ensures.local c.in_ok-search.ensures.app c.format.ensures.rule) c.arg.ensures
+returns c =
+    ruled c.format.result c.with.ensures c.format.ensures.local c.format.ensures.rule c.search-command.ensures

@@ -1,13 +1,9 @@
-use Rattle.std.proofs.lemmas.Result.{IfOk-weaker}
-use Rattle.std.proofs.Common.{◌∙◌, ap}
-use Rattle.clap.specs.Words.{App}
-use Rattle.command_line.specs.Lines.{solve_line, with_search}
-use Rattle.command_line.proofs.LineLemmas.{adds}
+use Rattle.command_line.specs.Lines.{solve_line}
+use Rattle.command_line.proofs.LineLemmas.{ruled}
 use Rattle.command_line.proofs.line.form.solve.Goals as goal
 
-pub returns-clause-app : goal.returns-clause-app
+pub returns : goal.returns
 unfolding solve_line
-returns-clause-app c =
-    let paths = adds _ _ _ _ _ c.in_ok-arg.ensures c.problems.ensures.local c.bare-command.ensures.app c.problems.ensures.rule in
-    let all = c.in_ok-with_search.ensures.app ∙ ap (λ (a : App). with_search a) paths in
-    IfOk-weaker c.arg-2.result _ _ (λ r h. adds _ _ _ _ _ h c.format.ensures.local all c.format.ensures.rule) c.arg-2.ensures
+returns c =
+    let first = ruled c.problems.result c.with-first.ensures c.problems.ensures.local c.problems.ensures.rule c.bare-command.ensures in
+    ruled c.format.result c.with.ensures c.format.ensures.local c.format.ensures.rule (c.with_search.ensures _ first)

@@ -1,10 +1,9 @@
-use Rattle.std.proofs.lemmas.Result.{IfOk-weaker}
 use Rattle.command_line.specs.Lines.{vary_line}
-use Rattle.command_line.proofs.LineLemmas.{adds}
+use Rattle.command_line.proofs.LineLemmas.{ruled}
 use Rattle.command_line.proofs.line.form.vary.Goals as goal
 
-pub returns-clause-app : goal.returns-clause-app
+pub returns : goal.returns
 unfolding vary_line
-returns-clause-app c =
-    let total = adds _ _ _ _ _ c.in_ok-arg.ensures c.total.ensures.local c.in_ok-search.ensures.app c.total.ensures.rule in
-    IfOk-weaker c.arg-2.result _ _ (λ r h. adds _ _ _ _ _ h c.format.ensures.local total c.format.ensures.rule) c.arg-2.ensures
+returns c =
+    let first = ruled c.total.result c.with-first.ensures c.total.ensures.local c.total.ensures.rule c.search-command.ensures in
+    ruled c.format.result c.with.ensures c.format.ensures.local c.format.ensures.rule first
