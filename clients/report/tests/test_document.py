@@ -316,7 +316,8 @@ class Document(unittest.TestCase):
             self.assertLessEqual({"set"}, loop.keys())
             kernel = loop.get("kernel")
             self.assertEqual(["slack" in it for it in loop["operations"]], [kernel is not None] * len(loop["operations"]))
-            self.assertEqual(["need" in it for it in loop["tried"]], [it["outcome"] == "registers" for it in loop["tried"]])
+            lacking = [place for place, it in enumerate(loop["tried"]) if it["outcome"] == "registers"]
+            self.assertEqual([place for place, it in enumerate(loop["tried"]) if "need" in it], sorted({*lacking[:1], *lacking[-1:]}))
             if kernel:
                 self.assertLessEqual(own_documents.OF_KERNEL, kernel.keys())
 

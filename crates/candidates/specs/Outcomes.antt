@@ -1,7 +1,9 @@
 -- What a loop gives at an interval: a kernel, or the cause for which it gives none.
 use Rattle.std.specs.Prelude.{◌≡◌, ℕ, ◌≤◌}
+use Rattle.modulo.specs.declared.outcome.attempts.Culprit.{Culprit}
 use Rattle.modulo.specs.declared.outcome.attempts.Failure.{Failure}
 use Rattle.modulo.specs.declared.outcome.attempts.Failure.TheVariants as failure
+use Rattle.modulo.specs.Culprits.{failure_of}
 use Rattle.ims.specs.declared.outcome.attempts.Try.TheVariants as try
 use Rattle.ims.specs.Attempts.{AnswersAttempt}
 use Rattle.ims.specs.Problems.{ProblemData, IsProblem, mii_of, budget_of}
@@ -42,6 +44,10 @@ abbrev pub cause_of : Failure → Cause
 cause_of failure.Table = Table
 cause_of failure.Budget = Budget
 cause_of failure.Stages = Stages
+
+-- .. and that of an attempt that this keeps from a schedule
+abbrev pub culprit_cause : Culprit → Cause
+culprit_cause culprit = cause_of (failure_of culprit)
 
 -- why an interval gives no kernel
 abbrev pub FailsBy : ProblemData → ℕ → Cause → Type 0

@@ -1,6 +1,5 @@
 -- Why an interval failed, and what it gives with the evidence of it.
-use Rattle.std.specs.Prelude.{◌≡◌, ℕ, Option, Some}
-use Rattle.modulo.specs.Culprits.{failure_of}
+use Rattle.std.specs.Prelude.{◌≡◌, ℕ, Some}
 use Rattle.ims.specs.Culprits.{AnswersCulprit}
 use Rattle.ims.specs.Problems.{ProblemData, budget_of}
 use Rattle.ims.specs.Schedules.{ScheduleData}
@@ -9,7 +8,6 @@ use Rattle.registers.specs.Numberless.{HasNone}
 use Rattle.overlap.specs.Allotments.{LeastFor}
 use Rattle.overlap.specs.Emission.{emitted}
 use Rattle.overlap.specs.Lifetimes.{lifetimes_of}
-use Rattle.rotating.specs.Needs.{IsNeed}
 use Rattle.candidates.specs.declared.evidence.Met as evidence
 use Rattle.candidates.specs.declared.evidence.Reason.{Reason}
 use Rattle.candidates.specs.declared.evidence.Reason.TheVariants.{Attempt, Register}
@@ -19,24 +17,22 @@ use Rattle.candidates.specs.declared.outcomes.Cause.{Cause}
 use Rattle.candidates.specs.declared.outcomes.Cause.TheVariants.{Registers}
 use Rattle.candidates.specs.declared.outcomes.Outcome.{Outcome}
 use Rattle.candidates.specs.declared.outcomes.Outcome.TheVariants as outcome
-use Rattle.candidates.specs.Outcomes.{FailsBy, Gives, IsPlacedAs, cause_of}
+use Rattle.candidates.specs.Outcomes.{FailsBy, Gives, IsPlacedAs, culprit_cause}
 
 -- the cause that a reason is after
 abbrev pub reason_cause : Reason → Cause
-reason_cause (Attempt culprit) = cause_of (failure_of culprit)
-reason_cause (Register life need) = Registers
+reason_cause (Attempt culprit) = culprit_cause culprit
+reason_cause (Register life schedule) = Registers
 
--- the attempt places all operations, this is the first value that has no register, and this is how many registers all values need
-pub record LacksFor (problem : ProblemData) (ii : ℕ) (life : Lifetime) (need : Option ℕ) : Type 0 where
-  pub schedule : ScheduleData
+-- the attempt places all operations as the schedule says, and this is the first value that has no register
+pub record LacksFor (problem : ProblemData) (ii : ℕ) (life : Lifetime) (schedule : ScheduleData) : Type 0 where
   pub is_schedule : IsPlacedAs problem ii schedule
   pub none : HasNone schedule.ii problem.registers (lifetimes_of schedule) life
-  pub is_need : IsNeed schedule need
 
 -- why an interval failed
 abbrev pub IsReason : ProblemData → ℕ → Reason → Type 0
 IsReason problem ii (Attempt culprit) = AnswersCulprit problem ii (budget_of problem) (Some culprit)
-IsReason problem ii (Register life need) = LacksFor problem ii life need
+IsReason problem ii (Register life schedule) = LacksFor problem ii life schedule
 
 -- an interval gives no kernel, by the cause of this reason, and for this reason
 pub record FailsFor (problem : ProblemData) (ii : ℕ) (reason : Reason) : Type 0 where

@@ -10,28 +10,25 @@ use ims::{Answer, Culprit, Prepared, Schedule, answer_on};
 use kernel::Kernel;
 use machine_data::OutOfMemory;
 use mrt::DefaultTable;
-use rotating::{Allotment, Allotted, Lifetime, allot_or_lack, emit, least_registers};
+use rotating::{Allotment, Allotted, Lifetime, allot_or_lack, emit};
 use std::alloc::Global;
 
 /// Why an interval failed.
-#[derive(Debug, Drop)]
-pub enum Reason {
+#[derive(Drop)]
+pub enum Reason<'a> {
     /// What keeps the attempt from a schedule.
     Attempt(Culprit),
-    /// The first value of the schedule that has no register, and the [least number of registers](least_registers) for which
-    /// each value has one, if there is such a number.
-    Register(Lifetime, Option<u64>),
+    /// The first value of the schedule that has no register, and the schedule.
+    Register(Lifetime, Schedule<'a>),
 }
 
-impl Reason {
+impl<'a> Reason<'a> {
     /// The cause that it is a reason of.
     pub fn cause(&self) -> Cause
         ensures value { result ≡ reason_cause self.now }
     {
         match self {
-            Reason::Attempt(Culprit::Blocked(_)) => Cause::Table,
-            Reason::Attempt(Culprit::Unplaced(_)) => Cause::Budget,
-            Reason::Attempt(Culprit::Late(_, _)) => Cause::Stages,
+            Reason::Attempt(culprit) => Cause::of(culprit),
             Reason::Register(_, _) => Cause::Registers,
         }
     }
@@ -54,7 +51,7 @@ pub enum Tried<'a> {
     /// A kernel, with its schedule and its registers.
     Met(Met<'a>),
     /// No kernel, and what keeps the interval from one.
-    Failed(Reason),
+    Failed(Reason<'a>),
 }
 
 /// What a loop gives at the interval of a table of its operations, with nothing placed, and the evidence of it.
@@ -76,10 +73,7 @@ pub(crate) fn tried_on<'a>(
     };
     let allotment = match allot_or_lack(alloc, &schedule, u64::from(prepared.registers()))? {
         Allotted::All(allotment) => allotment,
-        Allotted::Lacks(life) => {
-            let need = least_registers(alloc, &schedule)?;
-            return Ok(Tried::Failed(Reason::Register(life, need)));
-        }
+        Allotted::Lacks(life) => return Ok(Tried::Failed(Reason::Register(life, schedule))),
     };
     let kernel = emit(alloc, prepared.innermost(), &schedule, &allotment)?;
     Ok(Tried::Met(Met {

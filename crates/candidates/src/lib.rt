@@ -22,5 +22,5 @@ pub use outcomes::{Cause, Outcome, try_interval};
 pub use pieces::{Piece, Pieces};
 pub use preparing::prepare;
 pub use settings::{OutOfRange, Settings};
-pub use texts::{listing_text, number_failed, number_met, write_last, write_row};
+pub use texts::{listing_text, number_failed, number_met, write_last, write_row, write_version};
 pub use trials::Trials;

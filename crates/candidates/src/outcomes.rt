@@ -4,11 +4,11 @@ ghost use Rattle.std.specs.Prelude.{◌≡◌, ◌≤◌, length, replicate, Non
 ghost use Rattle.ims.specs.Problems.{IsProblem, budget_of, mii_of};
 ghost use Rattle.overlap.specs.Allotments.{NoneFor};
 ghost use Rattle.candidates.specs.Choices.{last_of};
-ghost use Rattle.candidates.specs.Outcomes.{Gives, HasKernel, cause_of};
+ghost use Rattle.candidates.specs.Outcomes.{Gives, HasKernel, cause_of, culprit_cause};
 ghost use Rattle.candidates.specs.Texts.{cause_word};
 
 use crate::trials::Trials;
-use ims::{Failure, Prepared, Schedule, Try, attempt_on};
+use ims::{Culprit, Failure, Prepared, Schedule, Try, attempt_on};
 use kernel::Kernel;
 use machine_data::OutOfMemory;
 use mrt::DefaultTable;
@@ -29,6 +29,17 @@ pub enum Cause {
 }
 
 impl Cause {
+    /// The cause of an interval whose attempt this keeps from a schedule.
+    pub fn of(culprit: &Culprit) -> Cause
+        ensures value { result ≡ culprit_cause culprit.now }
+    {
+        match culprit {
+            Culprit::Blocked(_) => Cause::Table,
+            Culprit::Unplaced(_) => Cause::Budget,
+            Culprit::Late(_, _) => Cause::Stages,
+        }
+    }
+
     /// The word that tells it in a listing.
     pub fn word(self) -> &'static str
         ensures value { result.now ≡ cause_word self }

@@ -52,9 +52,10 @@ fn row_room(row: &Row) -> usize
     }
 }
 
-/// Writes the line that tells that some loop has a value that is live at the end.
-fn write_version(text: &mut String, rows: &[Row]) -> Result<(), OutOfMemory>
-    ensures { IfOk result (λ _. string_bytes text.new ≡ string_bytes text.old ++ version_text rows.now) }
+/// Appends the line that tells that some loop has a value that is live at the end, where one has. Where memory runs out the text
+/// is left with a part of it.
+pub fn write_version(text: &mut String, rows: &[Row]) -> Result<(), OutOfMemory>
+    ensures text { IfOk result (λ _. string_bytes text.new ≡ string_bytes text.old ++ version_text rows.now) }
 {
     if has_outs(rows) {
         text.push_str("version 2\n")?;

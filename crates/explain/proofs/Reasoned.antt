@@ -1,6 +1,6 @@
 -- The operations that are named where an interval failed.
 use Rattle.std.proofs.Common.{◌≡◌, ℕ, ◌+◌, ◌<◌, List, length, map, get_or, Some, sym, ap, ◌∙◌, subst, arith}
-use Rattle.std.specs.Prelude.{Option, is_none, option_map, slice_get}
+use Rattle.std.specs.Prelude.{is_none, option_map, slice_get}
 use Rattle.std.specs.List.{All, range_with_len}
 use Rattle.std.proofs.lemmas.List.{length-map}
 use Rattle.std.proofs.lemmas.List.Elements.{All-filter, Contains-get_or}
@@ -33,9 +33,9 @@ life-there s place life e =
     let z : value ≡ 0 + back.0 = back.3 in
     omega arith
 
-pub value-there : (p : ProblemData) (ii : ℕ) (life : Lifetime) (need : Option ℕ) → LacksFor p ii life need → life.operation < length p.loop.statements
-value-there p ii life need lacks =
-    subst (λ (q : ProblemData). life.operation < length q.loop.statements) lacks.is_schedule.2 (life-there lacks.schedule lacks.none.place life lacks.none.is_life)
+pub value-there : (p : ProblemData) (ii : ℕ) (life : Lifetime) (schedule : ScheduleData) → LacksFor p ii life schedule → life.operation < length p.loop.statements
+value-there p ii life schedule lacks =
+    subst (λ (q : ProblemData). life.operation < length q.loop.statements) lacks.is_schedule.2 (life-there schedule lacks.none.place life lacks.none.is_life)
 
 -- ---- the operations that an attempt does not place
 pub op-there : (p : ProblemData) (op : ℕ) → IsProblem p → op < length p.operations → op < length p.loop.statements

@@ -5,9 +5,9 @@ use Rattle.std.proofs.lemmas.Option.{slice_get-get_or}
 use Rattle.ims.specs.Problems.{ProblemData, mii_of}
 use Rattle.candidates.specs.declared.choices.Choice.{Choice}
 use Rattle.candidates.specs.declared.choices.Choice.TheVariants.{Met}
-use Rattle.candidates.specs.declared.evidence.Reason.{Reason}
+use Rattle.told_choices.specs.declared.why.Why.{Why}
 use Rattle.candidates.specs.Choices.{IsChoice}
-use Rattle.candidates.specs.Reasons.{FailsFor, IsReason}
+use Rattle.told_choices.specs.Whys.{FailsAs, IsWhy}
 use Rattle.kernel.specs.declared.kernels.parts.Parts.{Parts}
 use Rattle.told_choices.specs.declared.hold.Hold.{Hold}
 use Rattle.told_choices.specs.Holds.{IsHold}
@@ -18,22 +18,22 @@ use Rattle.reason_lines.specs.Least.{least_line}
 use Rattle.explain.specs.Tries.{IsEnd, hold_line, kernel_line}
 
 -- each reason is that of some interval
-pub reasons-of : (p : ProblemData) (n : ℕ) (reasons : List Reason) → AllZip (FailsFor p) (range_with_len (mii_of p) n) reasons
-    → All (λ (reason : Reason). (ii : ℕ) × IsReason p ii reason) reasons
+pub reasons-of : (p : ProblemData) (n : ℕ) (reasons : List Why) → AllZip (FailsAs p) (range_with_len (mii_of p) n) reasons
+    → All (λ (reason : Why). (ii : ℕ) × IsWhy p ii reason) reasons
 reasons-of p n reasons are = λ k d within. (
   mii_of p + k,
   (reason-at p n k reasons (get_or reasons k d) are (slice_get-get_or reasons k d within)).is,
 )
 
 -- the end of a choice that has a kernel
-pub met-end : (p : ProblemData) (need : ℕ) (free : Bool) (choice : Choice) (ii : ℕ) (kernel parts : Parts) (reasons : List Reason) (hold : Hold) (text : List ℕ)
-    → choice ≡ Met ii kernel → parts ≡ kernel → IsChoice p choice → AllZip (FailsFor p) (range_with_len (mii_of p) (failures_of p choice)) reasons
-    → ((n : ℕ) → mii_of p ≤ n → AllZip (FailsFor p) (range_with_len (mii_of p) (n - mii_of p)) reasons → IsHold p free n hold)
+pub met-end : (p : ProblemData) (need : ℕ) (free : Bool) (choice : Choice) (ii : ℕ) (kernel parts : Parts) (reasons : List Why) (hold : Hold) (text : List ℕ)
+    → choice ≡ Met ii kernel → parts ≡ kernel → IsChoice p choice → AllZip (FailsAs p) (range_with_len (mii_of p) (failures_of p choice)) reasons
+    → ((n : ℕ) → mii_of p ≤ n → AllZip (FailsAs p) (range_with_len (mii_of p) (n - mii_of p)) reasons → IsHold p free n hold)
     → text ≡ (kernel_line ii parts.stages ++ hold_line hold) ++ least_line (is_least_possible p need ii) → IsEnd p need free choice text
 met-end p need free choice ii kernel parts reasons hold text same kernel_is chosen are held e =
     let least = least_line (is_least_possible p need ii) in
     let is : IsChoice p (Met ii kernel) = subst (IsChoice p) same chosen in
-    let before : AllZip (FailsFor p) (range_with_len (mii_of p) (ii - mii_of p)) reasons
-    = subst (λ (c : Choice). AllZip (FailsFor p) (range_with_len (mii_of p) (failures_of p c)) reasons) same are in
+    let before : AllZip (FailsAs p) (range_with_len (mii_of p) (ii - mii_of p)) reasons
+    = subst (λ (c : Choice). AllZip (FailsAs p) (range_with_len (mii_of p) (failures_of p c)) reasons) same are in
     let told : text ≡ (kernel_line ii kernel.stages ++ hold_line hold) ++ least = e ∙ ap (λ (k : Parts). (kernel_line ii k.stages ++ hold_line hold) ++ least) kernel_is in
     subst (λ (c : Choice). IsEnd p need free c text) (sym same) (hold, held ii is.from_first before, told)

@@ -6,9 +6,9 @@ use Rattle.graph_text.specs.Names.{op_name}
 use Rattle.modulo.specs.declared.outcome.attempts.Culprit.{Culprit}
 use Rattle.modulo.specs.declared.outcome.attempts.Culprit.TheVariants.{Blocked, Unplaced, Late}
 use Rattle.registers.specs.declared.lifetime.Lifetime.{Lifetime}
-use Rattle.candidates.specs.declared.evidence.Reason.{Reason}
-use Rattle.candidates.specs.declared.evidence.Reason.TheVariants.{Attempt, Register}
 use Rattle.schedule_lines.specs.ScheduleTexts.{need_word}
+use Rattle.told_choices.specs.declared.why.Why.{Why}
+use Rattle.told_choices.specs.declared.why.Why.TheVariants.{Attempt, Register, Need}
 use Rattle.writing.specs.Words.{told}
 
 -- the name of an operation after a blank
@@ -21,11 +21,15 @@ culprit_text loop (Blocked op) = named loop op
 culprit_text loop (Unplaced ops) = flat_map (named loop) ops.items
 culprit_text loop (Late op time) = named loop op ++ told (codes " at ") time
 
--- ` VALUE lives FIRST to LAST, all need N`: in cycles, and how many registers
-abbrev pub life_text : LoopData → Lifetime → Option ℕ → List ℕ
-life_text loop life need =
-    ((named loop life.operation ++ told (codes " lives ") life.first) ++ told (codes " to ") life.last) ++ (codes ", all need " ++ need_word need)
+-- ` VALUE lives FIRST to LAST`: in cycles
+abbrev pub life_text : LoopData → Lifetime → List ℕ
+life_text loop life = (named loop life.operation ++ told (codes " lives ") life.first) ++ told (codes " to ") life.last
 
-abbrev pub reason_text : LoopData → Reason → List ℕ
+-- `, all need N`: how many registers
+abbrev pub need_text : Option ℕ → List ℕ
+need_text need = codes ", all need " ++ need_word need
+
+abbrev pub reason_text : LoopData → Why → List ℕ
 reason_text loop (Attempt culprit) = culprit_text loop culprit
-reason_text loop (Register life need) = life_text loop life need
+reason_text loop (Register life) = life_text loop life
+reason_text loop (Need life need) = life_text loop life ++ need_text need

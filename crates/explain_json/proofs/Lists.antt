@@ -8,7 +8,7 @@ use Rattle.serde_json.specs.Data.{Data}
 use Rattle.serde_json.specs.View.{view}
 use Rattle.serde_json.specs.declared.value.Value.{Value}
 use Rattle.graph_text.proofs.Texts.{numbers-push}
-use Rattle.candidates.specs.declared.evidence.Reason.{Reason}
+use Rattle.told_choices.specs.declared.why.Why.{Why}
 use Rattle.explain_json.specs.Tries.{failure_object, failures_from}
 
 -- one value more
@@ -40,7 +40,7 @@ zipped-more {A = A} R xs i d objects told within are r =
     subst (λ (zs : List A). AllZip R zs (objects ++ told ∷ [])) (sym (take_more xs i d within)) (all_zipped_more R (take i xs) objects (get_or xs i d) told are r)
 
 -- one interval more
-pub failures-push : (ii k : ℕ) (reasons : List Reason) (reason : Reason) → length reasons ≡ k
+pub failures-push : (ii k : ℕ) (reasons : List Why) (reason : Why) → length reasons ≡ k
     → failures_from ii (reasons ++ reason ∷ []) ≡ failures_from ii reasons ++ failure_object (ii + k) reason ∷ []
 failures-push ii k [] reason long = ap (λ n. failure_object n reason ∷ []) (let e : ii ≡ ii + k = omega arith in e)
 failures-push ii zero (r ∷ rs) reason long = absurd (omega arith)

@@ -17,8 +17,8 @@ use Rattle.registers.specs.Crowds.{nobody}
 use Rattle.overlap.specs.Lifetimes.{lifetimes_of}
 use Rattle.figures.specs.declared.figures.Figures.{Figures}
 use Rattle.candidates.specs.declared.evidence.Met as evidence
-use Rattle.candidates.specs.declared.evidence.Reason.{Reason}
-use Rattle.candidates.specs.declared.evidence.Reason.TheVariants.{Attempt, Register}
+use Rattle.told_choices.specs.declared.why.Why.{Why}
+use Rattle.told_choices.specs.declared.why.Why.TheVariants.{Attempt, Register, Need}
 use Rattle.schedule_lines.specs.Columns.{used_units}
 use Rattle.schedule_lines.specs.Slots.{live_counts, percent_of, rows_in, slot_taker}
 use Rattle.told_choices.specs.declared.chosen.Chosen.{Chosen}
@@ -108,13 +108,14 @@ units-whole machine p choices =
     items-whole _ (several-whole (λ unit. unit_objects machine p choices unit (uses_of p choices unit)) (units_of machine)
     (λ unit. unit-whole machine p choices unit (uses_of p choices unit)))
 
-failure-whole : (ii : ℕ) (reason : Reason) → IsWhole (failure_object ii reason)
+failure-whole : (ii : ℕ) (reason : Why) → IsWhole (failure_object ii reason)
 failure-whole ii (Attempt (Blocked op)) = refl
 failure-whole ii (Attempt (Unplaced ops)) = neither _ _ (counts-whole ops.items) refl
 failure-whole ii (Attempt (Late op time)) = refl
-failure-whole ii (Register life need) = neither _ _ (need-whole need) refl
+failure-whole ii (Register life) = refl
+failure-whole ii (Need life need) = neither _ _ (need-whole need) refl
 
-failures-whole : (ii : ℕ) (reasons : List Reason) → AreWhole (failures_from ii reasons)
+failures-whole : (ii : ℕ) (reasons : List Why) → AreWhole (failures_from ii reasons)
 failures-whole ii [] = tt
 failures-whole ii (reason ∷ reasons) = (failure-whole ii reason, failures-whole (ii + 1) reasons)
 
@@ -139,7 +140,7 @@ slots-whole s used =
 values-whole : (lives : List Lifetime) (numbers : List ℕ) → IsWhole (values_value lives numbers)
 values-whole lives numbers = array-whole (λ k. value_object (slice_index_or lives k nobody) (slice_index numbers k)) (range_with_len 0 (length lives)) (λ _. refl)
 
-kernel-whole : (machine : MachineData) (set : UnitSet) (free : Bool) (p : ProblemData) (reasons : List Reason) (ii : ℕ) (met : evidence.Met) (figures : Figures)
+kernel-whole : (machine : MachineData) (set : UnitSet) (free : Bool) (p : ProblemData) (reasons : List Why) (ii : ℕ) (met : evidence.Met) (figures : Figures)
     → IsWhole (kernel_object machine set free p reasons ii met figures)
 kernel-whole machine set free p reasons ii met figures =
     let used = used_units machine met.schedule in

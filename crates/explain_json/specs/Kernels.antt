@@ -11,9 +11,9 @@ use Rattle.registers.specs.Crowds.{nobody}
 use Rattle.overlap.specs.Lifetimes.{lifetimes_of}
 use Rattle.figures.specs.declared.figures.Figures.{Figures}
 use Rattle.candidates.specs.declared.evidence.Met.{Met}
-use Rattle.candidates.specs.declared.evidence.Reason.{Reason}
 use Rattle.schedule_lines.specs.Columns.{used_units}
 use Rattle.schedule_lines.specs.Slots.{greatest_live, live_counts, percent_of, rows_in, slot_taker}
+use Rattle.told_choices.specs.declared.why.Why.{Why}
 use Rattle.told_choices.specs.Holds.{hold_by, hold_word}
 use Rattle.told_choices.specs.Least.{is_least_possible}
 use Rattle.unit_sets.specs.declared.fullest.UnitSet.{UnitSet}
@@ -59,7 +59,7 @@ figures_object figures stages percents =
 
 -- the kernel of an interval, with the figures of its schedule: free tells that no circuit needs the recurrence-constrained bound, and the
 -- reasons are those of the intervals before
-abbrev pub kernel_object : MachineData → UnitSet → Bool → ProblemData → List Reason → ℕ → Met → Figures → Data
+abbrev pub kernel_object : MachineData → UnitSet → Bool → ProblemData → List Why → ℕ → Met → Figures → Data
 kernel_object machine set free problem reasons ii met figures =
     let used = used_units machine met.schedule in
     object (member (codes "figures") (figures_object figures met.kernel.stages (array_of (λ unit. count_value (percent_of met.schedule unit)) used))

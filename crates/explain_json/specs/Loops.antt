@@ -8,7 +8,6 @@ use Rattle.machine_data.specs.Machines.{MachineData}
 use Rattle.graph.specs.Dependences.{EdgeData}
 use Rattle.graph.specs.Walks.{AreHeights}
 use Rattle.ims.specs.Problems.{ProblemData, mii_of}
-use Rattle.candidates.specs.declared.evidence.Reason.{Reason}
 use Rattle.candidates.specs.declared.outcomes.Cause.{Cause}
 use Rattle.candidates.specs.Choices.{last_of}
 use Rattle.candidates.specs.Texts.{cause_word}
@@ -16,6 +15,7 @@ use Rattle.unit_sets.specs.declared.fullest.UnitSet.{UnitSet}
 use Rattle.told_choices.specs.declared.chosen.Chosen.{Chosen}
 use Rattle.told_choices.specs.declared.chosen.Chosen.TheVariants.{Met, Failed}
 use Rattle.told_choices.specs.declared.told.Told.{Told}
+use Rattle.told_choices.specs.declared.why.Why.{Why}
 use Rattle.explain_json.specs.Edges.{IsEdgeObject, circuit_value}
 use Rattle.explain_json.specs.Kernels.{kernel_object}
 use Rattle.explain_json.specs.Operations.{operations_value}
@@ -84,7 +84,7 @@ failed_object problem members cause =
     (member (codes "units") members.units no_members))))))))))))
 
 -- a loop with what is chosen for it; free tells that no circuit needs the recurrence-constrained bound
-abbrev pub object_with : MachineData → UnitSet → Bool → ProblemData → List Reason → MembersData → Chosen → Data
+abbrev pub object_with : MachineData → UnitSet → Bool → ProblemData → List Why → MembersData → Chosen → Data
 object_with machine set free problem reasons members (Met ii met figures) = met_object problem members (kernel_object machine set free problem reasons ii met figures)
 object_with machine set free problem reasons members (Failed cause) = failed_object problem members cause
 

@@ -13,18 +13,19 @@ ghost use Rattle.explain_json.specs.Units.{unit_name};
 ghost use Rattle.explain_json.specs.inner.Objects.{kernel_of};
 ghost use Rattle.explain_json.specs.Kernels.{figures_object, kernel_object, slots_of, values_value};
 
+use crate::members::{object_of, with};
 use crate::names::told_unit_names;
 use crate::slots::told_slots;
 use crate::values::{told_counts, told_need, told_percents, told_values};
-use candidates::{Met, Reason};
+use candidates::Met;
 use figures::Figures;
 use ims::Prepared;
 use machine_data::{Machine, OutOfMemory};
 use rotating::lifetimes;
 use schedule_lines::{Takers, counts_of, greatest_of};
-use serde_json::{Value, json};
+use serde_json::{Map, ToValue, Value, json};
 use std::alloc::Global;
-use told_choices::{hold_of, is_least_possible};
+use told_choices::{Why, hold_of, is_least_possible};
 use unit_sets::UnitSet;
 
 /// What is told of the units that operations take.
@@ -143,20 +144,18 @@ fn told_with(
 ) -> Result<Value, OutOfMemory>
     ensures { IfOk result (λ v. view v ≡ kernel_of (view used.figures) held.now used.idle ii least (view told.live) told.max_live registers (view used.slots) stages (view used.units) (view told.values)) }
 {
-    json!(in alloc; {
-        "figures": used.figures,
-        "held_by": held,
-        "idle_units": used.idle,
-        "ii": ii,
-        "least_possible": least,
-        "live": told.live,
-        "max_live": told.max_live,
-        "registers": registers,
-        "slots": used.slots,
-        "stages": stages,
-        "units": used.units,
-        "values": told.values
-    })
+    let members = with(alloc, Ok(Map::new(alloc)), "figures", Ok(used.figures));
+    let members = with(alloc, members, "held_by", held.to_value(alloc));
+    let members = with(alloc, members, "idle_units", Ok(Value::from(used.idle)));
+    let members = with(alloc, members, "ii", Ok(Value::from(ii)));
+    let members = with(alloc, members, "least_possible", Ok(Value::from(least)));
+    let members = with(alloc, members, "live", Ok(told.live));
+    let members = with(alloc, members, "max_live", Ok(Value::from(told.max_live)));
+    let members = with(alloc, members, "registers", Ok(Value::from(registers)));
+    let members = with(alloc, members, "slots", Ok(used.slots));
+    let members = with(alloc, members, "stages", Ok(Value::from(stages)));
+    let members = with(alloc, members, "units", Ok(used.units));
+    object_of(with(alloc, members, "values", Ok(told.values)))
 }
 
 /// The kernel of an interval, with the figures of its schedule; `free` tells that no circuit needs the recurrence-constrained bound, and the reasons are those of the
@@ -167,7 +166,7 @@ pub(crate) fn told_kernel(
     set: &UnitSet,
     free: bool,
     prepared: &Prepared,
-    reasons: &[Reason],
+    reasons: &[Why],
     ii: u64,
     met: &Met,
     figures: &Figures,

@@ -7,6 +7,7 @@ mod documents;
 mod edges;
 mod kernels;
 mod loops;
+mod members;
 mod names;
 mod operations;
 mod slots;

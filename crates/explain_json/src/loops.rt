@@ -2,19 +2,20 @@
 
 ghost use Rattle.std.specs.Prelude.{◌≡◌, ◌≤◌, ◌++◌, ℕ, List, false, length, IfOk, OnOk};
 ghost use Rattle.std.specs.List.{AllZip};
-ghost use Rattle.serde_json.specs.Data.{Data};
-ghost use Rattle.serde_json.specs.View.{view};
+ghost use Rattle.serde_json.specs.Data.{Data, Members as MembersOf};
+ghost use Rattle.serde_json.specs.View.{members_view, view};
 ghost use Rattle.serde_json.specs.Written.{compact_text, has_float};
 ghost use Rattle.graph.specs.Walks.{AreHeights};
 ghost use Rattle.ims.specs.Problems.{mii_of};
 ghost use Rattle.told_choices.specs.Told.{IsTold};
 ghost use Rattle.explain_json.specs.Edges.{IsEdgeObject};
 ghost use Rattle.explain_json.specs.Loops.{IsLoopJson, failed_object, members_of, met_object, object_with};
-ghost use Rattle.explain_json.specs.inner.Seen.{seen};
+ghost use Rattle.explain_json.specs.inner.Seen.{seen, with_bounds};
 
 use crate::circuit::told_circuit;
 use crate::edges::told_edges;
 use crate::kernels::told_kernel;
+use crate::members::{object_of, with};
 use crate::operations::told_operations;
 use crate::tried::told_tried;
 use crate::units::{told_set, told_units};
@@ -22,7 +23,7 @@ use candidates::Cause;
 use graph::{Edge, heights, longer_intervals_fit};
 use ims::Prepared;
 use machine_data::{Machine, OutOfMemory};
-use serde_json::{Value, json};
+use serde_json::{Map, ToValue, Value};
 use std::alloc::Global;
 use told_choices::{Chosen, Told};
 use unit_sets::UnitSet;
@@ -75,53 +76,78 @@ fn members_of(
     })
 }
 
+/// These members, and those that stand behind them in either case.
+fn with_bounds(
+    alloc: Global,
+    members: Result<Map<String, Value>, OutOfMemory>,
+    prepared: &Prepared,
+    operations: Value,
+    set: Value,
+    tried: Value,
+    units: Value,
+) -> Result<Map<String, Value>, OutOfMemory>
+    ensures { (ms : MembersOf) → IfOk members (λ m. members_view m.entries ≡ ms) → IfOk result (λ m. members_view m.entries ≡ with_bounds ms prepared.now (view operations) (view set) (view tried) (view units)) }
+{
+    let name = prepared.innermost().name().as_str().to_value(alloc);
+    let members = with(alloc, members, "mii", Ok(Value::from(prepared.mii())));
+    let members = with(alloc, members, "name", name);
+    let members = with(alloc, members, "operations", Ok(operations));
+    let recurrences = Value::from(prepared.recurrences());
+    let members = with(alloc, members, "recurrences", Ok(recurrences));
+    let resources = Value::from(prepared.resources());
+    let members = with(alloc, members, "resources", Ok(resources));
+    let members = with(alloc, members, "set", Ok(set));
+    let members = with(alloc, members, "tried", Ok(tried));
+    with(alloc, members, "units", Ok(units))
+}
+
 /// A loop that has a kernel.
 fn told_met(
     alloc: Global,
     prepared: &Prepared,
-    members: Members,
+    told: Members,
     kernel: Value,
 ) -> Result<Value, OutOfMemory>
-    ensures { IfOk result (λ v. view v ≡ met_object prepared.now (seen members) (view kernel)) }
+    ensures { IfOk result (λ v. view v ≡ met_object prepared.now (seen told) (view kernel)) }
 {
-    json!(in alloc; {
-        "circuit": members.circuit,
-        "edges": members.edges,
-        "kernel": kernel,
-        "mii": prepared.mii(),
-        "name": prepared.innermost().name().as_str(),
-        "operations": members.operations,
-        "recurrences": prepared.recurrences(),
-        "resources": prepared.resources(),
-        "set": members.set,
-        "tried": members.tried,
-        "units": members.units
-    })
+    let members = with(alloc, Ok(Map::new(alloc)), "circuit", Ok(told.circuit));
+    let members = with(alloc, members, "edges", Ok(told.edges));
+    let members = with(alloc, members, "kernel", Ok(kernel));
+    object_of(with_bounds(
+        alloc,
+        members,
+        prepared,
+        told.operations,
+        told.set,
+        told.tried,
+        told.units,
+    ))
 }
 
 /// A loop that has none.
 fn told_failed(
     alloc: Global,
     prepared: &Prepared,
-    members: Members,
+    told: Members,
     cause: Cause,
 ) -> Result<Value, OutOfMemory>
-    ensures { IfOk result (λ v. view v ≡ failed_object prepared.now (seen members) cause) }
+    ensures { IfOk result (λ v. view v ≡ failed_object prepared.now (seen told) cause) }
 {
-    json!(in alloc; {
-        "cause": cause.word(),
-        "circuit": members.circuit,
-        "edges": members.edges,
-        "failed_to": prepared.mii() + prepared.ceiling(),
-        "mii": prepared.mii(),
-        "name": prepared.innermost().name().as_str(),
-        "operations": members.operations,
-        "recurrences": prepared.recurrences(),
-        "resources": prepared.resources(),
-        "set": members.set,
-        "tried": members.tried,
-        "units": members.units
-    })
+    let last = Value::from(prepared.mii() + prepared.ceiling());
+    let members = Ok(Map::new(alloc));
+    let members = with(alloc, members, "cause", cause.word().to_value(alloc));
+    let members = with(alloc, members, "circuit", Ok(told.circuit));
+    let members = with(alloc, members, "edges", Ok(told.edges));
+    let members = with(alloc, members, "failed_to", Ok(last));
+    object_of(with_bounds(
+        alloc,
+        members,
+        prepared,
+        told.operations,
+        told.set,
+        told.tried,
+        told.units,
+    ))
 }
 
 /// A loop, with the members that it has in either case.

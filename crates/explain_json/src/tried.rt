@@ -3,19 +3,18 @@
 ghost use Rattle.std.specs.Prelude.{◌≡◌, ◌≤◌, [], ◌++◌, codes, map, IfOk, OnOk};
 ghost use Rattle.serde_json.specs.Data.{member, no_members, object, string};
 ghost use Rattle.serde_json.specs.View.{view};
-ghost use Rattle.candidates.specs.declared.evidence.Reason.TheVariants.{Attempt, Register};
 ghost use Rattle.modulo.specs.declared.outcome.attempts.Culprit.TheVariants.{Late};
+ghost use Rattle.told_choices.specs.declared.why.Why.TheVariants.{Attempt, Register, Need};
 ghost use Rattle.explain_json.specs.Parts.{count_value, counts_value};
 ghost use Rattle.explain_json.specs.Tries.{chosen_try, failure_object, failures_from, kernel_try, tried_value};
 
 use crate::values::told_need;
-use candidates::Reason;
 use ims::{Culprit, Prepared};
 use machine_data::OutOfMemory;
 use rotating::Lifetime;
 use serde_json::{Value, json};
 use std::alloc::Global;
-use told_choices::{Chosen, Told};
+use told_choices::{Chosen, Told, Why};
 
 /// The numbers of operations, in order.
 fn told_numbers(alloc: Global, ops: &[usize]) -> Result<Value, OutOfMemory>
@@ -56,14 +55,27 @@ fn told_late(alloc: Global, interval: u64, op: usize, time: u64) -> Result<Value
     })
 }
 
-/// An interval at which a value has no register, when it lives, and how many registers all values need.
-fn told_life(
+/// An interval at which a value has no register, and when it lives.
+fn told_life(alloc: Global, interval: u64, life: Lifetime) -> Result<Value, OutOfMemory>
+    ensures { IfOk result (λ v. view v ≡ failure_object interval (Register life)) }
+{
+    json!(in alloc; {
+        "first": life.first,
+        "interval": interval,
+        "last": life.last,
+        "operations": told_numbers(alloc, &[usize::from(life.operation)])?,
+        "outcome": "registers"
+    })
+}
+
+/// The same, with how many registers all values need.
+fn told_with_need(
     alloc: Global,
     interval: u64,
     life: Lifetime,
     need: Option<u64>,
 ) -> Result<Value, OutOfMemory>
-    ensures { IfOk result (λ v. view v ≡ failure_object interval (Register life need)) }
+    ensures { IfOk result (λ v. view v ≡ failure_object interval (Need life need)) }
 {
     let need = told_need(need);
     json!(in alloc; {
@@ -77,21 +89,22 @@ fn told_life(
 }
 
 /// An interval that gives no kernel, and why.
-fn told_failure(alloc: Global, interval: u64, reason: &Reason) -> Result<Value, OutOfMemory>
+fn told_failure(alloc: Global, interval: u64, reason: &Why) -> Result<Value, OutOfMemory>
     ensures { IfOk result (λ v. view v ≡ failure_object interval reason.now) }
 {
     match reason {
-        Reason::Attempt(Culprit::Blocked(op)) => told_ops(alloc, interval, &[*op], "table"),
-        Reason::Attempt(Culprit::Unplaced(ops)) => {
+        Why::Attempt(Culprit::Blocked(op)) => told_ops(alloc, interval, &[*op], "table"),
+        Why::Attempt(Culprit::Unplaced(ops)) => {
             told_ops(alloc, interval, ops.as_slice(), "budget")
         }
-        Reason::Attempt(Culprit::Late(op, time)) => told_late(alloc, interval, *op, *time),
-        Reason::Register(life, need) => told_life(alloc, interval, *life, *need),
+        Why::Attempt(Culprit::Late(op, time)) => told_late(alloc, interval, *op, *time),
+        Why::Register(life) => told_life(alloc, interval, *life),
+        Why::Need(life, need) => told_with_need(alloc, interval, *life, *need),
     }
 }
 
 /// Intervals that give no kernel, from the least one on.
-fn told_failures(alloc: Global, least: u64, reasons: &[Reason]) -> Result<Vec<Value>, OutOfMemory>
+fn told_failures(alloc: Global, least: u64, reasons: &[Why]) -> Result<Vec<Value>, OutOfMemory>
     requires { least ≤ 8192 }
     ensures { IfOk result (λ values. map view values.items ≡ failures_from least reasons.now) }
 {

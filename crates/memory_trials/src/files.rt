@@ -12,7 +12,7 @@ use std::thread::Threads;
 use worked_texts::{THREE, TWO_REGISTERS};
 use workers::{FileFault, Gate, pipeline_file};
 
-/// A gate that counts the pieces to which a worker came.
+/// A gate that counts the pieces to which workers came.
 #[derive(Drop)]
 struct Counted {
     pieces: AtomicU64,
@@ -28,7 +28,7 @@ impl Gate for Counted {
 
 /// Tells what the listing of a file comes to.
 pub fn try_file(rt: &(impl AllocGlobal + Print + Threads + Sync)) -> io::Result<()> {
-    let Ok(settings) = Settings::new(6, 3, 1, 1) else {
+    let Ok(settings) = Settings::new(6, 3, 2, 1) else {
         return tell(rt, "pipeline_file", Answer::Wrong, Answer::Wrong);
     };
     let first = listed(rt, rt.alloc(), &settings);
@@ -40,7 +40,7 @@ pub fn try_file(rt: &(impl AllocGlobal + Print + Threads + Sync)) -> io::Result<
     )
 }
 
-/// The listing of the three loops by one worker, who comes to 12 pieces where it is started.
+/// The listing of the three loops by two workers, who come to 12 pieces together where they are started.
 fn listed<R: Threads + Sync>(rt: &R, alloc: Global, settings: &Settings) -> Answer {
     let gate = Counted {
         pieces: AtomicU64::new(0),
@@ -53,7 +53,7 @@ fn listed<R: Threads + Sync>(rt: &R, alloc: Global, settings: &Settings) -> Answ
     }
 }
 
-/// What a listing is, where a worker came to `pieces` pieces.
+/// What a listing is, where workers came to `pieces` pieces.
 fn written(alloc: Global, listing: &Listing, pieces: u64) -> Answer {
     let Ok(text) = listing_text(alloc, listing) else {
         return Answer::Refused;

@@ -91,7 +91,7 @@ fn work_text<R: Threads + Sync>(
 {
     match work {
         Work::Plain { trip, workers } => {
-            let loops = match loops_named(alloc, names, loops) {
+            let loops = match loops_named(rt, alloc, names, loops, *workers) {
                 Ok(loops) => loops,
                 Err(status) => return Err(status),
             };
@@ -102,12 +102,20 @@ fn work_text<R: Threads + Sync>(
                 Ok(machine) => machine,
                 Err(status) => return Err(status),
             };
-            let loops = match loops_named(alloc, names, loops) {
+            let loops = match loops_named(rt, alloc, names, loops, workers_of(task)) {
                 Ok(loops) => loops,
                 Err(status) => return Err(status),
             };
             loops_ending(task_text(rt, alloc, task, &machine, loops))
         }
+    }
+}
+
+/// How many workers there may be.
+fn workers_of(task: &Task) -> usize {
+    match task {
+        Task::Search(settings, _) => settings.workers(),
+        Task::Bounds | Task::Edges | Task::Dot => 1,
     }
 }
 

@@ -1,3 +1,4 @@
 pub mod Explaining
 pub mod Joining
+mod Listing
 pub mod Scheduling

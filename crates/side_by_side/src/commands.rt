@@ -1,6 +1,7 @@
 //! What each command writes.
 
 pub(crate) mod explaining;
+pub(crate) mod listings;
 pub(crate) mod objects;
 pub(crate) mod plain;
 pub(crate) mod runs;

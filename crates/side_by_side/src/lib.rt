@@ -1,4 +1,4 @@
-//! What `run`, `plain`, `explain`, `dot --scheduled` and `vary` write, where workers in threads make what is written of each loop, or what is found of it, side by side. It is put together in
+//! What `schedule`, `run`, `plain`, `explain`, `dot --scheduled` and `vary` write, where workers in threads make what is written of each loop, or what is found of it, side by side. It is put together in
 //! the order of the loops: no byte depends on how many workers there are, on what each of them makes, or on when.
 #![tactic(auto)]
 
@@ -6,6 +6,7 @@ mod commands;
 mod parts;
 
 pub use commands::explaining::explain_text_on;
+pub use commands::listings::listing_printout_on;
 pub use commands::objects::{explain_document_on, explain_page_on};
 pub use commands::plain::plain_text_on;
 pub use commands::runs::run_text_on;

@@ -1,2 +1,3 @@
+mod Collecting
 pub mod Held
 pub mod Telling

@@ -1,12 +1,12 @@
 -- What holds the interval of a loop.
 use Rattle.std.specs.Prelude.{◌≡◌, ℕ, ◌-◌, ◌<◌, nat_lt, codes, List, length, Bool, true, false, if◌then◌else◌, Option, Some, None, slice_get}
 use Rattle.ims.specs.Problems.{ProblemData, mii_of}
-use Rattle.candidates.specs.declared.evidence.Reason.{Reason}
 use Rattle.candidates.specs.Outcomes.{FailsBy}
-use Rattle.candidates.specs.Reasons.{reason_cause}
 use Rattle.candidates.specs.Texts.{cause_word}
 use Rattle.told_choices.specs.declared.hold.Hold.{Hold}
 use Rattle.told_choices.specs.declared.hold.Hold.TheVariants.{Units, Recurrences, Both, Cycle, Failure}
+use Rattle.told_choices.specs.declared.why.Why.{Why}
+use Rattle.told_choices.specs.Whys.{why_cause}
 
 abbrev pub hold_word : Hold → List ℕ
 hold_word Units = codes "units"
@@ -31,10 +31,10 @@ bound_hold problem free =
     else (if nat_lt problem.recurrences problem.resources then Units else (if free then Cycle else Both))
 
 -- the last of the intervals that were tried before gives no kernel for a reason, or none was tried
-abbrev pub hold_after : ProblemData → Bool → Option Reason → Hold
+abbrev pub hold_after : ProblemData → Bool → Option Why → Hold
 hold_after problem free None = bound_hold problem free
-hold_after problem free (Some reason) = Failure (reason_cause reason)
+hold_after problem free (Some why) = Failure (why_cause why)
 
 -- what holds an interval, by the reasons of those before it, from the least one on
-abbrev pub hold_by : ProblemData → Bool → List Reason → Hold
+abbrev pub hold_by : ProblemData → Bool → List Why → Hold
 hold_by problem free reasons = hold_after problem free (slice_get reasons (length reasons - 1))

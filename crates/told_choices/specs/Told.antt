@@ -1,5 +1,5 @@
 -- What is told of a loop: what is chosen for it, with the evidence, and why the intervals before give no kernel.
-use Rattle.std.specs.Prelude.{ℕ, ◌+◌, ◌-◌}
+use Rattle.std.specs.Prelude.{ℕ, ◌+◌, ◌-◌, false}
 use Rattle.std.specs.List.{AllZip, range_with_len}
 use Rattle.ims.specs.Problems.{ProblemData, mii_of}
 use Rattle.figures.specs.declared.figures.Figures.{Figures}
@@ -8,10 +8,11 @@ use Rattle.candidates.specs.declared.evidence.Met as evidence
 use Rattle.candidates.specs.declared.choices.Choice.{Choice}
 use Rattle.candidates.specs.declared.choices.Choice.TheVariants as choice
 use Rattle.candidates.specs.Choices.{IsChoice, IsUnmet}
-use Rattle.candidates.specs.Reasons.{FailsFor, IsMet}
+use Rattle.candidates.specs.Reasons.{IsMet}
 use Rattle.told_choices.specs.declared.chosen.Chosen.{Chosen}
 use Rattle.told_choices.specs.declared.chosen.Chosen.TheVariants.{Met, Failed}
 use Rattle.told_choices.specs.declared.told.Told.{Told}
+use Rattle.told_choices.specs.Whys.{FailsAs, TellNeeds}
 
 -- what is chosen, without the evidence
 abbrev pub choice_of : Chosen → Choice
@@ -33,8 +34,10 @@ abbrev pub failures_of : ProblemData → Choice → ℕ
 failures_of problem (choice.Met ii kernel) = ii - mii_of problem
 failures_of problem (choice.Failed cause) = problem.ceiling + 1
 
--- the choice of a loop with its evidence, and a reason for each interval, from the least one on, that was tried and gives no kernel
+-- the choice of a loop with its evidence, and why each interval, from the least one on, that was tried gives no kernel, with the needs of the
+-- first and the last one that fail for registers
 pub record IsTold (problem : ProblemData) (told : Told) : Type 0 where
   pub is_choice : IsChoice problem (choice_of told.chosen)
   pub has_evidence : HasEvidence problem told.chosen
-  pub are_reasons : AllZip (FailsFor problem) (range_with_len (mii_of problem) (failures_of problem (choice_of told.chosen))) told.reasons.items
+  pub are_reasons : AllZip (FailsAs problem) (range_with_len (mii_of problem) (failures_of problem (choice_of told.chosen))) told.reasons.items
+  pub tell_needs : TellNeeds false told.reasons.items

@@ -3,10 +3,11 @@
 ghost use Rattle.std.specs.Prelude.{◌≡◌, ◌≤◌, ◌-◌, ℕ};
 ghost use Rattle.std.specs.List.{AllZip, range_with_len};
 ghost use Rattle.ims.specs.Problems.{mii_of};
-ghost use Rattle.candidates.specs.Reasons.{FailsFor};
 ghost use Rattle.told_choices.specs.Holds.{IsHold, bound_hold, hold_by, hold_word};
+ghost use Rattle.told_choices.specs.Whys.{FailsAs};
 
-use candidates::{Cause, Reason};
+use crate::why::Why;
+use candidates::Cause;
 use ims::Prepared;
 
 /// Why a loop has no kernel at a shorter interval than its own.
@@ -41,9 +42,9 @@ impl Hold {
 
 /// What holds an interval, by the reasons of those before it that were tried, from the least one on; `free` tells that no circuit
 /// needs the recurrence-constrained bound.
-pub fn hold_of(prepared: &Prepared, free: bool, reasons: &[Reason]) -> Hold
+pub fn hold_of(prepared: &Prepared, free: bool, reasons: &[Why]) -> Hold
     ensures value { result ≡ hold_by prepared.now free reasons.now }
-    ensures is { (ii : ℕ) → mii_of prepared.now ≤ ii → AllZip (FailsFor prepared.now) (range_with_len (mii_of prepared.now) (ii - mii_of prepared.now)) reasons.now
+    ensures is { (ii : ℕ) → mii_of prepared.now ≤ ii → AllZip (FailsAs prepared.now) (range_with_len (mii_of prepared.now) (ii - mii_of prepared.now)) reasons.now
         → IsHold prepared.now free ii result }
 {
     match reasons.last() {

@@ -2,11 +2,14 @@
 #![tactic(auto)]
 
 mod chosen;
+mod failures;
 mod hold;
 mod least;
 mod told;
+mod why;
 
 pub use chosen::Chosen;
 pub use hold::{Hold, hold_of};
 pub use least::is_least_possible;
 pub use told::{Told, choose_told};
+pub use why::Why;

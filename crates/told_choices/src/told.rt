@@ -4,7 +4,9 @@ ghost use Rattle.std.specs.Prelude.{IfOk};
 ghost use Rattle.told_choices.specs.Told.{IsTold};
 
 use crate::chosen::Chosen;
-use candidates::{Cause, Reason, Trials, Tried};
+use crate::failures::Failures;
+use crate::why::Why;
+use candidates::{Cause, Trials, Tried};
 use figures::figures_of;
 use ims::Prepared;
 use machine_data::OutOfMemory;
@@ -14,7 +16,7 @@ use std::alloc::Global;
 #[derive(Drop)]
 pub struct Told<'a> {
     /// Why each interval that was tried and gives no kernel gives none: from the least one on, one after another.
-    pub reasons: Vec<Reason>,
+    pub reasons: Vec<Why>,
     /// What is chosen, with the evidence of it.
     pub chosen: Chosen<'a>,
 }
@@ -28,7 +30,7 @@ pub fn choose_told<'a>(alloc: Global, prepared: &'a Prepared) -> Result<Told<'a>
     ensures told { IfOk result (IsTold prepared.now) }
 {
     let mut trials = Trials::of(prepared);
-    let mut reasons = Vec::new(alloc);
+    let mut failures = Failures::new(alloc);
     let mut last = Cause::Table;
     for above in 0..prepared.ceiling() + 1 {
         let ii = prepared.mii() + above;
@@ -37,18 +39,18 @@ pub fn choose_told<'a>(alloc: Global, prepared: &'a Prepared) -> Result<Told<'a>
             Ok(Tried::Met(met)) => {
                 let figures = figures_of(alloc, &met.schedule)?;
                 return Ok(Told {
-                    reasons,
+                    reasons: failures.into_list(alloc)?,
                     chosen: Chosen::Met(ii, met, figures),
                 });
             }
             Ok(Tried::Failed(reason)) => {
                 last = reason.cause();
-                reasons.push(reason)?;
+                failures.add(alloc, reason)?;
             }
         }
     }
     Ok(Told {
-        reasons,
+        reasons: failures.into_list(alloc)?,
         chosen: Chosen::Failed(last),
     })
 }

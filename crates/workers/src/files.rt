@@ -15,9 +15,10 @@ use candidates::{Listing, Pieces, Settings};
 use collecting::{Chosen, gather};
 use file_faults::FileFault;
 use ims::Prepared;
-use loops::{Loop, read_loops};
+use loops::Loop;
 use machine::{Machine, OutOfMemory, read_machine};
-use one_thread::list_choices;
+use one_thread::{list_choices, pipeline_alone};
+use shared_reading::read_by_workers;
 use std::alloc::Global;
 use std::thread::Threads;
 
@@ -38,7 +39,7 @@ pub fn pipeline<R: Threads + Sync, G: Gate + Sync>(
     ensures exact { AnswersFile (PreparesAndLists settings.now.ratio settings.now.ceiling) (machine_of machine.now) (loops_in loops.now) result }
 {
     let machine = read_machine(alloc, machine)?;
-    let loops = read_loops(alloc, loops)?;
+    let loops = read_by_workers(rt, alloc, loops, settings.workers())?;
     pipeline_on(rt, alloc, &machine, loops, settings, gate)
 }
 
@@ -64,6 +65,7 @@ pub fn pipeline_file<R: Threads + Sync, G: Gate + Sync>(
 }
 
 /// What loops give on a machine: what [`pipeline`] tells of their texts. There are at most 1,024, which is the most that a text has.
+/// One worker cuts nothing into pieces and does not call the gate.
 ///
 /// # Errors
 /// The first loop with an opcode that the machine has no table for; and [`FileFault::Memory`], where the calling thread was
@@ -79,6 +81,9 @@ pub fn pipeline_on<R: Threads + Sync, G: Gate + Sync>(
     requires few { vec_len loops ≤ 1024 }
     ensures exact { AnswersOn (PreparesAndLists settings.now.ratio settings.now.ceiling machine.now loops.items) (first_lacking machine.now loops.items) result }
 {
+    if settings.workers() == 1 {
+        return pipeline_alone(alloc, machine, loops, settings);
+    }
     match prepare_by_workers(rt, alloc, machine, loops, settings) {
         Ok(prepared) => match list(rt, alloc, prepared.as_slice(), settings, gate) {
             Ok(listing) => Ok((prepared, listing)),

@@ -4,10 +4,9 @@ ghost use Rattle.std.specs.Prelude.{◌≡◌, ◌<◌, ◌++◌, ℕ, length, S
 ghost use Rattle.std.specs.List.{All, flat_map};
 ghost use Rattle.ims.specs.Culprits.{AnswersCulprit};
 ghost use Rattle.ims.specs.Problems.{budget_of};
-ghost use Rattle.candidates.specs.Reasons.{IsReason};
-ghost use Rattle.explain.specs.Reasons.{culprit_text, life_text, named, reason_text};
+ghost use Rattle.told_choices.specs.Whys.{IsWhy};
+ghost use Rattle.explain.specs.Reasons.{culprit_text, life_text, named, need_text, reason_text};
 
-use candidates::Reason;
 use graph_text::push_name;
 use ims::{Culprit, Prepared};
 use loop_data::Loop;
@@ -15,6 +14,7 @@ use machine_data::OutOfMemory;
 use machine_data::limits::MAX_STATEMENTS;
 use rotating::Lifetime;
 use schedule_lines::push_need;
+use told_choices::Why;
 use writing::{Text, push_told};
 
 /// Appends the name of an operation after a blank.
@@ -47,19 +47,20 @@ fn push_late(text: &mut Vec<u8>, innermost: &Loop, op: usize, time: u64) -> Resu
     push_told(text, " at ", time)
 }
 
-/// Appends the name of a value, when it lives, and how many registers all values need.
-fn push_life(
-    text: &mut Vec<u8>,
-    innermost: &Loop,
-    life: Lifetime,
-    need: Option<u64>,
-) -> Result<(), OutOfMemory>
+/// Appends the name of a value, and when it lives.
+fn push_life(text: &mut Vec<u8>, innermost: &Loop, life: Lifetime) -> Result<(), OutOfMemory>
     requires { life.operation < length innermost.now.statements }
-    ensures ok { OnOk result (text.new.items ≡ text.old.items ++ life_text innermost.now life need) }
+    ensures ok { OnOk result (text.new.items ≡ text.old.items ++ life_text innermost.now life) }
 {
     push_named(text, innermost, usize::from(life.operation))?;
     push_told(text, " lives ", life.first)?;
-    push_told(text, " to ", life.last)?;
+    push_told(text, " to ", life.last)
+}
+
+/// Appends how many registers all values need.
+fn push_all_need(text: &mut Vec<u8>, need: Option<u64>) -> Result<(), OutOfMemory>
+    ensures ok { OnOk result (text.new.items ≡ text.old.items ++ need_text need) }
+{
     text.push_piece(", all need ")?;
     push_need(text, need)
 }
@@ -85,13 +86,17 @@ fn push_culprit(
 pub(crate) fn push_reason(
     text: &mut Vec<u8>,
     prepared: &Prepared,
-    reason: &Reason,
+    why: &Why,
 ) -> Result<(), OutOfMemory>
-    requires is { (ii : ℕ) × IsReason prepared.now ii reason.now }
-    ensures ok { OnOk result (text.new.items ≡ text.old.items ++ reason_text prepared.now.loop reason.now) }
+    requires is { (ii : ℕ) × IsWhy prepared.now ii why.now }
+    ensures ok { OnOk result (text.new.items ≡ text.old.items ++ reason_text prepared.now.loop why.now) }
 {
-    match reason {
-        Reason::Attempt(culprit) => push_culprit(text, prepared, culprit),
-        Reason::Register(life, need) => push_life(text, prepared.innermost(), *life, *need),
+    match why {
+        Why::Attempt(culprit) => push_culprit(text, prepared, culprit),
+        Why::Register(life) => push_life(text, prepared.innermost(), *life),
+        Why::Need(life, need) => {
+            push_life(text, prepared.innermost(), *life)?;
+            push_all_need(text, *need)
+        }
     }
 }

@@ -4,25 +4,24 @@ ghost use Rattle.std.specs.Prelude.{◌≡◌, ◌++◌, ℕ, List, Vec, map, If
 ghost use Rattle.std.specs.Global.{Global};
 ghost use Rattle.std.specs.List.{All};
 ghost use Rattle.ims.specs.Problems.{mii_of};
-ghost use Rattle.candidates.specs.Reasons.{IsReason};
-ghost use Rattle.candidates.specs.declared.evidence.Reason.{Reason};
 ghost use Rattle.told_choices.specs.Told.{IsTold, choice_of};
+ghost use Rattle.told_choices.specs.Whys.{IsWhy};
+ghost use Rattle.told_choices.specs.declared.why.Why.{Why};
 ghost use Rattle.reason_lines.specs.Least.{least_line};
 ghost use Rattle.reason_lines.specs.Runs.{runs_text};
 ghost use Rattle.explain.specs.Tries.{AreTries, IsEnd, hold_line, kernel_line, why_text};
 
 use crate::intervals::reason_texts::push_reason;
-use candidates::Reason;
 use ims::Prepared;
 use machine_data::OutOfMemory;
 use reason_lines::{push_least, push_runs};
 use std::alloc::Global;
-use told_choices::{Chosen, Hold, Told, hold_of, is_least_possible};
+use told_choices::{Chosen, Hold, Told, Why, hold_of, is_least_possible};
 use writing::{Text, push_both, push_told};
 
 /// What is told of an interval that gives no kernel: the cause and its culprits.
-fn why_of(alloc: Global, prepared: &Prepared, reason: &Reason) -> Result<Vec<u8>, OutOfMemory>
-    requires is { (ii : ℕ) × IsReason prepared.now ii reason.now }
+fn why_of(alloc: Global, prepared: &Prepared, reason: &Why) -> Result<Vec<u8>, OutOfMemory>
+    requires is { (ii : ℕ) × IsWhy prepared.now ii reason.now }
     ensures ok { IfOk result (λ why. why.items ≡ why_text prepared.now.loop reason.now) }
 {
     let mut why = Vec::new(alloc);
@@ -33,12 +32,8 @@ fn why_of(alloc: Global, prepared: &Prepared, reason: &Reason) -> Result<Vec<u8>
 }
 
 /// What is told of each interval that gives no kernel.
-fn whys_of(
-    alloc: Global,
-    prepared: &Prepared,
-    reasons: &[Reason],
-) -> Result<Vec<Vec<u8>>, OutOfMemory>
-    requires are { All (λ (reason : Reason). (ii : ℕ) × IsReason prepared.now ii reason) reasons.now }
+fn whys_of(alloc: Global, prepared: &Prepared, reasons: &[Why]) -> Result<Vec<Vec<u8>>, OutOfMemory>
+    requires are { All (λ (reason : Why). (ii : ℕ) × IsWhy prepared.now ii reason) reasons.now }
     ensures ok { IfOk result (λ whys. map (λ (why : Vec ℕ Global). why.items) whys.items ≡ map (why_text prepared.now.loop) reasons.now) }
 {
     let mut whys = Vec::with_capacity(alloc, reasons.len())?;

@@ -9,17 +9,25 @@ ghost use Rattle.modsched.specs.Naming.{chosen, chosen_of, first_unknown, has_on
 ghost use Rattle.modsched.specs.inner.Refusals.{IsRefusal, IsUnnamed};
 
 use exit_status::Status;
-use loops::{Loop, read_loops};
+use loops::Loop;
+use shared_reading::read_by_workers;
 use std::alloc::Global;
+use std::thread::Threads;
 
 /// The loops of a text that have one of the names, in the order of the text; all of them where there is no name. Or the status of the text's fault,
-/// or else of the first name that no loop has.
-pub(super) fn loops_named(alloc: Global, names: &[String], text: &[u8]) -> Result<Vec<Loop>, Status>
+/// or else of the first name that no loop has. At most `workers` workers read the text.
+pub(super) fn loops_named<R: Threads + Sync>(
+    rt: &R,
+    alloc: Global,
+    names: &[String],
+    text: &[u8],
+    workers: usize,
+) -> Result<Vec<Loop>, Status>
     ensures loops { IfOk result (λ loops. (chosen_of names.now (loops_in text.now) ≡ Ok loops.items) × (unknown_in names.now (loops_in text.now) ≡ None) × (length loops.items ≤ MAX_LOOPS)) }
     ensures status { IfErr result (IsUnnamed names.now (loops_in text.now)) }
     ensures kind { IfErr result IsRefusal }
 {
-    let mut loops = match read_loops(alloc, text) {
+    let mut loops = match read_by_workers(rt, alloc, text, workers) {
         Ok(loops) => loops,
         Err(fault) => return Err(Status::from(fault)),
     };

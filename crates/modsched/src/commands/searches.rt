@@ -11,9 +11,9 @@ use command_line::Trip;
 use file_faults::FileFault;
 use loops::Loop;
 use machine::Machine;
-use printouts::{Printout, document_printout, listing_printout};
+use printouts::{Printout, document_printout};
 use settings::Settings;
-use side_by_side::run_text_on;
+use side_by_side::{listing_printout_on, run_text_on};
 use std::alloc::Global;
 use std::thread::Threads;
 use workers::{OpenGate, pipeline_on};
@@ -30,7 +30,7 @@ pub(crate) fn schedule_text<R: Threads + Sync>(
     ensures { AnswersOn (IsListingText settings.now.ratio settings.now.ceiling machine.now loops.items) (first_lacking machine.now loops.items) result }
 {
     let (_, listing) = pipeline_on(rt, alloc, machine, loops, settings, &OpenGate)?;
-    Ok(listing_printout(alloc, &listing)?)
+    Ok(listing_printout_on(rt, alloc, &listing, settings.workers())?)
 }
 
 /// What `json` writes.

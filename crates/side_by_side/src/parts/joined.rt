@@ -26,7 +26,7 @@ pub(crate) fn joined(alloc: Global, parts: Vec<Part>) -> Result<Vec<u8>, OutOfMe
 }
 
 /// How many bytes the texts of parts have, and the last line.
-fn room_for(parts: &[Part]) -> usize {
+pub(crate) fn room_for(parts: &[Part]) -> usize {
     let mut room = LAST;
     for part in parts {
         room = room.saturating_add(part.text.len());
@@ -35,7 +35,7 @@ fn room_for(parts: &[Part]) -> usize {
 }
 
 /// Appends the texts of parts, one after another.
-fn append(text: &mut Vec<u8>, parts: Vec<Part>) -> Result<(), OutOfMemory>
+pub(crate) fn append(text: &mut Vec<u8>, parts: Vec<Part>) -> Result<(), OutOfMemory>
     ensures { OnOk result (text.new.items ≡ text.old.items ++ flat_map text_of parts.items) }
 {
     let mut parts = parts.into_iter();

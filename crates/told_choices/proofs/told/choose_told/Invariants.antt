@@ -5,5 +5,5 @@ use Rattle.told_choices.proofs.told.choose_told.Given as goal
 abbrev pub invariant-loop-above : goal.invariant-loop-above
 invariant-loop-above l = record {
   same : l.trials ≡ l.prepared;
-  told : AreTold l.prepared l.above l.last l.reasons.items;
+  told : AreTold l.prepared l.above l.last l.failures.list.items l.failures.lack;
 }

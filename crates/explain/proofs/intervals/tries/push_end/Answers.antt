@@ -2,8 +2,8 @@ use Rattle.std.proofs.Common.{◌-◌, ◌≤◌, ◌++◌, ℕ, List, ap, subst
 use Rattle.std.specs.List.{AllZip, range_with_len}
 use Rattle.std.proofs.lemmas.Result.{on_ok_weaker}
 use Rattle.ims.specs.Problems.{mii_of}
-use Rattle.candidates.specs.declared.evidence.Reason.{Reason}
-use Rattle.candidates.specs.Reasons.{FailsFor}
+use Rattle.told_choices.specs.declared.why.Why.{Why}
+use Rattle.told_choices.specs.Whys.{FailsAs}
 use Rattle.told_choices.specs.Holds.{IsHold}
 use Rattle.told_choices.specs.Told.{choice_of}
 use Rattle.reason_lines.specs.Least.{least_line}
@@ -20,8 +20,8 @@ returns-in-Met c =
     let hold = c.hold_of-hold.result in
     let reasons = c.args.told.now.reasons.items in
     let lines = kernel_line ii c.parts.result.now.stages ++ hold_line hold in
-    let held : (n : ℕ) → mii_of p ≤ n → AllZip (FailsFor p) (range_with_len (mii_of p) (n - mii_of p)) reasons → IsHold p free n hold
-    = subst (λ (rs : List Reason). (n : ℕ) → mii_of p ≤ n → AllZip (FailsFor p) (range_with_len (mii_of p) (n - mii_of p)) rs → IsHold p free n hold) c.as_slice.ensures.value
+    let held : (n : ℕ) → mii_of p ≤ n → AllZip (FailsAs p) (range_with_len (mii_of p) (n - mii_of p)) reasons → IsHold p free n hold
+    = subst (λ (rs : List Why). (n : ℕ) → mii_of p ≤ n → AllZip (FailsAs p) (range_with_len (mii_of p) (n - mii_of p)) rs → IsHold p free n hold) c.as_slice.ensures.value
     c.hold_of-hold.ensures.is in
     record {
       ok = on_ok_weaker c.push_met.result

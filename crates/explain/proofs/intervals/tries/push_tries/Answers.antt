@@ -16,7 +16,7 @@ returns c =
       ok = on_ok_weaker c.push_end.result
           (λ end. (
             lines ++ end.0,
-            record { is_choice = told.is_choice; reasons = reasons; are_reasons = told.are_reasons; end = end.0; is_end = end.1; is_text = refl },
+            record { is_choice = told.is_choice; reasons = reasons; are_reasons = told.are_reasons; tell_needs = told.tell_needs; end = end.0; is_end = end.1; is_text = refl },
             two_pushed c.args.text.now.items lines end.0 c.push_failures.new.text.items c.push_end.new.text.items c.in_ok-push_failures.ensures.ok end.2,
           ))
           c.push_end.ensures.ok;

@@ -13,6 +13,6 @@ returns g c =
     let ls = c.args.loops.items in
     let prepared = c.in_ok-listing.field-0-0 in
     let listing = c.in_ok-listing.listing in
-    let written = c.in_ok-listing_printout.field-0 in
+    let written = c.in_ok-listing_printout_on.field-0 in
     on_more (PreparesAndLists r k m ls) (IsListingText r k m ls) (first_lacking m ls) (prepared, listing) written
-    (λ f. told_listing m r k ls prepared.items listing written c.in_ok-listing_printout.ensures.text c.in_ok-listing_printout.ensures.met f.0 f.1) c.in_ok-listing.ensures.exact
+    (λ f. told_listing m r k ls prepared.items listing written c.in_ok-listing_printout_on.ensures.text c.in_ok-listing_printout_on.ensures.met f.0 f.1) c.in_ok-listing.ensures.exact

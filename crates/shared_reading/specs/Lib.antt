@@ -1,0 +1,3 @@
+pub use Rattle.loop_reader.specs.Meaning
+pub mod Apart
+pub mod inner

@@ -1,0 +1,2 @@
+-- How failures are collected: what the clauses of private functions cite.
+pub mod Collected
