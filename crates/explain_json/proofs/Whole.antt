@@ -19,8 +19,8 @@ use Rattle.figures.specs.declared.figures.Figures.{Figures}
 use Rattle.candidates.specs.declared.evidence.Met as evidence
 use Rattle.told_choices.specs.declared.why.Why.{Why}
 use Rattle.told_choices.specs.declared.why.Why.TheVariants.{Attempt, Register, Need}
-use Rattle.schedule_lines.specs.Columns.{used_units}
-use Rattle.schedule_lines.specs.Slots.{live_counts, percent_of, rows_in, slot_taker}
+use Rattle.figures.specs.LiveCounts.{live_counts}
+use Rattle.figures.specs.Slots.{percent_of, rows_in, slot_taker, used_units}
 use Rattle.told_choices.specs.declared.chosen.Chosen.{Chosen}
 use Rattle.told_choices.specs.declared.chosen.Chosen.TheVariants.{Met, Failed}
 use Rattle.unit_sets.specs.declared.fullest.UnitSet.{UnitSet}

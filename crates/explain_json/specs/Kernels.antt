@@ -11,8 +11,8 @@ use Rattle.registers.specs.Crowds.{nobody}
 use Rattle.overlap.specs.Lifetimes.{lifetimes_of}
 use Rattle.figures.specs.declared.figures.Figures.{Figures}
 use Rattle.candidates.specs.declared.evidence.Met.{Met}
-use Rattle.schedule_lines.specs.Columns.{used_units}
-use Rattle.schedule_lines.specs.Slots.{greatest_live, live_counts, percent_of, rows_in, slot_taker}
+use Rattle.figures.specs.LiveCounts.{greatest_live, live_counts}
+use Rattle.figures.specs.Slots.{percent_of, rows_in, slot_taker, used_units}
 use Rattle.told_choices.specs.declared.why.Why.{Why}
 use Rattle.told_choices.specs.Holds.{hold_by, hold_word}
 use Rattle.told_choices.specs.Least.{is_least_possible}

@@ -7,8 +7,8 @@ ghost use Rattle.serde_json.specs.View.{items_of, view};
 ghost use Rattle.machine_data.specs.declared.limits.TheConstants.{MAX_UNITS};
 ghost use Rattle.explain_json.specs.Kernels.{row_slots, slot_objects, slots_of};
 
+use figures::Takers;
 use machine_data::OutOfMemory;
-use schedule_lines::Takers;
 use serde_json::{Value, json};
 use std::alloc::Global;
 

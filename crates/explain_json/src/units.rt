@@ -13,6 +13,7 @@ ghost use Rattle.explain_json.specs.Units.{set_object, unit_name, unit_objects, 
 use crate::names::told_unit_names;
 use ims::Prepared;
 use machine_data::{Machine, OutOfMemory, Row};
+use resource_bound::rows_by;
 use serde_json::{Value, json};
 use std::alloc::Global;
 use unit_sets::UnitSet;
@@ -24,11 +25,7 @@ fn rows_at<'a>(prepared: &'a Prepared, choices: &[u8], op: usize) -> &'a [Row]
     ensures value { result.now ≡ rows_at prepared.now.operations choices.now op }
     ensures few { length result.now ≤ 16 }
 {
-    let alternatives = prepared.alternatives()[op].as_slice();
-    match alternatives.get(usize::from(choices[op])) {
-        Some(alternative) => alternative.rows(),
-        None => &[],
-    }
+    rows_by(prepared.alternatives()[op].as_slice(), choices[op])
 }
 
 /// By how many rows an operation uses a unit.

@@ -4,13 +4,13 @@ ghost use Rattle.std.specs.Prelude.{◌≡◌, ◌<◌, length, IfOk};
 ghost use Rattle.std.specs.List.{All};
 ghost use Rattle.serde_json.specs.View.{view};
 ghost use Rattle.machine_data.specs.declared.limits.TheConstants.{MAX_UNITS};
-ghost use Rattle.schedule_lines.specs.Slots.{percent_of};
+ghost use Rattle.figures.specs.Slots.{percent_of};
 ghost use Rattle.explain_json.specs.Kernels.{value_object, values_value};
 ghost use Rattle.explain_json.specs.Parts.{array_of, count_value, counts_value, need_value};
 
+use figures::Takers;
 use machine_data::OutOfMemory;
 use rotating::Lifetime;
-use schedule_lines::Takers;
 use serde_json::{Value, json};
 use std::alloc::Global;
 

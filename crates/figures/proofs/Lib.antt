@@ -1,1 +1,4 @@
+pub mod Busy
 pub mod Later
+pub mod Marks
+pub mod OneTaker

@@ -8,4 +8,4 @@ mod unit_lines;
 
 pub use choices::{unit_choices, unit_choices_of};
 pub use laws::fullest_use_is_bound;
-pub use unit_lines::push_unit_lines;
+pub use unit_lines::{push_unit_lines, rows_by};

@@ -1,7 +1,7 @@
 //! The lines of the units that a loop uses.
 
-ghost use Rattle.std.specs.Prelude.{◌≡◌, ◌<◌, ◌≤◌, ◌++◌, length, OnOk};
-ghost use Rattle.std.specs.List.{All};
+ghost use Rattle.std.specs.Prelude.{◌≡◌, ◌<◌, ◌≤◌, ◌++◌, [], length, OnOk};
+ghost use Rattle.std.specs.List.{All, slice_index_or};
 ghost use Rattle.graph.specs.Units.{chosen_rows, operations_of, use_of};
 ghost use Rattle.graph.specs.Uses.{Tallies};
 ghost use Rattle.resource_bound.specs.Choices.{rows_at};
@@ -11,11 +11,33 @@ ghost use Rattle.machine_data.specs.declared.limits.TheConstants.{MAX_UNITS};
 use crate::tally::Tally;
 use graph_text::push_name;
 use loop_data::Loop;
-use machine_data::{Machine, OutOfMemory, Row};
+use machine_data::{Alternative, Machine, OutOfMemory, Row};
 use writing::{Text, push_both, push_told};
 
-/// The rows of the alternative of this place that the operation of this number takes, none where there is no
-/// such alternative.
+/// The rows of the alternative of this place, none where there is no such alternative.
+pub fn rows_by(alternatives: &[Alternative], choice: u8) -> &[Row]
+    ensures value { result.now ≡ slice_index_or alternatives.now choice [] }
+    ensures units { All (λ r. r.unit < MAX_UNITS) result.now }
+    ensures few { length result.now ≤ 16 }
+{
+    match alternatives.get(usize::from(choice)) {
+        Some(alternative) => alternative.rows(),
+        None => &[],
+    }
+}
+
+/// The alternatives of the operation of this number, none where the machine has no table for it.
+fn alternatives_at<'a>(machine: &'a Machine, innermost: &Loop, number: usize) -> &'a [Alternative]
+    requires { number < length innermost.now.statements }
+    ensures { result.now ≡ slice_index_or (operations_of machine.now innermost.now) number [] }
+{
+    match machine.table(innermost.statements()[number].opcode) {
+        Some(table) => table.alternatives().as_slice(),
+        None => &[],
+    }
+}
+
+/// The rows of the alternative that the operation of this number takes, none where there is no such alternative.
 fn rows_at<'a>(machine: &'a Machine, innermost: &Loop, choices: &[u8], number: usize) -> &'a [Row]
     requires there { number < length innermost.now.statements }
     requires chosen { number < length choices.now }
@@ -23,14 +45,7 @@ fn rows_at<'a>(machine: &'a Machine, innermost: &Loop, choices: &[u8], number: u
     ensures units { All (λ r. r.unit < MAX_UNITS) result.now }
     ensures few { length result.now ≤ 16 }
 {
-    let Some(table) = machine.table(innermost.statements()[number].opcode) else {
-        return &[];
-    };
-    let choice = usize::from(choices[number]);
-    match table.alternatives().as_slice().get(choice) {
-        Some(alternative) => alternative.rows(),
-        None => &[],
-    }
+    rows_by(alternatives_at(machine, innermost, number), choices[number])
 }
 
 /// The uses of all units.

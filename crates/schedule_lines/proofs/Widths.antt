@@ -1,21 +1,14 @@
 -- The width of a column, one more cell at a time.
-use Rattle.std.proofs.Common.{◌≡◌, ℕ, ◌+◌, max, rules, nat_cmp, List, [], ◌∷◌, ◌++◌, length, map, ap, ◌∙◌, arith}
+use Rattle.std.proofs.Common.{◌≡◌, ℕ, ◌+◌, max, List, [], ◌∷◌, ◌++◌, length, map, ap, ◌∙◌, arith}
 use Rattle.std.specs.List.{range_with_len}
-use Rattle.std.specs.Ordering.{ord_max}
 use Rattle.std.proofs.lemmas.List.{map-append}
 use Rattle.std.proofs.lemmas.List.FromFn.{map-range_with_len_more}
 use Rattle.graph.specs.Units.{greatest_of}
+use Rattle.graph.proofs.unit_bound.Tally.{greatest_of-push}
 use Rattle.schedule_lines.specs.Columns.{width_of}
 
-pub greater : (a b : ℕ) → ord_max nat_cmp a b ≡ max a b
-greater a b = search rules
-
-pub greatest-push : (ns : List ℕ) (n : ℕ) → greatest_of (ns ++ n ∷ []) ≡ max (greatest_of ns) n
-greatest-push [] n = omega arith
-greatest-push (m ∷ ns) n = let r = greatest-push ns n in omega arith
-
 pub width-push : (cells : List (List ℕ)) (cell : List ℕ) → width_of (cells ++ cell ∷ []) ≡ max (width_of cells) (length cell)
-width-push cells cell = ap greatest_of (map-append length cells (cell ∷ [])) ∙ greatest-push (map length cells) (length cell)
+width-push cells cell = ap greatest_of (map-append length cells (cell ∷ [])) ∙ greatest_of-push (map length cells) (length cell)
 
 pub width-more : (f : ℕ → List ℕ) (head : List ℕ) (n : ℕ) → width_of (head ∷ map f (range_with_len 0 (n + 1))) ≡ max (width_of (head ∷ map f (range_with_len 0 n))) (length (f n))
 width-more f head n =

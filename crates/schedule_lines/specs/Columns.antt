@@ -1,10 +1,12 @@
 -- The grid of a schedule: its columns, their widths, and its lines.
-use Rattle.std.specs.Prelude.{ℕ, ◌-◌, ◌==◌, ◌&&◌, nat_lt, if◌then◌else◌, codes, decimal, List, [], ◌∷◌, ◌++◌, length, filter, map, replicate}
-use Rattle.std.specs.List.{flat_map, range_with_len, slice_index_or}
+use Rattle.std.specs.Prelude.{ℕ, ◌-◌, ◌==◌, ◌&&◌, nat_lt, if◌then◌else◌, codes, decimal, List, [], ◌∷◌, ◌++◌, length, map, replicate}
+use Rattle.std.specs.List.{flat_map, slice_index_or}
 use Rattle.machine_data.specs.Machines.{MachineData}
 use Rattle.graph.specs.Units.{greatest_of}
 use Rattle.ims.specs.Schedules.{ScheduleData}
-use Rattle.schedule_lines.specs.Slots.{greatest_live, is_used, live_count, live_counts, rows_in, slot_text}
+use Rattle.figures.specs.LiveCounts.{greatest_live, live_count, live_counts}
+use Rattle.figures.specs.Slots.{rows_in, used_units}
+use Rattle.schedule_lines.specs.SlotTexts.{slot_text}
 
 -- the width of a column: the length of its longest cell, in bytes
 abbrev pub width_of : List (List ℕ) → ℕ
@@ -16,10 +18,6 @@ padded width cell = replicate (width - length cell) 32 ++ cell
 
 abbrev pub cell_after : ℕ → List ℕ → List ℕ
 cell_after width cell = codes " " ++ padded width cell
-
--- the units that some operation takes, in the machine's order
-unfoldable pub used_units : MachineData → ScheduleData → List ℕ
-used_units machine schedule = filter (is_used schedule) (range_with_len 0 (length machine.units))
 
 abbrev pub unit_name : MachineData → ℕ → List ℕ
 unit_name machine unit = slice_index_or machine.units unit []

@@ -1,4 +1,4 @@
-pub mod Slots
+pub mod SlotTexts
 pub mod Columns
 pub mod ScheduleTexts
 pub mod inner

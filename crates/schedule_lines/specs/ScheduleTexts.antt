@@ -11,9 +11,9 @@ use Rattle.overlap.specs.Allotments.{AllotmentData}
 use Rattle.overlap.specs.Lifetimes.{lifetimes_of}
 use Rattle.rotating.specs.Crowds.{nobody}
 use Rattle.figures.specs.declared.figures.Figures.{Figures}
+use Rattle.figures.specs.Slots.{operations_in, percent_of, rows_at, rows_in, used_units}
 use Rattle.writing.specs.Words.{told}
-use Rattle.schedule_lines.specs.Columns.{head_line, row_line, unit_name, used_units}
-use Rattle.schedule_lines.specs.Slots.{operations_in, percent_of, rows_at, rows_in}
+use Rattle.schedule_lines.specs.Columns.{head_line, row_line, unit_name}
 
 -- `iteration C cycles`
 abbrev pub iteration_line : ℕ → List ℕ

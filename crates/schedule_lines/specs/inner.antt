@@ -1,2 +1,3 @@
-pub mod Tables
+-- What the clauses of private functions cite.
+pub mod Labels
 pub mod Grids

@@ -2,6 +2,6 @@
 
 pub(crate) mod cells;
 pub(crate) mod columns;
-pub(crate) mod counts;
 pub(crate) mod grid;
 pub(crate) mod uses;
+pub(crate) mod widths;

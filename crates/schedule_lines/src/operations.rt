@@ -5,7 +5,7 @@ ghost use Rattle.std.specs.List.{flat_map};
 ghost use Rattle.schedule_lines.specs.Columns.{unit_name};
 ghost use Rattle.schedule_lines.specs.ScheduleTexts.{op_line, op_lines, row_text};
 
-use crate::takers::rows_at;
+use figures::rows_at;
 use graph_text::push_name;
 use ims::Schedule;
 use machine_data::{Machine, OutOfMemory, Row};

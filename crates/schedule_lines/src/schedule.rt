@@ -1,11 +1,10 @@
 //! The text of a schedule.
 
-ghost use Rattle.std.specs.Prelude.{◌≡◌, ◌++◌, ◌-◌, length, OnOk};
+ghost use Rattle.std.specs.Prelude.{◌≡◌, ◌++◌, ◌-◌, OnOk};
 ghost use Rattle.ims.specs.Schedules.{stages_of};
 ghost use Rattle.overlap.specs.Allotments.{Suits};
-ghost use Rattle.schedule_lines.specs.Columns.{used_units};
-ghost use Rattle.schedule_lines.specs.ScheduleTexts.{grid_text, idle_line, iteration_line, op_lines, schedule_text, turns_line, use_line};
-ghost use Rattle.schedule_lines.specs.inner.Grids.{IsGrid};
+ghost use Rattle.schedule_lines.specs.ScheduleTexts.{idle_line, iteration_line, op_lines, schedule_text, turns_line};
+ghost use Rattle.schedule_lines.specs.inner.Grids.{IsGrid, table_text};
 
 use crate::figure_lines::{push_iteration, push_need_line, push_turns};
 use crate::grids::grid::{Grid, grid_of, push_grid};
@@ -45,17 +44,12 @@ fn push_idle(text: &mut Vec<u8>, idle: usize) -> Result<(), OutOfMemory>
 }
 
 /// Appends a grid, how much of the interval its units are taken, and how many units it leaves out.
-fn push_table(
-    text: &mut Vec<u8>,
-    machine: &Machine,
-    schedule: &Schedule,
-    grid: &Grid,
-) -> Result<(), OutOfMemory>
-    requires { IsGrid machine.now schedule.now grid.now }
-    ensures ok { OnOk result (text.new.items ≡ text.old.items ++ (grid_text machine.now schedule.now ++ (use_line machine.now schedule.now ++ idle_line (length machine.now.units - length (used_units machine.now schedule.now))))) }
+fn push_table(text: &mut Vec<u8>, machine: &Machine, grid: &Grid) -> Result<(), OutOfMemory>
+    requires { IsGrid machine.now grid.now }
+    ensures ok { OnOk result (text.new.items ≡ text.old.items ++ table_text machine.now grid.now.slots) }
 {
-    push_grid(text, machine, schedule, grid)?;
-    push_use(text, machine, schedule, grid)?;
+    push_grid(text, machine, grid)?;
+    push_use(text, machine, grid)?;
     let idle = machine.units().len() - grid.columns.len();
     push_idle(text, idle)
 }
@@ -96,6 +90,6 @@ pub fn push_schedule(
     push_start(text, machine, schedule, figures)?;
     push_values(text, schedule, listed, allotment.numbers())?;
     push_need_line(text, figures.need)?;
-    push_table(text, machine, schedule, &grid)?;
+    push_table(text, machine, &grid)?;
     Ok(())
 }

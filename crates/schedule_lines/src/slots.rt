@@ -1,25 +1,38 @@
 //! The texts in the slots of a schedule.
 
-ghost use Rattle.std.specs.Prelude.{◌≡◌, ◌<◌, ◌+◌, ◌*◌, [], ◌∷◌, codes, nat_lt, length, IfOk, vec_len};
-ghost use Rattle.std.specs.List.{All};
-ghost use Rattle.schedule_lines.specs.Slots.{label_of};
-ghost use Rattle.schedule_lines.specs.inner.Tables.{AreSlots, labels_of, taker_in, text_at, texts_in};
+ghost use Rattle.std.specs.Prelude.{◌≡◌, ◌<◌, length, IfOk};
+ghost use Rattle.machine_data.specs.declared.limits.TheConstants.{MAX_UNITS};
+ghost use Rattle.schedule_lines.specs.SlotTexts.{label_of, slot_text};
+ghost use Rattle.schedule_lines.specs.inner.Labels.{labels_of, texts_in};
 
-use crate::takers::takers_of;
+use figures::Takers;
 use graph_text::push_name;
 use ims::Schedule;
 use machine_data::OutOfMemory;
-use machine_data::limits::MAX_UNITS;
 use std::alloc::Global;
+use std::marker::Model;
 use writing::push_told;
 
-/// The text in each slot. Texts are made once for each operation, not for each slot.
+/// The text in each slot of a schedule. Labels are made once for each operation, not for each slot. Contracts see the
+/// schedule.
 #[derive(Drop)]
-pub(crate) struct Slots {
-    /// For each row and unit, one row after another, the place of the slot's text.
-    pub(crate) takers: Vec<u8>,
-    /// The text of an empty slot, and after it that of each operation.
-    pub(crate) texts: Vec<Vec<u8>>,
+pub(crate) struct Slots<'s, 'a> {
+    schedule: &'s Schedule<'a>,
+    takers: Takers<'s, 'a>,
+    /// The name and the stage of each operation.
+    labels: Vec<Vec<u8>>,
+}
+
+impl<'s, 'a> Model for Slots<'s, 'a> {
+    ghost use Rattle.std.specs.Prelude.{◌≡◌};
+    ghost use Rattle.ims.specs.Schedules.{ScheduleData};
+    ghost use Rattle.schedule_lines.specs.inner.Labels.{labels_of, texts_in};
+
+    ghost Value = { ScheduleData };
+
+    ghost view = { λ s. s.schedule.now };
+
+    ghost invariant = { λ s. (s.takers ≡ s.schedule.now) × (texts_in s.labels.items ≡ labels_of s.schedule.now) };
 }
 
 /// The name of an operation and its stage.
@@ -33,54 +46,58 @@ fn label_of(alloc: Global, schedule: &Schedule, op: usize) -> Result<Vec<u8>, Ou
     Ok(text)
 }
 
-/// The text of an empty slot.
-fn first_text(alloc: Global) -> Result<Vec<Vec<u8>>, OutOfMemory>
-    ensures { IfOk result (λ texts. texts_in texts.items ≡ codes "." ∷ []) }
+/// The labels of all operations.
+fn labels_of(alloc: Global, schedule: &Schedule) -> Result<Vec<Vec<u8>>, OutOfMemory>
+    ensures { IfOk result (λ labels. texts_in labels.items ≡ labels_of schedule.now) }
 {
-    let mut empty = Vec::new(alloc);
-    empty.extend_from_slice(b".")?;
-    let mut texts = Vec::new(alloc);
-    texts.push(empty)?;
-    Ok(texts)
-}
-
-/// The text of an empty slot, and of each operation.
-fn texts_of(alloc: Global, schedule: &Schedule) -> Result<Vec<Vec<u8>>, OutOfMemory>
-    ensures { IfOk result (λ texts. texts_in texts.items ≡ labels_of schedule.now) }
-{
-    let mut texts = first_text(alloc)?;
+    let mut labels = Vec::new(alloc);
     for op in 0..schedule.prepared().operations() {
-        let text = label_of(alloc, schedule, op)?;
-        texts.push(text)?;
+        let label = label_of(alloc, schedule, op)?;
+        labels.push(label)?;
     }
-    Ok(texts)
+    Ok(labels)
 }
 
-impl Slots {
+impl<'s, 'a> Slots<'s, 'a> {
     /// The slots of a schedule.
-    pub(crate) fn of(alloc: Global, schedule: &Schedule) -> Result<Slots, OutOfMemory>
-        ensures { IfOk result (AreSlots schedule.now) }
+    pub(crate) fn of(
+        alloc: Global,
+        schedule: &'s Schedule<'a>,
+    ) -> Result<Slots<'s, 'a>, OutOfMemory>
+        ensures { IfOk result (λ slots. slots ≡ schedule.now) }
     {
-        let takers = takers_of(alloc, schedule)?;
-        let texts = texts_of(alloc, schedule)?;
-        Ok(Slots { takers, texts })
+        let takers = Takers::of(alloc, schedule)?;
+        let labels = labels_of(alloc, schedule)?;
+        Ok(Slots {
+            schedule,
+            takers,
+            labels,
+        })
+    }
+
+    /// How many rows there are.
+    pub(crate) fn rows(&self) -> u64
+        ensures { result ≡ self.now.ii }
+    {
+        self.schedule.ii()
+    }
+
+    /// Which operation takes each slot.
+    pub(crate) fn takers(&self) -> &Takers<'s, 'a>
+        ensures { result.now ≡ self.now }
+    {
+        &self.takers
     }
 
     /// The text in a slot.
     pub(crate) fn text(&self, unit: u8, row: u64) -> &[u8]
-        requires there { row * 64 + unit < vec_len self.now.takers }
-        requires each { All (λ place. place < length self.now.texts.items) self.now.takers.items }
-        ensures { result.now ≡ text_at self.now.takers.items self.now.texts.items unit row }
+        requires unit { unit < MAX_UNITS }
+        requires row { row < self.now.ii }
+        ensures { result.now ≡ slot_text self.now unit row }
     {
-        let place = self.takers[row as usize * MAX_UNITS + usize::from(unit)];
-        self.texts[usize::from(place)].as_slice()
-    }
-
-    /// Whether an operation takes a slot.
-    pub(crate) fn is_taken(&self, unit: u8, row: u64) -> bool
-        requires { row * 64 + unit < vec_len self.now.takers }
-        ensures { result ≡ nat_lt 0 (taker_in self.now.takers.items unit row) }
-    {
-        self.takers[row as usize * MAX_UNITS + usize::from(unit)] > 0
+        match self.takers.taker(unit, row) {
+            Some(op) => self.labels[op].as_slice(),
+            None => b".",
+        }
     }
 }

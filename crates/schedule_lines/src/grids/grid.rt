@@ -1,16 +1,19 @@
 //! The modulo reservation table as a grid.
 
-ghost use Rattle.std.specs.Prelude.{◌≡◌, ◌<◌, ◌++◌, codes, length, vec_len, IfOk, OnOk};
+ghost use Rattle.std.specs.Prelude.{◌≡◌, ◌<◌, ◌++◌, codes, vec_len, IfOk, OnOk};
 ghost use Rattle.std.specs.List.{All};
+ghost use Rattle.machine_data.specs.declared.limits.TheConstants.{MAX_UNITS};
 ghost use Rattle.overlap.specs.Lifetimes.{lifetimes_of};
 ghost use Rattle.schedule_lines.specs.Columns.{full_mark};
 ghost use Rattle.schedule_lines.specs.ScheduleTexts.{grid_text};
-ghost use Rattle.schedule_lines.specs.inner.Grids.{HasCells, IsGrid, cells_in, head_in, names_in, row_in};
+ghost use Rattle.schedule_lines.specs.inner.Grids.{IsGrid, cells_in, head_in, names_in, row_in};
 
 use crate::grids::cells::{push_cell, push_padded, push_padded_number};
 use crate::grids::columns::{Column, columns_of};
-use crate::grids::counts::{counts_of, greatest_of, live_width, row_width};
+use crate::grids::widths::{live_width, row_width};
+use crate::operations::unit_name;
 use crate::slots::Slots;
+use figures::{counts_of, greatest_of};
 use ims::Schedule;
 use machine_data::{Machine, OutOfMemory};
 use rotating::Lifetime;
@@ -19,8 +22,8 @@ use writing::Text;
 
 /// What the lines of a grid are written from.
 #[derive(Drop)]
-pub(crate) struct Grid {
-    pub(crate) slots: Slots,
+pub(crate) struct Grid<'s, 'a> {
+    pub(crate) slots: Slots<'s, 'a>,
     pub(crate) columns: Vec<Column>,
     /// How many registers are live in each row, and in the fullest one.
     pub(crate) counts: Vec<u64>,
@@ -31,17 +34,18 @@ pub(crate) struct Grid {
 }
 
 /// The grid of a schedule with these lifetimes.
-pub(crate) fn grid_of(
+pub(crate) fn grid_of<'s, 'a>(
     alloc: Global,
     machine: &Machine,
-    schedule: &Schedule,
+    schedule: &'s Schedule<'a>,
     lives: &[Lifetime],
-) -> Result<Grid, OutOfMemory>
+) -> Result<Grid<'s, 'a>, OutOfMemory>
     requires { lives.now ≡ lifetimes_of schedule.now }
-    ensures { IfOk result (IsGrid machine.now schedule.now) }
+    ensures grid { IfOk result (IsGrid machine.now) }
+    ensures schedule { IfOk result (λ (grid : _). grid.slots ≡ schedule.now) }
 {
     let slots = Slots::of(alloc, schedule)?;
-    let columns = columns_of(alloc, machine, schedule, &slots)?;
+    let columns = columns_of(alloc, machine, &slots)?;
     let counts = counts_of(alloc, schedule, lives)?;
     let listed = counts.as_slice();
     let greatest = greatest_of(listed);
@@ -59,11 +63,10 @@ pub(crate) fn grid_of(
 
 /// Appends the names of the units of these columns.
 fn push_names(text: &mut Vec<u8>, machine: &Machine, columns: &[Column]) -> Result<(), OutOfMemory>
-    requires { All (λ (column : _). column.unit < length machine.now.units) columns.now }
     ensures ok { OnOk result (text.new.items ≡ text.old.items ++ names_in machine.now columns.now) }
 {
     for column in columns {
-        let name = machine.units()[usize::from(column.unit)].as_str();
+        let name = unit_name(machine, column.unit);
         push_cell(text, column.width, name.as_bytes())?;
     }
     Ok(())
@@ -76,7 +79,8 @@ fn push_cells(
     columns: &[Column],
     row: u64,
 ) -> Result<(), OutOfMemory>
-    requires { HasCells slots.now columns.now row }
+    requires units { All (λ (column : _). column.unit < MAX_UNITS) columns.now }
+    requires row { row < slots.now.ii }
     ensures ok { OnOk result (text.new.items ≡ text.old.items ++ cells_in slots.now columns.now row) }
 {
     for column in columns {
@@ -87,7 +91,6 @@ fn push_cells(
 
 /// Appends the line of the columns' names.
 fn push_head(text: &mut Vec<u8>, machine: &Machine, grid: &Grid) -> Result<(), OutOfMemory>
-    requires { All (λ (column : _). column.unit < length machine.now.units) grid.now.columns.items }
     ensures ok { OnOk result (text.new.items ≡ text.old.items ++ head_in machine.now grid.now) }
 {
     push_padded(text, grid.row_width, b"row")?;
@@ -108,7 +111,8 @@ fn push_end(text: &mut Vec<u8>, count: u64, greatest: u64) -> Result<(), OutOfMe
 
 /// Appends the line of a row.
 fn push_row(text: &mut Vec<u8>, grid: &Grid, row: u64) -> Result<(), OutOfMemory>
-    requires cells { HasCells grid.now.slots grid.now.columns.items row }
+    requires units { All (λ (column : _). column.unit < MAX_UNITS) grid.now.columns.items }
+    requires row { row < grid.now.slots.ii }
     requires count { row < vec_len grid.now.counts }
     ensures ok { OnOk result (text.new.items ≡ text.old.items ++ row_in grid.now row) }
 {
@@ -124,14 +128,13 @@ fn push_row(text: &mut Vec<u8>, grid: &Grid, row: u64) -> Result<(), OutOfMemory
 pub(crate) fn push_grid(
     text: &mut Vec<u8>,
     machine: &Machine,
-    schedule: &Schedule,
     grid: &Grid,
 ) -> Result<(), OutOfMemory>
-    requires { IsGrid machine.now schedule.now grid.now }
-    ensures ok { OnOk result (text.new.items ≡ text.old.items ++ grid_text machine.now schedule.now) }
+    requires { IsGrid machine.now grid.now }
+    ensures ok { OnOk result (text.new.items ≡ text.old.items ++ grid_text machine.now grid.now.slots) }
 {
     push_head(text, machine, grid)?;
-    for row in 0..schedule.ii() {
+    for row in 0..grid.slots.rows() {
         push_row(text, grid, row)?;
     }
     Ok(())

@@ -2,17 +2,14 @@
 
 ghost use Rattle.std.specs.Prelude.{◌≡◌, ◌<◌, ◌++◌, OnOk};
 ghost use Rattle.std.specs.List.{All};
+ghost use Rattle.machine_data.specs.declared.limits.TheConstants.{MAX_UNITS};
 ghost use Rattle.schedule_lines.specs.ScheduleTexts.{use_line, use_text};
 ghost use Rattle.schedule_lines.specs.inner.Grids.{IsGrid, uses_in};
-ghost use Rattle.schedule_lines.specs.inner.Tables.{AreSlots};
-ghost use Rattle.machine_data.specs.declared.limits.TheConstants.{MAX_UNITS};
 
 use crate::grids::columns::Column;
 use crate::grids::grid::Grid;
 use crate::operations::unit_name;
-use crate::slots::Slots;
-use crate::takers::percent_in;
-use ims::Schedule;
+use figures::Takers;
 use machine_data::{Machine, OutOfMemory};
 use writing::{Text, push_told};
 
@@ -20,18 +17,15 @@ use writing::{Text, push_told};
 fn push_percent(
     text: &mut Vec<u8>,
     machine: &Machine,
-    schedule: &Schedule,
-    slots: &Slots,
+    takers: &Takers,
     unit: u8,
 ) -> Result<(), OutOfMemory>
-    requires slots { AreSlots schedule.now slots.now }
-    requires unit { unit < MAX_UNITS }
-    ensures ok { OnOk result (text.new.items ≡ text.old.items ++ use_text machine.now schedule.now unit) }
+    requires { unit < MAX_UNITS }
+    ensures ok { OnOk result (text.new.items ≡ text.old.items ++ use_text machine.now takers.now unit) }
 {
     text.push_piece(" ")?;
     text.push_piece(unit_name(machine, unit))?;
-    let percent = percent_in(schedule, slots.takers.as_slice(), unit);
-    push_told(text, " ", percent)?;
+    push_told(text, " ", takers.percent(unit))?;
     text.push_piece("%")
 }
 
@@ -39,16 +33,14 @@ fn push_percent(
 fn push_percents(
     text: &mut Vec<u8>,
     machine: &Machine,
-    schedule: &Schedule,
-    slots: &Slots,
+    takers: &Takers,
     columns: &[Column],
 ) -> Result<(), OutOfMemory>
-    requires slots { AreSlots schedule.now slots.now }
-    requires units { All (λ (column : _). column.unit < MAX_UNITS) columns.now }
-    ensures ok { OnOk result (text.new.items ≡ text.old.items ++ uses_in machine.now schedule.now columns.now) }
+    requires { All (λ (column : _). column.unit < MAX_UNITS) columns.now }
+    ensures ok { OnOk result (text.new.items ≡ text.old.items ++ uses_in machine.now takers.now columns.now) }
 {
     for column in columns {
-        push_percent(text, machine, schedule, slots, column.unit)?;
+        push_percent(text, machine, takers, column.unit)?;
     }
     Ok(())
 }
@@ -57,19 +49,12 @@ fn push_percents(
 pub(crate) fn push_use(
     text: &mut Vec<u8>,
     machine: &Machine,
-    schedule: &Schedule,
     grid: &Grid,
 ) -> Result<(), OutOfMemory>
-    requires { IsGrid machine.now schedule.now grid.now }
-    ensures ok { OnOk result (text.new.items ≡ text.old.items ++ use_line machine.now schedule.now) }
+    requires { IsGrid machine.now grid.now }
+    ensures ok { OnOk result (text.new.items ≡ text.old.items ++ use_line machine.now grid.now.slots) }
 {
     text.push_piece("use")?;
-    push_percents(
-        text,
-        machine,
-        schedule,
-        &grid.slots,
-        grid.columns.as_slice(),
-    )?;
+    push_percents(text, machine, grid.slots.takers(), grid.columns.as_slice())?;
     text.push_piece("\n")
 }

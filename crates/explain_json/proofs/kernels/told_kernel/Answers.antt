@@ -2,8 +2,7 @@ use Rattle.std.proofs.Common.{◌∙◌, ap}
 use Rattle.std.proofs.lemmas.Result.{IfOk-weaker}
 use Rattle.kernel.specs.declared.kernels.parts.Parts.{Parts}
 use Rattle.told_choices.specs.Holds.{hold_word}
-use Rattle.schedule_lines.specs.Columns.{used_units}
-use Rattle.schedule_lines.specs.Slots.{percent_of}
+use Rattle.figures.specs.Slots.{percent_of, used_units}
 use Rattle.explain_json.specs.Kernels.{figures_object}
 use Rattle.explain_json.specs.Parts.{array_of, count_value}
 use Rattle.explain_json.specs.inner.Objects.{kernel_of}

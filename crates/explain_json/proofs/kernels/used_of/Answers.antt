@@ -1,6 +1,6 @@
 use Rattle.std.proofs.Common.{◌<◌, ◌∙◌, ℕ, length, sym, subst}
 use Rattle.std.specs.List.{All}
-use Rattle.schedule_lines.proofs.Lines.{units-below}
+use Rattle.figures.proofs.Busy.{units-below}
 use Rattle.explain_json.proofs.kernels.used_of.Goals as goal
 
 pub told_unit_names-requires : goal.told_unit_names-requires

@@ -1,7 +1,7 @@
 use Rattle.std.proofs.Common.{ℕ, Option, ◌++◌, ap, map, ◌∙◌}
 use Rattle.std.specs.Prelude.{slice_index}
 use Rattle.serde_json.specs.View.{view}
-use Rattle.schedule_lines.specs.Slots.{slot_taker}
+use Rattle.figures.specs.Slots.{slot_taker}
 use Rattle.explain_json.specs.Kernels.{slot_objects}
 use Rattle.explain_json.proofs.Lists.{several-more}
 use Rattle.explain_json.proofs.slots.push_row.Goals as goal

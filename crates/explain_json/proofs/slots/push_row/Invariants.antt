@@ -2,7 +2,7 @@ use Rattle.std.proofs.Common.{◌≡◌, ◌++◌, map}
 use Rattle.std.specs.Prelude.{slice_index}
 use Rattle.std.specs.List.{flat_map, range_with_len}
 use Rattle.serde_json.specs.View.{view}
-use Rattle.schedule_lines.specs.Slots.{slot_taker}
+use Rattle.figures.specs.Slots.{slot_taker}
 use Rattle.explain_json.specs.Kernels.{slot_objects}
 use Rattle.explain_json.proofs.slots.push_row.Given as goal
 

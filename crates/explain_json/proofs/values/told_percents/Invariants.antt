@@ -1,6 +1,6 @@
 use Rattle.std.proofs.Common.{◌≡◌, map, take}
 use Rattle.serde_json.specs.View.{view}
-use Rattle.schedule_lines.specs.Slots.{percent_of}
+use Rattle.figures.specs.Slots.{percent_of}
 use Rattle.explain_json.specs.Parts.{count_value}
 use Rattle.explain_json.proofs.values.told_percents.Given as goal
 

@@ -1,4 +1,4 @@
-use Rattle.std.proofs.Common.{◌≡◌, ◌-◌, ℕ, List, ◌++◌, length, ap, ◌∙◌}
+use Rattle.std.proofs.Common.{◌≡◌, ◌-◌, ℕ, List, ◌++◌, ap, ◌∙◌}
 use Rattle.loop_data.specs.Loops.{LoopData}
 use Rattle.machine_data.specs.Machines.{MachineData}
 use Rattle.ims.specs.Schedules.{ScheduleData, stages_of}
@@ -6,8 +6,8 @@ use Rattle.registers.specs.declared.lifetime.Lifetime.{Lifetime}
 use Rattle.overlap.specs.Allotments.{AllotmentData}
 use Rattle.overlap.specs.Lifetimes.{lifetimes_of}
 use Rattle.figures.specs.declared.figures.Figures.{Figures}
-use Rattle.schedule_lines.specs.Columns.{used_units}
-use Rattle.schedule_lines.specs.ScheduleTexts.{grid_text, idle_line, iteration_line, need_line, op_lines, schedule_text, turns_line, use_line, value_lines}
+use Rattle.schedule_lines.specs.ScheduleTexts.{iteration_line, need_line, op_lines, schedule_text, turns_line, value_lines}
+use Rattle.schedule_lines.specs.inner.Grids.{table_text}
 use Rattle.schedule_lines.proofs.Joined.{regrouped}
 use Rattle.schedule_lines.proofs.schedule.push_schedule.Goals as goal
 
@@ -15,7 +15,7 @@ text-is : (machine : MachineData) (schedule : ScheduleData) (allotment : Allotme
     → lives ≡ lifetimes_of schedule → numbers ≡ allotment.numbers
     → one ≡ old ++ (iteration_line figures.cycles ++ (turns_line (stages_of schedule - 1) ++ op_lines machine schedule figures.slacks.items))
     → two ≡ one ++ value_lines schedule.problem.loop lives numbers → three ≡ two ++ need_line figures.need
-    → four ≡ three ++ (grid_text machine schedule ++ (use_line machine schedule ++ idle_line (length machine.units - length (used_units machine schedule))))
+    → four ≡ three ++ table_text machine schedule
     → four ≡ old ++ schedule_text machine schedule allotment figures
 unfolding schedule_text
 text-is machine schedule allotment figures old one two three four lives numbers l n p q r s =
@@ -25,7 +25,7 @@ text-is machine schedule allotment figures old one two three four lives numbers 
     let operations : List ℕ = op_lines machine schedule figures.slacks.items in
     let values : List ℕ = value_lines loop lives numbers in
     let need : List ℕ = need_line figures.need in
-    let table : List ℕ = grid_text machine schedule ++ (use_line machine schedule ++ idle_line (length machine.units - length (used_units machine schedule))) in
+    let table : List ℕ = table_text machine schedule in
     let same : values ≡ value_lines loop (lifetimes_of schedule) allotment.numbers
     = ap (λ (ls : List Lifetime). value_lines loop ls numbers) l ∙ ap (value_lines loop (lifetimes_of schedule)) n in
     s ∙ ap (λ t. t ++ table) (r ∙ ap (λ t. t ++ need) (q ∙ ap (λ t. t ++ values) p))
@@ -38,5 +38,5 @@ returns c = record {
       c.push_start.new.text.items c.push_values.new.text.items c.push_need_line.new.text.items c.push_table.new.text.items
       c.as_slice-listed.result.now c.numbers.result.now
       (c.as_slice-listed.ensures.value ∙ c.in_ok-lives.ensures.exact) c.numbers.ensures.value
-      c.in_ok-push_start.ensures.ok c.in_ok-push_values.ensures.ok c.in_ok-push_need_line.ensures.ok c.in_ok-push_table.ensures.ok;
+      c.in_ok-push_start.ensures.ok c.in_ok-push_values.ensures.ok c.in_ok-push_need_line.ensures.ok (c.in_ok-push_table.ensures.ok ∙ ap (λ s. c.push_need_line.new.text.items ++ table_text c.args.machine.now s) c.in_ok-grid.ensures.schedule);
 }

@@ -1,7 +1,0 @@
-use Rattle.std.proofs.Common.{◌≡◌, map}
-use Rattle.std.specs.List.{range_with_len}
-use Rattle.schedule_lines.specs.Slots.{live_count}
-use Rattle.schedule_lines.proofs.grids.counts.counts_of.Given as goal
-
-abbrev pub invariant-loop-row : goal.invariant-loop-row
-invariant-loop-row l = l.counts.items ≡ map (live_count l.schedule) (range_with_len 0 l.row)

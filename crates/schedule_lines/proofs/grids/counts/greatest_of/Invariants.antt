@@ -1,6 +1,0 @@
-use Rattle.std.proofs.Common.{◌≡◌, take}
-use Rattle.graph.specs.Units.{greatest_of}
-use Rattle.schedule_lines.proofs.grids.counts.greatest_of.Given as goal
-
-abbrev pub invariant-loop-count : goal.invariant-loop-count
-invariant-loop-count l = l.greatest ≡ greatest_of (take l.count-index l.counts)
