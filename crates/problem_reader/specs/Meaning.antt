@@ -8,6 +8,7 @@ use Rattle.problem_lines.specs.Lines.{LineForm, line_form}
 use Rattle.problem_lines.specs.Words.{Placed, placed_words}
 use Rattle.problem_lines.specs.declared.fault.LineFault.{LineFault}
 use Rattle.problem_lines.specs.declared.number.Number.{Number}
+use Rattle.problems.specs.declared.limits.TheConstants.{MAX_PROBLEMS, MAX_PROBLEM_TEXT}
 use Rattle.problem_tables.specs.Faults.{first_of, unless, on_word, on_line, room_at, new, known, in_range, units_fault, storage_fault, alternatives_fault, offset_fault, delay_fault, number_or_0}
 use Rattle.problem_tables.specs.Names.{index_of}
 use Rattle.problem_tables.specs.declared.fault.Part.TheVariants as part
@@ -40,7 +41,7 @@ meaning_faults before told (KindLine name latency alternatives) =
     ∷ alternatives_fault (units_in before) 0 alternatives
     ∷ []
 meaning_faults before told (ProblemLine name) =
-    room_at told (length (problems_in before)) 4096 part.Problems ∷ new (problems_in before) name ∷ []
+    room_at told (length (problems_in before)) MAX_PROBLEMS part.Problems ∷ new (problems_in before) name ∷ []
 meaning_faults before told (OpLine name kind) =
     room_at told (length (ops_in before)) MAX_STATEMENTS part.Operations ∷ new (ops_in before) name ∷ known (kinds_in before) part.Kinds kind ∷ []
 meaning_faults before told (ValueLine name maker lands file out) =
@@ -100,8 +101,8 @@ forms_from number before (Ok (Some line) ∷ lines) = judged (line_fault before 
 abbrev pub lines_in : List ℕ → List (Result (Option LineForm) LineFault)
 lines_in text = map (λ line. line_form (placed_words line)) (lines_of text)
 
--- the lines that a text has, without those that say nothing, or its first fault. The text is limited to 16,777,216 bytes
+-- the lines that a text has, without those that say nothing, or its first fault. The length of the text is limited
 unfoldable pub forms_in : List ℕ → Result (List Form) TextFault
 forms_in text =
-    if nat_lt 16777216 (length text) then Err (record { line = 0; column = 0; width = 0; what = wrong.TextSize })
+    if nat_lt MAX_PROBLEM_TEXT (length text) then Err (record { line = 0; column = 0; width = 0; what = wrong.TextSize })
     else forms_from 1 [] (lines_in text)

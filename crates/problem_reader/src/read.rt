@@ -13,10 +13,8 @@ use crate::file::ProblemFile;
 use loop_lines::next_line;
 use problem_lines::line_of;
 use problem_tables::{Refusal, Tables, Wrong};
+use problems::limits::MAX_PROBLEM_TEXT;
 use std::alloc::Global;
-
-/// Bytes of a text of scheduling problems.
-const MAX_PROBLEM_TEXT: usize = 16_777_216;
 
 /// Takes a line of this number in.
 fn take_text<'a>(tables: &mut Tables<'a>, line: usize, text: &'a [u8]) -> Result<(), TextFault>

@@ -11,6 +11,7 @@ use Rattle.problem_lines.specs.declared.number.Storage.{Storage}
 use Rattle.problems.specs.declared.draft.File.{File}
 use Rattle.problems.specs.declared.draft.Value.{Value}
 use Rattle.problems.specs.declared.draft.Order.{Order}
+use Rattle.problems.specs.declared.limits.TheConstants.{MAX_PROBLEMS}
 use Rattle.registers.specs.declared.value.Read.{Read}
 use Rattle.problem_tables.specs.Data.{KindData, MachineData, ProblemData, FileData, file_of, kind_of}
 use Rattle.problem_tables.specs.Faults.{first_of, unless, on_line, on_word, room_at, new, known, in_range, units_fault, storage_fault, alternatives_fault, offset_fault, delay_fault, number_or_0}
@@ -167,7 +168,7 @@ form_fault tables told (UnitsLine names) = units_fault tables.machine.units name
 form_fault tables told (FileLine name storage) = first_of (file_faults tables.machine told name storage)
 form_fault tables told (KindLine name latency alternatives) =
     first_of (first_of (kind_faults tables.machine told name latency) ∷ alternatives_fault tables.machine.units 0 alternatives ∷ [])
-form_fault tables told (ProblemLine name) = first_of (room_at told (length tables.problems) 4096 part.Problems ∷ new tables.problems name ∷ [])
+form_fault tables told (ProblemLine name) = first_of (room_at told (length tables.problems) MAX_PROBLEMS part.Problems ∷ new tables.problems name ∷ [])
 form_fault tables told (OpLine name kind) = first_of (op_faults tables.machine tables.problem told name kind)
 form_fault tables told (ValueLine name maker lands stored out) = first_of (value_faults tables.machine tables.problem told name maker lands stored)
 form_fault tables told (ReadLine reader value distance offset) = first_of (read_faults tables.problem told reader value distance offset)

@@ -2,6 +2,7 @@
 
 ghost use Rattle.std.specs.Prelude.{◌≡◌, ◌<◌, ℕ, List, [], ◌∷◌, ◌++◌, length, false, OnOk};
 ghost use Rattle.problem_tables.specs.Names.{has_name, index_of, last_name};
+ghost use Rattle.problem_tables.specs.declared.names.TheConstants.{BUCKETS};
 ghost use Rattle.problem_tables.specs.inner.Numbered.{bucket_of};
 
 use crate::room::push_with_room;
@@ -46,7 +47,7 @@ impl<'a> Model for Names<'a> {
 #[tactic(auto, unfolding(crate::specs::inner::Numbered::bucket_of))]
 fn bucket_of(name: &[u8]) -> usize
     ensures value { result ≡ bucket_of name.now }
-    ensures bound { result < 512 }
+    ensures bound { result < BUCKETS }
 {
     let mut hasher = FoldHasher::default();
     hasher.write(name);

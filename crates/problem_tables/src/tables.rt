@@ -3,6 +3,7 @@
 ghost use Rattle.std.specs.Prelude.{◌≡◌, ◌<◌, nat_lt, length, IfNone, IfOk, OnOk, [], ◌∷◌, true, false};
 ghost use Rattle.problem_lines.specs.Parsed.{form_seen, line_seen};
 ghost use Rattle.problem_lines.specs.Seen.{word_seen};
+ghost use Rattle.problems.specs.declared.limits.TheConstants.{MAX_PROBLEMS};
 ghost use Rattle.problem_tables.specs.Faults.{first_of, new, room_at, unless};
 ghost use Rattle.problem_tables.specs.Names.{has_name};
 ghost use Rattle.problem_tables.specs.Seen.{ended_seen, tables_seen, Refuses};
@@ -22,10 +23,8 @@ use crate::names::Names;
 use crate::opened::Opened;
 use machine_data::OutOfMemory;
 use problem_lines::{Form, Line, Word};
+use problems::limits::MAX_PROBLEMS;
 use std::alloc::Global;
-
-/// Problems of a text.
-const MAX_PROBLEMS: usize = 4_096;
 
 /// What the lines of a text have said so far. The lines of the problem under way and those of its machine look names up
 /// in tables; machines and problems that have ended are kept as they are handed out.
@@ -112,7 +111,7 @@ impl<'a> Tables<'a> {
 
     /// The fault of a `problem` line.
     fn problem_fault(&self, at: Spot, name: Word<'a>) -> Option<Told>
-        ensures value { result ≡ first_of (room_at (on_spot at) (length self.now.problems.names) 4096 part.Problems ∷ new self.now.problems.names (word_seen name.entry) ∷ []) }
+        ensures value { result ≡ first_of (room_at (on_spot at) (length self.now.problems.names) MAX_PROBLEMS part.Problems ∷ new self.now.problems.names (word_seen name.entry) ∷ []) }
         ensures absent { IfNone result (has_name self.now.problems.names name.entry.bytes.now ≡ false) }
     {
         if let Some(told) = at.room(self.problems.names.len(), MAX_PROBLEMS, Part::Problems) {

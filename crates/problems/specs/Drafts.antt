@@ -1,6 +1,6 @@
 -- Drafts of scheduling problems: when one is well formed, and what it comes to.
-use Rattle.std.specs.Prelude.{◌≡◌, ◌≢◌, ◌⊎◌, ℕ, pos, negsuc, ◌<◌, ◌≤◌, ◌-ℤ◌, ◌≤ℤ◌, List, [], ◌++◌, length, map, slice_index}
-use Rattle.machine_data.specs.declared.limits.TheConstants.{MAX_DISTANCE, MAX_KINDS, MAX_LATENCY, MAX_OFFSET, MAX_OPERATION_ALTERNATIVES, MAX_ORDERS, MAX_ORDER_DISTANCE, MAX_READS, MAX_REGISTERS, MAX_ROWS, MAX_STATEMENTS, MAX_UNITS, MAX_VALUES}
+use Rattle.std.specs.Prelude.{◌≡◌, ◌≢◌, ◌⊎◌, ℕ, pos, neg_ℤ, ◌<◌, ◌≤◌, ◌-ℤ◌, ◌≤ℤ◌, List, [], ◌++◌, length, map, slice_index}
+use Rattle.machine_data.specs.declared.limits.TheConstants.{MAX_DELAY, MAX_DISTANCE, MAX_FILES, MAX_KINDS, MAX_LATENCY, MAX_OFFSET, MAX_OPERATION_ALTERNATIVES, MAX_ORDERS, MAX_ORDER_DISTANCE, MAX_READS, MAX_REGISTERS, MAX_ROWS, MAX_STATEMENTS, MAX_UNITS, MAX_VALUES}
 use Rattle.std.specs.List.{All, AllPairs, slice_index_or}
 use Rattle.smallvec.specs.SmallVec.{SmallVec}
 use Rattle.machine_data.specs.declared.alternative.Row.{Row}
@@ -64,15 +64,15 @@ pub record IsRead (draft : Draft) (reading : Read) : Type 0 where
 pub record IsOrder (operations : ℕ) (order : Order) : Type 0 where
   pub from : order.from < operations
   pub to : order.to < operations
-  pub delay_low : negsuc 63 ≤ℤ order.delay
-  pub delay_high : order.delay ≤ℤ pos 64
+  pub delay_low : neg_ℤ MAX_DELAY ≤ℤ order.delay
+  pub delay_high : order.delay ≤ℤ MAX_DELAY
   pub distance : order.distance ≤ MAX_ORDER_DISTANCE
   pub forward : order.distance ≡ 0 → order.from < order.to
 
 pub record AreCounts (draft : Draft) : Type 0 where
   pub units_some : 1 ≤ draft.units
   pub units_few : draft.units ≤ MAX_UNITS
-  pub files_few : length draft.files.items ≤ 8
+  pub files_few : length draft.files.items ≤ MAX_FILES
   pub kinds_some : 1 ≤ length draft.kinds.items
   pub kinds_few : length draft.kinds.items ≤ MAX_KINDS
   pub operations_some : 1 ≤ length draft.operations.items

@@ -1,6 +1,6 @@
 -- The first thing that is wrong with a draft.
-use Rattle.std.specs.Prelude.{ℕ, pos, negsuc, ◌+◌, ◌==◌, ◌&&◌, ◌||◌, not, nat_lt, nat_le, int_le, Bool, true, false, List, [], ◌∷◌, length, take, Option, Some, None}
-use Rattle.machine_data.specs.declared.limits.TheConstants.{MAX_DISTANCE, MAX_KINDS, MAX_LATENCY, MAX_OFFSET, MAX_OPERATION_ALTERNATIVES, MAX_ORDERS, MAX_ORDER_DISTANCE, MAX_READS, MAX_REGISTERS, MAX_ROWS, MAX_STATEMENTS, MAX_UNITS, MAX_VALUES}
+use Rattle.std.specs.Prelude.{ℕ, neg_ℤ, ◌+◌, ◌==◌, ◌&&◌, ◌||◌, not, nat_lt, nat_le, int_le, Bool, true, false, List, [], ◌∷◌, length, take, Option, Some, None}
+use Rattle.machine_data.specs.declared.limits.TheConstants.{MAX_DELAY, MAX_DISTANCE, MAX_FILES, MAX_KINDS, MAX_LATENCY, MAX_OFFSET, MAX_OPERATION_ALTERNATIVES, MAX_ORDERS, MAX_ORDER_DISTANCE, MAX_READS, MAX_REGISTERS, MAX_ROWS, MAX_STATEMENTS, MAX_UNITS, MAX_VALUES}
 use Rattle.std.specs.List.{list_any}
 use Rattle.std.specs.Option.{option_or}
 use Rattle.smallvec.specs.SmallVec.{SmallVec}
@@ -46,7 +46,7 @@ within least greatest n = nat_le least n && nat_le n greatest
 abbrev pub count_fault : Draft → Option Fault
 count_fault draft = first_of (
     unless (within 1 MAX_UNITS draft.units) (Count Units draft.units)
-    ∷ unless (nat_le (length draft.files.items) 8) (Count Files (length draft.files.items))
+    ∷ unless (nat_le (length draft.files.items) MAX_FILES) (Count Files (length draft.files.items))
     ∷ unless (within 1 MAX_KINDS (length draft.kinds.items)) (Count Kinds (length draft.kinds.items))
     ∷ unless (within 1 MAX_STATEMENTS (length draft.operations.items)) (Count Operations (length draft.operations.items))
     ∷ unless (nat_le (length draft.values.items) MAX_VALUES) (Count Values (length draft.values.items))
@@ -137,7 +137,7 @@ abbrev pub order_fault : ℕ → ℕ → Order → Option Fault
 order_fault operations number order = first_of (
     unless (nat_lt order.from operations) (NoFrom number)
     ∷ unless (nat_lt order.to operations) (NoTo number)
-    ∷ unless (int_le (negsuc 63) order.delay && int_le order.delay (pos 64)) (Delay number)
+    ∷ unless (int_le (neg_ℤ MAX_DELAY) order.delay && int_le order.delay MAX_DELAY) (Delay number)
     ∷ unless (nat_le order.distance MAX_ORDER_DISTANCE) (OrderDistance number)
     ∷ unless (nat_lt 0 order.distance || nat_lt order.from order.to) (OrderBackward number)
     ∷ [])

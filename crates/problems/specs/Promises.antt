@@ -1,6 +1,6 @@
 -- Laws of drafts and problems.
 use Rattle.std.specs.Prelude.{◌≡◌, ◌↔◌, ℕ, pos, ◌+◌, ◌*◌, ◌<◌, ◌≤◌, ◌+ℤ◌, ◌≤ℤ◌, List, length, None, slice_index}
-use Rattle.machine_data.specs.declared.limits.TheConstants.{MAX_INTERVAL}
+use Rattle.machine_data.specs.declared.limits.TheConstants.{MAX_INTERVAL, MAX_STAGES}
 use Rattle.std.specs.List.{All}
 use Rattle.graph.specs.Schedules.{KeepsEdge}
 use Rattle.registers.specs.declared.value.Read.{Read}
@@ -23,7 +23,7 @@ ReadsAreInTime = (problem : ProblemData) (ii : ℕ) (times : List ℕ) → IsPro
 -- at issue times within 64 intervals the values and their reads are of the sizes that registers are allotted for
 abbrev pub ValuesAreValues : Type 0
 ValuesAreValues = (problem : ProblemData) (ii : ℕ) (times : List ℕ) → IsProblem problem → 1 ≤ ii → ii ≤ MAX_INTERVAL → length times ≡ length problem.draft.operations.items
-    → All (λ time. time < 64 * ii) times → AreValues ii times (plain_values problem.draft) problem.draft.reads.items
+    → All (λ time. time < MAX_STAGES * ii) times → AreValues ii times (plain_values problem.draft) problem.draft.reads.items
 
 -- what is read in its own iteration is made by an earlier operation
 abbrev pub ReadsGoForward : Type 0

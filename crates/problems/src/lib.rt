@@ -1,5 +1,5 @@
 //! Scheduling problems as data: operations with their kinds, values, reads and orders, as a back end of a compiler has
-//! them, checked once and valid from then on.
+//! them, checked once and valid from then on; and the limits of their texts.
 #![tactic(auto)]
 
 mod checking;
@@ -7,6 +7,7 @@ mod draft;
 mod fault;
 mod label;
 mod laws;
+pub mod limits;
 mod making;
 mod problem;
 

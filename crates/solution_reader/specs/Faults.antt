@@ -1,9 +1,11 @@
 -- What is wrong with a line of a text of solutions, by the lines before it.
 use Rattle.std.specs.Prelude.{ℕ, nat_lt, not, is_none, is_some, Bool, true, false, List, [], ◌∷◌, length, Option, Some, None}
 use Rattle.std.specs.Option.{option_or}
+use Rattle.machine_data.specs.declared.limits.TheConstants.{MAX_STATEMENTS, MAX_VALUES}
 use Rattle.problem_lines.specs.SolutionForms.{SolutionForm, SolutionBegins, OpTime, ValueNumber, SolutionEnds}
 use Rattle.problem_lines.specs.SolutionLines.{SolutionLineForm}
 use Rattle.problem_lines.specs.Words.{Placed}
+use Rattle.problems.specs.declared.limits.TheConstants.{MAX_PROBLEMS}
 use Rattle.solution_reader.specs.Data.{has_name, op_names, value_names, solution_names}
 use Rattle.solution_reader.specs.Sofar.{TextLine, head_in, ops_in, values_in, solutions_in}
 use Rattle.solution_reader.specs.declared.fault.Part.{Part}
@@ -47,9 +49,9 @@ stands before form = is_some (head_in before)
 
 -- what is wrong with what the words of a line mean, after these lines; a count that is too large is told on the keyword
 abbrev pub meaning_fault : List TextLine → (Wrong → Told) → SolutionForm → Option Told
-meaning_fault before told (SolutionBegins name ii) = one_more told (solution_names (solutions_in before)) 4096 part.Solutions name
-meaning_fault before told (OpTime name time alternative) = one_more told (op_names (ops_in before)) 128 part.Operations name
-meaning_fault before told (ValueNumber name number) = one_more told (value_names (values_in before)) 256 part.Values name
+meaning_fault before told (SolutionBegins name ii) = one_more told (solution_names (solutions_in before)) MAX_PROBLEMS part.Solutions name
+meaning_fault before told (OpTime name time alternative) = one_more told (op_names (ops_in before)) MAX_STATEMENTS part.Operations name
+meaning_fault before told (ValueNumber name number) = one_more told (value_names (values_in before)) MAX_VALUES part.Values name
 meaning_fault before told SolutionEnds = None
 
 -- the first fault of a line that has a form

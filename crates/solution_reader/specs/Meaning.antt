@@ -4,6 +4,7 @@ use Rattle.loop_lines.specs.Words.{lines_of}
 use Rattle.problem_lines.specs.SolutionLines.{SolutionLineForm, solution_line_form}
 use Rattle.problem_lines.specs.Words.{placed_words}
 use Rattle.problem_lines.specs.declared.fault.LineFault.{LineFault}
+use Rattle.problems.specs.declared.limits.TheConstants.{MAX_PROBLEM_TEXT}
 use Rattle.solution_reader.specs.Data.{SolutionData}
 use Rattle.solution_reader.specs.Faults.{line_fault}
 use Rattle.solution_reader.specs.Sofar.{TextLine, head_in, solutions_in}
@@ -47,9 +48,9 @@ lines_from number before (Ok (Some line) ∷ lines) =
 abbrev pub forms_of : List ℕ → List (Result (Option SolutionLineForm) LineFault)
 forms_of text = map (λ line. solution_line_form (placed_words line)) (lines_of text)
 
--- the lines of a text that say something, or its first fault. The text is limited to 16,777,216 bytes
+-- the lines of a text that say something, or its first fault. The length of the text is limited
 abbrev pub lines_in : List ℕ → Result (List TextLine) SolutionFault
-lines_in text = if nat_lt 16777216 (length text) then Err size_fault else lines_from 1 [] (forms_of text)
+lines_in text = if nat_lt MAX_PROBLEM_TEXT (length text) then Err size_fault else lines_from 1 [] (forms_of text)
 
 abbrev pub solutions_or : Result (List TextLine) SolutionFault → Result (List SolutionData) SolutionFault
 solutions_or (Ok lines) = Ok (solutions_in lines)

@@ -5,6 +5,7 @@ ghost use Rattle.problem_lines.specs.SolutionLines.{SolutionLineForm, solution_l
 ghost use Rattle.problem_lines.specs.SolutionParsed.{solution_line_seen};
 ghost use Rattle.problem_lines.specs.Words.{placed_words};
 ghost use Rattle.problem_lines.specs.declared.fault.LineFault.{LineFault};
+ghost use Rattle.problems.specs.declared.limits.TheConstants.{MAX_PROBLEM_TEXT};
 ghost use Rattle.solution_reader.specs.Meaning.{forms_of, lines_from, solutions_in_text, solutions_or, AnswersText};
 ghost use Rattle.solution_reader.specs.Sofar.{TextLine};
 ghost use Rattle.solution_reader.specs.inner.Reading.{AnswersLine, AnswersLines, GoesOn};
@@ -16,10 +17,8 @@ use crate::file::SolutionFile;
 use crate::sofar::Sofar;
 use loop_lines::next_line;
 use problem_lines::{SolutionLine, solution_line_of};
+use problems::limits::MAX_PROBLEM_TEXT;
 use std::alloc::Global;
-
-/// Bytes of a text.
-const MAX_TEXT: usize = 16_777_216;
 
 /// A fault of no line.
 fn whole_fault(what: Wrong) -> SolutionFault
@@ -39,7 +38,7 @@ fn take_lines<'a>(
     sofar: &mut Sofar<'a>,
     text: &'a [u8],
 ) -> Result<usize, SolutionFault>
-    requires { length text.now ≤ 16777216 }
+    requires { length text.now ≤ MAX_PROBLEM_TEXT }
     ensures { (before : List TextLine) → IsSofar before (sofar_seen sofar.old) → AnswersLines before (forms_of text.now) (sofar_seen sofar.new) result }
 {
     let mut rest = text;
@@ -118,7 +117,7 @@ fn finish<'a>(sofar: Sofar<'a>, number: usize) -> Result<SolutionFile<'a>, Solut
 pub fn read_solutions(alloc: Global, text: &[u8]) -> Result<SolutionFile<'_>, SolutionFault>
     ensures exact { AnswersText result (solutions_in_text text.now) }
 {
-    if text.len() > MAX_TEXT {
+    if text.len() > MAX_PROBLEM_TEXT {
         return Err(whole_fault(Wrong::TextSize));
     }
     let mut sofar = Sofar::new(alloc);

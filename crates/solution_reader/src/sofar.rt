@@ -20,11 +20,9 @@ use crate::values::Values;
 use machine_data::OutOfMemory;
 use machine_data::limits::{MAX_STATEMENTS, MAX_VALUES};
 use problem_lines::{Number, SolutionForm, SolutionLine, Word};
+use problems::limits::MAX_PROBLEMS;
 use std::alloc::Global;
 use std::mem;
-
-/// Solutions of a text.
-const MAX_SOLUTIONS: usize = 4_096;
 
 /// What the lines of a text have said so far.
 #[derive(Drop)]
@@ -103,7 +101,7 @@ impl<'a> Sofar<'a> {
     {
         let count = self.begun.len();
         let there = self.begun.has(name.bytes);
-        if let Some(told) = name_fault(at, count, MAX_SOLUTIONS, Part::Solutions, there, name) {
+        if let Some(told) = name_fault(at, count, MAX_PROBLEMS, Part::Solutions, there, name) {
             return Err(Refusal::Fault(told));
         }
         let head = Head {

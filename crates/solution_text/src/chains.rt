@@ -1,7 +1,7 @@
 //! What belongs to one operation, found without a look at what belongs to others: chains of reads by their readers, and of values
 //! by their makers.
 
-ghost use Rattle.std.specs.Prelude.{◌≡◌, ◌<◌, ◌≤◌, length, map, slice_index, slice_set};
+ghost use Rattle.std.specs.Prelude.{◌≡◌, ◌^◌, ◌<◌, ◌≤◌, length, map, slice_index, slice_set};
 ghost use Rattle.std.specs.List.{All};
 ghost use Rattle.machine_data.specs.declared.limits.TheConstants.{MAX_READS, MAX_VALUES};
 ghost use Rattle.problems.specs.declared.draft.Value.{Value};
@@ -38,11 +38,11 @@ impl<'a> Chains<'a> {
     }
 }
 
-/// Puts the item with a number in front of the chain of its owner.
+/// Puts the item with a number, which is written as a `u16`, in front of the chain of its owner.
 fn link(owner: usize, number: usize, firsts: &mut [u16], nexts: &mut [u16])
     requires owner { owner < length firsts.old }
     requires there { number < length nexts.old }
-    requires few { number < 65536 }
+    requires few { number < 2 ^ 16 }
     ensures firsts { firsts.new ≡ slice_set firsts.old owner number }
     ensures nexts { nexts.new ≡ slice_set nexts.old number (slice_index firsts.old owner) }
 {

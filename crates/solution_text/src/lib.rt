@@ -19,7 +19,7 @@ mod verdicts;
 pub use failures::{push_cause, push_failed};
 pub use files::has_free;
 pub use laws::names_are_those_of_runs;
-pub use named::{Register, register_after};
+pub use named::{MAX_ABOVE, Register, register_after};
 pub use outcomes::push_outcome;
 pub use solved::push_solution;
 pub use values::carried;

@@ -3,6 +3,7 @@
 ghost use Rattle.std.specs.Prelude.{◌≡◌, ◌++◌, ◌<◌, ◌≤◌, length, OnOk};
 ghost use Rattle.instances.specs.Runs.{home_of};
 ghost use Rattle.solutions.specs.Runs.{run_of};
+ghost use Rattle.solution_text.specs.declared.named.TheConstants.{MAX_ABOVE};
 ghost use Rattle.solution_text.specs.Registers.{register_after, register_text, spaced_register};
 
 use crate::names::push_name;
@@ -10,6 +11,10 @@ use machine_data::OutOfMemory;
 use problems::{Draft, File};
 use solutions::Solution;
 use writing::{Text, push_told};
+
+/// How far above the number of a value, in registers, one may be asked for. It is no limit of problems, and keeps sums small: where
+/// an operation names a register, a distance and a stage together come to less than 80.
+pub const MAX_ABOVE: u64 = 4_096;
 
 /// A register of a rotating file.
 #[derive(Clone, Copy, Debug, PartialEq, Eq)]
@@ -25,7 +30,7 @@ pub struct Register {
 /// number of iterations where the instance that many iterations before the first one is put before the first turn.
 pub fn register_after(solution: &Solution, value: usize, above: u64) -> Option<Register>
     requires there { value < length solution.now.problem.draft.values.items }
-    requires few { above ≤ 4096 }
+    requires few { above ≤ MAX_ABOVE }
     ensures { result ≡ register_after (home_of (run_of solution.now) value) above }
 {
     let draft = solution.problem().draft();

@@ -6,10 +6,11 @@ use Rattle.std.specs.Cmp.Lexicographic.{slice_cmp}
 use Rattle.std.specs.Hash.FoldHasher as folding
 use Rattle.std.specs.List.{slice_index_or, AllPairs}
 use Rattle.std.specs.Ordering.{nat_cmp}
+use Rattle.problem_tables.specs.declared.names.TheConstants.{BUCKETS}
 
 -- the bucket of a name
 unfoldable pub bucket_of : List ℕ → ℕ
-bucket_of name = folding.finish (folding.write folding.initial name) % 512
+bucket_of name = folding.finish (folding.write folding.initial name) % BUCKETS
 
 -- what a map has at a name
 abbrev pub number_in : BTreeMap (Bor (List ℕ)) ℕ → List ℕ → Option ℕ

@@ -1,7 +1,9 @@
 -- What the lines so far have said, taken in line by line.
 use Rattle.std.specs.Prelude.{◌≡◌, ℕ, is_none, is_some, Bool, true, false, List, [], ◌∷◌, ◌++◌, Option, Some, None, option_map, option_to_list}
+use Rattle.machine_data.specs.declared.limits.TheConstants.{MAX_STATEMENTS, MAX_VALUES}
 use Rattle.problem_lines.specs.SolutionForms.{SolutionForm, SolutionBegins, OpTime, ValueNumber, SolutionEnds}
 use Rattle.problem_lines.specs.SolutionLines.{SolutionLineForm}
+use Rattle.problems.specs.declared.limits.TheConstants.{MAX_PROBLEMS}
 use Rattle.solution_reader.specs.Data.{HeadData, OpData, ValueData, SolutionData, op_names, value_names, solution_names}
 use Rattle.solution_reader.specs.Faults.{first_of, unless, on_line, one_more}
 use Rattle.solution_reader.specs.Sofar.{TextLine, head_in, ops_in, values_in, solutions_in, solution_with}
@@ -32,9 +34,9 @@ may_stand head (SolutionBegins name ii) = is_none head
 may_stand head form = is_some head
 
 abbrev pub say_fault : SofarData → (Wrong → Told) → SolutionForm → Option Told
-say_fault sofar told (SolutionBegins name ii) = one_more told (solution_names sofar.begun.ended) 4096 part.Solutions name
-say_fault sofar told (OpTime name time alternative) = one_more told (op_names sofar.ops) 128 part.Operations name
-say_fault sofar told (ValueNumber name number) = one_more told (value_names sofar.values) 256 part.Values name
+say_fault sofar told (SolutionBegins name ii) = one_more told (solution_names sofar.begun.ended) MAX_PROBLEMS part.Solutions name
+say_fault sofar told (OpTime name time alternative) = one_more told (op_names sofar.ops) MAX_STATEMENTS part.Operations name
+say_fault sofar told (ValueNumber name number) = one_more told (value_names sofar.values) MAX_VALUES part.Values name
 say_fault sofar told SolutionEnds = None
 
 abbrev pub step_fault : SofarData → SolutionLineForm → Option Told

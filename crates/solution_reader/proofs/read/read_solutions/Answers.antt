@@ -8,22 +8,22 @@ use Rattle.solution_reader.proofs.Lines.{answers_text, too_long, not_long}
 use Rattle.solution_reader.proofs.Steps.{first_step}
 use Rattle.solution_reader.proofs.read.read_solutions.Goals as goal
 
-pub returns-then-text-gt-MAX_TEXT : goal.returns-then-text-gt-MAX_TEXT
-returns-then-text-gt-MAX_TEXT c = record {
-  exact = subst (λ (fault : SolutionFault). AnswersFault fault.what fault (solutions_in_text c.args.text.now)) (sym c.whole_fault.ensures) (too_long c.args.text.now c.if-text-gt-MAX_TEXT.true);
+pub returns-then-text-gt-MAX_PROBLEM_TEXT : goal.returns-then-text-gt-MAX_PROBLEM_TEXT
+returns-then-text-gt-MAX_PROBLEM_TEXT c = record {
+  exact = subst (λ (fault : SolutionFault). AnswersFault fault.what fault (solutions_in_text c.args.text.now)) (sym c.whole_fault.ensures) (too_long c.args.text.now c.if-text-gt-MAX_PROBLEM_TEXT.true);
 }
 
 pub returns-in-Ok : goal.returns-in-Ok
 returns-in-Ok c =
     let first : IsSofar [] (sofar_seen c.new-sofar.result) = subst (IsSofar []) (sym c.new-sofar.ensures) first_step in
     record {
-      exact = subst (AnswersText c.finish.result) (not_long c.args.text.now c.if-text-gt-MAX_TEXT.false) (c.finish.ensures (forms_of c.args.text.now) (c.in-Ok.ensures [] first));
+      exact = subst (AnswersText c.finish.result) (not_long c.args.text.now c.if-text-gt-MAX_PROBLEM_TEXT.false) (c.finish.ensures (forms_of c.args.text.now) (c.in-Ok.ensures [] first));
     }
 
 pub returns : goal.returns
 returns c =
     let first : IsSofar [] (sofar_seen c.new-sofar.result) = subst (IsSofar []) (sym c.new-sofar.ensures) first_step in
     record {
-      exact = subst (λ (meaning : Result (List SolutionData) SolutionFault). AnswersFault c.in-Err.fault.what c.in-Err.fault meaning) (not_long c.args.text.now c.if-text-gt-MAX_TEXT.false)
+      exact = subst (λ (meaning : Result (List SolutionData) SolutionFault). AnswersFault c.in-Err.fault.what c.in-Err.fault meaning) (not_long c.args.text.now c.if-text-gt-MAX_PROBLEM_TEXT.false)
           (answers_text c.in-Err.fault.what c.in-Err.fault (lines_from 1 [] (forms_of c.args.text.now)) (c.in-Err.ensures [] first));
     }
