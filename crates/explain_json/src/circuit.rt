@@ -8,8 +8,9 @@ ghost use Rattle.explain_json.specs.Parts.{array_of, count_value};
 
 use graph::{Edge, Edges};
 use graph_text::sums_of;
+use json_objects::{object_of, with, with_value};
 use machine_data::OutOfMemory;
-use serde_json::{Value, json};
+use serde_json::{Map, Value};
 use std::alloc::Global;
 
 /// Whether two edges are one.
@@ -62,12 +63,12 @@ fn told_sums(
     ensures { IfOk result (λ v. view v ≡ circuit_object graph.now.edges bound circuit.now) }
 {
     let sums = sums_of(circuit);
-    json!(in alloc; {
-        "delay": sums.delay,
-        "distance": sums.distance,
-        "edges": told_places(alloc, graph.all(), circuit)?,
-        "needs": bound
-    })
+    let members = Ok(Map::new(alloc));
+    let members = with_value(alloc, members, "delay", Value::from(sums.delay));
+    let members = with_value(alloc, members, "distance", Value::from(sums.distance));
+    let places = told_places(alloc, graph.all(), circuit);
+    let members = with(alloc, members, "edges", places);
+    object_of(with_value(alloc, members, "needs", Value::from(bound)))
 }
 
 /// A circuit that needs this bound, where it has edges.

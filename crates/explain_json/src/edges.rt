@@ -10,22 +10,22 @@ ghost use Rattle.explain_json.specs.Edges.{IsEdgeObject, edge_object};
 
 use graph::{Edge, Edges};
 use graph_text::{Kind, kind_of};
+use json_objects::{object_of, with, with_value};
 use loop_data::Loop;
 use machine_data::OutOfMemory;
-use serde_json::{Value, json};
+use serde_json::{Map, ToValue, Value};
 use std::alloc::Global;
 
 /// A dependence of this kind.
 fn told_edge(alloc: Global, edge: &Edge, kind: Kind) -> Result<Value, OutOfMemory>
     ensures { IfOk result (λ v. view v ≡ edge_object edge.now kind) }
 {
-    json!(in alloc; {
-        "delay": edge.delay,
-        "distance": edge.distance,
-        "from": edge.from,
-        "kind": kind.word(),
-        "to": edge.to
-    })
+    let members = Ok(Map::new(alloc));
+    let members = with_value(alloc, members, "delay", Value::from(edge.delay));
+    let members = with_value(alloc, members, "distance", Value::from(edge.distance));
+    let members = with_value(alloc, members, "from", Value::from(edge.from));
+    let members = with(alloc, members, "kind", kind.word().to_value(alloc));
+    object_of(with_value(alloc, members, "to", Value::from(edge.to)))
 }
 
 /// All dependences, in order.

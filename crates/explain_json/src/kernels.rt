@@ -1,160 +1,118 @@
 //! The kernel of a loop, with its schedule and its registers.
 
-ghost use Rattle.std.specs.Prelude.{◌≡◌, ◌-◌, length, IfOk};
+ghost use Rattle.std.specs.Prelude.{◌≡◌, ◌<◌, IfOk};
 ghost use Rattle.std.specs.List.{All};
-ghost use Rattle.serde_json.specs.Data.{array, string};
-ghost use Rattle.serde_json.specs.View.{items_of, view};
+ghost use Rattle.serde_json.specs.Data.{Data, Members};
+ghost use Rattle.serde_json.specs.View.{members_view, view};
+ghost use Rattle.machine_data.specs.declared.limits.TheConstants.{MAX_UNITS};
 ghost use Rattle.candidates.specs.Reasons.{IsMet};
-ghost use Rattle.overlap.specs.Lifetimes.{lifetimes_of};
-ghost use Rattle.figures.specs.LiveCounts.{greatest_live, live_counts};
-ghost use Rattle.figures.specs.Slots.{percent_of, used_units};
-ghost use Rattle.explain_json.specs.Parts.{array_of, count_value, counts_value};
-ghost use Rattle.explain_json.specs.Units.{unit_name};
-ghost use Rattle.explain_json.specs.inner.Objects.{kernel_of};
-ghost use Rattle.explain_json.specs.Kernels.{figures_object, kernel_object, slots_of, values_value};
+ghost use Rattle.figures.specs.Slots.{used_units};
+ghost use Rattle.explain_json.specs.inner.Objects.{unit_members, with_values};
+ghost use Rattle.explain_json.specs.Kernels.{figures_object, kernel_object};
 
-use crate::members::{object_of, with};
 use crate::names::told_unit_names;
 use crate::slots::told_slots;
 use crate::values::{told_counts, told_need, told_percents, told_values};
 use candidates::Met;
 use figures::{Figures, Takers, counts_of, greatest_of};
 use ims::Prepared;
+use json_objects::{object_of, with, with_value};
 use machine_data::{Machine, OutOfMemory};
 use rotating::lifetimes;
-use serde_json::{Map, ToValue, Value, json};
+use serde_json::{Map, ToValue, Value};
 use std::alloc::Global;
 use told_choices::{Why, hold_of, is_least_possible};
 use unit_sets::UnitSet;
-
-/// What is told of the units that operations take.
-#[derive(Drop)]
-struct Used {
-    /// How many units of the machine no operation takes.
-    idle: usize,
-    /// The figures of the schedule, and in how many hundredths of the interval each unit is taken.
-    figures: Value,
-    slots: Value,
-    units: Value,
-}
-
-/// What is told of a schedule and its registers.
-#[derive(Drop)]
-struct Scheduled {
-    live: Value,
-    max_live: u64,
-    values: Value,
-}
-
-/// The units that operations take, in how many hundredths of the interval each is taken, and in which slots.
-fn slots_in(
-    alloc: Global,
-    machine: &Machine,
-    met: &Met,
-) -> Result<(Vec<u8>, Value, Value), OutOfMemory>
-    ensures used { IfOk result (λ all. all.0.items ≡ used_units machine.now met.now.schedule) }
-    ensures percents { IfOk result (λ all. view all.1 ≡ array_of (λ unit. count_value (percent_of met.now.schedule unit)) (used_units machine.now met.now.schedule)) }
-    ensures slots { IfOk result (λ all. view all.2 ≡ array (items_of (slots_of met.now.schedule (used_units machine.now met.now.schedule)))) }
-{
-    let takers = Takers::of(alloc, &met.schedule)?;
-    let used = takers.units(alloc, machine)?;
-    let percents = told_percents(alloc, &takers, used.as_slice())?;
-    let slots = told_slots(alloc, &takers, used.as_slice(), met.schedule.ii())?;
-    Ok((used, percents, slots))
-}
 
 /// The figures of a schedule that has so many stages, with in how many hundredths of the interval each unit is taken.
 fn told_figures(
     alloc: Global,
     figures: &Figures,
     stages: u64,
-    percents: Value,
+    percents: Result<Value, OutOfMemory>,
 ) -> Result<Value, OutOfMemory>
-    ensures { IfOk result (λ v. view v ≡ figures_object figures.now stages (view percents)) }
+    ensures { (d : Data) → IfOk percents (λ v. view v ≡ d) → IfOk result (λ v. view v ≡ figures_object figures.now stages d) }
 {
-    let extra_turns = stages.saturating_sub(1);
-    let need = told_need(figures.need);
-    json!(in alloc; {
-        "cycles": figures.cycles,
-        "extra_turns": extra_turns,
-        "need": need,
-        "percent": percents
-    })
+    let turns = Value::from(stages.saturating_sub(1));
+    let members = Ok(Map::new(alloc));
+    let members = with_value(alloc, members, "cycles", Value::from(figures.cycles));
+    let members = with_value(alloc, members, "extra_turns", turns);
+    let members = with_value(alloc, members, "need", told_need(figures.need));
+    object_of(with(alloc, members, "percent", percents))
+}
+
+/// What is told of the units that operations take, by which operation takes which slot; the figures are those of a schedule that has
+/// so many stages.
+fn members_by(
+    alloc: Global,
+    machine: &Machine,
+    takers: &Takers,
+    used: &[u8],
+    ii: u64,
+    figures: &Figures,
+    stages: u64,
+) -> Result<Map<String, Value>, OutOfMemory>
+    requires rows { takers.now.ii ≡ ii }
+    requires used { used.now ≡ used_units machine.now takers.now }
+    requires few { All (λ unit. unit < MAX_UNITS) used.now }
+    ensures { IfOk result (λ m. members_view m.entries ≡ unit_members machine.now takers.now figures.now stages) }
+{
+    let percents = told_percents(alloc, takers, used);
+    let told = told_figures(alloc, figures, stages, percents);
+    let idle = Value::from(machine.units().len().saturating_sub(used.len()));
+    let slots = told_slots(alloc, takers, used, ii);
+    let members = with(alloc, Ok(Map::new(alloc)), "figures", told);
+    let members = with_value(alloc, members, "idle_units", idle);
+    let members = with(alloc, members, "slots", slots);
+    with(
+        alloc,
+        members,
+        "units",
+        told_unit_names(alloc, machine, used),
+    )
 }
 
 /// What is told of the units that operations take, and of the figures of a schedule that has so many stages.
-fn used_of(
+fn members_of(
     alloc: Global,
     machine: &Machine,
     met: &Met,
     figures: &Figures,
     stages: u64,
-) -> Result<Used, OutOfMemory>
-    ensures idle { IfOk result (λ u. u.idle ≡ length machine.now.units - length (used_units machine.now met.now.schedule)) }
-    ensures figures { IfOk result (λ u. view u.figures ≡ figures_object figures.now stages (array_of (λ unit. count_value (percent_of met.now.schedule unit)) (used_units machine.now met.now.schedule))) }
-    ensures slots { IfOk result (λ u. view u.slots ≡ array (items_of (slots_of met.now.schedule (used_units machine.now met.now.schedule)))) }
-    ensures units { IfOk result (λ u. view u.units ≡ array_of (λ unit. string (unit_name machine.now unit)) (used_units machine.now met.now.schedule)) }
+) -> Result<Map<String, Value>, OutOfMemory>
+    ensures { IfOk result (λ m. members_view m.entries ≡ unit_members machine.now met.now.schedule figures.now stages) }
 {
-    let (used, percents, slots) = slots_in(alloc, machine, met)?;
-    let figures = told_figures(alloc, figures, stages, percents)?;
-    let units = told_unit_names(alloc, machine, used.as_slice())?;
-    Ok(Used {
-        idle: machine.units().len().saturating_sub(used.len()),
-        figures,
-        slots,
-        units,
-    })
+    let takers = Takers::of(alloc, &met.schedule)?;
+    let used = takers.units(alloc, machine)?;
+    let ii = met.schedule.ii();
+    let listed = used.as_slice();
+    members_by(alloc, machine, &takers, listed, ii, figures, stages)
 }
 
-/// What is told of the schedule and the registers of a kernel.
-fn told_schedule(
+/// These members, and what is told of the values of a kernel and their registers.
+fn with_values(
     alloc: Global,
+    members: Result<Map<String, Value>, OutOfMemory>,
     _prepared: &Prepared,
     _ii: u64,
     met: &Met,
-) -> Result<Scheduled, OutOfMemory>
+) -> Result<Map<String, Value>, OutOfMemory>
     requires { IsMet _prepared.now _ii met.now }
-    ensures live { IfOk result (λ s. view s.live ≡ counts_value (live_counts met.now.schedule)) }
-    ensures most { IfOk result (λ s. s.max_live ≡ greatest_live met.now.schedule) }
-    ensures values { IfOk result (λ s. view s.values ≡ values_value (lifetimes_of met.now.schedule) met.now.allotment.numbers) }
+    ensures { (ms : Members) → IfOk members (λ m. members_view m.entries ≡ ms) → IfOk result (λ m. members_view m.entries ≡ with_values ms met.now.schedule met.now.allotment.numbers) }
 {
     let lives = lifetimes(alloc, &met.schedule)?;
     let listed = lives.as_slice();
     let counts = counts_of(alloc, &met.schedule, listed)?;
-    let live = told_counts(alloc, counts.as_slice())?;
-    let values = told_values(alloc, listed, met.allotment.numbers())?;
-    Ok(Scheduled {
-        live,
-        max_live: greatest_of(counts.as_slice()),
-        values,
-    })
-}
-
-/// A kernel, by what is told of it.
-fn told_with(
-    alloc: Global,
-    held: &str,
-    least: bool,
-    ii: u64,
-    registers: u16,
-    stages: u64,
-    used: Used,
-    told: Scheduled,
-) -> Result<Value, OutOfMemory>
-    ensures { IfOk result (λ v. view v ≡ kernel_of (view used.figures) held.now used.idle ii least (view told.live) told.max_live registers (view used.slots) stages (view used.units) (view told.values)) }
-{
-    let members = with(alloc, Ok(Map::new(alloc)), "figures", Ok(used.figures));
-    let members = with(alloc, members, "held_by", held.to_value(alloc));
-    let members = with(alloc, members, "idle_units", Ok(Value::from(used.idle)));
-    let members = with(alloc, members, "ii", Ok(Value::from(ii)));
-    let members = with(alloc, members, "least_possible", Ok(Value::from(least)));
-    let members = with(alloc, members, "live", Ok(told.live));
-    let members = with(alloc, members, "max_live", Ok(Value::from(told.max_live)));
-    let members = with(alloc, members, "registers", Ok(Value::from(registers)));
-    let members = with(alloc, members, "slots", Ok(used.slots));
-    let members = with(alloc, members, "stages", Ok(Value::from(stages)));
-    let members = with(alloc, members, "units", Ok(used.units));
-    object_of(with(alloc, members, "values", Ok(told.values)))
+    let most = Value::from(greatest_of(counts.as_slice()));
+    let members = with(
+        alloc,
+        members,
+        "live",
+        told_counts(alloc, counts.as_slice()),
+    );
+    let members = with_value(alloc, members, "max_live", most);
+    let values = told_values(alloc, listed, met.allotment.numbers());
+    with(alloc, members, "values", values)
 }
 
 /// The kernel of an interval, with the figures of its schedule; `free` tells that no circuit needs the recurrence-constrained bound, and the reasons are those of the
@@ -174,18 +132,14 @@ pub(crate) fn told_kernel(
     ensures { IfOk result (λ v. view v ≡ kernel_object machine.now set.now free prepared.now reasons.now ii met.now figures.now) }
 {
     let stages = met.kernel.parts().stages;
-    let used = used_of(alloc, machine, met, figures, stages)?;
-    let told = told_schedule(alloc, prepared, ii, met)?;
     let held = hold_of(prepared, free, reasons).word();
     let least = is_least_possible(prepared, set.need, ii);
-    told_with(
-        alloc,
-        held,
-        least,
-        ii,
-        prepared.registers(),
-        stages,
-        used,
-        told,
-    )
+    let registers = Value::from(prepared.registers());
+    let members = members_of(alloc, machine, met, figures, stages);
+    let members = with_values(alloc, members, prepared, ii, met);
+    let members = with(alloc, members, "held_by", held.to_value(alloc));
+    let members = with_value(alloc, members, "ii", Value::from(ii));
+    let members = with_value(alloc, members, "least_possible", Value::from(least));
+    let members = with_value(alloc, members, "registers", registers);
+    object_of(with_value(alloc, members, "stages", Value::from(stages)))
 }

@@ -7,7 +7,6 @@ mod documents;
 mod edges;
 mod kernels;
 mod loops;
-mod members;
 mod names;
 mod operations;
 mod slots;

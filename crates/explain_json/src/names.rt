@@ -30,6 +30,19 @@ pub(crate) fn told_name(
     Ok(Value::String(word))
 }
 
+/// The name of a unit.
+pub(crate) fn told_unit_name(
+    alloc: Global,
+    machine: &Machine,
+    unit: u8,
+) -> Result<Value, OutOfMemory>
+    requires { unit < length machine.now.units }
+    ensures { IfOk result (λ v. view v ≡ string (unit_name machine.now unit)) }
+{
+    let units = machine.units();
+    units[usize::from(unit)].as_str().to_value(alloc)
+}
+
 /// The names of units, in order.
 pub(crate) fn told_unit_names(
     alloc: Global,
@@ -41,8 +54,7 @@ pub(crate) fn told_unit_names(
 {
     let mut values = Vec::with_capacity(alloc, units.len())?;
     for unit in units {
-        let name = machine.units()[usize::from(*unit)].as_str();
-        values.push(name.to_value(alloc)?)?;
+        values.push(told_unit_name(alloc, machine, *unit)?)?;
     }
     Ok(Value::Array(values))
 }

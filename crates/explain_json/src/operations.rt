@@ -1,17 +1,19 @@
 //! The operations of a loop.
 
 ghost use Rattle.std.specs.Prelude.{◌≡◌, ◌<◌, length, IfOk};
-ghost use Rattle.serde_json.specs.View.{view};
+ghost use Rattle.serde_json.specs.View.{members_view, view};
 ghost use Rattle.told_choices.specs.Told.{HasEvidence};
 ghost use Rattle.graph_text.specs.Names.{opcode_word};
 ghost use Rattle.explain_json.specs.Operations.{operation_object, operations_value, placed_object};
 ghost use Rattle.explain_json.specs.Parts.{array_of};
+ghost use Rattle.explain_json.specs.inner.Objects.{operation_members};
 ghost use Rattle.explain_json.specs.Units.{operations_in};
 
 use crate::names::told_name;
 use ims::{Prepared, Schedule};
+use json_objects::{object_of, with, with_value};
 use machine_data::OutOfMemory;
-use serde_json::{Value, json};
+use serde_json::{Map, ToValue, Value};
 use std::alloc::Global;
 use told_choices::Chosen;
 
@@ -21,6 +23,27 @@ fn opcode_word(prepared: &Prepared, op: usize) -> &'static str
     ensures { result.now ≡ opcode_word prepared.now.loop op }
 {
     prepared.innermost().statements()[op].opcode.word()
+}
+
+/// What is told of an operation, whether it is scheduled or not.
+fn members_of(
+    alloc: Global,
+    prepared: &Prepared,
+    heights: &[u64],
+    op: usize,
+) -> Result<Map<String, Value>, OutOfMemory>
+    requires there { op < length prepared.now.operations }
+    requires each { length heights.now ≡ length prepared.now.operations }
+    ensures { IfOk result (λ m. members_view m.entries ≡ operation_members prepared.now heights.now op) }
+{
+    let height = heights[op];
+    let latency = Value::from(prepared.edges().latency(op));
+    let name = told_name(alloc, prepared.innermost(), op);
+    let opcode = opcode_word(prepared, op).to_value(alloc);
+    let members = with_value(alloc, Ok(Map::new(alloc)), "height", Value::from(height));
+    let members = with_value(alloc, members, "latency", latency);
+    let members = with(alloc, members, "name", name);
+    with(alloc, members, "opcode", opcode)
 }
 
 /// An operation of a loop that has no kernel, with its height.
@@ -34,12 +57,7 @@ fn told_operation(
     requires each { length heights.now ≡ length prepared.now.operations }
     ensures { IfOk result (λ v. view v ≡ operation_object prepared.now heights.now op) }
 {
-    json!(in alloc; {
-        "height": heights[op],
-        "latency": prepared.edges().latency(op),
-        "name": told_name(alloc, prepared.innermost(), op)?,
-        "opcode": opcode_word(prepared, op)
-    })
+    object_of(members_of(alloc, prepared, heights, op))
 }
 
 /// An operation of a loop that is scheduled, with its height and its slack.
@@ -57,19 +75,16 @@ fn told_placed(
     requires same { schedule.now.problem ≡ prepared.now }
     ensures { IfOk result (λ v. view v ≡ placed_object prepared.now heights.now schedule.now slacks.now op) }
 {
-    let height = heights[op];
     let time = schedule.time(op);
-    json!(in alloc; {
-        "alternative": schedule.alternative(op),
-        "height": height,
-        "latency": prepared.edges().latency(op),
-        "name": told_name(alloc, prepared.innermost(), op)?,
-        "opcode": opcode_word(prepared, op),
-        "row": time % schedule.ii(),
-        "slack": slacks[op],
-        "stage": time / schedule.ii(),
-        "time": time
-    })
+    let alternative = Value::from(schedule.alternative(op));
+    let row = Value::from(time % schedule.ii());
+    let stage = Value::from(time / schedule.ii());
+    let members = members_of(alloc, prepared, heights, op);
+    let members = with_value(alloc, members, "alternative", alternative);
+    let members = with_value(alloc, members, "row", row);
+    let members = with_value(alloc, members, "slack", Value::from(slacks[op]));
+    let members = with_value(alloc, members, "stage", stage);
+    object_of(with_value(alloc, members, "time", Value::from(time)))
 }
 
 /// The operations of a loop that has no kernel.

@@ -6,11 +6,23 @@ ghost use Rattle.serde_json.specs.Data.{array};
 ghost use Rattle.serde_json.specs.View.{items_of, view};
 ghost use Rattle.machine_data.specs.declared.limits.TheConstants.{MAX_UNITS};
 ghost use Rattle.explain_json.specs.Kernels.{row_slots, slot_objects, slots_of};
+ghost use Rattle.explain_json.specs.inner.Objects.{slot_object};
 
 use figures::Takers;
+use json_objects::{object_of, with_value};
 use machine_data::OutOfMemory;
-use serde_json::{Value, json};
+use serde_json::{Map, Value};
 use std::alloc::Global;
+
+/// The slot of a row and of the unit of a place, which an operation takes.
+fn told_slot(alloc: Global, row: u64, place: usize, op: usize) -> Result<Value, OutOfMemory>
+    ensures { IfOk result (λ v. view v ≡ slot_object row place op) }
+{
+    let members = Ok(Map::new(alloc));
+    let members = with_value(alloc, members, "operation", Value::from(op));
+    let members = with_value(alloc, members, "row", Value::from(row));
+    object_of(with_value(alloc, members, "unit", Value::from(place)))
+}
 
 /// Adds the slot of a row and of the unit of a place, if an operation takes it.
 fn push_slot(
@@ -25,7 +37,7 @@ fn push_slot(
     let Some(op) = taker else {
         return Ok(());
     };
-    let value = json!(in alloc; {"operation": op, "row": row, "unit": place})?;
+    let value = told_slot(alloc, row, place, op)?;
     Ok(values.push(value)?)
 }
 

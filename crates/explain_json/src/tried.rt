@@ -1,18 +1,20 @@
 //! The intervals that were tried.
 
-ghost use Rattle.std.specs.Prelude.{◌≡◌, ◌≤◌, [], ◌++◌, codes, map, IfOk, OnOk};
-ghost use Rattle.serde_json.specs.Data.{member, no_members, object, string};
-ghost use Rattle.serde_json.specs.View.{view};
+ghost use Rattle.std.specs.Prelude.{◌≡◌, ◌≤◌, [], ◌++◌, map, IfOk, OnOk};
+ghost use Rattle.serde_json.specs.Data.{object};
+ghost use Rattle.serde_json.specs.View.{members_view, view};
 ghost use Rattle.modulo.specs.declared.outcome.attempts.Culprit.TheVariants.{Late};
 ghost use Rattle.told_choices.specs.declared.why.Why.TheVariants.{Attempt, Register, Need};
-ghost use Rattle.explain_json.specs.Parts.{count_value, counts_value};
+ghost use Rattle.explain_json.specs.Parts.{counts_value};
+ghost use Rattle.explain_json.specs.inner.Objects.{failure_members, life_members};
 ghost use Rattle.explain_json.specs.Tries.{chosen_try, failure_object, failures_from, kernel_try, tried_value};
 
 use crate::values::told_need;
 use ims::{Culprit, Prepared};
+use json_objects::{object_of, with, with_value};
 use machine_data::OutOfMemory;
 use rotating::Lifetime;
-use serde_json::{Value, json};
+use serde_json::{Map, ToValue, Value};
 use std::alloc::Global;
 use told_choices::{Chosen, Told, Why};
 
@@ -27,6 +29,21 @@ fn told_numbers(alloc: Global, ops: &[usize]) -> Result<Value, OutOfMemory>
     Ok(Value::Array(values))
 }
 
+/// What is told of an interval with this outcome, and operations.
+fn members_of(
+    alloc: Global,
+    interval: u64,
+    ops: &[usize],
+    outcome: &str,
+) -> Result<Map<String, Value>, OutOfMemory>
+    ensures { IfOk result (λ m. members_view m.entries ≡ failure_members interval ops.now outcome.now) }
+{
+    let members = Ok(Map::new(alloc));
+    let members = with_value(alloc, members, "interval", Value::from(interval));
+    let members = with(alloc, members, "operations", told_numbers(alloc, ops));
+    with(alloc, members, "outcome", outcome.to_value(alloc))
+}
+
 /// An interval with this outcome, and operations.
 fn told_ops(
     alloc: Global,
@@ -34,38 +51,38 @@ fn told_ops(
     ops: &[usize],
     outcome: &str,
 ) -> Result<Value, OutOfMemory>
-    ensures { IfOk result (λ v. view v ≡ object (member (codes "interval") (count_value interval) (member (codes "operations") (counts_value ops.now) (member (codes "outcome") (string outcome.now) no_members)))) }
+    ensures { IfOk result (λ v. view v ≡ object (failure_members interval ops.now outcome.now)) }
 {
-    json!(in alloc; {
-        "interval": interval,
-        "operations": told_numbers(alloc, ops)?,
-        "outcome": outcome
-    })
+    object_of(members_of(alloc, interval, ops, outcome))
 }
 
 /// An interval at which an operation is too late, and when it is issued.
 fn told_late(alloc: Global, interval: u64, op: usize, time: u64) -> Result<Value, OutOfMemory>
     ensures { IfOk result (λ v. view v ≡ failure_object interval (Attempt (Late op time))) }
 {
-    json!(in alloc; {
-        "interval": interval,
-        "operations": told_numbers(alloc, &[op])?,
-        "outcome": "stages",
-        "time": time
-    })
+    let members = members_of(alloc, interval, &[op], "stages");
+    object_of(with_value(alloc, members, "time", Value::from(time)))
+}
+
+/// What is told of an interval at which a value has no register: when it lives.
+fn with_life(
+    alloc: Global,
+    interval: u64,
+    life: Lifetime,
+) -> Result<Map<String, Value>, OutOfMemory>
+    ensures { IfOk result (λ m. members_view m.entries ≡ life_members interval life) }
+{
+    let maker = usize::from(life.operation);
+    let members = members_of(alloc, interval, &[maker], "registers");
+    let members = with_value(alloc, members, "first", Value::from(life.first));
+    with_value(alloc, members, "last", Value::from(life.last))
 }
 
 /// An interval at which a value has no register, and when it lives.
 fn told_life(alloc: Global, interval: u64, life: Lifetime) -> Result<Value, OutOfMemory>
     ensures { IfOk result (λ v. view v ≡ failure_object interval (Register life)) }
 {
-    json!(in alloc; {
-        "first": life.first,
-        "interval": interval,
-        "last": life.last,
-        "operations": told_numbers(alloc, &[usize::from(life.operation)])?,
-        "outcome": "registers"
-    })
+    object_of(with_life(alloc, interval, life))
 }
 
 /// The same, with how many registers all values need.
@@ -77,15 +94,8 @@ fn told_with_need(
 ) -> Result<Value, OutOfMemory>
     ensures { IfOk result (λ v. view v ≡ failure_object interval (Need life need)) }
 {
-    let need = told_need(need);
-    json!(in alloc; {
-        "first": life.first,
-        "interval": interval,
-        "last": life.last,
-        "need": need,
-        "operations": told_numbers(alloc, &[usize::from(life.operation)])?,
-        "outcome": "registers"
-    })
+    let members = with_life(alloc, interval, life);
+    object_of(with_value(alloc, members, "need", told_need(need)))
 }
 
 /// An interval that gives no kernel, and why.
@@ -132,11 +142,10 @@ fn push_chosen(alloc: Global, values: &mut Vec<Value>, chosen: &Chosen) -> Resul
 fn told_kernel(alloc: Global, interval: u64, stages: u64) -> Result<Value, OutOfMemory>
     ensures { IfOk result (λ v. view v ≡ kernel_try interval stages) }
 {
-    json!(in alloc; {
-        "interval": interval,
-        "outcome": "kernel",
-        "stages": stages
-    })
+    let members = Ok(Map::new(alloc));
+    let members = with_value(alloc, members, "interval", Value::from(interval));
+    let members = with(alloc, members, "outcome", "kernel".to_value(alloc));
+    object_of(with_value(alloc, members, "stages", Value::from(stages)))
 }
 
 /// All intervals that were tried.

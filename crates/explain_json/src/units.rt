@@ -7,14 +7,15 @@ ghost use Rattle.unit_sets.specs.Fullest.{units_in};
 ghost use Rattle.unit_sets.specs.Sets.{is_in};
 ghost use Rattle.resource_bound.specs.Choices.{rows_at};
 ghost use Rattle.explain_json.specs.Parts.{array_of};
-ghost use Rattle.explain_json.specs.inner.Objects.{unit_object};
+ghost use Rattle.explain_json.specs.inner.Objects.{unit_object, user_object};
 ghost use Rattle.explain_json.specs.Units.{set_object, unit_name, unit_objects, units_of, units_value, use_by, user_objects, users_of, uses_of};
 
-use crate::names::told_unit_names;
+use crate::names::{told_unit_name, told_unit_names};
 use ims::Prepared;
+use json_objects::{object_of, with, with_value};
 use machine_data::{Machine, OutOfMemory, Row};
 use resource_bound::rows_by;
-use serde_json::{Value, json};
+use serde_json::{Map, Value};
 use std::alloc::Global;
 use unit_sets::UnitSet;
 
@@ -53,6 +54,15 @@ fn uses_of(prepared: &Prepared, choices: &[u8], unit: u8) -> usize
     uses
 }
 
+/// An operation with by how many rows it uses a unit.
+fn told_user(alloc: Global, op: usize, uses: usize) -> Result<Value, OutOfMemory>
+    ensures { IfOk result (λ v. view v ≡ user_object op uses) }
+{
+    let members = Ok(Map::new(alloc));
+    let members = with_value(alloc, members, "operation", Value::from(op));
+    object_of(with_value(alloc, members, "uses", Value::from(uses)))
+}
+
 /// Adds an operation with by how many rows it uses a unit, if it does.
 fn push_user(
     alloc: Global,
@@ -65,7 +75,7 @@ fn push_user(
     if uses == 0 {
         return Ok(());
     }
-    Ok(values.push(json!(in alloc; {"operation": op, "uses": uses})?)?)
+    Ok(values.push(told_user(alloc, op, uses)?)?)
 }
 
 /// The operations that use a unit.
@@ -98,12 +108,13 @@ fn told_unit(
     requires each { length choices.now ≡ length prepared.now.operations }
     ensures { IfOk result (λ v. view v ≡ unit_object machine.now prepared.now choices.now unit uses) }
 {
-    json!(in alloc; {
-        "full": uses as u64 == prepared.resources(),
-        "name": machine.units()[usize::from(unit)].as_str(),
-        "users": told_users(alloc, prepared, choices, unit)?,
-        "uses": uses
-    })
+    let full = Value::from(uses as u64 == prepared.resources());
+    let users = told_users(alloc, prepared, choices, unit);
+    let members = with_value(alloc, Ok(Map::new(alloc)), "full", full);
+    let name = told_unit_name(alloc, machine, unit);
+    let members = with(alloc, members, "name", name);
+    let members = with(alloc, members, "users", users);
+    object_of(with_value(alloc, members, "uses", Value::from(uses)))
 }
 
 /// Adds a unit that is used by so many rows, if it is.
@@ -183,9 +194,8 @@ pub(crate) fn told_set(
 ) -> Result<Value, OutOfMemory>
     ensures { IfOk result (λ v. view v ≡ set_object machine.now set.now) }
 {
-    json!(in alloc; {
-        "need": set.need,
-        "rows": set.rows,
-        "units": told_members(alloc, machine, set)?
-    })
+    let members = Ok(Map::new(alloc));
+    let members = with_value(alloc, members, "need", Value::from(set.need));
+    let members = with_value(alloc, members, "rows", Value::from(set.rows));
+    object_of(with(alloc, members, "units", told_members(alloc, machine, set)))
 }

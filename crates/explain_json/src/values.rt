@@ -9,21 +9,21 @@ ghost use Rattle.explain_json.specs.Kernels.{value_object, values_value};
 ghost use Rattle.explain_json.specs.Parts.{array_of, count_value, counts_value, need_value};
 
 use figures::Takers;
+use json_objects::{object_of, with_value};
 use machine_data::OutOfMemory;
 use rotating::Lifetime;
-use serde_json::{Value, json};
+use serde_json::{Map, Value};
 use std::alloc::Global;
 
 /// A value with this lifetime and the number of its register.
 fn told_value(alloc: Global, life: Lifetime, number: usize) -> Result<Value, OutOfMemory>
     ensures { IfOk result (λ v. view v ≡ value_object life number) }
 {
-    json!(in alloc; {
-        "first": life.first,
-        "last": life.last,
-        "operation": life.operation,
-        "register": number
-    })
+    let members = Ok(Map::new(alloc));
+    let members = with_value(alloc, members, "first", Value::from(life.first));
+    let members = with_value(alloc, members, "last", Value::from(life.last));
+    let members = with_value(alloc, members, "operation", Value::from(life.operation));
+    object_of(with_value(alloc, members, "register", Value::from(number)))
 }
 
 /// All values, each with the number at its place.

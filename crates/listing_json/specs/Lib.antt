@@ -1,2 +1,3 @@
 pub use Rattle.candidates.specs.Listings
 pub mod Documents
+pub mod inner

@@ -2,15 +2,18 @@
 
 ghost use Rattle.std.specs.Prelude.{◌≡◌, ◌≤◌, ◌+◌, IfOk, string_bytes};
 ghost use Rattle.std.specs.List.{All};
-ghost use Rattle.serde_json.specs.View.{view};
+ghost use Rattle.serde_json.specs.View.{members_view, view};
 ghost use Rattle.candidates.specs.Listings.{IsRow};
+ghost use Rattle.candidates.specs.Texts.{mii_in};
 ghost use Rattle.listing_json.specs.Documents.{document_of, document_text, list_value, row_value};
+ghost use Rattle.listing_json.specs.inner.Members.{row_members};
 ghost use Rattle.machine_data.specs.declared.limits.TheConstants.{MAX_CEILING};
 
 use crate::kernels::told_kernel;
 use candidates::{Choice, Listing, Row, number_failed, number_met};
+use json_objects::{object_of, with, with_value};
 use machine_data::OutOfMemory;
-use serde_json::{Value, json};
+use serde_json::{Map, ToValue, Value};
 use std::alloc::Global;
 
 /// The listing as a JSON document: an object with its loops, each with its kernel or with why it has none,
@@ -35,12 +38,14 @@ fn document(alloc: Global, listing: &Listing) -> Result<Value, OutOfMemory>
     ensures { IfOk result (λ v. view v ≡ document_of listing.now) }
 {
     let rows = listing.rows();
-    json!(in alloc; {
-        "version": 1u64,
-        "loops": told_rows(alloc, listing.ceiling(), rows)?,
-        "met": number_met(rows),
-        "failed": number_failed(rows)
-    })
+    let met = Value::from(number_met(rows));
+    let failed = Value::from(number_failed(rows));
+    let loops = told_rows(alloc, listing.ceiling(), rows);
+    let members = Ok(Map::new(alloc));
+    let members = with_value(alloc, members, "version", Value::from(1u64));
+    let members = with(alloc, members, "loops", loops);
+    let members = with_value(alloc, members, "met", met);
+    object_of(with_value(alloc, members, "failed", failed))
 }
 
 /// The values of all loops.
@@ -56,6 +61,19 @@ fn told_rows(alloc: Global, ceiling: u64, rows: &[Row]) -> Result<Value, OutOfMe
     Ok(Value::Array(values))
 }
 
+/// What is told of a loop, whether it has a kernel or not; `least` is its lower bound.
+fn members_of(alloc: Global, row: &Row, least: u64) -> Result<Map<String, Value>, OutOfMemory>
+    requires { least ≡ mii_in row.now }
+    ensures { IfOk result (λ m. members_view m.entries ≡ row_members row.now) }
+{
+    let name = row.name.as_str().to_value(alloc);
+    let members = with(alloc, Ok(Map::new(alloc)), "name", name);
+    let members = with_value(alloc, members, "operations", Value::from(row.operations));
+    let members = with_value(alloc, members, "resources", Value::from(row.resources));
+    let members = with_value(alloc, members, "recurrences", Value::from(row.recurrences));
+    with_value(alloc, members, "mii", Value::from(least))
+}
+
 /// The value of a loop.
 fn told_row(alloc: Global, ceiling: u64, row: &Row) -> Result<Value, OutOfMemory>
     requires ceiling { ceiling ≤ MAX_CEILING }
@@ -63,25 +81,16 @@ fn told_row(alloc: Global, ceiling: u64, row: &Row) -> Result<Value, OutOfMemory
     ensures { IfOk result (λ v. view v ≡ row_value ceiling row.now) }
 {
     let least = row.resources.max(row.recurrences);
+    let members = members_of(alloc, row, least);
     match &row.choice {
         Choice::Met(_, kernel) => {
-            json!(in alloc; {
-                "name": row.name.as_str(),
-                "operations": row.operations,
-                "resources": row.resources,
-                "recurrences": row.recurrences,
-                "mii": least,
-                "kernel": told_kernel(alloc, kernel.parts())?
-            })
+            let kernel = told_kernel(alloc, kernel.parts());
+            object_of(with(alloc, members, "kernel", kernel))
         }
-        Choice::Failed(cause) => json!(in alloc; {
-            "name": row.name.as_str(),
-            "operations": row.operations,
-            "resources": row.resources,
-            "recurrences": row.recurrences,
-            "mii": least,
-            "failed_to": least + ceiling,
-            "cause": cause.word()
-        }),
+        Choice::Failed(cause) => {
+            let last = Value::from(least + ceiling);
+            let members = with(alloc, members, "cause", cause.word().to_value(alloc));
+            object_of(with_value(alloc, members, "failed_to", last))
+        }
     }
 }

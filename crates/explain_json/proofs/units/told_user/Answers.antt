@@ -1,0 +1,8 @@
+use Rattle.std.proofs.Common.{ap}
+use Rattle.serde_json.specs.View.{members_view}
+use Rattle.explain_json.proofs.units.told_user.Goals as goal
+
+pub returns : goal.returns
+returns c =
+    let operation = c.with_value-members.ensures _ _ (ap members_view c.new.ensures.empty) c.from.ensures in
+    c.object_of.ensures _ (c.with_value.ensures _ _ operation c.from-2.ensures)

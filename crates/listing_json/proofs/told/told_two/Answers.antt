@@ -1,0 +1,8 @@
+use Rattle.std.proofs.Common.{ap}
+use Rattle.serde_json.specs.View.{members_view}
+use Rattle.listing_json.proofs.told.told_two.Goals as goal
+
+pub returns : goal.returns
+returns c d e first second =
+    let one = c.with-members.ensures _ _ (ap members_view c.new.ensures.empty) first in
+    c.object_of.ensures _ (c.with.ensures _ _ one second)
