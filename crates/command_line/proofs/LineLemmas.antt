@@ -1,17 +1,22 @@
 -- The line's arguments as `clap` sees them, and what its matches mean.
-use Rattle.std.proofs.Common.{◌≡◌, ◌⊎◌, ap, ℕ, List, Option, Some, None, Err, Ok, Result, IfOk, true, false, Bool, ◌||◌, ◌≤◌, ◌∙◌, codes, refl, sym, ap₂, subst, inl, inr, IfSome, IfNone, arith, get_or}
+use Rattle.std.proofs.lemmas.List.{take_more}
+use Rattle.std.proofs.Common.{[], ◌∷◌, ◌++◌, ◌+◌, ◌<◌, length, take, ◌≡◌, ◌⊎◌, ap, ℕ, List, Option, Some, None, Err, Ok, Result, IfOk, true, false, Bool, ◌||◌, ◌≤◌, ◌∙◌, codes, refl, sym, ap₂, subst, inl, inr, IfSome, IfNone, arith, get_or}
 use Rattle.clap.specs.declared.builder.command.Command as clap
 use Rattle.clap.specs.declared.builder.arg.Arg.{Arg}
-use Rattle.clap.specs.Words.{AddsArg, AddsSubcommand, App, HasKind, Kinds, Row, Rule, Text, app_of, rule_of, with_rule, with_subcommand, all_of, first_of, is_simple, is_simple_and_free, kind_of}
+use Rattle.clap.specs.Words.{AddsArg, AddsSubcommand, App, HasKind, Kinds, Row, Text, app_of, rule_of, with_rule, with_subcommand, all_of, first_of, is_simple, is_simple_and_free, kind_of}
 use Rattle.clap.specs.declared.error.Error.{Error}
 use Rattle.command_line.specs.declared.line.Usage.{Usage}
 use Rattle.command_line.specs.declared.line.Usage.TheVariants.{Help, Refused, Memory}
 use Rattle.clap.proofs.OnLiterals.{clap_on_literals}
 use Rattle.clap.specs.declared.error.kind.ErrorKind.TheVariants.{OutOfMemory}
 use Rattle.command_line.specs.Lines.{IsRead, IsRequest, IsSearchGiven, IsTaskGiven, IsToldBy, IsWorkGiven, AreLoopsGiven, AreProblemsGiven, AreTexts, AreTextsGiven, IsReportGiven, Means, MeansNamed, SaysFormat, SaysNumber, SaysSwitch, SaySettings, switch_word}
-use Rattle.command_line.specs.Lines.{program_line, search_line, run_line, plain_line, schedule_line, vary_line, explain_line, dot_line, either_line, either_with_names, lint_line, solve_line, check_line}
+use Rattle.command_line.specs.Lines.{bare_line, program_line, search_line, run_line, plain_line, schedule_line, vary_line, explain_line, dot_line, either_line, either_with_names, lint_line, solve_line, check_line}
 use Rattle.settings.specs.Settings.{AreSettings, SettingsData}
 use Rattle.command_line.specs.inner.Made.{HasLine, MakesLine, MakesProgram}
+use Rattle.command_line.specs.inner.Parts.{line_of, rule_by, with_arguments, with_subcommands}
+use Rattle.command_line.specs.declared.line.form.TheConstants.{SUBCOMMANDS}
+use Rattle.command_line.specs.declared.line.form.Argument.{Argument}
+use Rattle.command_line.specs.declared.line.form.Subcommand.{Subcommand}
 use Rattle.std.proofs.lemmas.Bool.{and_parts}
 use Rattle.std.proofs.lemmas.Result.{IfOk-weaker}
 use Rattle.command_line.specs.declared.command.Command.{Command}
@@ -54,11 +59,31 @@ adds_subcommand {E = E} {made = made} {other = other} {new = new} old sub {line 
       is_line = IfOk-weaker new _ _ (λ c h. h.shape sub_at.1 ∙ ap₂ with_subcommand at (ap (λ (a : App). a.top) sub_at.0)) added;
     }
 
--- an argument of this rule, which is not global
-pub ruled : {E : Type 0} {old new : Result clap.Command E} (arg : Arg) {line : App} {rule : Rule}
-    → ((app : App) → arg.global ≡ false → MakesLine app old → MakesLine (with_rule app (rule_of arg)) new) → arg.global ≡ false → rule_of arg ≡ rule
-    → MakesLine line old → MakesLine (with_rule line rule) new
-ruled {new = new} arg {line = line} added local is has = subst (λ (r : Rule). MakesLine (with_rule line r) new) is (added line local has)
+-- arguments in turn are some first, and then the others
+with_arguments-append : (line : App) (some others : List Argument) → with_arguments line (some ++ others) ≡ with_arguments (with_arguments line some) others
+with_arguments-append line [] others = refl
+with_arguments-append line (argument ∷ some) others = with_arguments-append (with_rule line (rule_by argument)) some others
+
+-- a line with one more of its arguments
+pub with_next_argument : (line : App) (arguments : List Argument) (k : ℕ) (default : Argument) → k < length arguments
+    → with_rule (with_arguments line (take k arguments)) (rule_by (get_or arguments k default)) ≡ with_arguments line (take (k + 1) arguments)
+with_next_argument line arguments k default is_there =
+    sym (ap (with_arguments line) (take_more arguments k default is_there) ∙ with_arguments-append line (take k arguments) (get_or arguments k default ∷ []))
+
+-- and so it is with subcommands
+with_subcommands-append : (line : App) (some others : List Subcommand) → with_subcommands line (some ++ others) ≡ with_subcommands (with_subcommands line some) others
+with_subcommands-append line [] others = refl
+with_subcommands-append line (name ∷ some) others = with_subcommands-append (with_subcommand line (line_of name).top) some others
+
+pub with_next_subcommand : (line : App) (names : List Subcommand) (k : ℕ) (default : Subcommand) → k < length names
+    → with_subcommand (with_subcommands line (take k names)) (line_of (get_or names k default)).top ≡ with_subcommands line (take (k + 1) names)
+with_next_subcommand line names k default is_there =
+    sym (ap (with_subcommands line) (take_more names k default is_there) ∙ with_subcommands-append line (take k names) (get_or names k default ∷ []))
+
+-- all subcommands make the program's line
+pub all_subcommands : with_subcommands bare_line SUBCOMMANDS ≡ program_line
+unfolding program_line
+all_subcommands = refl
 
 -- a word says one number
 says-one : (word : Option Text) (m n : ℕ) → SaysNumber word m → SaysNumber word n → m ≡ n

@@ -1,8 +1,9 @@
 //! The program's command line.
 
-ghost use Rattle.std.specs.Prelude.{◌≡◌, map};
-ghost use Rattle.clap.specs.Words.{fault_of, kind_of, subcommand_of};
-ghost use Rattle.command_line.specs.Lines.{program_line, IsRead, IsToldBy};
+ghost use Rattle.std.specs.Prelude.{◌≡◌, [], Err, map};
+ghost use Rattle.clap.specs.Words.{fault_of, kind_of, subcommand_of, subcommand_rows_of};
+ghost use Rattle.command_line.specs.Lines.{program_line, IsRead, IsToldBy, Means};
+ghost use Rattle.command_line.specs.declared.command.Command.{Command};
 ghost use Rattle.command_line.specs.declared.line.Usage.TheVariants.{Memory};
 
 mod form;
@@ -53,11 +54,28 @@ pub fn parse_line<'a>(alloc: Global, words: &'a [&'a str]) -> Result<Command, Us
         IsRead result (fault_of program_line texts) (subcommand_of program_line texts) }
 {
     match program(alloc)?.try_get_matches_from(words) {
-        Ok(matches) => match command_of(alloc, &matches)? {
-            Some(command) => Ok(command),
-            None => Err(Usage::Refused(String::from_str(alloc, refusal(&matches))?)),
-        },
+        Ok(matches) => meant(alloc, &matches),
         Err(error) => Err(usage_of(alloc, &error)),
+    }
+}
+
+// The command that words mean which have the form of a line.
+fn meant(alloc: Global, matches: &ArgMatches<'_>) -> Result<Command, Usage>
+    ensures { IsRead result [] (subcommand_rows_of matches.now) }
+{
+    match command_of(alloc, matches)? {
+        Some(command) => Ok(command),
+        None => Err(refused(alloc, matches)),
+    }
+}
+
+// What is told of words that mean none.
+fn refused(alloc: Global, matches: &ArgMatches<'_>) -> Usage
+    ensures { ((c : Command) → ¬ Means c (subcommand_rows_of matches.now)) → IsRead (Err result) [] (subcommand_rows_of matches.now) }
+{
+    match String::from_str(alloc, refusal(matches)) {
+        Ok(text) => Usage::Refused(text),
+        Err(_) => Usage::Memory,
     }
 }
 
