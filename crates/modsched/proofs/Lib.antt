@@ -3,3 +3,4 @@ pub mod Ending
 pub mod Refused
 mod Lengths
 mod Linting
+mod Searched

@@ -1,6 +1,6 @@
 -- What a command does with its texts, and how a run of it ends.
 use Rattle.std.specs.Global.{Global}
-use Rattle.std.specs.Prelude.{◌≡◌, ◌==◌, ◌⊎◌, ℕ, Bool, if◌then◌else◌, string_bytes, String, List, [], Option, Some, None, is_some, option_map, Result, Ok, Err}
+use Rattle.std.specs.Prelude.{◌≡◌, ◌+◌, ◌==◌, ◌⊎◌, ℕ, Bool, if◌then◌else◌, string_bytes, String, List, [], Option, Some, None, is_some, option_map, Result, Ok, Err}
 use Rattle.command_line.specs.declared.command.Command.{Command}
 use Rattle.command_line.specs.declared.command.Command.TheVariants as command
 use Rattle.command_line.specs.declared.command.LintTexts.{LintTexts}
@@ -41,6 +41,7 @@ use Rattle.lint_text.specs.Printout.{IsLintText}
 use Rattle.lint_text.specs.declared.printout.LintText.{LintText}
 use Rattle.lint_text.specs.declared.printout.Named.{Named}
 use Rattle.modsched.specs.Naming.{chosen_of, unknown_in}
+use Rattle.problems.specs.declared.limits.TheConstants.{MAX_PROBLEM_TEXT}
 use Rattle.problem_printouts.specs.Solving.{AnswersSolve}
 use Rattle.problem_printouts.specs.Judging.{AnswersCheck}
 use Rattle.problem_printouts.specs.Graphing.{AnswersDot, AnswersEdges}
@@ -84,7 +85,7 @@ last_unread (command.Lint texts format) = last_lint_unread texts
 
 -- as much of a text of problems or of solutions as is read, in bytes: one more than such a text may have
 unfoldable pub most_problems_read : ℕ
-most_problems_read = 16777217
+most_problems_read = MAX_PROBLEM_TEXT + 1
 
 -- as much of each of its texts as a command reads, in bytes
 abbrev pub most_read_by : Command → ℕ

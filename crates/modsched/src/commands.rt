@@ -3,7 +3,7 @@
 ghost use Rattle.machine_data.specs.declared.limits.TheConstants.{MAX_LOOPS};
 ghost use Rattle.std.specs.Prelude.{◌≡◌, ◌≤◌, ◌⊎◌, vec_len, Ok, Err, IfErr, IfOk};
 ghost use Rattle.graph.specs.Units.{first_lacking};
-ghost use Rattle.file_faults.specs.Answers.{AnswersOn};
+ghost use Rattle.file_faults.specs.Answers.{AnswersIn, AnswersOn};
 ghost use Rattle.modsched.specs.Engine.{Brings, IsSearchText, IsTaskText, LoopsBring, loops_ending};
 ghost use Rattle.modsched.specs.Naming.{unknown_in};
 ghost use Rattle.loops.specs.Meaning.{loops_in};
@@ -38,6 +38,7 @@ use side_by_side::{
 };
 use std::alloc::Global;
 use std::thread::Threads;
+use workers::{OpenGate, pipeline_of, pipeline_on, read_by_workers};
 
 /// What a command writes for the bytes of its texts, each of which is read once, or the status of a refusal. A command that reads
 /// one text ignores the first bytes.
@@ -102,6 +103,9 @@ fn work_text<R: Threads + Sync>(
                 Ok(machine) => machine,
                 Err(status) => return Err(status),
             };
+            if names.is_empty() {
+                return loops_ending(text_of(rt, alloc, task, &machine, loops));
+            }
             let loops = match loops_named(rt, alloc, names, loops, workers_of(task)) {
                 Ok(loops) => loops,
                 Err(status) => return Err(status),
@@ -128,6 +132,56 @@ fn machine_of(alloc: Global, text: &[u8]) -> Result<Machine, Status>
     match read_machine(alloc, text) {
         Ok(machine) => Ok(machine),
         Err(fault) => Err(Status::from(fault)),
+    }
+}
+
+/// What is written of all loops of a text on a machine.
+fn text_of<R: Threads + Sync>(
+    rt: &R,
+    alloc: Global,
+    task: &Task,
+    machine: &Machine,
+    text: &[u8],
+) -> Result<Printout, FileFault>
+    ensures { AnswersIn (IsTaskText task.now machine.now) machine.now (loops_in text.now) result }
+{
+    match task {
+        Task::Search(settings, search) => search_of(rt, alloc, settings, search, machine, text),
+        _ => {
+            let loops = read_by_workers(rt, alloc, text, workers_of(task))?;
+            task_text(rt, alloc, task, machine, loops)
+        }
+    }
+}
+
+/// What is written of a search for kernels of all loops of a text. Where the listing is wanted, workers take a large text in pieces.
+fn search_of<R: Threads + Sync>(
+    rt: &R,
+    alloc: Global,
+    settings: &Settings,
+    search: &Search,
+    machine: &Machine,
+    text: &[u8],
+) -> Result<Printout, FileFault>
+    ensures { AnswersIn (IsSearchText settings.now.ratio settings.now.ceiling search.now machine.now) machine.now (loops_in text.now) result }
+{
+    match search {
+        Search::Schedule => {
+            let found = pipeline_of(rt, alloc, machine, text, settings, &OpenGate);
+            schedule_text(rt, alloc, found, settings.workers())
+        }
+        Search::Json => {
+            let found = pipeline_of(rt, alloc, machine, text, settings, &OpenGate);
+            json_text(alloc, found)
+        }
+        Search::Run(trip) => {
+            let found = pipeline_of(rt, alloc, machine, text, settings, &OpenGate);
+            run_text(rt, alloc, found, *trip, settings.workers())
+        }
+        _ => {
+            let loops = read_by_workers(rt, alloc, text, settings.workers())?;
+            search_text(rt, alloc, settings, search, machine, loops)
+        }
     }
 }
 
@@ -163,8 +217,14 @@ fn search_text<R: Threads + Sync>(
     ensures { AnswersOn (IsSearchText settings.now.ratio settings.now.ceiling search.now machine.now loops.items) (first_lacking machine.now loops.items) result }
 {
     match search {
-        Search::Schedule => schedule_text(rt, alloc, machine, loops, settings),
-        Search::Json => json_text(rt, alloc, machine, loops, settings),
+        Search::Schedule => {
+            let searched = pipeline_on(rt, alloc, machine, loops, settings, &OpenGate);
+            schedule_text(rt, alloc, searched, settings.workers())
+        }
+        Search::Json => {
+            let searched = pipeline_on(rt, alloc, machine, loops, settings, &OpenGate);
+            json_text(alloc, searched)
+        }
         Search::Explain(Format::Text) => explain_text_on(rt, alloc, machine, loops, settings),
         Search::Explain(Format::Json) => explain_document_on(rt, alloc, machine, loops, settings),
         Search::Page => explain_page_on(rt, alloc, machine, loops, settings),
@@ -172,6 +232,9 @@ fn search_text<R: Threads + Sync>(
         Search::Vary(Format::Text) => vary_text_on(rt, alloc, machine, loops, settings),
         Search::Vary(Format::Json) => vary_document_on(rt, alloc, machine, loops, settings),
         Search::Total => vary_total_on(rt, alloc, machine, loops, settings),
-        Search::Run(trip) => run_text(rt, alloc, machine, loops, *trip, settings),
+        Search::Run(trip) => {
+            let searched = pipeline_on(rt, alloc, machine, loops, settings, &OpenGate);
+            run_text(rt, alloc, searched, *trip, settings.workers())
+        }
     }
 }

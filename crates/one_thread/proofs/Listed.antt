@@ -1,5 +1,5 @@
 -- Listings from prepared loops.
-use Rattle.std.proofs.Common.{◌≡◌, ℕ, List, [], ◌∷◌, length, refl, arith}
+use Rattle.std.proofs.Common.{◌≡◌, ℕ, List, [], ◌∷◌, ◌++◌, length, refl, sym, subst, arith}
 use Rattle.std.specs.List.{All, AllZip}
 use Rattle.std.proofs.lemmas.List.Elements.{All-nil, All-cons}
 use Rattle.machine.specs.Machines.{MachineData}
@@ -30,6 +30,16 @@ choices_long [] [] h = refl
 choices_long [] (c ∷ cs) h = absurd h
 choices_long (p ∷ ps) [] h = absurd h
 choices_long (p ∷ ps) (c ∷ cs) h = let k = choices_long ps cs h.1 in omega arith
+
+-- the choice of one more loop
+pub choices_more : (ps more : List ProblemData) (cs : List Choice) (p : ProblemData) (c : Choice) → AllZip IsChoice ps cs → IsChoice p c → more ≡ ps ++ p ∷ [] → AllZip IsChoice more (cs ++ c ∷ [])
+choices_more ps more cs p c h is added = subst (λ (qs : List ProblemData). AllZip IsChoice qs (cs ++ c ∷ [])) (sym added) (go ps cs h)
+  where
+    go : (ps : List ProblemData) (cs : List Choice) → AllZip IsChoice ps cs → AllZip IsChoice (ps ++ p ∷ []) (cs ++ c ∷ [])
+    go [] [] h = (is, tt)
+    go [] (d ∷ cs) h = absurd h
+    go (q ∷ ps) [] h = absurd h
+    go (q ∷ ps) (d ∷ cs) h = (h.0, go ps cs h.1)
 
 pub lists_of : (m : MachineData) (ratio ceiling : ℕ) (ls : List LoopData) (ps : List ProblemData) (listing : ListingData) → ArePrepared m ratio ceiling ls ps → ListsProblems ceiling ps listing → Lists m ls ratio ceiling listing
 lists_of m ratio ceiling ls ps listing are is = record { problems = ps; each_problem = are; choices = is.choices; each_choice = is.each_choice; is_listing = is.is_listing }

@@ -5,5 +5,5 @@ mod listing;
 mod preparing;
 
 pub use file_faults::FileFault;
-pub use listing::{list_choices, pipeline_alone};
+pub use listing::{choices_of, list_choices, pipeline_alone};
 pub use preparing::prepare_all;

@@ -1,22 +1,21 @@
 //! The listing of loops.
 
-ghost use Rattle.std.specs.Prelude.{◌≡◌, ◌≤◌, length, vec_len, IfOk};
+ghost use Rattle.std.specs.Prelude.{IfOk};
 ghost use Rattle.std.specs.List.{AllZip};
 ghost use Rattle.graph.specs.Units.{first_lacking};
 ghost use Rattle.candidates.specs.Choices.{IsChoice};
 ghost use Rattle.one_thread.specs.Files.{AnswersOn, HaveCeiling, ListsProblems, PreparesAndLists};
 
 use crate::preparing::prepare_all;
-use candidates::{Listing, Settings};
-use collecting::{Chosen, gather};
+use candidates::{Choice, Listing, Settings, first_success};
 use file_faults::FileFault;
 use ims::Prepared;
 use loops::Loop;
 use machine::{Machine, OutOfMemory};
 use std::alloc::Global;
 
-/// What loops give on a machine: each loop prepared, and the listing of these loops. There are at most 1,024, which is the most that
-/// a text has. The calling thread tries the intervals of each loop one after another, from the least one on.
+/// What loops give on a machine: each loop prepared, and the listing of these loops. The calling thread tries the intervals of each
+/// loop one after another, from the least one on.
 ///
 /// # Errors
 /// The first loop with an opcode that the machine has no table for; and [`FileFault::Memory`], where memory was refused.
@@ -26,7 +25,6 @@ pub fn pipeline_alone(
     loops: Vec<Loop>,
     settings: &Settings,
 ) -> Result<(Vec<Prepared>, Listing), FileFault>
-    requires few { vec_len loops ≤ 1024 }
     ensures exact { AnswersOn (PreparesAndLists settings.now.ratio settings.now.ceiling machine.now loops.items) (first_lacking machine.now loops.items) result }
 {
     match prepare_all(alloc, machine, loops, settings) {
@@ -44,12 +42,28 @@ fn list_alone(
     loops: &[Prepared],
     settings: &Settings,
 ) -> Result<Listing, OutOfMemory>
-    requires few { length loops.now ≤ 1024 }
     requires ceilings { HaveCeiling settings.now.ceiling loops.now }
     ensures { IfOk result (ListsProblems settings.now.ceiling loops.now) }
 {
-    let chosen = gather(alloc, loops, Vec::new(alloc))?;
-    list_choices(alloc, loops, chosen, settings)
+    let choices = choices_of(alloc, loops)?;
+    list_choices(alloc, loops, choices, settings)
+}
+
+/// The choice of each prepared loop, whose intervals the calling thread tries one after another, from the least one on.
+///
+/// # Errors
+/// Memory was refused.
+pub fn choices_of(alloc: Global, loops: &[Prepared]) -> Result<Vec<Choice>, OutOfMemory>
+    ensures { IfOk result (λ choices. AllZip IsChoice loops.now choices.items) }
+{
+    let mut choices = Vec::with_capacity(alloc, loops.len())?;
+    for prepared in loops {
+        match first_success(alloc, prepared) {
+            Ok(choice) => choices.push_reserved(choice),
+            Err(fault) => return Err(fault),
+        }
+    }
+    Ok(choices)
 }
 
 /// The listing of prepared loops with the choice of each.
@@ -59,17 +73,12 @@ fn list_alone(
 pub fn list_choices(
     alloc: Global,
     loops: &[Prepared],
-    chosen: Chosen,
+    choices: Vec<Choice>,
     settings: &Settings,
 ) -> Result<Listing, OutOfMemory>
     requires ceilings { HaveCeiling settings.now.ceiling loops.now }
-    requires choices { AllZip IsChoice loops.now chosen.choices }
+    requires choices { AllZip IsChoice loops.now choices.items }
     ensures { IfOk result (ListsProblems settings.now.ceiling loops.now) }
 {
-    Listing::of(
-        alloc,
-        settings.ceiling() as u8,
-        loops,
-        chosen.into_choices(),
-    )
+    Listing::of(alloc, settings.ceiling() as u8, loops, choices)
 }

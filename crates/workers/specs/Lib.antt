@@ -13,4 +13,5 @@ pub use Rattle.reports.specs.declared.entry.Entry
 pub use Rattle.reports.specs.declared.entry.Found
 pub use Rattle.board_workers.specs.Settled
 pub use Rattle.board_workers.specs.Worked
+pub mod Apart
 pub mod inner

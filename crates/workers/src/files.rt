@@ -7,9 +7,11 @@ ghost use Rattle.loops.specs.Meaning.{loops_in};
 ghost use Rattle.graph.specs.Units.{first_lacking};
 ghost use Rattle.candidates.specs.Choices.{IsChoice};
 ghost use Rattle.candidates.specs.Promises.{IsRight};
-ghost use Rattle.one_thread.specs.Files.{AnswersFile, AnswersOn, HaveCeiling, ListsFile, ListsProblems, PreparesAndLists};
+ghost use Rattle.one_thread.specs.Files.{AnswersFile, AnswersIn, AnswersOn, HaveCeiling, ListsFile, ListsProblems, PreparesAndLists};
 
+use crate::pieces::pipeline_apart;
 use crate::preparing::prepare_by_workers;
+use crate::reading::apart::read_by_workers;
 use board_workers::{Gate, run_workers};
 use candidates::{Listing, Pieces, Settings};
 use collecting::{Chosen, gather};
@@ -18,7 +20,6 @@ use ims::Prepared;
 use loops::Loop;
 use machine::{Machine, OutOfMemory, read_machine};
 use one_thread::{list_choices, pipeline_alone};
-use shared_reading::read_by_workers;
 use std::alloc::Global;
 use std::thread::Threads;
 
@@ -39,8 +40,7 @@ pub fn pipeline<R: Threads + Sync, G: Gate + Sync>(
     ensures exact { AnswersFile (PreparesAndLists settings.now.ratio settings.now.ceiling) (machine_of machine.now) (loops_in loops.now) result }
 {
     let machine = read_machine(alloc, machine)?;
-    let loops = read_by_workers(rt, alloc, loops, settings.workers())?;
-    pipeline_on(rt, alloc, &machine, loops, settings, gate)
+    pipeline_of(rt, alloc, &machine, loops, settings, gate)
 }
 
 /// The listing that two texts give, as [`pipeline`] tells it.
@@ -62,6 +62,29 @@ pub fn pipeline_file<R: Threads + Sync, G: Gate + Sync>(
         Ok((_, listing)) => Ok(listing),
         Err(fault) => Err(fault),
     }
+}
+
+/// What a text of loops gives on a machine: what [`pipeline`] tells of it. Of a large text each worker takes pieces all the way from reading to kernels; else
+/// the workers read, prepare and try intervals in turn, and the gate is theirs.
+///
+/// # Errors
+/// A fault of the text, then the first loop with an opcode that the machine has no table for; and [`FileFault::Memory`], where the
+/// calling thread was refused memory.
+pub fn pipeline_of<R: Threads + Sync, G: Gate + Sync>(
+    rt: &R,
+    alloc: Global,
+    machine: &Machine,
+    loops: &[u8],
+    settings: &Settings,
+    gate: &G,
+) -> Result<(Vec<Prepared>, Listing), FileFault>
+    ensures exact { AnswersIn (PreparesAndLists settings.now.ratio settings.now.ceiling machine.now) machine.now (loops_in loops.now) result }
+{
+    if let Some(both) = pipeline_apart(rt, alloc, machine, loops, settings) {
+        return Ok(both);
+    }
+    let loops = read_by_workers(rt, alloc, loops, settings.workers())?;
+    pipeline_on(rt, alloc, machine, loops, settings, gate)
 }
 
 /// What loops give on a machine: what [`pipeline`] tells of their texts. There are at most 1,024, which is the most that a text has.
@@ -107,7 +130,7 @@ fn list<R: Threads + Sync, G: Gate + Sync>(
 {
     let pieces = Pieces::of(loops.len(), settings.ceiling(), settings.cut());
     let chosen = choose_by_workers(rt, alloc, loops, &pieces, settings.workers(), gate)?;
-    list_choices(alloc, loops, chosen, settings)
+    list_choices(alloc, loops, chosen.into_choices(), settings)
 }
 
 /// The choice of each loop, by at most `workers` workers, 1 to 64, and no more than there are pieces.

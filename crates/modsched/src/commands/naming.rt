@@ -10,9 +10,9 @@ ghost use Rattle.modsched.specs.inner.Refusals.{IsRefusal, IsUnnamed};
 
 use exit_status::Status;
 use loops::Loop;
-use shared_reading::read_by_workers;
 use std::alloc::Global;
 use std::thread::Threads;
+use workers::read_by_workers;
 
 /// The loops of a text that have one of the names, in the order of the text; all of them where there is no name. Or the status of the text's fault,
 /// or else of the first name that no loop has. At most `workers` workers read the text.

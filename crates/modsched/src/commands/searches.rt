@@ -1,72 +1,61 @@
-//! What the searches for kernels write, where workers in threads search.
+//! What the commands write that need the listing alone, or with the loops.
 
-ghost use Rattle.machine_data.specs.declared.limits.TheConstants.{MAX_LOOPS};
-ghost use Rattle.std.specs.Prelude.{◌≤◌, vec_len};
-ghost use Rattle.graph.specs.Units.{first_lacking};
-ghost use Rattle.file_faults.specs.Answers.{AnswersOn};
+ghost use Rattle.std.specs.Prelude.{◌≡◌, ℕ, List, Result, IfOk};
+ghost use Rattle.file_faults.specs.Answers.{AnswersIn};
+ghost use Rattle.loops.specs.LoopFault.{LoopFault};
+ghost use Rattle.loops.specs.Loops.{LoopData};
+ghost use Rattle.machine.specs.Machines.{MachineData};
+ghost use Rattle.one_thread.specs.Files.{ListsProblems, PreparesAndLists};
 ghost use Rattle.printouts.specs.Run.{IsRunText};
 ghost use Rattle.printouts.specs.Schedule.{IsListingDocument, IsListingText};
 
+use candidates::Listing;
 use command_line::Trip;
 use file_faults::FileFault;
-use loops::Loop;
-use machine::Machine;
+use ims::Prepared;
 use printouts::{Printout, document_printout};
-use settings::Settings;
 use side_by_side::{listing_printout_on, run_text_on};
 use std::alloc::Global;
 use std::thread::Threads;
-use workers::{OpenGate, pipeline_on};
 
-/// What `schedule` writes.
+/// What a search gives: each loop prepared, and the listing of these loops; or a fault.
+pub(crate) type Searched = Result<(Vec<Prepared>, Listing), FileFault>;
+
+/// What `schedule` writes of what a search gave.
 pub(crate) fn schedule_text<R: Threads + Sync>(
     rt: &R,
     alloc: Global,
-    machine: &Machine,
-    loops: Vec<Loop>,
-    settings: &Settings,
+    searched: Searched,
+    workers: usize,
 ) -> Result<Printout, FileFault>
-    requires few { vec_len loops ≤ MAX_LOOPS }
-    ensures { AnswersOn (IsListingText settings.now.ratio settings.now.ceiling machine.now loops.items) (first_lacking machine.now loops.items) result }
+    ensures { (machine : MachineData) (ratio ceiling : ℕ) (loops : Result (List LoopData) LoopFault) → AnswersIn (PreparesAndLists ratio ceiling machine) machine loops searched
+        → AnswersIn (IsListingText ratio ceiling machine) machine loops result }
 {
-    let (_, listing) = pipeline_on(rt, alloc, machine, loops, settings, &OpenGate)?;
-    Ok(listing_printout_on(rt, alloc, &listing, settings.workers())?)
+    let (_, listing) = searched?;
+    Ok(listing_printout_on(rt, alloc, &listing, workers)?)
 }
 
-/// What `json` writes.
-pub(crate) fn json_text<R: Threads + Sync>(
-    rt: &R,
-    alloc: Global,
-    machine: &Machine,
-    loops: Vec<Loop>,
-    settings: &Settings,
-) -> Result<Printout, FileFault>
-    requires few { vec_len loops ≤ MAX_LOOPS }
-    ensures { AnswersOn (IsListingDocument settings.now.ratio settings.now.ceiling machine.now loops.items) (first_lacking machine.now loops.items) result }
+/// What `json` writes of it.
+pub(crate) fn json_text(alloc: Global, searched: Searched) -> Result<Printout, FileFault>
+    ensures { (machine : MachineData) (ratio ceiling : ℕ) (loops : Result (List LoopData) LoopFault) → AnswersIn (PreparesAndLists ratio ceiling machine) machine loops searched
+        → AnswersIn (IsListingDocument ratio ceiling machine) machine loops result }
 {
-    let (_, listing) = pipeline_on(rt, alloc, machine, loops, settings, &OpenGate)?;
+    let (_, listing) = searched?;
     Ok(document_printout(alloc, &listing)?)
 }
 
-/// What `run` writes.
+/// What `run` writes of it.
 pub(crate) fn run_text<R: Threads + Sync>(
     rt: &R,
     alloc: Global,
-    machine: &Machine,
-    loops: Vec<Loop>,
+    searched: Searched,
     trip: Trip,
-    settings: &Settings,
+    workers: usize,
 ) -> Result<Printout, FileFault>
-    requires few { vec_len loops ≤ MAX_LOOPS }
-    ensures { AnswersOn (IsRunText trip settings.now.ratio settings.now.ceiling machine.now loops.items) (first_lacking machine.now loops.items) result }
+    requires { IfOk searched (λ both. ListsProblems both.1.ceiling both.0.items both.1) }
+    ensures { (machine : MachineData) (ratio ceiling : ℕ) (loops : Result (List LoopData) LoopFault) → AnswersIn (PreparesAndLists ratio ceiling machine) machine loops searched
+        → AnswersIn (IsRunText trip ratio ceiling machine) machine loops result }
 {
-    let (prepared, listing) = pipeline_on(rt, alloc, machine, loops, settings, &OpenGate)?;
-    Ok(run_text_on(
-        rt,
-        alloc,
-        prepared.as_slice(),
-        &listing,
-        trip,
-        settings.workers(),
-    )?)
+    let (prepared, listing) = searched?;
+    Ok(run_text_on(rt, alloc, prepared.as_slice(), &listing, trip, workers)?)
 }

@@ -5,10 +5,8 @@ ghost use Rattle.modsched.specs.Engine.{first_for, most_problems_read, most_read
 
 use command_line::Command;
 use devices::{Input, ReadTextError, read_text, read_text_of};
+use problems::limits::MAX_PROBLEM_TEXT;
 use std::alloc::Global;
-
-// the greatest number of bytes of a text of problems or of solutions, as their readers have it
-const PROBLEM_TEXT_LIMIT: usize = 16_777_216;
 
 /// The text that is read first, which is empty where the command reads none.
 pub(super) fn first_text<M: Input>(
@@ -76,5 +74,5 @@ fn problem_text<I: Input>(alloc: Global, input: &mut I) -> Result<Vec<u8>, ReadT
     ensures fault { IsErrOf result ReadTextError.Fault ↔ (I.failed input.new ≡ I.failed input.old + 1) }
     ensures memory { IsErrOf result ReadTextError.Memory → I.failed input.new ≡ I.failed input.old }
 {
-    read_text_of(alloc, input, PROBLEM_TEXT_LIMIT)
+    read_text_of(alloc, input, MAX_PROBLEM_TEXT)
 }

@@ -1,26 +1,16 @@
-use Rattle.std.proofs.Common.{length, ap, sym, subst, arith}
+use Rattle.std.proofs.Common.{sym, subst}
 use Rattle.graph.specs.Units.{first_lacking}
 use Rattle.one_thread.specs.Files.{HaveCeiling, Prepares}
 use Rattle.file_faults.proofs.Answering.{on_ok}
-use Rattle.one_thread.proofs.Listed.{prepared_ceilings, prepared_long}
+use Rattle.one_thread.proofs.Listed.{prepared_ceilings}
 use Rattle.one_thread.proofs.listing.pipeline_alone.Goals as goal
 
-pub list_alone-requires-clause-few : goal.list_alone-requires-clause-few
-list_alone-requires-clause-few c =
+pub list_alone-requires : goal.list_alone-requires
+list_alone-requires c =
     let m = c.args.machine.now in
     let r = c.args.settings.now.ratio in
     let k = c.args.settings.now.ceiling in
     let are = on_ok (Prepares r k m c.args.loops.items) (first_lacking m c.args.loops.items) c.in-Ok.prepared c.in-Ok.ensures.exact in
-    let long = prepared_long m r k c.args.loops.items c.in-Ok.prepared.items are.1 in
-    let same = ap length c.as_slice.ensures.value in
-    let whole = c.args.loops.ok.0 in
-    let few = c.requires.few in
-    omega arith
-
-pub list_alone-requires-clause-ceilings : goal.list_alone-requires-clause-ceilings
-list_alone-requires-clause-ceilings c =
-    let m = c.args.machine.now in
-    let r = c.args.settings.now.ratio in
-    let k = c.args.settings.now.ceiling in
-    let are = on_ok (Prepares r k m c.args.loops.items) (first_lacking m c.args.loops.items) c.in-Ok.prepared c.in-Ok.ensures.exact in
-    subst (HaveCeiling k) (sym c.as_slice.ensures.value) (prepared_ceilings m r k c.args.loops.items c.in-Ok.prepared.items are.1)
+    record {
+      ceilings = subst (HaveCeiling k) (sym c.as_slice.ensures.value) (prepared_ceilings m r k c.args.loops.items c.in-Ok.prepared.items are.1);
+    }

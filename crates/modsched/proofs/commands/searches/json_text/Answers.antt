@@ -1,18 +1,17 @@
+use Rattle.std.proofs.Common.{subst}
 use Rattle.graph.specs.Units.{first_lacking}
-use Rattle.file_faults.proofs.Answering.{on_more}
+use Rattle.file_faults.specs.Answers.{AnswersIn}
 use Rattle.one_thread.specs.Files.{PreparesAndLists}
 use Rattle.printouts.specs.Schedule.{IsListingDocument}
 use Rattle.printouts.proofs.Told.{told_document}
+use Rattle.modsched.proofs.Searched.{right_more}
 use Rattle.modsched.proofs.commands.searches.json_text.Goals as goal
 
 pub returns : goal.returns
-returns g c =
-    let r = c.args.settings.now.ratio in
-    let k = c.args.settings.now.ceiling in
-    let m = c.args.machine.now in
-    let ls = c.args.loops.items in
+returns c = λ m r k loops h.
     let prepared = c.in_ok-listing.field-0-0 in
     let listing = c.in_ok-listing.listing in
     let written = c.in_ok-document_printout.field-0 in
-    on_more (PreparesAndLists r k m ls) (IsListingDocument r k m ls) (first_lacking m ls) (prepared, listing) written
-    (λ f. told_document m r k ls prepared.items listing written c.in_ok-document_printout.ensures.text c.in_ok-document_printout.ensures.met f.0 f.1) c.in_ok-listing.ensures.exact
+    right_more (PreparesAndLists r k m) (IsListingDocument r k m) (first_lacking m) loops (prepared, listing) written
+    (λ ls f. told_document m r k ls prepared.items listing written c.in_ok-document_printout.ensures.text c.in_ok-document_printout.ensures.met f.0 f.1)
+    (subst (λ searched. AnswersIn (PreparesAndLists r k m) m loops searched) c.in_ok-listing.was h)

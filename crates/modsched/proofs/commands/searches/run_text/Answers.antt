@@ -1,33 +1,19 @@
-use Rattle.std.proofs.Common.{◌++◌, ◌∙◌, ap, rules, sym, subst}
+use Rattle.std.proofs.Common.{◌++◌, ◌∙◌, ap, subst}
 use Rattle.graph.specs.Units.{first_lacking}
 use Rattle.candidates.specs.Texts.{counts_line}
-use Rattle.file_faults.proofs.Answering.{on_more, on_ok}
-use Rattle.one_thread.specs.Files.{ListsProblems, PreparesAndLists}
+use Rattle.file_faults.specs.Answers.{AnswersIn}
+use Rattle.one_thread.specs.Files.{PreparesAndLists}
 use Rattle.printouts.specs.Run.{IsRunText, told_lines}
-use Rattle.printouts.proofs.Told.{loops_of, own_ceiling, told_run}
+use Rattle.printouts.proofs.Told.{loops_of, told_run}
+use Rattle.modsched.proofs.Searched.{right_more}
 use Rattle.modsched.proofs.commands.searches.run_text.Goals as goal
 
-pub run_text_on-requires : goal.run_text_on-requires
-run_text_on-requires g c =
-    let r = c.args.settings.now.ratio in
-    let k = c.args.settings.now.ceiling in
-    let m = c.args.machine.now in
-    let ls = c.args.loops.items in
-    let prepared = c.in_ok-prepared.prepared in
-    let listing = c.in_ok-prepared.listing in
-    let h = on_ok (PreparesAndLists r k m ls) (first_lacking m ls) (prepared, listing) c.in_ok-prepared.ensures.exact in
-    (search rules, subst (λ ps. ListsProblems listing.ceiling ps listing) (sym c.as_slice.ensures.value) (own_ceiling k prepared.items listing h.1.1))
-
 pub returns : goal.returns
-returns g c =
-    let r = c.args.settings.now.ratio in
-    let k = c.args.settings.now.ceiling in
-    let m = c.args.machine.now in
-    let ls = c.args.loops.items in
+returns g c = λ m r k loops h.
     let prepared = c.in_ok-prepared.prepared in
     let listing = c.in_ok-prepared.listing in
     let written = c.in_ok-run_text_on.field-0 in
-    on_more (PreparesAndLists r k m ls) (IsRunText c.args.trip r k m ls) (first_lacking m ls) (prepared, listing) written
-    (λ f. told_run c.args.trip m r k ls prepared.items listing written
-    (c.in_ok-run_text_on.ensures.text ∙ ap (λ ps. told_lines c.args.trip listing.ceiling (loops_of ps) listing.rows ++ counts_line listing.rows) c.as_slice.ensures.value)
-    c.in_ok-run_text_on.ensures.met f.0 f.1) c.in_ok-prepared.ensures.exact
+    let text = c.in_ok-run_text_on.ensures.text ∙ ap (λ ps. told_lines c.args.trip listing.ceiling (loops_of ps) listing.rows ++ counts_line listing.rows) c.as_slice.ensures.value in
+    right_more (PreparesAndLists r k m) (IsRunText c.args.trip r k m) (first_lacking m) loops (prepared, listing) written
+    (λ ls f. told_run c.args.trip m r k ls prepared.items listing written text c.in_ok-run_text_on.ensures.met f.0 f.1)
+    (subst (λ searched. AnswersIn (PreparesAndLists r k m) m loops searched) c.in_ok-prepared.was h)

@@ -1,0 +1,64 @@
+-- What is written of a search, by what the search gave.
+use Rattle.std.proofs.Common.{◌≡◌, ◌<◌, ℕ, List}
+use Rattle.std.specs.Prelude.{Option, Some, None, Result, Ok, Err, IfOk, Vec}
+use Rattle.std.specs.Global.{Global}
+use Rattle.machine.specs.Machines.{MachineData}
+use Rattle.machine.specs.Opcode.{Opcode}
+use Rattle.loops.specs.LoopFault.{LoopFault}
+use Rattle.loops.specs.Loops.{LoopData}
+use Rattle.graph.specs.Units.{first_lacking}
+use Rattle.ims.specs.Problems.{ProblemData}
+use Rattle.candidates.specs.Listings.{ListingData}
+use Rattle.file_faults.specs.Answers.{AnswersIn, AnswersLoops, AnswersOn}
+use Rattle.file_faults.specs.declared.fault.FileFault.{FileFault}
+use Rattle.file_faults.specs.declared.fault.FileFault.TheVariants.{Machine, Loops, NoTable, Memory}
+use Rattle.file_faults.proofs.Answering.{on_err, on_more, on_ok}
+use Rattle.one_thread.specs.Files.{ListsProblems, PreparesAndLists}
+use Rattle.printouts.proofs.Told.{own_ceiling}
+
+abbrev Lacking : Type 0
+Lacking = Option (List ℕ × Opcode)
+
+module _ {A B : Type 0} (F : List LoopData → A → Type 0) (G : List LoopData → B → Type 0) (lacking : List LoopData → Lacking) where
+  -- what follows from what is right
+  pub right_more : (loops : Result (List LoopData) LoopFault) (x : A) (y : B) → ((xs : List LoopData) → F xs x → G xs y) → AnswersLoops F lacking loops (Ok x) → AnswersLoops G lacking loops (Ok y)
+  right_more (Err e) x y more a = cc
+  right_more (Ok xs) x y more a = on_more (F xs) (G xs) (lacking xs) x y (more xs) a
+
+  -- a fault stays one
+  pub fault_more : (loops : Result (List LoopData) LoopFault) (fault : FileFault) → AnswersLoops F lacking loops (Err fault) → AnswersLoops G lacking loops (Err fault)
+  fault_more loops Memory a = tt
+  fault_more (Err e) (Machine f) a = cc
+  fault_more (Err e) (Loops f) a = cc
+  fault_more (Err e) (NoTable n o) a = cc
+  fault_more (Ok xs) (Machine f) a = on_err (F xs) (G xs) (lacking xs) (Machine f) a
+  fault_more (Ok xs) (Loops f) a = on_err (F xs) (G xs) (lacking xs) (Loops f) a
+  fault_more (Ok xs) (NoTable n o) a = on_err (F xs) (G xs) (lacking xs) (NoTable n o) a
+
+module _ {A : Type 0} (F : List LoopData → A → Type 0) (lacking : List LoopData → Lacking) where
+  -- answers for loops, and for a text that means them
+  pub of_loops : (xs : List LoopData) (answer : Result A FileFault) → AnswersOn (F xs) (lacking xs) answer → AnswersLoops F lacking (Ok xs) answer
+  of_loops xs (Ok x) a = a
+  of_loops xs (Err (Machine f)) a = a
+  of_loops xs (Err (Loops f)) a = a
+  of_loops xs (Err (NoTable n o)) a = a
+  of_loops xs (Err Memory) a = tt
+
+  pub on_loops : (xs : List LoopData) (answer : Result A FileFault) → AnswersLoops F lacking (Ok xs) answer → AnswersOn (F xs) (lacking xs) answer
+  on_loops xs (Ok x) a = a
+  on_loops xs (Err (Machine f)) a = a
+  on_loops xs (Err (Loops f)) a = a
+  on_loops xs (Err (NoTable n o)) a = a
+  on_loops xs (Err Memory) a = tt
+
+abbrev Searched : Type 0
+Searched = Result (Vec ProblemData Global × ListingData) FileFault
+
+-- what a search gave lists its loops
+pub lists_own : (machine : MachineData) (ratio ceiling : ℕ) (loops : Result (List LoopData) LoopFault) (searched : Searched)
+    → AnswersIn (PreparesAndLists ratio ceiling machine) machine loops searched → IfOk searched (λ both. ListsProblems both.1.ceiling both.0.items both.1)
+lists_own machine ratio ceiling (Err e) (Ok both) a = cc
+lists_own machine ratio ceiling (Ok xs) (Ok both) a =
+    let is = on_ok (PreparesAndLists ratio ceiling machine xs) (first_lacking machine xs) both a in
+    own_ceiling ceiling both.0.items both.1 is.1.1
+lists_own machine ratio ceiling loops (Err fault) a = tt

@@ -1,3 +1,0 @@
-pub use Rattle.loop_reader.specs.Meaning
-pub mod Apart
-pub mod inner
