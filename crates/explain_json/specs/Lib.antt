@@ -5,5 +5,4 @@ pub mod Tries
 pub mod Operations
 pub mod Kernels
 pub mod Loops
-pub mod Documents
 pub mod inner

@@ -3,7 +3,6 @@
 #![tactic(auto)]
 
 mod circuit;
-mod documents;
 mod edges;
 mod kernels;
 mod loops;
@@ -14,5 +13,4 @@ mod tried;
 mod units;
 mod values;
 
-pub use documents::{push_head, push_tail};
 pub use loops::push_loop_json;

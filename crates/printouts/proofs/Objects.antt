@@ -1,10 +1,11 @@
 -- Objects of loops, and the document of them.
-use Rattle.std.proofs.Common.{◌≡◌, ℕ, ◌+◌, ◌<◌, List, [], ◌∷◌, ◌++◌, length, get_or, map, take, refl, sym, ap, ap₂, ◌∙◌, subst, append_assoc}
+use Rattle.std.proofs.Common.{◌≡◌, ℕ, ◌+◌, ◌<◌, List, [], ◌∷◌, ◌++◌, length, get_or, map, take, sym, ap, ap₂, ◌∙◌, subst, append_assoc}
 use Rattle.std.specs.Prelude.{codes}
-use Rattle.std.specs.List.{AllZip, flat_map, join_by}
+use Rattle.std.specs.List.{AllZip, join_by}
 use Rattle.std.proofs.lemmas.List.{take_more}
 use Rattle.graph_text.proofs.Texts.{all_zip-push}
-use Rattle.explain_json.specs.Documents.{document_of, head_text, tail_text}
+use Rattle.json_objects.specs.Documents.{document_of, head_text, tail_text}
+use Rattle.json_objects.proofs.Joined.{join-map}
 use Rattle.printouts.specs.declared.output.objects.Object.{Object}
 use Rattle.printouts.specs.ExplainDocuments.{document_text, number_failed, number_met}
 
@@ -14,15 +15,6 @@ pub each-more : {A B : Type 0} (R : A → B → Type 0) (xs : List A) (ys new : 
 each-more {A} {B} R xs ys new i a b low at are is n =
     subst (λ (zs : List B). AllZip R (take (i + 1) xs) zs) (sym n)
     (subst (λ (zs : List A). AllZip R zs (ys ++ b ∷ [])) (ap (λ q. take i xs ++ q ∷ []) at ∙ sym (take_more xs i a low)) (all_zip-push R (take i xs) ys a b are is))
-
-others-map : (f : Object → List ℕ) (sep : List ℕ) (xs : List Object) → flat_map (λ (part : List ℕ). sep ++ part) (map f xs) ≡ flat_map (λ x. sep ++ f x) xs
-others-map f sep [] = refl
-others-map f sep (x ∷ xs) = ap (λ (t : List ℕ). (sep ++ f x) ++ t) (others-map f sep xs)
-
--- what is joined may be made first
-join-map : (f : Object → List ℕ) (sep : List ℕ) (xs : List Object) → join_by (λ (part : List ℕ). part) sep (map f xs) ≡ join_by f sep xs
-join-map f sep [] = refl
-join-map f sep (x ∷ xs) = ap (λ (t : List ℕ). f x ++ t) (others-map f sep xs)
 
 -- the parts of the document, one after another
 pub document-joined : (objects : List Object) (failed met : ℕ) (a b c : List ℕ) → failed ≡ number_failed objects → met ≡ number_met objects → a ≡ head_text failed

@@ -8,7 +8,7 @@ use Rattle.ims.specs.Problems.{ProblemData, IsProblemOf}
 use Rattle.candidates.specs.declared.choices.Choice.{Choice}
 use Rattle.candidates.specs.Listings.{is_met}
 use Rattle.explain.specs.Objects.{IsObjectOn}
-use Rattle.explain_json.specs.Documents.{document_of}
+use Rattle.json_objects.specs.Documents.{document_of}
 use Rattle.report_page.specs.Pages.{page_of}
 use Rattle.printouts.specs.declared.output.objects.Object.{Object}
 use Rattle.printouts.specs.Outcomes.{Written}

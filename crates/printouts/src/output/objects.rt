@@ -2,15 +2,15 @@
 
 ghost use Rattle.std.specs.Prelude.{◌≡◌, ◌==◌, ◌++◌, codes, IfOk, OnOk};
 ghost use Rattle.std.specs.List.{flat_map, join_by};
-ghost use Rattle.explain_json.specs.Documents.{document_of};
+ghost use Rattle.json_objects.specs.Documents.{document_of};
 ghost use Rattle.report_page.specs.Pages.{page_of};
 ghost use Rattle.printouts.specs.declared.output.objects.Object.{Object};
 ghost use Rattle.printouts.specs.ExplainDocuments.{IsObjectOf, document_text, number_failed, number_met};
 
 use crate::output::printout::Printout;
 use explain::push_prepared_json;
-use explain_json::{push_head, push_tail};
 use ims::Prepared;
+use json_objects::{push_head, push_tail};
 use machine::{Machine, OutOfMemory};
 use report_page::push_page;
 use std::alloc::Global;

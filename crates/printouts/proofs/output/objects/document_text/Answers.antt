@@ -1,5 +1,5 @@
 use Rattle.std.proofs.Common.{◌∙◌, ℕ, List, ◌++◌, ap}
-use Rattle.explain_json.specs.Documents.{head_text}
+use Rattle.json_objects.specs.Documents.{head_text}
 use Rattle.printouts.proofs.Objects.{document-joined}
 use Rattle.printouts.proofs.output.objects.document_text.Goals as goal
 
