@@ -1,4 +1,4 @@
--- A document has whole numbers alone.
+-- What is told of a loop has whole numbers alone.
 use Rattle.std.proofs.Common.{◌≡◌, ℕ, ℤ, pos, negsuc, Bool, false, ◌||◌, List, [], ◌∷◌, map, Option, Some, None, refl, ap₂}
 use Rattle.serde_json.specs.Data.{Data, number}
 use Rattle.serde_json.specs.Find.{of_integer}
@@ -12,8 +12,7 @@ use Rattle.kernel.specs.declared.kernels.parts.Parts.{Parts}
 use Rattle.candidates.specs.declared.choices.Choice.{Choice}
 use Rattle.candidates.specs.declared.choices.Choice.TheVariants.{Met, Failed}
 use Rattle.candidates.specs.declared.listings.Row.{Row}
-use Rattle.candidates.specs.Listings.{ListingData}
-use Rattle.listing_json.specs.Documents.{address_value, choice_value, count_value, document_of, kernel_value, list_value, operation_value, option_value, out_value, param_value, preload_value, row_value, source_value, string_value}
+use Rattle.listing_json.specs.Documents.{address_value, choice_value, count_value, kernel_value, list_value, operation_value, option_value, out_value, param_value, preload_value, row_value, source_value, string_value}
 
 -- a value has whole numbers alone
 abbrev IsWhole : Data → Type 0
@@ -62,6 +61,5 @@ choice-whole : (last : ℕ) (row : Row) (choice : Choice) → IsWhole (choice_va
 choice-whole last row (Met ii kernel) = neither _ _ (kernel-whole kernel) refl
 choice-whole last row (Failed cause) = refl
 
-pub document_whole : (listing : ListingData) → has_float (document_of listing) ≡ false
-unfolding document_of
-document_whole listing = neither _ _ (list-whole (row_value listing.ceiling) listing.rows (λ row. choice-whole _ row row.choice)) refl
+pub row_whole : (ceiling : ℕ) (row : Row) → has_float (row_value ceiling row) ≡ false
+row_whole ceiling row = choice-whole _ row row.choice

@@ -107,6 +107,10 @@ choice_value last row (Failed cause) =
 abbrev pub row_value : ℕ → Row → Data
 row_value ceiling row = choice_value (mii_in row + ceiling) row row.choice
 
+-- a loop as JSON without blanks
+abbrev pub row_object : ℕ → Row → List ℕ
+row_object ceiling row = compact_text (row_value ceiling row)
+
 -- all loops of a listing, in order
 unfoldable pub document_of : ListingData → Data
 document_of listing =

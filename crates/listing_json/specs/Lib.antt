@@ -1,3 +1,4 @@
 pub use Rattle.candidates.specs.Listings
 pub mod Documents
+pub mod Joined
 pub mod inner

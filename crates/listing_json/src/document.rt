@@ -1,20 +1,23 @@
 //! The document of a listing.
 
-ghost use Rattle.std.specs.Prelude.{◌≡◌, ◌≤◌, ◌+◌, IfOk, string_bytes};
-ghost use Rattle.std.specs.List.{All};
-ghost use Rattle.serde_json.specs.View.{members_view, view};
+ghost use Rattle.std.specs.Prelude.{◌≡◌, ◌≤◌, ◌++◌, codes, IfOk, OnOk, string_bytes};
+ghost use Rattle.std.specs.List.{All, flat_map, join_by};
 ghost use Rattle.candidates.specs.Listings.{IsRow};
-ghost use Rattle.candidates.specs.Texts.{mii_in};
-ghost use Rattle.listing_json.specs.Documents.{document_of, document_text, list_value, row_value};
-ghost use Rattle.listing_json.specs.inner.Members.{row_members};
+ghost use Rattle.candidates.specs.declared.listings.Row.{Row};
+ghost use Rattle.listing_json.specs.Documents.{document_text, row_object};
 ghost use Rattle.machine_data.specs.declared.limits.TheConstants.{MAX_CEILING};
 
-use crate::kernels::told_kernel;
+use crate::rows::push_object;
 use candidates::{Choice, Listing, Row, number_failed, number_met};
-use json_objects::{object_of, with, with_value};
+use json_objects::{push_head, push_tail};
 use machine_data::OutOfMemory;
-use serde_json::{Map, ToValue, Value};
 use std::alloc::Global;
+
+/// Bytes to reserve for what is told of a loop beside its operations.
+const ROW_ROOM: usize = 512;
+
+/// Bytes to reserve for an operation of a kernel.
+const OPERATION_ROOM: usize = 224;
 
 /// The listing as a JSON document: an object with its loops, each with its kernel or with why it has none,
 /// on one line that ends with a line feed. No blank stands between its parts, and keys stand in the order
@@ -22,75 +25,78 @@ use std::alloc::Global;
 ///
 /// # Errors
 /// Memory ran out.
-#[tactic(auto, using(crate::proofs::Whole::document_whole))]
 pub fn document_text(alloc: Global, listing: &Listing) -> Result<String, OutOfMemory>
     ensures text { IfOk result (λ text. string_bytes text ≡ document_text listing.now) }
 {
-    let document = document(alloc, listing)?;
-    let mut text = document.to_string(alloc)?;
-    text.push_str("\n")?;
+    let rows = listing.rows();
+    let mut text = String::with_capacity(alloc, room(rows))?;
+    push_head(&mut text, number_failed(rows) as u64)?;
+    push_rows(alloc, &mut text, listing.ceiling(), rows)?;
+    push_tail(&mut text, number_met(rows) as u64)?;
     Ok(text)
 }
 
-/// The document.
-#[tactic(auto, unfolding(crate::specs::Documents::document_of))]
-fn document(alloc: Global, listing: &Listing) -> Result<Value, OutOfMemory>
-    ensures { IfOk result (λ v. view v ≡ document_of listing.now) }
-{
-    let rows = listing.rows();
-    let met = Value::from(number_met(rows));
-    let failed = Value::from(number_failed(rows));
-    let loops = told_rows(alloc, listing.ceiling(), rows);
-    let members = Ok(Map::new(alloc));
-    let members = with_value(alloc, members, "version", Value::from(1u64));
-    let members = with(alloc, members, "loops", loops);
-    let members = with_value(alloc, members, "met", met);
-    object_of(with_value(alloc, members, "failed", failed))
-}
-
-/// The values of all loops.
-fn told_rows(alloc: Global, ceiling: u64, rows: &[Row]) -> Result<Value, OutOfMemory>
-    requires ceiling { ceiling ≤ MAX_CEILING }
-    requires rows { All IsRow rows.now }
-    ensures { IfOk result (λ v. view v ≡ list_value (row_value ceiling) rows.now) }
-{
-    let mut values = Vec::with_capacity(alloc, rows.len())?;
+/// Bytes to reserve, so that the text seldom has to grow.
+fn room(rows: &[Row]) -> usize {
+    let mut room = ROW_ROOM;
     for row in rows {
-        values.push(told_row(alloc, ceiling, row)?)?;
+        room = room.saturating_add(row_room(row));
     }
-    Ok(Value::Array(values))
+    room
 }
 
-/// What is told of a loop, whether it has a kernel or not; `least` is its lower bound.
-fn members_of(alloc: Global, row: &Row, least: u64) -> Result<Map<String, Value>, OutOfMemory>
-    requires { least ≡ mii_in row.now }
-    ensures { IfOk result (λ m. members_view m.entries ≡ row_members row.now) }
-{
-    let name = row.name.as_str().to_value(alloc);
-    let members = with(alloc, Ok(Map::new(alloc)), "name", name);
-    let members = with_value(alloc, members, "operations", Value::from(row.operations));
-    let members = with_value(alloc, members, "resources", Value::from(row.resources));
-    let members = with_value(alloc, members, "recurrences", Value::from(row.recurrences));
-    with_value(alloc, members, "mii", Value::from(least))
-}
-
-/// The value of a loop.
-fn told_row(alloc: Global, ceiling: u64, row: &Row) -> Result<Value, OutOfMemory>
-    requires ceiling { ceiling ≤ MAX_CEILING }
-    requires row { IsRow row.now }
-    ensures { IfOk result (λ v. view v ≡ row_value ceiling row.now) }
-{
-    let least = row.resources.max(row.recurrences);
-    let members = members_of(alloc, row, least);
+/// Bytes to reserve for a loop.
+fn row_room(row: &Row) -> usize {
     match &row.choice {
         Choice::Met(_, kernel) => {
-            let kernel = told_kernel(alloc, kernel.parts());
-            object_of(with(alloc, members, "kernel", kernel))
+            let operations = kernel.parts().operations.as_slice().len();
+            ROW_ROOM.saturating_add(operations.saturating_mul(OPERATION_ROOM))
         }
-        Choice::Failed(cause) => {
-            let last = Value::from(least + ceiling);
-            let members = with(alloc, members, "cause", cause.word().to_value(alloc));
-            object_of(with_value(alloc, members, "failed_to", last))
-        }
+        Choice::Failed(_) => ROW_ROOM,
     }
+}
+
+/// Appends the objects of loops, with a comma between two.
+fn push_rows(
+    alloc: Global,
+    text: &mut String,
+    ceiling: u64,
+    rows: &[Row],
+) -> Result<(), OutOfMemory>
+    requires ceiling { ceiling ≤ MAX_CEILING }
+    requires rows { All IsRow rows.now }
+    ensures { OnOk result (string_bytes text.new ≡ string_bytes text.old ++ join_by (row_object ceiling) (codes ",") rows.now) }
+{
+    let Some((first, others)) = rows.split_first() else {
+        return Ok(());
+    };
+    push_object(alloc, text, ceiling, first)?;
+    push_others(alloc, text, ceiling, others)
+}
+
+/// Appends the objects of loops, each after a comma.
+fn push_others(
+    alloc: Global,
+    text: &mut String,
+    ceiling: u64,
+    rows: &[Row],
+) -> Result<(), OutOfMemory>
+    requires ceiling { ceiling ≤ MAX_CEILING }
+    requires rows { All IsRow rows.now }
+    ensures { OnOk result (string_bytes text.new ≡ string_bytes text.old ++ flat_map (λ (row : Row). codes "," ++ row_object ceiling row) rows.now) }
+{
+    for row in rows {
+        push_other(alloc, text, ceiling, row)?;
+    }
+    Ok(())
+}
+
+/// Appends the object of a loop after a comma.
+fn push_other(alloc: Global, text: &mut String, ceiling: u64, row: &Row) -> Result<(), OutOfMemory>
+    requires ceiling { ceiling ≤ MAX_CEILING }
+    requires row { IsRow row.now }
+    ensures { OnOk result (string_bytes text.new ≡ string_bytes text.old ++ (codes "," ++ row_object ceiling row.now)) }
+{
+    text.push_str(",")?;
+    push_object(alloc, text, ceiling, row)
 }

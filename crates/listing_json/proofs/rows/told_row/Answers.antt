@@ -5,7 +5,7 @@ use Rattle.kernel.specs.declared.kernels.parts.Parts.{Parts}
 use Rattle.candidates.specs.declared.choices.Choice.{Choice}
 use Rattle.candidates.specs.Texts.{mii_in}
 use Rattle.listing_json.specs.Documents.{choice_value, count_value, kernel_value}
-use Rattle.listing_json.proofs.document.told_row.Goals as goal
+use Rattle.listing_json.proofs.rows.told_row.Goals as goal
 
 pub returns-in-Met : goal.returns-in-Met
 returns-in-Met c =

@@ -2,7 +2,7 @@ use Rattle.std.proofs.Common.{◌≡◌, ◌∙◌, List, ℕ, ap, subst, IfOk}
 use Rattle.serde_json.specs.Data.{string}
 use Rattle.serde_json.specs.View.{members_view, view}
 use Rattle.listing_json.specs.Documents.{count_value}
-use Rattle.listing_json.proofs.document.members_of.Goals as goal
+use Rattle.listing_json.proofs.rows.members_of.Goals as goal
 
 pub returns : goal.returns
 returns c =
