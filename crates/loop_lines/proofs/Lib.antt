@@ -1,8 +1,12 @@
 pub mod AtSigns
 pub mod Cuts
+pub mod Ends
+pub mod Equals
 pub mod Lanes
 pub mod NameBytes
 pub mod Numbers
+pub mod Parted
 pub mod Pieces
+pub mod Reserved
 pub mod Short
 pub mod Stores

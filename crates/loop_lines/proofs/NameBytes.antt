@@ -40,25 +40,25 @@ pub all_stand : (word : List ℕ) (n : ℕ) → n ≡ position_or_len stands_in_
 all_stand word n e whole = sym (ap (list_all is_name_byte) (take_all n word whole)) ∙ front_taken word n e
 
 -- a word with another byte is no name
-no_name_at : (word : List ℕ) (k : ℕ) → k < length word → is_name_byte (get_or word k 0) ≡ false → is_name word ≡ false
+pub no_name_at : (word : List ℕ) (k : ℕ) → k < length word → is_name_byte (get_or word k 0) ≡ false → is_name word ≡ false
 no_name_at word k h other =
     false_from_ne_true (is_name word)
     (λ name. true≢false (sym (name_bytes word (name_starts word name)) ∙ list_all_at is_name_byte word k 0 h other))
 
-not_not : (b : Bool) → not b ≡ true → b ≡ false
+pub not_not : (b : Bool) → not b ≡ true → b ≡ false
 not_not true h = absurd (true≢false (sym h))
 not_not false h = refl
 
-not_false : (b : Bool) → not b ≡ false → b ≡ true
+pub not_false : (b : Bool) → not b ≡ false → b ≡ true
 not_false true h = refl
 not_false false h = absurd (true≢false h)
 
-other_at : (word : List ℕ) (n : ℕ) → n ≡ position_or_len stands_in_none word → n < length word → is_name_byte (get_or word n 0) ≡ false
+pub other_at : (word : List ℕ) (n : ℕ) → n ≡ position_or_len stands_in_none word → n < length word → is_name_byte (get_or word n 0) ≡ false
 other_at word n e h =
     let p = λ (k : ℕ). is_name_byte (get_or word k 0) ≡ false in
     subst p (sym e) (not_not (is_name_byte (get_or word (position_or_len stands_in_none word) 0)) (passes_at_first stands_in_none word 0 (subst (λ (k : ℕ). k < length word) e h)))
 
-stands_before : (word : List ℕ) (n k : ℕ) → n ≡ position_or_len stands_in_none word → k < n → is_name_byte (get_or word k 0) ≡ true
+pub stands_before : (word : List ℕ) (n k : ℕ) → n ≡ position_or_len stands_in_none word → k < n → is_name_byte (get_or word k 0) ≡ true
 stands_before word n k e h = not_false (is_name_byte (get_or word k 0)) (fails_before_first stands_in_none word k 0 (subst (λ (m : ℕ). k < m) e h))
 
 pub no_name_short : (word : List ℕ) (n : ℕ) → n ≡ position_or_len stands_in_none word → n < length word → is_name word ≡ false
@@ -122,7 +122,7 @@ no_use word n e h other =
     let within : n < length (take m word) = omega (arith, length-take m word) in
     rw (no_name_at (take m word) n within bad, no_name_short word n e h) (none_either (list_any (λ c. c == 64) word) None refl)
 
-drop_head : (word : List ℕ) (n : ℕ) → get_or (drop n word) 0 0 ≡ get_or word n 0
+pub drop_head : (word : List ℕ) (n : ℕ) → get_or (drop n word) 0 0 ≡ get_or word n 0
 drop_head word n = get_or-drop n word 0 0 ∙ (let e : n + 0 ≡ n = omega arith in ap (λ k. get_or word k 0) e)
 
 -- as slices take it

@@ -56,6 +56,16 @@ fn short_cell(rest: &[u8]) -> Option<(bool, &[u8], &[u8])>
     }
 }
 
+/// The cell that the first word is, however it is written, and what follows it.
+#[inline(never)]
+fn word_cell(rest: &[u8]) -> Option<(Option<Option<i64>>, &[u8])>
+    ensures { MatchOption result (words_of rest.now ≡ [])
+        (λ x. (word : List ℕ) × (words_of rest.now ≡ word ∷ words_of x.1.now) × (x.0 ≡ int_of word)) }
+{
+    let (word, after) = next_word(rest)?;
+    Some((int_of(word.bytes), after))
+}
+
 /// The cell that the first word is, and what follows it.
 #[inline(always)]
 fn next_cell(rest: &[u8]) -> Option<(Option<Option<i64>>, &[u8])>
@@ -65,8 +75,7 @@ fn next_cell(rest: &[u8]) -> Option<(Option<Option<i64>>, &[u8])>
     if let Some((negative, digits, after)) = short_cell(rest) {
         return Some((Some(Some(short_int(negative, digits))), after));
     }
-    let (word, after) = next_word(rest)?;
-    Some((int_of(word), after))
+    word_cell(rest)
 }
 
 /// Words that are integers: how many, and whether some does not fit 64 bits or there are too many.

@@ -10,7 +10,10 @@ use crate::cells::{CellWords, cell_words};
 use crate::name::is_name;
 use crate::number::int_of;
 use crate::operand::{at_of, guard_of, place_of, use_of};
-use crate::words::{is_text, next_word, one_word, three_words, two_words};
+use crate::word::Word;
+use crate::words::{
+    after_equals, equation, is_over, is_text, next_word, one_word, three_words, two_words,
+};
 use machine_data::Opcode;
 
 /// A use of a statement. Numbers outside their limits are `None`.
@@ -60,6 +63,7 @@ pub enum Form<'a> {
 }
 
 /// The form of a line, which has none where it has no words.
+#[inline(always)]
 pub fn form_of(line: &[u8]) -> Option<Form<'_>>
     ensures { option_map form_seen result ≡ line_form (words_of line.now) }
 {
@@ -71,12 +75,13 @@ pub fn form_of(line: &[u8]) -> Option<Form<'_>>
 
 /// Writes the form of a line by its first word and the rest. A form is large, so each line function
 /// writes it where it is to stand, and leaves it malformed where the words are not of its form.
+#[inline(never)]
 #[tactic(auto, unfolding(crate::specs::Forms::form_of))]
-fn read_form<'a>(form: &mut Form<'a>, word: &'a [u8], rest: &'a [u8])
+fn read_form<'a>(form: &mut Form<'a>, word: Word<'a>, rest: &'a [u8])
     requires { form_seen form.old ≡ Malformed }
-    ensures { form_seen form.new ≡ form_of word.now (words_of rest.now) }
+    ensures { form_seen form.new ≡ form_of word.entry.bytes.now (words_of rest.now) }
 {
-    match word {
+    match word.bytes {
         [b'l', more @ ..] if is_text(more, "oop") => loop_line(form, rest),
         [b'a', more @ ..] if is_text(more, "rray") => array_line(form, rest),
         [b'p', more @ ..] if is_text(more, "aram") => param_line(form, rest),
@@ -96,7 +101,7 @@ fn loop_line<'a>(form: &mut Form<'a>, rest: &'a [u8])
     if let Some(name) = one_word(rest)
         && is_name(name)
     {
-        *form = Form::Loop(name);
+        *form = Form::Loop(name.bytes);
     }
 }
 
@@ -108,7 +113,7 @@ fn out_line<'a>(form: &mut Form<'a>, rest: &'a [u8])
     if let Some(name) = one_word(rest)
         && is_name(name)
     {
-        *form = Form::Out(name);
+        *form = Form::Out(name.bytes);
     }
 }
 
@@ -117,12 +122,13 @@ fn end_line<'a>(form: &mut Form<'a>, rest: &'a [u8])
     requires { form_seen form.old ≡ Malformed }
     ensures { form_seen form.new ≡ end_line (words_of rest.now) }
 {
-    if next_word(rest).is_none() {
+    if is_over(rest) {
         *form = Form::End;
     }
 }
 
 /// `array NAME = INT INT ..`
+#[tactic(auto, using(crate::proofs::Equals::no_array))]
 fn array_line<'a>(form: &mut Form<'a>, rest: &'a [u8])
     requires { form_seen form.old ≡ Malformed }
     ensures { form_seen form.new ≡ array_line (words_of rest.now) }
@@ -130,48 +136,47 @@ fn array_line<'a>(form: &mut Form<'a>, rest: &'a [u8])
     let Some((name, rest)) = next_word(rest) else {
         return;
     };
-    let Some((equals, cells)) = next_word(rest) else {
+    let Some(cells) = after_equals(rest) else {
         return;
     };
-    if !is_name(name) || !is_text(equals, "=") {
+    if !is_name(name) {
         return;
     }
     if let Some(cells) = cell_words(cells) {
-        *form = Form::Array(name, cells);
+        *form = Form::Array(name.bytes, cells);
     }
 }
 
 /// `param NAME = INT`
+#[tactic(auto, using(crate::proofs::Equals::no_param))]
 fn param_line<'a>(form: &mut Form<'a>, rest: &'a [u8])
     requires { form_seen form.old ≡ Malformed }
     ensures { form_seen form.new ≡ param_line (words_of rest.now) }
 {
-    let Some((name, equals, value)) = three_words(rest) else {
+    let Some((name, value)) = equation(rest) else {
         return;
     };
-    if !is_name(name) || !is_text(equals, "=") {
+    if !is_name(name) {
         return;
     }
-    if let Some(value) = int_of(value) {
-        *form = Form::Param(name, value);
+    if let Some(value) = int_of(value.bytes) {
+        *form = Form::Param(name.bytes, value);
     }
 }
 
 /// `init NAME@NUM = INT`
+#[tactic(auto, using(crate::proofs::Equals::no_init))]
 fn init_line<'a>(form: &mut Form<'a>, rest: &'a [u8])
     requires { form_seen form.old ≡ Malformed }
     ensures { form_seen form.new ≡ init_line (words_of rest.now) }
 {
-    let Some((what, equals, value)) = three_words(rest) else {
+    let Some((what, value)) = equation(rest) else {
         return;
     };
-    if !is_text(equals, "=") {
-        return;
-    }
     let Some((name, number)) = at_of(what) else {
         return;
     };
-    if let Some(value) = int_of(value) {
+    if let Some(value) = int_of(value.bytes) {
         *form = Form::Init(name, number, value);
     }
 }
@@ -210,20 +215,22 @@ fn store_line<'a>(form: &mut Form<'a>, rest: &'a [u8])
 }
 
 /// A statement that gives a value.
-fn value_line<'a>(form: &mut Form<'a>, name: &'a [u8], rest: &'a [u8])
+#[tactic(auto, using(crate::proofs::Equals::no_value))]
+fn value_line<'a>(form: &mut Form<'a>, word: Word<'a>, rest: &'a [u8])
     requires { form_seen form.old ≡ Malformed }
-    ensures { form_seen form.new ≡ value_line name.now (words_of rest.now) }
+    ensures { form_seen form.new ≡ value_line word.entry.bytes.now (words_of rest.now) }
 {
-    let Some((equals, rest)) = next_word(rest) else {
+    let Some(rest) = after_equals(rest) else {
         return;
     };
     let Some((opcode, rest)) = next_word(rest) else {
         return;
     };
-    if !is_name(name) || !is_text(equals, "=") {
+    if !is_name(word) {
         return;
     }
-    match Opcode::named(opcode) {
+    let name = word.bytes;
+    match Opcode::named(opcode.bytes) {
         None | Some(Opcode::Store) => {}
         Some(Opcode::Load) => load_line(form, name, rest),
         Some(Opcode::Mov) => one_use_line(form, name, Opcode::Mov, rest),
@@ -233,6 +240,7 @@ fn value_line<'a>(form: &mut Form<'a>, name: &'a [u8], rest: &'a [u8])
 }
 
 /// `NAME = load NAME[SUB]`
+#[inline(always)]
 fn load_line<'a>(form: &mut Form<'a>, name: &'a [u8], rest: &'a [u8])
     requires { form_seen form.old ≡ Malformed }
     ensures { form_seen form.new ≡ load_line name.now (words_of rest.now) }

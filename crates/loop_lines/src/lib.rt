@@ -8,6 +8,7 @@ mod form;
 mod name;
 mod number;
 mod operand;
+mod word;
 mod words;
 
 pub use cells::{CellWords, are_wide, cells_of};

@@ -4,6 +4,8 @@ ghost use Rattle.std.specs.Prelude.{◌≡◌, not, true};
 ghost use Rattle.std.specs.List.{list_all, position_or_len};
 ghost use Rattle.loop_data.specs.Names.{is_letter, is_name, is_name_byte, is_reserved};
 
+use crate::feeds::{HALF, LANES, count_named};
+use crate::word::Word;
 use crate::words::is_text;
 
 /// A letter or `_`.
@@ -44,19 +46,45 @@ fn is_name_byte(byte: u8) -> bool
 }
 
 /// How many bytes in front may stand in a name.
-pub(crate) fn count_name(word: &[u8]) -> usize
-    ensures { result ≡ position_or_len (λ c. not (is_name_byte c)) word.now }
+pub(crate) fn count_name(text: &[u8]) -> usize
+    ensures { result ≡ position_or_len (λ c. not (is_name_byte c)) text.now }
 {
-    for (i, b) in word.iter().enumerate() {
-        if !is_name_byte(*b) {
-            return i;
+    let mut at = 0;
+    while text.len() - at >= LANES {
+        let ahead = count_named::<16>(text, at);
+        if ahead < LANES {
+            return at + ahead;
         }
+        at += LANES;
     }
-    word.len()
+    while text.len() - at >= HALF {
+        let ahead = count_named::<8>(text, at);
+        if ahead < HALF {
+            return at + ahead;
+        }
+        at += HALF;
+    }
+    while at < text.len() && is_name_byte(text[at]) {
+        at += 1;
+    }
+    at
+}
+
+/// How many bytes the longest reserved words have, as `array`.
+const LONGEST: usize = 5;
+
+/// The word is a keyword or an opcode.
+#[inline(always)]
+#[tactic(auto, using(crate::proofs::Reserved::long_is_free))]
+fn is_reserved(word: &[u8]) -> bool
+    ensures { result ≡ is_reserved word.now }
+{
+    word.len() <= LONGEST && is_one_of_few(word)
 }
 
 /// The word is a keyword or an opcode. The first byte leaves few of them to compare.
-fn is_reserved(word: &[u8]) -> bool
+#[inline(never)]
+fn is_one_of_few(word: &[u8]) -> bool
     ensures { result ≡ is_reserved word.now }
 {
     let [first, rest @ ..] = word else {
@@ -82,6 +110,7 @@ fn is_reserved(word: &[u8]) -> bool
 /// These bytes, which may all stand in a name, are one: the first is a letter or `_`, and they are not
 /// reserved.
 #[tactic(auto, using(crate::proofs::NameBytes::starts_by_first), unfolding(loop_data::specs::Names::is_name))]
+#[inline(always)]
 pub(crate) fn begins_name(word: &[u8]) -> bool
     requires { list_all is_name_byte word.now ≡ true }
     ensures { result ≡ is_name word.now }
@@ -94,11 +123,11 @@ pub(crate) fn begins_name(word: &[u8]) -> bool
 
 /// The word is a name: a letter or `_`, then letters, digits and `_`, and not reserved.
 #[tactic(auto, using(crate::proofs::NameBytes::all_stand, crate::proofs::NameBytes::no_name_short))]
-pub(crate) fn is_name(word: &[u8]) -> bool
-    ensures { result ≡ is_name word.now }
+pub(crate) fn is_name(word: Word<'_>) -> bool
+    ensures { result ≡ is_name word.entry.bytes.now }
 {
-    if count_name(word) < word.len() {
+    if word.named < word.bytes.len() {
         return false;
     }
-    begins_name(word)
+    begins_name(word.bytes)
 }

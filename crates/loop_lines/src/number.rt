@@ -44,7 +44,7 @@ fn short_value(digits: &[u8]) -> i64
 {
     let mut value = 0;
     for digit in digits {
-        value = 10 * value + i64::from(*digit - b'0');
+        value = 10 * value + i64::from(*digit) - i64::from(b'0');
     }
     value
 }

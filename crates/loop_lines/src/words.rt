@@ -1,12 +1,15 @@
 //! Lines of a text and words of a line.
 
-ghost use Rattle.std.specs.Prelude.{◌≡◌, ◌≢◌, ◌==◌, ◌-◌, ◌<◌, ◌&&◌, nat_lt, ℕ, List, [], ◌∷◌, length, take, slice_index, false, true, MatchOption};
-ghost use Rattle.std.specs.List.{before_first, after_first, position_or_len};
+ghost use Rattle.std.specs.Prelude.{◌≡◌, ◌≢◌, ◌==◌, ◌-◌, ◌<◌, ◌≤◌, ◌&&◌, nat_lt, not, ℕ, List, [], ◌∷◌, codes, length, take, slice_index, false, true, MatchBool, MatchOption};
+ghost use Rattle.std.specs.List.{position_or_len};
+ghost use Rattle.loop_data.specs.Names.{is_name_byte};
 ghost use Rattle.machine_data.specs.Opcodes.{same_word};
 ghost use Rattle.loop_lines.specs.Words.{is_blank, lines_of, starts_blank, stops_word, words_of};
-ghost use Rattle.loop_lines.specs.inner.Stops.{begins_stop};
+ghost use Rattle.loop_lines.specs.inner.Stops.{begins_equals, begins_stop, is_equation};
 
 use crate::feeds::{LANES, count_high, count_line};
+use crate::name::count_name;
+use crate::word::Word;
 
 /// The bytes are those of this text.
 pub(crate) fn is_text(bytes: &[u8], text: &str) -> bool
@@ -38,34 +41,6 @@ pub(crate) fn before_byte(bytes: &[u8], byte: u8) -> Option<&[u8]>
     }
 }
 
-/// How many bytes stand before the first one of this value: all of them where it is not there.
-pub(crate) fn count_before(text: &[u8], byte: u8) -> usize
-    ensures { result ≡ position_or_len (λ c. c == byte) text.now }
-{
-    for (i, b) in text.iter().enumerate() {
-        if *b == byte {
-            return i;
-        }
-    }
-    text.len()
-}
-
-/// What stands before the first byte of this value, and what follows it.
-pub(crate) fn split_at_byte(text: &[u8], byte: u8) -> Option<(&[u8], &[u8])>
-    ensures { MatchOption result
-        (position_or_len (λ c. c == byte) text.now ≡ length text.now)
-        (λ x. (position_or_len (λ c. c == byte) text.now < length text.now)
-        × (x.0.now ≡ before_first (λ c. c == byte) text.now)
-        × (x.1.now ≡ after_first (λ c. c == byte) text.now)) }
-{
-    let end = count_before(text, byte);
-    if end < text.len() {
-        Some((&text[..end], &text[end + 1..]))
-    } else {
-        None
-    }
-}
-
 /// The first line of a text that is not empty, and what follows it.
 #[tactic(auto, using(crate::proofs::Cuts::line_taken, crate::proofs::Cuts::line_whole))]
 pub fn next_line(text: &[u8]) -> (&[u8], &[u8])
@@ -88,11 +63,12 @@ fn is_blank(byte: u8) -> bool
     byte == b' ' || byte == b'\t' || byte == b'\r'
 }
 
-/// A blank, or `#`, with which a comment begins. The bytes of names, numbers and signs are all above.
+/// A blank, or `#`, with which a comment begins. Most words end at a space, and the bytes of names,
+/// numbers and signs are all above `#`.
 fn ends_word(byte: u8) -> bool
     ensures { result ≡ stops_word byte }
 {
-    byte <= b'#' && (is_blank(byte) || byte == b'#')
+    byte == b' ' || (byte <= b'#' && (is_blank(byte) || byte == b'#'))
 }
 
 /// No word goes on into this text.
@@ -122,7 +98,7 @@ fn without_blanks(text: &[u8]) -> &[u8]
     ensures same_words { words_of result.now ≡ words_of text.now }
     ensures no_blank { starts_blank result.now ≡ false }
 {
-    let mut rest = text;
+    let mut rest = without_space(text);
     while let [first, more @ ..] = rest {
         if !is_blank(*first) {
             break;
@@ -146,34 +122,85 @@ fn count_word(text: &[u8]) -> usize
     at
 }
 
+/// How many bytes stand before the first blank or `#`, where these in front may stand in a name.
+#[inline(always)]
+fn count_past(text: &[u8], named: usize) -> usize
+    requires { named ≡ position_or_len (λ c. not (is_name_byte c)) text.now }
+    ensures value { result ≡ position_or_len stops_word text.now }
+    ensures past { named ≤ result }
+{
+    let (_, rest) = text.split_at(named);
+    if begins_stop(rest) {
+        named
+    } else {
+        named + count_word(rest)
+    }
+}
+
 /// The next word of a rest of a line, and what follows it.
+#[inline(always)]
 #[tactic(auto, using(crate::proofs::Cuts::words_none))]
-pub(crate) fn next_word(rest: &[u8]) -> Option<(&[u8], &[u8])>
-    ensures { MatchOption result (words_of rest.now ≡ []) (λ x. words_of rest.now ≡ x.0.now ∷ words_of x.1.now) }
+pub(crate) fn next_word(rest: &[u8]) -> Option<(Word<'_>, &[u8])>
+    ensures { MatchOption result (words_of rest.now ≡ []) (λ x. words_of rest.now ≡ x.0.bytes.now ∷ words_of x.1.now) }
 {
     let rest = without_blanks(rest);
-    let end = count_word(rest);
+    let named = count_name(rest);
+    let end = count_past(rest, named);
     if end == 0 {
-        None
-    } else {
-        Some(rest.split_at(end))
+        return None;
+    }
+    let (bytes, after) = rest.split_at(end);
+    Some((Word { bytes, named }, after))
+}
+
+/// A rest of a line has no more words.
+#[inline(always)]
+#[tactic(auto, using(crate::proofs::Ends::none_left, crate::proofs::Ends::some_left))]
+pub(crate) fn is_over(rest: &[u8]) -> bool
+    ensures { MatchBool result (words_of rest.now ≡ []) (0 < length (words_of rest.now)) }
+{
+    begins_stop(without_blanks(rest))
+}
+
+/// What follows the word `=`, where it comes first. Mostly it stands between two spaces.
+#[inline(always)]
+#[tactic(auto, using(crate::proofs::Equals::taken, crate::proofs::Equals::spaced, crate::proofs::Equals::other_byte, crate::proofs::Equals::longer_word))]
+pub(crate) fn after_equals(rest: &[u8]) -> Option<&[u8]>
+    ensures { MatchOption result (begins_equals (words_of rest.now) ≡ false) (λ x. words_of rest.now ≡ codes "=" ∷ words_of x.now) }
+{
+    if let [b' ', b'=', b' ', after @ ..] = rest {
+        return Some(after);
+    }
+    let rest = without_blanks(rest);
+    match after_byte(rest, b'=') {
+        Some(after) if begins_stop(after) => Some(after),
+        _ => None,
     }
 }
 
 /// The word of a rest that has one word.
-pub(crate) fn one_word(rest: &[u8]) -> Option<&[u8]>
-    ensures { MatchOption result (length (words_of rest.now) ≢ 1) (λ x. words_of rest.now ≡ x.now ∷ []) }
+#[inline(always)]
+pub(crate) fn one_word(rest: &[u8]) -> Option<Word<'_>>
+    ensures { MatchOption result (length (words_of rest.now) ≢ 1) (λ x. words_of rest.now ≡ x.bytes.now ∷ []) }
 {
     let (first, rest) = next_word(rest)?;
-    match next_word(rest) {
-        None => Some(first),
-        Some(_) => None,
-    }
+    if is_over(rest) { Some(first) } else { None }
+}
+
+/// The first and the last word of a rest that has three, of which the second is `=`.
+pub(crate) fn equation(rest: &[u8]) -> Option<(Word<'_>, Word<'_>)>
+    ensures { MatchOption result (is_equation (words_of rest.now) ≡ false) (λ x. words_of rest.now ≡ x.0.bytes.now ∷ (codes "=" ∷ (x.1.bytes.now ∷ []))) }
+{
+    let (left, rest) = next_word(rest)?;
+    let rest = after_equals(rest)?;
+    let right = one_word(rest)?;
+    Some((left, right))
 }
 
 /// The words of a rest that has two.
-pub(crate) fn two_words(rest: &[u8]) -> Option<(&[u8], &[u8])>
-    ensures { MatchOption result (length (words_of rest.now) ≢ 2) (λ x. words_of rest.now ≡ x.0.now ∷ (x.1.now ∷ [])) }
+#[inline(always)]
+pub(crate) fn two_words(rest: &[u8]) -> Option<(Word<'_>, Word<'_>)>
+    ensures { MatchOption result (length (words_of rest.now) ≢ 2) (λ x. words_of rest.now ≡ x.0.bytes.now ∷ (x.1.bytes.now ∷ [])) }
 {
     let (first, rest) = next_word(rest)?;
     let second = one_word(rest)?;
@@ -181,8 +208,8 @@ pub(crate) fn two_words(rest: &[u8]) -> Option<(&[u8], &[u8])>
 }
 
 /// The words of a rest that has three.
-pub(crate) fn three_words(rest: &[u8]) -> Option<(&[u8], &[u8], &[u8])>
-    ensures { MatchOption result (length (words_of rest.now) ≢ 3) (λ x. words_of rest.now ≡ x.0.now ∷ (x.1.now ∷ (x.2.now ∷ []))) }
+pub(crate) fn three_words(rest: &[u8]) -> Option<(Word<'_>, Word<'_>, Word<'_>)>
+    ensures { MatchOption result (length (words_of rest.now) ≢ 3) (λ x. words_of rest.now ≡ x.0.bytes.now ∷ (x.1.bytes.now ∷ (x.2.bytes.now ∷ []))) }
 {
     let (first, rest) = next_word(rest)?;
     let (second, third) = two_words(rest)?;

@@ -72,7 +72,7 @@ same_whole one other at long all front =
 
 -- no bit is set below the lowest, of eight
 pub lowest_of_eight : (n r : ℕ) → n < 2 ^ 64 → r ≡ min (trailing_zeros w64 n) 8 → (k : ℕ) → k < r → bit_at n k ≡ 1 → ⊥
-lowest_of_eight n r fits is k lt = (lowest_bit n (min (trailing_zeros w64 n) 16) fits refl).0 k (omega arith)
+lowest_of_eight n r fits is k lt = (lowest_bit 8 n r (omega arith) fits is).0 k lt
 
 -- as slices are compared
 pub eight_taken : (one other : List ℕ) (at : ℕ) → at + 8 ≤ length one

@@ -116,9 +116,9 @@ latest-other links one b d at is other v =
 latest-as : (links : List Link) (bound b d at to : ℕ) → IsLatest links bound b at → d ≡ b → to ≡ at → IsLatest links bound d to
 latest-as links bound b d at to v e f = rw e (rw f v)
 
-pub chained-more : (links : List Link) (latest : List ℕ) (one : Link) (b : ℕ) → b ≡ chain_of one.name.now → b < 512 → one.before ≡ get_or latest b 0
+pub chained-more : (links : List Link) (latest : List ℕ) (one : Link) (b : ℕ) → b ≡ chain_of one.name.now → b < 512 → one.chain ≡ b → one.before ≡ get_or latest b 0
     → chained_as links one.name.now ≡ None → AreChains links latest → AreChains (links ++ one ∷ []) (set latest b (length (links ++ one ∷ [])))
-chained-more links latest one b is low link none v = record {
+chained-more links latest one b is low own link none v = record {
   size = length-set latest b _ ∙ v.size;
   latest_is = λ d high. elim (eqb_tells d b) [
     | inl e ↦ rw e.1 (rw (get_or-set_same latest b (length (links ++ one ∷ [])) 0 (omega (arith, v.size))) (latest-one links one b is))
@@ -132,6 +132,17 @@ chained-more links latest one b is low link none v = record {
         latest-as (links ++ one ∷ []) i (chain_of (name_at links i)) _ (get_or links i nothing).before _ (latest-more links one i (chain_of (name_at links i)) (get_or links i nothing).before (omega arith) (v.linked i within))
         (ap (λ (k : Link). chain_of k.name.now) (get_or_append_left links (one ∷ []) nothing i within))
         (ap (λ (k : Link). k.before) (get_or_append_left links (one ∷ []) nothing i within))
+  ];
+  placed = λ i high. elim (eqb_tells i (length links)) [
+    | inl e ↦
+        let last = get_or_push links one nothing i (sym e.1) in
+        ap (λ (k : Link). k.chain) last ∙ own ∙ is ∙ sym (ap (λ (k : Link). chain_of k.name.now) last)
+    | inr e ↦
+        let n = e.1 in
+        let l = length_push links one in
+        let within : i < length links = omega (arith, l) in
+        let same = get_or_append_left links (one ∷ []) nothing i within in
+        ap (λ (k : Link). k.chain) same ∙ v.placed i within ∙ sym (ap (λ (k : Link). chain_of k.name.now) same)
   ];
   distinct = λ i j low high e. elim (eqb_tells j (length links)) [
     | inl f ↦

@@ -18,7 +18,7 @@ chain_of name = folding.finish (folding.write folding.initial name) % 512
 
 -- what stands past the last name
 abbrev pub nothing : Link
-nothing = record { name = record { ref_ptr = (0, 0); now = [] }; what = variants.Array 0; before = 0; depth = 0 }
+nothing = record { name = record { ref_ptr = (0, 0); now = [] }; what = variants.Array 0; chain = 0; before = 0; depth = 0 }
 
 -- the name of this number
 abbrev pub name_at : List Link → ℕ → List ℕ
@@ -34,9 +34,10 @@ pub record IsLatest (links : List Link) (bound chain at : ℕ) : Type 0 where
 abbrev pub IsLinked : List Link → Type 0
 IsLinked links = (i : ℕ) → i < length links → IsLatest links i (chain_of (name_at links i)) (slice_index_or links i nothing).before
 
--- and the latest names of the chains are these; no name is there twice
+-- and the latest names of the chains are these; each name has the number of its chain, and none is there twice
 pub record AreChains (links : List Link) (latest : List ℕ) : Type 0 where
   pub size : length latest ≡ 512
   pub latest_is : (chain : ℕ) → chain < 512 → IsLatest links (length links) chain (slice_index_or latest chain 0)
   pub linked : IsLinked links
+  pub placed : (i : ℕ) → i < length links → (slice_index_or links i nothing).chain ≡ chain_of (name_at links i)
   pub distinct : (i j : ℕ) → i < j → j < length links → name_at links i ≡ name_at links j → ⊥

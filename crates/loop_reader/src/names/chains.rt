@@ -16,6 +16,8 @@ use std::marker::Model;
 pub(crate) struct Link<'a> {
     name: &'a [u8],
     what: Declared,
+    /// The number of its chain.
+    chain: usize,
     /// How many names there were when the one before it came into its chain, and 0 where there is none.
     before: usize,
     /// How many names came into its chain before it.
@@ -49,7 +51,7 @@ impl<'a> Model for Chains<'a> {
 }
 
 /// The chain of a name.
-#[inline]
+#[inline(always)]
 #[tactic(auto, unfolding(crate::specs::inner::Chains::chain_of))]
 pub(crate) fn chain_of(name: &[u8]) -> usize
     ensures value { result ≡ chain_of name.now }
@@ -61,7 +63,7 @@ pub(crate) fn chain_of(name: &[u8]) -> usize
 }
 
 /// What a name stands for, by the names of its chain from the latest on.
-#[inline]
+#[inline(always)]
 fn find(links: &[Link<'_>], latest: usize, name: &[u8]) -> Option<Declared>
     requires links { IsLinked links.now }
     requires latest { IsLatest links.now (length links.now) (chain_of name.now) latest }
@@ -96,13 +98,13 @@ impl<'a> Chains<'a> {
         ensures { self.new ≡ [] }
     {
         for link in &self.links {
-            self.latest[chain_of(link.name)] = 0;
+            self.latest[link.chain] = 0;
         }
         self.links.clear();
     }
 
     /// What a name of this chain stands for.
-    #[inline]
+    #[inline(always)]
     pub(crate) fn get(&self, chain: usize, name: &[u8]) -> Option<Declared>
         requires { chain ≡ chain_of name.now }
         ensures { result ≡ chained_as self.now name.now }
@@ -138,6 +140,7 @@ impl<'a> Chains<'a> {
         self.links.push(Link {
             name,
             what,
+            chain,
             before,
             depth,
         })?;

@@ -1,6 +1,6 @@
 //! A table of names.
 
-ghost use Rattle.std.specs.Prelude.{◌≡◌, ℕ, List, if◌then◌else◌, IfOk, OnOk, None, Some, is_none};
+ghost use Rattle.std.specs.Prelude.{◌≡◌, ℕ, List, if◌then◌else◌, IfOk, OnOk, None, Some, is_none, is_some};
 ghost use Rattle.std.specs.BTreeMap.{get_by};
 ghost use Rattle.std.specs.Cmp.Lexicographic.{slice_cmp};
 ghost use Rattle.std.specs.Option.{option_or};
@@ -40,6 +40,14 @@ fn add_other<'a>(
             Ok(false)
         }
     }
+}
+
+/// A name is there. Mostly none is.
+#[inline(always)]
+fn is_there<'a>(others: &BTreeMap<&'a [u8], Declared>, name: &[u8]) -> bool
+    ensures { result ≡ is_some (get_by (λ k. slice_cmp nat_cmp name.now k.now) others.now) }
+{
+    !others.is_empty() && others.get(name).is_some()
 }
 
 impl<'a> Names<'a> {
@@ -85,7 +93,7 @@ impl<'a> Names<'a> {
         if !self.chains.has_room(chain) {
             return add_other(&mut self.others, name, what);
         }
-        if self.others.get(name).is_some() {
+        if is_there(&self.others, name) {
             return Ok(false);
         }
         self.chains.add(chain, name, what)?;

@@ -11,11 +11,11 @@ tells c k lt = c.feeds.ensures k lt ∙ ap (λ b. eqb b 10) (c.load.ensures.each
 
 pub returns-clause-before : goal.returns-clause-before
 returns-clause-before c k lt =
-    let low = lowest_bit c.feeds.result c.min.result c.feeds.type_inv c.min.ensures in
+    let low = lowest_bit 16 c.feeds.result c.min.result (omega arith) c.feeds.type_inv c.min.ensures in
     let few : k < 16 = omega (arith, c.min.ensures) in
     sym (tells c k few) ∙ false_from_ne_true (eqb (bit_at c.feeds.result k) 1) (λ one. low.0 k lt (eqb-true _ _ one))
 
 pub returns-clause-here : goal.returns-clause-here
 returns-clause-here c lt =
-    let low = lowest_bit c.feeds.result c.min.result c.feeds.type_inv c.min.ensures in
+    let low = lowest_bit 16 c.feeds.result c.min.result (omega arith) c.feeds.type_inv c.min.ensures in
     sym (tells c c.min.result lt) ∙ eq-eqb (bit_at c.feeds.result c.min.result) 1 (low.1 lt)

@@ -6,7 +6,7 @@ use Rattle.loop_lines.proofs.feeds.count_digits.Given as goal
 abbrev pub invariant-loop-at : goal.invariant-loop-at
 invariant-loop-at l = record {
   within : l.at ≤ length l.text;
-  few : length l.text < 16;
+  few : length l.text < 8;
   digits : (k : ℕ) → k < l.at → is_ascii_digit (get_or l.text k 0) ≡ true;
 }
 

@@ -6,4 +6,4 @@ use Rattle.loop_lines.proofs.feeds.feeds.Goals as goal
 
 pub returns : goal.returns
 returns c k l =
-    ap (λ m. eqb (bit_at m k) 1) (bitmask_splat w8 eqb c.args.bytes 16 10 c.fits-bytes.0 (omega arith)) ∙ bit_of_lanes (λ x. eqb x 10) c.args.bytes k c.fits-bytes.0 l
+    ap (λ m. eqb (bit_at m k) 1) (bitmask_splat w8 eqb c.args.bytes 16 10 c.fits-bytes.0 (omega arith)) ∙ bit_of_lanes (λ x. eqb x 10) c.args.bytes 16 k c.fits-bytes.0 l

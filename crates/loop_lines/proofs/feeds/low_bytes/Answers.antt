@@ -6,4 +6,4 @@ use Rattle.loop_lines.proofs.feeds.low_bytes.Goals as goal
 
 pub returns : goal.returns
 returns c k l =
-    ap (λ m. eqb (bit_at m k) 1) (bitmask_splat w8 leb c.args.bytes 16 35 c.fits-bytes.0 (omega arith)) ∙ bit_of_lanes (λ x. leb x 35) c.args.bytes k c.fits-bytes.0 l
+    ap (λ m. eqb (bit_at m k) 1) (bitmask_splat w8 leb c.args.bytes 16 35 c.fits-bytes.0 (omega arith)) ∙ bit_of_lanes (λ x. leb x 35) c.args.bytes 16 k c.fits-bytes.0 l

@@ -10,10 +10,11 @@ overflow_mul-value c =
     let step = short_step c.args.digits.now c.loop-digit.digit-index c.requires.digits c.requires.few c.loop-digit-test.true in
     omega (arith, ints, v, step.2, step.3)
 
-pub overflow_sub-digit : goal.overflow_sub-digit
-overflow_sub-digit c =
+pub overflow_sub-value : goal.overflow_sub-value
+overflow_sub-value c =
+    let v = c.loop-digit.invariant in
     let step = short_step c.args.digits.now c.loop-digit.digit-index c.requires.digits c.requires.few c.loop-digit-test.true in
-    omega (arith, step.0)
+    omega (arith, ints, v, step.0, step.1, step.2, step.3)
 
 pub overflow_add-value : goal.overflow_add-value
 overflow_add-value c =

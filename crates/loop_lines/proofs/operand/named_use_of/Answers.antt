@@ -1,7 +1,5 @@
-use Rattle.std.proofs.Common.{arith, not}
-use Rattle.std.proofs.lemmas.List.Sums.{prefix_len-le-length}
-use Rattle.loop_lines.proofs.NameBytes.{stands_in_none}
+use Rattle.loop_lines.proofs.Ends.{named_within}
 use Rattle.loop_lines.proofs.operand.named_use_of.Goals as goal
 
 pub split_at-requires : goal.split_at-requires
-split_at-requires c = omega (arith, prefix_len-le-length (λ x. not (stands_in_none x)) c.args.word.now)
+split_at-requires c = named_within c.args.word.bytes.now c.args.word.named c.args.word.counted

@@ -1,4 +1,4 @@
-use Rattle.std.proofs.Common.{rules, arith, ◌≡◌, ◌<◌, ◌++◌, ◌∷◌, [], length, get_or, ◌∙◌, ap, if◌then◌else◌, Some, None}
+use Rattle.std.proofs.Common.{rules, arith, ◌≡◌, ◌<◌, ◌++◌, ◌∷◌, [], length, get_or, ◌∙◌, ap, if◌then◌else◌, Some, None, refl}
 use Rattle.std.proofs.lemmas.List.{get_or_read}
 use Rattle.std.specs.Option.{option_or}
 use Rattle.machine_data.specs.Opcodes.{same_word}
@@ -27,12 +27,12 @@ invariant_of-self-2 c =
     let latest = c.self.inside.latest.items in
     let size = c.self.invariant.size in
     let low : c.args.chain < length latest = omega (arith, size, c.requires.chain, chain-low c.args.name.now) in
-    let link : Link = record { name = c.args.name; what = c.args.what; before = c.index-before.result.now; depth = c.if-before-eq0.depth } in
+    let link : Link = record { name = c.args.name; what = c.args.what; chain = c.args.chain; before = c.index-before.result.now; depth = c.if-before-eq0.depth } in
     let items : c.push.new.self.items ≡ links ++ link ∷ [] = c.in_ok-push.ensures.items in
     let n : c.len.result ≡ length c.push.new.self.items = search rules in
     let before : c.index-before.result.now ≡ get_or latest c.args.chain 0 = get_or_read latest c.args.chain _ low c.index-before.ensures 0 in
     let none = ap (λ ls. chained_as ls c.args.name.now) c.self.view_is ∙ c.requires.absent in
-    rw n (rw items (chained-more links latest link c.args.chain c.requires.chain (omega (arith, c.requires.chain, chain-low c.args.name.now)) before none c.self.invariant))
+    rw n (rw items (chained-more links latest link c.args.chain c.requires.chain (omega (arith, c.requires.chain, chain-low c.args.name.now)) refl before none c.self.invariant))
 
 pub returns : goal.returns
 returns c = λ q.

@@ -1,9 +1,0 @@
-use Rattle.std.proofs.Common.{◌==◌, arith, sym, eq-eqb}
-use Rattle.std.proofs.lemmas.List.Sums.{position_or_len_is}
-use Rattle.loop_lines.proofs.words.count_before.Goals as goal
-
-pub returns-then-b-byte : goal.returns-then-b-byte
-returns-then-b-byte c = sym (position_or_len_is (λ x. x == c.args.byte) c.args.text.now _ 0 (omega arith) c.loop-i.invariant (λ _. eq-eqb _ _ c.if-b-byte.true))
-
-pub returns : goal.returns
-returns c = sym (position_or_len_is (λ x. x == c.args.byte) c.args.text.now _ 0 (omega arith) (λ k h. c.loop-i.invariant k (omega arith)) (λ h. absurd (omega arith)))
