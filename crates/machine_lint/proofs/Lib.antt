@@ -6,8 +6,11 @@ pub mod First
 pub mod FirstRows
 pub mod FirstTree
 pub mod Had
+pub mod InOrder
 pub mod Keys
 pub mod Marks
+pub mod Standing
+pub mod Stepping
 pub mod Steps
 pub mod Told
 pub mod Turns

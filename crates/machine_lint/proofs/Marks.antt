@@ -144,7 +144,7 @@ first-before test from (suc count) =
     some-if (λ at. at < from + suc count) (test from) from (first_at test (suc from) count) (omega arith)
     (some-weaker (λ at. at < suc from + count) (λ at. at < from + suc count) (first_at test (suc from) count) (λ at h. omega (arith, h)) (first-before test (suc from) count))
 
-first-inside : (test : ℕ → Bool) (from n : ℕ) → IfSome (first_at test from (n - from)) (λ at. at < n)
+pub first-inside : (test : ℕ → Bool) (from n : ℕ) → IfSome (first_at test from (n - from)) (λ at. at < n)
 first-inside test from n = elim (cases_lt from n) [
   | inl before ↦ some-weaker (λ at. at < from + (n - from)) (λ at. at < n) (first_at test from (n - from)) (λ at h. omega (arith, h, before)) (first-before test from (n - from))
   | inr after ↦ let none : n - from ≡ 0 = omega (arith, after) in rw none tt

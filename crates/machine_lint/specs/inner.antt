@@ -1,3 +1,4 @@
 pub mod Ats
 pub mod Indexes
 pub mod Tables
+pub mod Sought

@@ -1,13 +1,15 @@
 //! Where the words of a text stand, found once for all of them.
 
 ghost use Rattle.std.specs.Prelude.{◌≡◌, ◌+◌, ◌++◌, ◌<◌, ◌≤◌, ◌^◌, [], ◌∷◌, ℕ, List, drop, false, if◌then◌else◌, length, not, nat_lt, option_map, take, true, IfOk, IfSome, OnOk};
-ghost use Rattle.std.specs.List.{before_first, find, list_all, position};
+ghost use Rattle.std.specs.List.{All, before_first, find, list_all, position};
 ghost use Rattle.std.specs.List.Sorted.{IsNonDecreasingBy};
 ghost use Rattle.machine_data.specs.Opcodes.{same_word};
 ghost use Rattle.machine_lint.specs.Words.{comment_after, inside_from, is_key_at, is_key_byte, is_word_at, key_from, table_from};
 ghost use Rattle.machine_lint.specs.inner.Indexes.{begins_word, is_bare, is_break, mark_at, marks_in};
+ghost use Rattle.machine_lint.specs.inner.Sought.{IsAnswer};
 
 use crate::place::{Place, START, place_at};
+use crate::quoted::answers::{Answer, Asked, answer_of, answers};
 use crate::search::{bare_at, bare_before, comments_on, find_key, is_key_byte, leads_from};
 use machine::OutOfMemory;
 use std::alloc::Global;
@@ -30,18 +32,22 @@ pub(crate) struct Indexed<'a> {
     keys: BTreeMap<&'a [u8], Vec<Mark>>,
     /// Where a bare word stands at all.
     words: BTreeMap<&'a [u8], Vec<Mark>>,
+    /// Where other words stand that have been sought, by their words and offsets.
+    answers: Vec<Answer<'a>>,
 }
 
 impl<'a> Model for Indexed<'a> {
     ghost use Rattle.std.specs.Prelude.{ℕ, List, length};
     ghost use Rattle.machine_lint.specs.Words.{is_key_at, is_word_at};
     ghost use Rattle.machine_lint.specs.inner.Indexes.{AreMarks};
+    ghost use Rattle.machine_lint.specs.inner.Sought.{IsAnswer};
+    ghost use Rattle.std.specs.List.{All};
 
     ghost Value = { List ℕ };
 
     ghost view = { λ i. i.text.now };
 
-    ghost invariant = { λ i. AreMarks i.text.now (is_key_at i.text.now) (length i.text.now) i.keys × AreMarks i.text.now (is_word_at i.text.now) (length i.text.now) i.words };
+    ghost invariant = { λ i. AreMarks i.text.now (is_key_at i.text.now) (length i.text.now) i.keys × AreMarks i.text.now (is_word_at i.text.now) (length i.text.now) i.words × All (IsAnswer i.text.now) i.answers.items };
 }
 
 /// Whether all of these bytes may stand in a key without quotes.
@@ -52,7 +58,7 @@ fn are_key_bytes(word: &[u8]) -> bool
 }
 
 /// Whether a word is bare: one or more bytes that may stand in a key without quotes.
-fn is_bare(word: &[u8]) -> bool
+pub(crate) fn is_bare(word: &[u8]) -> bool
     ensures { result ≡ is_bare word.now }
 {
     !word.is_empty() && are_key_bytes(word)
@@ -169,6 +175,27 @@ fn mark_at(text: &[u8], at: usize) -> Mark
     }
 }
 
+/// The mark of the first place from an offset on at which a word stands as a key does, or at all.
+fn mark_from(text: &[u8], word: &str, from: usize) -> Option<Mark>
+    requires short { length text.now < 2 ^ 32 }
+    ensures { result ≡ option_map (mark_at text.now) (key_from text.now word.now from) }
+{
+    let at = find_key(text, word, from)?;
+    Some(mark_at(text, at))
+}
+
+/// The same, which is told at once where the word has been sought from that offset on.
+fn find_word(text: &[u8], answers: &[Answer<'_>], word: &str, from: usize) -> Option<Mark>
+    requires short { length text.now < 2 ^ 32 }
+    requires right { All (IsAnswer text.now) answers.now }
+    ensures { result ≡ option_map (mark_at text.now) (key_from text.now word.now from) }
+{
+    match answer_of(answers, word.as_bytes(), from) {
+        Some(mark) => mark,
+        None => mark_from(text, word, from),
+    }
+}
+
 impl<'a> Indexed<'a> {
     /// The text with its marks. Each byte is read some few times.
     pub(crate) fn new(alloc: Global, text: &'a [u8]) -> Result<Indexed<'a>, OutOfMemory>
@@ -191,7 +218,26 @@ impl<'a> Indexed<'a> {
             begun = comments_on(begun, text[at]);
             place = place.after(text[at]);
         }
-        Ok(Indexed { text, keys, words })
+        Ok(Indexed {
+            text,
+            keys,
+            words,
+            answers: Vec::new(alloc),
+        })
+    }
+
+    /// Finds where words stand from offsets on, all in one walk, so that each is told at once. They are put in their order.
+    pub(crate) fn seek(
+        &mut self,
+        alloc: Global,
+        asked: &mut Vec<Asked<'a>>,
+    ) -> Result<(), OutOfMemory>
+        requires short { length self.now < 2 ^ 32 }
+        ensures { OnOk result (self.new ≡ self.old) }
+    {
+        let answers = answers(alloc, self.text, asked)?;
+        self.answers = answers;
+        Ok(())
     }
 
     /// The first place from an offset on at which a word stands as a key does, or at all.
@@ -202,8 +248,7 @@ impl<'a> Indexed<'a> {
     {
         let bytes = word.as_bytes();
         if !is_bare(bytes) {
-            let at = find_key(self.text, word, from)?;
-            return Some(mark_at(self.text, at));
+            return find_word(self.text, self.answers.as_slice(), word, from);
         }
         match first_of(&self.keys, bytes, from) {
             Some(mark) => Some(mark),

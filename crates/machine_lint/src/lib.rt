@@ -7,6 +7,7 @@ mod index;
 mod judge;
 mod lint;
 mod place;
+mod quoted;
 mod rows;
 mod search;
 mod spots;

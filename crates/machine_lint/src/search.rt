@@ -49,14 +49,14 @@ fn is_word_at(text: &[u8], word: &str, at: usize) -> bool
 }
 
 /// Whether a byte is a blank.
-fn is_blank(byte: u8) -> bool
+pub(crate) fn is_blank(byte: u8) -> bool
     ensures { result ≡ is_blank byte }
 {
     byte == b' ' || byte == b'\t'
 }
 
 /// Whether a byte stands after a key.
-fn is_mark(byte: u8) -> bool
+pub(crate) fn is_mark(byte: u8) -> bool
     ensures { result ≡ is_mark byte }
 {
     byte == b'=' || byte == b'.' || byte == b']'

@@ -16,6 +16,7 @@ use crate::judge::{
     is_unit_of, judge_value, same_row, same_text, tell, tell_key, tell_repeat, text_of,
 };
 use crate::place::MachineLint;
+use crate::quoted::seek::seek_keys;
 use crate::rows::row_words;
 use crate::spots::{At, key};
 use machine::limits::{MAX_ALTERNATIVES, MAX_ROWS, MAX_UNITS};
@@ -456,7 +457,7 @@ fn judge_tables(
 }
 
 /// The table that a value is, if it is one.
-fn table_in(value: Option<&Value>) -> Option<&Table>
+pub(crate) fn table_in(value: Option<&Value>) -> Option<&Table>
     ensures { table_or (option_map (λ t. table_view t.now) result) ≡ keys_in (option_map (λ v. view v.now) value.entry) }
 {
     match value {
@@ -475,7 +476,8 @@ pub(crate) fn judge_tree(
     requires short { length text.now < 2 ^ 32 }
     ensures { IfOk result (λ lints. lints.items ≡ tree_told text.now (table_view tree.now)) }
 {
-    let text = Indexed::new(alloc, text)?;
+    let mut text = Indexed::new(alloc, text)?;
+    seek_keys(alloc, &mut text, tree)?;
     let mut lints = Vec::new(alloc);
     let units = look_up(tree, "units");
     let registers = look_up(tree, "registers");

@@ -1,4 +1,4 @@
-use Rattle.std.proofs.Common.{◌≡◌, ◌<◌, ℕ, List, length, true, Option, Some, None, IfSome, subst, refl, sym, ap, ◌∙◌}
+use Rattle.std.proofs.Common.{◌≡◌, ◌<◌, ℕ, List, length, true, Option, Some, None, IfSome, subst, refl, sym, ◌∙◌}
 use Rattle.std.specs.Option.{option_map}
 use Rattle.machine_lint.specs.Words.{first_key, first_word, is_key_at, is_word_at, key_from}
 use Rattle.machine_lint.specs.inner.Indexes.{is_bare, mark_at}
@@ -14,11 +14,11 @@ inside text word from r is = subst (λ o. IfSome o (λ (mark : Mark). mark.at < 
 moved : (text own word bytes : List ℕ) (from : ℕ) → text ≡ own → bytes ≡ word → option_map (mark_at text) (key_from text bytes from) ≡ option_map (mark_at own) (key_from own word from)
 moved text own word bytes from is spelled = rw (is, spelled) refl
 
-pub returns-then-not-is_bare-clause-inside : goal.returns-then-not-is_bare-clause-inside
-returns-then-not-is_bare-clause-inside c =
+pub returns-then-not-is_bare : goal.returns-then-not-is_bare
+returns-then-not-is_bare c =
     let text : List ℕ = c.self.inside.text.now in
-    let is : Some c.mark_at.result ≡ option_map (mark_at text) (key_from text c.args.word.now c.args.from) = ap Some c.mark_at.ensures ∙ ap (option_map (mark_at text)) c.in_ok-at.ensures.is in
-    rw c.self.view_is at (inside text c.args.word.now c.args.from (Some c.mark_at.result) is)
+    let is : c.find_word.result ≡ option_map (mark_at c.args.self.now) (key_from c.args.self.now c.args.word.now c.args.from) = rw c.self.view_is at c.find_word.ensures in
+    record { is = is; inside = inside c.args.self.now c.args.word.now c.args.from c.find_word.result is }
 
 pub returns-in-Some : goal.returns-in-Some
 returns-in-Some c =
