@@ -12,28 +12,12 @@ use Rattle.candidates.specs.Listings.{ListingData}
 use Rattle.file_faults.specs.Answers.{AnswersIn, AnswersLoops, AnswersOn}
 use Rattle.file_faults.specs.declared.fault.FileFault.{FileFault}
 use Rattle.file_faults.specs.declared.fault.FileFault.TheVariants.{Machine, Loops, NoTable, Memory}
-use Rattle.file_faults.proofs.Answering.{on_err, on_more, on_ok}
+use Rattle.file_faults.proofs.Answering.{on_ok}
 use Rattle.one_thread.specs.Files.{ListsProblems, PreparesAndLists}
 use Rattle.printouts.proofs.Told.{own_ceiling}
 
 abbrev Lacking : Type 0
 Lacking = Option (List ℕ × Opcode)
-
-module _ {A B : Type 0} (F : List LoopData → A → Type 0) (G : List LoopData → B → Type 0) (lacking : List LoopData → Lacking) where
-  -- what follows from what is right
-  pub right_more : (loops : Result (List LoopData) LoopFault) (x : A) (y : B) → ((xs : List LoopData) → F xs x → G xs y) → AnswersLoops F lacking loops (Ok x) → AnswersLoops G lacking loops (Ok y)
-  right_more (Err e) x y more a = cc
-  right_more (Ok xs) x y more a = on_more (F xs) (G xs) (lacking xs) x y (more xs) a
-
-  -- a fault stays one
-  pub fault_more : (loops : Result (List LoopData) LoopFault) (fault : FileFault) → AnswersLoops F lacking loops (Err fault) → AnswersLoops G lacking loops (Err fault)
-  fault_more loops Memory a = tt
-  fault_more (Err e) (Machine f) a = cc
-  fault_more (Err e) (Loops f) a = cc
-  fault_more (Err e) (NoTable n o) a = cc
-  fault_more (Ok xs) (Machine f) a = on_err (F xs) (G xs) (lacking xs) (Machine f) a
-  fault_more (Ok xs) (Loops f) a = on_err (F xs) (G xs) (lacking xs) (Loops f) a
-  fault_more (Ok xs) (NoTable n o) a = on_err (F xs) (G xs) (lacking xs) (NoTable n o) a
 
 module _ {A : Type 0} (F : List LoopData → A → Type 0) (lacking : List LoopData → Lacking) where
   -- answers for loops, and for a text that means them

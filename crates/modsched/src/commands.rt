@@ -33,12 +33,13 @@ use printouts::{Printout, bounds_text, dot_text, edges_text};
 use searches::{json_text, run_text, schedule_text};
 use settings::Settings;
 use side_by_side::{
-    explain_document_on, explain_page_on, explain_text_on, plain_text_on, scheduled_text_on,
-    vary_document_on, vary_text_on, vary_total_on,
+    document_text_of, explain_document_on, explain_page_on, explain_text_on, plain_text_on,
+    run_text_of, schedule_text_of, scheduled_text_on, vary_document_on, vary_text_on,
+    vary_total_on,
 };
 use std::alloc::Global;
 use std::thread::Threads;
-use workers::{OpenGate, pipeline_of, pipeline_on, read_by_workers};
+use workers::{OpenGate, pipeline_on, read_by_workers};
 
 /// What a command writes for the bytes of its texts, each of which is read once, or the status of a refusal. A command that reads
 /// one text ignores the first bytes.
@@ -154,7 +155,7 @@ fn text_of<R: Threads + Sync>(
     }
 }
 
-/// What is written of a search for kernels of all loops of a text. Where the listing is wanted, workers take a large text in pieces.
+/// What is written of a search for kernels of all loops of a text. Where the listing or its runs are wanted, workers take a large text in pieces.
 fn search_of<R: Threads + Sync>(
     rt: &R,
     alloc: Global,
@@ -166,18 +167,9 @@ fn search_of<R: Threads + Sync>(
     ensures { AnswersIn (IsSearchText settings.now.ratio settings.now.ceiling search.now machine.now) machine.now (loops_in text.now) result }
 {
     match search {
-        Search::Schedule => {
-            let found = pipeline_of(rt, alloc, machine, text, settings, &OpenGate);
-            schedule_text(rt, alloc, found, settings.workers())
-        }
-        Search::Json => {
-            let found = pipeline_of(rt, alloc, machine, text, settings, &OpenGate);
-            json_text(alloc, found)
-        }
-        Search::Run(trip) => {
-            let found = pipeline_of(rt, alloc, machine, text, settings, &OpenGate);
-            run_text(rt, alloc, found, *trip, settings.workers())
-        }
+        Search::Schedule => schedule_text_of(rt, alloc, machine, text, settings),
+        Search::Json => document_text_of(rt, alloc, machine, text, settings),
+        Search::Run(trip) => run_text_of(rt, alloc, machine, text, settings, *trip),
         _ => {
             let loops = read_by_workers(rt, alloc, text, settings.workers())?;
             search_text(rt, alloc, settings, search, machine, loops)

@@ -9,7 +9,7 @@ pub use commands::alone::{json_alone, run_alone, schedule_alone};
 pub use commands::bounds::bounds_text;
 pub use commands::explaining::{explain_document, explain_objects, explain_page, explain_text};
 pub use commands::graphs::{dot_text, edges_text};
-pub use commands::kernel_runs::{push_choice, push_counts, run_printout};
+pub use commands::kernel_runs::{push_choice, push_counts, push_runs, run_printout};
 pub use commands::listings::{are_met, document_printout, listing_printout};
 pub use commands::plain::{plain_text, push_plain};
 pub use laws::kernels_tell_plain_lines;

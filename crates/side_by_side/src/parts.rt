@@ -3,3 +3,4 @@
 pub(crate) mod jobs;
 pub(crate) mod joined;
 pub(crate) mod part;
+pub(crate) mod told;

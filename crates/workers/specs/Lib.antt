@@ -14,4 +14,5 @@ pub use Rattle.reports.specs.declared.entry.Found
 pub use Rattle.board_workers.specs.Settled
 pub use Rattle.board_workers.specs.Worked
 pub mod Apart
+pub mod Told
 pub mod inner

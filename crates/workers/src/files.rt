@@ -9,7 +9,6 @@ ghost use Rattle.candidates.specs.Choices.{IsChoice};
 ghost use Rattle.candidates.specs.Promises.{IsRight};
 ghost use Rattle.one_thread.specs.Files.{AnswersFile, AnswersIn, AnswersOn, HaveCeiling, ListsFile, ListsProblems, PreparesAndLists};
 
-use crate::pieces::pipeline_apart;
 use crate::preparing::prepare_by_workers;
 use crate::reading::apart::read_by_workers;
 use board_workers::{Gate, run_workers};
@@ -64,8 +63,7 @@ pub fn pipeline_file<R: Threads + Sync, G: Gate + Sync>(
     }
 }
 
-/// What a text of loops gives on a machine: what [`pipeline`] tells of it. Of a large text each worker takes pieces all the way from reading to kernels; else
-/// the workers read, prepare and try intervals in turn, and the gate is theirs.
+/// What a text of loops gives on a machine: what [`pipeline`] tells of it.
 ///
 /// # Errors
 /// A fault of the text, then the first loop with an opcode that the machine has no table for; and [`FileFault::Memory`], where the
@@ -80,9 +78,6 @@ pub fn pipeline_of<R: Threads + Sync, G: Gate + Sync>(
 ) -> Result<(Vec<Prepared>, Listing), FileFault>
     ensures exact { AnswersIn (PreparesAndLists settings.now.ratio settings.now.ceiling machine.now) machine.now (loops_in loops.now) result }
 {
-    if let Some(both) = pipeline_apart(rt, alloc, machine, loops, settings) {
-        return Ok(both);
-    }
     let loops = read_by_workers(rt, alloc, loops, settings.workers())?;
     pipeline_on(rt, alloc, machine, loops, settings, gate)
 }

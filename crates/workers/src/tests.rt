@@ -1,16 +1,16 @@
 //! Tests of texts that workers read, and take in pieces to kernels, and of how these are cut.
 
 use crate::files::pipeline_of;
-use crate::pieces::pipeline_apart;
+use crate::pieces::{Told, tell_text};
 use crate::reading::apart::{jobs_of, read_apart, read_by_workers};
 use crate::reading::cutting::{piece_count, pieces_of};
 use board_workers::OpenGate;
-use candidates::{Listing, Settings, listing_text};
+use candidates::{Listing, Settings, listing_text, write_row};
 use file_faults::FileFault;
 use ims::Prepared;
 use loop_data::Loop;
 use loop_reader::{LoopFault, LoopFaultKind, read_loops};
-use machine::read_machine;
+use machine::{Machine, read_machine};
 use machine_data::OutOfMemory;
 use std::alloc::Global;
 use std::fmt::Write;
@@ -117,6 +117,56 @@ fn listed(
     }
 }
 
+/// Whether workers tell of a text in parts. Where they do, these are the rows of its listing, in order.
+fn told_in_parts<R: Threads + Abort + Sync>(
+    rt: &R,
+    alloc: Global,
+    machine: &Machine,
+    text: &[u8],
+    settings: &Settings,
+    wanted: &str,
+) -> Result<bool, Fail> {
+    let told = tell_text(
+        rt,
+        alloc,
+        machine,
+        text,
+        settings,
+        &|prepared: &[Prepared], listing: &Listing| -> Result<String, OutOfMemory> {
+            rows_text(alloc, prepared.len(), listing)
+        },
+    );
+    let parts = match told {
+        Ok(Told::Apart(parts)) => parts,
+        Ok(Told::Whole(_, listing)) => {
+            assert_eq!(rt; listing_text(alloc, &listing)?.as_str(), wanted);
+            return Ok(false);
+        }
+        Err(fault) => {
+            assert_eq!(rt; format!(in alloc; "{fault}")?.as_str(), wanted);
+            return Ok(false);
+        }
+    };
+    let mut rows = String::new(alloc);
+    for part in &parts {
+        rows.push_str(part.as_str())?;
+    }
+    assert!(rt; !rows.is_empty() && wanted.starts_with(rows.as_str()));
+    Ok(true)
+}
+
+/// The text of the rows of a listing, which has one for each loop.
+fn rows_text(alloc: Global, loops: usize, listing: &Listing) -> Result<String, OutOfMemory> {
+    let mut text = String::new(alloc);
+    for row in listing.rows() {
+        write_row(&mut text, listing.ceiling(), row)?;
+    }
+    if loops != listing.rows().len() {
+        text.clear();
+    }
+    Ok(text)
+}
+
 /// Whether workers take a text in pieces. In any case nothing else comes out than by the calling thread alone.
 fn is_taken_apart<R: Threads + Abort + Sync>(
     rt: &R,
@@ -134,7 +184,7 @@ fn is_taken_apart<R: Threads + Abort + Sync>(
     let settings = Settings::new(6, 3, workers, 1)?;
     let came = pipeline_of(rt, alloc, &machine, text, &settings, &OpenGate);
     assert_eq!(rt; listed(alloc, came)?, wanted);
-    Ok(pipeline_apart(rt, alloc, &machine, text, &settings).is_some())
+    told_in_parts(rt, alloc, &machine, text, &settings, wanted.as_str())
 }
 
 #[test]

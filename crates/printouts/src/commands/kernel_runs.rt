@@ -2,7 +2,6 @@
 
 ghost use Rattle.std.specs.Prelude.{◌≡◌, ◌≤◌, ◌++◌, IfOk, OnOk, map};
 ghost use Rattle.machine_data.specs.declared.limits.TheConstants.{MAX_CEILING};
-ghost use Rattle.std.specs.List.{AllZip, flat_map, zip};
 ghost use Rattle.ims.specs.Problems.{ProblemData};
 ghost use Rattle.candidates.specs.declared.listings.Row as row;
 ghost use Rattle.candidates.specs.Choices.{IsChoice};
@@ -39,21 +38,24 @@ pub fn run_printout(
     ensures met { IfOk result (λ w. w.all_met ≡ are_met listing.now.rows) }
 {
     let mut text = Vec::new(alloc);
-    push_rows(alloc, &mut text, prepared, listing, trip)?;
+    push_runs(alloc, &mut text, prepared, listing, trip)?;
     push_counts(alloc, &mut text, listing.rows())?;
     Ok(Printout::new(text, are_met(listing.rows())))
 }
 
-/// Appends what is told of each loop, in order.
-fn push_rows(
+/// Appends what `run` writes of prepared loops with their listing, but for the last line.
+///
+/// # Errors
+/// Memory was refused. The text is left with a part of that.
+pub fn push_runs(
     alloc: Global,
     text: &mut Vec<u8>,
     prepared: &[Prepared],
     listing: &Listing,
     trip: Trip,
 ) -> Result<(), OutOfMemory>
-    requires { AllZip (λ (p : ProblemData) (r : row.Row). IsRunnable p.loop r.choice) prepared.now listing.now.rows }
-    ensures { OnOk result (text.new.items ≡ text.old.items ++ flat_map (λ (pair : ProblemData × row.Row). choice_lines trip listing.now.ceiling pair.0.loop pair.1 pair.1.choice) (zip prepared.now listing.now.rows)) }
+    requires { ListsProblems listing.now.ceiling prepared.now listing.now }
+    ensures { OnOk result (text.new.items ≡ text.old.items ++ told_lines trip listing.now.ceiling (map (λ (p : ProblemData). p.loop) prepared.now) listing.now.rows) }
 {
     let rows = listing.rows();
     for index in 0..rows.len() {

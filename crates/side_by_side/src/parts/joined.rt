@@ -4,11 +4,11 @@ ghost use Rattle.std.specs.Prelude.{◌≡◌, ◌++◌, IfOk, OnOk};
 ghost use Rattle.std.specs.List.{flat_map};
 ghost use Rattle.side_by_side.specs.inner.Parts.{text_of};
 
-use crate::parts::part::Part;
+use crate::parts::part::{HasText, Part};
 use machine::OutOfMemory;
 use std::alloc::Global;
 
-/// Room for what follows the parts, in bytes: the last line of a text.
+/// Room for what stands before and after the parts, in bytes: the first and the last line of a text.
 const LAST: usize = 128;
 
 /// The texts of parts, one after another. Each part is given back as soon as it is joined, so that none is held twice
@@ -25,22 +25,22 @@ pub(crate) fn joined(alloc: Global, parts: Vec<Part>) -> Result<Vec<u8>, OutOfMe
     Ok(text)
 }
 
-/// How many bytes the texts of parts have, and the last line.
-pub(crate) fn room_for(parts: &[Part]) -> usize {
+/// How many bytes the texts of parts have, and what stands before and after them.
+pub(crate) fn room_for<P: HasText>(parts: &[P]) -> usize {
     let mut room = LAST;
     for part in parts {
-        room = room.saturating_add(part.text.len());
+        room = room.saturating_add(part.text().len());
     }
     room
 }
 
 /// Appends the texts of parts, one after another.
-pub(crate) fn append(text: &mut Vec<u8>, parts: Vec<Part>) -> Result<(), OutOfMemory>
-    ensures { OnOk result (text.new.items ≡ text.old.items ++ flat_map text_of parts.items) }
+pub(crate) fn append<P: HasText>(text: &mut Vec<u8>, parts: Vec<P>) -> Result<(), OutOfMemory>
+    ensures { OnOk result (text.new.items ≡ text.old.items ++ flat_map P.HasText.bytes parts.items) }
 {
     let mut parts = parts.into_iter();
     while let Some(part) = parts.next() {
-        if let Err(fault) = text.extend_from_slice(part.text.as_slice()) {
+        if let Err(fault) = text.extend_from_slice(part.text()) {
             return Err(fault);
         }
     }

@@ -1,43 +1,49 @@
 -- What workers make of the pieces of a text.
-use Rattle.std.specs.Prelude.{◌≡◌, ℕ, List, [], ◌∷◌, ◌++◌, Option, Some, None, Ok, Vec}
-use Rattle.std.specs.Global.{Global}
-use Rattle.std.specs.List.{AllZip}
+use Rattle.std.specs.Prelude.{◌≡◌, ℕ, List, Option, Some, None, Ok, map}
+use Rattle.std.specs.List.{flat_map}
 use Rattle.machine.specs.Machines.{MachineData}
 use Rattle.loops.specs.Loops.{LoopData}
 use Rattle.loops.specs.Meaning.{loops_in}
 use Rattle.graph.specs.Units.{first_lacking}
 use Rattle.ims.specs.Problems.{ProblemData}
-use Rattle.candidates.specs.Choices.{IsChoice}
-use Rattle.candidates.specs.Listings.{ListingData}
 use Rattle.candidates.specs.declared.choices.Choice.{Choice}
-use Rattle.one_thread.specs.Files.{ArePrepared, PreparesAndLists}
+use Rattle.one_thread.specs.Files.{ArePrepared}
+use Rattle.workers.specs.Told.{AreToldApart, IsPart, Teller}
+use Rattle.workers.specs.declared.pieces.Piece.{Piece}
 
--- these are the loops of a text, each prepared, with the choice of each
-pub record Gives (machine : MachineData) (ratio ceiling : ℕ) (text : List ℕ) (problems : List ProblemData) (choices : List Choice) : Type 0 where
+abbrev pub names_in : List ProblemData → List (List ℕ)
+names_in problems = map (λ (p : ProblemData). p.loop.name) problems
+
+-- the names of prepared loops, and what a call gave for these and their listing
+pub record IsPieceOf {T F : Type 0} (g : Teller T F) (tell : F) (ceiling : ℕ) (problems : List ProblemData) (piece : Piece T) : Type 0 where
+  pub choices : List Choice
+  pub names : piece.names.items ≡ names_in problems
+  pub part : IsPart g tell ceiling (problems, choices) piece.part
+
+-- .. of the loops of a text
+pub record Tells {T F : Type 0} (g : Teller T F) (tell : F) (machine : MachineData) (ratio ceiling : ℕ) (text : List ℕ) (piece : Piece T) : Type 0 where
   pub loops : List LoopData
   pub means : loops_in text ≡ Ok loops
   pub lacking : first_lacking machine loops ≡ None
+  pub problems : List ProblemData
   pub prepared : ArePrepared machine ratio ceiling loops problems
-  pub chosen : AllZip IsChoice problems choices
-
-abbrev pub Made : Type 0
-Made = Option (Vec ProblemData Global × Vec Choice Global)
+  pub is : IsPieceOf g tell ceiling problems piece
 
 -- .. where something was made of the text
-abbrev pub IsMadeOf : MachineData → ℕ → ℕ → List ℕ → Made → Type 0
-IsMadeOf machine ratio ceiling text None = Unit {0}
-IsMadeOf machine ratio ceiling text (Some both) = Gives machine ratio ceiling text both.0.items both.1.items
+abbrev pub IsMadeOf : {T F : Type 0} → Teller T F → F → MachineData → ℕ → ℕ → List ℕ → Option (Piece T) → Type 0
+IsMadeOf g tell machine ratio ceiling text None = Unit {0}
+IsMadeOf g tell machine ratio ceiling text (Some piece) = Tells g tell machine ratio ceiling text piece
 
--- something was made of every piece, and all of it one after another is this
-abbrev pub AreTogether : List Made → List ProblemData → List Choice → Type 0
-AreTogether [] problems choices = (problems ≡ []) × (choices ≡ [])
-AreTogether (None ∷ made) problems choices = ⊥
-AreTogether (Some both ∷ made) problems choices =
-    (ps : List ProblemData) × (cs : List Choice) × (problems ≡ both.0.items ++ ps) × (choices ≡ both.1.items ++ cs) × AreTogether made ps cs
+-- something was made of every piece, and these are all names and all parts, one after another
+pub record AreTogether {T : Type 0} (made : List (Option (Piece T))) (names : List (List ℕ)) (parts : List T) : Type 0 where
+  pub tolds : List (Piece T)
+  pub all : made ≡ map (λ (t : Piece T). Some t) tolds
+  pub named : names ≡ flat_map (λ (t : Piece T). t.names.items) tolds
+  pub told : parts ≡ map (λ (t : Piece T). t.part) tolds
 
--- the loops of a text, each prepared, and the listing of one thread
-pub record GivesListing (machine : MachineData) (ratio ceiling : ℕ) (text : List ℕ) (both : Vec ProblemData Global × ListingData) : Type 0 where
+-- the text means loops that are told in parts
+pub record ToldOfText {T F : Type 0} (g : Teller T F) (tell : F) (machine : MachineData) (ratio ceiling : ℕ) (text : List ℕ) (parts : List T) : Type 0 where
   pub loops : List LoopData
   pub means : loops_in text ≡ Ok loops
   pub lacking : first_lacking machine loops ≡ None
-  pub listed : PreparesAndLists ratio ceiling machine loops both
+  pub apart : AreToldApart g tell machine ratio ceiling loops parts

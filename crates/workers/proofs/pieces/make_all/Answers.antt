@@ -7,5 +7,5 @@ use Rattle.workers.proofs.pieces.make_all.Goals as goal
 pub returns : goal.returns
 returns g c =
     let made = c.in_ok-made.ensures in
-    all_right (λ (piece : Bor (List ℕ)). IsMadeOf c.args.machine.now c.args.settings.now.ratio c.args.settings.now.ceiling piece.now) c.args.pieces.now c.in_ok-made.made.items (made.each ∙ c.requires.each)
+    all_right (λ (piece : Bor (List ℕ)). IsMadeOf g.F.Fn c.args.tell.now c.args.machine.now c.args.settings.now.ratio c.args.settings.now.ceiling piece.now) c.args.pieces.now c.in_ok-made.made.items (made.each ∙ c.requires.each)
     (λ k piece part h. let told = (made.made k part (omega (arith, c.requires.each, h))).met in search (rules, of_calls, told))

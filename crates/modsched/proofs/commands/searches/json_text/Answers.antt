@@ -4,7 +4,7 @@ use Rattle.file_faults.specs.Answers.{AnswersIn}
 use Rattle.one_thread.specs.Files.{PreparesAndLists}
 use Rattle.printouts.specs.Schedule.{IsListingDocument}
 use Rattle.printouts.proofs.Told.{told_document}
-use Rattle.modsched.proofs.Searched.{right_more}
+use Rattle.side_by_side.proofs.Answered.{right_more}
 use Rattle.modsched.proofs.commands.searches.json_text.Goals as goal
 
 pub returns : goal.returns

@@ -5,7 +5,7 @@ use Rattle.file_faults.specs.Answers.{AnswersIn}
 use Rattle.one_thread.specs.Files.{PreparesAndLists}
 use Rattle.printouts.specs.Run.{IsRunText, told_lines}
 use Rattle.printouts.proofs.Told.{loops_of, told_run}
-use Rattle.modsched.proofs.Searched.{right_more}
+use Rattle.side_by_side.proofs.Answered.{right_more}
 use Rattle.modsched.proofs.commands.searches.run_text.Goals as goal
 
 pub returns : goal.returns

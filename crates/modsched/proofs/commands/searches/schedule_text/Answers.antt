@@ -4,7 +4,7 @@ use Rattle.file_faults.specs.Answers.{AnswersIn}
 use Rattle.one_thread.specs.Files.{PreparesAndLists}
 use Rattle.printouts.specs.Schedule.{IsListingText}
 use Rattle.printouts.proofs.Told.{told_listing}
-use Rattle.modsched.proofs.Searched.{right_more}
+use Rattle.side_by_side.proofs.Answered.{right_more}
 use Rattle.modsched.proofs.commands.searches.schedule_text.Goals as goal
 
 pub returns : goal.returns

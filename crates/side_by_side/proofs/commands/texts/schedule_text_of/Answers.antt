@@ -1,0 +1,33 @@
+use Rattle.std.proofs.Common.{of_calls, rules}
+use Rattle.loops.specs.Meaning.{loops_in}
+use Rattle.printouts.specs.Schedule.{IsListingText}
+use Rattle.printouts.proofs.Told.{told_listing}
+use Rattle.side_by_side.proofs.Texts.{JoinsRows, few_told, schedule_is, shown_rows, written_apart, written_whole}
+use Rattle.side_by_side.proofs.commands.texts.schedule_text_of.Goals as goal
+
+pub listing_together-requires : goal.listing_together-requires
+listing_together-requires g c =
+    few_told _ _ shown_rows JoinsRows c.args.machine.now c.args.settings.now.ratio c.args.settings.now.ceiling (loops_in c.args.text.now) c.in_ok-told.told c.in-Apart.parts c.in_ok-told.ensures.exact c.in-Apart.is
+    (λ problems listing part says. let told = says.met in (search (rules, of_calls, told), search (rules, of_calls, told)))
+
+pub returns-in-Apart : goal.returns-in-Apart
+returns-in-Apart g c =
+    let m = c.args.machine.now in
+    let r = c.args.settings.now.ratio in
+    let k = c.args.settings.now.ceiling in
+    written_apart _ _ shown_rows JoinsRows m r k (IsListingText r k m) (λ ls groups parts written prepared h joins. schedule_is m r k ls groups parts written prepared h joins)
+    (loops_in c.args.text.now) c.in_ok-told.told c.in-Apart.parts c.in_ok-listing_together-in-Apart.field-0 c.in_ok-told.ensures.exact c.in-Apart.is
+    (λ problems listing part says. let told = says.met in (search (rules, of_calls, told), search (rules, of_calls, told)))
+    (record { text = c.in_ok-listing_together-in-Apart.ensures.text; met = c.in_ok-listing_together-in-Apart.ensures.met })
+
+pub returns : goal.returns
+returns g c =
+    let m = c.args.machine.now in
+    let r = c.args.settings.now.ratio in
+    let k = c.args.settings.now.ceiling in
+    let prepared = c.in-Whole.field-0 in
+    let listing = c.in-Whole.listing in
+    let written = c.in_ok-listing_printout_on-in-Whole.field-0 in
+    written_whole _ _ shown_rows JoinsRows m r k (IsListingText r k m) (loops_in c.args.text.now) c.in_ok-told.told prepared listing written c.in_ok-told.ensures.exact c.in-Whole.is
+    (λ ls are is.
+    told_listing m r k ls prepared.items listing written c.in_ok-listing_printout_on-in-Whole.ensures.text c.in_ok-listing_printout_on-in-Whole.ensures.met are is)
