@@ -31,10 +31,10 @@ use std::thread::Threads;
 
 /// From how many bytes on a text is large. In a smaller one, loops may be so few that one of them is most of the work, and workers had better share its
 /// intervals over the board.
-const LARGE: usize = 131_072;
+const LARGE: usize = 65_536;
 
-/// The least piece, in bytes: a few loops.
-const PIECE: usize = 4_096;
+/// The least piece, in bytes: a loop or a few.
+const PIECE: usize = 2_048;
 
 /// The most pieces of a text: so many that workers which draw them end at about one time.
 const PIECES: usize = 128;
@@ -57,7 +57,7 @@ pub enum Told<T> {
 }
 
 /// What `tell` tells of the loops of a text, in parts where workers share the text, and else the loops and their listing. Each worker that draws a piece of
-/// a text of 128 KiB or more reads it, prepares its loops, tries their intervals one after another as the calling thread would, and calls `tell` for these loops
+/// a text of 64 KiB or more reads it, prepares its loops, tries their intervals one after another as the calling thread would, and calls `tell` for these loops
 /// and their listing: threads start once for all of that, and what a piece takes in memory is given back before the next. The loops and their listing are as [`pipeline`](crate::pipeline) gives them.
 ///
 /// # Errors
@@ -85,8 +85,8 @@ pub fn tell_text<
     Ok(Told::Whole(prepared, listing))
 }
 
-/// The parts that workers make of a large text. It is `None` where the text is not large or longer than a text may be, where there is one worker, and where
-/// the calling thread had better look at the whole: a piece is at fault, loops of two pieces have one name or are too many, or memory is refused.
+/// The parts that workers make of a large text. It is `None` where the text is not large or longer than a text may be, where there is one worker, where there are
+/// fewer than two pieces for each worker, and where the calling thread had better look at the whole: a piece is at fault, loops of two pieces have one name or are too many, or memory is refused.
 pub(crate) fn told_apart<
     R: Threads + Sync,
     T: Drop + Send,
@@ -109,6 +109,9 @@ pub(crate) fn told_apart<
     let Ok(pieces) = pieces_of(alloc, text, count) else {
         return None;
     };
+    if pieces.len() / 2 < settings.workers() {
+        return None;
+    }
     let jobs = jobs_of(alloc, pieces.as_slice(), settings.workers())?;
     let Ok(made) = make_all(rt, alloc, machine, pieces.as_slice(), settings, tell, &jobs) else {
         return None;

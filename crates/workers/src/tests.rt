@@ -190,7 +190,14 @@ fn is_taken_apart<R: Threads + Abort + Sync>(
 #[test]
 fn a_large_text_is_taken_in_pieces(rt: HostRuntime) -> Result<(), Fail> {
     let alloc = rt.alloc();
-    for (times, workers, apart) in [(4, 2, true), (5, 64, true), (5, 1, false), (3, 4, false)] {
+    for (times, workers, apart) in [
+        (4, 2, true),
+        (5, 2, true),
+        (5, 64, false),
+        (5, 1, false),
+        (3, 4, false),
+        (1, 2, false),
+    ] {
         let text = sums(alloc, times)?;
         assert_eq!(rt; is_taken_apart(&rt, alloc, text.as_str(), workers)?, apart);
     }
@@ -209,7 +216,7 @@ fn a_large_text_at_fault_is_looked_at_as_a_whole(rt: HostRuntime) -> Result<(), 
     ] {
         let mut text = sums(alloc, 4)?;
         text.push_str(lines)?;
-        assert!(rt; !is_taken_apart(&rt, alloc, text.as_str(), 4)?);
+        assert!(rt; !is_taken_apart(&rt, alloc, text.as_str(), 2)?);
     }
     Ok(())
 }

@@ -25,7 +25,7 @@ use std::thread::Threads;
 use workers::{Told, tell_text};
 use writing::Text;
 
-/// What `json` writes of the loops of a text, by at most as many workers as the settings say. Of a text of 128 KiB or more each worker takes
+/// What `json` writes of the loops of a text, by at most as many workers as the settings say. Of a text of 64 KiB or more each worker takes
 /// pieces all the way from reading to what is written; else they read, prepare and try intervals in turn, and the calling thread writes. One
 /// worker starts no thread.
 ///

@@ -28,7 +28,7 @@ use workers::{Told, tell_text};
 /// Bytes of a kernel's text for each of its operations, in most kernels.
 const ROOM: usize = 32;
 
-/// What `schedule` writes of the loops of a text, by at most as many workers as the settings say. Of a text of 128 KiB or more each worker takes
+/// What `schedule` writes of the loops of a text, by at most as many workers as the settings say. Of a text of 64 KiB or more each worker takes
 /// pieces all the way from reading to what is written; else they read, prepare, try intervals and write in turn. One worker starts no thread.
 ///
 /// # Errors
