@@ -7,8 +7,6 @@ mod machine_words;
 mod machines;
 mod places;
 mod printout;
-#[cfg(test)]
-mod tests;
 mod what;
 mod words;
 

@@ -7,8 +7,6 @@ mod laws;
 mod pieces;
 mod preparing;
 mod reading;
-#[cfg(test)]
-mod tests;
 
 pub use board_workers::{Gate, OpenGate, nothing_is_left, run_workers, work};
 pub use collecting::{Chosen, gather};

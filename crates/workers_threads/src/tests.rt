@@ -5,4 +5,5 @@ mod cuttings;
 mod files;
 mod gates;
 mod given;
+mod pieces;
 mod works;

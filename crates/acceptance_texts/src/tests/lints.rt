@@ -1,6 +1,6 @@
 //! Faults that are known by hand, each with what has to be told of it.
 
-use crate::{LintText, Named, lint_printout};
+use lint_text::{LintText, Named, lint_printout};
 use std::alloc::Global;
 use std::test::Fail;
 
