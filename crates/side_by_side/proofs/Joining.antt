@@ -23,7 +23,7 @@ flat_same f g (x ∷ xs) [] long same = absurd (omega (arith, long))
 flat_same f g (x ∷ xs) (y ∷ ys) long same =
     ap₂ (λ (s t : List ℕ). s ++ t) (same 0 x y (omega arith)) (flat_same f g xs ys (omega (arith, long)) (λ k a b h. same (suc k) a b (omega (arith, h))))
 
-rows_long : (problems : List ProblemData) (choices : List Choice) → AllZip IsChoice problems choices → length (listing_rows problems choices) ≡ length problems
+pub rows_long : (problems : List ProblemData) (choices : List Choice) → AllZip IsChoice problems choices → length (listing_rows problems choices) ≡ length problems
 rows_long [] [] h = refl
 rows_long [] (c ∷ choices) h = absurd h
 rows_long (p ∷ problems) [] h = absurd h

@@ -1,10 +1,10 @@
 -- What is told of the loops of a text in parts, put together.
-use Rattle.std.proofs.Common.{◌≡◌, ◌∙◌, ℕ, ◌+◌, ◌≤◌, ◌==◌, Bool, true, false, ◌||◌, List, [], ◌∷◌, ◌++◌, length, refl, sym, ap, ap₂, subst, arith, append_assoc, suc, zero}
+use Rattle.std.proofs.Common.{◌≡◌, ◌∙◌, ℕ, ◌+◌, ◌≤◌, ◌==◌, Bool, false, ◌||◌, List, [], ◌∷◌, ◌++◌, length, refl, sym, ap, ap₂, subst, arith, append_assoc}
 use Rattle.std.specs.Prelude.{cond, codes, ◌&&◌, nat_lt, Result, Ok, Vec}
 use Rattle.std.specs.Borrow.{Bor}
 use Rattle.std.specs.Fn.{FnReturns}
 use Rattle.std.specs.Global.{Global}
-use Rattle.std.specs.List.{AllZip, flat_map, list_all, list_any, sum_by}
+use Rattle.std.specs.List.{AllZip, flat_map, list_any}
 use Rattle.std.proofs.lemmas.Bool.Decides.{nat_tests}
 use Rattle.std.proofs.lemmas.List.Concat.{flat_map-append}
 use Rattle.std.proofs.lemmas.List.Folds.{list_any-append}
@@ -16,13 +16,13 @@ use Rattle.loops.specs.Loops.{LoopData}
 use Rattle.ims.specs.Problems.{ProblemData}
 use Rattle.candidates.specs.Choices.{IsChoice}
 use Rattle.candidates.specs.Listings.{ListingData, is_failed, is_met, listing_of, listing_row, listing_rows}
-use Rattle.candidates.specs.Texts.{counts_line, has_outs, listing_text_of, number_failed, number_met, row_text, version_text}
+use Rattle.candidates.specs.Texts.{counts_line, has_outs, number_failed, number_met, row_text, version_text}
 use Rattle.candidates.specs.declared.choices.Choice.{Choice}
 use Rattle.candidates.specs.declared.choices.Choice.TheVariants.{Failed, Met}
 use Rattle.candidates.specs.declared.listings.Row.{Row}
 use Rattle.file_faults.specs.Answers.{AnswersIn}
 use Rattle.one_thread.specs.Files.{ArePrepared, ListsProblems}
-use Rattle.one_thread.proofs.Listed.{choices_long, prepared_long}
+use Rattle.one_thread.proofs.Listed.{prepared_long}
 use Rattle.printouts.specs.Outcomes.{Written}
 use Rattle.writing.specs.Words.{last_line}
 use Rattle.printouts.specs.Run.{IsRunText, choice_lines, told_lines}
@@ -34,6 +34,7 @@ use Rattle.workers.specs.declared.pieces.Told.TheVariants.{Apart, Whole}
 use Rattle.side_by_side.specs.declared.parts.told.ToldLoops.{ToldLoops}
 use Rattle.side_by_side.specs.inner.Told.{IsCounted, last_told, number_failed_told, number_met_told, number_told, outs_of, text_of_told, version_if}
 use Rattle.side_by_side.proofs.Answered.{right_gives, right_more}
+use Rattle.side_by_side.proofs.Joining.{rows_long}
 use Rattle.side_by_side.proofs.Listing.{listed}
 
 -- the rows of a group
@@ -51,12 +52,6 @@ zip_append R [] us [] vs h k = k
 zip_append R [] us (y ∷ ys) vs h k = absurd h
 zip_append R (x ∷ xs) us [] vs h k = absurd h
 zip_append R (x ∷ xs) us (y ∷ ys) vs h k = (h.0, zip_append R xs us ys vs h.1 k)
-
-rows_long : (ps : List ProblemData) (cs : List Choice) → AllZip IsChoice ps cs → length (listing_rows ps cs) ≡ length ps
-rows_long [] [] h = refl
-rows_long [] (c ∷ cs) h = absurd h
-rows_long (p ∷ ps) [] h = absurd h
-rows_long (p ∷ ps) (c ∷ cs) h = let e = rows_long ps cs h.1 in omega (arith, e)
 
 -- counts of rows
 

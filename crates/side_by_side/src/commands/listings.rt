@@ -21,7 +21,7 @@ use std::thread::Threads;
 const WRITTEN: u64 = 30;
 
 /// Bytes of a kernel's text for each of its operations, in most kernels.
-const ROOM: usize = 32;
+pub(crate) const ROOM: usize = 32;
 
 /// What `schedule` writes of a listing, by at most `workers` workers side by side. One worker starts no thread, and neither do a
 /// single loop and loops with few operations.

@@ -12,7 +12,7 @@ ghost use Rattle.printouts.specs.Run.{IsRunText, told_lines};
 ghost use Rattle.printouts.specs.Schedule.{IsListingText};
 ghost use Rattle.side_by_side.specs.inner.Told.{IsCounted, last_told, number_failed_told, number_told, outs_of, text_of_told, version_if};
 
-use crate::commands::listings::listing_printout_on;
+use crate::commands::listings::{ROOM, listing_printout_on};
 use crate::commands::runs::run_text_on;
 use crate::parts::told::{ToldLoops, some_outs, told_together};
 use candidates::{Listing, Row, write_row};
@@ -24,9 +24,6 @@ use settings::{Settings, Trip};
 use std::alloc::Global;
 use std::thread::Threads;
 use workers::{Told, tell_text};
-
-/// Bytes of a kernel's text for each of its operations, in most kernels.
-const ROOM: usize = 32;
 
 /// What `schedule` writes of the loops of a text, by at most as many workers as the settings say. Of a text of 64 KiB or more each worker takes
 /// pieces all the way from reading to what is written; else they read, prepare, try intervals and write in turn. One worker starts no thread.
