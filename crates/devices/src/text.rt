@@ -15,7 +15,7 @@ use thiserror::Error;
 pub const TEXT_LIMIT: usize = 1_048_576;
 
 // the greatest first size of the buffer, in bytes
-const FIRST_READ: usize = 65_536;
+const FIRST_READ: usize = 8_192;
 
 /// Why a text was not read.
 #[derive(Clone, Copy, Debug, PartialEq, Eq, Error)]
