@@ -160,7 +160,8 @@ enum {
 };
 
 /* Solves a problem. Intervals are tried from the answer's mii on, at most `ceiling` (0 to 255) above it, each with at most `ratio`
- * (1 to 64) placements for each operation; 6 and 64 are fair choices. The schedule is that of the least interval that gives one.
+ * (1 to 64) placements for each operation; 6 and 64 are fair choices (the command `solve` takes 6 and 32). The schedule is that of the
+ * least interval that gives one.
  *
  * With status 0, of each operation the issue time in its iteration (less than 64 intervals) is in `times` and the number of the
  * alternative in `alternatives`; both need room for as many items as there are operations. Of each value of a rotating file its

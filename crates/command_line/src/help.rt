@@ -115,23 +115,31 @@ order of the file, its line of `modsched bounds`, and then
   unit U uses N: NAME NAME*2 ..           for each unit that is used: how often, and by which operations,
                                           with the alternatives that the bound by resources counts;
                                           `full` after N where no unit is used more often
-  units U V .. take N rows, need K        the fullest set of units: each iteration takes at least N rows of them,
-                                          so that no interval is below K
+  units U V .. take N rows: N/J cycles, need K
+                                          the fullest set of units: each iteration takes at least N rows of these J
+                                          units, so that no interval is below K
   circuit delay D distance N needs C      a critical circuit, which has the bound by recurrences:
                                           D cycles over N iterations take intervals of at least C cycles.
                                           Its edges follow, as `modsched edges` prints them
   circuit none                            no circuit has it
   try I CAUSE: ..                         for each interval that was tried and gave no kernel, why it did not,
                                           and the operations or the value that keep it from one; `try I to J
-                                          CAUSE: ..` where that is the same for neighbours
+                                          CAUSE: ..` where that is the same for neighbours; `.., all need N` on the
+                                          first and the last that fail for registers: with how many they would do
   try I kernel stages S                   the interval of the kernel
   held by WORD                            why it is no shorter: `units`, `recurrences` or `both`, by the bounds,
                                           `one cycle`, or the cause of the interval before it
   least possible                          no schedule has a shorter interval
+  iteration C cycles                      how long one iteration takes, to its last result
+  N iterations take N+D turns             how many turns a run of N iterations has
+  op NAME at T slack K: U@O ..            when each operation is issued, by how many cycles it could be later, and
+                                          the units that it takes, each O cycles after its issue
   value NAME lives A to B register K      when each value lives, in cycles of iteration 0, and its register
+  registers need N                        the least number of registers with which each value gets one
   row U U .. live                         the head of the schedule as a grid: the units that are used
   R NAME/S . .. L                         each row of the interval: the operation with its stage in the slot of
                                           each unit, and how many registers hold a value
+  use U P% ..                             how much of the interval each unit is taken, in hundredths
   idle units N                            units that no operation takes, where there are any
 
 The causes are those of `modsched schedule`. The last line is that of the listing. A thread takes one loop
