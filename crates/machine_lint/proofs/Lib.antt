@@ -1,6 +1,5 @@
 pub mod All
 pub mod Among
-pub mod Bare
 pub mod Declared
 pub mod First
 pub mod FirstRows

@@ -5,10 +5,10 @@ use Rattle.std.proofs.lemmas.List.{get_or-set_other, get_or-set_same, length-dro
 use Rattle.std.specs.Option.{option_or}
 use Rattle.machine_lint.specs.Words.{bare_at, bare_before, comment_after, first_key, first_word, is_key_at, is_word_at, key_from, leads_on}
 use Rattle.machine_lint.specs.inner.Sought.{AreNext, IsLink, Reaches, begins, none, nth, stepped}
-use Rattle.machine_lint.specs.inner.Indexes.{mark_at}
+use Rattle.machine_lint.specs.inner.Marks.{mark_at}
 use Rattle.machine_lint.specs.declared.index.Mark.{Mark}
-use Rattle.machine_lint.specs.declared.quoted.next.Next.{Next}
-use Rattle.machine_lint.proofs.Bare.{same_word-yes}
+use Rattle.machine_lint.specs.declared.sought.next.Next.{Next}
+use Rattle.std.proofs.lemmas.Slice.Eq.{bytes_eq-Decides}
 use Rattle.machine_lint.proofs.Keys.{and-false, key-no-word}
 use Rattle.machine_lint.proofs.Steps.{first-none, first-step}
 
@@ -58,7 +58,7 @@ module _ (text word : List ℕ) (at : ℕ) where
 -- a word that comes first in the rest of a text ends inside the text
 pub begins-inside : (text word : List ℕ) (at : ℕ) → at ≤ length text → begins word (drop at text) ≡ true → at + length word ≤ length text
 begins-inside text word at within first =
-    let same : word ≡ take (length word) (drop at text) = same_word-yes word (take (length word) (drop at text)) first in
+    let same : word ≡ take (length word) (drop at text) = (bytes_eq-Decides word (take (length word) (drop at text))).0 first in
     let size : length word ≡ min (length word) (length (drop at text)) = ap length same ∙ length-take (length word) (drop at text) in
     let left : length (drop at text) ≡ length text - at = length-drop at text in
     omega (arith, within, size, left)

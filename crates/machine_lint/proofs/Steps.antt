@@ -1,5 +1,5 @@
 -- The first place that passes a test.
-use Rattle.std.proofs.Common.{◌≡◌, ℕ, suc, ◌+◌, ◌-◌, ◌<◌, ◌≤◌, Bool, true, false, cond, Option, Some, None, sym, ap, ◌∙◌, arith}
+use Rattle.std.proofs.Common.{◌≡◌, ℕ, suc, ◌+◌, ◌-◌, ◌<◌, ◌≤◌, Bool, false, cond, Option, Some, None, sym, ap, ◌∙◌, arith}
 use Rattle.machine_lint.specs.Words.{first_at}
 
 pub first-step : (test : ℕ → Bool) (at n : ℕ) → at < n → first_at test at (n - at) ≡ cond (test at) (Some at) (first_at test (at + 1) (n - (at + 1)))
@@ -14,7 +14,3 @@ first-none test at n h = let none : n - at ≡ 0 = omega arith in rw none
 -- the rest after a place that fails
 pub first-next : (test : ℕ → Bool) (at n : ℕ) (r : Option ℕ) → at < n → test at ≡ false → first_at test at (n - at) ≡ r → first_at test (at + 1) (n - (at + 1)) ≡ r
 first-next test at n r below fails is = sym (rw fails at (first-step test at n below)) ∙ is
-
--- a place that passes
-pub first-found : (test : ℕ → Bool) (at n : ℕ) (r : Option ℕ) → at < n → test at ≡ true → first_at test at (n - at) ≡ r → Some at ≡ r
-first-found test at n r below passes is = sym (rw passes at (first-step test at n below)) ∙ is

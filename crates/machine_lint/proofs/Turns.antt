@@ -1,6 +1,6 @@
 -- What is told of one element after another.
-use Rattle.std.proofs.Common.{◌≡◌, ℕ, ◌+◌, ◌<◌, List, [], ◌∷◌, ◌++◌, length, get_or, take, map, sym, ap, ◌∙◌, append_assoc}
-use Rattle.std.proofs.lemmas.List.{append-nil, take_more, map-append}
+use Rattle.std.proofs.Common.{◌≡◌, ℕ, ◌+◌, ◌<◌, ◌≤◌, List, [], ◌∷◌, ◌++◌, length, get_or, take, map, sym, ap, ◌∙◌, append_assoc}
+use Rattle.std.proofs.lemmas.List.{append-nil, map-append, take_all, take_more}
 use Rattle.toml.specs.Data.{Data}
 use Rattle.toml.specs.View.{view}
 use Rattle.toml.specs.declared.value.Value.{Value}
@@ -20,3 +20,7 @@ turn-more check vs i v all old new below is was now =
     ∙ append_assoc all (in_turn check [] (map view (take i vs))) (check (map view (take i vs)) (view v))
     ∙ ap (λ (l : Lints). all ++ l) (sym (turn-push check [] (map view (take i vs)) (view v)))
     ∙ ap (λ (ds : List Data). all ++ in_turn check [] ds) (sym (map-append view (take i vs) (v ∷ [])) ∙ ap (map view) (sym (rw (take_more vs i v below, ← is))))
+
+-- .. of all elements
+pub turn-all : (check : List Data → Data → Lints) (vs : List Value) (i : ℕ) (all told : Lints) → length vs ≤ i → told ≡ all ++ in_turn check [] (map view (take i vs)) → told ≡ all ++ in_turn check [] (map view vs)
+turn-all check vs i all told end is = is ∙ ap (λ (rest : List Value). all ++ in_turn check [] (map view rest)) (take_all i vs end)

@@ -1,4 +1,4 @@
 pub mod Ats
-pub mod Indexes
+pub mod Marks
 pub mod Tables
 pub mod Sought

@@ -5,14 +5,14 @@ ghost use Rattle.std.specs.List.{list_any};
 ghost use Rattle.machine_lint.specs.Spots.{key_of, limit_of};
 ghost use Rattle.machine_lint.specs.Tree.{missed, told, value_told};
 ghost use Rattle.machine_lint.specs.Values.{counts, is_unit_of, is_wanted, is_within, measures, row_words_in, same_text, same_words};
-ghost use Rattle.machine_lint.specs.inner.Ats.{spot_at};
+ghost use Rattle.machine_lint.specs.inner.Ats.{lint_on, spot_at};
 ghost use Rattle.machine.specs.MachineText.{is_unit_name, text_of};
 ghost use Rattle.machine.specs.declared.fault.MachineFault.TheVariants.{Limit, RepeatedRow, UnknownKey, WrongType};
 ghost use Rattle.toml.specs.View.{view};
 ghost use Rattle.toml.specs.Data.{string};
 
 use crate::index::Indexed;
-use crate::place::{MachineLint, place_of};
+use crate::place::{MachineLint, NOWHERE, Place, place_of};
 use crate::rows::{is_unit_name, is_within as is_between, near_row, row_words};
 use crate::spots::{At, Found, key, shown};
 use machine::limits::{MAX_ALTERNATIVES, MAX_LATENCY, MAX_REGISTERS, MAX_ROWS, MAX_UNITS};
@@ -110,6 +110,28 @@ fn limit_of(at: At<'_>) -> &'static str
     }
 }
 
+/// Puts a fault after the others, at a place.
+fn put(
+    alloc: Global,
+    lints: &mut Vec<MachineLint>,
+    place: Place,
+    at: At<'_>,
+    found: Found,
+    fault: MachineFault,
+) -> Result<(), OutOfMemory>
+    ensures { OnOk result (lints.new.items ≡ lints.old.items ++ lint_on place (spot_at at.entry) found fault ∷ []) }
+{
+    let spot = at.to_spot(alloc)?;
+    lints.push(MachineLint {
+        line: place.line,
+        column: place.column,
+        spot,
+        found,
+        fault,
+    })?;
+    Ok(())
+}
+
 /// Tells a fault of a value of a text.
 pub(crate) fn tell(
     alloc: Global,
@@ -122,33 +144,16 @@ pub(crate) fn tell(
     requires short { length text.now < 2 ^ 32 }
     ensures { OnOk result (lints.new.items ≡ lints.old.items ++ told text.now (spot_at at.entry) (view value.now) fault ∷ []) }
 {
-    let place = place_of(text, at);
-    let spot = at.to_spot(alloc)?;
     let found = shown(alloc, value)?;
-    lints.push(MachineLint {
-        line: place.line,
-        column: place.column,
-        spot,
-        found,
-        fault,
-    })?;
-    Ok(())
+    put(alloc, lints, place_of(text, at), at, found, fault)
 }
 
 /// Tells that a key is missing.
 fn miss(alloc: Global, lints: &mut Vec<MachineLint>, at: At<'_>) -> Result<(), OutOfMemory>
     ensures { OnOk result (lints.new.items ≡ lints.old.items ++ missed (spot_at at.entry) ∷ []) }
 {
-    let spot = at.to_spot(alloc)?;
     let fault = MachineFault::MissingKey(at.to_key(alloc)?);
-    lints.push(MachineLint {
-        line: 0,
-        column: 0,
-        spot,
-        found: Found::Nothing,
-        fault,
-    })?;
-    Ok(())
+    put(alloc, lints, NOWHERE, at, Found::Nothing, fault)
 }
 
 /// Tells that a value has a wrong type.

@@ -7,9 +7,9 @@ mod index;
 mod judge;
 mod lint;
 mod place;
-mod quoted;
 mod rows;
 mod search;
+mod sought;
 mod spots;
 mod tree;
 

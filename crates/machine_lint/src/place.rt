@@ -3,7 +3,7 @@
 ghost use Rattle.std.specs.Prelude.{◌≡◌, ◌+◌, ◌++◌, ◌≤◌, ◌<◌, ◌^◌, [], ◌∷◌, ℕ, List, length, option_map};
 ghost use Rattle.machine_lint.specs.Places.{lint_at, nowhere, offset_of, place_after, place_at, place_of};
 ghost use Rattle.machine_lint.specs.inner.Ats.{spot_at};
-ghost use Rattle.machine_lint.specs.inner.Indexes.{mark_at};
+ghost use Rattle.machine_lint.specs.inner.Marks.{mark_at};
 
 use crate::index::{Indexed, Mark};
 use crate::spots::{At, Found, Spot};

@@ -1,7 +1,7 @@
 //! Where the words of keys stand in a text.
 
-ghost use Rattle.std.specs.Prelude.{◌≡◌, ◌+◌, ◌≤◌, ◌<◌, ◌^◌, drop, length, ◌==◌, ◌||◌, if◌then◌else◌, false, IfSome, true};
-ghost use Rattle.machine_lint.specs.Words.{bare_at, bare_before, comment_after, first_key, first_word, is_blank, is_key_byte, is_mark, is_word_at, key_from, leads_on};
+ghost use Rattle.std.specs.Prelude.{◌≡◌, ◌+◌, ◌≤◌, ◌<◌, ◌^◌, length, take, ◌==◌, ◌||◌, if◌then◌else◌, false, IfSome, true};
+ghost use Rattle.machine_lint.specs.Words.{bare_at, bare_before, comment_after, first_key, first_word, is_blank, is_key_at, is_key_byte, is_mark, is_word_at, key_from, leads_on};
 
 /// Whether a byte may stand in a key without quotes.
 pub(crate) fn is_key_byte(byte: u8) -> bool
@@ -95,51 +95,29 @@ fn ends_in_comment(text: &[u8]) -> bool
     begun
 }
 
-/// Whether a text from an offset on leads on as after a key.
-pub(crate) fn leads_from(text: &[u8], at: usize) -> bool
-    requires { at ≤ length text.now }
-    ensures { result ≡ leads_on (drop at text.now) }
+/// Whether a word stands at an offset as a key does, where a comment has begun before it or not.
+#[tactic(auto, unfolding(crate::specs::Words::is_key_at))]
+fn is_key_at(text: &[u8], word: &str, at: usize, begun: bool) -> bool
+    requires inside { at < length text.now }
+    requires short { length text.now < 2 ^ 32 }
+    requires begun { begun ≡ comment_after false (take at text.now) }
+    ensures is { result ≡ is_key_at text.now word.now at }
+    ensures inside { result ≡ true → at + length word.now ≤ length text.now }
 {
-    leads_on(&text[at..])
+    !begun && is_word_at(text, word, at) && leads_on(&text[at + word.len()..])
 }
 
-/// The same, where it may be known that it does not.
-fn leads_unless(stuck: bool, text: &[u8], at: usize) -> bool
-    requires inside { at ≤ length text.now }
-    requires stuck { stuck ≡ true → leads_on (drop at text.now) ≡ false }
-    ensures { result ≡ leads_on (drop at text.now) }
-{
-    !stuck && leads_from(text, at)
-}
-
-/// Whether a blank stands at an offset. Then a text leads on from the next one as from there.
-fn is_blank_at(text: &[u8], at: usize) -> bool
-    ensures { result ≡ true → leads_on (drop (at + 1) text.now) ≡ leads_on (drop at text.now) }
-{
-    match text.get(at) {
-        Some(byte) => is_blank(*byte),
-        None => false,
-    }
-}
-
-/// The first place from an offset on at which a word stands as a key does. Blanks are gone over once, also for a word of
-/// blanks.
+/// The first place from an offset on at which a word stands as a key does.
 fn first_key(text: &[u8], word: &str, from: usize) -> Option<usize>
     requires short { length text.now < 2 ^ 32 }
     ensures is { result ≡ first_key text.now word.now from }
     ensures inside { IfSome result (λ at. at + length word.now ≤ length text.now) }
 {
     let mut begun = ends_in_comment(&text[..from.min(text.len())]);
-    let mut stuck = false;
     for at in from..text.len() {
-        let end = at + word.len();
-        if !begun && is_word_at(text, word, at) {
-            if leads_unless(stuck, text, end) {
-                return Some(at);
-            }
-            stuck = true;
+        if is_key_at(text, word, at, begun) {
+            return Some(at);
         }
-        stuck = stuck && is_blank_at(text, end);
         begun = comments_on(begun, text[at]);
     }
     None
@@ -159,7 +137,7 @@ fn first_word(text: &[u8], word: &str, from: usize) -> Option<usize>
     None
 }
 
-/// The first place from an offset on at which a word stands as a key does, or at all.
+/// The first place from an offset on at which a word stands as a key does, or at all. It goes over the text for this word alone.
 #[tactic(auto, unfolding(crate::specs::Words::key_from))]
 pub(crate) fn find_key(text: &[u8], word: &str, from: usize) -> Option<usize>
     requires short { length text.now < 2 ^ 32 }

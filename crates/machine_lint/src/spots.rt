@@ -102,19 +102,19 @@ impl<'a> At<'a> {
     pub(crate) fn to_spot(self, alloc: Global) -> Result<Spot, OutOfMemory>
         ensures { IfOk result (λ spot. spot ≡ spot_at self.entry) }
     {
-        Ok(match self {
-            At::TopKey(name) => Spot::TopKey(key(alloc, name)?),
-            At::Units => Spot::Units,
-            At::Unit(index) => Spot::Unit(index),
-            At::Registers => Spot::Registers,
-            At::Ops => Spot::Ops,
-            At::Table(word) => Spot::Table(key(alloc, word)?),
-            At::TableKey(word, name) => Spot::TableKey(key(alloc, word)?, key(alloc, name)?),
-            At::Latency(word) => Spot::Latency(key(alloc, word)?),
-            At::Alternatives(word) => Spot::Alternatives(key(alloc, word)?),
-            At::Alternative(word, index) => Spot::Alternative(key(alloc, word)?, index),
-            At::Row(word, alternative, row) => Spot::Row(key(alloc, word)?, alternative, row),
-        })
+        match self {
+            At::TopKey(name) => Ok(Spot::TopKey(key(alloc, name)?)),
+            At::Units => Ok(Spot::Units),
+            At::Unit(index) => Ok(Spot::Unit(index)),
+            At::Registers => Ok(Spot::Registers),
+            At::Ops => Ok(Spot::Ops),
+            At::Table(word) => Ok(Spot::Table(key(alloc, word)?)),
+            At::TableKey(word, name) => Ok(Spot::TableKey(key(alloc, word)?, key(alloc, name)?)),
+            At::Latency(word) => Ok(Spot::Latency(key(alloc, word)?)),
+            At::Alternatives(word) => Ok(Spot::Alternatives(key(alloc, word)?)),
+            At::Alternative(word, index) => Ok(Spot::Alternative(key(alloc, word)?, index)),
+            At::Row(word, alternative, row) => Ok(Spot::Row(key(alloc, word)?, alternative, row)),
+        }
     }
 
     /// The key at which the reader of machine texts tells a fault there.

@@ -16,8 +16,8 @@ use crate::judge::{
     is_unit_of, judge_value, same_row, same_text, tell, tell_key, tell_repeat, text_of,
 };
 use crate::place::MachineLint;
-use crate::quoted::seek::seek_keys;
 use crate::rows::row_words;
+use crate::sought::seek::seek_keys;
 use crate::spots::{At, key};
 use machine::limits::{MAX_ALTERNATIVES, MAX_ROWS, MAX_UNITS};
 use machine::{MachineFault, Opcode, OutOfMemory};
@@ -466,8 +466,45 @@ pub(crate) fn table_in(value: Option<&Value>) -> Option<&Table>
     }
 }
 
-/// All faults of the tree of a text.
+/// Tells what is wrong with a tree, where each key is found at once.
 #[tactic(auto, unfolding(crate::specs::Tree::tree_told))]
+fn judge_top(
+    alloc: Global,
+    lints: &mut Vec<MachineLint>,
+    text: &Indexed<'_>,
+    tree: &Table,
+) -> Result<(), OutOfMemory>
+    requires short { length text.now < 2 ^ 32 }
+    ensures { OnOk result (lints.new.items ≡ lints.old.items ++ tree_told text.now (table_view tree.now)) }
+{
+    let units = look_up(tree, "units");
+    judge_keys(alloc, lints, text, None, tree)?;
+    judge_units(alloc, lints, text, units)?;
+    judge_value(
+        alloc,
+        lints,
+        text,
+        At::Registers,
+        look_up(tree, "registers"),
+    )?;
+    judge_tables(alloc, lints, text, units, look_up(tree, "ops"))
+}
+
+/// The same, in a list of its own.
+fn faults_of(
+    alloc: Global,
+    text: &Indexed<'_>,
+    tree: &Table,
+) -> Result<Vec<MachineLint>, OutOfMemory>
+    requires short { length text.now < 2 ^ 32 }
+    ensures { IfOk result (λ lints. lints.items ≡ tree_told text.now (table_view tree.now)) }
+{
+    let mut lints = Vec::new(alloc);
+    judge_top(alloc, &mut lints, text, tree)?;
+    Ok(lints)
+}
+
+/// All faults of the tree of a text.
 pub(crate) fn judge_tree(
     alloc: Global,
     text: &[u8],
@@ -476,15 +513,7 @@ pub(crate) fn judge_tree(
     requires short { length text.now < 2 ^ 32 }
     ensures { IfOk result (λ lints. lints.items ≡ tree_told text.now (table_view tree.now)) }
 {
-    let mut text = Indexed::new(alloc, text)?;
+    let mut text = Indexed::new(alloc, text);
     seek_keys(alloc, &mut text, tree)?;
-    let mut lints = Vec::new(alloc);
-    let units = look_up(tree, "units");
-    let registers = look_up(tree, "registers");
-    let ops = look_up(tree, "ops");
-    judge_keys(alloc, &mut lints, &text, None, tree)?;
-    judge_units(alloc, &mut lints, &text, units)?;
-    judge_value(alloc, &mut lints, &text, At::Registers, registers)?;
-    judge_tables(alloc, &mut lints, &text, units, ops)?;
-    Ok(lints)
+    faults_of(alloc, &text, tree)
 }

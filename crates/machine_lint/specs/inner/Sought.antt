@@ -8,11 +8,11 @@ use Rattle.std.specs.declared.cmp.Ordering.TheVariants.{Less}
 use Rattle.machine_data.specs.Opcodes.{same_word}
 use Rattle.machine_lint.specs.Words.{comment_after, first_key, first_word, is_key_at, is_word_at, key_from, leads_on}
 use Rattle.machine_lint.specs.Places.{place_at}
-use Rattle.machine_lint.specs.inner.Indexes.{mark_at}
-use Rattle.machine_lint.specs.declared.quoted.answers.Answer.{Answer}
-use Rattle.machine_lint.specs.declared.quoted.answers.Known.{Known}
-use Rattle.machine_lint.specs.declared.quoted.next.Next.{Next}
-use Rattle.machine_lint.specs.declared.quoted.stands.Stand.{Stand}
+use Rattle.machine_lint.specs.inner.Marks.{mark_at}
+use Rattle.machine_lint.specs.declared.sought.answers.Answer.{Answer}
+use Rattle.machine_lint.specs.declared.sought.answers.Known.{Known}
+use Rattle.machine_lint.specs.declared.sought.next.Next.{Next}
+use Rattle.machine_lint.specs.declared.sought.stands.Stand.{Stand}
 
 -- a word comes first in a text
 abbrev pub begins : List ℕ → List ℕ → Bool
