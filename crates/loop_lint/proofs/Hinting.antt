@@ -1,17 +1,17 @@
 -- Names of a block in their order, and what helps to mend faults.
 use Rattle.std.proofs.Common.{◌≡◌, ℕ, zero, suc, ◌+◌, ◌<◌, ◌≤◌, Bool, true, false, cond, not, List, [], ◌∷◌, ◌++◌, length, map, take, filter, flat_map, Option, Some, None, option_map, refl, sym, subst, ◌∙◌, ap, arith, ltb, length-append, get_or, inl, inr}
 use Rattle.std.proofs.lemmas.Bool.{cases_lt, le-ltb, lt-ltb}
-use Rattle.std.proofs.lemmas.List.{append-nil, length-take, length-take-le, map-append, take-append-le, take_all, take_more}
+use Rattle.std.proofs.lemmas.List.{append-nil, length-take-le, map-append, take-append-le, take_all, take_more}
 use Rattle.std.proofs.lemmas.List.Elements.{filter-append, filter_agree}
 use Rattle.std.proofs.lemmas.Grind.{flat_map-append}
 use Rattle.std.specs.Borrow.{Bor}
-use Rattle.std.specs.List.{list_any, range_with_len}
+use Rattle.std.specs.List.{range_with_len}
 use Rattle.loop_lines.specs.Forms.{Form, LoopLine, ArrayLine, ParamLine, InitLine, StatementLine, OutLine, EndLine, Malformed}
-use Rattle.loop_reader.specs.Meaning.{declared, has_init, is_init}
+use Rattle.loop_reader.specs.Meaning.{declared, has_init}
 use Rattle.loop_lint.specs.Hints.{candidates, declares, listed, may_be, missing, name_in, names_of, reach}
 use Rattle.loop_lint.specs.declared.block.Table.{Table}
 use Rattle.loop_lint.specs.declared.hints.Wanted.{Wanted}
-use Rattle.loop_lint.specs.inner.Tables.{IsTable, declared_seen, flag_of, known_at, with_name, with_names}
+use Rattle.loop_lint.specs.inner.Tables.{IsTable, declared_seen, flag_of, known_at, with_names}
 
 -- one more name
 

@@ -1,26 +1,35 @@
 -- Statements without a table, line by line, and when there are none.
-use Rattle.std.proofs.Common.{◌≡◌, ◌↔◌, ℕ, ◌+◌, ◌≤◌, ◌<◌, ◌&&◌, Bool, true, false, cond, List, [], ◌∷◌, ◌++◌, length, map, drop, take, Option, Some, None, Result, Ok, Err, refl, sym, ◌∙◌, ap, subst, append_assoc, ltb, is_some, is_none, filter_map}
+use Rattle.std.proofs.Common.{◌≡◌, ◌↔◌, ℕ, ◌+◌, ◌≤◌, ◌<◌, ◌&&◌, Bool, true, false, cond, List, [], ◌∷◌, ◌++◌, length, map, drop, take, get_or, Option, Some, None, Result, Ok, Err, refl, sym, ◌∙◌, ap, subst, append_assoc, ltb, is_some, is_none, filter_map}
 use Rattle.std.specs.List.{list_all}
 use Rattle.std.proofs.lemmas.Bool.{le-ltb, lt-ltb}
 use Rattle.std.proofs.lemmas.Bool.{true≢false}
+use Rattle.std.proofs.lemmas.List.{map-append, take_more}
 use Rattle.machine_data.specs.Machines.{MachineData, OperationData, table_of}
 use Rattle.loop_lines.specs.Forms.{Form, LoopLine, ArrayLine, ParamLine, InitLine, StatementLine, OutLine, EndLine, Malformed, line_form}
-use Rattle.loop_lines.specs.Words.{lines_of, words_of}
+use Rattle.loop_lines.specs.Words.{words_of}
 use Rattle.loop_data.specs.Loops.{LoopData}
 use Rattle.loop_data.specs.declared.language.statement.Statement.{Statement}
-use Rattle.loop_reader.specs.Meaning.{Kinds, at_line, blocks_from, blocks_of, faults_of, first_fault, forms_of, inside_faults, line_faults, loop_of, loops_in, outside_faults, stands, statement_in, statement_of, whole, with_line}
+use Rattle.loop_reader.specs.Meaning.{at_line, blocks_from, blocks_of, faults_of, first_fault, forms_of, inside_faults, line_faults, loop_of, loops_in, outside_faults, stands, statement_in, statement_of, whole, with_line}
 use Rattle.loop_reader.specs.declared.fault.LoopFault.{LoopFault}
 use Rattle.loop_reader.specs.declared.fault.LoopFaultKind.TheVariants.{Limit, Syntax}
-use Rattle.loop_lint.specs.Lacks.{AreToldOn, HasTables, SilentWith, count_before, fault_in, faults_among, has_tables, inside_after, lack, lacks_for, lacks_from, lacks_in, merged}
-use Rattle.loop_lint.specs.Lints.{AreFaults, BeginsAs, TextLine, Blank, Words, faults_in, forms_in, line_read, line_with, plain, text_lines}
+use Rattle.loop_lint.specs.Lacks.{AreToldOn, HasTables, SilentWith, count_before, faults_among, has_tables, inside_after, lack, lacks_for, lacks_from, lacks_in, merged}
+use Rattle.loop_lint.specs.Lints.{AreFaults, BeginsAs, TextLine, Blank, Words, faults_in, forms_in, line_with, plain, text_lines}
 use Rattle.loop_lint.specs.Words.{Placed, placed_words}
 use Rattle.loop_lint.specs.declared.fault.LintFault.{LintFault}
 use Rattle.loop_lint.specs.declared.lacks.LoopLint.{LoopLint}
 use Rattle.loop_lint.specs.declared.lacks.LoopLint.TheVariants as lint
 use Rattle.loop_lint.specs.declared.lacks.NoTable.{NoTable}
 use Rattle.loop_lint.specs.inner.Lacking.{IsPassed}
-use Rattle.loop_lint.specs.inner.Passes.{is_end}
 use Rattle.loop_lint.proofs.Passing.{forms_read}
+
+-- one statement more
+
+pub lacks_more : (lacks : List NoTable) (i : ℕ) (d : NoTable) (all old new : List LoopLint) → i < length lacks → new ≡ old ++ lint.NoTable (get_or lacks i d) ∷ []
+    → old ≡ all ++ map lint.NoTable (take i lacks) → new ≡ all ++ map lint.NoTable (take (i + 1) lacks)
+lacks_more lacks i d all old new below is was =
+    is ∙ ap (λ ls. ls ++ lint.NoTable (get_or lacks i d) ∷ []) was
+    ∙ append_assoc all (map lint.NoTable (take i lacks)) (lint.NoTable (get_or lacks i d) ∷ [])
+    ∙ ap (λ ls. all ++ ls) (sym (ap (map lint.NoTable) (take_more lacks i d below) ∙ map-append lint.NoTable (take i lacks) (get_or lacks i d ∷ [])))
 
 -- one line
 

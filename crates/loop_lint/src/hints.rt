@@ -6,8 +6,8 @@ ghost use Rattle.std.specs.List.{range_with_len};
 ghost use Rattle.loop_lines.specs.Forms as spec;
 ghost use Rattle.loop_lines.specs.Words.{words_of};
 ghost use Rattle.loop_reader.specs.declared.fault.LoopFaultKind.TheVariants.{MissingInit, UnknownName};
-ghost use Rattle.loop_lint.specs.Hints.{candidates, hint_for, may_be, name_hint, name_in, reach, wanted_at};
-ghost use Rattle.loop_lint.specs.inner.Names.{IsBlock};
+ghost use Rattle.loop_lint.specs.Hints.{hint_for, may_be, name_hint, name_in, reach, wanted_at};
+ghost use Rattle.near_names.specs.Nearest as near;
 ghost use Rattle.loop_lint.specs.inner.Tables.{declared_seen, flag_of, known_at, IsTable};
 
 use crate::block::{Declared, Known, Table};
@@ -26,15 +26,6 @@ pub(crate) enum Wanted {
     Value,
     /// A parameter or a value.
     Readable,
-}
-
-/// What the lines of a block say, and their names that may stand in places of words, in the order of their lines.
-#[derive(Drop)]
-pub(crate) struct Block<'a> {
-    pub(crate) table: Table<'a>,
-    pub(crate) arrays: Vec<&'a [u8]>,
-    pub(crate) values: Vec<&'a [u8]>,
-    pub(crate) readable: Vec<&'a [u8]>,
 }
 
 /// A name that stands for this may stand where that is wanted.
@@ -68,34 +59,6 @@ fn chosen<'a>(alloc: Global, table: &Table<'a>, want: Wanted) -> Result<Vec<&'a 
         add_if(&mut names, may_be(want, found), *name)?;
     }
     Ok(names)
-}
-
-impl<'a> Block<'a> {
-    /// The block of which a table has all lines.
-    pub(crate) fn new(alloc: Global, table: Table<'a>) -> Result<Block<'a>, OutOfMemory>
-        ensures { IfOk result (λ block. (forms : List spec.Form) → IsTable forms table.entry → IsBlock forms block) }
-    {
-        let arrays = chosen(alloc, &table, Wanted::Array)?;
-        let values = chosen(alloc, &table, Wanted::Value)?;
-        let readable = chosen(alloc, &table, Wanted::Readable)?;
-        Ok(Block {
-            table,
-            arrays,
-            values,
-            readable,
-        })
-    }
-
-    /// The names that may stand where this is wanted.
-    fn names(&self, want: Wanted) -> &[&'a [u8]]
-        ensures { (forms : List spec.Form) → IsBlock forms self.entry.now → map (λ n. n.now) result.now ≡ candidates forms want }
-    {
-        match want {
-            Wanted::Array => self.arrays.as_slice(),
-            Wanted::Value => self.values.as_slice(),
-            Wanted::Readable => self.readable.as_slice(),
-        }
-    }
 }
 
 /// The name in a word.
@@ -134,20 +97,27 @@ fn wanted_at(line: &[u8], word: &[u8]) -> Wanted
     Wanted::Readable
 }
 
-/// The nearest name that may stand in the place of a word of a line.
-pub(crate) fn near_name(
-    alloc: Global,
-    block: &Block<'_>,
-    line: &[u8],
-    word: &[u8],
-) -> Result<Hint, OutOfMemory>
-    ensures { IfOk result (λ hint. (forms : List spec.Form) → IsBlock forms block.now → hint ≡ hint_for forms (words_of line.now) word.now UnknownName) }
+/// The nearest of some names.
+fn nearest_of(alloc: Global, name: &[u8], names: &[&[u8]]) -> Result<Hint, OutOfMemory>
+    ensures { IfOk result (λ hint. hint ≡ name_hint (near.nearest name.now (map (λ n. n.now) names.now))) }
 {
-    let names = block.names(wanted_at(line, word));
-    match nearest(alloc, name_in(word), names)? {
+    match nearest(alloc, name, names)? {
         Some(name) => Ok(Hint::Name(Word::of(alloc, name)?)),
         None => Ok(Hint::Nothing),
     }
+}
+
+/// The nearest name of a block that may stand in the place of a word of a line.
+pub(crate) fn near_name(
+    alloc: Global,
+    block: &Table<'_>,
+    line: &[u8],
+    word: &[u8],
+) -> Result<Hint, OutOfMemory>
+    ensures { IfOk result (λ hint. (forms : List spec.Form) → IsTable forms block.now → hint ≡ hint_for forms (words_of line.now) word.now UnknownName) }
+{
+    let names = chosen(alloc, block, wanted_at(line, word))?;
+    nearest_of(alloc, name_in(word), names.as_slice())
 }
 
 /// The number of a word `NAME@NUM`, at most 16; of one without a number it is 1.
@@ -190,12 +160,12 @@ fn numbers_missing(alloc: Global, known: &Known, reach: u8) -> Result<Word, OutO
 /// The initial values that the name in a word needs and has not.
 pub(crate) fn missing_inits(
     alloc: Global,
-    block: &Block<'_>,
+    block: &Table<'_>,
     word: &[u8],
 ) -> Result<Hint, OutOfMemory>
-    ensures { IfOk result (λ hint. (forms : List spec.Form) (words : List (List ℕ)) → IsBlock forms block.now → hint ≡ hint_for forms words word.now MissingInit) }
+    ensures { IfOk result (λ hint. (forms : List spec.Form) (words : List (List ℕ)) → IsTable forms block.now → hint ≡ hint_for forms words word.now MissingInit) }
 {
-    let known = block.table.get(name_in(word));
+    let known = block.get(name_in(word));
     let numbers = numbers_missing(alloc, &known, reach(word))?;
     Ok(Hint::Inits(numbers))
 }

@@ -100,21 +100,35 @@ fn tell_outside<'a>(
     })
 }
 
-/// Tells the faults of a text.
-fn tell_text(alloc: Global, faults: &mut Vec<LintFault>, text: &[u8]) -> Result<(), OutOfMemory>
-    requires { length text.now ≤ MAX_TEXT }
+/// Tells the faults of a text, where no loop has begun yet.
+fn tell_all_lines<'a>(
+    alloc: Global,
+    faults: &mut Vec<LintFault>,
+    names: &mut BTreeSet<&'a [u8]>,
+    text: &'a [u8],
+) -> Result<(), OutOfMemory>
+    requires short { length text.now ≤ MAX_TEXT }
+    requires names { AreNames [] names.old 0 }
     ensures { OnOk result (faults.new.items ≡ faults.old.items ++ outside_lints 1 [] (text_lines text.now)) }
 {
-    let mut names = BTreeSet::new(alloc);
     let mut at = Left {
         number: 1,
         rest: text,
         loops: 0,
     };
     while !at.rest.is_empty() {
-        at = tell_outside(alloc, faults, &mut names, at)?;
+        at = tell_outside(alloc, faults, names, at)?;
     }
     Ok(())
+}
+
+/// Tells the faults of a text.
+fn tell_text(alloc: Global, faults: &mut Vec<LintFault>, text: &[u8]) -> Result<(), OutOfMemory>
+    requires { length text.now ≤ MAX_TEXT }
+    ensures { OnOk result (faults.new.items ≡ faults.old.items ++ outside_lints 1 [] (text_lines text.now)) }
+{
+    let mut names = BTreeSet::new(alloc);
+    tell_all_lines(alloc, faults, &mut names, text)
 }
 
 /// Every fault of a loop text, in the order of its lines, and of a line in the order of the formats.

@@ -8,10 +8,11 @@ ghost use Rattle.loop_lint.specs.Hints.{hint_of, no_hint};
 ghost use Rattle.loop_lint.specs.Lints.{fault_at};
 ghost use Rattle.loop_lint.specs.Words.{placed_words, spot_at};
 ghost use Rattle.loop_lint.specs.inner.Founds.{told_all, told_if};
-ghost use Rattle.loop_lint.specs.inner.Names.{IsBlock};
+ghost use Rattle.loop_lint.specs.inner.Tables.{IsTable};
 
+use crate::block::Table;
 use crate::fault::{Hint, LintFault};
-use crate::hints::{Block, missing_inits, near_name};
+use crate::hints::{missing_inits, near_name};
 use crate::scan::word_at;
 use crate::spots::spot_at;
 use loop_reader::LoopFaultKind;
@@ -81,10 +82,10 @@ fn tell_unknown(
     alloc: Global,
     faults: &mut Vec<LintFault>,
     line: Line<'_>,
-    block: &Block<'_>,
+    block: &Table<'_>,
     word: Option<usize>,
 ) -> Result<(), OutOfMemory>
-    ensures { OnOk result ((forms : List spec.Form) → IsBlock forms block.now
+    ensures { OnOk result ((forms : List spec.Form) → IsTable forms block.now
         → faults.new.items ≡ faults.old.items ++ told_if line.entry.number (placed_words line.entry.bytes.now) (hint_of forms (words_of line.entry.bytes.now)) UnknownName word) }
 {
     let Some(word) = word else {
@@ -100,10 +101,10 @@ fn tell_missing(
     alloc: Global,
     faults: &mut Vec<LintFault>,
     line: Line<'_>,
-    block: &Block<'_>,
+    block: &Table<'_>,
     word: Option<usize>,
 ) -> Result<(), OutOfMemory>
-    ensures { OnOk result ((forms : List spec.Form) → IsBlock forms block.now
+    ensures { OnOk result ((forms : List spec.Form) → IsTable forms block.now
         → faults.new.items ≡ faults.old.items ++ told_if line.entry.number (placed_words line.entry.bytes.now) (hint_of forms (words_of line.entry.bytes.now)) MissingInit word) }
 {
     let Some(word) = word else {
@@ -119,10 +120,10 @@ pub(crate) fn tell_all(
     alloc: Global,
     faults: &mut Vec<LintFault>,
     line: Line<'_>,
-    block: &Block<'_>,
+    block: &Table<'_>,
     found: Found,
 ) -> Result<(), OutOfMemory>
-    ensures { OnOk result ((forms : List spec.Form) → IsBlock forms block.now
+    ensures { OnOk result ((forms : List spec.Form) → IsTable forms block.now
         → faults.new.items ≡ faults.old.items ++ told_all line.entry.number (placed_words line.entry.bytes.now) (hint_of forms (words_of line.entry.bytes.now)) found) }
 {
     tell(faults, line, LoopFaultKind::Limit, found.limit)?;

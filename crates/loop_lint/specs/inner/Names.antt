@@ -1,5 +1,5 @@
 -- Names of loops, in a set, and how far a text has been gone through.
-use Rattle.std.specs.Prelude.{◌≡◌, ℕ, ◌++◌, Bool, List, length, map}
+use Rattle.std.specs.Prelude.{◌≡◌, ℕ, ◌++◌, Bool, List, length}
 use Rattle.std.specs.Borrow.{Bor}
 use Rattle.std.specs.BTreeSet.{BTreeSet, contains_by}
 use Rattle.std.specs.Cmp.Lexicographic.{slice_cmp}
@@ -7,12 +7,7 @@ use Rattle.std.specs.List.{list_any}
 use Rattle.std.specs.Ordering.{nat_cmp}
 use Rattle.machine_data.specs.Opcodes.{same_word}
 use Rattle.loop_lint.specs.Lints.{TextLine, outside_lints}
-use Rattle.loop_lines.specs.Forms.{Form}
-use Rattle.loop_lint.specs.Hints.{candidates}
 use Rattle.loop_lint.specs.declared.fault.LintFault.{LintFault}
-use Rattle.loop_lint.specs.declared.hints.Block.{Block}
-use Rattle.loop_lint.specs.declared.hints.Wanted.TheVariants as wants
-use Rattle.loop_lint.specs.inner.Tables.{IsTable}
 
 -- whether a set of names has a name
 abbrev pub is_among : BTreeSet (Bor (List ℕ)) → List ℕ → Bool
@@ -28,10 +23,3 @@ pub record GoesOn (names : BTreeSet (Bor (List ℕ))) (number loops : ℕ) (left
   pub more : List (List ℕ)
   pub are : AreNames more names loops
   pub same : all ≡ faults ++ outside_lints number more left
-
--- a block has what these lines say, and their names that may stand in places of words
-pub record IsBlock (forms : List Form) (block : Block) : Type 0 where
-  pub table : IsTable forms block.table
-  pub arrays : map (λ (n : Bor (List ℕ)). n.now) block.arrays.items ≡ candidates forms wants.Array
-  pub values : map (λ (n : Bor (List ℕ)). n.now) block.values.items ≡ candidates forms wants.Value
-  pub readable : map (λ (n : Bor (List ℕ)). n.now) block.readable.items ≡ candidates forms wants.Readable

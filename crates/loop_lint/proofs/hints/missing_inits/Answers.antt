@@ -8,7 +8,7 @@ use Rattle.loop_lint.proofs.hints.missing_inits.Goals as goal
 
 pub returns : goal.returns
 returns c = λ forms words is.
-    let table = c.args.block.now.table in
-    ap Inits (missing_are forms table c.args.word.now c.in_ok-numbers.numbers c.reach.result is.table c.reach.ensures.value c.reach.ensures.small
+    let table = c.args.block.now in
+    ap Inits (missing_are forms table c.args.word.now c.in_ok-numbers.numbers c.reach.result is c.reach.ensures.value c.reach.ensures.small
     (c.in_ok-numbers.ensures
     ∙ ap (λ (k : Known). filter (λ (n : ℕ). not (flag_of k.inits (Some n))) (range_with_len 1 c.reach.result)) (c.get-known.ensures ∙ ap (known_at table.names) c.name_in.ensures)))

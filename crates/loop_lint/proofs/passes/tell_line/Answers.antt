@@ -22,4 +22,4 @@ returns-clause-told c = λ lines forms is whole.
     tells_stands c.args.line.number lines c.args.line.bytes.now form c.add.new.self c.args.faults.now.items c.tell_all.new.faults.items forms c.judge-found.result c.is_end.result
     (sym c.in-Some.ensures) (sym c.is_end.ensures) (sym (c.allows.ensures lines is) ∙ c.if-not-allows.false)
     (table_more lines form c.args.before.now c.add.new.self is (near_read c.args.line.bytes.now form (sym c.in-Some.ensures)) added.names added.order added.arrays added.params added.statements added.statement added.out)
-    (c.judge-found.ensures lines forms is whole.table) (c.in_ok-tell_all.ensures forms whole)
+    (c.judge-found.ensures lines forms is whole) (c.in_ok-tell_all.ensures forms whole)

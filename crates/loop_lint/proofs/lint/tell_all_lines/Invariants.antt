@@ -1,7 +1,7 @@
 use Rattle.std.proofs.Common.{◌+◌, ◌++◌, ◌<◌, ◌≤◌, [], length}
 use Rattle.loop_lint.specs.Lints.{outside_lints, text_lines}
 use Rattle.loop_lint.specs.inner.Names.{GoesOn}
-use Rattle.loop_lint.proofs.lint.tell_text.Given as goal
+use Rattle.loop_lint.proofs.lint.tell_all_lines.Given as goal
 
 -- the faults of the lines so far are told
 abbrev pub invariant-loop-at : goal.invariant-loop-at

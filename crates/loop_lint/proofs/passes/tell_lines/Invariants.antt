@@ -1,7 +1,7 @@
 use Rattle.std.proofs.Common.{◌+◌, ◌≤◌, [], length}
 use Rattle.loop_reader.specs.Meaning.{forms_of, whole}
 use Rattle.loop_lint.proofs.Passing.{IsTold}
-use Rattle.loop_lint.proofs.passes.tell_block.Given as goal
+use Rattle.loop_lint.proofs.passes.tell_lines.Given as goal
 
 -- the faults of the lines so far are told
 abbrev pub invariant-loop-alloc : goal.invariant-loop-alloc

@@ -1,7 +1,7 @@
 use Rattle.std.proofs.Common.{◌+◌, ◌≤◌, length}
 use Rattle.loop_reader.specs.Meaning.{forms_of}
 use Rattle.loop_lint.proofs.Passing.{IsGathered}
-use Rattle.loop_lint.proofs.passes.gather.Given as goal
+use Rattle.loop_lint.proofs.passes.gather_lines.Given as goal
 
 -- the table has the standing lines so far, and what is left goes on with them
 abbrev pub invariant-loop-rest : goal.invariant-loop-rest
