@@ -8,6 +8,8 @@ pub mod Rising
 pub mod Judged
 pub mod Numbered
 pub mod Copying
+pub mod Naming
+pub mod Unrolling
 mod Blamed
 pub mod Telling
 mod Searching

@@ -9,6 +9,7 @@ pub mod Trying
 pub mod Told
 pub mod Breaks
 pub mod Copies
+pub mod Names
 pub mod Runs
 pub mod Promises
 pub mod inner
