@@ -16,7 +16,7 @@ use Rattle.solutions.specs.declared.solving.tried.Failure.{Failure}
 use Rattle.solutions.specs.Failures.{FailsFor, IsEvidence}
 use Rattle.solutions.specs.Outcomes.{Gives, first_of, last_of}
 use Rattle.solutions.specs.Solutions.{SolutionData}
-use Rattle.solutions.specs.Told.{IsLastEvidence, IsTold, LastIs, failures_of}
+use Rattle.solutions.specs.Told.{IsLastEvidence, IsTold, LastIs, culprit_in, failures_of, last_culprit}
 use Rattle.solutions.proofs.Rightness.{given-is_right}
 use Rattle.solutions.proofs.Rising.{Risen, met_here, risen_none, risen_on, unmet_here}
 
@@ -104,6 +104,11 @@ last-evidence p cause failures failure are at by =
     subst (λ n. IsEvidence p n cause failure.culprit) last (subst (λ (c : Cause). IsEvidence p (first_of p + (length failures - 1)) c failure.culprit) by fails.is)
 
 -- where no interval gives a solution, the culprits of the last failure are those of the outcome
+pub last-is : (o : Outcome) (failures : List Failure) (failure : Failure) (found : Option Culprit) → ((s : SolutionData) → o ≡ Met s → ⊥)
+    → slice_get failures (length failures - 1) ≡ Some failure → found ≡ failure.culprit → found ≡ last_culprit o failures
+last-is (Met s) failures failure found unmet at e = absurd (unmet s refl)
+last-is (Failed cause) failures failure found unmet at e = e ∙ ap culprit_in (sym at)
+
 pub told-evidence : (p : ProblemData) (told : Told) (o : Outcome) (failure : Failure) (found : Option Culprit) → IsTold p told → told.outcome ≡ o → ((s : SolutionData) → o ≡ Met s → ⊥)
     → slice_get told.failures.items (length told.failures.items - 1) ≡ Some failure → found ≡ failure.culprit → IsLastEvidence p o found
 told-evidence p told (Met s) failure found is same unmet at e = absurd (unmet s refl)

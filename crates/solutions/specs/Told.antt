@@ -39,3 +39,12 @@ pub record IsSearched (problem : ProblemData) (solved : Solved) : Type 0 where
   pub is_solved : IsSolved problem solved.outcome
   pub is_right : IsRightOutcome solved.outcome
   pub evidence : IsLastEvidence problem solved.outcome solved.culprit
+
+-- the culprits as they are read off what is told: nobody where there is a solution, and else those of the last failure
+abbrev pub culprit_in : Option Failure → Option Culprit
+culprit_in None = None
+culprit_in (Some failure) = failure.culprit
+
+abbrev pub last_culprit : Outcome → List Failure → Option Culprit
+last_culprit (Met s) failures = None
+last_culprit (Failed cause) failures = culprit_in (slice_get failures (length failures - 1))

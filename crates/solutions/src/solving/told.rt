@@ -3,7 +3,7 @@
 ghost use Rattle.std.specs.Prelude.{◌≡◌, IfOk, OnOk};
 ghost use Rattle.std.specs.Option.{option_copied};
 ghost use Rattle.problems.specs.Problems.{ProblemData};
-ghost use Rattle.solutions.specs.Told.{IsLastEvidence, IsTold};
+ghost use Rattle.solutions.specs.Told.{IsLastEvidence, IsTold, last_culprit};
 
 use crate::solving::outcome::{Cause, Outcome};
 use crate::solving::trials::Trials;
@@ -26,7 +26,8 @@ pub struct Told<'a> {
 impl<'a> Told<'a> {
     /// The culprits of the last interval that was tried, where no interval gave a solution; of a lack of registers nobody.
     pub fn culprit(&self) -> Option<&Culprit>
-        ensures { (problem : ProblemData) → IsTold problem self.now → IsLastEvidence problem self.now.outcome (option_copied result) }
+        ensures value { option_copied result ≡ last_culprit self.now.outcome self.now.failures.items }
+        ensures evidence { (problem : ProblemData) → IsTold problem self.now → IsLastEvidence problem self.now.outcome (option_copied result) }
     {
         if let Outcome::Met(_) = self.outcome {
             return None;
