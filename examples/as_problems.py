@@ -3,7 +3,8 @@
 
 Prints the loops of a file, on the machine of a machine text, as scheduling problems: `modsched solve` comes to the intervals, times and registers for them that `modsched schedule`
 comes to for the loops. Kinds are opcodes; values, reads and other edges are those of `modsched edges`. What operations compute is no part of a problem, and so are arrays,
-parameters and initial values none. The program is ./modsched at the top of the repository, or the one that the variable MODSCHED names.
+parameters and initial values none. The program is the one that the variable MODSCHED names, else bin/modsched or ./modsched above this folder,
+else that of the path.
 """
 from __future__ import annotations
 
@@ -15,7 +16,8 @@ import tomllib
 from collections.abc import Iterator
 
 ROOT = os.path.dirname(os.path.dirname(os.path.realpath(__file__)))
-PROGRAM = os.environ.get("MODSCHED") or os.path.join(ROOT, "modsched")
+# (an archive of a release has it in bin)
+PROGRAM = os.environ.get("MODSCHED") or next((it for it in (f"{ROOT}/bin/modsched", f"{ROOT}/modsched") if os.path.isfile(it)), "modsched")
 
 
 def hold(row: str) -> str:
@@ -71,9 +73,12 @@ def problem_lines(block: str, outs: dict[str, set[str]]) -> Iterator[str]:
 
 
 def main(machine: str, loops: str) -> None:
-    ran = subprocess.run([PROGRAM, "edges", machine, loops], capture_output=True, text=True)
+    try:
+        ran = subprocess.run([PROGRAM, "edges", machine, loops], stdout=subprocess.PIPE, text=True)
+    except OSError as fault:
+        sys.exit(f"as_problems.py: {PROGRAM} does not run: {fault.strerror}")
     if ran.returncode:
-        sys.exit(ran.stderr.strip())
+        sys.exit(ran.returncode)
     outs = outs_of(loops)
     for line in machine_lines(machine):
         print(line)

@@ -9,7 +9,7 @@ that `modsched check` takes: of each problem the one at the least interval, and 
 `least none` says that no interval that was tried has a solution, and `least at most L` that z3 decided nothing of some interval below within the seconds (60) that each may take.
 What is decided is whether there are times, alternatives and numbers of registers at that interval that keep each edge, each unit, 64 stages and each register; a budget there is not.
 With --interval only that one is tried, and `none at I` says that it has no solution. With --table there are rows of a table. z3 has to be installed (Debian: apt-get install python3-z3).
-The program is ./modsched at the top of the repository, or the one that the variable MODSCHED names.
+The program is the one that the variable MODSCHED names, else bin/modsched or ./modsched above this folder, else that of the path.
 """
 from __future__ import annotations
 
@@ -25,7 +25,8 @@ from typing import NamedTuple
 import z3
 
 ROOT = os.path.dirname(os.path.dirname(os.path.realpath(__file__)))
-PROGRAM = os.environ.get("MODSCHED") or os.path.join(ROOT, "modsched")
+# (an archive of a release has it in bin)
+PROGRAM = os.environ.get("MODSCHED") or next((it for it in (f"{ROOT}/bin/modsched", f"{ROOT}/modsched") if os.path.isfile(it)), "modsched")
 STAGES = 64
 
 
@@ -233,9 +234,12 @@ class Told:
 
 def solve(path: str) -> dict[str, Told]:
     """What `modsched solve` says, by the names of problems."""
-    ran = subprocess.run([PROGRAM, "solve", path], capture_output=True, text=True)
-    if ran.returncode > 1:
-        sys.exit(ran.stderr.strip())
+    try:
+        ran = subprocess.run([PROGRAM, "solve", path], stdout=subprocess.PIPE, text=True)
+    except OSError as fault:
+        sys.exit(f"optimal.py: {PROGRAM} does not run: {fault.strerror}")
+    if ran.returncode not in (0, 1):
+        sys.exit(ran.returncode)
     told = {}
     for block in re.split(r"(?m)^(?=# \S+ ops \d+ res )", ran.stdout)[1:]:
         name, bound = re.match(r"# (\S+) ops \d+ res \d+ rec (\d+)", block).groups()

@@ -18,6 +18,9 @@
 #include <stddef.h>
 #include <stdint.h>
 
+/* The version of the program and of the libraries. */
+#define MODSCHED_VERSION "0.1.0"
+
 #ifdef __cplusplus
 extern "C" {
 #endif

@@ -18,7 +18,7 @@ def arguments() -> argparse.Namespace:
         description="Solves the problems of problems.json with libmodsched.so (./x library makes it), and writes solutions.json. A line on standard error tells of"
         " each problem that has no solution, and why: the status is then 1.",
     )
-    parser.add_argument("--library", default=os.path.join(solving.ROOT, "out", "libmodsched.so"), metavar="FILE", help="the library (out/libmodsched.so)")
+    parser.add_argument("--library", default=solving.library_beside(), metavar="FILE", help="the library (%(default)s)")
     parser.add_argument("--ratio", type=int, default=6, help="placements for each operation in an attempt, 1 to 64 (6)")
     parser.add_argument("--ceiling", type=int, default=64, help="how many intervals above the least one are tried, 0 to 255 (64)")
     parser.add_argument("problems", metavar="problems.json")

@@ -27,7 +27,7 @@ def arguments() -> argparse.Namespace:
         " reason, as Markdown. Standard error tells how many processor seconds clang and the library took.",
     )
     parser.add_argument("--machine", action="append", metavar="FILE.toml", help="a machine, once or more often (machines/four.toml and eight.toml)")
-    parser.add_argument("--library", default=os.path.join(solving.ROOT, "out", "libmodsched.so"), metavar="FILE", help="the library (out/libmodsched.so)")
+    parser.add_argument("--library", default=solving.library_beside(), metavar="FILE", help="the library (%(default)s)")
     parser.add_argument("files", nargs="+", metavar="LOOPS.c", help="a C file")
     return parser.parse_args()
 

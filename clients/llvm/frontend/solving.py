@@ -12,6 +12,12 @@ import modsched  # noqa: E402
 FAULT = "the problem is at fault"
 
 
+def library_beside() -> str:
+    """The library that ./x library has made, else the one of this archive, else the name by which the system finds one."""
+    paths = [os.path.join(ROOT, it, "libmodsched.so") for it in ("out", "lib")]
+    return next((it for it in paths if os.path.isfile(it)), modsched.SHARED)
+
+
 def library_problem(machine: dict[str, Any], problem: dict[str, Any]) -> modsched.Problem:
     """A problem as the library's client has it."""
     it = modsched.Problem()

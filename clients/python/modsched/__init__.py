@@ -21,6 +21,8 @@ from .words import break_in_words, fault_in_words
 
 __all__ = ["AtFault", "Broken", "Library", "NoInterval", "Printed", "Problem", "Refused", "Schedule"]
 
+# By this name the system finds the library of this version.
+SHARED = "libmodsched.so.0.1"
 u32, u64, size = ctypes.c_uint32, ctypes.c_uint64, ctypes.c_size_t
 
 
@@ -243,7 +245,7 @@ def _at_fault(problem: Problem, fault: _Fault) -> AtFault:
 class Library:
     """The library at a path, or of this name where the system finds it. Any number of threads may call it at once."""
 
-    def __init__(self, path: str = "libmodsched.so.0"):
+    def __init__(self, path: str = SHARED):
         library = ctypes.CDLL(path)
         self._solve, self._check = library.modsched_solve, library.modsched_check
         array: list[Any] = [ctypes.POINTER(u64), size]
