@@ -27,8 +27,16 @@ def _unit(machine: dict[str, Any], kind: str, alternative: int) -> str:
     return min(holds, key=lambda it: it["offset"])["unit"]
 
 
+def _text(texts: dict[str, list[str]], file: str) -> list[str]:
+    """The lines of a source: those of its path, or else of the one file that has its name."""
+    if file in texts:
+        return texts[file]
+    named = [text for path, text in texts.items() if os.path.basename(path) == os.path.basename(file)]
+    return named[0] if len(named) == 1 else []
+
+
 def _line(texts: dict[str, list[str]], operation: dict[str, Any]) -> str:
-    text = texts.get(os.path.basename(operation["file"]), [])
+    text = _text(texts, operation["file"])
     return text[operation["line"] - 1].strip() if 0 < operation["line"] <= len(text) else ""
 
 
@@ -50,6 +58,15 @@ def kernel_lines(machine: dict[str, Any], problem: dict[str, Any], solution: dic
             yield f"{number}:"
 
 
+def shown(document: dict[str, Any], solutions: dict[str, Any], texts: dict[str, list[str]]) -> list[str]:
+    """The lines of all kernels that there are of loops of these sources, each after an empty line but the first."""
+    found, lines = {it["name"]: it for it in solutions["solutions"]}, []
+    for problem in document["problems"]:
+        if problem["name"] in found and _text(texts, problem["source"]["file"]):
+            lines += ["", *kernel_lines(document["machine"], problem, found[problem["name"]], texts)]
+    return lines[1:]
+
+
 def main() -> int:
     """Runs the command."""
     given = arguments()
@@ -59,17 +76,19 @@ def main() -> int:
         texts = {}
         for path in given.files:
             with open(path, encoding="utf-8") as it:
-                texts[os.path.basename(path)] = it.read().split("\n")
+                texts[path] = it.read().split("\n")
     except (OSError, ValueError) as bad:
         print(f"show.py: {bad}", file=sys.stderr)
         return 2
-    found = {it["name"]: it for it in solutions["solutions"]}
-    shown = [it for it in document["problems"] if it["name"] in found and os.path.basename(it["source"]["file"]) in texts]
-    for number, problem in enumerate(shown):
-        if number:
-            print()
-        for line in kernel_lines(document["machine"], problem, found[problem["name"]], texts):
-            print(line)
+    try:
+        lines = shown(document, solutions, texts)
+    except (AttributeError, IndexError, KeyError, TypeError) as bad:
+        print(f"show.py: {given.solutions} does not fit {given.problems}: {bad}", file=sys.stderr)
+        return 2
+    if not lines:
+        print(f"show.py: no loop of these files has a solution in {given.solutions}", file=sys.stderr)
+        return 2
+    print("\n".join(lines))
     return 0
 
 

@@ -148,6 +148,37 @@ class Shown(unittest.TestCase):
             "     x   f:copy ?1",
             "1:   x   a.c:2:add ?2   s += x[i];",
         ])
+        # (where two files have the name, neither is its source)
+        others = {"one/a.c": ["", "1"], "other/a.c": ["", "2"]}
+        self.assertEqual(list(show.kernel_lines(machine, problem, solution, others))[1], "0:   m   a.c:2:load ?0")
+
+    def test_one_name(self):
+        """Of two files with one name each loop has the lines of its own."""
+        for folder in ("one", "other"):
+            os.mkdir(os.path.join(common.ROOM, folder))
+        paths = [written("one/same.c", SMALL), written("other/same.c", "\n" + SMALL.replace("x[i]", "-x[i]"))]
+        document = json.loads(run("problems.py", *paths).stdout)
+        self.assertEqual([it["source"]["file"] for it in document["problems"]], paths)
+        written("same.json", json.dumps(document))
+        written("solved.json", json.dumps(plain.solved(document)))
+        done = run("show.py", "same.json", "solved.json", *paths)
+        self.assertEqual(done.returncode, 0, done.stderr)
+        one, other = done.stdout.split("\n\n")
+        self.assertIn("s += x[i];", one)
+        self.assertIn("s += -x[i];", other)
+
+    def test_what_does_not_fit(self):
+        """Solutions of other problems, of none of them, and no solutions at all."""
+        document = json.loads(run("problems.py", written("small.c", SMALL)).stdout)
+        written("p.json", json.dumps(document))
+        solution = {"name": "f", "interval": 1, "stages": 1, "times": {"elsewhere": 0}, "alternatives": {"elsewhere": 0}}
+        for told, said in [
+            ({"solutions": [solution]}, "s.json does not fit p.json: 'small.c:4:load'"), ({}, "s.json does not fit p.json: 'solutions'"),
+            ({"solutions": []}, "no loop of these files has a solution in s.json"),
+        ]:
+            with self.subTest(said):
+                done = run("show.py", "p.json", written("s.json", json.dumps(told)), "small.c")
+                self.assertEqual((done.returncode, done.stdout, done.stderr), (2, "", f"show.py: {said}\n"))
 
 
 class Readme(unittest.TestCase):
