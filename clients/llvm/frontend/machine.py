@@ -1,6 +1,7 @@
-"""Machine files: what a machine issues, read from TOML (docs/CLIENTS.md, "The machine file")."""
+"""Machine files: what a machine issues, read from TOML (docs/MACHINE_FILES.md)."""
 from __future__ import annotations
 
+import re
 import tomllib
 from dataclasses import dataclass, field
 from typing import Any, Callable
@@ -65,6 +66,28 @@ def _checked(value: Any, of: type, what: str) -> Any:
     return value
 
 
+def _needed(table: dict, key: str, of: type, what: str) -> Any:
+    if key not in table:
+        raise BadMachine(f"{what} is missing")
+    return _checked(table[key], of, what)
+
+
+def _within(value: Any, least: int, most: int, what: str) -> int:
+    """A number that is in the range of texts of problems."""
+    if not least <= _checked(value, int, what) <= most:
+        raise BadMachine(f"{what} is {value}, and not {least} to {most}")
+    return value
+
+
+def _listed(values: list, most: int, what: str) -> list:
+    """A list with 1 to `most` values, all different."""
+    _within(len(values), 1, most, f"the number of {what}")
+    for place, it in enumerate(values):
+        if it in values[:place]:
+            raise BadMachine(f"{what}: {it if isinstance(it, str) else '@'.join(map(str, it))} is there twice")
+    return values
+
+
 def _named(name: Any, what: str, without: str = "#") -> str:
     """A name as texts of problems take it."""
     text = _checked(name, str, what)
@@ -74,10 +97,10 @@ def _named(name: Any, what: str, without: str = "#") -> str:
 
 
 def _hold(text: Any, units: list[str], what: str) -> tuple[str, int]:
-    unit, _, offset = _checked(text, str, what).partition("@")
-    if unit not in units or not (offset or "0").isdigit():
+    unit, sign, offset = _checked(text, str, what).partition("@")
+    if unit not in units or sign and not re.fullmatch("[0-9]{1,9}", offset):
         raise BadMachine(f"{what}: {text} is no unit, nor one with an offset")
-    return unit, int(offset or 0)
+    return unit, _within(int(offset or 0), 0, 63, f"{what}: the offset of {text}")
 
 
 def _terms(table: dict, key: str, what: str) -> tuple[Term, ...]:
@@ -92,24 +115,27 @@ def _kind(name: str, table: Any, units: list[str], files: dict[str, int]) -> Kin
     unknown = set(_checked(table, dict, what)) - {"of", "latency", "alternatives", "file", "offsets"}
     if unknown:
         raise BadMachine(f"{what}: {min(unknown)} is no key of a kind")
-    alternatives = tuple(tuple(_hold(it, units, what) for it in holds) for holds in _checked(table.get("alternatives"), list, f"{what}.alternatives"))
+    alternatives = []
+    for holds in _needed(table, "alternatives", list, f"{what}.alternatives"):
+        found = [_hold(it, units, f"{what}.alternatives") for it in _checked(holds, list, f"an alternative of {what}")]
+        alternatives.append(tuple(_listed(found, 16, f"holds of an alternative of {what}")))
+    _within(len(alternatives), 1, 16, f"the number of {what}.alternatives")
     file = table.get("file", next(iter(files)))
     if file not in files:
         raise BadMachine(f"{what}: there is no file {file}")
-    latency = _checked(table.get("latency"), int, f"{what}.latency")
+    latency = _within(_needed(table, "latency", int, f"{what}.latency"), 1, 64, f"{what}.latency")
     offsets = _checked(table.get("offsets", {}), dict, f"{what}.offsets")
     for leaf, offset in offsets.items():
         if not 0 <= _checked(offset, int, f"{what}.offsets.{leaf}") < latency:
             raise BadMachine(f"{what}.offsets.{leaf} is not from 0 to below the latency")
-    return Kind(name, _terms(table, "of", what), latency, alternatives, file, offsets)
+    return Kind(name, _terms(table, "of", what), latency, tuple(alternatives), file, offsets)
 
 
 def _files(table: dict) -> dict[str, int]:
     found = {}
-    for name, registers in _checked(table.get("files"), dict, "files").items():
-        found[_named(name, "files")] = 0 if registers == "unallotted" else _checked(registers, int, f"files.{name}")
-    if not found:
-        raise BadMachine("there is no file")
+    for name, registers in _needed(table, "files", dict, "files").items():
+        found[_named(name, "files")] = 0 if registers == "unallotted" else _within(registers, 1, 256, f"files.{name}")
+    _within(len(found), 1, 8, "the number of files")
     return found
 
 
@@ -122,11 +148,12 @@ def machine_of(text: str) -> Machine:
     unknown = set(table) - {"name", "units", "files", "kinds", "counter", "addresses", "free", "lacks"}
     if unknown:
         raise BadMachine(f"{min(unknown)} is no key of a machine")
-    units, files = [_named(it, "units", "#@|") for it in _checked(table.get("units"), list, "units")], _files(table)
-    kinds = {name: _kind(name, it, units, files) for name, it in _checked(table.get("kinds"), dict, "kinds").items()}
+    units, files = _listed([_named(it, "units", "#@|") for it in _needed(table, "units", list, "units")], 64, "units"), _files(table)
+    kinds = {name: _kind(name, it, units, files) for name, it in _needed(table, "kinds", dict, "kinds").items()}
+    _within(len(kinds), 0, 256, "the number of kinds")
     addresses = _checked(table.get("addresses", {}), dict, "addresses")
     return Machine(
-        _named(table.get("name"), "name"), units, files, kinds, bool(table.get("counter", False)), bool(addresses.get("affine", False)),
+        _named(_needed(table, "name", str, "name"), "name"), units, files, kinds, bool(table.get("counter", False)), bool(addresses.get("affine", False)),
         _checked(addresses.get("scales", []), list, "addresses.scales"), list(_terms(table, "free", "machine")), list(_terms(table, "lacks", "machine")),
     )
 

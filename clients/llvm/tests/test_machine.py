@@ -105,11 +105,17 @@ class Machines(unittest.TestCase):
 
     def test_faults(self):
         changes = [
-            ('name = "small"', "", "name is not"), ('["a", "b"]', "3", "units is not"), ('["a"]', '["c"]', "c is no unit"), ('"a@2"', '"a@x"', "a@x is no unit"),
-            ('"sub"', '"sub("', "is no term"), ("latency = 2", "", "kinds.multiply.latency"), ('file = "p"', 'file = "q"', "no file q"),
+            ('name = "small"', "", "name is missing"), ('["a", "b"]', "3", "units is not"), ('["a"]', '["c"]', "c is no unit"), ('"a@2"', '"a@x"', "a@x is no unit"),
+            ('"sub"', '"sub("', "is no term"), ("latency = 2", "", "kinds.multiply.latency is missing"), ('file = "p"', 'file = "q"', "no file q"),
             ('"unallotted"', '"many"', "files.p"), ("latency = 3", "delay = 3", "delay is no key"), ("files =", "file =", "file is no key"),
             ('"mul:i64"]', '"mul:i64"]\nof = []', "overwrite"), ('["a", "b"]', '["a", "b@1"]', "b@1' is no name"), ("r = 8", '"r s" = 8', "r s' is no name"),
-            ("c = 1", "c = 3", "offsets.c is not from 0"), ("units =", "units", "Expected"), ("r = 8", "r = true", "files.r"),
+            ("c = 1", "c = 3", "offsets.c is not from 0"), ("units =", "units", "Expected"), ("r = 8", "r = true", "files.r is not of the type int"),
+            ('["b", "a@2"]', '"b"', "an alternative of kinds.add is not of the type list"), ('["b", "a@2"]', "1", "an alternative of kinds.add is not"),
+            ('"a@2"', '"a@\u00b2"', "is no unit"), ('"a@2"', '"a@"', "a@ is no unit"), ('"a@2"', '"a@64"', "the offset of a@64 is 64, and not 0 to 63"),
+            ('"a@2"', '"b@0"', "holds of an alternative of kinds.add: b@0 is there twice"), ('["b", "a@2"]', "[]", "is 0, and not 1 to 16"),
+            ('[["a"], ["b", "a@2"]]', "[]", "the number of kinds.add.alternatives is 0, and not 1 to 16"), ('["a", "b"]', '["a", "a"]', "units: a is there twice"),
+            ('["a", "b"]', "[]", "the number of units is 0, and not 1 to 64"), ("latency = 2", "latency = 0", "kinds.multiply.latency is 0, and not 1 to 64"),
+            ("latency = 2", "latency = 65", "kinds.multiply.latency is 65"), ("r = 8", "r = 257", "files.r is 257, and not 1 to 256"),
         ]
         for old, new, said in changes:
             with self.subTest(new):

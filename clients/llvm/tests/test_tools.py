@@ -83,7 +83,7 @@ class Problems(unittest.TestCase):
         self.assertEqual((done.returncode, done.stdout), (2, ""))
         self.assertIn("clang refuses broken.c", done.stderr)
         done = run("problems.py", "--machine", written("bad.toml", "name = 3\n"), written("small.c", SMALL))
-        self.assertEqual((done.returncode, done.stderr), (2, "problems.py: units is not of the type list\n"))
+        self.assertEqual((done.returncode, done.stderr), (2, "problems.py: units is missing\n"))
         done = run("problems.py", "small.c", clang="/nowhere")
         self.assertEqual((done.returncode, done.stderr), (2, "problems.py: clang is not on the path\n"))
 
