@@ -8,6 +8,7 @@ import sys
 
 HERE = os.path.dirname(os.path.realpath(__file__))
 sys.path.insert(0, HERE)
+from frontend import what_lacks  # noqa: E402
 
 
 def arguments() -> argparse.Namespace:
@@ -29,8 +30,8 @@ def main() -> int:
     given = arguments()
     try:
         from frontend import clang, machine, problem, reader, text
-    except ImportError as lacking:
-        print(f"problems.py: {lacking}: python3-llvmlite is not installed", file=sys.stderr)
+    except ImportError as fault:
+        print(f"problems.py: {what_lacks(fault)}", file=sys.stderr)
         return 2
     try:
         target = machine.read_machine(given.machine)

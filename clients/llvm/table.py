@@ -12,8 +12,14 @@ from typing import Any, Callable, Iterator
 
 HERE = os.path.dirname(os.path.realpath(__file__))
 sys.path.insert(0, HERE)
-from frontend import clang, problem, reader, solving  # noqa: E402
-from frontend.machine import read_machine  # noqa: E402
+from frontend import what_lacks  # noqa: E402
+
+try:
+    from frontend import clang, problem, reader, solving
+    from frontend.machine import BadMachine, read_machine
+except ImportError as fault:
+    print(f"table.py: {what_lacks(fault)}", file=sys.stderr)
+    sys.exit(2)
 
 MACHINES = [os.path.join(HERE, "machines", f"{it}.toml") for it in ("four", "eight")]
 Solver = Callable[[dict[str, Any]], dict[str, Any]]
@@ -114,7 +120,7 @@ def main() -> int:
     try:
         library = solving.modsched.Library(given.library)
         lines, times = table(given.files, given.machine or MACHINES, lambda it: solving.solved(library, it))
-    except (OSError, clang.NoClang) as bad:
+    except (OSError, clang.NoClang, BadMachine, reader.Unread) as bad:
         print(f"table.py: {bad}", file=sys.stderr)
         return 2
     print("\n".join(lines))

@@ -1,10 +1,14 @@
 """Runs clang."""
 from __future__ import annotations
 
+import functools
 import os
+import re
 import shutil
 import subprocess
 from typing import Sequence
+
+from llvmlite import binding
 
 # Loops stay as they are written: nothing is vectorized, unrolled, or made a call of memcpy or the like.
 FLAGS = ["-O2", "-gline-tables-only", "-fno-vectorize", "-fno-slp-vectorize", "-fno-unroll-loops", "-fno-discard-value-names"]
@@ -17,11 +21,12 @@ class NoClang(Exception):
 
 def command() -> str:
     """The path of clang: what CLANG says, else clang-14, else clang."""
-    for name in (os.environ.get("CLANG"), "clang-14", "clang"):
-        path = shutil.which(name) if name else None
+    named = os.environ.get("CLANG")
+    for name in [named] if named else ["clang-14", "clang"]:
+        path = shutil.which(name)
         if path:
             return path
-    raise NoClang("clang is not on the path")
+    raise NoClang(f"CLANG names {named}, which is not there" if named else "clang is not on the path: apt-get install clang-14, or name one by CLANG")
 
 
 def run(arguments: list[str]) -> str:
@@ -32,8 +37,20 @@ def run(arguments: list[str]) -> str:
     return done.stdout
 
 
+@functools.cache
+def version() -> int:
+    """The first number of clang's version."""
+    told = re.search(r"version (\d+)", run(["--version"]))
+    if not told:
+        raise NoClang(f"{command()} does not tell its version")
+    return int(told[1])
+
+
 def to_ir(path: str, flags: Sequence[str] = ()) -> str:
-    """The LLVM IR of a C file, as text, compiled with some more flags."""
+    """The LLVM IR of a C file, as text, compiled with some more flags. Raises NoClang where it would be newer than what llvmlite reads."""
+    known = binding.llvm_version_info[0]
+    if version() > known:
+        raise NoClang(f"{command()} is of version {version()}, and llvmlite reads up to version {known}: apt-get install clang-{known}, or name one by CLANG")
     return run([*FLAGS, *flags, "-S", "-emit-llvm", "-o", "-", path])
 
 

@@ -28,11 +28,10 @@ int g(const char *x) {
 """
 
 
-def run(*words: str, clang: str | None = None) -> subprocess.CompletedProcess:
-    """Runs a command of the client."""
-    environment = dict(os.environ) if clang is None else {**os.environ, "PATH": clang, "CLANG": ""}
+def run(*words: str, **environment: str) -> subprocess.CompletedProcess:
+    """Runs a command of the client, with some variables."""
     command = [sys.executable, os.path.join(common.CLIENT, words[0]), *words[1:]]
-    return subprocess.run(command, capture_output=True, text=True, env=environment, cwd=common.ROOM, stdin=subprocess.DEVNULL)
+    return subprocess.run(command, capture_output=True, text=True, env={**os.environ, **environment}, cwd=common.ROOM, stdin=subprocess.DEVNULL)
 
 
 def written(name: str, text: str) -> str:
@@ -84,8 +83,29 @@ class Problems(unittest.TestCase):
         self.assertIn("clang refuses broken.c", done.stderr)
         done = run("problems.py", "--machine", written("bad.toml", "name = 3\n"), written("small.c", SMALL))
         self.assertEqual((done.returncode, done.stderr), (2, "problems.py: units is missing\n"))
-        done = run("problems.py", "small.c", clang="/nowhere")
-        self.assertEqual((done.returncode, done.stderr), (2, "problems.py: clang is not on the path\n"))
+        done = run("problems.py", "small.c", PATH="/nowhere", CLANG="")
+        self.assertEqual((done.returncode, done.stderr), (2, "problems.py: clang is not on the path: apt-get install clang-14, or name one by CLANG\n"))
+
+    def test_other_clang(self):
+        """A clang that is not there, and one that is newer than llvmlite."""
+        with open(os.path.join(common.ROOM, "clang-99"), "w", encoding="ascii") as it:
+            it.write("#!/bin/sh\necho clang version 99.0.1\n")
+            os.chmod(it.name, 0o755)
+        for name, said in [("nowhere", "CLANG names nowhere, which is not there"), ("./clang-99", "./clang-99 is of version 99, and llvmlite reads up to version ")]:
+            with self.subTest(name):
+                done = run("problems.py", written("small.c", SMALL), CLANG=name)
+                self.assertEqual((done.returncode, done.stdout), (2, ""))
+                self.assertTrue(done.stderr.startswith(f"problems.py: {said}"), done.stderr)
+
+    def test_no_module(self):
+        """Without llvmlite, or before Python 3.11, what is missing is told in one line."""
+        for module, said in [("llvmlite", "python3-llvmlite is not installed"), ("tomllib", "Python 3.11 or later is needed")]:
+            written(f"{module}.py", f"raise ModuleNotFoundError('none', name='{module}')\n")
+            for command in ("problems.py", "table.py"):
+                with self.subTest(module, command=command):
+                    done = run(command, "small.c", PYTHONPATH=common.ROOM)
+                    self.assertEqual((done.returncode, done.stdout, done.stderr), (2, "", f"{command}: {said}\n"))
+            os.remove(os.path.join(common.ROOM, f"{module}.py"))
 
 
 class Solutions(unittest.TestCase):
