@@ -50,6 +50,22 @@ def _reached(start: Block, without: Block | None) -> set[Block]:
     return found
 
 
+def _numbers(entry: Block) -> dict[Block, int]:
+    """A number for each block that is reached, by when a depth-first walk leaves it: only an edge that goes back in a circuit leads to one that is not lower."""
+    found: dict[Block, int] = {}
+    seen, waiting = {entry}, [(entry, iter(entry.successors))]
+    while waiting:
+        block, rest = waiting[-1]
+        to = next((it for it in rest if it not in seen), None)
+        if to is None:
+            found[block] = len(found)
+            waiting.pop()
+        else:
+            seen.add(to)
+            waiting.append((to, iter(to.successors)))
+    return found
+
+
 def _natural_loops(function: Function) -> dict[Block, set[Block]]:
     """Of each header the blocks of its loop: those that come to an edge back to it without passing it."""
     entry, loops = function.blocks[0], {}
@@ -57,7 +73,9 @@ def _natural_loops(function: Function) -> dict[Block, set[Block]]:
     for block in function.blocks:
         for to in block.successors:
             before.setdefault(to, []).append(block)
-    for header in function.blocks:
+    numbers = _numbers(entry)
+    entered = {to for to, its in before.items() if any(numbers.get(to, len(numbers)) >= numbers.get(it, -1) for it in its)}
+    for header in (it for it in function.blocks if it in entered):
         others = _reached(entry, header)
         ends = [it for it in before.get(header, []) if it not in others]
         inside, waiting = {header}, list(ends)
