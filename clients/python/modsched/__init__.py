@@ -14,6 +14,7 @@ prints of the texts of a machine and of loops is had by `schedule`, `json`, `exp
 from __future__ import annotations
 
 import ctypes
+import threading
 from dataclasses import dataclass, field
 from typing import Any, Collection, Mapping, NamedTuple, Sequence
 
@@ -142,12 +143,6 @@ class Schedule:
     numbers: dict[str, int]
 
 
-def _number(names: Sequence[str], name: str) -> int:
-    if name not in names:
-        raise KeyError(name)
-    return names.index(name)
-
-
 def _array(item: Any, items: Sequence[Any]) -> Any:
     """An array with a valid pointer also where it has no items."""
     return (item * max(len(items), 1))(*items)
@@ -176,44 +171,53 @@ class Problem:
     reads: list[tuple[int, int, int, int]] = field(default_factory=list)
     orders: list[tuple[int, int, int, int]] = field(default_factory=list)
 
-    @staticmethod
-    def _new(names: Collection[str], name: str) -> None:
-        if name in names:
+    def __post_init__(self) -> None:
+        # The number of each name, by its sort.
+        self._numbers = {sort: {name: number for number, name in enumerate(names)} for sort, names in self._names().items()}
+
+    def _add(self, sort: str, name: str) -> None:
+        """Gives a name the next number of its sort."""
+        numbers = self._numbers[sort]
+        if name in numbers:
             raise ValueError(f"{name} is there already")
+        numbers[name] = len(numbers)
 
     def unit(self, name: str) -> None:
         """A unit."""
-        self._new(self.units, name)
+        self._add("unit", name)
         self.units.append(name)
 
     def file(self, name: str, registers: int = 0) -> None:
         """A register file with `registers` rotating registers, or 0 where its values are allotted to none."""
-        self._new(self.files, name)
+        self._add("file", name)
         self.files[name] = registers
 
     def kind(self, name: str, latency: int, alternatives: Sequence[Sequence[tuple[str, int]]]) -> None:
         """A kind of operations: its latency in cycles, and its alternatives, each of units with offsets in cycles."""
-        self._new(self.kinds, name)
-        self.kinds[name] = (latency, [[(_number(self.units, unit), at) for unit, at in holds] for holds in alternatives])
+        ways = [[(self._numbers["unit"][unit], at) for unit, at in holds] for holds in alternatives]
+        self._add("kind", name)
+        self.kinds[name] = (latency, ways)
 
     def operation(self, name: str, kind: str) -> None:
         """An operation of a kind."""
-        self._new(self.operations, name)
-        self.operations[name] = _number(list(self.kinds), kind)
+        number = self._numbers["kind"][kind]
+        self._add("operation", name)
+        self.operations[name] = number
 
     def value(self, name: str, maker: str, lands: int, file: str, out: bool = False) -> None:
         """A value that an operation makes, `lands` cycles after its issue, and whether it is live at the end."""
-        self._new(self.values, name)
-        self.values[name] = (_number(list(self.operations), maker), lands, int(out), _number(list(self.files), file))
+        made = (self._numbers["operation"][maker], lands, int(out), self._numbers["file"][file])
+        self._add("value", name)
+        self.values[name] = made
 
     def read(self, value: str, reader: str, distance: int = 0, offset: int = 0) -> None:
         """An operation reads the value of `distance` iterations ago, `offset` cycles after its own issue."""
-        self.reads.append((_number(list(self.values), value), _number(list(self.operations), reader), distance, offset))
+        self.reads.append((self._numbers["value"][value], self._numbers["operation"][reader], distance, offset))
 
     def order(self, first: str, to: str, delay: int, distance: int = 0) -> None:
         """t(to) + interval * distance >= t(first) + delay."""
-        names = list(self.operations)
-        self.orders.append((_number(names, first), _number(names, to), delay, distance))
+        numbers = self._numbers["operation"]
+        self.orders.append((numbers[first], numbers[to], delay, distance))
 
     def _names(self) -> dict[str, list[str]]:
         """The names of each sort, by their numbers."""
@@ -246,7 +250,7 @@ class Library:
     """The library at a path, or of this name where the system finds it. Any number of threads may call it at once."""
 
     def __init__(self, path: str = SHARED):
-        library = ctypes.CDLL(path)
+        library, self._kept = ctypes.CDLL(path), threading.local()
         self._solve, self._check = library.modsched_solve, library.modsched_check
         array: list[Any] = [ctypes.POINTER(u64), size]
         self._solve.argtypes = [ctypes.POINTER(_Problem), u64, u64, *array, *array, *array, ctypes.POINTER(_Answer)]
@@ -258,17 +262,25 @@ class Library:
             numbers = {"run": 3, "plain": 1, "bounds": 0, "edges": 0, "dot": 0}.get(name, 2)
             call.argtypes, call.restype = [*text * (1 if name == "plain" else 2), *[u64] * numbers, *out], u32
 
+    def _room(self, count: int) -> Any:
+        """Room for so many bytes at least. Each thread keeps its own for the next call."""
+        room = getattr(self._kept, "room", None)
+        if room is None or len(room) < count:
+            room = self._kept.room = ctypes.create_string_buffer(count)
+        return room
+
     def _printed(self, name: str, texts: Sequence[str | bytes], *numbers: int) -> Printed:
         given = [it.encode() if isinstance(it, str) else it for it in texts]
         words = [it for text in given for it in (text, len(text))] + list(numbers)
         if any(not 0 <= it < 1 << 64 for it in numbers):
             raise ValueError(f"{numbers} are not all from 0 to 2 ** 64 - 1")
-        told, room = _Told(), ctypes.create_string_buffer(1 << 16)
+        # (what does not fit is searched for twice. Few outputs have more than 16 bytes for each of their texts, which are no longer than 2 MiB)
+        told, room = _Told(), self._room(min(max(1 << 16, 16 * sum(map(len, given))), 1 << 25))
         status = self._texts[name](*words, room, len(room), told)
         if told.bytes > len(room):
-            room = ctypes.create_string_buffer(told.bytes)
+            room = self._room(told.bytes)
             status = self._texts[name](*words, room, len(room), told)
-        handed = room.raw[: told.bytes].decode()
+        handed = bytes(memoryview(room)[: told.bytes]).decode()
         if status in (0, 1):
             return Printed(handed, status == 0)
         if status == 2:
