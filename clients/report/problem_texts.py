@@ -52,6 +52,12 @@ def is_hold(word):
     return is_unit(unit) and (not sign or re.fullmatch(rb"[0-9]+", digits) is not None)
 
 
+def number_of(digits):
+    """The number, or the greatest that is told. (Python refuses to read numbers of some thousand digits.)"""
+    digits = digits.lstrip(b"0")
+    return min(int(digits or b"0"), MOST_NUMBER) if len(digits) <= 20 else MOST_NUMBER
+
+
 class Words:
     """The words of a line, from left to right."""
 
@@ -81,16 +87,16 @@ class Words:
 
     def number(self):
         word, column = self.take("expected a number", lambda it: re.fullmatch(rb"[0-9]+", it))
-        return min(int(word), MOST_NUMBER), column
+        return number_of(word), column
 
     def integer(self):
         word, column = self.take("expected an integer", lambda it: re.fullmatch(rb"-?[0-9]+", it))
-        return int(word), column
+        return -number_of(word[1:]) if word.startswith(b"-") else number_of(word), column
 
     def hold(self):
         word, column = self.take("expected UNIT or UNIT@NUMBER", is_hold)
-        unit, sign, digits = word.decode().partition("@")
-        return (unit, column), (int(digits) if sign else 0, column + len(unit) + 1)
+        unit, _, digits = word.partition(b"@")
+        return (unit.decode(), column), (number_of(digits), column + len(unit) + 1)
 
     def finish(self):
         self.take("nothing may follow here", lambda it: False) if self.following() is not None else None

@@ -10,7 +10,6 @@ import json
 import os
 import subprocess
 import sys
-from concurrent.futures import ThreadPoolExecutor
 from typing import Any
 
 from document import Mismatch, join, text_of
@@ -21,10 +20,10 @@ HERE = os.path.dirname(os.path.realpath(__file__))
 
 
 class Refused(Exception):
-    """The program answered with a status that tells of no output: the status, and what it wrote to standard error."""
+    """There is no page: the status, and the line for standard error, or nothing where the program has said why."""
 
-    def __init__(self, status: int, said: str):
-        super().__init__(said.strip() or f"modsched ends with status {status}")
+    def __init__(self, status: int, said: str = ""):
+        super().__init__(said)
         self.status = status
 
 
@@ -39,18 +38,30 @@ def program_beside() -> str:
 
 def printed(program: str, words: list[str]) -> str:
     """What the program prints. Its status 1 tells that some loop has no kernel, and is well."""
-    ran = subprocess.run([program, *words], stdin=subprocess.DEVNULL, capture_output=True, text=True, encoding="utf-8")
+    try:
+        ran = subprocess.run([program, *words], stdin=subprocess.DEVNULL, stdout=subprocess.PIPE, text=True, encoding="utf-8")
+    except OSError as fault:
+        raise Refused(2, f"report: {program} does not run: {fault.strerror}") from fault
     if ran.returncode not in (0, 1):
-        raise Refused(ran.returncode, ran.stderr)
+        raise Refused(ran.returncode, f"report: {program} is ended by signal {-ran.returncode}" if ran.returncode < 0 else "")
     return ran.stdout
+
+
+def read(path: str) -> bytes:
+    """The bytes of a file."""
+    try:
+        with open(path, "rb") as it:
+            return it.read()
+    except OSError as fault:
+        raise Refused(3, f"report: cannot read {path}: {fault.strerror}") from fault
 
 
 def document_of(program: str, machine: str, loops: str, options: list[str]) -> dict[str, Any]:
     """The document for a machine and loops; the options are those of `explain`."""
     files = [machine, loops]
-    commands = [["edges", *files], ["explain", *files, *options], ["json", *files, *options]]
-    with ThreadPoolExecutor(len(commands)) as pool:
-        edges, explained, listing = pool.map(lambda words: printed(program, words), commands)
+    # (one after another, so that what is refused is told once)
+    edges = printed(program, ["edges", *files])
+    explained, listing = (printed(program, [it, *files, *options]) for it in ("explain", "json"))
     try:
         return join(read_edges(edges), read_explain(explained), json.loads(listing))
     except (json.JSONDecodeError, KeyError, TypeError, IndexError, AttributeError) as fault:
@@ -60,26 +71,21 @@ def document_of(program: str, machine: str, loops: str, options: list[str]) -> d
 def document_of_problems(program: str, problems: str, options: list[str]) -> dict[str, Any]:
     """The document for a text of problems; the options are those of `solve`."""
     told = printed(program, ["solve", problems, *options])
-    with open(problems, "rb") as text:
-        return join_problems(text.read(), told)
+    return join_problems(read(problems), told)
 
 
 def page_of(document: str) -> str:
     """The page around the line of a document."""
-    with open(f"{HERE}/head.html", encoding="utf-8") as head, open(f"{HERE}/tail.html", encoding="utf-8") as tail:
-        return head.read() + document + tail.read()
+    return read(f"{HERE}/head.html").decode() + document + read(f"{HERE}/tail.html").decode()
 
 
 def written(path: str | None, text: bytes) -> int:
     """Writes the page to a file, or to standard output. The status is 6, as that of the program, where the file can't be written."""
-    if path is None:
-        sys.stdout.buffer.write(text)
-        return 0
     try:
-        with open(path, "wb") as to:
+        with open(1 if path is None else path, "wb", closefd=path is not None) as to:
             to.write(text)
     except OSError as fault:
-        print(f"report: cannot write {path}: {fault.strerror}", file=sys.stderr)
+        print(f"report: cannot write {'to standard output' if path is None else path}: {fault.strerror}", file=sys.stderr)
         return 6
     return 0
 
@@ -99,6 +105,8 @@ def parsed(words: list[str] | None) -> argparse.Namespace:
     given = parser.parse_args(words)
     if (given.machine, given.loops).count(None) != (0 if given.problems is None else 2):
         parser.error("a machine and loops are needed, or --problems and a text of problems alone")
+    if "-" in (given.machine, given.loops, given.problems):
+        parser.error("texts are read more than once, so that none of them can be the standard input")
     return given
 
 
@@ -109,19 +117,19 @@ def main(words: list[str] | None = None) -> int:
     options = [word for name in ("ratio", "ceiling") if getattr(given, name) for word in (f"--{name}", getattr(given, name))]
     try:
         if given.problems is not None:
-            document = text_of(document_of_problems(given.modsched, given.problems, options))
+            text = text_of(document_of_problems(given.modsched, given.problems, options))
         else:
-            document = text_of(document_of(given.modsched, given.machine, given.loops, options))
+            text = text_of(document_of(given.modsched, given.machine, given.loops, options))
+        if not given.json:
+            text = page_of(text)
     except (Misfit, Mismatch) as fault:
         print(f"report: {fault}", file=sys.stderr)
         return 8
     except Refused as fault:
-        print(fault, file=sys.stderr)
+        if str(fault):
+            print(fault, file=sys.stderr)
         return fault.status
-    except OSError as fault:
-        print(f"report: {given.modsched} does not run: {fault.strerror}", file=sys.stderr)
-        return 2
-    return written(given.page, (document if given.json else page_of(document)).encode())
+    return written(given.page, text.encode())
 
 
 if __name__ == "__main__":

@@ -14,7 +14,7 @@ sys.path.insert(0, CLIENT)
 from document import Mismatch  # noqa: E402
 from lines import Misfit  # noqa: E402
 from problem_document import join_problems  # noqa: E402
-from problem_texts import read_problems  # noqa: E402
+from problem_texts import Fault, read_problems  # noqa: E402
 from solve_lines import Failure, read_solve  # noqa: E402
 
 # The running sum: what is loaded in cycle 0 lands in 3, when the sum is issued; it lands in 4, but then the memory unit has the load of the iteration two later in
@@ -242,6 +242,15 @@ end
         )
         self.misfits(SUM, failed("budget: t b"), [(3, "t b", "t c", "has a name"), (3, "budget", "fudget", "not a solution")])
 
+    def test_numbers_of_thousands_of_digits(self):
+        text, zeros = SUM.replace("end\n", "edge b t delay -2 distance 1\nend\n"), "0" * 5000
+        (plain,) = read_problems(text.encode())
+        (same,) = read_problems(text.replace("latency 3", f"latency {zeros}3").replace("-2", f"-{zeros}2").replace("| alu", f"| alu@{zeros}").encode())
+        self.assertEqual(plain, same)
+        for old, place in [("latency 3", "4:19"), ("delay -2", "16:16"), ("| alu@0", "6:26")]:
+            with self.assertRaisesRegex(Fault, f"^{place}: number out of range$"):
+                read_problems(text.replace("| alu", "| alu@0").replace(old, old[:-1] + "9" * 5000).encode())
+
     def test_names_that_look_like_their_neighbours(self):
         text = "machine m\nunits u; @b\nfile a.1, rotating 2\nkind k latency 1 | u;\nproblem takes\nop a: k\nop reads k\nvalue to of a: lands 1 in a.1,\nread reads to\nend\n"
         text = text.replace(" @b", " b;")
@@ -286,6 +295,23 @@ class Command(unittest.TestCase):
             self.assertRegex(unwritten.stderr, r"^report: cannot write not/there.html: .*\n$")
             for words in ([], ["m.toml"], ["--problems", "p.txt", "l.txt"], ["--problems", "p.txt", "m.toml", "l.txt"]):
                 self.assertEqual(self.run_with(room, *words).returncode, 2)
+            for words in (["--problems", "-"], ["m.toml", "-"], ["-", "l.txt"]):
+                self.assertIn("none of them can be the standard input", self.run_with(room, *words).stderr)
+
+    def test_what_is_not_there(self):
+        with tempfile.TemporaryDirectory() as room:
+            program = self.run_with(room, "--problems", "p.txt", "--modsched", "not/there")
+            self.assertEqual((program.returncode, program.stdout, program.stderr), (2, "", "report: not/there does not run: No such file or directory\n"))
+            text = self.run_with(room, "--problems", "q.txt")
+            self.assertEqual((text.returncode, text.stdout, text.stderr), (3, "", "report: cannot read q.txt: No such file or directory\n"))
+
+    @unittest.skipUnless(os.path.exists("/dev/full"), "there is no device that is full")
+    def test_full_device(self):
+        with tempfile.TemporaryDirectory() as room, open("/dev/full", "wb") as full:
+            self.run_with(room)  # (writes the stand-in and the text)
+            words = [sys.executable, f"{CLIENT}/report.py", "--modsched", f"{room}/stand_in", "--problems", f"{room}/p.txt"]
+            ended = subprocess.run(words, stdout=full, stderr=subprocess.PIPE, text=True)
+        self.assertEqual((ended.returncode, ended.stderr), (6, "report: cannot write to standard output: No space left on device\n"))
 
 
 if __name__ == "__main__":
