@@ -10,7 +10,7 @@ import json
 import re
 import subprocess
 
-from random_problems import Mismatch
+from random_problems import Mismatch, in_words
 
 # the kinds of the faults of a machine, as all commands name them
 KINDS = ["not UTF-8", "not TOML", "missing key", "wrong type", "unknown key", "unknown unit", "unknown opcode", "repeated unit", "repeated row", "limit"]
@@ -64,8 +64,8 @@ class Rounds:
                 file.write(text)
         try:
             self.compare(*texts)
-        except Mismatch as why:
-            raise Mismatch(f"{why}\n--- machine\n{texts[0]}--- loops\n{texts[1]}") from why
+        except Exception as why:
+            raise Mismatch(f"{in_words(why)}\n--- machine\n{texts[0]}--- loops\n{texts[1]}") from why
 
     def compare(self, machine, loops):
         status, _, said = ended(self.program, "bounds", self.machine, self.loops)

@@ -7,12 +7,18 @@ A round makes a text of problems, from small ones to some at their limits, and c
 import os
 import re
 import subprocess
+import traceback
 
 import plain_texts as plain
 
 
 class Mismatch(Exception):
     pass
+
+
+def in_words(why):
+    """What is wrong; where no comparison has found it, also where it was met."""
+    return str(why) if isinstance(why, (Mismatch, subprocess.TimeoutExpired)) else "".join(traceback.format_exception(why))
 
 
 # texts
