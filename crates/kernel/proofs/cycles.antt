@@ -2,12 +2,14 @@
 pub mod Cycles
 pub mod Ending
 pub mod Filling
+pub mod Flat
 pub mod Held
 pub mod Issuing
 pub mod Landings
 pub mod Launching
 pub mod Naming
 pub mod Promised
+pub mod Room
 pub mod RowWrites
 pub mod Turning
 pub mod Twofold

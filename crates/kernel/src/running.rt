@@ -6,6 +6,7 @@ pub(crate) mod flight;
 pub(crate) mod issue;
 pub(crate) mod land;
 pub(crate) mod prepare;
+pub(crate) mod ring;
 pub(crate) mod run;
 pub(crate) mod simulation;
 pub(crate) mod step;
