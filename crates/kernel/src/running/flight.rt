@@ -4,7 +4,7 @@
 #[derive(Clone, Copy)]
 pub(crate) enum Place {
     /// This physical register.
-    Register(u16),
+    Register(u32),
     /// This cell of this array.
     Cell(u8, i32),
 }
