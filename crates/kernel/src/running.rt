@@ -4,7 +4,6 @@ pub(crate) mod clock;
 pub(crate) mod file;
 pub(crate) mod flight;
 pub(crate) mod issue;
-pub(crate) mod land;
 pub(crate) mod prepare;
 pub(crate) mod ring;
 pub(crate) mod run;
