@@ -1,9 +1,9 @@
 //! The faults of a machine text and of a loop text as a JSON document.
 
-ghost use Rattle.std.specs.Prelude.{◌≡◌, ◌++◌, [], ◌∷◌, IfOk, OnOk, codes, false, map, string_bytes};
-ghost use Rattle.serde_json.specs.Data.{array, member, no_members, object};
+ghost use Rattle.std.specs.Prelude.{◌≡◌, ℕ, List, ◌++◌, [], ◌∷◌, IfOk, OnOk, codes, false, map, string_bytes};
+ghost use Rattle.serde_json.specs.Data.{array, member, no_members, object, string};
 ghost use Rattle.serde_json.specs.View.{items_of, view};
-ghost use Rattle.serde_json.specs.Written.{items_have_float};
+ghost use Rattle.serde_json.specs.Written.{compact_text, items_have_float};
 ghost use Rattle.lint_text.specs.Printout.{SilentBoth};
 ghost use Rattle.lint_text.specs.Document.{IsLintDocument, document_text, fault_value, line_value, loop_value, loop_values, machine_value, machine_values};
 
@@ -12,31 +12,37 @@ use crate::machine_words::{machine_message, machine_word};
 use crate::printout::{LintText, Named, loop_lints, machine_lints};
 use crate::what::loop_message;
 use crate::words::{piece_at, shown_word};
+use json_objects::{object_of, with, with_value};
 use loop_lint::LoopLint;
 use machine_data::OutOfMemory;
 use machine_lint::{MachineLint, declared_units};
 use near_names::Word;
-use serde_json::{Value, json};
+use serde_json::{Map, ToValue, Value, json};
 use std::alloc::Global;
 
-/// A fault.
+/// A text as a value, if it was made.
+fn text_value(text: Result<String, OutOfMemory>) -> Result<Value, OutOfMemory>
+    ensures { (bytes : List ℕ) → IfOk text (λ t. string_bytes t ≡ bytes) → IfOk result (λ v. view v ≡ string bytes) }
+{
+    Ok(Value::String(text?))
+}
+
+/// A fault, if its word and what is said of it were made.
 fn told_fault(
     alloc: Global,
     path: &str,
     line: usize,
     column: usize,
-    word: &str,
-    message: &str,
+    word: Result<String, OutOfMemory>,
+    message: Result<String, OutOfMemory>,
 ) -> Result<Value, OutOfMemory>
-    ensures { IfOk result (λ v. view v ≡ fault_value path.now line column word.now message.now) }
+    ensures { (w m : List ℕ) → IfOk word (λ t. string_bytes t ≡ w) → IfOk message (λ t. string_bytes t ≡ m) → IfOk result (λ v. view v ≡ fault_value path.now line column w m) }
 {
-    json!(in alloc; {
-        "path": path,
-        "line": line,
-        "column": column,
-        "word": word,
-        "message": message
-    })
+    let members = with_value(alloc, Ok(Map::new(alloc)), "column", Value::from(column));
+    let members = with_value(alloc, members, "line", Value::from(line));
+    let members = with(alloc, members, "message", text_value(message));
+    let members = with(alloc, members, "path", path.to_value(alloc));
+    object_of(with(alloc, members, "word", text_value(word)))
 }
 
 /// A fault of a machine text that declares these units.
@@ -48,16 +54,9 @@ fn told_machine(
 ) -> Result<Value, OutOfMemory>
     ensures { IfOk result (λ v. view v ≡ machine_value path.now units.now lint.now) }
 {
-    let word = machine_word(alloc, lint)?;
-    let message = machine_message(alloc, units, lint)?;
-    told_fault(
-        alloc,
-        path,
-        lint.line,
-        lint.column,
-        word.as_str(),
-        message.as_str(),
-    )
+    let word = machine_word(alloc, lint);
+    let message = machine_message(alloc, units, lint);
+    told_fault(alloc, path, lint.line, lint.column, word, message)
 }
 
 /// What is told of this line of a loop text.
@@ -65,16 +64,9 @@ fn told_loop(alloc: Global, path: &str, line: &[u8], lint: &LoopLint) -> Result<
     ensures { IfOk result (λ v. view v ≡ line_value path.now line.now lint.now) }
 {
     let piece = piece_at(line, lint.column(), lint.width());
-    let word = shown_word(alloc, piece)?;
-    let message = loop_message(alloc, lint, line, piece)?;
-    told_fault(
-        alloc,
-        path,
-        lint.line(),
-        lint.column(),
-        word.as_str(),
-        message.as_str(),
-    )
+    let word = shown_word(alloc, piece);
+    let message = loop_message(alloc, lint, line, piece);
+    told_fault(alloc, path, lint.line(), lint.column(), word, message)
 }
 
 /// Pushes a fault of a machine text that declares these units.
@@ -198,14 +190,28 @@ fn document_of(alloc: Global, values: Vec<Value>) -> Result<Value, OutOfMemory>
     json!(in alloc; {"faults": Value::Array(values)})
 }
 
-/// The text of a document.
-#[tactic(auto, using(crate::proofs::Whole::document_whole), unfolding(crate::specs::Document::document_text))]
+/// The text of a document, without its line feed.
+#[tactic(auto, using(crate::proofs::Whole::document_whole))]
 fn written(alloc: Global, values: Vec<Value>) -> Result<String, OutOfMemory>
     requires { items_have_float (items_of (map view values.items)) ≡ false }
-    ensures { IfOk result (λ text. string_bytes text ≡ document_text (map view values.items)) }
+    ensures { IfOk result (λ text. string_bytes text ≡ compact_text (object (member (codes "faults") (array (items_of (map view values.items))) no_members))) }
 {
-    let document = document_of(alloc, values)?;
-    let mut text = document.to_string(alloc)?;
+    document_of(alloc, values)?.to_string(alloc)
+}
+
+/// The line of the document of both texts.
+#[tactic(auto, unfolding(crate::specs::Document::document_text))]
+fn document_line(
+    alloc: Global,
+    machine: Option<Named<'_>>,
+    loops: Option<Named<'_>>,
+    lints: &[MachineLint],
+    faults: &[LoopLint],
+) -> Result<String, OutOfMemory>
+    ensures { IfOk result (λ text. string_bytes text ≡ document_text (machine_values machine.entry lints.now ++ loop_values loops.entry faults.now)) }
+{
+    let values = values_of(alloc, machine, loops, lints, faults)?;
+    let mut text = written(alloc, values)?;
     text.push_str("\n")?;
     Ok(text)
 }
@@ -226,10 +232,8 @@ pub fn lint_document(
 {
     let lints = machine_lints(alloc, machine)?;
     let faults = loop_lints(alloc, machine, loops, &lints)?;
-    let values = values_of(alloc, machine, loops, &lints, &faults)?;
-    let text = written(alloc, values)?;
     Ok(LintText {
-        text: text.into_bytes(),
+        text: document_line(alloc, machine, loops, &lints, &faults)?.into_bytes(),
         machine_faults: !lints.is_empty(),
         loop_faults: !faults.is_empty(),
     })

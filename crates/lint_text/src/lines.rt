@@ -2,6 +2,8 @@
 
 ghost use Rattle.std.specs.Prelude.{◌≡◌, ◌≤◌, ◌++◌, [], drop, slice_index_or, OnOk};
 ghost use Rattle.loop_lines.specs.Words.{lines_of};
+ghost use Rattle.writing.specs.Words.{ended};
+ghost use Rattle.lint_text.specs.What.{message_of};
 ghost use Rattle.lint_text.specs.Lines.{lint_line, loop_text};
 ghost use Rattle.lint_text.specs.Words.{line_at};
 ghost use Rattle.lint_text.specs.inner.Cursors.{IsFrom};
@@ -58,6 +60,20 @@ pub(crate) fn first_line(text: &[u8]) -> &[u8]
     line
 }
 
+/// Pushes what is said of a line at a word of it, as the end of a line.
+fn push_message(
+    alloc: Global,
+    text: &mut Vec<u8>,
+    line: &[u8],
+    word: &[u8],
+    lint: &LoopLint,
+) -> Result<(), OutOfMemory>
+    ensures { OnOk result (text.new.items ≡ text.old.items ++ ended (message_of line.now word.now lint.now)) }
+{
+    let message = loop_message(alloc, lint, line, word)?;
+    push_line(text, message.as_str())
+}
+
 /// Pushes a line for what is told of this line of a loop text.
 fn push_loop_fault(
     alloc: Global,
@@ -69,10 +85,9 @@ fn push_loop_fault(
     ensures { OnOk result (text.new.items ≡ text.old.items ++ lint_line path.now line.now lint.now) }
 {
     let word = piece_at(line, lint.column(), lint.width());
-    let message = loop_message(alloc, lint, line, word)?;
     push_place(text, path, lint.line(), lint.column())?;
     push_word(text, word)?;
-    push_line(text, message.as_str())
+    push_message(alloc, text, line, word, lint)
 }
 
 /// Pushes a line for all that is told of the loop text that has this path and these bytes.

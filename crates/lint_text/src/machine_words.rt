@@ -3,6 +3,7 @@
 ghost use Rattle.std.specs.Prelude.{◌≡◌, ◌++◌, IfOk, OnOk, codes, decimal, string_bytes};
 ghost use Rattle.std.specs.Fmt.{signed_decimal};
 ghost use Rattle.machine.specs.Faults.{key_text};
+ghost use Rattle.machine_lint.specs.Hints.{near_name};
 ghost use Rattle.lint_text.specs.Machines.{found_text, index_text, limits_text, machine_message, machine_what, machine_word, near_text, spot_text, table_text, wanted_text};
 
 use crate::what::push_name;
@@ -250,11 +251,16 @@ fn machine_what(alloc: Global, spot: &Spot, fault: &MachineFault) -> Result<Stri
     }
 }
 
-/// Pushes the name that may be meant, if one is near.
-fn push_near(text: &mut String, near: Option<Word>) -> Result<(), OutOfMemory>
-    ensures { OnOk result (string_bytes text.new ≡ string_bytes text.old ++ near_text near) }
+/// Pushes the name that may be meant in a text that declares these units, if one is near.
+fn push_near(
+    alloc: Global,
+    text: &mut String,
+    units: &[Word],
+    lint: &MachineLint,
+) -> Result<(), OutOfMemory>
+    ensures { OnOk result (string_bytes text.new ≡ string_bytes text.old ++ near_text (near_name units.now lint.now)) }
 {
-    match near {
+    match near_name(alloc, units, lint)? {
         Some(name) => push_name(text, name.as_bytes()),
         None => Ok(()),
     }
@@ -268,8 +274,7 @@ pub(crate) fn machine_message(
 ) -> Result<String, OutOfMemory>
     ensures { IfOk result (λ text. string_bytes text ≡ machine_message units.now lint.now) }
 {
-    let near = near_name(alloc, units, lint)?;
     let mut text = machine_what(alloc, &lint.spot, &lint.fault)?;
-    push_near(&mut text, near)?;
+    push_near(alloc, &mut text, units, lint)?;
     Ok(text)
 }

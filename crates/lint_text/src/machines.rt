@@ -1,6 +1,8 @@
 //! Lines of the faults of a machine text.
 
 ghost use Rattle.std.specs.Prelude.{◌≡◌, ◌++◌, OnOk, flat_map};
+ghost use Rattle.writing.specs.Words.{ended};
+ghost use Rattle.lint_text.specs.Machines.{machine_message, machine_word};
 ghost use Rattle.lint_text.specs.Lines.{machine_line, machine_text, text_told};
 
 use crate::machine_words::{machine_message, machine_word};
@@ -22,6 +24,27 @@ fn push_text(text: &mut Vec<u8>, word: &str) -> Result<(), OutOfMemory>
     text.push_piece(": ")
 }
 
+/// Pushes the key of a fault, with what stands there.
+fn push_key(alloc: Global, text: &mut Vec<u8>, lint: &MachineLint) -> Result<(), OutOfMemory>
+    ensures { OnOk result (text.new.items ≡ text.old.items ++ text_told (machine_word lint.now)) }
+{
+    let word = machine_word(alloc, lint)?;
+    push_text(text, word.as_str())
+}
+
+/// Pushes what is wrong in a text that declares these units, as the end of a line.
+fn push_message(
+    alloc: Global,
+    text: &mut Vec<u8>,
+    units: &[Word],
+    lint: &MachineLint,
+) -> Result<(), OutOfMemory>
+    ensures { OnOk result (text.new.items ≡ text.old.items ++ ended (machine_message units.now lint.now)) }
+{
+    let message = machine_message(alloc, units, lint)?;
+    push_line(text, message.as_str())
+}
+
 /// Pushes the line of a fault of a machine text that declares these units.
 fn push_machine_fault(
     alloc: Global,
@@ -32,11 +55,9 @@ fn push_machine_fault(
 ) -> Result<(), OutOfMemory>
     ensures { OnOk result (text.new.items ≡ text.old.items ++ machine_line path.now units.now lint.now) }
 {
-    let word = machine_word(alloc, lint)?;
-    let message = machine_message(alloc, units, lint)?;
     push_place(text, path, lint.line, lint.column)?;
-    push_text(text, word.as_str())?;
-    push_line(text, message.as_str())
+    push_key(alloc, text, lint)?;
+    push_message(alloc, text, units, lint)
 }
 
 /// Pushes the lines of faults of a machine text that declares these units.

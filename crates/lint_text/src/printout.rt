@@ -112,6 +112,22 @@ fn push_loops(
     }
 }
 
+/// The lines of the faults of both texts, the machine's first.
+fn lines_of(
+    alloc: Global,
+    machine: Option<Named<'_>>,
+    loops: Option<Named<'_>>,
+    lints: &[MachineLint],
+    faults: &[LoopLint],
+) -> Result<Vec<u8>, OutOfMemory>
+    ensures { IfOk result (λ text. text.items ≡ machine_lines machine.entry lints.now ++ loop_lines loops.entry faults.now) }
+{
+    let mut text = Vec::new(alloc);
+    push_machine(alloc, &mut text, machine, lints)?;
+    push_loops(alloc, &mut text, loops, faults)?;
+    Ok(text)
+}
+
 /// A line for each fault of a machine text and of a loop text, if they are given: those of the machine first.
 ///
 /// # Errors
@@ -127,11 +143,8 @@ pub fn lint_printout(
 {
     let lints = machine_lints(alloc, machine)?;
     let faults = loop_lints(alloc, machine, loops, &lints)?;
-    let mut text = Vec::new(alloc);
-    push_machine(alloc, &mut text, machine, &lints)?;
-    push_loops(alloc, &mut text, loops, &faults)?;
     Ok(LintText {
-        text,
+        text: lines_of(alloc, machine, loops, &lints, &faults)?,
         machine_faults: !lints.is_empty(),
         loop_faults: !faults.is_empty(),
     })

@@ -1,5 +1,5 @@
 use Rattle.lint_text.proofs.Whole.{all-whole}
-use Rattle.lint_text.proofs.document.lint_document.Goals as goal
+use Rattle.lint_text.proofs.document.document_line.Goals as goal
 
 pub written-requires : goal.written-requires
 written-requires c = rw c.in_ok-values.ensures (all-whole c.args.machine c.args.loops _ _)
