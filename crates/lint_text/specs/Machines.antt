@@ -55,7 +55,7 @@ wanted_text _ = codes "a table"
 -- the limits of what stands there
 abbrev pub limits_text : Spot → List ℕ
 limits_text spot.Units = codes "1 to 64 units"
-limits_text (spot.Unit n) = codes "a name of at most 16 bytes"
+limits_text (spot.Unit n) = codes "a lower-case letter, and at most 15 lower-case letters, digits or _ after it"
 limits_text spot.Registers = codes "1 to 256"
 limits_text (spot.Latency word) = codes "1 to 64"
 limits_text (spot.Alternatives word) = codes "1 to 8 alternatives"

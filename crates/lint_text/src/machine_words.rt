@@ -195,7 +195,9 @@ fn limits(spot: &Spot) -> &'static str
 {
     match spot {
         Spot::Units => "1 to 64 units",
-        Spot::Unit(_) => "a name of at most 16 bytes",
+        Spot::Unit(_) => {
+            "a lower-case letter, and at most 15 lower-case letters, digits or _ after it"
+        }
         Spot::Registers => "1 to 256",
         Spot::Latency(_) => "1 to 64",
         Spot::Alternatives(_) => "1 to 8 alternatives",
