@@ -3,16 +3,15 @@
 ghost use Rattle.std.specs.Prelude.{◌≤◌, ◌<◌};
 ghost use Rattle.ims.specs.Problems.{mii_of};
 
-use super::{found, is_found};
-use ims::Prepared;
-use loops::read_loops;
+use super::prepared_for;
+use ims::{Prepared, Schedule, Try, attempt};
 use machine::{Machine, read_machine};
 use machine_data::OutOfMemory;
-use mrt::{MaskTable, OwnerTable, TimelineTable};
+use mrt::{MaskTable, ModuloTable, OwnerTable, TimelineTable};
 use std::alloc::Global;
 use std::process::Abort;
-use std::test::Fail;
 use worked_texts::{CLUSTERED, FEW, GALLERY_LOOPS, LOOPS, MACHINES, SMALL_DSP, WIDE};
+use writing::push_told;
 
 /// The machines of the gallery.
 const GALLERY_MACHINES: &[&str] = &[SMALL_DSP, CLUSTERED, WIDE];
@@ -27,58 +26,98 @@ ops.add = { latency = 1, alts = [["alu@0"], ["mem@0", "alu@9"]] }
 ops.mul = { latency = 4, alts = [["alu@0", "alu@2"]] }
 "#;
 
-/// The tables agree at an interval.
-fn agree_at(rt: &impl Abort, alloc: Global, prepared: &Prepared, ii: u64) -> Result<(), Fail>
-    requires from_mii { mii_of prepared.now ≤ ii }
-    requires limit { ii ≤ 16384 }
-{
-    let operations = prepared.operations() as u64;
-    assert!(rt; operations <= 128);
-    let budget = 6 * operations;
-    let (places, failure) = found::<OwnerTable>(alloc, prepared, ii, budget)?;
-    is_found::<MaskTable>(rt, alloc, prepared, ii, budget, &places, failure)?;
-    is_found::<TimelineTable>(rt, alloc, prepared, ii, budget, &places, failure)
-}
-
-/// The tables agree at the least intervals of a loop. Tells whether there are any: the machine may lack one of its opcodes.
-fn agree(rt: &impl Abort, alloc: Global, machine: &Machine, text: &str) -> Result<bool, Fail> {
-    let innermost = read_loops(alloc, text.as_bytes())?.pop().ok_or("a loop")?;
-    let Ok(prepared) = Prepared::new(alloc, machine, innermost, 6, 32) else {
-        return Ok(false);
-    };
-    let mii = prepared.mii();
-    for ii in mii..mii + 8 {
-        agree_at(rt, alloc, &prepared, ii)?;
+/// Two schedules of a loop have the same times and alternatives.
+fn have_same_places(one: &Schedule<'_>, other: &Schedule<'_>) -> bool {
+    let operations = one.prepared().operations();
+    if operations != other.prepared().operations() {
+        return false;
     }
-    Ok(true)
-}
-
-/// The tables agree for loops on each machine. None of these lacks an opcode, unless it may.
-fn all_agree(
-    rt: &impl Abort,
-    alloc: Global,
-    machines: &[&str],
-    loops: &[&str],
-    may_lack: bool,
-) -> Result<(), Fail> {
-    for text in machines {
-        let machine = read_machine(alloc, text.as_bytes())?;
-        for innermost in loops {
-            let some = agree(rt, alloc, &machine, innermost)?;
-            assert!(rt; some || may_lack);
+    for op in 0..operations {
+        if one.time(op) != other.time(op) || one.alternative(op) != other.alternative(op) {
+            return false;
         }
     }
-    Ok(())
+    true
+}
+
+/// Two attempts come to the same.
+fn are_same(one: &Try<'_>, other: &Try<'_>) -> bool {
+    match (one, other) {
+        (Try::Placed(one), Try::Placed(other)) => have_same_places(one, other),
+        (Try::Failed(one), Try::Failed(other)) => one == other,
+        _ => false,
+    }
+}
+
+/// An attempt over this table comes to the same as one over another.
+fn agrees<T: ModuloTable>(
+    rt: &impl Abort,
+    alloc: Global,
+    prepared: &Prepared,
+    ii: u64,
+    budget: u64,
+    other: &Try<'_>,
+) -> bool
+    requires from_mii { mii_of prepared.now ≤ ii }
+    requires limit { ii ≤ 16384 }
+    requires budget { budget ≤ 8192 }
+{
+    let found = attempt::<T>(alloc, prepared, ii, budget).expect(rt, "memory");
+    are_same(&found, other)
+}
+
+/// The tables agree at an interval.
+fn agree_at(rt: &impl Abort, alloc: Global, prepared: &Prepared, ii: u64, budget: u64) -> bool
+    requires from_mii { mii_of prepared.now ≤ ii }
+    requires limit { ii ≤ 16384 }
+    requires budget { budget ≤ 8192 }
+{
+    let owners = attempt::<OwnerTable>(alloc, prepared, ii, budget).expect(rt, "memory");
+    agrees::<MaskTable>(rt, alloc, prepared, ii, budget, &owners)
+        && agrees::<TimelineTable>(rt, alloc, prepared, ii, budget, &owners)
+}
+
+/// The tables agree at the least intervals of a loop.
+fn agree(rt: &impl Abort, alloc: Global, prepared: &Prepared) -> bool {
+    assert!(rt; prepared.operations() <= 128);
+    let budget = 6 * prepared.operations() as u64;
+    let mii = prepared.mii();
+    for ii in mii..mii + 8 {
+        if !agree_at(rt, alloc, prepared, ii, budget) {
+            return false;
+        }
+    }
+    true
+}
+
+/// The tables agree for a loop on a machine. The machine may lack one of its opcodes only where that is said.
+fn agree_on(rt: &impl Abort, alloc: Global, machine: &Machine, text: &str, may_lack: bool) -> bool {
+    match prepared_for(rt, alloc, machine, text) {
+        Some(prepared) => agree(rt, alloc, &prepared),
+        None => may_lack,
+    }
+}
+
+/// The tables agree for loops on a machine. It lacks no opcode of theirs, unless it may.
+fn all_agree(rt: &impl Abort, alloc: Global, machine: &str, loops: &[&str], may_lack: bool) {
+    let machine = read_machine(alloc, machine.as_bytes()).expect(rt, "a machine");
+    for text in loops {
+        assert!(rt; agree_on(rt, alloc, &machine, text, may_lack), "{text}");
+    }
 }
 
 #[test]
-fn rows_are_the_same(rt: HostRuntime) -> Result<(), Fail> {
-    all_agree(&rt, rt.alloc(), MACHINES, LOOPS, true)
+fn rows_are_the_same(rt: HostRuntime) {
+    for machine in MACHINES {
+        all_agree(&rt, rt.alloc(), machine, LOOPS, true);
+    }
 }
 
 #[test]
-fn the_gallery_is_the_same(rt: HostRuntime) -> Result<(), Fail> {
-    all_agree(&rt, rt.alloc(), GALLERY_MACHINES, GALLERY_LOOPS, false)
+fn the_gallery_is_the_same(rt: HostRuntime) {
+    for machine in GALLERY_MACHINES {
+        all_agree(&rt, rt.alloc(), machine, GALLERY_LOOPS, false);
+    }
 }
 
 /// Numbers that look like chance, and are always the same.
@@ -101,46 +140,61 @@ impl Draws {
     }
 }
 
-/// A statement that gives a value of those before it.
-fn statement(alloc: Global, draws: &mut Draws, number: u64) -> Result<String, OutOfMemory>
+/// Appends an operation with two values.
+fn push_of_two(text: &mut String, opcode: &str, one: u64, other: u64) -> Result<(), OutOfMemory> {
+    push_told(text, opcode, one)?;
+    push_told(text, " v", other)?;
+    text.push_str("\n")
+}
+
+/// Appends an operation with one value or number.
+fn push_of_one(text: &mut String, opcode: &str, one: u64, rest: &str) -> Result<(), OutOfMemory> {
+    push_told(text, opcode, one)?;
+    text.push_str(rest)
+}
+
+/// Appends a statement that gives a value of those before it.
+fn push_statement(text: &mut String, draws: &mut Draws, number: u64) -> Result<(), OutOfMemory>
     requires { 0 < number }
 {
+    push_told(text, "v", number)?;
     let first = draws.below(number);
     let second = draws.below(number);
     match draws.below(8) {
-        0 => format!(in alloc; "v{number} = load a[i+{}]\n", first % 8),
-        1 => format!(in alloc; "v{number} = mul v{first} v{second}\n"),
-        2 => format!(in alloc; "v{number} = add v{first} p\n"),
-        _ => format!(in alloc; "v{number} = add v{first} v{second}\n"),
+        0 => push_of_one(text, " = load a[i+", first % 8, "]\n"),
+        1 => push_of_two(text, " = mul v", first, second),
+        2 => push_of_one(text, " = add v", first, " p\n"),
+        _ => push_of_two(text, " = add v", first, second),
     }
 }
 
-/// A loop of `count` values and a store, in the manner of the benchmarks.
-fn made(alloc: Global, seed: u64, count: u64) -> Result<String, OutOfMemory>
+/// Appends a loop of `count` values and a store, in the manner of the benchmarks.
+fn push_made(text: &mut String, count: u64) -> Result<(), OutOfMemory>
     requires { 0 < count }
 {
-    let mut draws = Draws { last: seed };
-    let mut text = String::new(alloc);
     text.push_str("loop made\narray a = 1 2 3\narray b =\nparam p = 3\nv0 = load a[i]\n")?;
+    let mut draws = Draws { last: count };
     for number in 1..count {
-        text.push_str(statement(alloc, &mut draws, number)?.as_str())?;
+        push_statement(text, &mut draws, number)?;
     }
-    let last = count - 1;
-    text.push_str(format!(in alloc; "store b[i] v{last}\nend\n")?.as_str())?;
-    Ok(text)
+    push_of_one(text, "store b[i] v", count - 1, "\nend\n")
 }
 
+/// Machines, with how many values a loop for them has.
+const MADE: &[(&str, u64)] = &[
+    (FEW, 16),
+    (FEW, 48),
+    (WIDE, 60),
+    (NARROW, 60),
+    (NARROW, 120),
+];
+
 #[test]
-fn made_loops_are_the_same(rt: HostRuntime) -> Result<(), Fail> {
-    for (machine, count) in [
-        (FEW, 16),
-        (FEW, 48),
-        (WIDE, 60),
-        (NARROW, 60),
-        (NARROW, 120),
-    ] {
-        let text = made(rt.alloc(), count, count)?;
-        all_agree(&rt, rt.alloc(), &[machine], &[text.as_str()], false)?;
+fn made_loops_are_the_same(rt: HostRuntime) {
+    for (machine, count) in MADE {
+        assert!(rt; 0 < *count);
+        let mut text = String::new(rt.alloc());
+        push_made(&mut text, *count).expect(&rt, "memory");
+        all_agree(&rt, rt.alloc(), machine, &[text.as_str()], false);
     }
-    Ok(())
 }

@@ -1,6 +1,6 @@
 //! The worked table of calls on each table, and the tables side by side.
 
-ghost use Rattle.std.specs.Prelude.{◌≡◌, ◌+◌, ◌^◌, ◌<◌, ◌≤◌, ◌∷◌, [], ℕ, length, slice_index_or, replicate, None, IfOk, vec_len};
+ghost use Rattle.std.specs.Prelude.{◌≡◌, ◌+◌, ◌^◌, ◌<◌, ◌≤◌, ◌∷◌, ◌++◌, [], ℕ, length, slice_index_or, replicate, None, IfOk, OnOk, vec_len};
 ghost use Rattle.machine_data.specs.Alternative.{IsAlternative};
 ghost use Rattle.mrt.specs.Placements.{placement_of};
 ghost use Rattle.acceptance_schedules.specs.inner.Turns.{Tells};
@@ -10,7 +10,6 @@ use mrt::{MaskTable, ModuloTable, OwnerTable, TimelineTable};
 use smallvec::SmallVec;
 use std::alloc::Global;
 use std::process::Abort;
-use std::test::Fail;
 
 /// An alternative of one row.
 fn one_row(alloc: Global, unit: u8, offset: u8) -> Result<Alternative, OutOfMemory>
@@ -45,13 +44,45 @@ fn two(alloc: Global, first: Alternative, second: Alternative) -> Result<Alterna
     Ok(Alternatives::new(list))
 }
 
+/// Adds an operation that takes a unit, some cycles after its issue.
+fn push_one(
+    alloc: Global,
+    operations: &mut Vec<Alternatives>,
+    unit: u8,
+    offset: u8,
+) -> Result<(), OutOfMemory>
+    requires unit { unit < 64 }
+    requires offset { offset < 64 }
+    ensures { OnOk result (vec_len operations.new ≡ vec_len operations.old + 1) }
+{
+    operations.push(one(alloc, one_row(alloc, unit, offset)?)?)?;
+    Ok(())
+}
+
+/// Adds an operation that takes one unit or another.
+fn push_two(
+    alloc: Global,
+    operations: &mut Vec<Alternatives>,
+    first: Row,
+    second: Row,
+) -> Result<(), OutOfMemory>
+    requires first { (first.unit < 64) × (first.offset < 64) }
+    requires second { (second.unit < 64) × (second.offset < 64) }
+    ensures { OnOk result (operations.new.items ≡ operations.old.items ++ (((first ∷ []) ∷ (second ∷ []) ∷ []) ∷ [])) }
+{
+    let first = one_row(alloc, first.unit, first.offset)?;
+    let second = one_row(alloc, second.unit, second.offset)?;
+    operations.push(two(alloc, first, second)?)?;
+    Ok(())
+}
+
 /// Operations that each take unit 0 in the cycle of their issue.
 fn same(alloc: Global, count: usize) -> Result<Vec<Alternatives>, OutOfMemory>
     ensures { IfOk result (λ v. vec_len v ≡ count) }
 {
     let mut operations = Vec::new(alloc);
     for _i in 0..count {
-        operations.push(one(alloc, one_row(alloc, 0, 0)?)?)?;
+        push_one(alloc, &mut operations, 0, 0)?;
     }
     Ok(operations)
 }
@@ -63,9 +94,17 @@ fn wide(alloc: Global) -> Result<Vec<Alternatives>, OutOfMemory>
 {
     let mut operations = Vec::new(alloc);
     for unit in 0..64 {
-        operations.push(one(alloc, one_row(alloc, unit, 63)?)?)?;
+        push_one(alloc, &mut operations, unit, 63)?;
     }
-    operations.push(two(alloc, one_row(alloc, 0, 63)?, one_row(alloc, 63, 62)?)?)?;
+    let first = Row {
+        unit: 0,
+        offset: 63,
+    };
+    let last = Row {
+        unit: 63,
+        offset: 62,
+    };
+    push_two(alloc, &mut operations, first, last)?;
     Ok(operations)
 }
 
@@ -85,68 +124,65 @@ fn place_all<T: ModuloTable>(rt: &impl Abort, table: &mut T, count: usize, apart
 }
 
 /// A table of operations of one unit, all but the last of them placed, each in the cycle of its number.
-fn filled<T: ModuloTable>(
-    rt: &impl Abort,
-    alloc: Global,
-    placed: usize,
-    ii: u64,
-) -> Result<T, OutOfMemory>
+fn filled<T: ModuloTable>(rt: &impl Abort, alloc: Global, placed: usize, ii: u64) -> T
     requires some { 0 < ii }
     requires few { ii ≤ 128 }
     requires placed { placed ≤ 128 }
-    ensures operations { IfOk result (λ t. length (T.operations t) ≡ placed + 1) }
-    ensures interval { IfOk result (λ t. T.interval t ≡ ii) }
+    ensures operations { length (T.operations result) ≡ placed + 1 }
+    ensures interval { T.interval result ≡ ii }
 {
-    let operations = same(alloc, placed + 1)?;
-    let mut table = T::make(alloc, &operations, ii)?;
+    let operations = same(alloc, placed + 1).expect(rt, "memory");
+    let mut table = T::make(alloc, &operations, ii).expect(rt, "memory");
     place_all(rt, &mut table, placed, true);
-    Ok(table)
+    table
 }
 
 /// A table of 65 operations, of which 64 hold each unit in one cycle.
-fn crowded<T: ModuloTable>(rt: &impl Abort, alloc: Global) -> Result<T, OutOfMemory>
-    ensures operations { IfOk result (λ t. slice_index_or (T.operations t) 64 [] ≡ (record { unit = 0; offset = 63 } ∷ []) ∷ (record { unit = 63; offset = 62 } ∷ []) ∷ []) }
+fn crowded<T: ModuloTable>(rt: &impl Abort, alloc: Global) -> T
+    ensures operations { slice_index_or (T.operations result) 64 [] ≡ (record { unit = 0; offset = 63 } ∷ []) ∷ (record { unit = 63; offset = 62 } ∷ []) ∷ [] }
 {
-    let operations = wide(alloc)?;
-    let mut table = T::make(alloc, &operations, 8)?;
+    let operations = wide(alloc).expect(rt, "memory");
+    let mut table = T::make(alloc, &operations, 8).expect(rt, "memory");
     place_all(rt, &mut table, 64, false);
-    Ok(table)
+    table
+}
+
+/// Where the last cycle alone is free, the search finds it, also across the end of an interval.
+fn is_last_free<T: ModuloTable>(table: &T, op: usize, ii: u64) -> bool
+    requires there { op < length (T.operations table.now) }
+    requires interval { T.interval table.now ≡ ii }
+    requires some { 5 < ii }
+    requires few { ii ≤ 128 }
+{
+    let last = Some((ii - 1, 0));
+    table.first_free(op, 0) == last
+        && table.first_free(op, 5) == last
+        && table.first_free(op, ii) == Some((2 * ii - 1, 0))
 }
 
 /// The slots wrap round at the interval, and the search finds the one that is left.
-fn finds_the_hole<T: ModuloTable>(
-    rt: &impl Abort,
-    alloc: Global,
-    ii: u64,
-) -> Result<(), OutOfMemory>
+fn finds_the_hole<T: ModuloTable>(rt: &impl Abort, alloc: Global, ii: u64) -> bool
     requires some { 5 < ii }
     requires few { ii ≤ 128 }
 {
     let last = ii as usize - 1;
-    let table = filled::<T>(rt, alloc, last, ii)?;
-    assert_eq!(rt; table.first_free(last, 0), Some((ii - 1, 0)));
-    assert_eq!(rt; table.first_free(last, 5), Some((ii - 1, 0)));
-    assert_eq!(rt; table.first_free(last, ii), Some((2 * ii - 1, 0)));
-    Ok(())
+    let table = filled::<T>(rt, alloc, last, ii);
+    is_last_free(&table, last, ii)
 }
 
 /// A full table has no slot.
-fn finds_none<T: ModuloTable>(rt: &impl Abort, alloc: Global, ii: u64) -> Result<(), OutOfMemory>
+fn finds_none<T: ModuloTable>(rt: &impl Abort, alloc: Global, ii: u64) -> bool
     requires some { 0 < ii }
     requires few { ii ≤ 128 }
 {
-    let table = filled::<T>(rt, alloc, ii as usize, ii)?;
-    assert_eq!(rt; table.ii(), ii);
-    assert_eq!(rt; table.first_free(ii as usize, 3), None);
-    Ok(())
+    let table = filled::<T>(rt, alloc, ii as usize, ii);
+    table.ii() == ii && table.first_free(ii as usize, 3).is_none()
 }
 
 /// Of two alternatives the free one is taken, and the slot of the other has a holder.
-fn tells_the_holder<T: ModuloTable>(rt: &impl Abort, alloc: Global) -> Result<(), OutOfMemory> {
-    let table = crowded::<T>(rt, alloc)?;
-    assert_eq!(rt; table.free(64, 0), Some(1));
-    assert_eq!(rt; table.holder(64, 0, 0, 0), Some(0));
-    Ok(())
+fn tells_the_holder<T: ModuloTable>(rt: &impl Abort, alloc: Global) -> bool {
+    let table = crowded::<T>(rt, alloc);
+    table.free(64, 0) == Some(1) && table.holder(64, 0, 0, 0) == Some(0)
 }
 
 /// Takes an operation out where it is placed, and else places it at its first slot from a time on.
@@ -178,49 +214,52 @@ fn turn<T: ModuloTable>(
 
 /// What an empty table answers as operations come and go.
 fn answers<T: ModuloTable>(
+    rt: &impl Abort,
     alloc: Global,
     table: &mut T,
-) -> Result<Vec<Option<(u64, usize)>>, OutOfMemory>
+) -> Vec<Option<(u64, usize)>>
     requires count { length (T.operations table.old) ≡ 65 }
     requires few { T.interval table.old ≤ 128 }
     requires empty { T.placed table.old ≡ replicate (length (T.operations table.old)) None }
     ensures count { length (T.operations table.new) ≡ 65 }
 {
-    let mut held = vec![in alloc; false; 65]?;
+    let mut held = vec![in alloc; false; 65].expect(rt, "memory");
     let mut answers = Vec::new(alloc);
     for step in 0..300 {
         let op = step * step % 65;
-        answers.push(turn(table, &mut held, op, step as u64 / 3))?;
+        let answer = turn(table, &mut held, op, step as u64 / 3);
+        answers.push(answer).expect(rt, "memory");
     }
-    Ok(answers)
+    answers
 }
 
 /// The answers of a table that is made for an interval.
-fn made<T: ModuloTable>(alloc: Global, ii: u64) -> Result<Vec<Option<(u64, usize)>>, OutOfMemory>
+fn made<T: ModuloTable>(rt: &impl Abort, alloc: Global, ii: u64) -> Vec<Option<(u64, usize)>>
     requires some { 0 < ii }
     requires few { ii ≤ 128 }
 {
-    let operations = wide(alloc)?;
-    let mut table = T::make(alloc, &operations, ii)?;
-    answers(alloc, &mut table)
+    let operations = wide(alloc).expect(rt, "memory");
+    let mut table = T::make(alloc, &operations, ii).expect(rt, "memory");
+    answers(rt, alloc, &mut table)
 }
 
 /// The answers of a table that has served at another interval before.
 fn made_from<T: ModuloTable>(
+    rt: &impl Abort,
     alloc: Global,
     before: u64,
     ii: u64,
-) -> Result<Vec<Option<(u64, usize)>>, OutOfMemory>
+) -> Vec<Option<(u64, usize)>>
     requires some_before { 0 < before }
     requires few_before { before ≤ 128 }
     requires some { 0 < ii }
     requires few { ii ≤ 128 }
 {
-    let operations = wide(alloc)?;
-    let mut table = T::make(alloc, &operations, before)?;
-    answers(alloc, &mut table)?;
-    let mut table = table.at(ii)?;
-    answers(alloc, &mut table)
+    let operations = wide(alloc).expect(rt, "memory");
+    let mut table = T::make(alloc, &operations, before).expect(rt, "memory");
+    let _ = answers(rt, alloc, &mut table);
+    let mut table = table.at(ii).expect(rt, "memory");
+    answers(rt, alloc, &mut table)
 }
 
 /// A table answers this at an interval, also once it has served at another.
@@ -230,80 +269,95 @@ fn agrees<T: ModuloTable>(
     before: u64,
     ii: u64,
     answers: &[Option<(u64, usize)>],
-) -> Result<(), OutOfMemory>
+) -> bool
     requires some_before { 0 < before }
     requires few_before { before ≤ 128 }
     requires some { 0 < ii }
     requires few { ii ≤ 128 }
 {
-    let first = made::<T>(alloc, ii)?;
-    assert_eq!(rt; first.as_slice(), answers);
-    let again = made_from::<T>(alloc, before, ii)?;
-    assert_eq!(rt; again.as_slice(), answers);
-    Ok(())
+    made::<T>(rt, alloc, ii).as_slice() == answers
+        && made_from::<T>(rt, alloc, before, ii).as_slice() == answers
+}
+
+/// The three tables agree at an interval, also once they have served at another.
+fn all_agree_at(rt: &impl Abort, alloc: Global, before: u64, ii: u64) -> bool
+    requires some_before { 0 < before }
+    requires few_before { before ≤ 128 }
+    requires some { 0 < ii }
+    requires few { ii ≤ 128 }
+{
+    let owners = made::<OwnerTable>(rt, alloc, ii);
+    agrees::<OwnerTable>(rt, alloc, before, ii, &owners)
+        && agrees::<MaskTable>(rt, alloc, before, ii, &owners)
+        && agrees::<TimelineTable>(rt, alloc, before, ii, &owners)
 }
 
 #[test]
-fn all_agree(rt: HostRuntime) -> Result<(), Fail> {
+fn all_agree(rt: HostRuntime) {
     for (before, ii) in [(67, 3), (3, 11), (67, 63), (11, 67)] {
-        let owners = made::<OwnerTable>(rt.alloc(), ii)?;
-        agrees::<OwnerTable>(&rt, rt.alloc(), before, ii, &owners)?;
-        agrees::<MaskTable>(&rt, rt.alloc(), before, ii, &owners)?;
-        agrees::<TimelineTable>(&rt, rt.alloc(), before, ii, &owners)?;
+        assert!(rt;
+            all_agree_at(&rt, rt.alloc(), before, ii),
+            "{ii} after {before}"
+        );
     }
-    Ok(())
-}
-
-/// The worked calls, at intervals for each form that a table of bits has.
-fn worked_calls<T: ModuloTable>(rt: &impl Abort, alloc: Global) -> Result<(), OutOfMemory> {
-    for ii in [7, 8, 9, 63, 64, 80, 128] {
-        finds_the_hole::<T>(rt, alloc, ii)?;
-        finds_none::<T>(rt, alloc, ii)?;
-    }
-    tells_the_holder::<T>(rt, alloc)
 }
 
 /// Of two kinds one has another unit to spare, and the third kind has no operation.
-fn three_kinds(alloc: Global) -> Result<Vec<Alternatives>, OutOfMemory>
-    ensures { IfOk result (λ v. vec_len v ≡ 3) }
+fn push_kinds(alloc: Global, kinds: &mut Vec<Alternatives>) -> Result<(), OutOfMemory>
+    ensures { OnOk result (vec_len kinds.new ≡ vec_len kinds.old + 3) }
 {
-    let mut kinds = Vec::new(alloc);
-    kinds.push(one(alloc, one_row(alloc, 0, 0)?)?)?;
-    kinds.push(two(alloc, one_row(alloc, 0, 0)?, one_row(alloc, 1, 0)?)?)?;
-    kinds.push(one(alloc, one_row(alloc, 2, 0)?)?)?;
-    Ok(kinds)
+    push_one(alloc, kinds, 0, 0)?;
+    push_two(
+        alloc,
+        kinds,
+        Row { unit: 0, offset: 0 },
+        Row { unit: 1, offset: 0 },
+    )?;
+    push_one(alloc, kinds, 2, 0)
+}
+
+/// Operations of the kinds 1, 0, 1 and 1 get these slots, one after another.
+fn gives_slots<T: ModuloTable>(table: &mut T) -> bool
+    requires count { length (T.operations table.old) ≡ 4 }
+    requires interval { T.interval table.old ≡ 2 }
+    requires empty { T.placed table.old ≡ replicate 4 None }
+{
+    let mut held = [false; 4];
+    turn(table, &mut held, 0, 0) == Some((0, 0))
+        && turn(table, &mut held, 1, 0) == Some((1, 0))
+        && turn(table, &mut held, 2, 0) == Some((0, 1))
+        && turn(table, &mut held, 3, 0) == Some((1, 1))
 }
 
 /// Operations that are told by their kinds get the slots of their kinds.
-fn takes_kinds<T: ModuloTable>(rt: &impl Abort, alloc: Global) -> Result<(), OutOfMemory> {
-    let kinds = three_kinds(alloc)?;
-    let mut table = T::of_kinds(alloc, &kinds, &[1, 0, 1, 1], 2)?;
-    let mut held = [false; 4];
-    assert_eq!(rt; turn(&mut table, &mut held, 0, 0), Some((0, 0)));
-    assert_eq!(rt; turn(&mut table, &mut held, 1, 0), Some((1, 0)));
-    assert_eq!(rt; turn(&mut table, &mut held, 2, 0), Some((0, 1)));
-    assert_eq!(rt; turn(&mut table, &mut held, 3, 0), Some((1, 1)));
-    Ok(())
+fn takes_kinds<T: ModuloTable>(rt: &impl Abort, alloc: Global) -> bool {
+    let mut kinds = Vec::new(alloc);
+    push_kinds(alloc, &mut kinds).expect(rt, "memory");
+    let mut table = T::of_kinds(alloc, &kinds, &[1, 0, 1, 1], 2).expect(rt, "memory");
+    gives_slots(&mut table)
+}
+
+/// The worked calls, at intervals for each form that a table of bits has.
+fn worked_calls<T: ModuloTable>(rt: &impl Abort, alloc: Global) {
+    for ii in [7, 8, 9, 63, 64, 80, 128] {
+        assert!(rt; finds_the_hole::<T>(rt, alloc, ii), "{ii}");
+        assert!(rt; finds_none::<T>(rt, alloc, ii), "{ii}");
+    }
+    assert!(rt; tells_the_holder::<T>(rt, alloc));
+    assert!(rt; takes_kinds::<T>(rt, alloc));
 }
 
 #[test]
-fn kinds(rt: HostRuntime) -> Result<(), Fail> {
-    takes_kinds::<OwnerTable>(&rt, rt.alloc())?;
-    takes_kinds::<MaskTable>(&rt, rt.alloc())?;
-    Ok(takes_kinds::<TimelineTable>(&rt, rt.alloc())?)
+fn owners(rt: HostRuntime) {
+    worked_calls::<OwnerTable>(&rt, rt.alloc());
 }
 
 #[test]
-fn owners(rt: HostRuntime) -> Result<(), Fail> {
-    Ok(worked_calls::<OwnerTable>(&rt, rt.alloc())?)
+fn masks(rt: HostRuntime) {
+    worked_calls::<MaskTable>(&rt, rt.alloc());
 }
 
 #[test]
-fn masks(rt: HostRuntime) -> Result<(), Fail> {
-    Ok(worked_calls::<MaskTable>(&rt, rt.alloc())?)
-}
-
-#[test]
-fn timelines(rt: HostRuntime) -> Result<(), Fail> {
-    Ok(worked_calls::<TimelineTable>(&rt, rt.alloc())?)
+fn timelines(rt: HostRuntime) {
+    worked_calls::<TimelineTable>(&rt, rt.alloc());
 }
