@@ -9,7 +9,7 @@ use registers::Read;
 use settings::Settings;
 use smallvec::SmallVec;
 use std::alloc::Global;
-use std::test::Fail;
+use std::process::Abort;
 
 /// The parts of a draft.
 #[derive(Clone, Copy)]
@@ -79,6 +79,17 @@ const SOUND: Parts<'static> = Parts {
     names: &["a", "b"],
 };
 
+/// No names.
+pub(super) fn no_names(alloc: Global) -> Names {
+    Names {
+        units: Vec::new(alloc),
+        files: Vec::new(alloc),
+        kinds: Vec::new(alloc),
+        operations: Vec::new(alloc),
+        values: Vec::new(alloc),
+    }
+}
+
 /// A draft without any part.
 fn empty(alloc: Global) -> Draft {
     Draft {
@@ -89,13 +100,7 @@ fn empty(alloc: Global) -> Draft {
         values: Vec::new(alloc),
         reads: Vec::new(alloc),
         orders: Vec::new(alloc),
-        names: Names {
-            units: Vec::new(alloc),
-            files: Vec::new(alloc),
-            kinds: Vec::new(alloc),
-            operations: Vec::new(alloc),
-            values: Vec::new(alloc),
-        },
+        names: no_names(alloc),
     }
 }
 
@@ -111,13 +116,22 @@ fn kind(alloc: Global, latency: u64, tables: &[&[Hold]]) -> Result<Kind, OutOfMe
     })
 }
 
-/// Adds the kinds and the names of files to a draft.
-fn add_named(alloc: Global, draft: &mut Draft, parts: &Parts<'_>) -> Result<(), Fail> {
-    for (latency, tables) in parts.kinds {
-        draft.kinds.push(kind(alloc, *latency, tables)?)?;
+/// Adds kinds.
+fn add_kinds(
+    alloc: Global,
+    kinds: &mut Vec<Kind>,
+    rows: &[(u64, &[&[Hold]])],
+) -> Result<(), OutOfMemory> {
+    for (latency, tables) in rows {
+        kinds.push(kind(alloc, *latency, tables)?)?;
     }
-    for name in parts.names {
-        draft.names.files.push(Label::new(name).ok_or("a name")?)?;
+    Ok(())
+}
+
+/// Adds names.
+fn add_names(rt: &impl Abort, labels: &mut Vec<Label>, names: &[&str]) -> Result<(), OutOfMemory> {
+    for name in names {
+        labels.push(Label::new(name).expect(rt, "a name"))?;
     }
     Ok(())
 }
@@ -132,12 +146,13 @@ fn add_lists(draft: &mut Draft, parts: &Parts<'_>) -> Result<(), OutOfMemory> {
 }
 
 /// The draft of these parts, whose files have the names.
-pub(super) fn draft(alloc: Global, parts: &Parts<'_>) -> Result<Draft, Fail> {
+pub(super) fn draft(rt: &impl Abort, alloc: Global, parts: &Parts<'_>) -> Draft {
     let mut draft = empty(alloc);
     draft.units = parts.units;
-    add_named(alloc, &mut draft, parts)?;
-    add_lists(&mut draft, parts)?;
-    Ok(draft)
+    add_kinds(alloc, &mut draft.kinds, parts.kinds).expect(rt, "memory");
+    add_names(rt, &mut draft.names.files, parts.names).expect(rt, "memory");
+    add_lists(&mut draft, parts).expect(rt, "memory");
+    draft
 }
 
 /// The edges of the problem: reads, then orders.
@@ -163,15 +178,15 @@ const EDGES: &[Edge] = &[
 ];
 
 #[test]
-fn a_sound_draft_makes_a_problem(rt: HostRuntime) -> Result<(), Fail> {
-    let settings = Settings::new(6, 32, 1, 1)?;
-    let problem = Problem::new(rt.alloc(), draft(rt.alloc(), &SOUND)?, &settings)?;
+fn a_sound_draft_makes_a_problem(rt: HostRuntime) {
+    let settings = Settings::new(6, 32, 1, 1).expect(&rt, "settings");
+    let draft = draft(&rt, rt.alloc(), &SOUND);
+    let problem = Problem::new(rt.alloc(), draft, &settings).expect(&rt, "a problem");
     let scheduling = problem.scheduling();
     assert!(rt; scheduling.edges().all() == EDGES);
     assert!(rt; scheduling.resources() == 2 && scheduling.recurrences() == 1);
     assert!(rt; scheduling.ratio() == 6 && scheduling.ceiling() == 32);
     assert!(rt; problem.draft().units == 2 && scheduling.operations() == 3);
-    Ok(())
 }
 
 /// A kind of operations without a fault, and rows that are at fault.
@@ -407,17 +422,19 @@ const AT_FAULT: &[(Parts<'static>, Fault)] = &[
 ];
 
 /// The first fault of the draft of these parts.
-fn fault_of(alloc: Global, parts: &Parts<'_>) -> Result<Option<Fault>, Fail> {
-    let draft = draft(alloc, parts)?;
-    Ok(first_fault(alloc, &draft)?)
+fn fault_of(rt: &impl Abort, alloc: Global, parts: &Parts<'_>) -> Option<Fault> {
+    let draft = draft(rt, alloc, parts);
+    first_fault(alloc, &draft).expect(rt, "memory")
 }
 
 #[test]
-fn drafts_at_fault(rt: HostRuntime) -> Result<(), Fail> {
+fn drafts_at_fault(rt: HostRuntime) {
     for (parts, fault) in AT_FAULT {
-        assert_eq!(rt; fault_of(rt.alloc(), parts)?, Some(*fault));
+        assert!(rt;
+            fault_of(&rt, rt.alloc(), parts) == Some(*fault),
+            "{fault:?}"
+        );
     }
-    Ok(())
 }
 
 #[test]

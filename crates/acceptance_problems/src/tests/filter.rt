@@ -9,15 +9,16 @@
 //! second sum meets the first pair in 0, 1, -1, the second pair in 2, 1, 0, -1 and the first sum in 2 and 1: 3 is left. In the even cycles the second pair and three second sums live, in the
 //! odd ones the first pair, the first sum and two second ones: five.
 
+ghost use Rattle.std.specs.Prelude.{◌<◌, length};
+
 use super::drafts::{Parts, draft};
-use machine_data::OutOfMemory;
 use modulo::Breach;
 use problems::{File, Hold, Problem, Value};
 use registers::Read;
 use settings::Settings;
 use solutions::{Broken, Outcome, Solution, solve};
 use std::alloc::Global;
-use std::test::Fail;
+use std::process::Abort;
 
 /// What a load makes, and what a multiply-accumulate makes. The second sum is live at the end.
 const LOADED: Value = Value {
@@ -114,48 +115,62 @@ const VALUES: &[(usize, u64, u64, u64)] = &[
 /// The numbers alone.
 const NUMBERS: &[usize] = &[0, 1, 0, 1, 1, 3];
 
-fn filter(alloc: Global) -> Result<Problem, Fail> {
-    let settings = Settings::new(6, 20, 1, 1)?;
-    Ok(Problem::new(alloc, draft(alloc, &FILTER)?, &settings)?)
+fn filter(rt: &impl Abort, alloc: Global) -> Problem {
+    let settings = Settings::new(6, 20, 1, 1).expect(rt, "settings");
+    Problem::new(alloc, draft(rt, alloc, &FILTER), &settings).expect(rt, "a problem")
 }
 
-/// The time and the alternative of each operation of a solution.
-fn places_of(alloc: Global, solution: &Solution) -> Result<Vec<(u64, usize)>, OutOfMemory> {
-    let mut places = Vec::new(alloc);
-    for op in 0..solution.problem().scheduling().operations() {
-        places.push((solution.time(op), solution.alternative(op)))?;
+/// A solution has these times and alternatives.
+fn has_places(solution: &Solution<'_>, places: &[(u64, usize)]) -> bool {
+    if solution.problem().scheduling().operations() != places.len() {
+        return false;
     }
-    Ok(places)
+    for op in 0..places.len() {
+        if (solution.time(op), solution.alternative(op)) != places[op] {
+            return false;
+        }
+    }
+    true
 }
 
-/// The same of each value as in the list above.
-fn values_of(
-    alloc: Global,
-    solution: &Solution,
-) -> Result<Vec<(usize, u64, u64, u64)>, OutOfMemory> {
-    let mut values = Vec::new(alloc);
-    for value in 0..solution.problem().draft().values.len() {
-        let life = solution.life(value);
-        let number = solution.number(value);
-        values.push((number, life.first, life.last, solution.copies(value)))?;
+/// What a solution has for a value.
+fn value_of(solution: &Solution<'_>, value: usize) -> (usize, u64, u64, u64)
+    requires { value < length solution.now.problem.draft.values.items }
+{
+    let life = solution.life(value);
+    let number = solution.number(value);
+    (number, life.first, life.last, solution.copies(value))
+}
+
+/// A solution has these numbers and lives.
+fn has_values(solution: &Solution<'_>, values: &[(usize, u64, u64, u64)]) -> bool {
+    if solution.problem().draft().values.len() != values.len() {
+        return false;
     }
-    Ok(values)
+    for value in 0..values.len() {
+        if value_of(solution, value) != values[value] {
+            return false;
+        }
+    }
+    true
+}
+
+/// The solution of the filter: two iterations in three stages, five registers, and no value that needs a longer kernel.
+fn is_worked(solution: &Solution<'_>) -> bool {
+    solution.ii() == 2
+        && solution.stages() == 3
+        && has_places(solution, PLACES)
+        && has_values(solution, VALUES)
+        && solution.unroll() == 1
+        && solution.problem().draft().files.len() == 1
+        && solution.max_live(0) == 5
 }
 
 #[test]
-fn solves_the_filter(rt: HostRuntime) -> Result<(), Fail> {
-    let problem = filter(rt.alloc())?;
-    let Outcome::Met(solution) = solve(rt.alloc(), &problem)? else {
-        panic!(rt; "no interval is found");
-    };
-    assert_eq!(rt; solution.ii(), 2);
-    assert_eq!(rt; solution.stages(), 3);
-    assert_eq!(rt; places_of(rt.alloc(), &solution)?.as_slice(), PLACES);
-    assert_eq!(rt; values_of(rt.alloc(), &solution)?.as_slice(), VALUES);
-    assert_eq!(rt; solution.unroll(), 1);
-    assert_eq!(rt; solution.problem().draft().files.len(), 1);
-    assert_eq!(rt; solution.max_live(0), 5);
-    Ok(())
+fn solves_the_filter(rt: HostRuntime) {
+    let problem = filter(&rt, rt.alloc());
+    let outcome = solve(rt.alloc(), &problem).expect(&rt, "memory");
+    assert!(rt; matches!(&outcome, Outcome::Met(solution) if is_worked(solution)));
 }
 
 /// Lists that are judged, and what is broken first: of numbers that are too few and times that are too few, and of numbers alone.
@@ -165,12 +180,23 @@ const JUDGED: &[(&[(u64, usize)], &[usize], Option<Broken>)] = &[
     (&[(0, 0); 5], NUMBERS, Some(Broken::Schedule(Breach::Count))),
 ];
 
+/// What is broken first in the lists that are given for a problem, at the interval 2.
+fn broken(
+    rt: &impl Abort,
+    alloc: Global,
+    problem: &Problem,
+    places: &[(u64, usize)],
+    numbers: &[usize],
+) -> Option<Broken> {
+    let judged = Solution::check(alloc, problem, 2, places, numbers).expect(rt, "memory");
+    judged.err()
+}
+
 #[test]
-fn judges_lists_that_are_too_short(rt: HostRuntime) -> Result<(), Fail> {
-    let problem = filter(rt.alloc())?;
+fn judges_lists_that_are_too_short(rt: HostRuntime) {
+    let problem = filter(&rt, rt.alloc());
     for (places, numbers, wanted) in JUDGED {
-        let judged = Solution::check(rt.alloc(), &problem, 2, places, numbers)?;
-        assert_eq!(rt; judged.err(), *wanted);
+        let found = broken(&rt, rt.alloc(), &problem, places, numbers);
+        assert!(rt; found == *wanted, "{wanted:?}");
     }
-    Ok(())
 }

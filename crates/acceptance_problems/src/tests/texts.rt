@@ -1,14 +1,15 @@
 //! Whole texts: the first fault of each, with how many bytes the word at fault has, and a draft. All worked by hand.
 
+ghost use Rattle.std.specs.Prelude.{◌<◌, length};
+
 use problem_lines::Expected;
 use problem_printouts::{ProblemsFault, check_printout};
-use problem_reader::{Part, TextFault, Wrong, read_problems};
-use problems::Draft;
+use problem_reader::{Part, ProblemFile, TextFault, Wrong, read_problems};
 use solution_reader::{
     Part as SolutionPart, SolutionFault, Wrong as SolutionWrong, read_solutions,
 };
 use std::alloc::Global;
-use std::test::Fail;
+use std::process::Abort;
 
 /// What stands before the last line of a text.
 const HEAD: &str = "machine m
@@ -151,13 +152,13 @@ const OF_PROBLEMS: &[(&str, &str, usize, usize, usize, Wrong)] = &[
 ];
 
 /// The first fault of a text of problems.
-fn problem_fault(alloc: Global, head: &str, rest: &str) -> Result<Option<TextFault>, Fail> {
-    let text = format!(in alloc; "{head}{rest}")?;
-    Ok(read_problems(alloc, text.as_str().as_bytes()).err())
+fn problem_fault(rt: &impl Abort, alloc: Global, head: &str, rest: &str) -> Option<TextFault> {
+    let text = format!(in alloc; "{head}{rest}").expect(rt, "memory");
+    read_problems(alloc, text.as_str().as_bytes()).err()
 }
 
 #[test]
-fn faults_of_problems(rt: HostRuntime) -> Result<(), Fail> {
+fn faults_of_problems(rt: HostRuntime) {
     for (head, rest, line, column, width, what) in OF_PROBLEMS {
         let wanted = TextFault {
             line: *line,
@@ -165,13 +166,9 @@ fn faults_of_problems(rt: HostRuntime) -> Result<(), Fail> {
             width: *width,
             what: *what,
         };
-        assert_eq!(rt;
-            problem_fault(rt.alloc(), head, rest)?,
-            Some(wanted),
-            "{rest}"
-        );
+        let fault = problem_fault(&rt, rt.alloc(), head, rest);
+        assert!(rt; fault == Some(wanted), "{rest}");
     }
-    Ok(())
 }
 
 /// Texts of solutions, with their first fault.
@@ -233,7 +230,7 @@ fn faults_of_solutions(rt: HostRuntime) {
             what: *what,
         };
         let fault = read_solutions(rt.alloc(), text.as_bytes()).err();
-        assert_eq!(rt; fault, Some(wanted), "{text}");
+        assert!(rt; fault == Some(wanted), "{text}");
     }
 }
 
@@ -263,13 +260,13 @@ const UNKNOWN: &[(&str, usize, usize, usize, SolutionPart)] = &[
 ];
 
 /// Why solutions of the problem of the head are not judged.
-fn unknown_name(alloc: Global, solutions: &str) -> Result<Option<ProblemsFault>, Fail> {
-    let problems = format!(in alloc; "{HEAD}end")?;
-    Ok(check_printout(alloc, problems.as_str().as_bytes(), solutions.as_bytes()).err())
+fn unknown_name(rt: &impl Abort, alloc: Global, solutions: &str) -> Option<ProblemsFault> {
+    let problems = format!(in alloc; "{HEAD}end").expect(rt, "memory");
+    check_printout(alloc, problems.as_str().as_bytes(), solutions.as_bytes()).err()
 }
 
 #[test]
-fn unknown_names_of_solutions(rt: HostRuntime) -> Result<(), Fail> {
+fn unknown_names_of_solutions(rt: HostRuntime) {
     for (text, line, column, width, part) in UNKNOWN {
         let wanted = ProblemsFault::Solutions(SolutionFault {
             line: *line,
@@ -277,9 +274,11 @@ fn unknown_names_of_solutions(rt: HostRuntime) -> Result<(), Fail> {
             width: *width,
             what: SolutionWrong::Unknown(*part),
         });
-        assert_eq!(rt; unknown_name(rt.alloc(), text)?, Some(wanted), "{text}");
+        assert!(rt;
+            unknown_name(&rt, rt.alloc(), text) == Some(wanted),
+            "{text}"
+        );
     }
-    Ok(())
 }
 
 /// Two machines with a problem each, and a comment.
@@ -322,21 +321,32 @@ const SECOND: &str = "Draft { units: 1, files: [], kinds: [\
 Kind { latency: 64, alternatives: [[Hold { unit: 0, offset: 63 }]] }], operations: [0], values: [], reads: [], orders: [], names: Names { \
 units: [\"u\"], files: [], kinds: [\"k\"], operations: [\"a\"], values: [] } }";
 
-/// A draft as it prints itself for programmers.
-fn printed(alloc: Global, draft: &Draft) -> Result<String, Fail> {
-    Ok(format!(in alloc; "{draft:?}")?)
+/// The draft of a problem of a file, as it prints itself for programmers.
+fn printed(rt: &impl Abort, alloc: Global, file: &ProblemFile, number: usize) -> String
+    requires { number < length file.now.problems }
+{
+    let draft = file.draft(alloc, number).expect(rt, "memory");
+    format!(in alloc; "{draft:?}").expect(rt, "memory")
+}
+
+/// A problem of a file has this name and this draft.
+fn is_read(
+    rt: &impl Abort,
+    alloc: Global,
+    file: &ProblemFile,
+    number: usize,
+    name: &str,
+    draft: &str,
+) -> bool
+    requires { number < length file.now.problems }
+{
+    file.name(number).as_str() == name && printed(rt, alloc, file, number).as_str() == draft
 }
 
 #[test]
-fn drafts_are_read(rt: HostRuntime) -> Result<(), Fail> {
-    let alloc = rt.alloc();
-    let file = read_problems(alloc, TEXT)?;
-    assert_eq!(rt; file.problems(), 2);
-    assert_eq!(rt; file.name(0).as_str(), "biquad");
-    assert_eq!(rt; file.name(1).as_str(), "small");
-    let first = file.draft(alloc, 0)?;
-    assert_eq!(rt; printed(alloc, &first)?.as_str(), FIRST);
-    let second = file.draft(alloc, 1)?;
-    assert_eq!(rt; printed(alloc, &second)?.as_str(), SECOND);
-    Ok(())
+fn drafts_are_read(rt: HostRuntime) {
+    let file = read_problems(rt.alloc(), TEXT).expect(&rt, "a text of problems");
+    assert!(rt; file.problems() == 2);
+    assert!(rt; is_read(&rt, rt.alloc(), &file, 0, "biquad", FIRST));
+    assert!(rt; is_read(&rt, rt.alloc(), &file, 1, "small", SECOND));
 }

@@ -3,18 +3,19 @@
 //! The operation 0 holds the unit 0; the operation 1 holds that unit, or the unit 1 and one cycle later the unit 0. It reads the value 0 of its iteration, its own value 1 of the one before,
 //! and two iterations later the value 2, which the operation 0 makes too, in a file that is not allotted. `tests/sessions/solutions.session` has the same problem with names.
 
+use super::drafts::no_names;
 use graph::Edge;
 use machine_data::OutOfMemory;
 use modulo::{Breach, Culprit};
 use outcome_text::push_outcome;
 use problem_graphs::push_edges;
 use problem_reader::read_problems;
-use problems::{Draft, Names, Problem};
+use problems::{Draft, Problem};
 use settings::Settings;
 use solution_text::{Missing, push_broken, push_failed, push_missing};
 use solutions::{Broken, Cause, solve_with_culprit};
 use std::alloc::Global;
-use std::test::Fail;
+use std::process::Abort;
 
 const TEXT: &[u8] = b"machine m
 units u v
@@ -33,27 +34,24 @@ read y y distance 1
 read y p distance 2
 end";
 
+/// The draft of the text.
+fn named(rt: &impl Abort, alloc: Global) -> Draft {
+    let file = read_problems(alloc, TEXT).expect(rt, "a text of problems");
+    assert!(rt; file.problems() == 1);
+    file.draft(alloc, 0).expect(rt, "memory")
+}
+
 /// The draft of the text without its names.
-fn unnamed(alloc: Global) -> Result<Draft, Fail> {
-    let file = read_problems(alloc, TEXT)?;
-    if file.problems() != 1 {
-        return Err("a text of one problem".into());
-    }
-    let mut draft = file.draft(alloc, 0)?;
-    draft.names = Names {
-        units: Vec::new(alloc),
-        files: Vec::new(alloc),
-        kinds: Vec::new(alloc),
-        operations: Vec::new(alloc),
-        values: Vec::new(alloc),
-    };
-    Ok(draft)
+fn unnamed(rt: &impl Abort, alloc: Global) -> Draft {
+    let mut draft = named(rt, alloc);
+    draft.names = no_names(alloc);
+    draft
 }
 
 /// Its problem, of which five intervals above the least one are tried.
-fn problem(alloc: Global) -> Result<Problem, Fail> {
-    let settings = Settings::new(6, 5, 1, 1)?;
-    Ok(Problem::new(alloc, unnamed(alloc)?, &settings)?)
+fn problem(rt: &impl Abort, alloc: Global) -> Problem {
+    let settings = Settings::new(6, 5, 1, 1).expect(rt, "settings");
+    Problem::new(alloc, unnamed(rt, alloc), &settings).expect(rt, "a problem")
 }
 
 /// The operation 1 is as high as its latency 1, and the operation 0 by the delay of its value 0 higher.
@@ -78,16 +76,19 @@ value 1 number 1 # 0: live 2 to 4
 end
 ";
 
+/// Appends the lines of the edges, and of the solution where there is one.
+fn push_solved(alloc: Global, text: &mut Vec<u8>, problem: &Problem) -> Result<bool, OutOfMemory> {
+    push_edges(alloc, text, "sum", problem)?;
+    let solved = solve_with_culprit(alloc, problem)?;
+    push_outcome(alloc, text, "sum", problem, &solved)
+}
+
 #[test]
-fn edges_and_a_solution(rt: HostRuntime) -> Result<(), Fail> {
-    let alloc = rt.alloc();
-    let problem = problem(alloc)?;
-    let mut text = Vec::new(alloc);
-    push_edges(alloc, &mut text, "sum", &problem)?;
-    let solved = solve_with_culprit(alloc, &problem)?;
-    let is_met = push_outcome(alloc, &mut text, "sum", &problem, &solved)?;
+fn edges_and_a_solution(rt: HostRuntime) {
+    let problem = problem(&rt, rt.alloc());
+    let mut text = Vec::new(rt.alloc());
+    let is_met = push_solved(rt.alloc(), &mut text, &problem).expect(&rt, "memory");
     assert!(rt; is_met && text.as_slice() == SOLVED);
-    Ok(())
 }
 
 /// Appends what is told for some causes, with culprits and without one.
@@ -115,12 +116,11 @@ const FAILED: &[u8] = b"# a ops 2 res 2 rec 1 mii 2
 ";
 
 #[test]
-fn failures(rt: HostRuntime) -> Result<(), Fail> {
-    let problem = problem(rt.alloc())?;
+fn failures(rt: HostRuntime) {
+    let problem = problem(&rt, rt.alloc());
     let mut text = Vec::new(rt.alloc());
-    push_failures(rt.alloc(), &mut text, &problem)?;
+    push_failures(rt.alloc(), &mut text, &problem).expect(&rt, "memory");
     assert!(rt; text.as_slice() == FAILED);
-    Ok(())
 }
 
 /// One break of each kind, and those whose texts differ by their numbers twice.
@@ -211,10 +211,9 @@ sum broken: no number of 2
 ";
 
 #[test]
-fn verdicts(rt: HostRuntime) -> Result<(), Fail> {
-    let draft = unnamed(rt.alloc())?;
+fn verdicts(rt: HostRuntime) {
+    let draft = unnamed(&rt, rt.alloc());
     let mut text = Vec::new(rt.alloc());
-    push_verdicts(&mut text, &draft)?;
+    push_verdicts(&mut text, &draft).expect(&rt, "memory");
     assert!(rt; text.as_slice() == VERDICTS);
-    Ok(())
 }
