@@ -2,7 +2,7 @@
 
 use command_line::parse_line;
 use std::alloc::Global;
-use std::test::Fail;
+use std::process::Abort;
 
 /// Lines, each with its command as it prints itself for programmers. Settings that a line does not give are a ratio of 6, a ceiling of 32, four workers and a cut of 4.
 const LINES: &[(&[&str], &str)] = &[
@@ -129,15 +129,17 @@ const LINES: &[(&[&str], &str)] = &[
 ];
 
 /// What a line says.
-fn said(alloc: Global, words: &[&str]) -> Result<String, Fail> {
-    let command = parse_line(alloc, words)?;
-    Ok(format!(in alloc; "{command:?}")?)
+fn said(rt: &impl Abort, alloc: Global, words: &[&str]) -> String {
+    let command = parse_line(alloc, words).expect(rt, "a command");
+    format!(in alloc; "{command:?}").expect(rt, "memory")
 }
 
 #[test]
-fn reads_lines(rt: HostRuntime) -> Result<(), Fail> {
+fn reads_lines(rt: HostRuntime) {
     for (words, wanted) in LINES {
-        assert_eq!(rt; said(rt.alloc(), words)?.as_str(), *wanted);
+        assert!(rt;
+            said(&rt, rt.alloc(), words).as_str() == *wanted,
+            "{wanted}"
+        );
     }
-    Ok(())
 }

@@ -2,7 +2,7 @@
 
 use lint_text::{LintText, Named, lint_printout};
 use std::alloc::Global;
-use std::test::Fail;
+use std::process::Abort;
 
 const LOOPS: &[u8] = b"loop saxpy
 array x = 1 2 3
@@ -61,8 +61,8 @@ vliw.toml:6:1: ops.laod.alts[1][0] = \"alu@0\": unknown unit alu: did you mean a
 vliw.toml:6:1: ops.laod.alts[2][0] = \"adder@0\": unknown unit adder
 ";
 
-/// What is printed of a machine text and of the loop text above.
-fn printed(alloc: Global, machine: &[u8], loops: &[u8]) -> Result<LintText, Fail> {
+/// What is printed of a machine text and a loop text.
+fn printed(rt: &impl Abort, alloc: Global, machine: &[u8], loops: &[u8]) -> LintText {
     let machine = Named {
         path: "vliw.toml",
         text: machine,
@@ -71,43 +71,55 @@ fn printed(alloc: Global, machine: &[u8], loops: &[u8]) -> Result<LintText, Fail
         path: "saxpy.loops",
         text: loops,
     };
-    Ok(lint_printout(alloc, Some(machine), Some(loops))?)
+    lint_printout(alloc, Some(machine), Some(loops)).expect(rt, "memory")
+}
+
+/// Texts of a machine and of loops, what is told of them, and whether the machine is at fault or the loops are.
+type Row = (&'static [u8], &'static [u8], &'static str, bool, bool);
+
+/// Without a table; not in UTF-8; without a comma; with names that are near to others.
+const ROWS: &[Row] = &[
+    (
+        b"registers = 8\nunits = [\"m\"]\n[ops]\n",
+        LOOPS,
+        OF_LOOPS,
+        false,
+        true,
+    ),
+    (
+        b"registers = 8\nunits = [\"m\xffem\"]\n",
+        b"",
+        "vliw.toml:2:12: not UTF-8\n",
+        true,
+        false,
+    ),
+    (
+        b"registers = 8\nunits = [\"mem\" \"alu\"]\n",
+        b"",
+        "vliw.toml:2:16: not TOML\n",
+        true,
+        false,
+    ),
+    (
+        b"register = 8\nunits = [\"mem\", \"alu0\", \"alu1\"]\n\n[ops.laod]\nlatncy = 3\nalts = [[\"men@0\"], [\"alu@0\"], [\"adder@0\"]]\n",
+        b"",
+        OF_NAMES,
+        true,
+        false,
+    ),
+];
+
+/// What a row says is told.
+fn is_told(told: &LintText, row: &Row) -> bool {
+    told.text.as_slice() == row.2.as_bytes()
+        && told.machine_faults == row.3
+        && told.loop_faults == row.4
 }
 
 #[test]
-fn tells_each_fault_of_loops(rt: HostRuntime) -> Result<(), Fail> {
-    let machine = b"registers = 8\nunits = [\"m\"]\n[ops]\n";
-    let told = printed(rt.alloc(), machine, LOOPS)?;
-    assert_eq!(rt; str::from_utf8(&told.text).unwrap_or(""), OF_LOOPS);
-    assert!(rt; told.loop_faults && !told.machine_faults);
-    Ok(())
-}
-
-#[test]
-fn tells_where_a_machine_is_no_toml(rt: HostRuntime) -> Result<(), Fail> {
-    for (machine, line) in [
-        (
-            b"registers = 8\nunits = [\"m\xffem\"]\n" as &[u8],
-            "vliw.toml:2:12: not UTF-8\n",
-        ),
-        (
-            b"registers = 8\nunits = [\"mem\" \"alu\"]\n",
-            "vliw.toml:2:16: not TOML\n",
-        ),
-    ] {
-        let told = printed(rt.alloc(), machine, b"")?;
-        assert_eq!(rt; str::from_utf8(&told.text).unwrap_or(""), line);
-        assert!(rt; told.machine_faults && !told.loop_faults);
+fn tells_each_fault(rt: HostRuntime) {
+    for row in ROWS {
+        let told = printed(&rt, rt.alloc(), row.0, row.1);
+        assert!(rt; is_told(&told, row), "{}", row.2);
     }
-    Ok(())
-}
-
-#[test]
-fn tells_the_names_that_may_be_meant(rt: HostRuntime) -> Result<(), Fail> {
-    let machine =
-        b"register = 8\nunits = [\"mem\", \"alu0\", \"alu1\"]\n\n[ops.laod]\nlatncy = 3\nalts = [[\"men@0\"], [\"alu@0\"], [\"adder@0\"]]\n";
-    let told = printed(rt.alloc(), machine, b"")?;
-    assert_eq!(rt; str::from_utf8(&told.text).unwrap_or(""), OF_NAMES);
-    assert!(rt; told.machine_faults && !told.loop_faults);
-    Ok(())
 }

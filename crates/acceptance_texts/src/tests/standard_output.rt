@@ -117,7 +117,7 @@ const SHORT: &[(&[Answer], usize)] = &[
 #[test]
 fn writes_on_after_a_short_write(rt: HostRuntime) {
     for (answers, calls) in SHORT {
-        assert_eq!(rt; written(answers), (*calls, 16, 0));
+        assert!(rt; written(answers) == (*calls, 16, 0), "{calls}");
     }
 }
 
@@ -133,6 +133,6 @@ const FAILING: &[(&[Answer], usize, usize)] = &[
 #[test]
 fn tells_of_a_failed_write(rt: HostRuntime) {
     for (answers, calls, taken) in FAILING {
-        assert_eq!(rt; written(answers), (*calls, *taken, 1));
+        assert!(rt; written(answers) == (*calls, *taken, 1), "{calls}");
     }
 }

@@ -7,7 +7,7 @@ use problem_printouts::ProblemsFault;
 use problem_reader::{TextFault, Wrong as ProblemWrong};
 use solution_reader::{SolutionFault, Wrong as SolutionWrong};
 use std::alloc::Global;
-use std::test::Fail;
+use std::process::Abort;
 
 const OF_LOOPS: LoopFault = LoopFault {
     line: 0,
@@ -29,27 +29,45 @@ const OF_SOLUTIONS: SolutionFault = SolutionFault {
 };
 
 /// The line of a status.
-fn line_of(alloc: Global, status: &Status) -> Result<String, Fail> {
-    let line = status.line().ok_or("a line")?;
-    Ok(line.to_string(alloc)?)
+fn line_of(rt: &impl Abort, alloc: Global, status: &Status) -> String {
+    let line = status.line().expect(rt, "a line");
+    line.to_string(alloc).expect(rt, "memory")
 }
 
+/// A status is that of lack of memory.
+fn is_of_memory(rt: &impl Abort, alloc: Global, status: &Status) -> bool {
+    status.number() == 7 && line_of(rt, alloc, status).as_str() == "out of memory"
+}
+
+const FAULTS: &[ProblemsFault] = &[
+    ProblemsFault::Memory,
+    ProblemsFault::Problems(OF_PROBLEMS),
+    ProblemsFault::Solutions(OF_SOLUTIONS),
+];
+
+/// Lack of memory, as the parts of the program tell of it.
 #[test]
-fn tells_of_memory(rt: HostRuntime) -> Result<(), Fail> {
+fn statuses_tell_of_memory(rt: HostRuntime) {
     for status in [
         Status::OutOfMemory,
         Status::Machine(MachineFault::Memory),
         Status::Loops(OF_LOOPS),
         Status::Problems(OF_PROBLEMS),
         Status::Solutions(OF_SOLUTIONS),
-        Status::from(MachineFault::Memory),
-        Status::from(OF_LOOPS),
-        Status::from(ProblemsFault::Memory),
-        Status::from(ProblemsFault::Problems(OF_PROBLEMS)),
-        Status::from(ProblemsFault::Solutions(OF_SOLUTIONS)),
     ] {
-        assert_eq!(rt; status.number(), 7);
-        assert_eq!(rt; line_of(rt.alloc(), &status)?.as_str(), "out of memory");
+        assert!(rt; is_of_memory(&rt, rt.alloc(), &status), "{status:?}");
     }
-    Ok(())
+}
+
+#[test]
+fn faults_tell_of_memory(rt: HostRuntime) {
+    for status in [Status::from(MachineFault::Memory), Status::from(OF_LOOPS)] {
+        assert!(rt; is_of_memory(&rt, rt.alloc(), &status), "{status:?}");
+    }
+    for fault in FAULTS {
+        assert!(rt;
+            is_of_memory(&rt, rt.alloc(), &Status::from(*fault)),
+            "{fault:?}"
+        );
+    }
 }

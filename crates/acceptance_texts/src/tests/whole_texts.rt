@@ -9,7 +9,6 @@ use devices::{
 use machine::OutOfMemory;
 use std::alloc::Global;
 use std::process::Abort;
-use std::test::Fail;
 
 // bytes of which neighbours differ
 fn pattern(alloc: Global, len: usize) -> Result<Vec<u8>, OutOfMemory> {
@@ -43,31 +42,32 @@ const READ: &[(usize, u32, usize)] = &[
 ];
 
 /// Of these bytes the first `want` are read, and the others are left.
-fn is_read(alloc: Global, bytes: &[u8], most: u32, want: usize) -> Result<bool, ReadTextError> {
+fn is_read(rt: &impl Abort, alloc: Global, bytes: &[u8], most: u32, want: usize) -> bool {
     let mut input = Bytes::new(bytes);
-    let text = read_text_of(alloc, &mut input, most as usize)?;
-    Ok(bytes.split_at_checked(want) == Some((text.as_slice(), input.rest())))
+    let text = read_text_of(alloc, &mut input, most as usize).expect(rt, "a text");
+    bytes.split_at_checked(want) == Some((text.as_slice(), input.rest()))
 }
 
 #[test]
-fn reads_up_to_a_byte_past_the_limit(rt: HostRuntime) -> Result<(), Fail> {
-    let all = pattern(rt.alloc(), 200_000)?;
+fn reads_up_to_a_byte_past_the_limit(rt: HostRuntime) {
+    let all = pattern(rt.alloc(), 200_000).expect(&rt, "memory");
     for (len, most, want) in READ {
-        let bytes = all.as_slice().get(..*len).ok_or("a beginning")?;
-        assert!(rt; is_read(rt.alloc(), bytes, *most, *want)?, "{len}, {most}");
+        let bytes = all.as_slice().get(..*len).expect(&rt, "a beginning");
+        assert!(rt;
+            is_read(&rt, rt.alloc(), bytes, *most, *want),
+            "{len}, {most}"
+        );
     }
-    Ok(())
 }
 
 /// A text of a machine or of loops has 1,048,576 bytes at most.
 #[test]
-fn reads_a_byte_past_the_limit_of_texts(rt: HostRuntime) -> Result<(), Fail> {
-    let all = pattern(rt.alloc(), 1_048_578)?;
+fn reads_a_byte_past_the_limit_of_texts(rt: HostRuntime) {
+    let all = pattern(rt.alloc(), 1_048_578).expect(&rt, "memory");
     let mut input = Bytes::new(all.as_slice());
-    let text = read_text(rt.alloc(), &mut input)?;
-    assert_eq!(rt; (text.len(), input.rest().len()), (1_048_577, 1));
+    let text = read_text(rt.alloc(), &mut input).expect(&rt, "a text");
+    assert!(rt; text.len() == 1_048_577 && input.rest().len() == 1);
     assert!(rt; all.as_slice().starts_with(text.as_slice()));
-    Ok(())
 }
 
 /// How many bytes of 30 a read gives at most, and after how many reads one fails, with how many bytes are left then, where it does.
@@ -107,16 +107,18 @@ fn left(
 }
 
 #[test]
-fn reads_in_parts(rt: HostRuntime) -> Result<(), Fail> {
-    let bytes = pattern(rt.alloc(), 30)?;
+fn reads_in_parts(rt: HostRuntime) {
+    let bytes = pattern(rt.alloc(), 30).expect(&rt, "memory");
     for (stride, fault, wanted) in IN_PARTS {
         let left = left(&rt, rt.alloc(), bytes.as_slice(), *stride, *fault);
-        assert_eq!(rt; left, *wanted);
+        assert!(rt; left == *wanted, "{stride}, {fault:?}");
     }
-    let many = pattern(rt.alloc(), 200_000)?;
-    let left = left(&rt, rt.alloc(), many.as_slice(), 4_096, None);
-    assert_eq!(rt; left, None);
-    Ok(())
+}
+
+#[test]
+fn reads_many_bytes_in_parts(rt: HostRuntime) {
+    let many = pattern(rt.alloc(), 200_000).expect(&rt, "memory");
+    assert!(rt; left(&rt, rt.alloc(), many.as_slice(), 4_096, None).is_none());
 }
 
 /// A path that no file can have: it can't be read, and one call fails.
@@ -129,7 +131,9 @@ fn tells_of_a_path_with_a_zero(rt: HostRuntime) {
 
 /// How many bytes are written, how many of them the output takes a write and in all, whether it can flush, and how many are taken. A call fails where the room is too
 /// small or the output can't flush.
-const WRITTEN: &[(usize, usize, usize, bool, usize)] = &[
+type Writing = (usize, usize, usize, bool, usize);
+
+const WRITTEN: &[Writing] = &[
     (1_000, 1, 1_000, true, 1_000),
     (1_000, 7, 1_000, true, 1_000),
     (1_000, 999, 1_000, true, 1_000),
@@ -143,34 +147,38 @@ const WRITTEN: &[(usize, usize, usize, bool, usize)] = &[
     (8, 4, 100, false, 8),
 ];
 
-/// What a write of a text to such an output has to leave: these bytes are taken, and are handed on where no call fails.
-fn is_written(rt: &impl Abort, text: &[u8], mut output: FaultyOutput, taken: usize, is_well: bool)
-    requires { output.1 ≡ 0 }
+/// A write of a text to such an output leaves what it has to: these bytes are taken, and are handed on where no call fails.
+fn is_written(text: &[u8], output: &mut FaultyOutput, taken: usize, is_well: bool) -> bool
+    requires { output.old.1 ≡ 0 }
 {
-    let written = write_text(&mut output, text).is_ok();
+    let is_done = write_text(output, text).is_ok();
     let handed = if is_well { taken } else { 0 };
-    assert_eq!(rt; (written, output.faults()), (is_well, u64::from(!is_well)));
-    assert!(rt; text.get(..taken) == Some(output.as_slice()));
-    assert!(rt; text.get(..handed) == Some(output.handed()));
+    is_done == is_well
+        && output.faults() == u64::from(!is_well)
+        && text.get(..taken) == Some(output.as_slice())
+        && text.get(..handed) == Some(output.handed())
+}
+
+/// A beginning of these bytes is written as a row says.
+fn leaves(rt: &impl Abort, alloc: Global, all: &[u8], row: &Writing) -> bool {
+    let (len, stride, room, can_flush, taken) = *row;
+    assert!(rt; 0 < stride && len <= all.len());
+    let mut output = FaultyOutput::new(alloc, stride, room, can_flush).expect(rt, "memory");
+    is_written(&all[..len], &mut output, taken, can_flush && len <= room)
 }
 
 #[test]
-fn writes_up_to_a_fault(rt: HostRuntime) -> Result<(), Fail> {
-    let all = pattern(rt.alloc(), 1_000)?;
-    for (len, stride, room, can_flush, taken) in WRITTEN {
-        assert!(rt; 0 < *stride);
-        let text = all.as_slice().get(..*len).ok_or("a beginning")?;
-        let output = FaultyOutput::new(rt.alloc(), *stride, *room, *can_flush)?;
-        is_written(&rt, text, output, *taken, *can_flush && len <= room);
+fn writes_up_to_a_fault(rt: HostRuntime) {
+    let all = pattern(rt.alloc(), 1_000).expect(&rt, "memory");
+    for row in WRITTEN {
+        assert!(rt; leaves(&rt, rt.alloc(), all.as_slice(), row), "{row:?}");
     }
-    Ok(())
 }
 
 #[test]
-fn writes_to_memory(rt: HostRuntime) -> Result<(), Fail> {
-    let text = pattern(rt.alloc(), 1_000)?;
-    let mut output = TakenBytes::with_capacity(rt.alloc(), 1_000)?;
+fn writes_to_memory(rt: HostRuntime) {
+    let text = pattern(rt.alloc(), 1_000).expect(&rt, "memory");
+    let mut output = TakenBytes::with_capacity(rt.alloc(), 1_000).expect(&rt, "memory");
     assert!(rt; write_text(&mut output, text.as_slice()).is_ok());
     assert!(rt; output.as_slice() == text.as_slice() && output.handed() == text.as_slice());
-    Ok(())
 }
