@@ -155,6 +155,12 @@ pub(super) fn draft(rt: &impl Abort, alloc: Global, parts: &Parts<'_>) -> Draft 
     draft
 }
 
+/// The problem of a draft, of which so many intervals above the least one are tried.
+pub(super) fn problem(rt: &impl Abort, alloc: Global, draft: Draft, above: u64) -> Problem {
+    let settings = Settings::new(6, above, 1, 1).expect(rt, "settings");
+    Problem::new(alloc, draft, &settings).expect(rt, "a problem")
+}
+
 /// The edges of the problem: reads, then orders.
 const EDGES: &[Edge] = &[
     Edge {
@@ -177,16 +183,23 @@ const EDGES: &[Edge] = &[
     },
 ];
 
+/// A problem has these edges, and all else that the sound draft comes to.
+fn is_worked(problem: &Problem) -> bool {
+    let scheduling = problem.scheduling();
+    scheduling.edges().all() == EDGES
+        && scheduling.resources() == 2
+        && scheduling.recurrences() == 1
+        && scheduling.ratio() == 6
+        && scheduling.ceiling() == 32
+        && problem.draft().units == 2
+        && scheduling.operations() == 3
+}
+
 #[test]
 fn a_sound_draft_makes_a_problem(rt: HostRuntime) {
-    let settings = Settings::new(6, 32, 1, 1).expect(&rt, "settings");
     let draft = draft(&rt, rt.alloc(), &SOUND);
-    let problem = Problem::new(rt.alloc(), draft, &settings).expect(&rt, "a problem");
-    let scheduling = problem.scheduling();
-    assert!(rt; scheduling.edges().all() == EDGES);
-    assert!(rt; scheduling.resources() == 2 && scheduling.recurrences() == 1);
-    assert!(rt; scheduling.ratio() == 6 && scheduling.ceiling() == 32);
-    assert!(rt; problem.draft().units == 2 && scheduling.operations() == 3);
+    let problem = problem(&rt, rt.alloc(), draft, 32);
+    assert!(rt; is_worked(&problem));
 }
 
 /// A kind of operations without a fault, and rows that are at fault.

@@ -11,11 +11,10 @@
 
 ghost use Rattle.std.specs.Prelude.{◌<◌, length};
 
-use super::drafts::{Parts, draft};
+use super::drafts::{Parts, draft, problem};
 use modulo::Breach;
 use problems::{File, Hold, Problem, Value};
 use registers::Read;
-use settings::Settings;
 use solutions::{Broken, Outcome, Solution, solve};
 use std::alloc::Global;
 use std::process::Abort;
@@ -116,8 +115,7 @@ const VALUES: &[(usize, u64, u64, u64)] = &[
 const NUMBERS: &[usize] = &[0, 1, 0, 1, 1, 3];
 
 fn filter(rt: &impl Abort, alloc: Global) -> Problem {
-    let settings = Settings::new(6, 20, 1, 1).expect(rt, "settings");
-    Problem::new(alloc, draft(rt, alloc, &FILTER), &settings).expect(rt, "a problem")
+    problem(rt, alloc, draft(rt, alloc, &FILTER), 20)
 }
 
 /// A solution has these times and alternatives.

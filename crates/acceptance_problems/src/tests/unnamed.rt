@@ -3,7 +3,7 @@
 //! The operation 0 holds the unit 0; the operation 1 holds that unit, or the unit 1 and one cycle later the unit 0. It reads the value 0 of its iteration, its own value 1 of the one before,
 //! and two iterations later the value 2, which the operation 0 makes too, in a file that is not allotted. `tests/sessions/solutions.session` has the same problem with names.
 
-use super::drafts::no_names;
+use super::drafts::{no_names, problem};
 use graph::Edge;
 use machine_data::OutOfMemory;
 use modulo::{Breach, Culprit};
@@ -11,7 +11,6 @@ use outcome_text::push_outcome;
 use problem_graphs::push_edges;
 use problem_reader::read_problems;
 use problems::{Draft, Problem};
-use settings::Settings;
 use solution_text::{Missing, push_broken, push_failed, push_missing};
 use solutions::{Broken, Cause, solve_with_culprit};
 use std::alloc::Global;
@@ -49,9 +48,8 @@ fn unnamed(rt: &impl Abort, alloc: Global) -> Draft {
 }
 
 /// Its problem, of which five intervals above the least one are tried.
-fn problem(rt: &impl Abort, alloc: Global) -> Problem {
-    let settings = Settings::new(6, 5, 1, 1).expect(rt, "settings");
-    Problem::new(alloc, unnamed(rt, alloc), &settings).expect(rt, "a problem")
+fn unnamed_problem(rt: &impl Abort, alloc: Global) -> Problem {
+    problem(rt, alloc, unnamed(rt, alloc), 5)
 }
 
 /// The operation 1 is as high as its latency 1, and the operation 0 by the delay of its value 0 higher.
@@ -85,22 +83,31 @@ fn push_solved(alloc: Global, text: &mut Vec<u8>, problem: &Problem) -> Result<b
 
 #[test]
 fn edges_and_a_solution(rt: HostRuntime) {
-    let problem = problem(&rt, rt.alloc());
+    let problem = unnamed_problem(&rt, rt.alloc());
     let mut text = Vec::new(rt.alloc());
     let is_met = push_solved(rt.alloc(), &mut text, &problem).expect(&rt, "memory");
     assert!(rt; is_met && text.as_slice() == SOLVED);
 }
 
+/// Appends what is told for a cause with a culprit.
+fn push_blamed(
+    text: &mut Vec<u8>,
+    name: &str,
+    problem: &Problem,
+    cause: Cause,
+    culprit: Culprit,
+) -> Result<(), OutOfMemory> {
+    push_failed(text, name, b"", problem, cause, Some(&culprit))
+}
+
 /// Appends what is told for some causes, with culprits and without one.
 fn push_failures(alloc: Global, text: &mut Vec<u8>, problem: &Problem) -> Result<(), OutOfMemory> {
-    let blocked = Culprit::Blocked(1);
-    push_failed(text, "a", b"", problem, Cause::Table, Some(&blocked))?;
-    let late = Culprit::Late(0, 450);
-    push_failed(text, "b", b"", problem, Cause::Stages, Some(&late))?;
+    push_blamed(text, "a", problem, Cause::Table, Culprit::Blocked(1))?;
+    push_blamed(text, "b", problem, Cause::Stages, Culprit::Late(0, 450))?;
     push_failed(text, "c", b"", problem, Cause::Stages, None)?;
     push_failed(text, "d", b"", problem, Cause::Registers(0, 1), None)?;
     let unplaced = Culprit::Unplaced(Vec::from_slice(alloc, &[0, 1])?);
-    push_failed(text, "e", b"", problem, Cause::Budget, Some(&unplaced))
+    push_blamed(text, "e", problem, Cause::Budget, unplaced)
 }
 
 const FAILED: &[u8] = b"# a ops 2 res 2 rec 1 mii 2
@@ -117,7 +124,7 @@ const FAILED: &[u8] = b"# a ops 2 res 2 rec 1 mii 2
 
 #[test]
 fn failures(rt: HostRuntime) {
-    let problem = problem(&rt, rt.alloc());
+    let problem = unnamed_problem(&rt, rt.alloc());
     let mut text = Vec::new(rt.alloc());
     push_failures(rt.alloc(), &mut text, &problem).expect(&rt, "memory");
     assert!(rt; text.as_slice() == FAILED);
