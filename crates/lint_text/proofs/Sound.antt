@@ -8,7 +8,7 @@ use Rattle.machine_lint.specs.Lints as machines
 use Rattle.machine_lint.specs.declared.place.MachineLint.{MachineLint}
 use Rattle.loop_lint.specs.Lacks.{HasTables, SilentWith}
 use Rattle.loop_lint.specs.declared.lacks.LoopLint.{LoopLint}
-use Rattle.lint_text.specs.Printout.{AreOfMachine, MeansBoth, SilentBoth, SilentOn, machine_in, machine_read}
+use Rattle.lint_text.specs.Printout.{AreOfLoops, AreOfMachine, IsSilent, MeansBoth, MeansMachine, SilentOn, machine_in, machine_read}
 use Rattle.lint_text.specs.declared.printout.LintText.{LintText}
 use Rattle.lint_text.specs.declared.printout.Named.{Named}
 
@@ -44,26 +44,43 @@ some-told : (fault : MachineFault) (lints : List MachineLint) → machines.Begin
 some-told fault [] begins h = cc
 some-told fault (lint ∷ lints) begins h = cc
 
-silent-at : (machine loops : List ℕ) (meaning : Result MachineData MachineFault) (lints : List MachineLint) (faults : List LoopLint) (printed : LintText) → machine_of machine ≡ meaning
+silent-machine : (machine : List ℕ) (meaning : Result MachineData MachineFault) (lints : List MachineLint) (faults : List LoopLint) (printed : LintText) → machine_of machine ≡ meaning
+    → machines.BeginsAs meaning (map (λ (lint : MachineLint). lint.fault) lints) → faults ≡ []
+    → printed.machine_faults ≡ ltb 0 (length lints) → printed.loop_faults ≡ ltb 0 (length faults)
+    → ((printed.machine_faults ≡ false) × (printed.loop_faults ≡ false)) ↔ MeansMachine machine
+silent-machine machine (Ok meant) lints faults printed is begins no_loops m l = (
+  λ none. record { meant = meant; machine_read = is },
+  λ means. (m ∙ none-flag lints (map-nil lints begins), l ∙ none-flag faults no_loops),
+)
+silent-machine machine (Err fault) lints faults printed is begins no_loops m l = (
+  λ none. absurd (some-told fault lints begins (none-list lints (sym m ∙ none.0))),
+  λ (means : MeansMachine machine). absurd (cc),
+)
+
+silent-both : (machine loops : List ℕ) (meaning : Result MachineData MachineFault) (lints : List MachineLint) (faults : List LoopLint) (printed : LintText) → machine_of machine ≡ meaning
     → machines.BeginsAs meaning (map (λ (lint : MachineLint). lint.fault) lints) → SilentWith (machine_read meaning) loops faults
     → printed.machine_faults ≡ ltb 0 (length lints) → printed.loop_faults ≡ ltb 0 (length faults)
     → ((printed.machine_faults ≡ false) × (printed.loop_faults ≡ false)) ↔ MeansBoth machine loops
-silent-at machine loops (Ok meant) lints faults printed is begins silent m l = (
+silent-both machine loops (Ok meant) lints faults printed is begins silent m l = (
   λ none. record { meant = meant; machine_read = is; tables = silent.0 (none-list faults (sym l ∙ none.1)) },
   λ (both : MeansBoth machine loops).
       let same : meant ≡ both.meant = cc in
       (m ∙ none-flag lints (map-nil lints begins), l ∙ none-flag faults (silent.1 (subst (λ (d : MachineData). HasTables d loops) (sym same) both.tables))),
 )
-silent-at machine loops (Err fault) lints faults printed is begins silent m l = (
+silent-both machine loops (Err fault) lints faults printed is begins silent m l = (
   λ none. absurd (some-told fault lints begins (none-list lints (sym m ∙ none.0))),
   λ (both : MeansBoth machine loops). absurd (cc),
 )
 
-pub silent_both : (machine loops : Option Named) (lints : List MachineLint) (faults : List LoopLint) (printed : LintText) → AreOfMachine machine lints → SilentOn (machine_in machine) loops faults
-    → printed.machine_faults ≡ ltb 0 (length lints) → printed.loop_faults ≡ ltb 0 (length faults)
-    → SilentBoth machine loops printed
-silent_both None None lints faults printed are silent m l = tt
-silent_both None (Some loops) lints faults printed are silent m l = tt
-silent_both (Some machine) None lints faults printed are silent m l = tt
-silent_both (Some machine) (Some loops) lints faults printed are silent m l =
-    silent-at machine.text.now loops.text.now (machine_of machine.text.now) lints faults printed refl are.1 silent m l
+pub is_silent : (machine loops : Option Named) (lints : List MachineLint) (faults : List LoopLint) (printed : LintText) → AreOfMachine machine lints → AreOfLoops machine loops faults
+    → SilentOn (machine_in machine) loops faults → printed.machine_faults ≡ ltb 0 (length lints) → printed.loop_faults ≡ ltb 0 (length faults)
+    → IsSilent machine loops printed
+is_silent None None lints faults printed are told silent m l = (λ none. tt, λ order. (m ∙ none-flag lints are, l ∙ none-flag faults told))
+is_silent None (Some loops) lints faults printed are told silent m l = (
+  λ none. silent.0 (none-list faults (sym l ∙ none.1)),
+  λ means. (m ∙ none-flag lints are, l ∙ none-flag faults (silent.1 means)),
+)
+is_silent (Some machine) None lints faults printed are told silent m l =
+    silent-machine machine.text.now (machine_of machine.text.now) lints faults printed refl are.1 told m l
+is_silent (Some machine) (Some loops) lints faults printed are told silent m l =
+    silent-both machine.text.now loops.text.now (machine_of machine.text.now) lints faults printed refl are.1 silent m l

@@ -1,7 +1,7 @@
 -- What is printed of the faults of a machine text and of a loop text.
-use Rattle.std.specs.Prelude.{◌≡◌, ◌↔◌, ℕ, nat_lt, false, List, [], ◌++◌, length, map, Option, Some, None, Result, Ok, Err}
+use Rattle.std.specs.Prelude.{◌≡◌, ◌↔◌, ℕ, nat_lt, false, List, [], ◌++◌, length, map, Option, Some, None, option_map, Result, Ok, Err}
 use Rattle.machine_data.specs.Machines.{MachineData}
-use Rattle.loop_lint.specs.Lacks.{AreToldOn, HasTables, SilentWith}
+use Rattle.loop_lint.specs.Lacks.{AreToldOn, HasTables, MeansLoops, SilentWith}
 use Rattle.loop_lint.specs.declared.lacks.LoopLint.{LoopLint}
 use Rattle.machine.specs.declared.fault.MachineFault.{MachineFault}
 use Rattle.machine.specs.MachineText.{machine_of}
@@ -32,7 +32,7 @@ abbrev pub AreOfLoops : Option Named → Option Named → List LoopLint → Type
 AreOfLoops machine None lints = lints ≡ []
 AreOfLoops machine (Some named) lints = AreToldOn (machine_in machine) named.text.now lints
 
--- .. and nothing just where the text means loops for which that machine has all tables
+-- .. and nothing just where the text means loops, and that machine, if there is one, has all tables for them
 abbrev pub SilentOn : Option MachineData → Option Named → List LoopLint → Type 0
 SilentOn machine None lints = Unit {0}
 SilentOn machine (Some named) lints = SilentWith machine named.text.now lints
@@ -56,14 +56,29 @@ pub record IsLintText (machine loops : Option Named) (printed : LintText) : Type
   pub machine_faults : printed.machine_faults ≡ nat_lt 0 (length lints)
   pub loop_faults : printed.loop_faults ≡ nat_lt 0 (length faults)
 
+-- the text means a machine
+pub record MeansMachine (machine : List ℕ) : Type 0 where
+  pub meant : MachineData
+  pub machine_read : machine_of machine ≡ Ok meant
+
 -- both texts mean something, the machine with a table for each opcode of the loops
 pub record MeansBoth (machine loops : List ℕ) : Type 0 where
   pub meant : MachineData
   pub machine_read : machine_of machine ≡ Ok meant
   pub tables : HasTables meant loops
 
--- where both texts are given, no fault is told just where both mean something so
-abbrev pub SilentBoth : Option Named → Option Named → LintText → Type 0
-SilentBoth (Some machine) (Some loops) printed =
-    ((printed.machine_faults ≡ false) × (printed.loop_faults ≡ false)) ↔ MeansBoth machine.text.now loops.text.now
-SilentBoth _ _ printed = Unit {0}
+-- a machine text and a loop text, where they are given, are in order: each means something, and a machine has a table for
+-- each opcode of the loops
+abbrev pub AreInOrder : Option (List ℕ) → Option (List ℕ) → Type 0
+AreInOrder None None = Unit {0}
+AreInOrder None (Some loops) = MeansLoops loops
+AreInOrder (Some machine) None = MeansMachine machine
+AreInOrder (Some machine) (Some loops) = MeansBoth machine loops
+
+abbrev pub text_in : Option Named → Option (List ℕ)
+text_in named = option_map (λ (n : Named). n.text.now) named
+
+-- no fault is told just where the texts are in order
+abbrev pub IsSilent : Option Named → Option Named → LintText → Type 0
+IsSilent machine loops printed =
+    ((printed.machine_faults ≡ false) × (printed.loop_faults ≡ false)) ↔ AreInOrder (text_in machine) (text_in loops)

@@ -4,7 +4,7 @@ ghost use Rattle.std.specs.Prelude.{◌≡◌, ℕ, List, ◌++◌, [], ◌∷�
 ghost use Rattle.serde_json.specs.Data.{array, member, no_members, object, string};
 ghost use Rattle.serde_json.specs.View.{items_of, view};
 ghost use Rattle.serde_json.specs.Written.{compact_text, items_have_float};
-ghost use Rattle.lint_text.specs.Printout.{SilentBoth};
+ghost use Rattle.lint_text.specs.Printout.{IsSilent};
 ghost use Rattle.lint_text.specs.Document.{IsLintDocument, document_text, fault_value, line_value, loop_value, loop_values, machine_value, machine_values};
 
 use crate::lines::{From, first_line, passing};
@@ -221,14 +221,14 @@ fn document_line(
 ///
 /// # Errors
 /// Memory ran out, which says nothing of the texts.
-#[tactic(auto, using(crate::proofs::Sound::silent_both))]
+#[tactic(auto, using(crate::proofs::Sound::is_silent))]
 pub fn lint_document(
     alloc: Global,
     machine: Option<Named<'_>>,
     loops: Option<Named<'_>>,
 ) -> Result<LintText, OutOfMemory>
     ensures exact { IfOk result (λ printed. IsLintDocument machine.entry loops.entry printed) }
-    ensures silent { IfOk result (λ printed. SilentBoth machine.entry loops.entry printed) }
+    ensures silent { IfOk result (λ printed. IsSilent machine.entry loops.entry printed) }
 {
     let lints = machine_lints(alloc, machine)?;
     let faults = loop_lints(alloc, machine, loops, &lints)?;

@@ -1,7 +1,7 @@
 //! What is printed of the faults of a machine text and of a loop text.
 
 ghost use Rattle.std.specs.Prelude.{◌≡◌, ◌++◌, IfOk, OnOk, nat_lt, length};
-ghost use Rattle.lint_text.specs.Printout.{AreOfLoops, AreOfMachine, IsLintText, SilentBoth, SilentOn, loop_lines, machine_in, machine_lines};
+ghost use Rattle.lint_text.specs.Printout.{AreOfLoops, AreOfMachine, IsLintText, IsSilent, SilentOn, loop_lines, machine_in, machine_lines};
 
 use crate::lines::push_loop_faults;
 use crate::machines::push_machine_faults;
@@ -132,14 +132,14 @@ fn lines_of(
 ///
 /// # Errors
 /// Memory ran out, which says nothing of the texts.
-#[tactic(auto, using(crate::proofs::Sound::silent_both))]
+#[tactic(auto, using(crate::proofs::Sound::is_silent))]
 pub fn lint_printout(
     alloc: Global,
     machine: Option<Named<'_>>,
     loops: Option<Named<'_>>,
 ) -> Result<LintText, OutOfMemory>
     ensures exact { IfOk result (λ printed. IsLintText machine.entry loops.entry printed) }
-    ensures silent { IfOk result (λ printed. SilentBoth machine.entry loops.entry printed) }
+    ensures silent { IfOk result (λ printed. IsSilent machine.entry loops.entry printed) }
 {
     let lints = machine_lints(alloc, machine)?;
     let faults = loop_lints(alloc, machine, loops, &lints)?;

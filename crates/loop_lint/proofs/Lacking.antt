@@ -12,7 +12,7 @@ use Rattle.loop_data.specs.declared.language.statement.Statement.{Statement}
 use Rattle.loop_reader.specs.Meaning.{at_line, blocks_from, blocks_of, faults_of, first_fault, forms_of, inside_faults, line_faults, loop_of, loops_in, outside_faults, stands, statement_in, statement_of, whole, with_line}
 use Rattle.loop_reader.specs.declared.fault.LoopFault.{LoopFault}
 use Rattle.loop_reader.specs.declared.fault.LoopFaultKind.TheVariants.{Limit, Syntax}
-use Rattle.loop_lint.specs.Lacks.{AreToldOn, HasTables, SilentWith, count_before, faults_among, has_tables, inside_after, lack, lacks_for, lacks_from, lacks_in, merged}
+use Rattle.loop_lint.specs.Lacks.{AreToldOn, HasTables, MeansLoops, SilentWith, count_before, faults_among, has_tables, inside_after, lack, lacks_for, lacks_from, lacks_in, merged}
 use Rattle.loop_lint.specs.Lints.{AreFaults, BeginsAs, TextLine, Blank, Words, faults_in, forms_in, line_with, plain, text_lines}
 use Rattle.loop_lint.specs.Words.{Placed, placed_words}
 use Rattle.loop_lint.specs.declared.fault.LintFault.{LintFault}
@@ -292,7 +292,22 @@ silent-on machine text faults lints are begins is =
           is ∙ ap (λ fs. merged fs (lacks_in machine text)) no ∙ ap (map lint.NoTable) (r.back has),
     )
 
+silent-alone : (text : List ℕ) (faults : List LintFault) (lints : List LoopLint) (meaning : Result (List LoopData) LoopFault) → loops_in text ≡ meaning → BeginsAs meaning (map plain faults)
+    → lints ≡ merged faults [] → (lints ≡ []) ↔ MeansLoops text
+silent-alone text faults lints (Ok loops) meant begins is = (
+  λ none. record { loops = loops; read = meant },
+  λ means. is ∙ ap (λ fs. merged fs []) (plain-nil faults begins),
+)
+silent-alone text faults lints (Err fault) meant begins is = (
+  λ none. absurd (told-first fault faults begins (merged-nil faults [] (sym is ∙ none)).0),
+  λ (means : MeansLoops text). absurd (cc),
+)
+  where
+    told-first : (fault : LoopFault) (faults : List LintFault) → BeginsAs (Err fault) (map plain faults) → faults ≡ [] → ⊥
+    told-first fault [] begins none = cc
+    told-first fault (first ∷ faults) begins none = cc
+
 pub silent_with : (machine : Option MachineData) (text : List ℕ) (faults : List LintFault) (lints : List LoopLint) → AreFaults text faults → BeginsAs (loops_in text) (map plain faults)
     → lints ≡ merged faults (lacks_for machine text) → SilentWith machine text lints
-silent_with None text faults lints are begins is = tt
+silent_with None text faults lints are begins is = silent-alone text faults lints (loops_in text) refl begins is
 silent_with (Some machine) text faults lints are begins is = silent-on machine text faults lints are begins is

@@ -111,7 +111,12 @@ pub record HasTables (machine : MachineData) (text : List ℕ) : Type 0 where
   pub read : loops_in text ≡ Ok loops
   pub tables : list_all (has_tables machine) loops ≡ true
 
--- nothing is told of a text on a machine just where it means loops for which the machine has all tables
+-- the text means loops
+pub record MeansLoops (text : List ℕ) : Type 0 where
+  pub loops : List LoopData
+  pub read : loops_in text ≡ Ok loops
+
+-- nothing is told of a text just where it means loops, and the machine, if there is one, has all tables for them
 abbrev pub SilentWith : Option MachineData → List ℕ → List LoopLint → Type 0
-SilentWith None text lints = Unit {0}
+SilentWith None text lints = (lints ≡ []) ↔ MeansLoops text
 SilentWith (Some machine) text lints = (lints ≡ []) ↔ HasTables machine text

@@ -1,5 +1,5 @@
 -- What is told of texts of which no more is read than shows that they are too long.
-use Rattle.std.proofs.Common.{◌≡◌, ◌∙◌, ap, refl, subst, sym, ℕ, ◌<◌, List, ◌++◌, Option, None, Some, flat_map, length, map, take, codes, inl, inr}
+use Rattle.std.proofs.Common.{◌≡◌, ◌↔◌, ◌∙◌, ap, refl, subst, sym, ℕ, ◌<◌, Bool, true, false, if◌then◌else◌, List, ◌++◌, Option, None, Some, option_map, flat_map, length, map, take, codes, inl, inr}
 use Rattle.std.specs.Prelude.{[], ◌∷◌, Ok, Err}
 use Rattle.std.proofs.lemmas.List.{take_all}
 use Rattle.std.proofs.lemmas.Bool.{cases_lt, lt-ltb}
@@ -11,22 +11,23 @@ use Rattle.machine_lint.specs.Places.{nowhere}
 use Rattle.machine_lint.specs.declared.place.MachineLint.{MachineLint}
 use Rattle.loops.specs.LoopFaultKind.TheVariants as kinds
 use Rattle.loop_lint.specs.Lints.{AreFaults, faults_in, lints_in, too_long}
-use Rattle.loop_lint.specs.Lacks.{AreToldOn, faults_among, lacks_for, lacks_in, merged}
+use Rattle.loop_lint.specs.Lacks.{AreToldOn, MeansLoops, faults_among, lacks_for, lacks_in, merged}
 use Rattle.loop_lint.specs.declared.fault.LintFault.{LintFault}
 use Rattle.loop_lint.specs.declared.lacks.LoopLint.{LoopLint}
 use Rattle.loop_lint.specs.declared.lacks.LoopLint.TheVariants as told_as
 use Rattle.machine_data.specs.Machines.{MachineData}
 use Rattle.lint_text.specs.Lines.{loop_text, machine_line}
-use Rattle.lint_text.specs.Printout.{AreOfLoops, AreOfMachine, loop_lines, machine_in, machine_lines, machine_read}
+use Rattle.lint_text.specs.Printout.{AreInOrder, AreOfLoops, AreOfMachine, IsSilent, MeansBoth, MeansMachine, text_in, loop_lines, machine_in, machine_lines, machine_read}
 use Rattle.lint_text.specs.Document.{document_text, loop_value, loop_values, machine_value, machine_values}
 use Rattle.lint_text.specs.declared.printout.LintText.{LintText}
 use Rattle.lint_text.specs.declared.printout.Named.{Named}
 use Rattle.command_line.specs.declared.command.LintTexts.{LintTexts}
 use Rattle.command_line.specs.declared.command.LintTexts.TheVariants as lint
 use Rattle.modsched.specs.Devices.{most_read}
-use Rattle.modsched.specs.Engine.{Ending, IsLintAs, IsNamed, LintBrings}
+use Rattle.modsched.specs.Engine.{AreFine, Ending, IsLintAs, IsNamed, LintBrings, lint_verdict, loops_to_lint, machine_to_lint}
 use Rattle.settings.specs.declared.format.Format.{Format}
 use Rattle.settings.specs.declared.format.Format.TheVariants as format
+use Rattle.exit_status.specs.declared.verdict.Verdict.TheVariants.{Fine, LoopsFaulty, MachineFaulty}
 use Rattle.modsched.proofs.Lengths.{loops_in-take, machine_of-take, taken_too_long}
 
 told-long : (text : List ℕ) → 1048576 < length text → machines.told_of text ≡ machines.Just (nowhere (Limit (codes "text")) ∷ [])
@@ -230,6 +231,55 @@ retells format.Json machine loops printed h = record {
   };
 }
 
+-- nothing is told just where it is well
+fine-none : (printed : LintText) → (lint_verdict printed ≡ Fine) ↔ ((printed.machine_faults ≡ false) × (printed.loop_faults ≡ false))
+fine-none printed = at printed.machine_faults printed.loop_faults
+  where
+    at : (machines loops : Bool) → ((if machines then MachineFaulty else if loops then LoopsFaulty else Fine) ≡ Fine) ↔ ((machines ≡ false) × (loops ≡ false))
+    at true loops = (λ h. absurd (cc), λ h. absurd (cc))
+    at false true = (λ h. absurd (cc), λ h. absurd (cc))
+    at false false = (λ h. (refl, refl), λ h. refl)
+
+text-named : (wanted : Option (List ℕ × List ℕ)) (named : Option Named) → IsNamed wanted named → text_in named ≡ option_map (λ (t : List ℕ × List ℕ). t.1) wanted
+text-named wanted None is = ap (option_map (λ (t : List ℕ × List ℕ). t.1)) is
+text-named wanted (Some named) is = ap (option_map (λ (t : List ℕ × List ℕ). t.1)) is
+
+pub fine_told : (texts : LintTexts) (first last : List ℕ) (machine loops : Option Named) (printed : LintText)
+    → IsNamed (machine_to_lint texts first last) machine → IsNamed (loops_to_lint texts last) loops → IsSilent machine loops printed
+    → (lint_verdict printed ≡ Fine) ↔ AreFine texts first last
+fine_told texts first last machine loops printed is_machine is_loops silent =
+    let order : AreInOrder (text_in machine) (text_in loops) ≡ AreFine texts first last = rw (text-named _ machine is_machine, text-named _ loops is_loops) refl in (
+      λ fine. subst (λ (T : Type 0). T) order (silent.0 ((fine-none printed).0 fine)),
+      λ are. (fine-none printed).1 (silent.1 (subst (λ (T : Type 0). T) (sym order) are)),
+    )
+
+-- texts are in order just where what is read of them is
+machine-order : (text : List ℕ) → MeansMachine (take most_read text) ↔ MeansMachine text
+machine-order text = (
+  λ (m : MeansMachine (take most_read text)). record { meant = m.meant; machine_read = sym (machine_of-take text) ∙ m.machine_read },
+  λ (m : MeansMachine text). record { meant = m.meant; machine_read = machine_of-take text ∙ m.machine_read },
+)
+
+loops-order : (text : List ℕ) → MeansLoops (take most_read text) ↔ MeansLoops text
+loops-order text = (
+  λ (m : MeansLoops (take most_read text)). record { loops = m.loops; read = sym (loops_in-take text) ∙ m.read },
+  λ (m : MeansLoops text). record { loops = m.loops; read = loops_in-take text ∙ m.read },
+)
+
+both-order : (first last : List ℕ) → MeansBoth (take most_read first) (take most_read last) ↔ MeansBoth first last
+both-order first last = (
+  λ (m : MeansBoth (take most_read first) (take most_read last)). record {
+    meant = m.meant;
+    machine_read = sym (machine_of-take first) ∙ m.machine_read;
+    tables = record { loops = m.tables.loops; read = sym (loops_in-take last) ∙ m.tables.read; tables = m.tables.tables };
+  },
+  λ (m : MeansBoth first last). record {
+    meant = m.meant;
+    machine_read = machine_of-take first ∙ m.machine_read;
+    tables = record { loops = m.tables.loops; read = loops_in-take last ∙ m.tables.read; tables = m.tables.tables };
+  },
+)
+
 -- what was read of texts brings about what the whole texts do
 pub lint-take : (format : Format) (texts : LintTexts) (first last : List ℕ) (ending : Ending) → LintBrings format texts (take most_read first) (take most_read last) ending
     → LintBrings format texts first last ending
@@ -244,6 +294,7 @@ lint-take format (lint.Machine path) first last (Ok answer) h =
       is_loops = h.is_loops;
       is_text = told.again machine.other h.loops machine.are machine.same (on-same h.machine machine.other h.loops told.faults machine.read told.of_loops) (refl, refl);
       is_answer = h.is_answer;
+      fine = (λ f. (machine-order last).0 (h.fine.0 f), λ o. h.fine.1 ((machine-order last).1 o));
     }
 lint-take format (lint.Loops path) first last (Ok answer) h =
     let told = retells format h.machine h.loops h.printed h.is_text in
@@ -255,6 +306,7 @@ lint-take format (lint.Loops path) first last (Ok answer) h =
       is_loops = loops.is_named;
       is_text = told.again h.machine loops.other told.of_machine (refl, refl) loops.are loops.same;
       is_answer = h.is_answer;
+      fine = (λ f. (loops-order last).0 (h.fine.0 f), λ o. h.fine.1 ((loops-order last).1 o));
     }
 lint-take format (lint.Both machine_path loops_path) first last (Ok answer) h =
     let told = retells format h.machine h.loops h.printed h.is_text in
@@ -267,4 +319,5 @@ lint-take format (lint.Both machine_path loops_path) first last (Ok answer) h =
       is_loops = loops.is_named;
       is_text = told.again machine.other loops.other machine.are machine.same loops.are loops.same;
       is_answer = h.is_answer;
+      fine = (λ f. (both-order first last).0 (h.fine.0 f), λ o. h.fine.1 ((both-order first last).1 o));
     }

@@ -1,6 +1,6 @@
 -- What a command does with its texts, and how a run of it ends.
 use Rattle.std.specs.Global.{Global}
-use Rattle.std.specs.Prelude.{◌≡◌, ◌+◌, ◌==◌, ◌⊎◌, ℕ, Bool, if◌then◌else◌, string_bytes, String, List, [], Option, Some, None, is_some, option_map, Result, Ok, Err}
+use Rattle.std.specs.Prelude.{◌≡◌, ◌↔◌, ◌+◌, ◌==◌, ◌⊎◌, ℕ, Bool, if◌then◌else◌, string_bytes, String, List, [], Option, Some, None, is_some, option_map, Result, Ok, Err}
 use Rattle.command_line.specs.declared.command.Command.{Command}
 use Rattle.command_line.specs.declared.command.Command.TheVariants as command
 use Rattle.command_line.specs.declared.command.LintTexts.{LintTexts}
@@ -37,7 +37,7 @@ use Rattle.variants.specs.Texts.{IsVaryText}
 use Rattle.variants.specs.Documents.{IsVaryDocument}
 use Rattle.variants.specs.Totals.{IsVaryTotal}
 use Rattle.lint_text.specs.Document.{IsLintDocument}
-use Rattle.lint_text.specs.Printout.{IsLintText}
+use Rattle.lint_text.specs.Printout.{AreInOrder, IsLintText}
 use Rattle.lint_text.specs.declared.printout.LintText.{LintText}
 use Rattle.lint_text.specs.declared.printout.Named.{Named}
 use Rattle.modsched.specs.Naming.{chosen_of, unknown_in}
@@ -218,7 +218,11 @@ abbrev pub IsLintAs : Format → Option Named → Option Named → LintText → 
 IsLintAs format.Text machine loops printed = IsLintText machine loops printed
 IsLintAs format.Json machine loops printed = IsLintDocument machine loops printed
 
--- .. all of them
+-- the texts that are looked at are in order
+abbrev pub AreFine : LintTexts → List ℕ → List ℕ → Type 0
+AreFine texts first last = AreInOrder (option_map (λ (t : List ℕ × List ℕ). t.1) (machine_to_lint texts first last)) (option_map (λ (t : List ℕ × List ℕ). t.1) (loops_to_lint texts last))
+
+-- .. all of them; and it is well just where the texts are in order
 pub record LintsTold (format : Format) (texts : LintTexts) (first last : List ℕ) (answer : AnswerData) : Type 0 where
   pub machine : Option Named
   pub loops : Option Named
@@ -227,6 +231,7 @@ pub record LintsTold (format : Format) (texts : LintTexts) (first last : List �
   pub is_loops : IsNamed (loops_to_lint texts last) loops
   pub is_text : IsLintAs format machine loops printed
   pub is_answer : answer ≡ lint_answer printed
+  pub fine : (answer.verdict ≡ Fine) ↔ AreFine texts first last
 
 -- `lint` refuses no text, so that only memory can run out
 abbrev pub LintBrings : Format → LintTexts → List ℕ → List ℕ → Ending → Type 0

@@ -1,6 +1,7 @@
 //! What `lint` writes.
 
 ghost use Rattle.std.specs.Prelude.{◌≡◌, IfErr, IfOk, string_bytes};
+ghost use Rattle.lint_text.specs.Printout.{IsSilent};
 ghost use Rattle.modsched.specs.Engine.{IsLintAs, IsNamed, LintBrings, loops_to_lint, machine_to_lint};
 ghost use Rattle.modsched.specs.inner.Answers.{ending_of};
 ghost use Rattle.modsched.specs.inner.Refusals.{IsRefusal};
@@ -37,7 +38,8 @@ fn shown(
     machine: Option<Named<'_>>,
     loops: Option<Named<'_>>,
 ) -> Result<LintText, OutOfMemory>
-    ensures { IfOk result (IsLintAs format machine.entry loops.entry) }
+    ensures exact { IfOk result (IsLintAs format machine.entry loops.entry) }
+    ensures silent { IfOk result (λ printed. IsSilent machine.entry loops.entry printed) }
 {
     match format {
         Format::Text => lint_printout(alloc, machine, loops),
