@@ -1,7 +1,7 @@
 -- What is scheduled: operations, with the edges between them and the alternatives of each.
-use Rattle.std.specs.Prelude.{◌≡◌, ℕ, ◌*◌, ◌≤◌, max, List, length}
+use Rattle.std.specs.Prelude.{◌≡◌, ℕ, ◌*◌, ◌<◌, ◌≤◌, max, List, [], length, map}
 use Rattle.machine_data.specs.declared.limits.TheConstants.{MAX_CEILING, MAX_RATIO}
-use Rattle.std.specs.List.{All}
+use Rattle.std.specs.List.{All, slice_index_or}
 use Rattle.machine_data.specs.declared.alternative.Row.{Row}
 use Rattle.machine_data.specs.Alternative.{AreAlternatives}
 use Rattle.graph.specs.Graphs.{GraphData, IsGraph}
@@ -46,3 +46,8 @@ pub record IsProblemOf (graph : GraphData) (operations : List (List (List Row)))
   pub same_operations : problem.operations ≡ operations
   pub same_ratio : problem.ratio ≡ ratio
   pub same_ceiling : problem.ceiling ≡ ceiling
+
+-- there is a number for each operation, and it is that of an operation with the same alternatives
+pub record AreKinds (operations : List (List (List Row))) (kinds : List ℕ) : Type 0 where
+  pub there : All (λ kind. kind < length operations) kinds
+  pub same : map (λ kind. slice_index_or operations kind []) kinds ≡ operations

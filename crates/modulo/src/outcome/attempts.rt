@@ -63,7 +63,8 @@ pub fn attempt<'a, T: ModuloTable>(
     requires budget { budget ≤ MAX_BUDGET }
     ensures exact { IfOk result (AnswersAttempt problem.now ii budget) }
 {
-    let mut table = T::make(alloc, problem.alternatives(), ii)?;
+    prove!(problem.mii() >= 1);
+    let mut table = problem.table::<T>(alloc, ii)?;
     attempt_on(alloc, problem, &mut table, budget)
 }
 

@@ -29,7 +29,8 @@ pub fn culprit<T: ModuloTable>(
     requires budget { budget ≤ MAX_BUDGET }
     ensures exact { IfOk result (AnswersCulprit problem.now ii budget) }
 {
-    let mut table = T::make(alloc, problem.alternatives(), ii)?;
+    prove!(problem.mii() >= 1);
+    let mut table = problem.table::<T>(alloc, ii)?;
     match answer_on(alloc, problem, &mut table, budget)? {
         Answer::Placed(_) => Ok(None),
         Answer::Failed(culprit) => Ok(Some(culprit)),

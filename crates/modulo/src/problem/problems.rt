@@ -1,12 +1,14 @@
 //! Problems: what is scheduled.
 
-ghost use Rattle.std.specs.Prelude.{◌≡◌, ◌≤◌, max, length, IfOk, IsOk};
-ghost use Rattle.modulo.specs.Problems.{IsProblem, IsProblemOf, mii_of};
-ghost use Rattle.machine_data.specs.declared.limits.TheConstants.{MAX_CEILING, MAX_RATIO};
+ghost use Rattle.std.specs.Prelude.{◌≡◌, ◌<◌, ◌≤◌, max, length, replicate, None, IfOk, IsOk};
+ghost use Rattle.modulo.specs.Problems.{AreKinds, IsProblem, IsProblemOf, mii_of};
+ghost use Rattle.modulo.specs.inner.Kinds.{KnowsKinds};
+ghost use Rattle.machine_data.specs.declared.limits.TheConstants.{MAX_CEILING, MAX_INTERVAL, MAX_RATIO};
 
 use graph::Edges;
 use machine_data::limits::MAX_STATEMENTS;
 use machine_data::{Alternatives, OutOfMemory};
+use mrt::ModuloTable;
 use std::alloc::Global;
 use std::marker::Model;
 
@@ -17,6 +19,8 @@ use std::marker::Model;
 pub struct Problem {
     edges: Edges,
     alternatives: Vec<Alternatives>,
+    /// For each operation the number of one that has the same alternatives; empty where that is not known.
+    kinds: Vec<usize>,
     resources: u64,
     recurrences: u64,
     ratio: u64,
@@ -25,12 +29,14 @@ pub struct Problem {
 
 impl Model for Problem {
     ghost use Rattle.modulo.specs.Problems.{ProblemData, IsProblem};
+    ghost use Rattle.modulo.specs.inner.Kinds.{KnowsKinds};
 
     ghost Value = { ProblemData };
 
     ghost view = { λ p. record { graph = p.edges; operations = p.alternatives.items; resources = p.resources; recurrences = p.recurrences; ratio = p.ratio; ceiling = p.ceiling } };
 
-    ghost invariant = { λ p. IsProblem (record { graph = p.edges; operations = p.alternatives.items; resources = p.resources; recurrences = p.recurrences; ratio = p.ratio; ceiling = p.ceiling }) };
+    ghost invariant = { λ p. IsProblem (record { graph = p.edges; operations = p.alternatives.items; resources = p.resources; recurrences = p.recurrences; ratio = p.ratio; ceiling = p.ceiling })
+        × KnowsKinds p.alternatives.items p.kinds.items };
 }
 
 impl Problem {
@@ -53,17 +59,81 @@ impl Problem {
         ensures exact { IfOk result (IsProblemOf edges alternatives.items ratio ceiling) }
         ensures no_memory { IsOk result }
     {
+        let unknown = Vec::new(alloc);
+        Problem::made(alloc, edges, alternatives, unknown, ratio, ceiling)
+    }
+
+    /// The problem that [`Problem::new`] gives, with the same limits, of operations of which is known which have the same
+    /// alternatives: `kinds` has for each operation the number of one that has its alternatives, from 0, as the first
+    /// with its opcode.
+    ///
+    /// # Errors
+    /// None: no memory is taken.
+    pub fn of_kinds(
+        alloc: Global,
+        edges: Edges,
+        alternatives: Vec<Alternatives>,
+        kinds: Vec<usize>,
+        ratio: u64,
+        ceiling: u64,
+    ) -> Result<Problem, OutOfMemory>
+        requires each { length edges.latencies ≡ length alternatives.items }
+        requires kinds { AreKinds alternatives.items kinds.items }
+        requires ratio { (1 ≤ ratio) × (ratio ≤ MAX_RATIO) }
+        requires ceiling { ceiling ≤ MAX_CEILING }
+        ensures exact { IfOk result (IsProblemOf edges alternatives.items ratio ceiling) }
+        ensures no_memory { IsOk result }
+    {
+        Problem::made(alloc, edges, alternatives, kinds, ratio, ceiling)
+    }
+
+    /// The problem with these parts, for which both lower bounds are found.
+    fn made(
+        alloc: Global,
+        edges: Edges,
+        alternatives: Vec<Alternatives>,
+        kinds: Vec<usize>,
+        ratio: u64,
+        ceiling: u64,
+    ) -> Result<Problem, OutOfMemory>
+        requires each { length edges.latencies ≡ length alternatives.items }
+        requires kinds { KnowsKinds alternatives.items kinds.items }
+        requires ratio { (1 ≤ ratio) × (ratio ≤ MAX_RATIO) }
+        requires ceiling { ceiling ≤ MAX_CEILING }
+        ensures exact { IfOk result (IsProblemOf edges alternatives.items ratio ceiling) }
+        ensures no_memory { IsOk result }
+    {
         prove!(edges.operations() <= MAX_STATEMENTS);
         let resources = graph::res_mii_of(alternatives.as_slice());
         let recurrences = graph::rec_mii(alloc, &edges)?;
         Ok(Problem {
             edges,
             alternatives,
+            kinds,
             resources,
             recurrences,
             ratio,
             ceiling,
         })
+    }
+
+    /// A table of its operations at an interval of 1 to 16,384 cycles, with nothing placed. Where it is known which
+    /// operations have the same alternatives, that is not sought.
+    ///
+    /// # Errors
+    /// [`OutOfMemory`] where memory ran out.
+    pub fn table<T: ModuloTable>(&self, alloc: Global, ii: u64) -> Result<T, OutOfMemory>
+        requires some { 0 < ii }
+        requires few { ii ≤ MAX_INTERVAL }
+        ensures empty { IfOk result (λ table. T.placed table ≡ replicate (length self.now.operations) None) }
+        ensures operations { IfOk result (λ table. T.operations table ≡ self.now.operations) }
+        ensures interval { IfOk result (λ table. T.interval table ≡ ii) }
+    {
+        let operations = &self.alternatives;
+        if self.kinds.is_empty() {
+            return T::make(alloc, operations, ii);
+        }
+        T::of_kinds(alloc, operations, &self.kinds, ii)
     }
 
     /// The edges between the operations, and the operations' latencies.

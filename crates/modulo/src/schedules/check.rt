@@ -74,7 +74,7 @@ fn taken_slot(
     requires places { AreInRange problem.now.operations places.now }
     ensures { IfOk result (λ found. MatchOption found (KeepsUnits ii problem.now.operations (times_in places.now) (choices_in places.now)) (IsFirstBreach problem.now ii places.now)) }
 {
-    let mut table = DefaultTable::make(alloc, problem.alternatives(), ii)?;
+    let mut table = problem.table::<DefaultTable>(alloc, ii)?;
     Ok(taken_slot_on(&mut table, problem, places))
 }
 
