@@ -1,3 +1,4 @@
 -- What is scheduled.
+pub mod Kinds
 pub mod Offered
 pub mod OneProblems

@@ -29,7 +29,8 @@ pub fn culprit<T: ModuloTable>(
     requires budget { budget ≤ MAX_BUDGET }
     ensures exact { IfOk result (AnswersCulprit prepared.now ii budget) }
 {
-    let mut table = T::make(alloc, prepared.alternatives(), ii)?;
+    prove!(prepared.mii() >= 1);
+    let mut table = prepared.table::<T>(alloc, ii)?;
     match answer_on(alloc, prepared, &mut table, budget)? {
         Answer::Placed(_) => Ok(None),
         Answer::Failed(culprit) => Ok(Some(culprit)),

@@ -34,7 +34,8 @@ pub fn loop_problem(
 {
     prove!(machine.registers() >= 1);
     let edges = graph::edges(alloc, machine, innermost)?;
-    let alternatives = offers(alloc, machine, innermost)?;
-    let problem = Problem::new(alloc, edges, alternatives, ratio, ceiling)?;
+    let offered = offers(alloc, machine, innermost)?;
+    let (list, kinds) = (offered.alternatives, offered.kinds);
+    let problem = Problem::of_kinds(alloc, edges, list, kinds, ratio, ceiling)?;
     Ok(problem)
 }

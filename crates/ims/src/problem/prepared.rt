@@ -1,16 +1,17 @@
 //! Loops that are prepared for scheduling.
 
-ghost use Rattle.std.specs.Prelude.{◌≡◌, ◌≤◌, max, length};
+ghost use Rattle.std.specs.Prelude.{◌≡◌, ◌<◌, ◌≤◌, max, length, replicate, None, IfOk};
 ghost use Rattle.graph.specs.TablesAnswer.{TablesAnswer};
 ghost use Rattle.graph.specs.Units.{first_without_table};
 ghost use Rattle.ims.specs.Problems.{IsProblem, IsProblemOf, mii_of, with_loop, without_loop};
-ghost use Rattle.machine_data.specs.declared.limits.TheConstants.{MAX_CEILING, MAX_RATIO};
+ghost use Rattle.machine_data.specs.declared.limits.TheConstants.{MAX_CEILING, MAX_INTERVAL, MAX_RATIO};
 
 use crate::problem::loop_problem::loop_problem;
 use graph::{Edges, GraphFault};
 use loop_data::Loop;
-use machine_data::{Alternatives, Machine};
+use machine_data::{Alternatives, Machine, OutOfMemory};
 use modulo::Problem;
+use mrt::ModuloTable;
 use std::alloc::Global;
 use std::marker::Model;
 
@@ -98,6 +99,21 @@ impl Prepared {
         ensures well_formed { IsProblem self.now }
     {
         self.problem.alternatives()
+    }
+
+    /// A table of its operations at an interval of 1 to 16,384 cycles, with nothing placed. Operations of one opcode share
+    /// their alternatives in it.
+    ///
+    /// # Errors
+    /// [`OutOfMemory`] where memory ran out.
+    pub fn table<T: ModuloTable>(&self, alloc: Global, ii: u64) -> Result<T, OutOfMemory>
+        requires some { 0 < ii }
+        requires few { ii ≤ MAX_INTERVAL }
+        ensures empty { IfOk result (λ table. T.placed table ≡ replicate (length self.now.operations) None) }
+        ensures operations { IfOk result (λ table. T.operations table ≡ self.now.operations) }
+        ensures interval { IfOk result (λ table. T.interval table ≡ ii) }
+    {
+        self.problem.table(alloc, ii)
     }
 
     /// The number of operations, 1 to 128.

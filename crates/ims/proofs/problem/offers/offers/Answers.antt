@@ -1,11 +1,14 @@
-use Rattle.std.proofs.Common.{◌≡◌, ◌<◌, List, Vec, Global, length, get_or, Err, refl, sym, ap, ◌∙◌, subst, arith}
+use Rattle.std.proofs.Common.{◌≡◌, ◌<◌, ℕ, List, length, get_or, unwrap_or, None, Err, refl, sym, ap, ◌∙◌, subst, arith}
 use Rattle.std.proofs.lemmas.List.Elements.{All-push}
 use Rattle.machine_data.specs.declared.alternative.Row.{Row}
 use Rattle.machine_data.specs.Alternative.{AreAlternatives}
+use Rattle.machine_data.specs.Opcodes.{opcode_number}
 use Rattle.graph.specs.declared.fault.GraphFault.TheVariants.{NoTable}
 use Rattle.graph.specs.TablesAnswer.{TablesAnswer}
-use Rattle.graph.specs.Units.{operations_of}
+use Rattle.graph.specs.Units.{alternatives_in, operations_of}
 use Rattle.graph.proofs.finding.Latencies.{find-passed, find-missing}
+use Rattle.ims.specs.declared.problem.offers.Offered.{Offered}
+use Rattle.ims.proofs.problems.Kinds.{at_number, kinds-more, noted-more}
 use Rattle.ims.proofs.problems.Offered.{take-offered}
 use Rattle.ims.proofs.problem.offers.offers.Goals as goal
 
@@ -15,22 +18,34 @@ returns-in-None-clause-exact c =
     let within : c.loop-statement.statement-index < length c.args.innermost.now.statements = omega (arith, ap length value) in
     let is : c.statement-item.result ≡ get_or c.args.innermost.now.statements c.loop-statement.statement-index c.statement-item.result
     = c.statement-item.is ∙ ap (λ l. get_or l c.loop-statement.statement-index c.statement-item.result) value in
-    let first = find-missing c.args.machine.now c.args.innermost.now c.loop-statement.statement-index c.statement-item.result within is c.in-None.ensures.value c.loop-statement.invariant.0 in
-    subst (λ missing. TablesAnswer {A = Vec (List (List Row)) Global} missing (λ v. v.items ≡ operations_of c.args.machine.now c.args.innermost.now) (Err (NoTable c.statement-item.result.opcode))) first refl
+    let first = find-missing c.args.machine.now c.args.innermost.now c.loop-statement.statement-index c.statement-item.result within is c.in-None.ensures.value c.loop-statement.invariant.passed in
+    subst (λ missing. TablesAnswer {A = Offered} missing (λ v. v.alternatives.items ≡ operations_of c.args.machine.now c.args.innermost.now) (Err (NoTable c.statement-item.result.opcode))) first refl
 
 pub loop-statement-preserved : goal.loop-statement-preserved
 loop-statement-preserved c =
     let value = c.statements-statement-items.ensures.value in
+    let i = c.loop-statement.invariant in
+    let machine = c.args.machine.now in
+    let list : List (List (List Row)) = c.loop-statement.list.items in
     let within : c.loop-statement.statement-index < length c.args.innermost.now.statements = omega (arith, ap length value) in
     let is : c.statement-item.result ≡ get_or c.args.innermost.now.statements c.loop-statement.statement-index c.statement-item.result
     = c.statement-item.is ∙ ap (λ l. get_or l c.loop-statement.statement-index c.statement-item.result) value in
     let offered : List (List Row) = c.in_ok-copied-in-Some.field-0 in
     let same : offered ≡ c.in-Some.table.now.alternatives = c.in_ok-copied-in-Some.ensures ∙ c.alternatives.ensures in
-    rw c.in_ok-push-in-Some.ensures.items (
-      find-passed c.args.machine.now c.args.innermost.now c.loop-statement.statement-index c.statement-item.result c.in-Some.table.now within is
-          c.in-Some.ensures.value c.loop-statement.invariant.0,
-      take-offered c.args.machine.now c.args.innermost.now c.loop-statement.statement-index c.statement-item.result c.in-Some.table.now c.loop-statement.list.items
-          offered within is c.in-Some.ensures.value same c.loop-statement.invariant.1,
-      All-push AreAlternatives c.loop-statement.list.items offered c.loop-statement.invariant.2
-          (subst AreAlternatives (sym same) (c.in-Some.ensures.well_formed.tables c.statement-item.result.opcode c.in-Some.table.now (sym c.in-Some.ensures.value)).0.alternatives),
-    )
+    let number : ℕ = opcode_number c.statement-item.result.opcode in
+    let there : number < length c.loop-statement.firsts = c.first_of.ensures.there in
+    let stands : offered ≡ at_number machine.tables number = same ∙ ap alternatives_in c.in-Some.ensures.value in
+    let count : c.len.result ≡ length list = c.len.ensures ∙ c.loop-statement.list.ok.0 in
+    let first : c.first_of.result ≡ unwrap_or (get_or c.loop-statement.firsts number None) (length list)
+    = c.first_of.ensures.value ∙ ap (unwrap_or (get_or c.loop-statement.firsts number None)) count in
+    let kinds = kinds-more machine.tables list c.loop-statement.firsts number c.first_of.result offered i.noted stands first c.loop-statement.kinds.items i.kinds in
+    let noted = noted-more machine.tables list c.loop-statement.firsts number c.first_of.result offered i.noted stands first there in
+    rw (c.in_ok-push-in-Some-2.ensures.items, c.in_ok-push-in-Some.ensures.items, c.first_of.ensures.noted) record {
+      passed = find-passed machine c.args.innermost.now c.loop-statement.statement-index c.statement-item.result c.in-Some.table.now within is c.in-Some.ensures.value i.passed;
+      listed = take-offered machine c.args.innermost.now c.loop-statement.statement-index c.statement-item.result c.in-Some.table.now list
+          offered within is c.in-Some.ensures.value same i.listed;
+      offered = All-push AreAlternatives list offered i.offered
+          (subst AreAlternatives (sym same) (c.in-Some.ensures.well_formed.tables c.statement-item.result.opcode c.in-Some.table.now (sym c.in-Some.ensures.value)).0.alternatives);
+      kinds = kinds;
+      noted = noted;
+    }
