@@ -90,7 +90,7 @@ impl<'a> Trials<'a> {
         prove!(self.prepared.mii() >= 1);
         match self.table.take() {
             Some(table) => table.at(ii),
-            None => DefaultTable::make(alloc, self.prepared.alternatives(), ii),
+            None => self.prepared.table(alloc, ii),
         }
     }
 }
