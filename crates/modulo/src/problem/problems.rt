@@ -63,9 +63,9 @@ impl Problem {
         Problem::made(alloc, edges, alternatives, unknown, ratio, ceiling)
     }
 
-    /// The problem that [`Problem::new`] gives, with the same limits, of operations of which is known which have the same
-    /// alternatives: `kinds` has for each operation the number of one that has its alternatives, from 0, as the first
-    /// with its opcode.
+    /// The problem that [`Problem::new`] gives, with the same limits, where it is known which operations have the same
+    /// alternatives: `kinds` has for each operation the number, from 0, of one with the same alternatives, as the first of
+    /// its opcode.
     ///
     /// # Errors
     /// None: no memory is taken.
