@@ -1,14 +1,12 @@
 //! Reading a loop text.
 
-ghost use Rattle.std.specs.Prelude.{◌≡◌, ◌==◌, ◌+◌, ◌≤◌, ◌<◌, ◌^◌, true, length, IfOk};
+ghost use Rattle.std.specs.Prelude.{◌≡◌, ◌+◌, ◌≤◌, ◌<◌, ◌^◌, ℕ, true, List, [], None, length, IfOk};
 ghost use Rattle.std.specs.List.{All};
 ghost use Rattle.loop_data.specs.Names.{is_name};
 ghost use Rattle.loop_data.specs.Loops.{IsLoop};
-ghost use Rattle.loop_reader.specs.Meaning.{loops_in, seen, when, LoopsAnswer};
-ghost use Rattle.loop_reader.specs.declared.fault.LoopFaultKind.TheVariants.{Limit};
-ghost use Rattle.loop_reader.specs.inner.Checks.{first_in};
-ghost use Rattle.loop_reader.specs.inner.Found.{fault_in};
-ghost use Rattle.loop_reader.specs.inner.Texts.{AnswersBlock, AnswersOpening};
+ghost use Rattle.loop_reader.specs.Meaning.{loops_in, seen, LoopsAnswer};
+ghost use Rattle.loop_reader.specs.inner.Known.{known_as};
+ghost use Rattle.loop_reader.specs.inner.Texts.{AnswersBlock, AnswersEnd, AnswersOpening, AnswersText};
 
 use crate::build::build;
 use crate::checks::check::{first_fault, is_long};
@@ -72,23 +70,7 @@ fn read_block<'a>(
     let index = Index::new(&room.names, room.lines.as_slice(), once);
     room.given.reset(counts.statements)?;
     let first = first_fault(&index, sound, &mut room.given, &mut room.found)?;
-    if let Some(fault) = first {
-        return Err(fault);
-    }
-    let (line, rest) = match stop {
-        Stop::Unfit(line, _) => return Err(LoopFault {
-            line,
-            kind: LoopFaultKind::Syntax,
-        }),
-        Stop::Open(line) => return Err(LoopFault {
-            line,
-            kind: LoopFaultKind::NoEnd,
-        }),
-        Stop::End(line, rest) => (line, rest),
-    };
-    if let Err(kind) = check_end(counts.statements) {
-        return Err(LoopFault { line, kind });
-    }
+    let (line, rest) = end_of(first, stop, counts.statements)?;
     let found = build(
         alloc,
         name,
@@ -104,14 +86,25 @@ fn read_block<'a>(
     })
 }
 
-/// The fault of a line that ends a block of `statements` statements: it needs at least one.
-fn check_end(statements: usize) -> Result<(), LoopFaultKind>
-    ensures fault { fault_in result ≡ first_in (when (statements == 0) Limit) }
+/// The line that ends a block of `statements` statements, and the text after it; else the block's first
+/// fault, where `first` is that of its lines, which stop there. A block needs at least one statement.
+fn end_of<'a>(
+    first: Option<LoopFault>,
+    stop: Stop<'a>,
+    statements: usize,
+) -> Result<(usize, &'a [u8]), LoopFault>
+    ensures { AnswersEnd first stop.entry statements result }
 {
-    if statements == 0 {
-        return Err(LoopFaultKind::Limit);
+    if let Some(fault) = first {
+        return Err(fault);
     }
-    Ok(())
+    let (line, kind) = match stop {
+        Stop::End(line, rest) if statements > 0 => return Ok((line, rest)),
+        Stop::End(line, _) => (line, LoopFaultKind::Limit),
+        Stop::Unfit(line, _) => (line, LoopFaultKind::Syntax),
+        Stop::Open(line) => (line, LoopFaultKind::NoEnd),
+    };
+    Err(LoopFault { line, kind })
 }
 
 /// The first fault of a line that opens a block after `loops` others; else its name is added to theirs.
@@ -143,8 +136,25 @@ pub fn read_loops(alloc: Global, text: &[u8]) -> Result<Vec<Loop>, LoopFault>
         });
     }
     let mut room = Buffers::new(alloc)?;
-    let mut loops = Vec::new(alloc);
     let mut names = Names::new(alloc)?;
+    let mut loops = Vec::new(alloc);
+    read_all(alloc, &mut room, &mut names, &mut loops, text)?;
+    Ok(loops)
+}
+
+/// Reads a text that is not too long. The tables of names and of loops have none yet.
+fn read_all<'a>(
+    alloc: Global,
+    room: &mut Buffers<'a>,
+    names: &mut Names<'a>,
+    loops: &mut Vec<Loop>,
+    text: &'a [u8],
+) -> Result<(), LoopFault>
+    requires short { length text.now ≤ MAX_TEXT }
+    requires nameless { (q : List ℕ) → known_as names.old q ≡ None }
+    requires none { loops.old.items ≡ [] }
+    ensures { AnswersText text.now loops.new.items result }
+{
     let mut rest = text;
     let mut line = 1;
     while !rest.is_empty() {
@@ -156,10 +166,10 @@ pub fn read_loops(alloc: Global, text: &[u8]) -> Result<Vec<Loop>, LoopFault>
             }
             Some(form) => match form {
                 Form::Loop(name) => {
-                    if let Err(kind) = open(&mut names, loops.len(), name) {
+                    if let Err(kind) = open(names, loops.len(), name) {
                         return Err(LoopFault::at(line, kind));
                     }
-                    let block = read_block(alloc, &mut room, name, after, line + 1)?;
+                    let block = read_block(alloc, room, name, after, line + 1)?;
                     loops.push(block.found)?;
                     rest = block.rest;
                     line = block.line;
@@ -173,5 +183,5 @@ pub fn read_loops(alloc: Global, text: &[u8]) -> Result<Vec<Loop>, LoopFault>
             },
         }
     }
-    Ok(loops)
+    Ok(())
 }

@@ -16,7 +16,7 @@ use Rattle.loop_data.specs.Loops.{LoopData}
 use Rattle.loop_reader.specs.Meaning.{outside_faults, inside_faults, blocks_of, blocks_from, forms_of, loop_of, loops_in, first_fault, opening_faults, is_long, when, at_line, seen, LoopsAnswer, AnswersFault}
 use Rattle.loop_lines.specs.Parsed.{form_seen}
 use Rattle.loop_reader.specs.inner.Checks.{first_in, line_at, IsNearForm}
-use Rattle.loop_reader.specs.inner.Texts.{UnlessMemory, UnlessMemoryKind}
+use Rattle.loop_reader.specs.inner.Texts.{UnlessMemory, UnlessMemoryKind, AnswersText}
 use Rattle.std.specs.Prelude.{Vec}
 use Rattle.std.specs.Global.{Global}
 use Rattle.std.specs.Result.{IsErrAnd}
@@ -162,3 +162,7 @@ few-loops names name h =
 pub handed-on : (r : Result (Vec LoopData Global) LoopFault) (fault : LoopFault) (meaning : Result (List LoopData) LoopFault) → IsErrAnd r (λ e. e ≡ fault) → AnswersFault fault.kind fault meaning → LoopsAnswer (seen r) meaning
 handed-on (Ok loops) fault meaning h a = absurd h
 handed-on (Err e) fault meaning h a = subst (λ (x : LoopFault). AnswersFault x.kind x meaning) (sym h) a
+
+pub handed-up : (text : List ℕ) (loops : List LoopData) (r : Result (Unit {0}) LoopFault) (fault : LoopFault) → IsErrAnd r (λ e. e ≡ fault) → AnswersFault fault.kind fault (loops_in text) → AnswersText text loops r
+handed-up text loops (Ok done) fault h a = absurd h
+handed-up text loops (Err e) fault h a = subst (λ (x : LoopFault). AnswersFault x.kind x (loops_in text)) (sym h) a

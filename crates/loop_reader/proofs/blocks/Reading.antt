@@ -162,6 +162,11 @@ reads-unfit number lines entries line form rest r other h =
 pub forms-next : (text this after : List ℕ) (form : Option Form) → lines_of text ≡ this ∷ lines_of after → form ≡ line_form (words_of this) → forms_of text ≡ form ∷ forms_of after
 forms-next text this after form e f = ap (map (λ line. line_form (words_of line))) e ∙ ap (λ x. x ∷ forms_of after) (sym f)
 
+pub whole-fit : (entries : List LineEntry) (e : LineEntry) (lines : List (Option Form)) → is_end (form_seen e.form) ≡ false → stands (forms_in entries) (form_seen e.form) ≡ true
+    → whole (forms_in entries) (Some (form_seen e.form) ∷ lines) ≡ whole (forms_in (entries ++ e ∷ [])) lines
+whole-fit entries e lines other h =
+    whole-line (forms_in entries) (form_seen e.form) lines other ∙ ap (λ b. whole b lines) (with-standing (forms_in entries) (form_seen e.form) h ∙ sym (forms_in-push entries e))
+
 pub whole-unfit : (before : List Form) (form : Form) (lines : List (Option Form)) → is_end form ≡ false → stands before form ≡ false → whole before (Some form ∷ lines) ≡ whole before lines
 whole-unfit before form lines other h = whole-line before form lines other ∙ ap (λ b. whole b lines) (unfit-with before form h)
 

@@ -1,14 +1,17 @@
 -- What the reader answers for a text, for a block of it and for a line that opens a block.
-use Rattle.std.specs.Prelude.{◌≡◌, ℕ, ◌+◌, ◌<◌, ◌≤◌, List, [], ◌∷◌, ◌++◌, length, Some, is_some, Result, Ok, Err}
-use Rattle.std.specs.List.{list_any}
+use Rattle.std.specs.Prelude.{◌≡◌, ℕ, ◌+◌, ◌<◌, ◌≤◌, List, [], ◌∷◌, ◌++◌, length, Option, Some, None, is_some, Result, Ok, Err}
+use Rattle.std.specs.Borrow.{Bor}
+use Rattle.std.specs.List.{All, list_any}
 use Rattle.machine_data.specs.Opcodes.{same_word}
-use Rattle.loop_data.specs.Loops.{IsLoop}
-use Rattle.loop_reader.specs.Meaning.{whole, forms_of, inside_faults, outside_faults, blocks_from, blocks_of, opening_faults, loop_of}
+use Rattle.loop_data.specs.Loops.{IsLoop, LoopData}
+use Rattle.loop_reader.specs.Meaning.{whole, forms_of, inside_faults, outside_faults, blocks_from, blocks_of, opening_faults, loop_of, loops_in, AnswersFault}
 use Rattle.loop_reader.specs.inner.Checks.{first_in}
 use Rattle.loop_reader.specs.inner.Known.{known_as}
 use Rattle.loop_reader.specs.declared.fault.LoopFault.{LoopFault}
 use Rattle.loop_reader.specs.declared.fault.LoopFaultKind.{LoopFaultKind}
-use Rattle.loop_reader.specs.declared.fault.LoopFaultKind.TheVariants.{Memory}
+use Rattle.loop_reader.specs.declared.fault.LoopFaultKind.TheVariants.{Syntax, Limit, NoEnd, Memory}
+use Rattle.loop_reader.specs.declared.lines.collect.Stop.{Stop}
+use Rattle.loop_reader.specs.declared.lines.collect.Stop.TheVariants as stops
 use Rattle.loop_reader.specs.declared.names.known.Names.{Names}
 use Rattle.loop_reader.specs.declared.read.BlockRead.{BlockRead}
 
@@ -43,3 +46,16 @@ HasNames table names = (q : List ℕ) → is_some (known_as table q) ≡ list_an
 abbrev pub AnswersOpening : Names → Names → ℕ → List ℕ → Result (Unit {0}) LoopFaultKind → Type 0
 AnswersOpening old new loops name (Ok done) = (names : List (List ℕ)) → HasNames old names → length names ≡ loops → (opening_faults names name ≡ []) × HasNames new (names ++ name ∷ [])
 AnswersOpening old new loops name (Err kind) = (names : List (List ℕ)) → HasNames old names → length names ≡ loops → UnlessMemoryKind kind (first_in (opening_faults names name) ≡ Some kind)
+
+-- the end of a block of so many statements, which has no fault, or its first fault
+abbrev pub AnswersEnd : Option LoopFault → Stop → ℕ → Result (ℕ × Bor (List ℕ)) LoopFault → Type 0
+AnswersEnd first stop statements (Ok end) = (first ≡ None) × (stop ≡ stops.End end.0 end.1) × (0 < statements)
+AnswersEnd (Some first) stop statements (Err fault) = first ≡ fault
+AnswersEnd None (stops.End line rest) statements (Err fault) = (statements ≡ 0) × (record { line = line; kind = Limit } ≡ fault)
+AnswersEnd None (stops.Unfit line rest) statements (Err fault) = record { line = line; kind = Syntax } ≡ fault
+AnswersEnd None (stops.Open line) statements (Err fault) = record { line = line; kind = NoEnd } ≡ fault
+
+-- the loops of a text, or its first fault
+abbrev pub AnswersText : List ℕ → List LoopData → Result (Unit {0}) LoopFault → Type 0
+AnswersText text loops (Ok done) = (Ok loops ≡ loops_in text) × All IsLoop loops × (length loops ≤ 1024)
+AnswersText text loops (Err fault) = AnswersFault fault.kind fault (loops_in text)

@@ -1,8 +1,8 @@
 //! The faults of a block's lines.
 
-ghost use Rattle.std.specs.Prelude.{◌≡◌, ◌*◌, ◌≤◌, ℕ, ℤ, Bool, false, Option, None, Some, Ok, IfOk, List, [], not, option_map, length, replicate, take};
+ghost use Rattle.std.specs.Prelude.{◌≡◌, ◌*◌, ◌≤◌, ◌||◌, nat_le, ℕ, ℤ, Bool, false, Option, None, Some, Ok, IfOk, List, [], not, option_map, length, replicate, take};
 ghost use Rattle.std.specs.Borrow.{Bor};
-ghost use Rattle.std.specs.List.{AllByRecursion};
+ghost use Rattle.std.specs.List.{AllByRecursion, list_any};
 ghost use Rattle.loop_reader.specs.declared.names.index.Counts.{Counts};
 ghost use Rattle.loop_lines.specs.Forms.{ArrayLine, ParamLine, InitLine, StatementLine, OutLine};
 ghost use Rattle.loop_reader.specs.Meaning as meaning;
@@ -256,6 +256,21 @@ fn take_init<'a>(
     }
 }
 
+/// A name or a number of a statement after `number` others is outside its limits, or there are too many.
+#[inline(always)]
+fn is_outside(source: &StatementWords<'_>, number: usize) -> bool
+    ensures { result ≡ (any_name meaning.is_long (statement_seen source.now).name || meaning.is_wide_place (statement_seen source.now).place
+        || list_any meaning.is_wide (uses_seen source.now.uses) || nat_le 128 number) }
+{
+    let uses = &source.uses;
+    is_long_name(source.name)
+        || is_wide_place(&source.place)
+        || is_wide(&uses.first)
+        || is_wide(&uses.second)
+        || is_wide(&uses.third)
+        || number >= MAX_STATEMENTS
+}
+
 /// The first fault of a statement after the lines that `counts` counts; else what its names stand for.
 #[inline(always)]
 fn check_statement<'a>(
@@ -273,13 +288,7 @@ fn check_statement<'a>(
 {
     let uses = &source.uses;
     let number = counts.statements;
-    if is_long_name(source.name)
-        || is_wide_place(&source.place)
-        || is_wide(&uses.first)
-        || is_wide(&uses.second)
-        || is_wide(&uses.third)
-        || number >= MAX_STATEMENTS
-    {
+    if is_outside(source, number) {
         return Err(LoopFaultKind::Limit);
     }
     if is_repeated_value(index, counts, source) {
@@ -289,13 +298,14 @@ fn check_statement<'a>(
     let second = look_up(index, given, number, &uses.second);
     let third = look_up(index, given, number, &uses.third);
     let place = look_up_place(index, &source.place);
-    if place.unknown || first.unknown || second.unknown || third.unknown {
+    // All of these are known by now, so that `|` needs no branches.
+    if place.unknown | first.unknown | second.unknown | third.unknown {
         return Err(LoopFaultKind::UnknownName);
     }
-    if first.early || second.early || third.early {
+    if first.early | second.early | third.early {
         return Err(LoopFaultKind::UseBeforeDefinition);
     }
-    if first.lacking || second.lacking || third.lacking {
+    if first.lacking | second.lacking | third.lacking {
         return Err(LoopFaultKind::MissingInit);
     }
     Ok(Targets {

@@ -4,7 +4,7 @@ use Rattle.loop_data.specs.Loops.{LoopData, IsLoop}
 use Rattle.loop_reader.specs.Meaning.{forms_of}
 use Rattle.loop_reader.specs.inner.Texts.{HasNames}
 use Rattle.loop_reader.proofs.blocks.OpeningLines.{Reads}
-use Rattle.loop_reader.proofs.read.read_loops.Given as goal
+use Rattle.loop_reader.proofs.read.read_all.Given as goal
 
 abbrev pub invariant-loop-rest : goal.invariant-loop-rest
 invariant-loop-rest l =
