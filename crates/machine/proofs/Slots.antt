@@ -1,5 +1,5 @@
 -- The tables of opcodes by their numbers, filled as the keys of `ops` are gone through in order.
-use Rattle.std.proofs.Common.{◌≡◌, ◌≢◌, ℕ, zero, suc, ◌<◌, Bool, true, false, cond, List, [], ◌∷◌, ◌++◌, length, get_or, set, replicate, map, Option, Some, None, option_map, String, Global, string_bytes, Ordering, Less, Equal, Greater, nat_cmp, is_eq, refl, sym, ap, ◌∙◌, inl, inr, arith, length-set, get_or-set_same, get_or-set_other}
+use Rattle.std.proofs.Common.{◌≡◌, ◌≢◌, ℕ, zero, suc, ◌<◌, Bool, true, false, cond, List, [], ◌∷◌, ◌++◌, length, get_or, set, replicate, map, Option, Some, None, is_some, option_map, String, Global, string_bytes, Ordering, Less, Equal, Greater, nat_cmp, is_eq, refl, sym, ap, ◌∙◌, inl, inr, arith, length-set, get_or-set_same, get_or-set_other}
 use Rattle.std.specs.List.{AllByRecursion, find, flat_map}
 use Rattle.std.specs.List.Sorted.{IsStrictlySortedBy}
 use Rattle.std.specs.Map.{keys_of}
@@ -22,7 +22,7 @@ use Rattle.machine_data.specs.declared.opcode.Opcode.TheVariants.{Load, Store, A
 use Rattle.machine_data.specs.Machines.{OperationData}
 use Rattle.machine_data.specs.Opcodes.{word_of, opcode_number, all_opcodes, same_word, opcode_named}
 use Rattle.machine.specs.inner.Reads.{first_fault}
-use Rattle.machine.specs.MachineText.{operation_of, entries_of, entry_faults, table_faults, keys_in, tables_of}
+use Rattle.machine.specs.MachineText.{unless, operation_of, entries_of, entry_faults, table_faults, keys_in, tables_of}
 use Rattle.machine.proofs.checks.Faults.{first-append}
 
 -- opcodes, their words and their numbers
@@ -196,9 +196,9 @@ module _ (units : List (List ℕ)) (all : Members) (es : List Entry) (k : String
   at-entry : flat_map (entry_faults units) (entries_of all) ≡ entry_faults units (string_bytes k, view v) ++ flat_map (entry_faults units) (entries_of (members_view rest))
   at-entry = sym turn ∙ rw more
 
-  pub entry-unknown : opcode_named (string_bytes k) ≡ None → first_fault (flat_map (entry_faults units) (entries_of all)) ≡ Some (UnknownOpcode (string_bytes k))
+  pub entry-unknown : (e : MachineFault) → first_fault (unless (is_some (opcode_named (string_bytes k))) (UnknownOpcode (string_bytes k))) ≡ Some e → first_fault (flat_map (entry_faults units) (entries_of all)) ≡ Some e
   unfolding entry_faults
-  entry-unknown none = rw at-entry (rw none)
+  entry-unknown e h = rw at-entry (first-append _ _ e (first-append _ _ e h))
 
   module _ (o : Opcode) (named : opcode_named (string_bytes k) ≡ Some o) where
     entry-table : entry_faults units (string_bytes k, view v) ≡ table_faults units (word_of o) (view v)

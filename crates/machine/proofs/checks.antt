@@ -1,7 +1,7 @@
 -- The checks of a machine text, and their faults.
-pub mod AlternativeFaults
 pub mod Faults
 pub mod Keys
+pub mod Parts
 pub mod RowFaults
-pub mod TableFaults
+pub mod TreeFaults
 pub mod Turns

@@ -1,9 +1,10 @@
 //! Why a machine text is refused.
 
-ghost use Rattle.std.specs.Prelude.{◌≡◌, string_bytes, encode_utf8, flat_map, IfOk};
+ghost use Rattle.std.specs.Prelude.{◌≡◌, string_bytes, encode_utf8, flat_map, option_map, IfOk};
 ghost use Rattle.std.specs.Fmt.{WritesOnOk};
-ghost use Rattle.machine.specs.Faults.{byte_text};
-ghost use Rattle.machine.specs.declared.fault.MachineFault.TheVariants.{Memory};
+ghost use Rattle.machine.specs.Faults.{byte_text, machine_fault_text};
+ghost use Rattle.machine.specs.inner.Reads.{IsFault, parts_text};
+ghost use Rattle.machine.specs.declared.fault.MachineFault.TheVariants.{Limit, Memory};
 
 use machine_data::OutOfMemory;
 use std::alloc::{AllocFailed, Global};
@@ -113,6 +114,37 @@ pub enum MachineFault {
     Memory,
 }
 
+impl MachineFault {
+    /// The fault that what has this name is outside its limits.
+    pub(crate) fn limit(alloc: Global, name: &str) -> MachineFault
+        ensures { IsFault result (Limit name.now) }
+    {
+        match Key::of(alloc, name) {
+            Ok(key) => MachineFault::Limit(key),
+            Err(_) => MachineFault::Memory,
+        }
+    }
+
+    /// What is wrong, as it is printed before the key or the name, and that, if there is one.
+    fn parts(&self) -> (&str, Option<&Key>)
+        ensures { parts_text result.0.now (option_map (λ k. k.now) result.1) ≡ machine_fault_text self.now }
+    {
+        match self {
+            MachineFault::NotUtf8 => ("not UTF-8", None),
+            MachineFault::NotToml => ("not TOML", None),
+            MachineFault::MissingKey(key) => ("missing key ", Some(key)),
+            MachineFault::WrongType(key) => ("wrong type at ", Some(key)),
+            MachineFault::UnknownKey(key) => ("unknown key ", Some(key)),
+            MachineFault::UnknownUnit(unit) => ("unknown unit ", Some(unit)),
+            MachineFault::UnknownOpcode(word) => ("unknown opcode ", Some(word)),
+            MachineFault::RepeatedUnit(unit) => ("repeated unit ", Some(unit)),
+            MachineFault::RepeatedRow(key) => ("repeated row at ", Some(key)),
+            MachineFault::Limit(name) => ("limit ", Some(name)),
+            MachineFault::Memory => ("out of memory", None),
+        }
+    }
+}
+
 /// Prints what is wrong and with which key or name, on one line.
 impl fmt::Display for MachineFault {
     ghost use Rattle.std.specs.Prelude.{Some};
@@ -121,18 +153,9 @@ impl fmt::Display for MachineFault {
     ghost output = { λ fault. Some (machine_fault_text fault) };
 
     fn fmt<W: fmt::Write>(&self, f: &mut fmt::Formatter<W>) -> fmt::Result {
-        match self {
-            MachineFault::NotUtf8 => f.write_str("not UTF-8"),
-            MachineFault::NotToml => f.write_str("not TOML"),
-            MachineFault::MissingKey(key) => write!(f, "missing key {key}"),
-            MachineFault::WrongType(key) => write!(f, "wrong type at {key}"),
-            MachineFault::UnknownKey(key) => write!(f, "unknown key {key}"),
-            MachineFault::UnknownUnit(unit) => write!(f, "unknown unit {unit}"),
-            MachineFault::UnknownOpcode(word) => write!(f, "unknown opcode {word}"),
-            MachineFault::RepeatedUnit(unit) => write!(f, "repeated unit {unit}"),
-            MachineFault::RepeatedRow(key) => write!(f, "repeated row at {key}"),
-            MachineFault::Limit(name) => write!(f, "limit {name}"),
-            MachineFault::Memory => f.write_str("out of memory"),
+        match self.parts() {
+            (what, Some(key)) => write!(f, "{what}{key}"),
+            (what, None) => f.write_str(what),
         }
     }
 }

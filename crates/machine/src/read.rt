@@ -5,8 +5,8 @@ ghost use Rattle.std.specs.List.{list_any};
 ghost use Rattle.machine_data.specs.Opcodes.{same_word};
 ghost use Rattle.toml.specs.View.{view, table_view};
 ghost use Rattle.machine.specs.MachineAnswer.{MachineAnswer};
-ghost use Rattle.machine.specs.inner.Reads.{ReadsPart};
-ghost use Rattle.machine.specs.MachineText.{within, unknown_keys, faults_of_number, number_in, tree_faults, tree_machine, machine_of};
+ghost use Rattle.machine.specs.inner.Reads.{ReadsPart, faults_of_list, list_in, faults_of_table};
+ghost use Rattle.machine.specs.MachineText.{within, unknown_keys, faults_of_number, number_in, keys_in, tree_faults, tree_machine, machine_of};
 
 use crate::fault::{Key, MachineFault};
 use machine_data::Machine;
@@ -29,7 +29,7 @@ pub fn read_machine(alloc: Global, text: &[u8]) -> Result<Machine, MachineFault>
     ensures exact { MachineAnswer result (machine_of text.now) }
 {
     if text.len() > MAX_TEXT {
-        return Err(MachineFault::Limit(Key::of(alloc, "text")?));
+        return Err(MachineFault::limit(alloc, "text"));
     }
     let Ok(text) = str::from_utf8(text) else {
         return Err(MachineFault::NotUtf8);
@@ -99,17 +99,56 @@ pub(crate) fn read_number(
     ensures { let found = option_map (λ v. view v.now) value.entry in ReadsPart (faults_of_number path.now limit.now 1 high found) (λ number. number ≡ number_in found) result }
 {
     let Some(value) = value else {
-        return Err(MachineFault::MissingKey(path.to_key(alloc, "")?));
+        return Err(path.missing(alloc));
     };
     let Some(number) = value.as_integer() else {
-        return Err(MachineFault::WrongType(path.to_key(alloc, "")?));
+        return Err(path.wrong_type(alloc));
     };
     // What is no `u16` is outside the limits, and so is 0.
     let number = u16::try_from(number).unwrap_or(0);
     if !is_within(usize::from(number), usize::from(high)) {
-        return Err(MachineFault::Limit(Key::of(alloc, limit)?));
+        return Err(MachineFault::limit(alloc, limit));
     }
     Ok(number)
+}
+
+/// The values of a list of at least one and at most `most`.
+pub(crate) fn read_list<'a>(
+    alloc: Global,
+    path: &Path,
+    limit: &str,
+    most: usize,
+    value: Option<&'a Value>,
+) -> Result<&'a [Value], MachineFault>
+    ensures { let found = option_map (λ v. view v.now) value.entry in ReadsPart (faults_of_list path.now limit.now most found) (λ values. map view values.now ≡ list_in found) result }
+{
+    let Some(value) = value else {
+        return Err(path.missing(alloc));
+    };
+    let Some(values) = value.as_array() else {
+        return Err(path.wrong_type(alloc));
+    };
+    if !is_within(values.len(), most) {
+        return Err(MachineFault::limit(alloc, limit));
+    }
+    Ok(values.as_slice())
+}
+
+/// The table of a key.
+pub(crate) fn read_table<'a>(
+    alloc: Global,
+    path: &Path,
+    value: Option<&'a Value>,
+) -> Result<&'a Table, MachineFault>
+    ensures { let found = option_map (λ v. view v.now) value.entry in ReadsPart (faults_of_table path.now found) (λ table. table_view table.now ≡ keys_in found) result }
+{
+    match value {
+        None => Err(path.missing(alloc)),
+        Some(value) => match value.as_table() {
+            None => Err(path.wrong_type(alloc)),
+            Some(table) => Ok(table),
+        },
+    }
 }
 
 /// Whether a number is at least 1 and at most `high`.

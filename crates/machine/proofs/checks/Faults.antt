@@ -1,5 +1,5 @@
 -- The first fault of checks that stand one after another, and the checks of a value by its kind.
-use Rattle.std.proofs.Common.{◌≡◌, ◌≢◌, IsErrAnd, ℕ, ◌<◌, ◌^◌, Bool, true, false, not, ltb, nat_abs, inl, inr, List, [], ◌∷◌, ◌++◌, length, map, Some, None, Result, Ok, Err, ℤ, pos, negsuc, codes, refl, sym, ap, arith, lt-ltb}
+use Rattle.std.proofs.Common.{◌≡◌, ◌≢◌, IsErrAnd, ℕ, ◌<◌, ◌^◌, Bool, true, false, not, ltb, nat_abs, inl, inr, List, [], ◌∷◌, ◌++◌, Some, None, Result, Ok, Err, ℤ, pos, negsuc, codes, refl, sym, ap, arith, lt-ltb}
 use Rattle.std.proofs.lemmas.Bool.{and_right, cases_lt}
 use Rattle.std.proofs.lemmas.Option.{same_Some}
 use Rattle.std.specs.Int.{FitsUnsignedBits}
@@ -10,7 +10,7 @@ use Rattle.machine.specs.declared.fault.MachineFault.{MachineFault}
 use Rattle.machine.specs.declared.fault.MachineFault.TheVariants.{MissingKey, WrongType, RepeatedUnit, Limit, Memory}
 use Rattle.machine_data.specs.Opcodes.{same_word}
 use Rattle.machine.specs.inner.Reads.{first_fault, ReadsPart}
-use Rattle.machine.specs.MachineText.{Faults, unless, within, is_unit_name, unit_faults, text_of, data_of, faults_in_turn, faults_of_units, names_of, faults_of_number, number_in}
+use Rattle.machine.specs.MachineText.{Faults, unless, within, is_unit_name, unit_faults, text_of, faults_of_number, number_in}
 
 -- checks one after another
 
@@ -97,32 +97,6 @@ module _ (before : List (List ℕ)) (d : Data) (text : List ℕ) (is : Some text
 
   pub unit-text : text ≡ text_of d
   unit-text = rw (string-at d text is)
-
-pub units-missing : first_fault (faults_of_units None) ≡ Some (MissingKey (codes "units"))
-unfolding faults_of_units
-units-missing = refl
-
-pub units-wrong_type : (d : Data) → None ≡ as_array d → first_fault (faults_of_units (Some d)) ≡ Some (WrongType (codes "units"))
-unfolding faults_of_units
-units-wrong_type (string s) h = refl
-units-wrong_type (integer y) h = refl
-units-wrong_type (float x) h = refl
-units-wrong_type (boolean b) h = refl
-units-wrong_type (datetime t) h = refl
-units-wrong_type (array es) h = cc
-units-wrong_type (table ns) h = refl
-
-module _ (d : Data) (units : Items) (is : Some units ≡ as_array d) where
-  pub units-limit : within 1 64 (length (data_of units)) ≡ false → first_fault (faults_of_units (Some d)) ≡ Some (Limit (codes "units"))
-  unfolding faults_of_units
-  units-limit h = rw (array-at d units is) (rw h)
-
-  pub units-of : within 1 64 (length (data_of units)) ≡ true → faults_of_units (Some d) ≡ faults_in_turn unit_faults text_of [] (data_of units)
-  unfolding faults_of_units
-  units-of h = rw (array-at d units is) (rw h)
-
-  pub units-names : map text_of (data_of units) ≡ names_of (Some d)
-  units-names = rw (array-at d units is)
 
 -- numbers
 

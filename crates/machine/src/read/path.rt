@@ -1,9 +1,11 @@
 //! Where a key stands in the tree of a machine text.
 
-ghost use Rattle.std.specs.Prelude.{◌≡◌, ◌++◌, IfOk};
+ghost use Rattle.std.specs.Prelude.{◌≡◌, ◌++◌, IfOk, OnOk, string_bytes};
 ghost use Rattle.machine.specs.MachineText.{path_of, path_in};
+ghost use Rattle.machine.specs.inner.Reads.{IsFault};
+ghost use Rattle.machine.specs.declared.fault.MachineFault.TheVariants.{MissingKey, WrongType};
 
-use crate::fault::Key;
+use crate::fault::{Key, MachineFault};
 use machine_data::OutOfMemory;
 use std::alloc::Global;
 use std::marker::Model;
@@ -68,11 +70,38 @@ impl<'a> Path<'a> {
         ensures { IfOk result (λ key. key ≡ self.now ++ last.now) }
     {
         let mut text = String::new(alloc);
+        self.write_to(&mut text, last)?;
+        Ok(Key::new(text))
+    }
+
+    /// Appends the path and a last piece to a text.
+    fn write_to(&self, text: &mut String, last: &str) -> Result<(), OutOfMemory>
+        ensures { OnOk result (string_bytes text.new ≡ string_bytes text.old ++ (self.now ++ last.now)) }
+    {
         text.push_str(self.ops)?;
         text.push_str(self.opcode)?;
         text.push_str(self.dot)?;
         text.push_str(self.key)?;
-        text.push_str(last)?;
-        Ok(Key::new(text))
+        text.push_str(last)
+    }
+
+    /// The fault that the key is missing here.
+    pub(crate) fn missing(&self, alloc: Global) -> MachineFault
+        ensures { IsFault result (MissingKey self.now) }
+    {
+        match self.to_key(alloc, "") {
+            Ok(key) => MachineFault::MissingKey(key),
+            Err(_) => MachineFault::Memory,
+        }
+    }
+
+    /// The fault that the value here has a wrong type.
+    pub(crate) fn wrong_type(&self, alloc: Global) -> MachineFault
+        ensures { IsFault result (WrongType self.now) }
+    {
+        match self.to_key(alloc, "") {
+            Ok(key) => MachineFault::WrongType(key),
+            Err(_) => MachineFault::Memory,
+        }
     }
 }

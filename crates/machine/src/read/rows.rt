@@ -1,16 +1,17 @@
 //! Reading the reservation tables of a machine text.
 
-ghost use Rattle.std.specs.Prelude.{◌≡◌, ◌<◌, ◌≤◌, ◌&&◌, nat_lt, true, position, length, option_map, IfSome, SomeIff};
+ghost use Rattle.std.specs.Prelude.{◌≡◌, ◌<◌, ◌≤◌, ◌++◌, ◌&&◌, nat_lt, true, position, length, map, option_map, IfSome, SomeIff};
+ghost use Rattle.std.specs.List.{flat_map};
 ghost use Rattle.std.specs.Str.{all_ascii_digits};
 ghost use Rattle.std.specs.Str.Parse.{digits_value};
 ghost use Rattle.machine_data.specs.Opcodes.{same_word};
 ghost use Rattle.toml.specs.View.{view};
 ghost use Rattle.machine.specs.inner.Reads.{ReadsPart};
-ghost use Rattle.machine.specs.MachineText.{words_in, row_faults, row_in, alternative_faults, rows_of, faults_of_alternatives, alternatives_of};
+ghost use Rattle.machine.specs.MachineText.{words_in, faults_in_turn, row_faults, row_in, alternative_faults, rows_of, faults_of_alternatives, alternatives_of};
 
 use crate::fault::{Key, MachineFault};
-use crate::read::is_within;
 use crate::read::path::Path;
+use crate::read::read_list;
 use crate::read::units::is_unit_name;
 use machine_data::limits::{MAX_ALTERNATIVES, MAX_OFFSET, MAX_ROWS};
 use machine_data::{Alternative, Alternatives, Name, Row};
@@ -28,20 +29,27 @@ pub(crate) fn read_alternatives(
     requires { length units.now ≤ 64 }
     ensures { let found = option_map (λ v. view v.now) value.entry in ReadsPart (faults_of_alternatives path.now units.now found) (λ alternatives. alternatives ≡ alternatives_of units.now found) result }
 {
-    let Some(value) = value else {
-        return Err(MachineFault::MissingKey(path.to_key(alloc, "")?));
-    };
-    let Some(values) = value.as_array() else {
-        return Err(MachineFault::WrongType(path.to_key(alloc, "")?));
-    };
-    if !is_within(values.len(), MAX_ALTERNATIVES) {
-        return Err(MachineFault::Limit(Key::of(alloc, "alternatives")?));
-    }
+    let values = read_list(alloc, path, "alternatives", MAX_ALTERNATIVES, value)?;
     let mut alternatives = Vec::with_capacity(alloc, values.len())?;
+    add_alternatives(alloc, path, units, &mut alternatives, values)?;
+    Ok(Alternatives::shared(alternatives)?)
+}
+
+/// Appends alternatives of the alternatives at this path.
+fn add_alternatives(
+    alloc: Global,
+    path: &Path,
+    units: &[Name],
+    alternatives: &mut Vec<Alternative>,
+    values: &[Value],
+) -> Result<(), MachineFault>
+    requires { length units.now ≤ 64 }
+    ensures { ReadsPart (flat_map (alternative_faults path.now units.now) (map view values.now)) (λ _. alternatives.new.items ≡ alternatives.old.items ++ map (rows_of units.now) (map view values.now)) result }
+{
     for value in values {
         alternatives.push(read_alternative(alloc, path, units, value)?)?;
     }
-    Ok(Alternatives::shared(alternatives)?)
+    Ok(())
 }
 
 /// An alternative, of the alternatives at this path.
@@ -54,18 +62,28 @@ fn read_alternative(
     requires { length units.now ≤ 64 }
     ensures { ReadsPart (alternative_faults path.now units.now (view value.now)) (λ rows. rows ≡ rows_of units.now (view value.now)) result }
 {
-    let Some(values) = value.as_array() else {
-        return Err(MachineFault::WrongType(path.to_key(alloc, "")?));
-    };
-    if !is_within(values.len(), MAX_ROWS) {
-        return Err(MachineFault::Limit(Key::of(alloc, "rows")?));
-    }
+    let values = read_list(alloc, path, "rows", MAX_ROWS, Some(value))?;
     let mut rows = SmallVec::new(alloc);
+    add_rows(alloc, path, units, &mut rows, values)?;
+    Ok(Alternative::new(rows))
+}
+
+/// Reads rows after others of their alternative, and appends them.
+fn add_rows(
+    alloc: Global,
+    path: &Path,
+    units: &[Name],
+    rows: &mut SmallVec<Row, 4>,
+    values: &[Value],
+) -> Result<(), MachineFault>
+    requires { length units.now ≤ 64 }
+    ensures { ReadsPart (faults_in_turn (row_faults path.now units.now) (row_in units.now) rows.old.items (map view values.now)) (λ _. rows.new.items ≡ rows.old.items ++ map (row_in units.now) (map view values.now)) result }
+{
     for value in values {
         let row = read_row(alloc, path, units, rows.as_slice(), value)?;
         rows.push(row)?;
     }
-    Ok(Alternative::new(rows))
+    Ok(())
 }
 
 /// A row after others of its alternative.
@@ -80,10 +98,10 @@ fn read_row(
     ensures { ReadsPart (row_faults path.now units.now before.now (view value.now)) (λ row. row ≡ row_in units.now (view value.now)) result }
 {
     let Some((unit, digits)) = row_words(value) else {
-        return Err(MachineFault::WrongType(path.to_key(alloc, "")?));
+        return Err(path.wrong_type(alloc));
     };
     let Some(offset) = small_offset(digits) else {
-        return Err(MachineFault::Limit(Key::of(alloc, "offset")?));
+        return Err(MachineFault::limit(alloc, "offset"));
     };
     let Some(number) = unit_number(unit, units) else {
         return Err(MachineFault::UnknownUnit(Key::of(alloc, unit)?));

@@ -1,19 +1,22 @@
 //! Reading the tables of opcodes of a machine text.
 
-ghost use Rattle.std.specs.Prelude.{◌≡◌, ◌≤◌, length, option_map, replicate, IfOk};
-ghost use Rattle.toml.specs.View.{view};
+ghost use Rattle.std.specs.Prelude.{◌≡◌, ◌≤◌, Some, None, is_some, length, option_map, replicate, IfOk};
+ghost use Rattle.std.specs.List.{flat_map};
+ghost use Rattle.toml.specs.Data.{table};
+ghost use Rattle.toml.specs.View.{view, table_view};
+ghost use Rattle.machine.specs.declared.fault.MachineFault.TheVariants.{UnknownOpcode};
 ghost use Rattle.machine.specs.inner.Reads.{ReadsPart};
-ghost use Rattle.machine_data.specs.Opcodes.{word_of};
-ghost use Rattle.machine.specs.MachineText.{table_faults, operation_of, faults_of_tables, tables_of};
+ghost use Rattle.machine_data.specs.Opcodes.{word_of, opcode_named};
+ghost use Rattle.machine.specs.MachineText.{unless, table_faults, operation_of, entries_of, entry_faults, faults_of_tables, tables_of};
 
 use crate::fault::{Key, MachineFault};
 use crate::read::path::Path;
 use crate::read::rows::read_alternatives;
-use crate::read::{check_keys, read_number};
+use crate::read::{check_keys, read_number, read_table};
 use machine_data::limits::MAX_LATENCY;
 use machine_data::{Name, OPCODES, Opcode, OpcodeTable, OutOfMemory};
 use std::alloc::Global;
-use toml::Value;
+use toml::{Table, Value};
 
 /// For each opcode, by its number, its table, where it has one.
 pub(crate) fn read_tables(
@@ -24,20 +27,38 @@ pub(crate) fn read_tables(
     requires { length units.now ≤ 64 }
     ensures { let found = option_map (λ v. view v.now) value.entry in ReadsPart (faults_of_tables units.now found) (λ tables. tables.items ≡ tables_of units.now found) result }
 {
-    let Some(value) = value else {
-        return Err(MachineFault::MissingKey(Key::of(alloc, "ops")?));
-    };
-    let Some(ops) = value.as_table() else {
-        return Err(MachineFault::WrongType(Key::of(alloc, "ops")?));
-    };
+    let ops = read_table(alloc, &Path::top("ops"), value)?;
     let mut tables = no_tables(alloc)?;
+    fill_tables(alloc, units, &mut tables, ops)?;
+    Ok(tables)
+}
+
+/// Fills in the tables of opcodes.
+fn fill_tables(
+    alloc: Global,
+    units: &[Name],
+    tables: &mut Vec<Option<OpcodeTable>>,
+    ops: &Table,
+) -> Result<(), MachineFault>
+    requires units { length units.now ≤ 64 }
+    requires none { tables.old.items ≡ replicate 13 None }
+    ensures { ReadsPart (flat_map (entry_faults units.now) (entries_of (table_view ops.now))) (λ _. tables.new.items ≡ tables_of units.now (Some (table (table_view ops.now)))) result }
+{
     for (key, value) in ops.iter() {
-        let Some(opcode) = Opcode::named(key.as_bytes()) else {
-            return Err(MachineFault::UnknownOpcode(Key::of(alloc, key.as_str())?));
-        };
+        let opcode = opcode_of(alloc, key.as_str())?;
         tables[opcode.number()] = Some(read_operation(alloc, units, opcode, value)?);
     }
-    Ok(tables)
+    Ok(())
+}
+
+/// The opcode of a table by its key.
+fn opcode_of(alloc: Global, key: &str) -> Result<Opcode, MachineFault>
+    ensures { ReadsPart (unless (is_some (opcode_named key.now)) (UnknownOpcode key.now)) (λ opcode. opcode_named key.now ≡ Some opcode) result }
+{
+    match Opcode::named(key.as_bytes()) {
+        Some(opcode) => Ok(opcode),
+        None => Err(MachineFault::UnknownOpcode(Key::of(alloc, key)?)),
+    }
 }
 
 /// No table for any opcode.
@@ -62,23 +83,21 @@ fn read_operation(
     ensures { ReadsPart (table_faults units.now (word_of opcode) (view value.now)) (λ table. table ≡ operation_of units.now (view value.now)) result }
 {
     let word = opcode.word();
-    let Some(table) = value.as_table() else {
-        return Err(MachineFault::WrongType(Path::table(word).to_key(alloc, "")?));
-    };
-    check_keys(alloc, &Path::inside(word, ""), &["alts", "latency"], table)?;
+    let keys = read_table(alloc, &Path::table(word), Some(value))?;
+    check_keys(alloc, &Path::inside(word, ""), &["alts", "latency"], keys)?;
     let path = Path::inside(word, "latency");
     let latency = read_number(
         alloc,
         &path,
         "latency",
         MAX_LATENCY as u16,
-        table.get("latency"),
+        keys.get("latency"),
     )?;
     let alternatives = read_alternatives(
         alloc,
         &Path::inside(word, "alts"),
         units,
-        table.get("alts"),
+        keys.get("alts"),
     )?;
     Ok(OpcodeTable::new(latency as u8, alternatives))
 }

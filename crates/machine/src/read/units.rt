@@ -1,15 +1,16 @@
 //! Reading the functional units of a machine text.
 
-ghost use Rattle.std.specs.Prelude.{◌≡◌, option_map};
+ghost use Rattle.std.specs.Prelude.{◌≡◌, ◌++◌, map, option_map};
 ghost use Rattle.std.specs.List.{list_any, list_all};
 ghost use Rattle.machine_data.specs.Opcodes.{same_word};
 ghost use Rattle.toml.specs.View.{view};
 ghost use Rattle.machine.specs.inner.Reads.{ReadsPart};
 ghost use Rattle.machine_data.specs.Machines.{is_unit_word, is_unit_byte};
-ghost use Rattle.machine.specs.MachineText.{is_unit_name, unit_faults, text_of, faults_of_units, names_of};
+ghost use Rattle.machine.specs.MachineText.{is_unit_name, unit_faults, text_of, faults_in_turn, faults_of_units, names_of};
 
 use crate::fault::{Key, MachineFault};
-use crate::read::is_within;
+use crate::read::path::Path;
+use crate::read::{is_within, read_list};
 use machine_data::Name;
 use machine_data::limits::{MAX_NAME, MAX_UNITS};
 use std::alloc::Global;
@@ -19,21 +20,21 @@ use toml::Value;
 pub(crate) fn read_units(alloc: Global, value: Option<&Value>) -> Result<Vec<Name>, MachineFault>
     ensures { let found = option_map (λ v. view v.now) value.entry in ReadsPart (faults_of_units found) (λ names. names.items ≡ names_of found) result }
 {
-    let Some(value) = value else {
-        return Err(MachineFault::MissingKey(Key::of(alloc, "units")?));
-    };
-    let Some(units) = value.as_array() else {
-        return Err(MachineFault::WrongType(Key::of(alloc, "units")?));
-    };
-    if !is_within(units.len(), MAX_UNITS) {
-        return Err(MachineFault::Limit(Key::of(alloc, "units")?));
-    }
+    let units = read_list(alloc, &Path::top("units"), "units", MAX_UNITS, value)?;
     let mut names = Vec::with_capacity(alloc, units.len())?;
+    add_units(alloc, &mut names, units)?;
+    Ok(names)
+}
+
+/// Reads units after those with these names, and appends their names.
+fn add_units(alloc: Global, names: &mut Vec<Name>, units: &[Value]) -> Result<(), MachineFault>
+    ensures { ReadsPart (faults_in_turn unit_faults text_of names.old.items (map view units.now)) (λ _. names.new.items ≡ names.old.items ++ map text_of (map view units.now)) result }
+{
     for unit in units {
         let name = read_unit(alloc, names.as_slice(), unit)?;
         names.push(name)?;
     }
-    Ok(names)
+    Ok(())
 }
 
 /// The name of a unit after others.
@@ -41,10 +42,10 @@ fn read_unit(alloc: Global, before: &[Name], value: &Value) -> Result<Name, Mach
     ensures { ReadsPart (unit_faults before.now (view value.now)) (λ name. name ≡ text_of (view value.now)) result }
 {
     let Some(text) = value.as_str() else {
-        return Err(MachineFault::WrongType(Key::of(alloc, "units")?));
+        return Err(Path::top("units").wrong_type(alloc));
     };
     if !is_unit_name(text) {
-        return Err(MachineFault::Limit(Key::of(alloc, "unit name")?));
+        return Err(MachineFault::limit(alloc, "unit name"));
     }
     if is_among(text, before) {
         return Err(MachineFault::RepeatedUnit(Key::of(alloc, text)?));

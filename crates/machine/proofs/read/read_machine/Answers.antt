@@ -1,10 +1,13 @@
-use Rattle.std.proofs.Common.{sym}
+use Rattle.std.proofs.Common.{[], ◌∷◌, Err, codes, sym}
 use Rattle.std.proofs.lemmas.Bool.{false≢true}
+use Rattle.toml.specs.Data.{no_members}
+use Rattle.machine.specs.declared.fault.MachineFault.TheVariants.{Limit}
+use Rattle.machine.specs.MachineText.{tree_machine}
 use Rattle.machine.proofs.Whole.{MachineAnswer-from_Reads, text-long, text-not_utf8, text-not_toml, text-tree}
 use Rattle.machine.proofs.read.read_machine.Goals as goal
 
 pub returns-then-text-gt-MAX_TEXT : goal.returns-then-text-gt-MAX_TEXT
-returns-then-text-gt-MAX_TEXT c = record { exact = rw c.in_ok-of.ensures (sym (text-long _ c.if-text-gt-MAX_TEXT.true)) }
+returns-then-text-gt-MAX_TEXT c = record { exact = rw (text-long _ c.if-text-gt-MAX_TEXT.true) (MachineAnswer-from_Reads (Limit (codes "text") ∷ []) (tree_machine no_members) (Err c.limit.result) (λ ne. rw (c.limit.ensures ne))) }
 
 pub returns-in_default : goal.returns-in_default
 returns-in_default c = record { exact = sym (text-not_utf8 _ c.if-text-gt-MAX_TEXT.false _ c.in_default.ensures.cases.1) }

@@ -2,7 +2,7 @@ use Rattle.std.proofs.Common.{codes, ◌∙◌}
 use Rattle.toml.proofs.Views.{table_get}
 use Rattle.machine.proofs.checks.Faults.{ReadsPart-err, first-append, first-then, none-append}
 use Rattle.machine.proofs.Laws.{units-law, machine-law}
-use Rattle.machine.proofs.checks.TableFaults.{tree-of, tree-is}
+use Rattle.machine.proofs.checks.TreeFaults.{tree-of, tree-is}
 use Rattle.machine.proofs.read.read_tree.Goals as goal
 
 pub returns-in_err-check_keys : goal.returns-in_err-check_keys

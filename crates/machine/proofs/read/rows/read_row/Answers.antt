@@ -4,22 +4,22 @@ use Rattle.machine.proofs.checks.RowFaults.{row-wrong_type, row-limit, row-unkno
 use Rattle.machine.proofs.read.rows.read_row.Goals as goal
 
 pub returns-in_default : goal.returns-in_default
-returns-in_default c = λ _. rw (c.in_ok-to_key.ensures, append-nil) (row-wrong_type _ _ _ _ c.in_default.ensures.value)
+returns-in_default c = λ ne. rw (c.wrong_type.ensures ne) (row-wrong_type _ _ _ _ c.in_default.ensures.value)
 
 pub returns-in_default-small_offset : goal.returns-in_default-small_offset
-returns-in_default-small_offset c = λ _. rw (c.in_ok-of.ensures) (row-limit _ _ _ _ _ _ c.in-Some.ensures.value (omega (arith, c.in_default-small_offset.ensures)))
+returns-in_default-small_offset c = λ ne. rw (c.limit.ensures ne) (row-limit _ _ _ _ _ _ c.in-Some.ensures.value (omega (arith, c.in_default-small_offset.ensures)))
 
 pub returns-in_default-unit_number : goal.returns-in_default-unit_number
 returns-in_default-unit_number c = λ _.
     let small = c.in-Some-small_offset.ensures in
-    rw c.in_ok-of-2.ensures (row-unknown _ _ _ _ _ _ c.in-Some.ensures.value small.0 (sym c.in_default-unit_number.ensures))
+    rw c.in_ok-of.ensures (row-unknown _ _ _ _ _ _ c.in-Some.ensures.value small.0 (sym c.in_default-unit_number.ensures))
 
 pub returns-then-contains : goal.returns-then-contains
 returns-then-contains c = λ _.
     let small = c.in-Some-small_offset.ensures in
     let words = rw (← small.1) at c.in-Some.ensures.value in
     let below : c.in-Some-small_offset.offset ≤ 63 = omega (arith, small.0, small.1) in
-    rw (c.in_ok-to_key-2.ensures, append-nil) (row-repeated _ _ _ _ _ _ words _ below (sym c.in-Some-unit_number.ensures) (sym c.if-contains.ensures.value))
+    rw (c.in_ok-to_key.ensures, append-nil) (row-repeated _ _ _ _ _ _ words _ below (sym c.in-Some-unit_number.ensures) (sym c.if-contains.ensures.value))
 
 pub returns : goal.returns
 returns c =

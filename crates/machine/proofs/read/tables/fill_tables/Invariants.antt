@@ -3,7 +3,7 @@ use Rattle.std.specs.List.{flat_map}
 use Rattle.toml.specs.View.{members_view}
 use Rattle.machine.specs.MachineText.{entries_of, entry_faults}
 use Rattle.machine.proofs.Slots.{SlotsRight}
-use Rattle.machine.proofs.read.tables.read_tables.Given as goal
+use Rattle.machine.proofs.read.tables.fill_tables.Given as goal
 
 abbrev pub invariant-loop-key : goal.invariant-loop-key
 invariant-loop-key l = record {
