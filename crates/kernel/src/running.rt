@@ -4,6 +4,7 @@ pub(crate) mod clock;
 pub(crate) mod file;
 pub(crate) mod flight;
 pub(crate) mod issue;
+pub(crate) mod kinds;
 pub(crate) mod prepare;
 pub(crate) mod ring;
 pub(crate) mod run;
