@@ -133,8 +133,7 @@ fn kind_line<'a>(left: &mut Left<'a>) -> Result<Form<'a>, LineFault>
     ensures { result_seen result ≡ keyword_line keywords.Kind left.old }
 {
     let name = left.name()?;
-    left.take(Expected::Latency)?;
-    let latency = left.number()?;
+    let latency = left.number_after(Expected::Latency)?;
     let alternatives = left.copied();
     left.take(Expected::Bar)?;
     take_holds(left)?;
@@ -165,12 +164,9 @@ fn value_line<'a>(left: &mut Left<'a>) -> Result<Form<'a>, LineFault>
     ensures { result_seen result ≡ keyword_line keywords.Value left.old }
 {
     let name = left.name()?;
-    left.take(Expected::Of)?;
-    let maker = left.name()?;
-    left.take(Expected::Lands)?;
-    let lands = left.number()?;
-    left.take(Expected::In)?;
-    let file = left.name()?;
+    let maker = left.name_after(Expected::Of)?;
+    let lands = left.number_after(Expected::Lands)?;
+    let file = left.name_after(Expected::In)?;
     let out = left.take_out();
     left.finish()?;
     Ok(Form::Value(name, maker, lands, file, out))
@@ -185,15 +181,9 @@ fn read_line<'a>(left: &mut Left<'a>) -> Result<Form<'a>, LineFault>
     if left.is_done() {
         return Ok(Form::Read(reader, value, None, None));
     }
-    left.take(Expected::Distance)?;
-    let distance = left.number()?;
-    if left.is_done() {
-        return Ok(Form::Read(reader, value, Some(distance), None));
-    }
-    left.take(Expected::Offset)?;
-    let offset = left.number()?;
-    left.finish()?;
-    Ok(Form::Read(reader, value, Some(distance), Some(offset)))
+    let distance = left.number_after(Expected::Distance)?;
+    let offset = left.offset()?;
+    Ok(Form::Read(reader, value, Some(distance), offset))
 }
 
 /// `edge OP OP delay INT distance NUM`
@@ -204,9 +194,7 @@ fn edge_line<'a>(left: &mut Left<'a>) -> Result<Form<'a>, LineFault>
     let to = left.name()?;
     left.take(Expected::Delay)?;
     let delay = left.integer()?;
-    left.take(Expected::Distance)?;
-    let distance = left.number()?;
-    left.finish()?;
+    let distance = left.last_number(Expected::Distance)?;
     Ok(Form::Edge(from, to, delay, distance))
 }
 

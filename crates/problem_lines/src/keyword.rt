@@ -5,7 +5,7 @@ ghost use Rattle.machine_data.specs.Opcodes.{same_word};
 ghost use Rattle.problem_lines.specs.Keywords.{keyword_named, solution_keyword_named};
 
 /// What a line is about, by its first word.
-#[derive(Clone, Copy, Debug, PartialEq, Eq)]
+#[derive(Clone, Copy)]
 pub enum Keyword {
     Machine,
     Units,
@@ -20,7 +20,7 @@ pub enum Keyword {
 }
 
 /// What a line of a text of solutions is about, by its first word.
-#[derive(Clone, Copy, Debug, PartialEq, Eq)]
+#[derive(Clone, Copy)]
 pub enum SolutionKeyword {
     Solution,
     Op,

@@ -1,13 +1,13 @@
 //! What is left of a line, word by word.
 
-ghost use Rattle.std.specs.Prelude.{◌≡◌, ◌==◌, [], ◌∷◌, true, codes, length, IfOk, MatchOption};
+ghost use Rattle.std.specs.Prelude.{◌≡◌, ◌==◌, [], ◌∷◌, None, true, codes, length, IfOk, MatchOption};
 ghost use Rattle.problem_lines.specs.Fits.{fits, misfit, surplus};
 ghost use Rattle.problem_lines.specs.Numbers.{integer_of, number_of};
 ghost use Rattle.problem_lines.specs.Seen.{word_seen};
-ghost use Rattle.problem_lines.specs.Lines.{after_out, is_word};
+ghost use Rattle.problem_lines.specs.Lines.{after_out, is_word, places_fault};
 ghost use Rattle.problem_lines.specs.Words.{Placed, column_after, left_of, word_at};
 ghost use Rattle.problem_lines.specs.declared.fault.Expected.TheVariants as expected;
-ghost use Rattle.problem_lines.specs.inner.Cursors.{starts_bar};
+ghost use Rattle.problem_lines.specs.inner.Cursors.{offset_left, offset_places, starts_bar};
 ghost use Rattle.problem_lines.specs.inner.Pieces.{fault_seen, placed};
 
 use crate::fault::{Expected, LineFault};
@@ -177,6 +177,49 @@ impl<'a> Left<'a> {
             }),
             None => Err(piece.misfit(Expected::Number)),
         }
+    }
+
+    /// Takes the next word, where this has to stand, and a number after it.
+    #[inline(always)]
+    pub(crate) fn number_after(&mut self, what: Expected) -> Result<Number, LineFault>
+        ensures fault { fault_seen result ≡ places_fault (λ _. None) self.old.after (what ∷ expected.Number ∷ []) self.old.words }
+        ensures word { IfOk result (λ n. (v w : Placed) × (self.old.words ≡ v ∷ w ∷ self.new.words) × (n ≡ number_of w) × (self.new.after ≡ column_after w)) }
+    {
+        self.take(what)?;
+        self.number()
+    }
+
+    /// Takes the next word, where this has to stand, and a name after it.
+    #[inline(always)]
+    pub(crate) fn name_after(&mut self, what: Expected) -> Result<Word<'a>, LineFault>
+        ensures fault { fault_seen result ≡ places_fault (λ _. None) self.old.after (what ∷ expected.Name ∷ []) self.old.words }
+        ensures word { IfOk result (λ w. (v : Placed) × (self.old.words ≡ v ∷ word_seen w ∷ self.new.words) × (self.new.after ≡ column_after (word_seen w))) }
+    {
+        self.take(what)?;
+        self.name()
+    }
+
+    /// Takes the last two words: this has to stand in place of the first, and the second has to be a number.
+    #[inline(always)]
+    pub(crate) fn last_number(&mut self, what: Expected) -> Result<Number, LineFault>
+        ensures fault { fault_seen result ≡ places_fault surplus self.old.after (what ∷ expected.Number ∷ []) self.old.words }
+        ensures word { IfOk result (λ n. (v w : Placed) × (self.old.words ≡ v ∷ w ∷ []) × (n ≡ number_of w)) }
+    {
+        let number = self.number_after(what)?;
+        self.finish()?;
+        Ok(number)
+    }
+
+    /// Takes the offset that may stand at the end of a line.
+    #[inline(always)]
+    pub(crate) fn offset(&mut self) -> Result<Option<Number>, LineFault>
+        ensures fault { fault_seen result ≡ places_fault surplus self.old.after (offset_places self.old.words) self.old.words }
+        ensures value { IfOk result (λ offset. offset ≡ offset_left self.old.words) }
+    {
+        if self.is_done() {
+            return Ok(None);
+        }
+        Ok(Some(self.last_number(Expected::Offset)?))
     }
 
     /// Takes the next word, which has to be an integer.

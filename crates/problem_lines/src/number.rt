@@ -1,8 +1,8 @@
 //! Numbers where they stand in a line.
 
-ghost use Rattle.std.specs.Prelude.{◌≡◌, ◌-◌, ◌^◌, min, if◌then◌else◌, Some, None, true, is_some};
+ghost use Rattle.std.specs.Prelude.{◌≡◌, ◌-◌, ◌^◌, min, if◌then◌else◌, Some, None, true, false, is_some};
 ghost use Rattle.std.specs.Str.Parse.{digits_value};
-ghost use Rattle.loop_lines.specs.Forms.{int_of, is_number};
+ghost use Rattle.loop_lines.specs.Forms.{int_of, is_number, signed_of};
 ghost use Rattle.problem_lines.specs.Numbers.{integer_of, number_of};
 
 /// A number where it stands.
@@ -56,21 +56,35 @@ pub(crate) fn digits_of(word: &[u8]) -> Option<u64>
     Some(value)
 }
 
+/// The value of digits after a `-`: `None` if they are no number, and the inner `None` outside 64 bits.
+#[inline(always)]
+#[tactic(auto, using(loop_lines::proofs::Numbers::minus_is))]
+fn below_zero(digits: &[u8]) -> Option<Option<i64>>
+    ensures { result ≡ (if is_number digits.now then Some (signed_of true (digits_value 10 digits.now)) else None) }
+{
+    let value = digits_of(digits)?;
+    Some(0i64.checked_sub_unsigned(value))
+}
+
+/// The value of digits, as `below_zero` tells it.
+#[inline(always)]
+#[tactic(auto, using(loop_lines::proofs::Numbers::plus_is))]
+fn from_zero(digits: &[u8]) -> Option<Option<i64>>
+    ensures { result ≡ (if is_number digits.now then Some (signed_of false (digits_value 10 digits.now)) else None) }
+{
+    let value = digits_of(digits)?;
+    Some(0i64.checked_add_unsigned(value))
+}
+
 /// An integer's value: the outer `Option` is whether the word is one, the inner is `None` outside 64
 /// bits.
-#[tactic(auto, using(loop_lines::proofs::Numbers::minus_is, loop_lines::proofs::Numbers::plus_is), unfolding(loop_lines::specs::Forms::int_of))]
+#[tactic(auto, unfolding(loop_lines::specs::Forms::int_of))]
 pub(crate) fn int_of(word: &[u8]) -> Option<Option<i64>>
     ensures { result ≡ int_of word.now }
 {
     match word {
-        [b'-', digits @ ..] => {
-            let value = digits_of(digits)?;
-            Some(0i64.checked_sub_unsigned(value))
-        }
-        _ => {
-            let value = digits_of(word)?;
-            Some(0i64.checked_add_unsigned(value))
-        }
+        [b'-', digits @ ..] => below_zero(digits),
+        _ => from_zero(word),
     }
 }
 

@@ -82,9 +82,7 @@ fn begin_line<'a>(left: &mut Left<'a>) -> Result<SolutionForm<'a>, LineFault>
     ensures { solution_rest_seen result ≡ solution_rest keywords.Solution left.old }
 {
     let name = left.name()?;
-    left.take(Expected::Ii)?;
-    let ii = left.number()?;
-    left.finish()?;
+    let ii = left.last_number(Expected::Ii)?;
     Ok(SolutionForm::Solution(name, ii))
 }
 
@@ -93,11 +91,8 @@ fn time_line<'a>(left: &mut Left<'a>) -> Result<SolutionForm<'a>, LineFault>
     ensures { solution_rest_seen result ≡ solution_rest keywords.Op left.old }
 {
     let name = left.name()?;
-    left.take(Expected::Time)?;
-    let time = left.number()?;
-    left.take(Expected::By)?;
-    let alternative = left.number()?;
-    left.finish()?;
+    let time = left.number_after(Expected::Time)?;
+    let alternative = left.last_number(Expected::By)?;
     Ok(SolutionForm::Op(name, time, alternative))
 }
 
@@ -106,9 +101,7 @@ fn number_line<'a>(left: &mut Left<'a>) -> Result<SolutionForm<'a>, LineFault>
     ensures { solution_rest_seen result ≡ solution_rest keywords.Value left.old }
 {
     let name = left.name()?;
-    left.take(Expected::NumberWord)?;
-    let number = left.number()?;
-    left.finish()?;
+    let number = left.last_number(Expected::NumberWord)?;
     Ok(SolutionForm::Value(name, number))
 }
 
