@@ -138,20 +138,35 @@ fn take_alternative(
     Ok(())
 }
 
+/// Takes all alternatives of a `kind` line in.
+fn take_each(
+    alloc: Global,
+    units: &Names<'_>,
+    alternatives: &mut SmallVec<SmallVec<Hold, 2>, 2>,
+    mut left: Alternatives<'_>,
+) -> Result<(), Refusal>
+    requires { alternatives.old.items ≡ [] }
+    ensures fault { Refuses result (alternatives_fault units.now 0 left.entry) }
+    ensures taken { OnOk result (map (λ (rows : Items Hold). rows.items) alternatives.new.items ≡ map (map (hold_in units.now)) left.entry) }
+{
+    while let Some(holds) = left.next_alternative() {
+        if let Err(refusal) = take_alternative(alloc, units, alternatives, holds) {
+            return Err(refusal);
+        }
+    }
+    Ok(())
+}
+
 /// The alternatives of a `kind` line.
 pub(crate) fn take_alternatives(
     alloc: Global,
     units: &Names<'_>,
-    mut left: Alternatives<'_>,
+    left: Alternatives<'_>,
 ) -> Result<SmallVec<SmallVec<Hold, 2>, 2>, Refusal>
     ensures fault { Refuses result (alternatives_fault units.now 0 left.entry) }
     ensures taken { IfOk result (λ alternatives. map (λ (rows : Items Hold). rows.items) alternatives.items ≡ map (map (hold_in units.now)) left.entry) }
 {
     let mut alternatives = SmallVec::new(alloc);
-    while let Some(holds) = left.next_alternative() {
-        if let Err(refusal) = take_alternative(alloc, units, &mut alternatives, holds) {
-            return Err(refusal);
-        }
-    }
+    take_each(alloc, units, &mut alternatives, left)?;
     Ok(alternatives)
 }

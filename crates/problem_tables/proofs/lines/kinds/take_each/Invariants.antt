@@ -3,7 +3,7 @@ use Rattle.smallvec.specs.SmallVec.{SmallVec}
 use Rattle.problems.specs.declared.draft.Hold.{Hold}
 use Rattle.problem_tables.specs.Data.{hold_in}
 use Rattle.problem_tables.specs.Faults.{alternatives_fault}
-use Rattle.problem_tables.proofs.lines.kinds.take_alternatives.Given as goal
+use Rattle.problem_tables.proofs.lines.kinds.take_each.Given as goal
 
 -- what is left decides the fault, and all alternatives are those so far and those that are left
 abbrev pub invariant-loop-holds : goal.invariant-loop-holds
