@@ -133,7 +133,8 @@ fn kind_line<'a>(left: &mut Left<'a>) -> Result<Form<'a>, LineFault>
     ensures { result_seen result ≡ keyword_line keywords.Kind left.old }
 {
     let name = left.name()?;
-    let latency = left.number_after(Expected::Latency)?;
+    left.take(Expected::Latency)?;
+    let latency = left.number()?;
     let alternatives = left.copied();
     left.take(Expected::Bar)?;
     take_holds(left)?;

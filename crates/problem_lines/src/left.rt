@@ -205,7 +205,8 @@ impl<'a> Left<'a> {
         ensures fault { fault_seen result ≡ places_fault surplus self.old.after (what ∷ expected.Number ∷ []) self.old.words }
         ensures word { IfOk result (λ n. (v w : Placed) × (self.old.words ≡ v ∷ w ∷ []) × (n ≡ number_of w)) }
     {
-        let number = self.number_after(what)?;
+        self.take(what)?;
+        let number = self.number()?;
         self.finish()?;
         Ok(number)
     }
