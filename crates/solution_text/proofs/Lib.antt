@@ -1,4 +1,5 @@
 pub mod Loops
+pub mod Joining
 pub mod Places
 pub mod Meant
 pub mod Shown

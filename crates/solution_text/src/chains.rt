@@ -20,6 +20,15 @@ pub(crate) struct Chains<'a> {
     pub(crate) nexts: &'a [u16],
 }
 
+/// The chains of reads by their readers, and of values by their makers.
+#[derive(Clone, Copy)]
+pub(crate) struct Uses<'a> {
+    /// The reads of each operation.
+    pub(crate) of_readers: Chains<'a>,
+    /// The values that each operation makes.
+    pub(crate) of_makers: Chains<'a>,
+}
+
 impl<'a> Chains<'a> {
     /// The number of the first item of an operation.
     pub(crate) fn first(self, op: usize) -> usize

@@ -7,19 +7,18 @@ ghost use Rattle.modulo.specs.declared.outcome.attempts.Culprit.TheVariants.{Lat
 ghost use Rattle.solution_text.specs.Texts.{cause_text, culprit_text, evidence_text, failed_line, failed_text, lack_text, named};
 
 use crate::heads::push_head;
-use crate::names::push_name;
+use crate::parts::{Part, push_parts};
 use machine_data::OutOfMemory;
 use modulo::Culprit;
 use problems::{Draft, Problem};
 use solutions::Cause;
-use writing::{Text, push_both, push_told};
+use writing::Text;
 
 /// Appends a blank, then an operation.
 fn push_named(text: &mut Vec<u8>, draft: &Draft, op: usize) -> Result<(), OutOfMemory>
     ensures ok { OnOk result (text.new.items ≡ text.old.items ++ named draft.now op) }
 {
-    text.push_piece(" ")?;
-    push_name(text, draft.names.operations.as_slice(), op)
+    push_parts(text, draft, &[Part::Piece(" "), Part::Operation(op)])
 }
 
 /// Appends operations, each after a blank.
@@ -36,8 +35,15 @@ fn push_all_named(text: &mut Vec<u8>, draft: &Draft, ops: &[usize]) -> Result<()
 fn push_late(text: &mut Vec<u8>, draft: &Draft, op: usize, time: u64) -> Result<(), OutOfMemory>
     ensures ok { OnOk result (text.new.items ≡ text.old.items ++ culprit_text draft.now (Late op time)) }
 {
-    push_named(text, draft, op)?;
-    push_told(text, " at ", time)
+    push_parts(
+        text,
+        draft,
+        &[
+            Part::Piece(" "),
+            Part::Operation(op),
+            Part::Told(" at ", time),
+        ],
+    )
 }
 
 /// Appends the culprits of a failure.
@@ -79,10 +85,16 @@ fn push_lack(
 ) -> Result<(), OutOfMemory>
     ensures ok { OnOk result (text.new.items ≡ text.old.items ++ lack_text draft.now file value) }
 {
-    text.push_piece("registers of ")?;
-    push_name(text, draft.names.files.as_slice(), file)?;
-    text.push_piece(": ")?;
-    push_name(text, draft.names.values.as_slice(), value)
+    push_parts(
+        text,
+        draft,
+        &[
+            Part::Piece("registers of "),
+            Part::File(file),
+            Part::Piece(": "),
+            Part::Value(value),
+        ],
+    )
 }
 
 /// Appends a cause by which an interval gives no solution, with its culprits, where that is known: of a lack of registers the
@@ -117,10 +129,18 @@ fn push_failure(
     ensures ok { OnOk result (text.new.items ≡ text.old.items ++ failed_line name.now problem.now cause (option_copied culprit.entry)) }
 {
     let scheduling = problem.scheduling();
-    push_both(text, "# failed ", name)?;
-    push_told(text, " at ", scheduling.mii() + scheduling.ceiling())?;
-    text.push_piece(": ")?;
-    push_cause(text, problem.draft(), cause, culprit)?;
+    let draft = problem.draft();
+    push_parts(
+        text,
+        draft,
+        &[
+            Part::Piece("# failed "),
+            Part::Piece(name),
+            Part::Told(" at ", scheduling.mii() + scheduling.ceiling()),
+            Part::Piece(": "),
+        ],
+    )?;
+    push_cause(text, draft, cause, culprit)?;
     text.push_piece("\n")
 }
 

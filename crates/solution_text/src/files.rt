@@ -3,20 +3,21 @@
 ghost use Rattle.std.specs.Prelude.{◌≡◌, ◌++◌, ◌<◌, length, slice_get, OnOk};
 ghost use Rattle.std.specs.List.{list_any};
 ghost use Rattle.solution_text.specs.Files.{file_line, file_lines, is_free, size_text, unroll_line};
+ghost use Rattle.solution_text.specs.inner.Parts.{part_text};
 
-use crate::names::push_name;
+use crate::parts::{Part, push_parts};
 use machine_data::OutOfMemory;
 use problems::{Draft, File};
 use solutions::Solution;
 use writing::{Text, push_told};
 
-/// Appends how many registers a file has, where it is rotating.
-fn push_size(text: &mut Vec<u8>, draft: &Draft, file: usize) -> Result<(), OutOfMemory>
-    ensures ok { OnOk result (text.new.items ≡ text.old.items ++ size_text (slice_get draft.now.files.items file)) }
+/// How many registers a file has, where it is rotating.
+fn size_of(draft: &Draft, file: usize) -> Part<'static>
+    ensures { part_text draft.now result ≡ size_text (slice_get draft.now.files.items file) }
 {
     match draft.files.get(file) {
-        Some(File::Rotating(registers)) => push_told(text, " of ", *registers as u64),
-        _ => Ok(()),
+        Some(File::Rotating(registers)) => Part::Told(" of ", *registers as u64),
+        _ => Part::Piece(""),
     }
 }
 
@@ -26,11 +27,17 @@ fn push_file(text: &mut Vec<u8>, solution: &Solution, file: usize) -> Result<(),
     ensures ok { OnOk result (text.new.items ≡ text.old.items ++ file_line solution.now file) }
 {
     let draft = solution.problem().draft();
-    text.push_piece("# file ")?;
-    push_name(text, draft.names.files.as_slice(), file)?;
-    push_told(text, " max_live ", solution.max_live(file))?;
-    push_size(text, draft, file)?;
-    text.push_piece("\n")
+    push_parts(
+        text,
+        draft,
+        &[
+            Part::Piece("# file "),
+            Part::File(file),
+            Part::Told(" max_live ", solution.max_live(file)),
+            size_of(draft, file),
+            Part::Piece("\n"),
+        ],
+    )
 }
 
 /// Appends the lines of all files, in order.

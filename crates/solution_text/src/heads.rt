@@ -3,21 +3,28 @@
 ghost use Rattle.std.specs.Prelude.{◌≡◌, ◌++◌, OnOk};
 ghost use Rattle.solution_text.specs.Heads.{bounds_line, head_text};
 
+use crate::parts::{Part, push_parts};
 use machine_data::OutOfMemory;
 use problems::Problem;
-use writing::{Text, push_both, push_told};
 
 /// Appends the line of a problem and its bounds.
 fn push_bounds(text: &mut Vec<u8>, name: &str, problem: &Problem) -> Result<(), OutOfMemory>
     ensures ok { OnOk result (text.new.items ≡ text.old.items ++ bounds_line name.now problem.now) }
 {
     let scheduling = problem.scheduling();
-    push_both(text, "# ", name)?;
-    push_told(text, " ops ", scheduling.operations() as u64)?;
-    push_told(text, " res ", scheduling.resources())?;
-    push_told(text, " rec ", scheduling.recurrences())?;
-    push_told(text, " mii ", scheduling.mii())?;
-    text.push_piece("\n")
+    push_parts(
+        text,
+        problem.draft(),
+        &[
+            Part::Piece("# "),
+            Part::Piece(name),
+            Part::Told(" ops ", scheduling.operations() as u64),
+            Part::Told(" res ", scheduling.resources()),
+            Part::Told(" rec ", scheduling.recurrences()),
+            Part::Told(" mii ", scheduling.mii()),
+            Part::Piece("\n"),
+        ],
+    )
 }
 
 /// Appends this line, and other lines on the problem.

@@ -1,10 +1,10 @@
 //! What the parts of a problem are called.
 
 ghost use Rattle.std.specs.Prelude.{◌≡◌, ◌++◌, OnOk};
-ghost use Rattle.solution_text.specs.Names.{name_in, op_name, unit_name, value_name};
+ghost use Rattle.solution_text.specs.Names.{name_in};
 
 use machine_data::OutOfMemory;
-use problems::{Draft, Label};
+use problems::Label;
 use writing::{Text, push_number};
 
 /// Appends the name with a number, or where there is none the number.
@@ -19,33 +19,4 @@ pub(crate) fn push_name(
         Some(name) => text.push_piece(name.as_str()),
         None => push_number(text, number as u64),
     }
-}
-
-/// Appends what an operation is called.
-pub(crate) fn push_op_name(text: &mut Vec<u8>, draft: &Draft, op: usize) -> Result<(), OutOfMemory>
-    ensures ok { OnOk result (text.new.items ≡ text.old.items ++ op_name draft.now op) }
-{
-    push_name(text, draft.names.operations.as_slice(), op)
-}
-
-/// Appends what a unit is called.
-pub(crate) fn push_unit_name(
-    text: &mut Vec<u8>,
-    draft: &Draft,
-    unit: usize,
-) -> Result<(), OutOfMemory>
-    ensures ok { OnOk result (text.new.items ≡ text.old.items ++ unit_name draft.now unit) }
-{
-    push_name(text, draft.names.units.as_slice(), unit)
-}
-
-/// Appends what a value is called.
-pub(crate) fn push_value_name(
-    text: &mut Vec<u8>,
-    draft: &Draft,
-    value: usize,
-) -> Result<(), OutOfMemory>
-    ensures ok { OnOk result (text.new.items ≡ text.old.items ++ value_name draft.now value) }
-{
-    push_name(text, draft.names.values.as_slice(), value)
 }

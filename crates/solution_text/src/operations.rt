@@ -1,16 +1,13 @@
 //! The lines of the operations of a solution.
 
-ghost use Rattle.std.specs.Prelude.{◌≡◌, ◌++◌, ◌<◌, ◌≤◌, codes, length, OnOk};
+ghost use Rattle.std.specs.Prelude.{◌≡◌, ◌++◌, ◌<◌, ◌≤◌, length, OnOk};
 ghost use Rattle.std.specs.List.{flat_map};
-ghost use Rattle.machine_data.specs.declared.limits.TheConstants.{MAX_STAGES};
-ghost use Rattle.modulo.specs.Schedules.{stage_of};
-ghost use Rattle.solutions.specs.Solutions.{schedule_of};
-ghost use Rattle.writing.specs.Words.{told};
 ghost use Rattle.solution_text.specs.Operations.{hold_text, op_line, op_lines, placed_text, slot_text};
-ghost use Rattle.solution_text.specs.inner.Chains.{AreChained, makers_of, readers_of};
+ghost use Rattle.solution_text.specs.inner.Chains.{AreChained, AreUses, readers_of};
 
-use crate::chains::{Chains, chain_reads, chain_values};
-use crate::names::push_name;
+use crate::chains::{Chains, Uses, chain_reads, chain_values};
+use crate::issues::{held_rows, stage_of};
+use crate::parts::{Part, push_parts};
 use crate::uses::push_uses;
 use machine_data::limits::{MAX_READS, MAX_STATEMENTS, MAX_VALUES};
 use machine_data::{OutOfMemory, Row};
@@ -18,58 +15,32 @@ use problems::Draft;
 use solutions::Solution;
 use writing::{Text, push_told};
 
-/// Appends by which of its alternatives an operation is issued. Most are told by one piece.
-fn push_choice(text: &mut Vec<u8>, choice: usize) -> Result<(), OutOfMemory>
-    ensures ok { OnOk result (text.new.items ≡ text.old.items ++ told (codes " by ") choice) }
-{
-    match choice {
-        0 => text.push_piece(" by 0"),
-        1 => text.push_piece(" by 1"),
-        2 => text.push_piece(" by 2"),
-        3 => text.push_piece(" by 3"),
-        _ => push_told(text, " by ", choice as u64),
-    }
-}
-
-/// Appends a stage that is told by more than one piece, and a colon.
-fn push_late_stage(text: &mut Vec<u8>, stage: u64) -> Result<(), OutOfMemory>
-    ensures ok { OnOk result (text.new.items ≡ text.old.items ++ (told (codes " stage ") stage ++ codes ":")) }
-{
-    push_told(text, " stage ", stage)?;
-    text.push_piece(":")
-}
-
-/// Appends a stage and a colon. Most stages are told by one piece.
-fn push_stage(text: &mut Vec<u8>, stage: u64) -> Result<(), OutOfMemory>
-    ensures ok { OnOk result (text.new.items ≡ text.old.items ++ (told (codes " stage ") stage ++ codes ":")) }
-{
-    match stage {
-        0 => text.push_piece(" stage 0:"),
-        1 => text.push_piece(" stage 1:"),
-        2 => text.push_piece(" stage 2:"),
-        3 => text.push_piece(" stage 3:"),
-        _ => push_late_stage(text, stage),
-    }
-}
-
 /// Appends when an operation is issued in iteration 0, and by which of its alternatives.
 fn push_placed(text: &mut Vec<u8>, solution: &Solution, op: usize) -> Result<(), OutOfMemory>
     requires { op < length solution.now.problem.scheduling.operations }
     ensures ok { OnOk result (text.new.items ≡ text.old.items ++ placed_text solution.now op) }
 {
-    let draft = solution.problem().draft();
-    text.push_piece("op ")?;
-    push_name(text, draft.names.operations.as_slice(), op)?;
-    push_told(text, " time ", solution.time(op))?;
-    push_choice(text, solution.alternative(op))
+    push_parts(
+        text,
+        solution.problem().draft(),
+        &[
+            Part::Piece("op "),
+            Part::Operation(op),
+            Part::Told(" time ", solution.time(op)),
+            Part::Told(" by ", solution.alternative(op) as u64),
+        ],
+    )
 }
 
 /// Appends a blank, then a unit that an operation holds, and how many cycles after its issue.
 fn push_hold(text: &mut Vec<u8>, draft: &Draft, row: Row) -> Result<(), OutOfMemory>
     ensures ok { OnOk result (text.new.items ≡ text.old.items ++ hold_text draft.now row) }
 {
-    text.push_piece(" ")?;
-    push_name(text, draft.names.units.as_slice(), usize::from(row.unit))?;
+    push_parts(
+        text,
+        draft,
+        &[Part::Piece(" "), Part::Unit(usize::from(row.unit))],
+    )?;
     if row.offset == 0 {
         return Ok(());
     }
@@ -91,24 +62,17 @@ fn push_slot(text: &mut Vec<u8>, solution: &Solution, op: usize) -> Result<(), O
     requires { op < length solution.now.problem.scheduling.operations }
     ensures ok { OnOk result (text.new.items ≡ text.old.items ++ slot_text solution.now op) }
 {
-    let problem = solution.problem();
-    push_told(text, " # row ", solution.time(op) % solution.ii())?;
-    push_stage(text, stage_of(solution, op))?;
-    let alternatives = problem.scheduling().alternatives()[op].as_slice();
-    push_holds(
+    let draft = solution.problem().draft();
+    push_parts(
         text,
-        problem.draft(),
-        alternatives[solution.alternative(op)].rows(),
-    )
-}
-
-/// The stage of an operation.
-fn stage_of(solution: &Solution, op: usize) -> u64
-    requires { op < length solution.now.problem.scheduling.operations }
-    ensures value { result ≡ stage_of (schedule_of solution.now) op }
-    ensures few { result < MAX_STAGES }
-{
-    solution.time(op) / solution.ii()
+        draft,
+        &[
+            Part::Told(" # row ", solution.time(op) % solution.ii()),
+            Part::Told(" stage ", stage_of(solution, op)),
+            Part::Piece(":"),
+        ],
+    )?;
+    push_holds(text, draft, held_rows(solution, op))
 }
 
 /// Appends the line of an operation.
@@ -117,79 +81,82 @@ fn push_op(
     text: &mut Vec<u8>,
     solution: &Solution,
     op: usize,
-    of_readers: Chains<'_>,
-    of_makers: Chains<'_>,
+    uses: &Uses<'_>,
 ) -> Result<(), OutOfMemory>
     requires there { op < length solution.now.problem.scheduling.operations }
-    requires reader { op < length of_readers.firsts.now }
-    requires readers { AreChained (readers_of solution.now.problem.draft.reads.items) 0 of_readers.firsts.now of_readers.nexts.now }
-    requires maker { op < length of_makers.firsts.now }
-    requires makers { AreChained (makers_of solution.now.problem.draft.values.items) 0 of_makers.firsts.now of_makers.nexts.now }
+    requires chained { AreUses solution.now.problem uses.now }
     ensures ok { OnOk result (text.new.items ≡ text.old.items ++ op_line solution.now op) }
 {
     push_placed(text, solution, op)?;
     push_slot(text, solution, op)?;
-    let stage = stage_of(solution, op);
-    push_uses(text, solution, op, stage, of_readers, of_makers)?;
+    push_uses(text, solution, op, uses)?;
     text.push_piece("\n")
 }
 
 /// Appends the lines of all operations, in order, where their reads and their values are chained.
-fn push_chained(
-    text: &mut Vec<u8>,
-    solution: &Solution,
-    of_readers: Chains<'_>,
-    of_makers: Chains<'_>,
-) -> Result<(), OutOfMemory>
-    requires each_reader { length of_readers.firsts.now ≡ length solution.now.problem.scheduling.operations }
-    requires readers { AreChained (readers_of solution.now.problem.draft.reads.items) 0 of_readers.firsts.now of_readers.nexts.now }
-    requires each_maker { length of_makers.firsts.now ≡ length solution.now.problem.scheduling.operations }
-    requires makers { AreChained (makers_of solution.now.problem.draft.values.items) 0 of_makers.firsts.now of_makers.nexts.now }
+fn push_chained(text: &mut Vec<u8>, solution: &Solution, uses: &Uses<'_>) -> Result<(), OutOfMemory>
+    requires { AreUses solution.now.problem uses.now }
     ensures ok { OnOk result (text.new.items ≡ text.old.items ++ op_lines solution.now) }
 {
     for op in 0..solution.problem().scheduling().operations() {
-        push_op(text, solution, op, of_readers, of_makers)?;
+        push_op(text, solution, op, uses)?;
     }
     Ok(())
 }
 
-/// Appends the lines of all operations, in order, with room for as many chained reads as there are.
-fn push_in(
+/// Appends the lines of all operations, in order, where their reads are chained.
+fn push_with_reads(
     text: &mut Vec<u8>,
     solution: &Solution,
-    next_reads: &mut [u16],
+    of_readers: Chains<'_>,
 ) -> Result<(), OutOfMemory>
-    requires { length solution.now.problem.draft.reads.items ≤ length next_reads.old }
+    requires each { length of_readers.firsts.now ≡ length solution.now.problem.scheduling.operations }
+    requires chained { AreChained (readers_of solution.now.problem.draft.reads.items) 0 of_readers.firsts.now of_readers.nexts.now }
     ensures ok { OnOk result (text.new.items ≡ text.old.items ++ op_lines solution.now) }
 {
     let draft = solution.problem().draft();
-    let (operations, reads, values) = (
-        draft.operations.len(),
-        draft.reads.len(),
-        draft.values.len(),
-    );
-    let mut first_reads = [0; MAX_STATEMENTS];
-    chain_reads(
-        draft.reads.as_slice(),
-        &mut first_reads[..operations],
-        &mut next_reads[..reads],
-    );
-    let mut first_values = [0; MAX_STATEMENTS];
-    let mut next_values = [0; MAX_VALUES];
+    let operations = draft.operations.len();
+    let values = draft.values.len();
+    let mut firsts = [0; MAX_STATEMENTS];
+    let mut nexts = [0; MAX_VALUES];
     chain_values(
         draft.values.as_slice(),
-        &mut first_values[..operations],
-        &mut next_values[..values],
+        &mut firsts[..operations],
+        &mut nexts[..values],
+    );
+    let of_makers = Chains {
+        firsts: &firsts[..operations],
+        nexts: &nexts[..values],
+    };
+    push_chained(
+        text,
+        solution,
+        &Uses {
+            of_readers,
+            of_makers,
+        },
+    )
+}
+
+/// Appends the lines of all operations, in order, with room for as many chained reads as there are.
+fn push_in(text: &mut Vec<u8>, solution: &Solution, nexts: &mut [u16]) -> Result<(), OutOfMemory>
+    requires { length solution.now.problem.draft.reads.items ≤ length nexts.old }
+    ensures ok { OnOk result (text.new.items ≡ text.old.items ++ op_lines solution.now) }
+{
+    let draft = solution.problem().draft();
+    let operations = draft.operations.len();
+    let reads = draft.reads.len();
+    let mut firsts = [0; MAX_STATEMENTS];
+    chain_reads(
+        draft.reads.as_slice(),
+        &mut firsts[..operations],
+        &mut nexts[..reads],
     );
     let of_readers = Chains {
-        firsts: &first_reads[..operations],
-        nexts: &next_reads[..reads],
+        firsts: &firsts[..operations],
+        nexts: &nexts[..reads],
     };
-    let of_makers = Chains {
-        firsts: &first_values[..operations],
-        nexts: &next_values[..values],
-    };
-    push_chained(text, solution, of_readers, of_makers)
+    push_with_reads(text, solution, of_readers)
 }
 
 /// Reads for which there is little room to clear: most problems have no more.

@@ -6,19 +6,27 @@ ghost use Rattle.solution_text.specs.Texts.{solution_line, solution_lines, solut
 use crate::files::{push_files, push_unroll};
 use crate::heads::push_head;
 use crate::operations::push_ops;
+use crate::parts::{Part, push_parts};
 use crate::values::{push_initials, push_values};
 use machine_data::OutOfMemory;
 use solutions::Solution;
-use writing::{Text, push_both, push_told};
+use writing::Text;
 
 /// Appends the line that a solution begins with.
 fn push_first(text: &mut Vec<u8>, name: &str, solution: &Solution) -> Result<(), OutOfMemory>
     ensures ok { OnOk result (text.new.items ≡ text.old.items ++ solution_line name.now solution.now) }
 {
-    push_both(text, "solution ", name)?;
-    push_told(text, " ii ", solution.ii())?;
-    push_told(text, " # stages ", solution.stages())?;
-    text.push_piece("\n")
+    push_parts(
+        text,
+        solution.problem().draft(),
+        &[
+            Part::Piece("solution "),
+            Part::Piece(name),
+            Part::Told(" ii ", solution.ii()),
+            Part::Told(" # stages ", solution.stages()),
+            Part::Piece("\n"),
+        ],
+    )
 }
 
 /// Appends the lines of a solution.

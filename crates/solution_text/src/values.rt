@@ -10,8 +10,8 @@ ghost use Rattle.solutions.specs.Runs.{run_of};
 ghost use Rattle.solution_text.specs.Values.{initial_line, initial_lines, initials_of, live_text, value_line, value_line_in, value_lines};
 ghost use Rattle.solution_text.specs.inner.Carried.{AreCarried, IsRaised, out_of};
 
-use crate::named::{push_register, register_after};
-use crate::names::push_name;
+use crate::named::register_after;
+use crate::parts::{Part, push_parts};
 use machine_data::OutOfMemory;
 use machine_data::limits::MAX_VALUES;
 use problems::{File, Value};
@@ -26,9 +26,15 @@ fn push_live(text: &mut Vec<u8>, solution: &Solution, value: usize) -> Result<()
 {
     let draft = solution.problem().draft();
     let life = solution.life(value);
-    push_name(text, draft.names.files.as_slice(), draft.values[value].file)?;
-    push_told(text, ": live ", life.first)?;
-    push_told(text, " to ", life.last)
+    push_parts(
+        text,
+        draft,
+        &[
+            Part::File(draft.values[value].file),
+            Part::Told(": live ", life.first),
+            Part::Told(" to ", life.last),
+        ],
+    )
 }
 
 /// Appends the line of a value of a rotating file, of this many registers.
@@ -41,11 +47,16 @@ fn push_allotted(
     requires { value < length solution.now.problem.draft.values.items }
     ensures ok { OnOk result (text.new.items ≡ text.old.items ++ value_line_in solution.now value (Some (Rotating _registers))) }
 {
-    let draft = solution.problem().draft();
-    text.push_piece("value ")?;
-    push_name(text, draft.names.values.as_slice(), value)?;
-    push_told(text, " number ", solution.number(value) as u64)?;
-    text.push_piece(" # ")?;
+    push_parts(
+        text,
+        solution.problem().draft(),
+        &[
+            Part::Piece("value "),
+            Part::Value(value),
+            Part::Told(" number ", solution.number(value) as u64),
+            Part::Piece(" # "),
+        ],
+    )?;
     push_live(text, solution, value)?;
     text.push_piece("\n")
 }
@@ -55,10 +66,15 @@ fn push_unallotted(text: &mut Vec<u8>, solution: &Solution, value: usize) -> Res
     requires { value < length solution.now.problem.draft.values.items }
     ensures ok { OnOk result (text.new.items ≡ text.old.items ++ value_line_in solution.now value (Some Unallotted)) }
 {
-    let draft = solution.problem().draft();
-    text.push_piece("# value ")?;
-    push_name(text, draft.names.values.as_slice(), value)?;
-    text.push_piece(" ")?;
+    push_parts(
+        text,
+        solution.problem().draft(),
+        &[
+            Part::Piece("# value "),
+            Part::Value(value),
+            Part::Piece(" "),
+        ],
+    )?;
     push_live(text, solution, value)?;
     push_told(text, ", copies ", solution.copies(value))?;
     text.push_piece("\n")
@@ -118,13 +134,18 @@ fn push_initial(
     let Some(register) = register_after(solution, value, iterations) else {
         return Ok(());
     };
-    let draft = solution.problem().draft();
-    text.push_piece("# initial ")?;
-    push_register(text, draft, register)?;
-    text.push_piece(" ")?;
-    push_name(text, draft.names.values.as_slice(), value)?;
-    push_told(text, " distance ", iterations)?;
-    text.push_piece("\n")
+    push_parts(
+        text,
+        solution.problem().draft(),
+        &[
+            Part::Piece("# initial "),
+            Part::Register(register),
+            Part::Piece(" "),
+            Part::Value(value),
+            Part::Told(" distance ", iterations),
+            Part::Piece("\n"),
+        ],
+    )
 }
 
 /// Appends the lines of the initial values of a value that is carried on for this many iterations.

@@ -1,18 +1,18 @@
 //! What a check says of a problem, in one line: that a solution is one, what it breaks first, or what it lacks.
 
 ghost use Rattle.std.specs.Prelude.{◌≡◌, ◌++◌, codes, OnOk};
-ghost use Rattle.writing.specs.Words.{told, told_signed};
+ghost use Rattle.writing.specs.Words.{told};
 ghost use Rattle.solution_text.specs.Names.{op_name, value_name};
-ghost use Rattle.solution_text.specs.Verdicts.{breach_text, broken_line, broken_text, early_text, edge_text, holders_text, meeting_text, missing_text, ok_line, registers_text};
+ghost use Rattle.solution_text.specs.Verdicts.{breach_text, broken_line, broken_text, early_text, edge_text, holders_text, missing_text, ok_line, registers_text};
 
-use crate::named::{Register, push_register};
-use crate::names::{push_op_name, push_unit_name, push_value_name};
+use crate::named::Register;
+use crate::parts::{Part, push_parts};
 use graph::Edge;
 use machine_data::OutOfMemory;
 use modulo::Breach;
 use problems::Draft;
 use solutions::{Broken, Solution};
-use writing::{Text, push_both, push_signed, push_told};
+use writing::{Text, push_both, push_told};
 
 /// What a text of solutions lacks of a problem's solution. Numbers count from 0.
 #[derive(Clone, Copy, Debug, PartialEq, Eq)]
@@ -25,45 +25,60 @@ pub enum Missing {
     Number(usize),
 }
 
-/// Appends what one or two operations hold at once.
+/// Appends what one or two operations hold at once, and in which row.
 fn push_holders(
     text: &mut Vec<u8>,
     draft: &Draft,
     earlier: usize,
     later: usize,
     unit: usize,
+    row: u64,
 ) -> Result<(), OutOfMemory>
-    ensures ok { OnOk result (text.new.items ≡ text.old.items ++ holders_text draft.now earlier later unit) }
+    ensures ok { OnOk result (text.new.items ≡ text.old.items ++ (holders_text draft.now earlier later unit ++ told (codes " in row ") row)) }
 {
     if earlier == later {
-        push_op_name(text, draft, later)?;
-        text.push_piece(" holds ")?;
-        push_unit_name(text, draft, unit)?;
-        return text.push_piece(" twice");
+        push_parts(
+            text,
+            draft,
+            &[
+                Part::Operation(later),
+                Part::Piece(" holds "),
+                Part::Unit(unit),
+                Part::Piece(" twice"),
+                Part::Told(" in row ", row),
+            ],
+        )
+    } else {
+        push_parts(
+            text,
+            draft,
+            &[
+                Part::Operation(earlier),
+                Part::Piece(" and "),
+                Part::Operation(later),
+                Part::Piece(" both hold "),
+                Part::Unit(unit),
+                Part::Told(" in row ", row),
+            ],
+        )
     }
-    push_op_name(text, draft, earlier)?;
-    text.push_piece(" and ")?;
-    push_op_name(text, draft, later)?;
-    text.push_piece(" both hold ")?;
-    push_unit_name(text, draft, unit)
-}
-
-/// Appends the delay of an edge.
-fn push_delay(text: &mut Vec<u8>, delay: i8) -> Result<(), OutOfMemory>
-    ensures ok { OnOk result (text.new.items ≡ text.old.items ++ told_signed (codes " with delay ") delay) }
-{
-    push_signed(text, " with delay ", i64::from(delay))
 }
 
 /// Appends an edge.
 fn push_edge(text: &mut Vec<u8>, draft: &Draft, edge: Edge) -> Result<(), OutOfMemory>
     ensures ok { OnOk result (text.new.items ≡ text.old.items ++ edge_text draft.now edge) }
 {
-    push_op_name(text, draft, usize::from(edge.from))?;
-    text.push_piece(" to ")?;
-    push_op_name(text, draft, usize::from(edge.to))?;
-    push_delay(text, edge.delay)?;
-    push_told(text, " and distance ", u64::from(edge.distance))
+    push_parts(
+        text,
+        draft,
+        &[
+            Part::Operation(usize::from(edge.from)),
+            Part::Piece(" to "),
+            Part::Operation(usize::from(edge.to)),
+            Part::Signed(" with delay ", i64::from(edge.delay)),
+            Part::Told(" and distance ", u64::from(edge.distance)),
+        ],
+    )
 }
 
 /// Appends by how many cycles an operation is too early.
@@ -81,17 +96,30 @@ fn push_early(text: &mut Vec<u8>, cycles: u64) -> Result<(), OutOfMemory>
 fn push_time(text: &mut Vec<u8>, draft: &Draft, op: usize) -> Result<(), OutOfMemory>
     ensures ok { OnOk result (text.new.items ≡ text.old.items ++ ((codes "the time of " ++ op_name draft.now op) ++ codes " is out of range")) }
 {
-    text.push_piece("the time of ")?;
-    push_op_name(text, draft, op)?;
-    text.push_piece(" is out of range")
+    push_parts(
+        text,
+        draft,
+        &[
+            Part::Piece("the time of "),
+            Part::Operation(op),
+            Part::Piece(" is out of range"),
+        ],
+    )
 }
 
 /// Appends an operation, then what is wrong with it.
 fn push_wrong(text: &mut Vec<u8>, draft: &Draft, op: usize, wrong: &str) -> Result<(), OutOfMemory>
     ensures ok { OnOk result (text.new.items ≡ text.old.items ++ (op_name draft.now op ++ wrong.now)) }
 {
-    push_op_name(text, draft, op)?;
-    text.push_piece(wrong)
+    push_parts(text, draft, &[Part::Operation(op), Part::Piece(wrong)])
+}
+
+/// Appends an edge that is not kept, and by how many cycles an operation is too early.
+fn push_unkept(text: &mut Vec<u8>, draft: &Draft, edge: Edge, early: u64) -> Result<(), OutOfMemory>
+    ensures ok { OnOk result (text.new.items ≡ text.old.items ++ (edge_text draft.now edge ++ early_text early)) }
+{
+    push_edge(text, draft, edge)?;
+    push_early(text, early)
 }
 
 /// Appends what places break, where they are no schedule.
@@ -107,38 +135,13 @@ fn push_breach(text: &mut Vec<u8>, draft: &Draft, breach: Breach) -> Result<(), 
             later,
             unit,
             residue,
-        } => {
-            push_holders(text, draft, earlier, later, unit)?;
-            push_told(text, " in row ", residue)
-        }
-        Breach::Edge(edge, early) => {
-            push_edge(text, draft, edge)?;
-            push_early(text, early)
-        }
+        } => push_holders(text, draft, earlier, later, unit, residue),
+        Breach::Edge(edge, early) => push_unkept(text, draft, edge, early),
         Breach::Stage(op) => push_wrong(text, draft, op, " is in stage 64 or later"),
     }
 }
 
-/// Appends the two values that meet, or the one that meets itself.
-fn push_meeting(
-    text: &mut Vec<u8>,
-    draft: &Draft,
-    earlier: usize,
-    later: usize,
-) -> Result<(), OutOfMemory>
-    ensures ok { OnOk result (text.new.items ≡ text.old.items ++ meeting_text draft.now earlier later) }
-{
-    if earlier == later {
-        push_value_name(text, draft, later)?;
-        return text.push_piece(" meets a later instance of itself");
-    }
-    push_value_name(text, draft, earlier)?;
-    text.push_piece(" and ")?;
-    push_value_name(text, draft, later)?;
-    text.push_piece(" are both")
-}
-
-/// Appends which values meet, where and when.
+/// Appends which values meet, or which one meets itself, where and when.
 fn push_registers(
     text: &mut Vec<u8>,
     draft: &Draft,
@@ -149,10 +152,33 @@ fn push_registers(
 ) -> Result<(), OutOfMemory>
     ensures ok { OnOk result (text.new.items ≡ text.old.items ++ registers_text draft.now earlier later register cycle) }
 {
-    push_meeting(text, draft, earlier, later)?;
-    text.push_piece(" in ")?;
-    push_register(text, draft, register)?;
-    push_told(text, " in cycle ", cycle)
+    if earlier == later {
+        push_parts(
+            text,
+            draft,
+            &[
+                Part::Value(later),
+                Part::Piece(" meets a later instance of itself"),
+                Part::Piece(" in "),
+                Part::Register(register),
+                Part::Told(" in cycle ", cycle),
+            ],
+        )
+    } else {
+        push_parts(
+            text,
+            draft,
+            &[
+                Part::Value(earlier),
+                Part::Piece(" and "),
+                Part::Value(later),
+                Part::Piece(" are both"),
+                Part::Piece(" in "),
+                Part::Register(register),
+                Part::Told(" in cycle ", cycle),
+            ],
+        )
+    }
 }
 
 /// Appends that the interval is out of range.
@@ -167,9 +193,15 @@ fn push_interval(text: &mut Vec<u8>, ii: u64) -> Result<(), OutOfMemory>
 fn push_wrong_number(text: &mut Vec<u8>, draft: &Draft, value: usize) -> Result<(), OutOfMemory>
     ensures ok { OnOk result (text.new.items ≡ text.old.items ++ ((codes "the number of " ++ value_name draft.now value) ++ codes " is out of range")) }
 {
-    text.push_piece("the number of ")?;
-    push_value_name(text, draft, value)?;
-    text.push_piece(" is out of range")
+    push_parts(
+        text,
+        draft,
+        &[
+            Part::Piece("the number of "),
+            Part::Value(value),
+            Part::Piece(" is out of range"),
+        ],
+    )
 }
 
 /// Appends what is broken.
@@ -201,30 +233,26 @@ fn push_what(text: &mut Vec<u8>, draft: &Draft, ii: u64, broken: Broken) -> Resu
     }
 }
 
-/// Appends that an operation has no time.
-fn push_no_time(text: &mut Vec<u8>, draft: &Draft, op: usize) -> Result<(), OutOfMemory>
-    ensures ok { OnOk result (text.new.items ≡ text.old.items ++ (codes "no time of " ++ op_name draft.now op)) }
-{
-    text.push_piece("no time of ")?;
-    push_op_name(text, draft, op)
-}
-
-/// Appends that a value has no number.
-fn push_no_number(text: &mut Vec<u8>, draft: &Draft, value: usize) -> Result<(), OutOfMemory>
-    ensures ok { OnOk result (text.new.items ≡ text.old.items ++ (codes "no number of " ++ value_name draft.now value)) }
-{
-    text.push_piece("no number of ")?;
-    push_value_name(text, draft, value)
-}
-
 /// Appends what is missing.
 fn push_lacking(text: &mut Vec<u8>, draft: &Draft, missing: Missing) -> Result<(), OutOfMemory>
     ensures ok { OnOk result (text.new.items ≡ text.old.items ++ missing_text draft.now missing) }
 {
     match missing {
         Missing::Solution => text.push_piece("no solution"),
-        Missing::Time(op) => push_no_time(text, draft, op),
-        Missing::Number(value) => push_no_number(text, draft, value),
+        Missing::Time(op) => {
+            push_parts(
+                text,
+                draft,
+                &[Part::Piece("no time of "), Part::Operation(op)],
+            )
+        }
+        Missing::Number(value) => {
+            push_parts(
+                text,
+                draft,
+                &[Part::Piece("no number of "), Part::Value(value)],
+            )
+        }
     }
 }
 
@@ -235,10 +263,16 @@ fn push_lacking(text: &mut Vec<u8>, draft: &Draft, missing: Missing) -> Result<(
 pub fn push_ok(text: &mut Vec<u8>, name: &str, solution: &Solution) -> Result<(), OutOfMemory>
     ensures ok { OnOk result (text.new.items ≡ text.old.items ++ ok_line name.now solution.now) }
 {
-    text.push_piece(name)?;
-    push_told(text, " ok ii ", solution.ii())?;
-    push_told(text, " stages ", solution.stages())?;
-    text.push_piece("\n")
+    push_parts(
+        text,
+        solution.problem().draft(),
+        &[
+            Part::Piece(name),
+            Part::Told(" ok ii ", solution.ii()),
+            Part::Told(" stages ", solution.stages()),
+            Part::Piece("\n"),
+        ],
+    )
 }
 
 /// Appends the line of a problem for which lists are no solution at an interval, with what they break first. A part of the

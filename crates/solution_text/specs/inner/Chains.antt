@@ -1,7 +1,9 @@
 -- Items in order, each of one owner, of which each is found from the one of the same owner before it.
 use Rattle.std.specs.Prelude.{◌≡◌, ◌≢◌, ℕ, ◌+◌, ◌<◌, ◌≤◌, List, length, map, slice_index}
 use Rattle.problems.specs.declared.draft.Value.{Value}
+use Rattle.problems.specs.Problems.{ProblemData}
 use Rattle.registers.specs.declared.value.Read.{Read}
+use Rattle.solution_text.specs.declared.chains.Uses.{Uses}
 
 -- the first item of an owner, from one on: its number, or how many items there are where there is none
 pub record IsNext (owners : List ℕ) (owner from found : ℕ) : Type 0 where
@@ -22,3 +24,10 @@ readers_of reads = map (λ (r : Read). r.reader) reads
 
 abbrev pub makers_of : List Value → List ℕ
 makers_of values = map (λ (v : Value). v.maker) values
+
+-- the reads and the values of a problem, each chain with a first item for each operation
+pub record AreUses (problem : ProblemData) (uses : Uses) : Type 0 where
+  pub each_reader : length uses.of_readers.firsts.now ≡ length problem.scheduling.operations
+  pub readers : AreChained (readers_of problem.draft.reads.items) 0 uses.of_readers.firsts.now uses.of_readers.nexts.now
+  pub each_maker : length uses.of_makers.firsts.now ≡ length problem.scheduling.operations
+  pub makers : AreChained (makers_of problem.draft.values.items) 0 uses.of_makers.firsts.now uses.of_makers.nexts.now

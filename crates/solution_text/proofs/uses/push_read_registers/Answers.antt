@@ -1,10 +1,8 @@
 use Rattle.std.proofs.Common.{◌≡◌, ℕ, ◌+◌, ◌<◌, ◌≤◌, List, ap, sym, ◌∙◌, arith, length, slice_index, subst}
 use Rattle.std.proofs.lemmas.List.{get_or-map, length-map}
-use Rattle.modulo.specs.Schedules.{stage_of}
 use Rattle.problems.specs.declared.draft.Draft.{Draft}
 use Rattle.problems.specs.Problems.{ProblemData}
 use Rattle.registers.specs.declared.value.Read.{Read}
-use Rattle.solutions.specs.Solutions.{schedule_of}
 use Rattle.solution_text.specs.inner.Chains.{AreChained, IsNext, readers_of}
 use Rattle.solution_text.proofs.Owned.{no_read, reads-begin, reads-more}
 use Rattle.solution_text.proofs.uses.push_read_registers.Goals as goal
@@ -20,8 +18,9 @@ loop-at-init c =
     let same : reads ≡ s.problem.draft.reads.items
     = c.as_slice-reads.ensures.value ∙ ap (λ (d : Draft). d.reads.items) (c.draft.ensures.value ∙ ap (λ (p : ProblemData). p.draft) c.problem.ensures.value) in
     let chained = of-reads s.problem.draft.reads.items reads c.args.of_readers.firsts.now c.args.of_readers.nexts.now same c.requires.chained in
+    let each = c.requires.each in
     let first : IsNext (readers_of reads) c.args.op 0 c.first-at.result
-    = subst (IsNext (readers_of reads) c.args.op 0) (sym c.first-at.ensures) (chained.first c.args.op c.requires.there) in
+    = subst (IsNext (readers_of reads) c.args.op 0) (sym c.first-at.ensures) (chained.first c.args.op (omega arith)) in
     let high : c.first-at.result ≤ length (readers_of reads) = first.high in
     let count : length (readers_of reads) ≡ length reads = length-map reads (λ (r : Read). r.reader) in
     record {
@@ -30,12 +29,11 @@ loop-at-init c =
       pushed = reads-begin s c.args.op c.first-at.result reads c.args.text.now.items first;
     }
 
-pub push_source-requires-clause-stage : goal.push_source-requires-clause-stage
-push_source-requires-clause-stage c =
+pub push_source-requires-clause-reader : goal.push_source-requires-clause-reader
+push_source-requires-clause-reader c =
     let reads = c.as_slice-reads.result.now in
     let lt : c.loop-at.at < length reads = c.loop-at-test.true in
-    c.requires.stage ∙ ap (λ op. stage_of (schedule_of c.args.solution.now) op)
-    (sym (c.loop-at.invariant.own lt) ∙ get_or-map (λ (r : Read). r.reader) reads c.loop-at.at no_read 0 lt)
+    sym (get_or-map (λ (r : Read). r.reader) reads c.loop-at.at no_read 0 lt) ∙ c.loop-at.invariant.own lt
 
 pub next-at-requires : goal.next-at-requires
 next-at-requires c =

@@ -20,8 +20,9 @@ loop-value-init c =
     let same : c.as_slice-values.result.now ≡ values
     = c.as_slice-values.ensures.value ∙ ap (λ (d : Draft). d.values.items) (c.draft-draft.ensures.value ∙ ap (λ (p : ProblemData). p.draft) c.problem.ensures.value) in
     let long : length c.as_slice-values.result.now ≡ length values = ap length same in
+    let each = c.requires.each in
     let first : IsNext (makers_of values) c.args.op 0 c.first-value.result
-    = subst (IsNext (makers_of values) c.args.op 0) (sym c.first-value.ensures) (c.requires.chained.first c.args.op c.requires.there) in
+    = subst (IsNext (makers_of values) c.args.op 0) (sym c.first-value.ensures) (c.requires.chained.first c.args.op (omega arith)) in
     let high : c.first-value.result ≤ length (makers_of values) = first.high in
     let count : length (makers_of values) ≡ length values = length-map values (λ (v : Value). v.maker) in
     record {
@@ -60,7 +61,7 @@ loop-value-preserved c =
     let high : c.next-value.result ≤ length (makers_of values) = next.high in
     let register : c.register_after.result ≡ destination_of s value
     = c.register_after.ensures ∙ ap (λ above. register_after (home_of (run_of s) value) above)
-    (c.requires.stage ∙ ap (λ o. stage_of (schedule_of s) o) (sym (maker-is s value ∙ own))) in
+    (c.stage_of-stage.ensures.value ∙ ap (λ o. stage_of (schedule_of s) o) (sym (maker-is s value ∙ own))) in
     let pushed : c.push_spaced.new.text.items ≡ c.loop-value.text.items ++ spaced_register s.problem.draft (destination_of s value)
     = c.in_ok-push_spaced.ensures.ok ∙ ap (λ (d : Draft). c.loop-value.text.items ++ spaced_register d c.register_after.result) drafts
     ∙ ap (λ (r : Option Register). c.loop-value.text.items ++ spaced_register s.problem.draft r) register in

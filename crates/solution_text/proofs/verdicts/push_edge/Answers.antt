@@ -1,35 +1,28 @@
-use Rattle.std.proofs.Common.{rules, ◌≡◌, List, ℕ, ℤ, ◌++◌, ap, ◌∙◌, w8, SFits}
+use Rattle.std.proofs.Common.{rules, ◌≡◌, List, ℕ, ℤ, ◌++◌, ap, ◌∙◌, refl, w8, w64, SFits}
 use Rattle.std.proofs.lemmas.Int.{to_z-of_z}
-use Rattle.std.specs.Prelude.{codes}
 use Rattle.std.proofs.lemmas.Result.{on_ok_weaker}
+use Rattle.std.specs.Prelude.{codes}
+use Rattle.graph.specs.Dependences.{EdgeData}
+use Rattle.problems.specs.declared.draft.Draft.{Draft}
 use Rattle.writing.specs.Words.{told, told_signed}
 use Rattle.solution_text.specs.Names.{op_name}
-use Rattle.solution_text.proofs.Loops.{and-then}
+use Rattle.solution_text.specs.Verdicts.{edge_text}
 use Rattle.solution_text.proofs.verdicts.push_edge.Goals as goal
+
+-- the text, by the numbers as they were found
+same : (draft : Draft) (edge : EdgeData) (from to distance : ℕ) (delay : ℤ) → from ≡ edge.from → to ≡ edge.to → delay ≡ edge.delay → distance ≡ edge.distance
+    → (((op_name draft from ++ codes " to ") ++ op_name draft to) ++ told_signed (codes " with delay ") delay) ++ told (codes " and distance ") distance ≡ edge_text draft edge
+same draft edge from to distance delay a b d e = rw (a, b, d, e) refl
 
 pub returns : goal.returns
 returns c =
-    let draft = c.args.draft.now in
     let edge = c.args.edge in
-    let fits : SFits w8 edge.delay = search rules in
+    let narrow : SFits w8 edge.delay = search rules in
+    let wide : SFits w64 c.from-3.result = search rules in
     let old : List ℕ = c.args.text.now.items in
-    let from : List ℕ = op_name draft edge.from in
-    let to : List ℕ = op_name draft edge.to in
-    let delay : List ℕ = told_signed (codes " with delay ") edge.delay in
-    let distance : List ℕ = told (codes " and distance ") edge.distance in
-    let one : c.push_op_name.new.text.items ≡ old ++ from
-    = c.in_ok-push_op_name.ensures.ok ∙ ap (λ (n : ℕ). old ++ op_name draft n) c.from.ensures in
-    let two : c.push_piece.new.self.items ≡ old ++ (from ++ codes " to ")
-    = and-then old from c.push_op_name.new.text.items (codes " to ") c.push_piece.new.self.items one c.in_ok-push_piece.ensures.ok in
-    let three : c.push_op_name-2.new.text.items ≡ old ++ ((from ++ codes " to ") ++ to)
-    = and-then old (from ++ codes " to ") c.push_piece.new.self.items to c.push_op_name-2.new.text.items two
-    (c.in_ok-push_op_name-2.ensures.ok ∙ ap (λ (n : ℕ). c.push_piece.new.self.items ++ op_name draft n) c.from-2.ensures) in
-    let four : c.push_delay.new.text.items ≡ old ++ (((from ++ codes " to ") ++ to) ++ delay)
-    = and-then old ((from ++ codes " to ") ++ to) c.push_op_name-2.new.text.items delay c.push_delay.new.text.items three
-    (c.in_ok-push_delay.ensures.ok ∙ ap (λ (n : ℤ). c.push_op_name-2.new.text.items ++ told_signed (codes " with delay ") n) (to_z-of_z w8 edge.delay fits)) in
+    let delay = to_z-of_z w64 c.from-3.result wide ∙ c.from-3.ensures ∙ to_z-of_z w8 edge.delay narrow in
     record {
-      ok = on_ok_weaker c.push_told.result
-          (λ last. and-then old (((from ++ codes " to ") ++ to) ++ delay) c.push_delay.new.text.items distance c.push_told.new.text.items four
-          (last ∙ ap (λ (n : ℕ). c.push_delay.new.text.items ++ told (codes " and distance ") n) c.from-3.ensures))
-          c.push_told.ensures.ok;
+      ok = on_ok_weaker c.push_parts.result
+          (λ last. last ∙ ap (λ (t : List ℕ). old ++ t) (same c.args.draft.now edge c.from.result c.from-2.result c.from-4.result _ c.from.ensures c.from-2.ensures delay c.from-4.ensures))
+          c.push_parts.ensures.ok;
     }
