@@ -3,6 +3,7 @@
 ghost use Rattle.std.specs.Prelude.{◌≡◌, IfOk};
 ghost use Rattle.serde_json.specs.Data.{Data, Members, object, put};
 ghost use Rattle.serde_json.specs.View.{members_view, view};
+ghost use Rattle.solution_json.specs.Parts.{count_value};
 
 use machine_data::OutOfMemory;
 use serde_json::{Map, Value, put};
@@ -21,6 +22,18 @@ pub(crate) fn with(
     let mut members = members?;
     put(&mut members, alloc, key, value?)?;
     Ok(members)
+}
+
+/// These members and one more, with this number.
+pub(crate) fn with_count(
+    alloc: Global,
+    members: Result<Map<String, Value>, OutOfMemory>,
+    key: &str,
+    number: u64,
+) -> Result<Map<String, Value>, OutOfMemory>
+    ensures { (ms : Members) → IfOk members (λ m. members_view m.entries ≡ ms) → IfOk result (λ m. members_view m.entries ≡ put key.now (count_value number) ms) }
+{
+    with(alloc, members, key, Ok(Value::from(number)))
 }
 
 /// The object of these members.

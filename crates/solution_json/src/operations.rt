@@ -9,13 +9,14 @@ ghost use Rattle.solutions.specs.Solutions.{schedule_of};
 ghost use Rattle.solution_json.specs.Operations.{hold_object, holds_array, operation_object, read_register, registers_read, registers_written, write_register};
 ghost use Rattle.solution_json.specs.Parts.{array_of, register_object};
 
+use crate::members::{object_of, with, with_count};
 use crate::named::push_register;
 use crate::told::told_name;
 use machine_data::{OutOfMemory, Row};
 use problems::Draft;
 use registers::Read;
-use serde_json::{Value, json};
-use solution_text::register_after;
+use serde_json::{Map, Value, json};
+use solution_text::{held_rows, register_after, stage_of};
 use solutions::Solution;
 use std::alloc::Global;
 
@@ -45,13 +46,8 @@ fn told_holds(alloc: Global, solution: &Solution, op: usize) -> Result<Value, Ou
     requires { op < length solution.now.problem.scheduling.operations }
     ensures { IfOk result (λ v. view v ≡ holds_array solution.now op) }
 {
-    let problem = solution.problem();
-    let alternatives = problem.scheduling().alternatives()[op].as_slice();
-    told_rows(
-        alloc,
-        problem.draft(),
-        alternatives[solution.alternative(op)].rows(),
-    )
+    let draft = solution.problem().draft();
+    told_rows(alloc, draft, held_rows(solution, op))
 }
 
 /// Adds the register that a read of an operation of this stage finds its value in; nothing of a read of another one.
@@ -134,15 +130,6 @@ fn told_writes(
     Ok(Value::Array(values))
 }
 
-/// The stage of an operation.
-fn stage_of(solution: &Solution, op: usize) -> u64
-    requires { op < length solution.now.problem.scheduling.operations }
-    ensures value { result ≡ stage_of (schedule_of solution.now) op }
-    ensures few { result < MAX_STAGES }
-{
-    solution.time(op) / solution.ii()
-}
-
 /// An operation.
 #[tactic(auto, unfolding(crate::specs::Operations::operation_object))]
 fn told_operation(alloc: Global, solution: &Solution, op: usize) -> Result<Value, OutOfMemory>
@@ -150,17 +137,26 @@ fn told_operation(alloc: Global, solution: &Solution, op: usize) -> Result<Value
     ensures { IfOk result (λ v. view v ≡ operation_object solution.now op) }
 {
     let names = solution.problem().draft().names.operations.as_slice();
+    let time = solution.time(op);
+    let row = time % solution.ii();
     let stage = stage_of(solution, op);
-    json!(in alloc; {
-        "name": told_name(alloc, names, op)?,
-        "time": solution.time(op),
-        "alternative": solution.alternative(op),
-        "row": solution.time(op) % solution.ii(),
-        "stage": stage,
-        "holds": told_holds(alloc, solution, op)?,
-        "reads": told_reads(alloc, solution, op, stage)?,
-        "writes": told_writes(alloc, solution, op, stage)?
-    })
+    let name = told_name(alloc, names, op);
+    let holds = told_holds(alloc, solution, op);
+    let reads = told_reads(alloc, solution, op, stage);
+    let writes = told_writes(alloc, solution, op, stage);
+    let members = with(alloc, Ok(Map::new(alloc)), "name", name);
+    let members = with_count(alloc, members, "time", time);
+    let members = with_count(
+        alloc,
+        members,
+        "alternative",
+        solution.alternative(op) as u64,
+    );
+    let members = with_count(alloc, members, "row", row);
+    let members = with_count(alloc, members, "stage", stage);
+    let members = with(alloc, members, "holds", holds);
+    let members = with(alloc, members, "reads", reads);
+    object_of(with(alloc, members, "writes", writes))
 }
 
 /// All operations, in order.

@@ -10,7 +10,7 @@ ghost use Rattle.solution_json.specs.Outcomes.{IsJsonOf, IsObjectOf, IsOutcomeJs
 
 use crate::bounds::told_circuit;
 use crate::failures::{cause_word, told_evidence};
-use crate::members::{object_of, with};
+use crate::members::{object_of, with, with_count};
 use crate::solved::told_solution;
 use crate::told::told_names;
 use graph::Edge;
@@ -35,17 +35,13 @@ fn head_of(
 {
     let draft = problem.draft();
     let scheduling = problem.scheduling();
-    let operations = Value::from(scheduling.operations());
-    let resources = Value::from(scheduling.resources());
-    let recurrences = Value::from(scheduling.recurrences());
-    let mii = Value::from(scheduling.mii());
     let circuit = told_circuit(alloc, draft, circuit);
     let full = told_names(alloc, draft.names.units.as_slice(), units);
     let members = with(alloc, Ok(Map::new(alloc)), "name", name.to_value(alloc));
-    let members = with(alloc, members, "operations", Ok(operations));
-    let members = with(alloc, members, "resources", Ok(resources));
-    let members = with(alloc, members, "recurrences", Ok(recurrences));
-    let members = with(alloc, members, "mii", Ok(mii));
+    let members = with_count(alloc, members, "operations", scheduling.operations() as u64);
+    let members = with_count(alloc, members, "resources", scheduling.resources());
+    let members = with_count(alloc, members, "recurrences", scheduling.recurrences());
+    let members = with_count(alloc, members, "mii", scheduling.mii());
     let members = with(alloc, members, "circuit", circuit);
     with(alloc, members, "full", full)
 }
@@ -81,10 +77,10 @@ fn told_failed(
     ensures { IfOk result (λ v. view v ≡ failed_object name.now problem.now circuit.now units.now cause (option_copied culprit.entry)) }
 {
     let scheduling = problem.scheduling();
-    let last = Value::from(scheduling.mii() + scheduling.ceiling());
+    let last = scheduling.mii() + scheduling.ceiling();
     let culprit = told_evidence(alloc, problem.draft(), cause, culprit);
     let members = head_of(alloc, name, problem, circuit, units);
-    let members = with(alloc, members, "failed_to", Ok(last));
+    let members = with_count(alloc, members, "failed_to", last);
     let members = with(alloc, members, "cause", cause_word(cause).to_value(alloc));
     object_of(with(alloc, members, "culprit", culprit))
 }

@@ -7,11 +7,12 @@ ghost use Rattle.solution_text.specs.Values.{file_of, life_of};
 ghost use Rattle.solution_json.specs.Parts.{array_of};
 ghost use Rattle.solution_json.specs.Values.{copies_value, file_object, number_value, size_value, value_object};
 
+use crate::members::{object_of, with, with_count};
 use crate::told::told_name;
 use machine_data::OutOfMemory;
 use problems::{Draft, File};
 use registers::Lifetime;
-use serde_json::{Value, json};
+use serde_json::{Map, Value, json};
 use solutions::Solution;
 use std::alloc::Global;
 
@@ -72,14 +73,16 @@ fn told_value(alloc: Global, solution: &Solution, value: usize) -> Result<Value,
     let names = &solution.problem().draft().names;
     let kind = kind_of(solution, value);
     let life = life_of(solution, value);
-    json!(in alloc; {
-        "name": told_name(alloc, names.values.as_slice(), value)?,
-        "file": told_name(alloc, names.files.as_slice(), file_of(solution, value))?,
-        "first": life.first,
-        "last": life.last,
-        "number": told_number(solution, value, kind),
-        "copies": told_copies(solution, value, kind)
-    })
+    let name = told_name(alloc, names.values.as_slice(), value);
+    let file = told_name(alloc, names.files.as_slice(), file_of(solution, value));
+    let number = told_number(solution, value, kind);
+    let copies = told_copies(solution, value, kind);
+    let members = with(alloc, Ok(Map::new(alloc)), "name", name);
+    let members = with(alloc, members, "file", file);
+    let members = with_count(alloc, members, "first", life.first);
+    let members = with_count(alloc, members, "last", life.last);
+    let members = with(alloc, members, "number", Ok(number));
+    object_of(with(alloc, members, "copies", Ok(copies)))
 }
 
 /// All values, in order.

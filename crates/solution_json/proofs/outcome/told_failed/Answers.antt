@@ -1,7 +1,7 @@
 use Rattle.std.proofs.Common.{◌≡◌, ◌+◌, ◌∙◌, ℕ, List, ap, ap₂, subst}
 use Rattle.std.specs.Prelude.{codes, IfOk}
 use Rattle.std.specs.Option.{option_copied}
-use Rattle.serde_json.specs.Data.{put, string}
+use Rattle.serde_json.specs.Data.{object, put, string}
 use Rattle.serde_json.specs.View.{view}
 use Rattle.modulo.specs.Problems.{ProblemData as SchedulingData, mii_of}
 use Rattle.problems.specs.declared.draft.Draft.{Draft}
@@ -15,9 +15,8 @@ pub returns : goal.returns
 unfolding failed_object
 returns c =
     let p = c.args.problem.now in
-    let last : view c.from-last.result ≡ count_value (last_of p)
-    = c.from-last.ensures ∙ ap count_value (ap₂ (λ (m n : ℕ). m + n) c.mii.ensures.value c.ceiling.ensures.value
-    ∙ ap (λ (q : SchedulingData). mii_of q + q.ceiling) c.scheduling-scheduling.ensures.value) in
+    let last : c.mii.result + c.ceiling.result ≡ last_of p
+    = ap₂ (λ (m n : ℕ). m + n) c.mii.ensures.value c.ceiling.ensures.value ∙ ap (λ (q : SchedulingData). mii_of q + q.ceiling) c.scheduling-scheduling.ensures.value in
     let word = cause_word c.args.cause in
     let cause : IfOk c.to_value.result (λ v. view v ≡ string word)
     = subst (λ (t : List ℕ). IfOk c.to_value.result (λ v. view v ≡ string t)) c.cause_word.ensures c.to_value.ensures in
@@ -25,9 +24,9 @@ returns c =
     let culprit : IfOk c.told_evidence-culprit.result (λ v. view v ≡ found)
     = subst (λ (d : Draft). IfOk c.told_evidence-culprit.result (λ v. view v ≡ culprit_value d c.args.cause (option_copied c.args.culprit))) c.draft.ensures.value c.told_evidence-culprit.ensures in
     let head = head_members c.args.name.now p c.args.circuit.now c.args.units.now in
-    let one = put (codes "failed_to") (count_value (last_of p)) head in
+    let one = put (codes "failed_to") (count_value (c.mii.result + c.ceiling.result)) head in
     let two = put (codes "cause") (string word) one in
-    c.object_of.ensures (put (codes "culprit") found two)
+    subst (λ (n : ℕ). IfOk c.object_of.result (λ v. view v ≡ object (put (codes "culprit") found (put (codes "cause") (string word) (put (codes "failed_to") (count_value n) head))))) last
+    (c.object_of.ensures (put (codes "culprit") found two)
     (c.with.ensures two found
-    (c.with-members-2.ensures one (string word)
-    (c.with-members.ensures head (count_value (last_of p)) c.head_of-members.ensures last) cause) culprit)
+    (c.with-members.ensures one (string word) (c.with_count-members.ensures head c.head_of-members.ensures) cause) culprit))
