@@ -1,4 +1,4 @@
-use Rattle.std.proofs.Common.{◌≡◌, ◌∙◌, ℕ, List, Option, Some, ap, sym, subst}
+use Rattle.std.proofs.Common.{◌≡◌, ◌∙◌, ℕ, List, Option, ap, sym, subst}
 use Rattle.std.specs.Prelude.{codes, IfOk, slice_get}
 use Rattle.serde_json.specs.Data.{no_members, object, put, string}
 use Rattle.serde_json.specs.View.{members_view, view}
