@@ -1,13 +1,14 @@
 //! The lines of the operations of a solution.
 
-ghost use Rattle.std.specs.Prelude.{◌≡◌, ◌++◌, ◌<◌, ◌≤◌, length, OnOk};
+ghost use Rattle.std.specs.Prelude.{◌≡◌, ◌++◌, ◌<◌, ◌≤◌, codes, length, OnOk};
 ghost use Rattle.std.specs.List.{flat_map};
+ghost use Rattle.writing.specs.Words.{told};
 ghost use Rattle.solution_text.specs.Operations.{hold_text, op_line, op_lines, placed_text, slot_text};
 ghost use Rattle.solution_text.specs.inner.Chains.{AreChained, AreUses, readers_of};
 
 use crate::chains::{Chains, Uses, chain_reads, chain_values};
 use crate::issues::{held_rows, stage_of};
-use crate::parts::{Part, push_parts};
+use crate::names::push_name;
 use crate::uses::push_uses;
 use machine_data::limits::{MAX_READS, MAX_STATEMENTS, MAX_VALUES};
 use machine_data::{OutOfMemory, Row};
@@ -15,32 +16,58 @@ use problems::Draft;
 use solutions::Solution;
 use writing::{Text, push_told};
 
+/// Appends by which of its alternatives an operation is issued. Most are told by one piece.
+fn push_choice(text: &mut Vec<u8>, choice: usize) -> Result<(), OutOfMemory>
+    ensures ok { OnOk result (text.new.items ≡ text.old.items ++ told (codes " by ") choice) }
+{
+    match choice {
+        0 => text.push_piece(" by 0"),
+        1 => text.push_piece(" by 1"),
+        2 => text.push_piece(" by 2"),
+        3 => text.push_piece(" by 3"),
+        _ => push_told(text, " by ", choice as u64),
+    }
+}
+
+/// Appends a stage that is told by more than one piece, and a colon.
+fn push_late_stage(text: &mut Vec<u8>, stage: u64) -> Result<(), OutOfMemory>
+    ensures ok { OnOk result (text.new.items ≡ text.old.items ++ (told (codes " stage ") stage ++ codes ":")) }
+{
+    push_told(text, " stage ", stage)?;
+    text.push_piece(":")
+}
+
+/// Appends a stage and a colon. Most stages are told by one piece.
+fn push_stage(text: &mut Vec<u8>, stage: u64) -> Result<(), OutOfMemory>
+    ensures ok { OnOk result (text.new.items ≡ text.old.items ++ (told (codes " stage ") stage ++ codes ":")) }
+{
+    match stage {
+        0 => text.push_piece(" stage 0:"),
+        1 => text.push_piece(" stage 1:"),
+        2 => text.push_piece(" stage 2:"),
+        3 => text.push_piece(" stage 3:"),
+        _ => push_late_stage(text, stage),
+    }
+}
+
 /// Appends when an operation is issued in iteration 0, and by which of its alternatives.
 fn push_placed(text: &mut Vec<u8>, solution: &Solution, op: usize) -> Result<(), OutOfMemory>
     requires { op < length solution.now.problem.scheduling.operations }
     ensures ok { OnOk result (text.new.items ≡ text.old.items ++ placed_text solution.now op) }
 {
-    push_parts(
-        text,
-        solution.problem().draft(),
-        &[
-            Part::Piece("op "),
-            Part::Operation(op),
-            Part::Told(" time ", solution.time(op)),
-            Part::Told(" by ", solution.alternative(op) as u64),
-        ],
-    )
+    let draft = solution.problem().draft();
+    text.push_piece("op ")?;
+    push_name(text, draft.names.operations.as_slice(), op)?;
+    push_told(text, " time ", solution.time(op))?;
+    push_choice(text, solution.alternative(op))
 }
 
 /// Appends a blank, then a unit that an operation holds, and how many cycles after its issue.
 fn push_hold(text: &mut Vec<u8>, draft: &Draft, row: Row) -> Result<(), OutOfMemory>
     ensures ok { OnOk result (text.new.items ≡ text.old.items ++ hold_text draft.now row) }
 {
-    push_parts(
-        text,
-        draft,
-        &[Part::Piece(" "), Part::Unit(usize::from(row.unit))],
-    )?;
+    text.push_piece(" ")?;
+    push_name(text, draft.names.units.as_slice(), usize::from(row.unit))?;
     if row.offset == 0 {
         return Ok(());
     }
@@ -62,17 +89,9 @@ fn push_slot(text: &mut Vec<u8>, solution: &Solution, op: usize) -> Result<(), O
     requires { op < length solution.now.problem.scheduling.operations }
     ensures ok { OnOk result (text.new.items ≡ text.old.items ++ slot_text solution.now op) }
 {
-    let draft = solution.problem().draft();
-    push_parts(
-        text,
-        draft,
-        &[
-            Part::Told(" # row ", solution.time(op) % solution.ii()),
-            Part::Told(" stage ", stage_of(solution, op)),
-            Part::Piece(":"),
-        ],
-    )?;
-    push_holds(text, draft, held_rows(solution, op))
+    push_told(text, " # row ", solution.time(op) % solution.ii())?;
+    push_stage(text, stage_of(solution, op))?;
+    push_holds(text, solution.problem().draft(), held_rows(solution, op))
 }
 
 /// Appends the line of an operation.

@@ -1,7 +1,9 @@
 //! Which registers an operation reads and writes.
 
 ghost use Rattle.std.specs.Prelude.{◌≡◌, ◌++◌, ◌==◌, ◌<◌, ◌≤◌, codes, length, take, if◌then◌else◌, OnOk};
-ghost use Rattle.machine_data.specs.declared.limits.TheConstants.{MAX_DISTANCE};
+ghost use Rattle.machine_data.specs.declared.limits.TheConstants.{MAX_DISTANCE, MAX_STAGES};
+ghost use Rattle.modulo.specs.Schedules.{stage_of};
+ghost use Rattle.solutions.specs.Solutions.{schedule_of};
 ghost use Rattle.solution_text.specs.Operations.{headed, reads_text, uses_text, writes_head, writes_text};
 ghost use Rattle.solution_text.specs.Registers.{source_of, spaced_register};
 ghost use Rattle.solution_text.specs.inner.Chains.{AreChained, AreUses, makers_of, readers_of};
@@ -14,21 +16,20 @@ use registers::Read;
 use solutions::Solution;
 use writing::Text;
 
-/// Appends the register that a read of an operation finds its value in.
+/// Appends the register that a read of an operation of this stage finds its value in.
 fn push_source(
     text: &mut Vec<u8>,
     solution: &Solution,
-    op: usize,
+    stage: u64,
     read: Read,
 ) -> Result<(), OutOfMemory>
-    requires there { op < length solution.now.problem.scheduling.operations }
-    requires reader { read.reader ≡ op }
+    requires stage { stage ≡ stage_of (schedule_of solution.now) read.reader }
+    requires few { stage < MAX_STAGES }
     requires value { read.value < length solution.now.problem.draft.values.items }
     requires distance { read.distance ≤ MAX_DISTANCE }
     ensures ok { OnOk result (text.new.items ≡ text.old.items ++ spaced_register solution.now.problem.draft (source_of solution.now read)) }
 {
-    let above = read.distance + stage_of(solution, op);
-    let register = register_after(solution, read.value, above);
+    let register = register_after(solution, read.value, read.distance + stage);
     push_spaced(text, solution.problem().draft(), register)
 }
 
@@ -45,9 +46,10 @@ fn push_read_registers(
     ensures ok { OnOk result (text.new.items ≡ text.old.items ++ reads_text solution.now op) }
 {
     let reads = solution.problem().draft().reads.as_slice();
+    let stage = stage_of(solution, op);
     let mut at = of_readers.first(op);
     while at < reads.len() {
-        push_source(text, solution, op, reads[at])?;
+        push_source(text, solution, stage, reads[at])?;
         at = of_readers.next(at);
     }
     Ok(())

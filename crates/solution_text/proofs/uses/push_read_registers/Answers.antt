@@ -1,5 +1,7 @@
 use Rattle.std.proofs.Common.{◌≡◌, ℕ, ◌+◌, ◌<◌, ◌≤◌, List, ap, sym, ◌∙◌, arith, length, slice_index, subst}
 use Rattle.std.proofs.lemmas.List.{get_or-map, length-map}
+use Rattle.modulo.specs.Schedules.{stage_of}
+use Rattle.solutions.specs.Solutions.{schedule_of}
 use Rattle.problems.specs.declared.draft.Draft.{Draft}
 use Rattle.problems.specs.Problems.{ProblemData}
 use Rattle.registers.specs.declared.value.Read.{Read}
@@ -29,11 +31,12 @@ loop-at-init c =
       pushed = reads-begin s c.args.op c.first-at.result reads c.args.text.now.items first;
     }
 
-pub push_source-requires-clause-reader : goal.push_source-requires-clause-reader
-push_source-requires-clause-reader c =
+pub push_source-requires-clause-stage : goal.push_source-requires-clause-stage
+push_source-requires-clause-stage c =
     let reads = c.as_slice-reads.result.now in
     let lt : c.loop-at.at < length reads = c.loop-at-test.true in
-    sym (get_or-map (λ (r : Read). r.reader) reads c.loop-at.at no_read 0 lt) ∙ c.loop-at.invariant.own lt
+    c.stage_of-stage.ensures.value ∙ ap (λ op. stage_of (schedule_of c.args.solution.now) op)
+    (sym (c.loop-at.invariant.own lt) ∙ get_or-map (λ (r : Read). r.reader) reads c.loop-at.at no_read 0 lt)
 
 pub next-at-requires : goal.next-at-requires
 next-at-requires c =
