@@ -4,12 +4,12 @@ ghost use Rattle.rotating.specs.Allotments.{Suits};
 
 use figures::{Figures, figures_of};
 use ims::{Prepared, Schedule};
-use kernel::kernel_text;
-use loops::read_loops;
-use machine::read_machine;
+use kernel::{Kernel, kernel_text};
+use loops::{Loop, read_loops};
+use machine::{Machine, read_machine};
 use rotating::{Allotment, emit, last_landing, least_registers};
 use std::alloc::Global;
-use std::test::Fail;
+use std::process::Abort;
 use worked_texts::{ACC, M1};
 
 /// Units for everything.
@@ -34,182 +34,212 @@ const MOVED: &str =
 
 const KEPT: &str = "loop kept\ninit x@1 = 0\nx = mov 1\ny = add 2 0\nout x\nend\n";
 
-/// A loop on a machine, with a schedule: an interval, each operation's time and alternative, and the number of each value's register.
+/// How long an iteration takes, the slack of each operation, and how many registers the values need.
+#[derive(Clone, Copy)]
+struct Wanted {
+    cycles: u64,
+    slacks: &'static [u64],
+    need: u64,
+}
+
+/// The time and alternative of each operation.
+type Places = &'static [(u64, usize)];
+
+/// A loop on a machine, with a schedule: an interval and places, its figures where they were worked out, and the number of each value's register.
 #[derive(Clone, Copy)]
 struct Case {
+    name: &'static str,
     machine: &'static str,
     text: &'static str,
     ii: u16,
-    places: &'static [(u64, usize)],
+    places: Places,
+    figures: Option<Wanted>,
     registers: u8,
     numbers: &'static [usize],
     /// The text of the kernel, or nothing where the numbers are not lawful.
     wanted: &'static str,
 }
 
-/// The loop of a case.
-fn prepared(alloc: Global, case: &Case) -> Result<Prepared, Fail> {
-    let machine = read_machine(alloc, case.machine.as_bytes())?;
-    let mut loops = read_loops(alloc, case.text.as_bytes())?;
-    let innermost = loops.pop().ok_or("no loop")?;
-    Ok(Prepared::new(alloc, &machine, innermost, 6, 32)?)
+/// The last loop of a text.
+pub(super) fn loop_of(rt: &impl Abort, alloc: Global, text: &str) -> Loop {
+    let mut loops = read_loops(alloc, text.as_bytes()).expect(rt, "a text of loops");
+    loops.pop().expect(rt, "a loop")
 }
 
-/// The text of the kernel of an allotment.
-fn text_of(alloc: Global, schedule: &Schedule, allotment: &Allotment) -> Result<String, Fail>
+/// The loop of a text, prepared for a machine.
+fn prepared_for(rt: &impl Abort, alloc: Global, machine: &Machine, text: &str) -> Prepared {
+    let innermost = loop_of(rt, alloc, text);
+    Prepared::new(alloc, machine, innermost, 6, 32).expect(rt, "a machine with all opcodes")
+}
+
+/// The loop of a case.
+fn prepared(rt: &impl Abort, alloc: Global, case: &Case) -> Prepared {
+    let machine = read_machine(alloc, case.machine.as_bytes()).expect(rt, "a machine");
+    prepared_for(rt, alloc, &machine, case.text)
+}
+
+/// The schedule of a case.
+fn scheduled<'a>(
+    rt: &impl Abort,
+    alloc: Global,
+    prepared: &'a Prepared,
+    case: &Case,
+) -> Schedule<'a> {
+    let ii = u64::from(case.ii).clamp(1, 16384);
+    let found = Schedule::check(alloc, prepared, ii, case.places).expect(rt, "memory");
+    found.expect(rt, "a schedule")
+}
+
+/// A kernel has this text.
+pub(super) fn is_text(rt: &impl Abort, alloc: Global, kernel: &Kernel, wanted: &str) -> bool {
+    let text = kernel_text(alloc, kernel).expect(rt, "memory");
+    text.as_str() == wanted
+}
+
+/// The kernel of an allotment has this text.
+fn has_text(
+    rt: &impl Abort,
+    alloc: Global,
+    schedule: &Schedule,
+    allotment: &Allotment,
+    wanted: &str,
+) -> bool
     requires { Suits schedule.now allotment.now }
 {
-    let kernel = emit(alloc, schedule.prepared().innermost(), schedule, allotment)?;
-    Ok(kernel_text(alloc, &kernel)?)
+    let innermost = schedule.prepared().innermost();
+    let kernel = emit(alloc, innermost, schedule, allotment).expect(rt, "memory");
+    is_text(rt, alloc, &kernel, wanted)
 }
 
-/// The text of the kernel of the numbers of a case, or an empty one where they are not lawful.
-fn numbered(alloc: Global, schedule: &Schedule, case: &Case) -> Result<String, Fail> {
-    let numbers = Vec::from_slice(alloc, case.numbers)?;
+/// The numbers of a case.
+fn numbers_of(rt: &impl Abort, alloc: Global, case: &Case) -> Vec<usize> {
+    Vec::from_slice(alloc, case.numbers).expect(rt, "memory")
+}
+
+/// The numbers of a case come to what is wanted for its schedule.
+fn is_numbered(rt: &impl Abort, alloc: Global, schedule: &Schedule, case: &Case) -> bool {
     let registers = u64::from(case.registers).max(1);
-    let Ok(allotment) = Allotment::check(schedule, registers, numbers) else {
-        return Ok(String::new(alloc));
-    };
-    text_of(alloc, schedule, &allotment)
+    match Allotment::check(schedule, registers, numbers_of(rt, alloc, case)) {
+        Ok(allotment) => has_text(rt, alloc, schedule, &allotment, case.wanted),
+        Err(_numbers) => case.wanted.is_empty(),
+    }
 }
 
-/// The same for a case.
-fn found(alloc: Global, case: &Case) -> Result<String, Fail> {
-    let prepared = prepared(alloc, case)?;
-    let ii = u64::from(case.ii).clamp(1, 16384);
-    let schedule = Schedule::check(alloc, &prepared, ii, case.places)?.ok_or("no schedule")?;
-    numbered(alloc, &schedule, case)
+/// These figures are wanted.
+fn are_wanted(figures: &Figures, wanted: &Wanted) -> bool {
+    figures.cycles == wanted.cycles
+        && figures.slacks.as_slice() == wanted.slacks
+        && figures.need == Some(wanted.need)
+}
+
+/// A schedule has the figures that are wanted, all together.
+fn has_figures(rt: &impl Abort, alloc: Global, schedule: &Schedule, wanted: &Wanted) -> bool {
+    let figures = figures_of(alloc, schedule).expect(rt, "memory");
+    are_wanted(&figures, wanted)
+}
+
+/// It has those that have calls of their own.
+fn has_each(rt: &impl Abort, alloc: Global, schedule: &Schedule, wanted: &Wanted) -> bool {
+    let need = least_registers(alloc, schedule).expect(rt, "memory");
+    last_landing(schedule) == wanted.cycles && need == Some(wanted.need)
+}
+
+/// A schedule comes to what is wanted of a case.
+fn comes_to(rt: &impl Abort, alloc: Global, schedule: &Schedule, case: &Case) -> bool {
+    let is_figured = match &case.figures {
+        Some(wanted) => {
+            has_figures(rt, alloc, schedule, wanted) && has_each(rt, alloc, schedule, wanted)
+        }
+        None => true,
+    };
+    is_figured && is_numbered(rt, alloc, schedule, case)
+}
+
+/// A case comes to what is wanted.
+fn is_met(rt: &impl Abort, alloc: Global, case: &Case) -> bool {
+    let prepared = prepared(rt, alloc, case);
+    let schedule = scheduled(rt, alloc, &prepared, case);
+    comes_to(rt, alloc, &schedule, case)
 }
 
 /// The running sum at the interval 2.
 const SUMMING: Case = Case {
+    name: "the running sum",
     machine: M1,
     text: ACC,
     ii: 2,
     places: &[(0, 0), (3, 0), (5, 0)],
+    figures: Some(Wanted {
+        cycles: 6,
+        slacks: &[0, 1, 0],
+        need: 3,
+    }),
     registers: 8,
     numbers: &[0, 1],
     wanted: "pre r2 0\n0: load r0 a[k+0] ?0\n1: add r2 r3 r1 ?1 | store b[k-2] r3 ?2\n",
 };
 
-/// Others: numbers that are not the least ones, both values in one register, and a store that is issued two cycles later. Then numbers
-/// that would be lawful if no initial value lived from the first cycle on, and if no live value stayed until the last landing.
-const OTHERS: [Case; 5] = [
+/// The sum; numbers that are not the least ones, both values in one register, and a store that is issued two cycles later, which the sum can wait for three cycles, and which keeps one
+/// value more alive. Then numbers that would be lawful if no initial value lived from the first cycle on, and if no live value stayed until the last landing; of the last schedule's two
+/// operations nothing waits but the end of the iteration.
+const CASES: &[Case] = &[
+    SUMMING,
     Case {
+        name: "other numbers",
         numbers: &[2, 3],
         wanted: "pre r4 0\n0: load r2 a[k+0] ?0\n1: add r4 r5 r3 ?1 | store b[k-2] r5 ?2\n",
         ..SUMMING
     },
     Case {
+        name: "one register",
         numbers: &[0, 0],
         wanted: "",
         ..SUMMING
     },
     Case {
+        name: "a later store",
         places: &[(0, 0), (3, 0), (7, 0)],
+        figures: Some(Wanted {
+            cycles: 8,
+            slacks: &[0, 3, 0],
+            need: 4,
+        }),
         wanted: "pre r2 0\n0: load r0 a[k+0] ?0\n1: add r2 r3 r1 ?1 | store b[k-3] r4 ?3\n",
         ..SUMMING
     },
     Case {
+        name: "an initial value",
         machine: APART,
         text: MOVED,
+        figures: None,
         numbers: &[1, 0],
         wanted: "",
         ..SUMMING
     },
     Case {
+        name: "a live value",
         machine: SLOW,
         text: KEPT,
         ii: 1,
         places: &[(0, 0), (0, 0)],
+        figures: Some(Wanted {
+            cycles: 3,
+            slacks: &[2, 0],
+            need: 4,
+        }),
         registers: 2,
         numbers: &[0, 1],
         wanted: "",
     },
 ];
 
-#[test]
-fn numbers_that_are_given(rt: HostRuntime) -> Result<(), Fail> {
-    let least = found(rt.alloc(), &SUMMING)?;
-    assert_eq!(rt; least.as_str(), SUMMING.wanted);
-    for case in &OTHERS {
-        let text = found(rt.alloc(), case)?;
-        assert_eq!(rt; text.as_str(), case.wanted, "{:?}", case.numbers);
-    }
-    Ok(())
-}
-
-/// The figures of a case: how long an iteration takes, the slack of each operation, and how many registers its values need.
-struct Wanted {
-    case: Case,
-    cycles: u64,
-    slacks: &'static [u64],
-    need: u64,
-}
-
-/// The running sum; with its store two cycles later, which the sum can wait for three cycles, and which keeps one value more alive; and two
-/// operations that nothing waits for but the end of the iteration.
-const FIGURED: [Wanted; 3] = [
-    Wanted {
-        case: SUMMING,
-        cycles: 6,
-        slacks: &[0, 1, 0],
-        need: 3,
-    },
-    Wanted {
-        case: Case {
-            places: &[(0, 0), (3, 0), (7, 0)],
-            ..SUMMING
-        },
-        cycles: 8,
-        slacks: &[0, 3, 0],
-        need: 4,
-    },
-    Wanted {
-        case: Case {
-            machine: SLOW,
-            text: KEPT,
-            ii: 1,
-            places: &[(0, 0), (0, 0)],
-            ..SUMMING
-        },
-        cycles: 3,
-        slacks: &[2, 0],
-        need: 4,
-    },
-];
-
-/// The figures of the schedule of a case.
-fn figured(alloc: Global, case: &Case) -> Result<Figures, Fail> {
-    let prepared = prepared(alloc, case)?;
-    let ii = u64::from(case.ii).clamp(1, 16384);
-    let schedule = Schedule::check(alloc, &prepared, ii, case.places)?.ok_or("no schedule")?;
-    Ok(figures_of(alloc, &schedule)?)
-}
-
-/// How long an iteration of it takes, and how many registers its values need.
-fn measured(alloc: Global, case: &Case) -> Result<(u64, Option<u64>), Fail> {
-    let prepared = prepared(alloc, case)?;
-    let ii = u64::from(case.ii).clamp(1, 16384);
-    let schedule = Schedule::check(alloc, &prepared, ii, case.places)?.ok_or("no schedule")?;
-    Ok((last_landing(&schedule), least_registers(alloc, &schedule)?))
-}
-
-/// Whether the slacks are those that are wanted.
-fn has_slacks(figures: &Figures, wanted: &Wanted) -> bool {
-    figures.slacks.as_slice() == wanted.slacks
+fn cases() -> &'static [Case] {
+    CASES
 }
 
 #[test]
-fn figures_of_schedules(rt: HostRuntime) -> Result<(), Fail> {
-    for wanted in &FIGURED {
-        let figures = figured(rt.alloc(), &wanted.case)?;
-        assert_eq!(rt; figures.cycles, wanted.cycles, "{}", wanted.case.text);
-        assert!(rt; has_slacks(&figures, wanted), "{}", wanted.case.text);
-        assert_eq!(rt; figures.need, Some(wanted.need), "{}", wanted.case.text);
-        let (cycles, need) = measured(rt.alloc(), &wanted.case)?;
-        assert_eq!(rt; cycles, wanted.cycles, "{}", wanted.case.text);
-        assert_eq!(rt; need, Some(wanted.need), "{}", wanted.case.text);
+fn schedules_that_are_given(rt: HostRuntime) {
+    for case in cases() {
+        assert!(rt; is_met(&rt, rt.alloc(), case), "{}", case.name);
     }
-    Ok(())
 }

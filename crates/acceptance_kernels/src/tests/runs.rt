@@ -1,270 +1,457 @@
 //! What kernels leave, by values that were worked by hand from what a kernel means.
 
-use super::briefs::{BARE, Brief, BriefOperation, compute, kernel_of, lasting, load, store};
+use super::briefs::{BARE, Brief, BriefOperation, kernel_of};
+use super::numbers::loop_of;
 use kernel::Source::{Constant, Register};
-use kernel::simulate;
-use loops::{Memory, RunFault, opening, read_loops};
+use kernel::{Address, Kernel, Preload, simulate};
+use loops::{Memory, RunFault, opening};
 use machine::Opcode;
 use std::alloc::Global;
 use std::process::Abort;
-use std::test::Fail;
 use worked_texts::SUM;
 
-/// The memory before the first iteration of the loop of this text.
-fn opened(alloc: Global, text: &str, trip: u64) -> Result<Memory, Fail> {
-    let loops = read_loops(alloc, text.as_bytes())?;
-    let first = loops.first().ok_or("no loop")?;
-    Ok(opening(alloc, first, trip)?)
-}
-
-/// What a kernel leaves of that memory.
-fn ran(
-    alloc: Global,
-    brief: &Brief,
-    table: &[BriefOperation],
-    text: &str,
-    trip: u64,
-) -> Result<Memory, Fail> {
-    let kernel = kernel_of(alloc, brief, table)?;
-    let memory = opened(alloc, text, trip)?;
-    Ok(simulate(alloc, &kernel, trip, &memory)?)
-}
-
-/// An array's cells from cell 0 on are these, and the one before them is 0.
-fn holds(rt: &impl Abort, memory: &Memory, array: usize, cells: &[i64]) {
-    assert!(rt; array < memory.array_count());
-    let row = memory.cells(array);
-    assert_eq!(rt; row.get(63), Some(&0));
-    assert_eq!(rt; row.get(64..64 + cells.len().min(64)), Some(cells));
-}
-
-/// A kernel leaves these cells in the last array of the loop of this text.
-fn leaves(
-    rt: &impl Abort,
-    alloc: Global,
-    brief: &Brief,
-    table: &[BriefOperation],
-    text: &str,
-    trip: u64,
-    cells: &[i64],
-) -> Result<(), Fail> {
-    let after = ran(alloc, brief, table, text, trip)?;
-    let count = after.array_count();
-    assert!(rt; count > 0);
-    holds(rt, &after, count - 1, cells);
-    Ok(())
-}
-
-/// A kernel of one stage in which two loads share a register.
+/// A kernel of one stage in which two loads share a register. The second lands in the register of the first before the addition reads it.
 pub(super) const SHARING: Brief = Brief {
     ii: 4,
     registers: 4,
     arrays: &["a", "c", "b"],
+    operations: &[
+        (
+            (0, 0, 1, 0),
+            Opcode::Load,
+            Some(0),
+            &[],
+            Some(Address {
+                array: 0,
+                offset: 0,
+            }),
+        ),
+        SHARED_LOAD,
+        SHARED_SUM,
+        SHARED_STORE,
+    ],
     ..BARE
 };
 
-/// Its operations, with this offset in the first load.
-pub(super) fn sharing(offset: i16) -> [BriefOperation; 4] {
-    [
-        load(0, 0, 0, 0, offset),
-        load(1, 0, 0, 1, 0),
-        compute(2, 0, Opcode::Add, 1, &[Register(0), Register(0)]),
-        store(3, 0, 2, 0, &[Register(1)]),
-    ]
-}
+pub(super) const SHARED_LOAD: BriefOperation = (
+    (1, 0, 1, 0),
+    Opcode::Load,
+    Some(0),
+    &[],
+    Some(Address {
+        array: 1,
+        offset: 0,
+    }),
+);
 
-// The second load lands in the register of the first before the addition reads it.
-#[test]
-fn runs_a_shared_register(rt: HostRuntime) -> Result<(), Fail> {
-    let after = ran(rt.alloc(), &SHARING, &sharing(0), SUM, 2)?;
-    assert_eq!(rt; after.trip(), 2);
-    holds(&rt, &after, 0, &[1, 2, 0]);
-    holds(&rt, &after, 1, &[10, 20, 0]);
-    holds(&rt, &after, 2, &[20, 40, 0]);
-    Ok(())
-}
+pub(super) const SHARED_SUM: BriefOperation = (
+    (2, 0, 1, 0),
+    Opcode::Add,
+    Some(1),
+    &[Register(0), Register(0)],
+    None,
+);
+
+pub(super) const SHARED_STORE: BriefOperation = (
+    (3, 0, 1, 0),
+    Opcode::Store,
+    None,
+    &[Register(1)],
+    Some(Address {
+        array: 2,
+        offset: 0,
+    }),
+);
 
 const CELLS: &str = "loop cells\narray b = 9 9\nstore b[i] 0\nend\n";
 
-/// A kernel of one stage with one register and one array, at the interval 1.
-const STORING: Brief = Brief {
+/// The first cell of the first array, in each iteration.
+const CELL: Option<Address> = Some(Address {
+    array: 0,
+    offset: 0,
+});
+
+/// A kernel of one stage with one register and one array, at the interval 1. Its stores of three iterations are issued in the cycles 0, 1 and 2, the run's last, and land at 64, 65 and 66.
+const LATE: Brief = Brief {
     arrays: &["b"],
+    operations: &[((0, 0, 64, 0), Opcode::Store, None, &[Constant(5)], CELL)],
     ..BARE
 };
 
-/// The same at the interval 2.
-const STORING_BY_2: Brief = Brief { ii: 2, ..STORING };
+/// Both stores land at the start of cycle 2, the first issued in cycle 0 and the second in cycle 1.
+const LATER_ISSUE: Brief = Brief {
+    ii: 2,
+    arrays: &["b"],
+    operations: &[
+        ((0, 0, 2, 0), Opcode::Store, None, &[Constant(1)], CELL),
+        ((1, 0, 1, 0), Opcode::Store, None, &[Constant(2)], CELL),
+    ],
+    ..BARE
+};
 
-// The stores are issued in the cycles 0, 1 and 2, the run's last, and land at 64, 65 and 66.
-#[test]
-fn lands_after_the_end(rt: HostRuntime) -> Result<(), Fail> {
-    let late = [lasting(store(0, 0, 0, 0, &[Constant(5)]), 64)];
-    leaves(&rt, rt.alloc(), &STORING, &late, CELLS, 3, &[5, 5, 5, 0])?;
-    leaves(&rt, rt.alloc(), &STORING, &late, CELLS, 0, &[9, 9, 0])
-}
-
-// Both land at the start of cycle 2, the first issued in cycle 0 and the second in cycle 1.
-#[test]
-fn lands_the_later_issue_last(rt: HostRuntime) -> Result<(), Fail> {
-    let stores = [
-        lasting(store(0, 0, 0, 0, &[Constant(1)]), 2),
-        store(1, 0, 0, 0, &[Constant(2)]),
-    ];
-    leaves(
-        &rt,
-        rt.alloc(),
-        &STORING_BY_2,
-        &stores,
-        CELLS,
-        1,
-        &[2, 9, 0],
-    )?;
-    leaves(
-        &rt,
-        rt.alloc(),
-        &STORING_BY_2,
-        &stores,
-        CELLS,
-        0,
-        &[9, 9, 0],
-    )
-}
-
-// Both are issued in cycle 0 and land at the start of cycle 1.
-#[test]
-fn lands_the_higher_number_last(rt: HostRuntime) -> Result<(), Fail> {
-    let stores = [
-        store(0, 0, 0, 0, &[Constant(1)]),
-        store(0, 0, 0, 0, &[Constant(2)]),
-    ];
-    leaves(&rt, rt.alloc(), &STORING, &stores, CELLS, 1, &[2, 9, 0])?;
-    leaves(&rt, rt.alloc(), &STORING, &stores, CELLS, 0, &[9, 9, 0])
-}
+/// Both stores are issued in cycle 0 and land at the start of cycle 1.
+const HIGHER_NUMBER: Brief = Brief {
+    arrays: &["b"],
+    operations: &[
+        ((0, 0, 1, 0), Opcode::Store, None, &[Constant(1)], CELL),
+        ((0, 0, 1, 0), Opcode::Store, None, &[Constant(2)], CELL),
+    ],
+    ..BARE
+};
 
 const GUARD: &str =
     "loop guard\narray a = 0 3\narray b = 9 9\nx = load a[i]\nstore b[i] 7 if x\nend\n";
 
 /// A load, and a turn later a store that it guards. What is loaded in turn `k` under name 0 has name 1 in
 /// turn `k + 1`, where iteration `k` is in stage 1.
+///
+/// Iteration 0 loads 0, and so stores nothing; iteration 1 loads 3, and so stores 7. The preload would let a
+/// store of turn 0 write cell -1, but stage 1 isn't active then.
 const GUARDED: Brief = Brief {
     stages: 2,
     registers: 2,
     arrays: &["a", "b"],
-    preloads: &[(1, 1)],
+    operations: &[
+        ((0, 0, 1, 0), Opcode::Load, Some(0), &[], CELL),
+        (
+            (0, 1, 1, 0),
+            Opcode::Store,
+            None,
+            &[Constant(7), Register(1)],
+            Some(Address {
+                array: 1,
+                offset: -1,
+            }),
+        ),
+    ],
+    preloads: &[Preload {
+        register: 1,
+        value: 1,
+    }],
     ..BARE
 };
 
-// Iteration 0 loads 0, and so stores nothing; iteration 1 loads 3, and so stores 7. The preload would let a
-// store of turn 0 write cell -1, but stage 1 isn't active then.
-#[test]
-fn stores_where_the_guard_is_not_zero(rt: HostRuntime) -> Result<(), Fail> {
-    let table = [
-        load(0, 0, 0, 0, 0),
-        store(0, 1, 1, -1, &[Constant(7), Register(1)]),
-    ];
-    leaves(&rt, rt.alloc(), &GUARDED, &table, GUARD, 0, &[9, 9, 0])?;
-    leaves(&rt, rt.alloc(), &GUARDED, &table, GUARD, 1, &[9, 9, 0])?;
-    leaves(&rt, rt.alloc(), &GUARDED, &table, GUARD, 2, &[9, 7, 0])
-}
-
 const COUNT: &str = "loop count\ninit x@1 = 10\nx = add x@1 1\nout x\nend\n";
 
-/// A kernel that counts.
+/// A kernel that counts: it adds 1 to the value of the turn before, which then was name 0 and now is name 1.
+///
+/// With one stage the last of no turns would be turn -1, where name 0 is physical register 1, the preload. In
+/// turn 0 name 0 is physical register 0 and in turn 1 it is physical register 1.
 const COUNTING: Brief = Brief {
     registers: 2,
-    preloads: &[(1, 10)],
+    operations: &[(
+        (0, 0, 1, 0),
+        Opcode::Add,
+        Some(0),
+        &[Register(1), Constant(1)],
+        None,
+    )],
+    preloads: &[Preload {
+        register: 1,
+        value: 10,
+    }],
     outs: &[("x", 0)],
     ..BARE
 };
 
-/// Adds 1 to the value of the turn before, which then was name 0 and now is name 1.
-fn counting() -> [BriefOperation; 1] {
-    [compute(0, 0, Opcode::Add, 0, &[Register(1), Constant(1)])]
-}
-
-/// The value that is live at the end of a run.
-fn given(rt: &impl Abort, memory: &Memory) -> i64 {
-    assert!(rt; memory.out_count() == 1);
-    memory.out(0)
-}
-
-// With one stage the last of no turns would be turn -1, where name 0 is physical register 1, the preload. In
-// turn 0 name 0 is physical register 0 and in turn 1 it is physical register 1.
-#[test]
-fn gives_the_value_of_the_last_turn(rt: HostRuntime) -> Result<(), Fail> {
-    for (trip, value) in [(0, 10), (1, 11), (2, 12)] {
-        let after = ran(rt.alloc(), &COUNTING, &counting(), COUNT, trip)?;
-        assert_eq!(rt; given(&rt, &after), value);
-    }
-    Ok(())
-}
-
-/// Why the counting kernel does not run for `trip` iterations on the memory that this loop has for one.
-fn fault(alloc: Global, text: &str, trip: u64) -> Result<Option<RunFault>, Fail> {
-    let kernel = kernel_of(alloc, &COUNTING, &counting())?;
-    let memory = opened(alloc, text, 1)?;
-    Ok(simulate(alloc, &kernel, trip, &memory).err())
-}
-
-const NO_OUT: &str = "loop none\ninit x@1 = 10\nx = add x@1 1\nend\n";
-
-const ONE_ARRAY: &str = "loop more\narray a =\ninit x@1 = 10\nx = add x@1 1\nout x\nend\n";
-
-// Too many iterations, another number of them, no live value, and an array too many.
-#[test]
-fn refuses_to_run(rt: HostRuntime) -> Result<(), Fail> {
-    for (text, trip, wanted) in [
-        (COUNT, 100_001, RunFault::Trip),
-        (COUNT, 2, RunFault::Shape),
-        (NO_OUT, 1, RunFault::Shape),
-        (ONE_ARRAY, 1, RunFault::Shape),
-    ] {
-        assert_eq!(rt; fault(rt.alloc(), text, trip)?, Some(wanted), "{text}");
-    }
-    Ok(())
-}
-
 /// The kernel of `y = mov 7; x = add x@1 1; store b[i] x`, with `x@1` 5, in which the first `y` has the register of that initial value.
+///
+/// `y` lands in cycle 1 in the register that the initial value of `x` leaves only in cycle 3: so the sums begin from 7. The loop's own
+/// are 6, 7 and 8.
 const MOVED: Brief = Brief {
     ii: 2,
     stages: 3,
     registers: 8,
     arrays: &["b"],
-    preloads: &[(1, 5)],
+    operations: &[
+        ((0, 0, 1, 0), Opcode::Mov, Some(1), &[Constant(7)], None),
+        (
+            (1, 1, 1, 0),
+            Opcode::Add,
+            Some(1),
+            &[Register(2), Constant(1)],
+            None,
+        ),
+        (
+            (1, 2, 1, 0),
+            Opcode::Store,
+            None,
+            &[Register(2)],
+            Some(Address {
+                array: 0,
+                offset: -2,
+            }),
+        ),
+    ],
+    preloads: &[Preload {
+        register: 1,
+        value: 5,
+    }],
     ..BARE
 };
 
-// `y` lands in cycle 1 in the register that the initial value of `x` leaves only in cycle 3: so the sums begin from 7. The loop's own
-// are 6, 7 and 8.
-#[test]
-fn initial_values_live_from_the_first_cycle(rt: HostRuntime) -> Result<(), Fail> {
-    let table = [
-        compute(0, 0, Opcode::Mov, 1, &[Constant(7)]),
-        compute(1, 1, Opcode::Add, 1, &[Register(2), Constant(1)]),
-        store(1, 2, 0, -2, &[Register(2)]),
-    ];
-    leaves(&rt, rt.alloc(), &MOVED, &table, CELLS, 3, &[8, 9, 10])
-}
-
 /// The kernel of `x = mov 1; y = add 2 0`, with `x@1` 0 and `x` live at the end, in which the first `y` has the register of the last `x`.
+///
+/// The additions land after the last turn, the first of them in the register of the last `x`. The loop leaves 1.
 const KEPT: Brief = Brief {
     registers: 2,
-    preloads: &[(1, 0)],
+    operations: &[
+        ((0, 0, 1, 0), Opcode::Mov, Some(0), &[Constant(1)], None),
+        (
+            (0, 0, 3, 0),
+            Opcode::Add,
+            Some(1),
+            &[Constant(2), Constant(0)],
+            None,
+        ),
+    ],
+    preloads: &[Preload {
+        register: 1,
+        value: 0,
+    }],
     outs: &[("x", 0)],
     ..BARE
 };
 
-// The additions land after the last turn, the first of them in the register of the last `x`. The loop leaves 1.
+/// The memory before the first iteration of the loop of this text.
+fn opened(rt: &impl Abort, alloc: Global, text: &str, trip: u64) -> Memory {
+    let innermost = loop_of(rt, alloc, text);
+    opening(alloc, &innermost, trip).expect(rt, "memory")
+}
+
+/// The cells of an array are these from cell 0 on, and the one before them is 0.
+fn has_cells(row: &[i64], cells: &[i64]) -> bool {
+    row.get(63) == Some(&0) && row.get(64..64 + cells.len().min(64)) == Some(cells)
+}
+
+/// A memory has arrays with these cells.
+fn has_arrays(memory: &Memory, arrays: &[&[i64]]) -> bool {
+    if memory.array_count() != arrays.len() {
+        return false;
+    }
+    for array in 0..arrays.len() {
+        if !has_cells(memory.cells(array), arrays[array]) {
+            return false;
+        }
+    }
+    true
+}
+
+/// A memory has this value that is live at the end, or none.
+fn has_out(memory: &Memory, out: Option<i64>) -> bool {
+    match out {
+        Some(value) => memory.out_count() == 1 && memory.out(0) == value,
+        None => memory.out_count() == 0,
+    }
+}
+
+/// What a run comes to: what it leaves in the arrays and in the value that is live at the end, or why there is none.
+type Left = Result<(&'static [&'static [i64]], Option<i64>), RunFault>;
+
+/// A run: what it shows, its kernel, the loop that opens its memory, for how many iterations it does and how many are run, and what that comes to.
+type Run = (&'static str, &'static Brief, &'static str, (u64, u64), Left);
+
+const RUNS: &[Run] = &[
+    (
+        "a shared register",
+        &SHARING,
+        SUM,
+        (2, 2),
+        Ok((&[&[1, 2, 0], &[10, 20, 0], &[20, 40, 0]], None)),
+    ),
+    (
+        "landing after the end",
+        &LATE,
+        CELLS,
+        (3, 3),
+        Ok((&[&[5, 5, 5, 0]], None)),
+    ),
+    (
+        "no landing",
+        &LATE,
+        CELLS,
+        (0, 0),
+        Ok((&[&[9, 9, 0]], None)),
+    ),
+    (
+        "the later issue lands last",
+        &LATER_ISSUE,
+        CELLS,
+        (1, 1),
+        Ok((&[&[2, 9, 0]], None)),
+    ),
+    (
+        "no issue",
+        &LATER_ISSUE,
+        CELLS,
+        (0, 0),
+        Ok((&[&[9, 9, 0]], None)),
+    ),
+    (
+        "the higher number lands last",
+        &HIGHER_NUMBER,
+        CELLS,
+        (1, 1),
+        Ok((&[&[2, 9, 0]], None)),
+    ),
+    (
+        "no number",
+        &HIGHER_NUMBER,
+        CELLS,
+        (0, 0),
+        Ok((&[&[9, 9, 0]], None)),
+    ),
+    (
+        "no guard",
+        &GUARDED,
+        GUARD,
+        (0, 0),
+        Ok((&[&[0, 3, 0], &[9, 9, 0]], None)),
+    ),
+    (
+        "a guard of 0",
+        &GUARDED,
+        GUARD,
+        (1, 1),
+        Ok((&[&[0, 3, 0], &[9, 9, 0]], None)),
+    ),
+    (
+        "a guard that is not 0",
+        &GUARDED,
+        GUARD,
+        (2, 2),
+        Ok((&[&[0, 3, 0], &[9, 7, 0]], None)),
+    ),
+    (
+        "the value of no turn",
+        &COUNTING,
+        COUNT,
+        (0, 0),
+        Ok((&[], Some(10))),
+    ),
+    (
+        "the value of a turn",
+        &COUNTING,
+        COUNT,
+        (1, 1),
+        Ok((&[], Some(11))),
+    ),
+    (
+        "the value of the last turn",
+        &COUNTING,
+        COUNT,
+        (2, 2),
+        Ok((&[], Some(12))),
+    ),
+    (
+        "initial values live from the first cycle",
+        &MOVED,
+        CELLS,
+        (3, 3),
+        Ok((&[&[8, 9, 10]], None)),
+    ),
+    (
+        "live values stay until the last landing",
+        &KEPT,
+        COUNT,
+        (2, 2),
+        Ok((&[], Some(2))),
+    ),
+];
+
+const NO_OUT: &str = "loop none\ninit x@1 = 10\nx = add x@1 1\nend\n";
+
+const ONE_ARRAY: &str = "loop more\narray a =\ninit x@1 = 10\nx = add x@1 1\nout x\nend\n";
+
+/// The counting kernel on the memory that a loop has for one iteration.
+const REFUSED: &[Run] = &[
+    (
+        "too many iterations",
+        &COUNTING,
+        COUNT,
+        (1, 100_001),
+        Err(RunFault::Trip),
+    ),
+    (
+        "another number of iterations",
+        &COUNTING,
+        COUNT,
+        (1, 2),
+        Err(RunFault::Shape),
+    ),
+    (
+        "no live value",
+        &COUNTING,
+        NO_OUT,
+        (1, 1),
+        Err(RunFault::Shape),
+    ),
+    (
+        "an array too many",
+        &COUNTING,
+        ONE_ARRAY,
+        (1, 1),
+        Err(RunFault::Shape),
+    ),
+];
+
+/// A run leaves what it has to.
+fn is_left(after: &Memory, run: &Run) -> bool {
+    match run.4 {
+        Ok((arrays, out)) => {
+            after.trip() == run.3.1 && has_arrays(after, arrays) && has_out(after, out)
+        }
+        Err(_) => false,
+    }
+}
+
+/// There is no run, for the reason that there has to be.
+fn is_refused(fault: RunFault, run: &Run) -> bool {
+    match run.4 {
+        Ok(_) => false,
+        Err(wanted) => fault == wanted,
+    }
+}
+
+/// A kernel on a memory comes to what it has to.
+fn comes_to(alloc: Global, kernel: &Kernel, memory: &Memory, run: &Run) -> bool {
+    match simulate(alloc, kernel, run.3.1, memory) {
+        Ok(after) => is_left(&after, run),
+        Err(fault) => is_refused(fault, run),
+    }
+}
+
+/// The kernel of a run comes to what it has to on a memory.
+fn runs_on(rt: &impl Abort, alloc: Global, memory: &Memory, run: &Run) -> bool {
+    let kernel = kernel_of(rt, alloc, run.1);
+    comes_to(alloc, &kernel, memory, run)
+}
+
+/// A run comes to what it has to.
+fn is_met(rt: &impl Abort, alloc: Global, run: &Run) -> bool {
+    let memory = opened(rt, alloc, run.2, run.3.0);
+    runs_on(rt, alloc, &memory, run)
+}
+
+// (A function that names a table repeats its value in each step of its proof.)
+fn runs_of_kernels() -> &'static [Run] {
+    RUNS
+}
+
+fn refused_runs() -> &'static [Run] {
+    REFUSED
+}
+
 #[test]
-fn live_values_stay_until_the_last_landing(rt: HostRuntime) -> Result<(), Fail> {
-    let table = [
-        compute(0, 0, Opcode::Mov, 0, &[Constant(1)]),
-        lasting(
-            compute(0, 0, Opcode::Add, 1, &[Constant(2), Constant(0)]),
-            3,
-        ),
-    ];
-    let after = ran(rt.alloc(), &KEPT, &table, COUNT, 2)?;
-    assert_eq!(rt; given(&rt, &after), 2);
-    Ok(())
+fn runs(rt: HostRuntime) {
+    for run in runs_of_kernels() {
+        assert!(rt; is_met(&rt, rt.alloc(), run), "{}", run.0);
+    }
+}
+
+#[test]
+fn refuses_to_run(rt: HostRuntime) {
+    for run in refused_runs() {
+        assert!(rt; is_met(&rt, rt.alloc(), run), "{}", run.0);
+    }
 }

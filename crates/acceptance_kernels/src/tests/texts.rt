@@ -1,36 +1,106 @@
 //! Kernels that are refused, and the very texts of kernels.
 
-use super::briefs::{BARE, Brief, BriefOperation, by, compute, kernel_of, load, parts_of, store};
-use super::runs::{SHARING, sharing};
+use super::briefs::{BARE, Brief, BriefOperation, kernel_of, parts_of};
+use super::numbers::is_text;
+use super::runs::{SHARED_LOAD, SHARED_STORE, SHARED_SUM, SHARING};
 use kernel::Source::{Constant, Parameter, Register};
-use kernel::{Kernel, Rule, kernel_text, text_room, write_kernel};
+use kernel::{Address, BadKernel, Kernel, Preload, Rule, text_room, write_kernel};
 use machine::Opcode;
 use std::alloc::Global;
 use std::process::Abort;
-use std::test::Fail;
 
-/// The rule that the kernel of these parts breaks, with this offset in its first load.
-fn broken(alloc: Global, brief: &Brief, offset: i16) -> Result<Option<Rule>, Fail> {
-    let parts = parts_of(alloc, brief, &sharing(offset))?;
-    Ok(Kernel::check(parts).err().map(|bad| bad.rule))
+/// A cell as far away as one can be.
+const FAR: Brief = Brief {
+    operations: &[
+        (
+            (0, 0, 1, 0),
+            Opcode::Load,
+            Some(0),
+            &[],
+            Some(Address {
+                array: 0,
+                offset: 64,
+            }),
+        ),
+        SHARED_LOAD,
+        SHARED_SUM,
+        SHARED_STORE,
+    ],
+    ..SHARING
+};
+
+/// A cell that is too far away.
+const TOO_FAR: Brief = Brief {
+    operations: &[
+        (
+            (0, 0, 1, 0),
+            Opcode::Load,
+            Some(0),
+            &[],
+            Some(Address {
+                array: 0,
+                offset: 65,
+            }),
+        ),
+        SHARED_LOAD,
+        SHARED_SUM,
+        SHARED_STORE,
+    ],
+    ..SHARING
+};
+
+const NO_STAGE: Brief = Brief {
+    stages: 0,
+    ..SHARING
+};
+
+/// Two initial values of one register.
+const TWICE: Brief = Brief {
+    preloads: &[
+        Preload {
+            register: 1,
+            value: 5,
+        },
+        Preload {
+            register: 1,
+            value: 6,
+        },
+    ],
+    ..SHARING
+};
+
+/// Parts, and the rule that they break, if any.
+type Broken = (&'static Brief, Option<Rule>);
+
+const CHECKED: &[Broken] = &[
+    (&FAR, None),
+    (&TOO_FAR, Some(Rule::Place)),
+    (&NO_STAGE, Some(Rule::Size)),
+    (&TWICE, Some(Rule::Preload)),
+];
+
+/// These parts break this rule, or none.
+fn breaks(rt: &impl Abort, alloc: Global, checked: &Broken) -> bool {
+    match Kernel::check(parts_of(rt, alloc, checked.0)) {
+        Ok(_kernel) => checked.1.is_none(),
+        Err(
+            BadKernel {
+                rule,
+                parts: _parts,
+            },
+        ) => checked.1 == Some(rule),
+    }
 }
 
-// No stage, a cell that is too far away, and two initial values of one register.
+fn all_checked() -> &'static [Broken] {
+    CHECKED
+}
+
 #[test]
-fn refuses_kernels(rt: HostRuntime) -> Result<(), Fail> {
-    let no_stage = Brief {
-        stages: 0,
-        ..SHARING
-    };
-    let twice = Brief {
-        preloads: &[(1, 5), (1, 6)],
-        ..SHARING
-    };
-    assert_eq!(rt; broken(rt.alloc(), &SHARING, 64)?, None);
-    assert_eq!(rt; broken(rt.alloc(), &SHARING, 65)?, Some(Rule::Place));
-    assert_eq!(rt; broken(rt.alloc(), &no_stage, 0)?, Some(Rule::Size));
-    assert_eq!(rt; broken(rt.alloc(), &twice, 0)?, Some(Rule::Preload));
-    Ok(())
+fn refuses_kernels(rt: HostRuntime) {
+    for checked in all_checked() {
+        assert!(rt; breaks(&rt, rt.alloc(), checked), "{:?}", checked.1);
+    }
 }
 
 /// A running sum: a load, an addition to the sum of the iteration before and a store.
@@ -39,28 +109,62 @@ const SUMMING: Brief = Brief {
     stages: 3,
     registers: 8,
     arrays: &["a", "b"],
-    preloads: &[(2, 0)],
+    operations: &[
+        (
+            (0, 0, 1, 0),
+            Opcode::Load,
+            Some(0),
+            &[],
+            Some(Address {
+                array: 0,
+                offset: 0,
+            }),
+        ),
+        (
+            (1, 1, 1, 0),
+            Opcode::Add,
+            Some(2),
+            &[Register(3), Register(1)],
+            None,
+        ),
+        (
+            (1, 2, 1, 0),
+            Opcode::Store,
+            None,
+            &[Register(3)],
+            Some(Address {
+                array: 1,
+                offset: -2,
+            }),
+        ),
+    ],
+    preloads: &[Preload {
+        register: 2,
+        value: 0,
+    }],
     ..BARE
 };
 
-/// Its operations.
-fn summing() -> [BriefOperation; 3] {
-    [
-        load(0, 0, 0, 0, 0),
-        compute(1, 1, Opcode::Add, 2, &[Register(3), Register(1)]),
-        store(1, 2, 1, -2, &[Register(3)]),
-    ]
+fn summing(rt: &impl Abort, alloc: Global) -> Kernel {
+    kernel_of(rt, alloc, &SUMMING)
 }
 
+/// A text with that of a kernel after it.
+fn appended(rt: &impl Abort, alloc: Global, before: &str, kernel: &Kernel) -> String {
+    let mut text = String::from_str(alloc, before).expect(rt, "memory");
+    write_kernel(&mut text, kernel).expect(rt, "memory");
+    text
+}
+
+/// The text of the running sum, with a line before it.
+const LINES: &str =
+    "acc\npre r2 0\n0: load r0 a[k+0] ?0\n1: add r2 r3 r1 ?1 | store b[k-2] r3 ?2\n";
+
 #[test]
-fn appends_a_text(rt: HostRuntime) -> Result<(), Fail> {
-    let kernel = kernel_of(rt.alloc(), &SUMMING, &summing())?;
-    let mut text = String::from_str(rt.alloc(), "acc\n")?;
-    write_kernel(&mut text, &kernel)?;
-    let lines = "acc\npre r2 0\n0: load r0 a[k+0] ?0\n1: add r2 r3 r1 ?1 | store b[k-2] r3 ?2\n";
-    assert_eq!(rt; text.as_str(), lines);
-    assert_eq!(rt; text_room(&kernel), 2 * 8 + 3 * 96 + 32);
-    Ok(())
+fn appends_a_text(rt: HostRuntime) {
+    let kernel = summing(&rt, rt.alloc());
+    assert!(rt; appended(&rt, rt.alloc(), "acc\n", &kernel).as_str() == LINES);
+    assert!(rt; text_room(&kernel) == 2 * 8 + 3 * 96 + 32);
 }
 
 /// A kernel with every opcode.
@@ -70,38 +174,124 @@ const EVERY: Brief = Brief {
     registers: 256,
     params: &["p", "limit"],
     arrays: &["abcdefghijklmnop", "b"],
-    preloads: &[(255, i64::MAX), (0, -1)],
+    operations: EVERY_OPCODE,
+    preloads: &[
+        Preload {
+            register: 255,
+            value: i64::MAX,
+        },
+        Preload {
+            register: 0,
+            value: -1,
+        },
+    ],
     outs: &[("x", 5), ("total_2", 0)],
 };
 
 /// Every opcode, in rows that go neither up nor down with the operations' numbers.
-fn every_opcode() -> [BriefOperation; 14] {
-    [
-        load(4, 0, 0, 0, 0),
-        by(
-            compute(1, 1, Opcode::Add, 1, &[Register(0), Parameter(0)]),
-            2,
-        ),
-        compute(1, 0, Opcode::Sub, 2, &[Constant(i64::MIN), Register(255)]),
-        compute(4, 2, Opcode::Mul, 3, &[Constant(7), Constant(-1)]),
-        compute(1, 0, Opcode::And, 4, &[Register(1), Register(2)]),
-        compute(0, 0, Opcode::Or, 5, &[Register(1), Register(2)]),
-        compute(0, 0, Opcode::Xor, 6, &[Register(1), Register(2)]),
-        compute(0, 0, Opcode::Min, 7, &[Register(1), Constant(0)]),
-        compute(0, 0, Opcode::Max, 8, &[Parameter(1), Register(2)]),
-        compute(0, 0, Opcode::Lt, 9, &[Register(1), Register(2)]),
-        compute(
-            0,
-            0,
-            Opcode::Sel,
-            10,
-            &[Register(9), Parameter(0), Constant(0)],
-        ),
-        compute(0, 0, Opcode::Mov, 255, &[Parameter(0)]),
-        store(4, 2, 1, -2, &[Register(1)]),
-        by(store(4, 0, 1, 3, &[Parameter(0), Register(9)]), 7),
-    ]
-}
+const EVERY_OPCODE: &[BriefOperation] = &[
+    (
+        (4, 0, 1, 0),
+        Opcode::Load,
+        Some(0),
+        &[],
+        Some(Address {
+            array: 0,
+            offset: 0,
+        }),
+    ),
+    (
+        (1, 1, 1, 2),
+        Opcode::Add,
+        Some(1),
+        &[Register(0), Parameter(0)],
+        None,
+    ),
+    (
+        (1, 0, 1, 0),
+        Opcode::Sub,
+        Some(2),
+        &[Constant(i64::MIN), Register(255)],
+        None,
+    ),
+    (
+        (4, 2, 1, 0),
+        Opcode::Mul,
+        Some(3),
+        &[Constant(7), Constant(-1)],
+        None,
+    ),
+    (
+        (1, 0, 1, 0),
+        Opcode::And,
+        Some(4),
+        &[Register(1), Register(2)],
+        None,
+    ),
+    (
+        (0, 0, 1, 0),
+        Opcode::Or,
+        Some(5),
+        &[Register(1), Register(2)],
+        None,
+    ),
+    (
+        (0, 0, 1, 0),
+        Opcode::Xor,
+        Some(6),
+        &[Register(1), Register(2)],
+        None,
+    ),
+    (
+        (0, 0, 1, 0),
+        Opcode::Min,
+        Some(7),
+        &[Register(1), Constant(0)],
+        None,
+    ),
+    (
+        (0, 0, 1, 0),
+        Opcode::Max,
+        Some(8),
+        &[Parameter(1), Register(2)],
+        None,
+    ),
+    (
+        (0, 0, 1, 0),
+        Opcode::Lt,
+        Some(9),
+        &[Register(1), Register(2)],
+        None,
+    ),
+    (
+        (0, 0, 1, 0),
+        Opcode::Sel,
+        Some(10),
+        &[Register(9), Parameter(0), Constant(0)],
+        None,
+    ),
+    ((0, 0, 1, 0), Opcode::Mov, Some(255), &[Parameter(0)], None),
+    (
+        (4, 2, 1, 0),
+        Opcode::Store,
+        None,
+        &[Register(1)],
+        Some(Address {
+            array: 1,
+            offset: -2,
+        }),
+    ),
+    (
+        (4, 0, 1, 7),
+        Opcode::Store,
+        None,
+        &[Parameter(0), Register(9)],
+        Some(Address {
+            array: 1,
+            offset: 3,
+        }),
+    ),
+];
 
 // Preloads and outs stand in the order of their lists, each on a line. Between them is a line for each of
 // the rows 0 to 4; the rows 2 and 3 have no operation, and so nothing after the colon. In a row the
@@ -117,10 +307,12 @@ const EVERY_TEXT: &str = "pre r255 9223372036854775807\n\
     out x r5\n\
     out total_2 r0\n";
 
+fn every(rt: &impl Abort, alloc: Global) -> Kernel {
+    kernel_of(rt, alloc, &EVERY)
+}
+
 #[test]
-fn writes_every_opcode(rt: HostRuntime) -> Result<(), Fail> {
-    let kernel = kernel_of(rt.alloc(), &EVERY, &every_opcode())?;
-    let text = kernel_text(rt.alloc(), &kernel)?;
-    assert_eq!(rt; text.as_str(), EVERY_TEXT);
-    Ok(())
+fn writes_every_opcode(rt: HostRuntime) {
+    let kernel = every(&rt, rt.alloc());
+    assert!(rt; is_text(&rt, rt.alloc(), &kernel, EVERY_TEXT));
 }
