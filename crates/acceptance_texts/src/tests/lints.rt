@@ -116,9 +116,14 @@ fn is_told(told: &LintText, row: &Row) -> bool {
         && told.loop_faults == row.4
 }
 
+// (The proof of a function repeats the tables that it names, so that the test names none.)
+fn rows() -> &'static [Row] {
+    ROWS
+}
+
 #[test]
 fn tells_each_fault(rt: HostRuntime) {
-    for row in ROWS {
+    for row in rows() {
         let told = printed(&rt, rt.alloc(), row.0, row.1);
         assert!(rt; is_told(&told, row), "{}", row.2);
     }

@@ -78,6 +78,18 @@ impl Print for Scripted {
     }
 }
 
+/// How many writes of the output of a system fail: 99 where a text counts as written although one failed, or as not written although none did.
+fn failed(system: &Scripted) -> u64 {
+    let mut output = StandardOutput::new(system);
+    let is_written = write_text(&mut output, TEXT).is_ok();
+    let faults = output.faults();
+    if is_written == (faults == 0) {
+        faults
+    } else {
+        99
+    }
+}
+
 /// What a script comes to: how many calls there are, how many bytes they take, and how many writes of the output fail.
 fn written(answers: &'static [Answer]) -> (usize, usize, u64) {
     let system = Scripted {
@@ -85,23 +97,18 @@ fn written(answers: &'static [Answer]) -> (usize, usize, u64) {
         calls: Cell::new(0),
         taken: Cell::new(0),
     };
-    let mut output = StandardOutput::new(&system);
-    let is_written = write_text(&mut output, TEXT).is_ok();
-    let faults = output.faults();
-    // (a text is written where no write failed)
-    let told = if is_written == (faults == 0) {
-        faults
-    } else {
-        99
-    };
-    (system.calls.get(), system.taken.get(), told)
+    let faults = failed(&system);
+    (system.calls.get(), system.taken.get(), faults)
 }
 
-/// Scripts by which all 16 bytes are taken, with the number of calls.
-const SHORT: &[(&[Answer], usize)] = &[
-    (&[Takes(16)], 1),
-    (&[Takes(3)], 6),
-    (&[Takes(1), Takes(5)], 6),
+/// A script, with how many calls there are, how many bytes they take, and how many writes of the output fail.
+type Script = (&'static [Answer], (usize, usize, u64));
+
+/// Scripts by which all 16 bytes are taken.
+const SHORT: &[Script] = &[
+    (&[Takes(16)], (1, 16, 0)),
+    (&[Takes(3)], (6, 16, 0)),
+    (&[Takes(1), Takes(5)], (6, 16, 0)),
     (
         &[
             IsInterrupted,
@@ -110,29 +117,43 @@ const SHORT: &[(&[Answer], usize)] = &[
             IsInterrupted,
             Takes(4),
         ],
-        12,
+        (12, 16, 0),
     ),
 ];
 
+/// Scripts with a write that fails. A write that is interrupted is tried 64 times.
+const FAILING: &[Script] = &[
+    (&[Fails], (1, 0, 1)),
+    (&[Takes(0)], (1, 0, 1)),
+    (&[IsInterrupted], (64, 0, 1)),
+    (&[Takes(3), Takes(3), Fails], (3, 6, 1)),
+    (&[Takes(9), IsInterrupted, Takes(0)], (3, 9, 1)),
+];
+
+// (The proof of a function repeats the tables that it names, so that the tests name none.)
+fn short_writes() -> &'static [Script] {
+    SHORT
+}
+
+fn failing_writes() -> &'static [Script] {
+    FAILING
+}
+
+/// A script comes to what it has to.
+fn is_written(script: &Script) -> bool {
+    written(script.0) == script.1
+}
+
 #[test]
 fn writes_on_after_a_short_write(rt: HostRuntime) {
-    for (answers, calls) in SHORT {
-        assert!(rt; written(answers) == (*calls, 16, 0), "{calls}");
+    for script in short_writes() {
+        assert!(rt; is_written(script), "{}", script.1.0);
     }
 }
 
-/// Scripts with a write that fails, with the number of calls and of the bytes that are taken before. A write that is interrupted is tried 64 times.
-const FAILING: &[(&[Answer], usize, usize)] = &[
-    (&[Fails], 1, 0),
-    (&[Takes(0)], 1, 0),
-    (&[IsInterrupted], 64, 0),
-    (&[Takes(3), Takes(3), Fails], 3, 6),
-    (&[Takes(9), IsInterrupted, Takes(0)], 3, 9),
-];
-
 #[test]
 fn tells_of_a_failed_write(rt: HostRuntime) {
-    for (answers, calls, taken) in FAILING {
-        assert!(rt; written(answers) == (*calls, *taken, 1), "{calls}");
+    for script in failing_writes() {
+        assert!(rt; is_written(script), "{}", script.1.0);
     }
 }

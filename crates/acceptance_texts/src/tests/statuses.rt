@@ -34,9 +34,25 @@ fn line_of(rt: &impl Abort, alloc: Global, status: &Status) -> String {
     line.to_string(alloc).expect(rt, "memory")
 }
 
+/// The line of a status is that of lack of memory.
+fn has_line(rt: &impl Abort, alloc: Global, status: &Status) -> bool {
+    line_of(rt, alloc, status).as_str() == "out of memory"
+}
+
 /// A status is that of lack of memory.
-fn is_of_memory(rt: &impl Abort, alloc: Global, status: &Status) -> bool {
-    status.number() == 7 && line_of(rt, alloc, status).as_str() == "out of memory"
+fn is_of_memory(rt: &impl Abort, alloc: Global, status: Status) -> bool {
+    status.number() == 7 && has_line(rt, alloc, &status)
+}
+
+/// Lack of memory, as the parts of the program tell of it.
+#[test]
+fn statuses_tell_of_memory(rt: HostRuntime) {
+    let alloc = rt.alloc();
+    assert!(rt; is_of_memory(&rt, alloc, Status::OutOfMemory));
+    assert!(rt; is_of_memory(&rt, alloc, Status::Machine(MachineFault::Memory)));
+    assert!(rt; is_of_memory(&rt, alloc, Status::Loops(OF_LOOPS)));
+    assert!(rt; is_of_memory(&rt, alloc, Status::Problems(OF_PROBLEMS)));
+    assert!(rt; is_of_memory(&rt, alloc, Status::Solutions(OF_SOLUTIONS)));
 }
 
 const FAULTS: &[ProblemsFault] = &[
@@ -45,29 +61,12 @@ const FAULTS: &[ProblemsFault] = &[
     ProblemsFault::Solutions(OF_SOLUTIONS),
 ];
 
-/// Lack of memory, as the parts of the program tell of it.
-#[test]
-fn statuses_tell_of_memory(rt: HostRuntime) {
-    for status in [
-        Status::OutOfMemory,
-        Status::Machine(MachineFault::Memory),
-        Status::Loops(OF_LOOPS),
-        Status::Problems(OF_PROBLEMS),
-        Status::Solutions(OF_SOLUTIONS),
-    ] {
-        assert!(rt; is_of_memory(&rt, rt.alloc(), &status), "{status:?}");
-    }
-}
-
 #[test]
 fn faults_tell_of_memory(rt: HostRuntime) {
-    for status in [Status::from(MachineFault::Memory), Status::from(OF_LOOPS)] {
-        assert!(rt; is_of_memory(&rt, rt.alloc(), &status), "{status:?}");
-    }
+    let alloc = rt.alloc();
+    assert!(rt; is_of_memory(&rt, alloc, Status::from(MachineFault::Memory)));
+    assert!(rt; is_of_memory(&rt, alloc, Status::from(OF_LOOPS)));
     for fault in FAULTS {
-        assert!(rt;
-            is_of_memory(&rt, rt.alloc(), &Status::from(*fault)),
-            "{fault:?}"
-        );
+        assert!(rt; is_of_memory(&rt, alloc, Status::from(*fault)), "{fault:?}");
     }
 }

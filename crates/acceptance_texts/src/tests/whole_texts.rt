@@ -20,7 +20,9 @@ fn pattern(alloc: Global, len: usize) -> Result<Vec<u8>, OutOfMemory> {
 }
 
 /// How many bytes there are, how many a text may have, and how many are read: one past the limit at most. Of a buffer the first size is 65,536 bytes.
-const READ: &[(usize, u32, usize)] = &[
+type Reading = (usize, u32, usize);
+
+const READ: &[Reading] = &[
     (0, 150_000, 0),
     (1, 150_000, 1),
     (65_535, 150_000, 65_535),
@@ -48,15 +50,21 @@ fn is_read(rt: &impl Abort, alloc: Global, bytes: &[u8], most: u32, want: usize)
     bytes.split_at_checked(want) == Some((text.as_slice(), input.rest()))
 }
 
+fn readings() -> &'static [Reading] {
+    READ
+}
+
+/// A beginning of these bytes is read as a row says.
+fn comes_in(rt: &impl Abort, alloc: Global, all: &[u8], row: &Reading) -> bool {
+    let bytes = all.get(..row.0).expect(rt, "a beginning");
+    is_read(rt, alloc, bytes, row.1, row.2)
+}
+
 #[test]
 fn reads_up_to_a_byte_past_the_limit(rt: HostRuntime) {
     let all = pattern(rt.alloc(), 200_000).expect(&rt, "memory");
-    for (len, most, want) in READ {
-        let bytes = all.as_slice().get(..*len).expect(&rt, "a beginning");
-        assert!(rt;
-            is_read(&rt, rt.alloc(), bytes, *most, *want),
-            "{len}, {most}"
-        );
+    for row in readings() {
+        assert!(rt; comes_in(&rt, rt.alloc(), all.as_slice(), row), "{row:?}");
     }
 }
 
@@ -167,10 +175,15 @@ fn leaves(rt: &impl Abort, alloc: Global, all: &[u8], row: &Writing) -> bool {
     is_written(&all[..len], &mut output, taken, can_flush && len <= room)
 }
 
+// (The proof of a function repeats the tables that it names, so that the test names none.)
+fn writings() -> &'static [Writing] {
+    WRITTEN
+}
+
 #[test]
 fn writes_up_to_a_fault(rt: HostRuntime) {
     let all = pattern(rt.alloc(), 1_000).expect(&rt, "memory");
-    for row in WRITTEN {
+    for row in writings() {
         assert!(rt; leaves(&rt, rt.alloc(), all.as_slice(), row), "{row:?}");
     }
 }
