@@ -23,10 +23,16 @@ impl Count {
     }
 }
 
-/// Gives each of the 12 pieces, and answers each look that the interval 0 gives a kernel.
-pub(super) struct ZeroLooks;
+/// A board of 3 loops and 12 pieces. It gives the pieces in order up to a last one, and then that one again and again.
+pub(super) struct Strange {
+    /// How often it gives a piece.
+    pub(super) draws: u64,
+    pub(super) last: u64,
+    /// What it answers to each look.
+    pub(super) least: Option<u64>,
+}
 
-impl Board for ZeroLooks {
+impl Board for Strange {
     type Pass = Count;
 
     ghost loops = { λ _. 3 };
@@ -42,80 +48,16 @@ impl Board for ZeroLooks {
     ghost view = { λ _. blank 0 };
 
     fn draw(&self, pass: &mut Count) -> Option<u64> {
-        if pass.dry || pass.draws >= 12 {
+        if pass.dry || pass.draws >= self.draws {
             pass.dry = true;
             return None;
         }
         pass.draws += 1;
-        Some(pass.draws - 1)
+        Some((pass.draws - 1).min(self.last).min(11))
     }
 
     fn look(&self, _pass: &mut Count, _loop_number: usize) -> Option<u64> {
-        Some(0)
-    }
-
-    fn post(&self, _pass: &mut Count, _loop_number: usize, _interval: u64) {}
-
-    ghost dry_as_told = { λ _ _ _ told. absurd (false≢true told) };
-}
-
-/// Gives no piece.
-pub(super) struct NoPiece;
-
-impl Board for NoPiece {
-    type Pass = Count;
-
-    ghost loops = { λ _. 3 };
-
-    ghost pieces = { λ _. 12 };
-
-    ghost is_of = { λ _ _. Unit {0} };
-
-    ghost dry = { λ p. p.dry };
-
-    ghost tells = { false };
-
-    ghost view = { λ _. blank 0 };
-
-    fn draw(&self, pass: &mut Count) -> Option<u64> {
-        pass.dry = true;
-        None
-    }
-
-    fn look(&self, _pass: &mut Count, _loop_number: usize) -> Option<u64> {
-        None
-    }
-
-    fn post(&self, _pass: &mut Count, _loop_number: usize, _interval: u64) {}
-
-    ghost dry_as_told = { λ _ _ _ told. absurd (false≢true told) };
-}
-
-/// Gives the first of the 12 pieces again and again.
-pub(super) struct FirstPiece;
-
-impl Board for FirstPiece {
-    type Pass = Count;
-
-    ghost loops = { λ _. 3 };
-
-    ghost pieces = { λ _. 12 };
-
-    ghost is_of = { λ _ _. Unit {0} };
-
-    ghost dry = { λ _. false };
-
-    ghost tells = { false };
-
-    ghost view = { λ _. blank 0 };
-
-    fn draw(&self, pass: &mut Count) -> Option<u64> {
-        pass.draws = pass.draws.saturating_add(1);
-        Some(0)
-    }
-
-    fn look(&self, _pass: &mut Count, _loop_number: usize) -> Option<u64> {
-        None
+        self.least
     }
 
     fn post(&self, _pass: &mut Count, _loop_number: usize, _interval: u64) {}

@@ -1,5 +1,8 @@
 //! Texts of a machine and of loops.
 
+use std::alloc::Global;
+use std::fmt::Write;
+use std::process::Abort;
 pub(super) use worked_texts::{THREE as LOOPS, TWO_REGISTERS as MACHINE};
 
 /// Their listing, worked out by hand: the sum lacks a register at the intervals 2 and 3.
@@ -37,3 +40,18 @@ pub(super) const SUM_LISTED: &str = " ops 3 res 2 rec 1 mii 2 ii 4 stages 2\n\
     1: store b[k-1] r1 ?1\n\
     2:\n\
     3: add r0 r1 r0 ?0\n";
+
+/// As many loops, each with a name of its own between the text before it and its lines.
+pub(super) fn named(
+    rt: &impl Abort,
+    alloc: Global,
+    before: &str,
+    lines: &str,
+    times: usize,
+) -> String {
+    let mut text = String::new(alloc);
+    for number in 0..times {
+        write!(text, "{before}loop sum{number}{lines}").expect(rt, "memory");
+    }
+    text
+}

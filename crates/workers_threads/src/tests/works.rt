@@ -1,24 +1,23 @@
 //! Workers of a caller, and what is gathered from their reports.
 
-ghost use Rattle.std.specs.Prelude.{◌≡◌, ◌≤◌, IfOk, IfSome, IsTrue, vec_len};
+ghost use Rattle.std.specs.Prelude.{◌≡◌, ◌≤◌, IfOk, IsTrue, vec_len};
 ghost use Rattle.std.specs.List.{All};
 ghost use Rattle.board.specs.Boards.{IsNewPassOf, IsPassOf, sizes_of};
-ghost use Rattle.board.specs.Closes.{loops_of};
 ghost use Rattle.board.specs.Names.{terms_of};
 ghost use Rattle.workers.specs.Entries.{HasNoRefusal};
 
-use super::boards::{Count, FirstPiece, NoPiece, ZeroLooks};
+use super::boards::{Count, Strange};
 use super::gates::{Limited, Roll, came, once};
 use super::given::{LISTING, LOOPS, MACHINE};
-use board::{Board, Closed, WordBoard, WordPass};
-use candidates::{Listing, Pieces, Settings, listing_text};
+use board::{Board, WordBoard, WordPass};
+use candidates::{Choice, Listing, Pieces, Settings, listing_text};
 use ims::Prepared;
-use std::alloc::Global;
+use std::alloc::{AllocError, Global};
+use std::fmt::Debug;
 use std::process::Abort;
-use std::test::Fail;
 use std::thread::{Threads, join};
 use workers::{
-    Chosen, Entry, Gate, OpenGate, Report, choose_by_workers, gather, pipeline, run_workers, work,
+    Entry, Gate, OpenGate, Report, choose_by_workers, gather, pipeline, run_workers, work,
 };
 
 /// The three loops, prepared with a ceiling of 3. By one interval a piece that is 12 pieces.
@@ -30,8 +29,8 @@ struct Three {
 }
 
 impl Three {
-    fn new<R: Threads + Sync>(rt: &R, alloc: Global) -> Result<Three, Fail> {
-        let settings = Settings::new(6, 3, 1, 1)?;
+    fn new<R: Threads + Abort + Sync>(rt: &R, alloc: Global) -> Three {
+        let settings = Settings::new(6, 3, 1, 1).expect(rt, "settings");
         let (loops, _) = pipeline(
             rt,
             alloc,
@@ -39,11 +38,10 @@ impl Three {
             LOOPS.as_bytes(),
             &settings,
             &OpenGate,
-        )?;
-        if loops.len() != 3 || !have_ceiling(loops.as_slice()) {
-            return Err(Fail::new("three loops with a ceiling of 3 were given"));
-        }
-        Ok(Three { loops })
+        )
+        .expect(rt, "a listing");
+        assert!(rt; loops.len() == 3 && have_ceiling(loops.as_slice()));
+        Three { loops }
     }
 
     /// What a worker leaves of a pass, and its report.
@@ -74,21 +72,27 @@ impl Three {
     }
 
     /// How many intervals are tried when the reports are gathered, which must come to the listing.
-    fn retried(&self, alloc: Global, reports: Vec<Report<'_>>) -> Result<u64, Fail>
-        requires { All (λ (r : _). r.loops ≡ self.now.loops.items) reports.items }
+    fn retried<E: Debug>(
+        &self,
+        rt: &impl Abort,
+        alloc: Global,
+        reports: Result<Vec<Report<'_>>, E>,
+    ) -> u64
+        requires { IfOk reports (λ rs. All (λ (r : _). r.loops ≡ self.now.loops.items) rs.items) }
     {
-        let loops = self.loops.as_slice();
-        let chosen = gather(alloc, loops, reports)?;
+        let reports = reports.expect(rt, "memory");
+        let chosen = gather(alloc, self.loops.as_slice(), reports).expect(rt, "memory");
         let retried = chosen.retried();
-        let choices = chosen.into_choices();
-        if choices.len() != loops.len() {
-            return Err(Fail::new("each loop has a choice"));
-        }
-        let listing = Listing::of(alloc, 3, loops, choices)?;
-        if listing_text(alloc, &listing)?.as_str() != LISTING {
-            return Err(Fail::new("the listing is the one of one thread"));
-        }
-        Ok(retried)
+        self.lists(rt, alloc, chosen.into_choices());
+        retried
+    }
+
+    /// The listing with these choices is the one of one thread.
+    fn lists(&self, rt: &impl Abort, alloc: Global, choices: Vec<Choice>) {
+        assert_eq!(rt; choices.len(), 3);
+        let listing = Listing::of(alloc, 3, self.loops.as_slice(), choices).expect(rt, "memory");
+        let text = listing_text(alloc, &listing).expect(rt, "memory");
+        assert_eq!(rt; text.as_str(), LISTING);
     }
 }
 
@@ -99,96 +103,115 @@ fn have_ceiling(loops: &[Prepared]) -> bool
     loops.iter().all(|prepared| prepared.ceiling() == 3)
 }
 
-// Each interval is beaten, and the choices are the same. Of the first loop 3 intervals are tried, of the others 1 each.
-fn zeros(rt: &impl Abort, alloc: Global, three: &Three) -> Result<(), Fail> {
-    let (count, report) = three.work(alloc, 0, &ZeroLooks, Count::new(), &OpenGate);
-    assert_eq!(rt;
-        (count.draws, report.entries().len(), report.is_dry()),
-        (12, 12, true)
-    );
-    assert_eq!(rt; three.retried(alloc, vec![in alloc; report]?)?, 5);
-    Ok(())
+/// How often a worker alone draws from the board; how many entries its report has, and whether it is dry; and how many intervals are tried afterwards.
+fn alone_on(
+    rt: &impl Abort,
+    alloc: Global,
+    three: &Three,
+    board: &Strange,
+) -> (u64, usize, bool, u64) {
+    let (count, report) = three.work(alloc, 0, board, Count::new(), &OpenGate);
+    let (entries, dry) = (report.entries().len(), report.is_dry());
+    let retried = three.retried(rt, alloc, vec![in alloc; report]);
+    (count.draws, entries, dry, retried)
 }
 
-fn no_piece(rt: &impl Abort, alloc: Global, three: &Three) -> Result<(), Fail> {
-    let (_, report) = three.work(alloc, 0, &NoPiece, Count::new(), &OpenGate);
-    assert_eq!(rt; three.retried(alloc, vec![in alloc; report]?)?, 5);
-    Ok(())
-}
-
-// A worker ends after one draw more than there are pieces, though its board always has another. The first loop has no kernel at its
-// first interval: the other four are left to try.
-fn first_piece(rt: &impl Abort, alloc: Global, three: &Three) -> Result<(), Fail> {
-    let (count, report) = three.work(alloc, 0, &FirstPiece, Count::new(), &OpenGate);
-    assert_eq!(rt; (count.draws, report.is_dry()), (13, false));
-    assert_eq!(rt; three.retried(alloc, vec![in alloc; report]?)?, 4);
-    Ok(())
-}
+/// One that answers each look with an interval of 0, so that each interval is beaten: of the first loop 3 intervals are tried, of the
+/// others 1 each. One without a piece. And one that always has another: its worker ends after one draw more than there are pieces, and as the
+/// first loop has no kernel at its first interval, the other four are left to try.
+const STRANGE: &[(Strange, (u64, usize, bool, u64))] = &[
+    (
+        Strange {
+            draws: 12,
+            last: 11,
+            least: Some(0),
+        },
+        (12, 12, true, 5),
+    ),
+    (
+        Strange {
+            draws: 0,
+            last: 0,
+            least: None,
+        },
+        (0, 0, true, 5),
+    ),
+    (
+        Strange {
+            draws: u64::MAX,
+            last: 0,
+            least: None,
+        },
+        (13, 13, false, 4),
+    ),
+];
 
 // Boards that tell nothing true; and no report leaves all to try, too.
 #[test]
-fn strange_boards_change_no_choice(rt: HostRuntime) -> Result<(), Fail> {
+fn strange_boards_change_no_choice(rt: HostRuntime) {
     let alloc = rt.alloc();
-    let three = Three::new(&rt, alloc)?;
-    zeros(&rt, alloc, &three)?;
-    no_piece(&rt, alloc, &three)?;
-    first_piece(&rt, alloc, &three)?;
-    assert_eq!(rt; three.retried(alloc, Vec::new(alloc))?, 5);
-    Ok(())
+    let three = Three::new(&rt, alloc);
+    for (board, wanted) in STRANGE {
+        assert_eq!(rt; alone_on(&rt, alloc, &three, board), *wanted);
+    }
+    let none = Ok::<_, AllocError>(Vec::new(alloc));
+    assert_eq!(rt; three.retried(&rt, alloc, none), 5);
 }
 
 /// A board of words for the three loops, with two passes.
-fn shared(alloc: Global) -> Result<(WordBoard, WordPass, WordPass), Fail>
-    ensures sizes { IfOk result (λ r. sizes_of r.0 ≡ terms_of 3 12 2) }
-    ensures one { IfOk result (λ r. IsNewPassOf r.0 r.1) }
-    ensures two { IfOk result (λ r. IsNewPassOf r.0 r.2) }
+fn shared(rt: &impl Abort, alloc: Global) -> (WordBoard, WordPass, WordPass)
+    ensures sizes { sizes_of result.0 ≡ terms_of 3 12 2 }
+    ensures one { IsNewPassOf result.0 result.1 }
+    ensures two { IsNewPassOf result.0 result.2 }
 {
-    let (board, mut passes) = WordBoard::new(alloc, 1, 3, 12, 2)?;
-    let (Some(one), Some(two)) = (passes.pop(), passes.pop()) else {
-        return Err(Fail::new("two passes were asked for"));
-    };
-    Ok((board, one, two))
+    let (board, mut passes) = WordBoard::new(alloc, 1, 3, 12, 2).expect(rt, "memory");
+    let one = passes.pop().expect(rt, "a pass");
+    let two = passes.pop().expect(rt, "another pass");
+    (board, one, two)
 }
 
-/// Closes the board with both of its passes.
-fn close(alloc: Global, board: WordBoard, one: WordPass, two: WordPass) -> Result<Closed, Fail>
+/// How many numbers were drawn from a board, and the least interval posted for each of the three loops.
+type Words = (u64, Option<u64>, Option<u64>, Option<u64>);
+
+/// What the board tells when it is closed with both of its passes.
+fn close(rt: &impl Abort, alloc: Global, board: WordBoard, one: WordPass, two: WordPass) -> Words
     requires one { IsPassOf board one }
     requires two { IsPassOf board two }
-    ensures loops { IfOk result (λ c. loops_of c ≡ (sizes_of board).loops) }
+    requires sizes { sizes_of board ≡ terms_of 3 12 2 }
 {
-    let Ok(closed) = board.close(vec![in alloc; one, two]?) else {
-        return Err(Fail::new("both passes came back"));
-    };
-    Ok(closed)
+    let passes = vec![in alloc; one, two].expect(rt, "memory");
+    let closed = board.close(passes).expect(rt, "both passes");
+    (
+        closed.drawn(),
+        closed.least(0),
+        closed.least(1),
+        closed.least(2),
+    )
 }
 
-/// What is left to try where a worker stops after `most` pieces: the number of intervals, and the board as it is closed.
-fn stopped(alloc: Global, three: &Three, most: u64) -> Result<(u64, Closed), Fail>
-    ensures loops { IfOk result (λ r. loops_of r.1 ≡ 3) }
-{
-    let (board, one, two) = shared(alloc)?;
+/// What is left to try where a worker stops after `most` pieces: the number of intervals, and what the board tells.
+fn stopped(rt: &impl Abort, alloc: Global, three: &Three, most: u64) -> (u64, Words) {
+    let (board, one, two) = shared(rt, alloc);
     let (one, report) = three.work(alloc, 0, &board, one, &Limited::new(most));
-    if report.is_dry() {
-        return Err(Fail::new("a worker that stops is not dry"));
-    }
-    let retried = three.retried(alloc, vec![in alloc; report]?)?;
-    Ok((retried, close(alloc, board, one, two)?))
+    assert!(rt; !report.is_dry());
+    let retried = three.retried(rt, alloc, vec![in alloc; report]);
+    (retried, close(rt, alloc, board, one, two))
 }
 
 // The worker stops after the first interval of each loop. The first loop has no kernel there, and the others have one, so two
 // intervals are left to try. One that stops at once leaves all. The other pass comes back unused.
+const LEFT: &[(u64, (u64, Words))] = &[
+    (3, (2, (3, None, Some(5), Some(2)))),
+    (0, (5, (0, None, None, None))),
+];
+
 #[test]
-fn a_pass_comes_back_early(rt: HostRuntime) -> Result<(), Fail> {
+fn a_pass_comes_back_early(rt: HostRuntime) {
     let alloc = rt.alloc();
-    let three = Three::new(&rt, alloc)?;
-    let (retried, closed) = stopped(alloc, &three, 3)?;
-    assert_eq!(rt; (retried, closed.drawn()), (2, 3));
-    assert!(rt;
-        closed.least(0) == None && closed.least(1) == Some(5) && closed.least(2) == Some(2)
-    );
-    let (retried, closed) = stopped(alloc, &three, 0)?;
-    assert_eq!(rt; (retried, closed.drawn()), (5, 0));
-    Ok(())
+    let three = Three::new(&rt, alloc);
+    for (most, left) in LEFT {
+        assert_eq!(rt; stopped(&rt, alloc, &three, *most), *left);
+    }
 }
 
 /// How often a report tells of each of the 12 pieces, in four bits each.
@@ -218,75 +241,90 @@ struct Together {
     both_dry: bool,
     lost: u64,
     retried: u64,
-    closed: Closed,
+    words: Words,
+}
+
+/// Two workers in two threads of the caller.
+fn at_once<'a, R: Threads + Sync, G: Gate + Sync>(
+    rt: &R,
+    alloc: Global,
+    three: &'a Three,
+    board: &WordBoard,
+    one: WordPass,
+    two: WordPass,
+    gate: &G,
+) -> ((WordPass, Report<'a>), (WordPass, Report<'a>))
+    requires one { IsNewPassOf board.now one }
+    requires two { IsNewPassOf board.now two }
+    requires sizes { sizes_of board.now ≡ terms_of 3 12 2 }
+    ensures one { IsPassOf board.now result.0.0 × (result.0.1.loops ≡ three.entry.now.loops.items) }
+    ensures two { IsPassOf board.now result.1.0 × (result.1.1.loops ≡ three.entry.now.loops.items) }
+{
+    join(
+        rt,
+        || -> (WordPass, Report<'_>)
+            requires { IsNewPassOf board.now one × (sizes_of board.now ≡ terms_of 3 12 2) }
+            ensures { IsPassOf board.entry.now result.0 × (result.1.loops ≡ three.entry.now.loops.items) }
+        { three.work(alloc, 0, board, one, gate) },
+        || -> (WordPass, Report<'_>)
+            requires { IsNewPassOf board.now two × (sizes_of board.now ≡ terms_of 3 12 2) }
+            ensures { IsPassOf board.entry.now result.0 × (result.1.loops ≡ three.entry.now.loops.items) }
+        { three.work(alloc, 1, board, two, gate) },
+    )
+}
+
+/// What two reports come to, beside what the board tells.
+fn summed_up(
+    rt: &impl Abort,
+    alloc: Global,
+    three: &Three,
+    first: Report<'_>,
+    second: Report<'_>,
+    words: Words,
+) -> Together
+    requires first { first.loops ≡ three.now.loops.items }
+    requires second { second.loops ≡ three.now.loops.items }
+{
+    let loops = three.loops.as_slice();
+    Together {
+        pieces: (told_pieces(loops, &first), told_pieces(loops, &second)),
+        both_dry: first.is_dry() && second.is_dry(),
+        lost: first.lost().saturating_add(second.lost()),
+        retried: three.retried(rt, alloc, vec![in alloc; first, second]),
+        words,
+    }
 }
 
 /// What two workers in two threads of the caller come to.
-fn by_two<R: Threads + Sync, G: Gate + Sync>(
+fn by_two<R: Threads + Abort + Sync, G: Gate + Sync>(
     rt: &R,
     alloc: Global,
     three: &Three,
     gate: &G,
-) -> Result<Together, Fail>
-    ensures { IfOk result (λ t. loops_of t.closed ≡ 3) }
-{
-    let (board, one, two) = shared(alloc)?;
-    let shared = &board;
-    let ((one, first), (two, second)) = join(
-        rt,
-        || -> (WordPass, Report<'_>)
-            requires { IsNewPassOf shared.now one × (sizes_of shared.now ≡ terms_of 3 12 2) }
-            ensures { IsPassOf shared.entry.now result.0 × (result.1.loops ≡ three.entry.now.loops.items) }
-        { three.work(alloc, 0, shared, one, gate) },
-        || -> (WordPass, Report<'_>)
-            requires { IsNewPassOf shared.now two × (sizes_of shared.now ≡ terms_of 3 12 2) }
-            ensures { IsPassOf shared.entry.now result.0 × (result.1.loops ≡ three.entry.now.loops.items) }
-        { three.work(alloc, 1, shared, two, gate) },
-    );
-    let loops = three.loops.as_slice();
-    let pieces = (told_pieces(loops, &first), told_pieces(loops, &second));
-    let both_dry = first.is_dry() && second.is_dry();
-    let lost = first.lost().saturating_add(second.lost());
-    let retried = three.retried(alloc, vec![in alloc; first, second]?)?;
-    let closed = close(alloc, board, one, two)?;
-    Ok(Together {
-        pieces,
-        both_dry,
-        lost,
-        retried,
-        closed,
-    })
+) -> Together {
+    let (board, one, two) = shared(rt, alloc);
+    let ((one, first), (two, second)) = at_once(rt, alloc, three, &board, one, two, gate);
+    let words = close(rt, alloc, board, one, two);
+    summed_up(rt, alloc, three, first, second, words)
 }
 
 // Twelve pieces and two dry draws. Nothing is left to try, and each loop's word is its interval.
-fn left_nothing(rt: &impl Abort, all: &Together)
-    requires { loops_of all.now.closed ≡ 3 }
-{
-    assert!(rt; all.both_dry);
-    assert_eq!(rt; (all.lost, all.retried, all.closed.drawn()), (0, 0, 14));
-    assert_eq!(rt;
-        (
-            all.closed.least(0),
-            all.closed.least(1),
-            all.closed.least(2)
-        ),
-        (Some(4), Some(5), Some(2))
-    );
+fn left_nothing(rt: &impl Abort, all: &Together) {
+    assert_eq!(rt; (all.both_dry, all.lost, all.retried), (true, 0, 0));
+    assert_eq!(rt; all.words, (14, Some(4), Some(5), Some(2)));
 }
 
 // The gate is called by the number of the worker whose report tells of the piece.
 #[test]
-fn two_threads_of_a_caller_are_at_work_at_once(rt: HostRuntime) -> Result<(), Fail> {
+fn two_threads_of_a_caller_are_at_work_at_once(rt: HostRuntime) {
     let alloc = rt.alloc();
-    let three = Three::new(&rt, alloc)?;
-    let all = by_two(&rt, alloc, &three, &OpenGate)?;
-    left_nothing(&rt, &all);
+    let three = Three::new(&rt, alloc);
+    left_nothing(&rt, &by_two(&rt, alloc, &three, &OpenGate));
     let gate = Roll::new();
-    let all = by_two(&rt, alloc, &three, &gate)?;
+    let all = by_two(&rt, alloc, &three, &gate);
     left_nothing(&rt, &all);
     assert_eq!(rt; gate.pieces(), all.pieces);
     came(&rt, &gate, 0x1111_1111_1111);
-    Ok(())
 }
 
 /// Whether nothing was refused to the workers of the reports.
@@ -296,62 +334,81 @@ fn all_whole(reports: &[Report<'_>]) -> bool
     reports.iter().all(|report| report.is_whole())
 }
 
-/// What is gathered from `workers` workers on a board of their own, unless a worker was refused memory.
-fn chosen_by<R: Threads + Sync>(
-    rt: &R,
-    alloc: Global,
-    three: &Three,
-    workers: usize,
-) -> Result<Option<Chosen>, Fail>
+/// How many intervals are left to try after `workers` workers on a board of their own, to none of whom memory was refused.
+fn left_by<R: Threads + Abort + Sync>(rt: &R, alloc: Global, three: &Three, workers: usize) -> u64
     requires some { 1 ≤ workers }
     requires few { workers ≤ 64 }
-    ensures left { IfOk result (λ o. IfSome o (λ c. c.retried ≡ 0)) }
+    ensures left { result ≡ 0 }
 {
     let pieces = Pieces::of(3, 3, 1);
     let loops = three.loops.as_slice();
-    let reports = run_workers(rt, alloc, loops, &pieces, workers, &OpenGate)?;
+    let reports = run_workers(rt, alloc, loops, &pieces, workers, &OpenGate).expect(rt, "memory");
     if !all_whole(reports.as_slice()) {
-        return Ok(None);
+        panic!(rt; "a worker was refused memory");
     }
-    let chosen = gather(alloc, loops, reports)?;
-    Ok(Some(chosen))
+    let chosen = gather(alloc, loops, reports).expect(rt, "memory");
+    chosen.retried()
 }
 
 // By its contract nothing is left to try where no memory was refused, and here none is.
 #[test]
-fn workers_to_whom_nothing_is_refused_leave_nothing(rt: HostRuntime) -> Result<(), Fail> {
+fn workers_to_whom_nothing_is_refused_leave_nothing(rt: HostRuntime) {
     let alloc = rt.alloc();
-    let three = Three::new(&rt, alloc)?;
-    for workers in [1, 3, 64] {
-        let chosen = chosen_by(&rt, alloc, &three, workers)?;
-        assert!(rt; matches!(&chosen, Some(chosen) if chosen.retried() == 0));
-    }
-    Ok(())
+    let three = Three::new(&rt, alloc);
+    let left = (
+        left_by(&rt, alloc, &three, 1),
+        left_by(&rt, alloc, &three, 3),
+        left_by(&rt, alloc, &three, 64),
+    );
+    assert_eq!(rt; left, (0, 0, 0));
 }
 
-// The calling thread of a file has nothing left to try, by whatever workers and cut.
+/// How many loops workers of a file choose for, and how many intervals the calling thread has left to try.
+fn chosen_by<R: Threads + Abort + Sync, G: Gate + Sync>(
+    rt: &R,
+    alloc: Global,
+    three: &Three,
+    workers: usize,
+    cut: u64,
+    gate: &G,
+) -> (usize, u64)
+    requires some { 1 ≤ workers }
+    requires few { workers ≤ 64 }
+    requires cut { (1 ≤ cut) × (cut ≤ 256) }
+{
+    let pieces = Pieces::of(3, 3, cut);
+    let loops = three.loops.as_slice();
+    let chosen = choose_by_workers(rt, alloc, loops, &pieces, workers, gate).expect(rt, "memory");
+    (chosen.choices().len(), chosen.retried())
+}
+
+// The calling thread of a file has nothing left to try, by whatever cut.
+fn left_by_cuts<R: Threads + Abort + Sync>(rt: &R, alloc: Global, three: &Three, workers: usize)
+    requires some { 1 ≤ workers }
+    requires few { workers ≤ 64 }
+{
+    let told = (
+        chosen_by(rt, alloc, three, workers, 1, &OpenGate),
+        chosen_by(rt, alloc, three, workers, 2, &OpenGate),
+        chosen_by(rt, alloc, three, workers, 256, &OpenGate),
+    );
+    assert_eq!(rt; told, ((3, 0), (3, 0), (3, 0)));
+}
+
 #[test]
-fn workers_of_a_file_leave_nothing_to_try(rt: HostRuntime) -> Result<(), Fail> {
+fn workers_of_a_file_leave_nothing_to_try(rt: HostRuntime) {
     let alloc = rt.alloc();
-    let three = Three::new(&rt, alloc)?;
-    for workers in [1, 3, 64] {
-        for cut in [1, 2, 256] {
-            let pieces = Pieces::of(3, 3, cut);
-            let loops = three.loops.as_slice();
-            let chosen = choose_by_workers(&rt, alloc, loops, &pieces, workers, &OpenGate)?;
-            assert_eq!(rt; (chosen.choices().len(), chosen.retried()), (3, 0));
-        }
-    }
-    Ok(())
+    let three = Three::new(&rt, alloc);
+    left_by_cuts(&rt, alloc, &three, 1);
+    left_by_cuts(&rt, alloc, &three, 3);
+    left_by_cuts(&rt, alloc, &three, 64);
 }
 
 // It has all to try where the workers stop at once.
 #[test]
-fn workers_of_a_file_that_stop_leave_all_to_try(rt: HostRuntime) -> Result<(), Fail> {
+fn workers_of_a_file_that_stop_leave_all_to_try(rt: HostRuntime) {
     let alloc = rt.alloc();
-    let three = Three::new(&rt, alloc)?;
-    let (pieces, loops) = (Pieces::of(3, 3, 1), three.loops.as_slice());
-    let chosen = choose_by_workers(&rt, alloc, loops, &pieces, 3, &Limited::new(0))?;
-    assert_eq!(rt; (chosen.choices().len(), chosen.retried()), (3, 5));
-    Ok(())
+    let three = Three::new(&rt, alloc);
+    let told = chosen_by(&rt, alloc, &three, 3, 1, &Limited::new(0));
+    assert_eq!(rt; told, (3, 5));
 }
