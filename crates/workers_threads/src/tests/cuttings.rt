@@ -1,6 +1,7 @@
 //! Settings and pieces.
 
 use candidates::{OutOfRange, Pieces, Settings};
+use std::process::Abort;
 
 #[test]
 fn settings_reach_from_the_least_to_the_greatest(rt: HostRuntime) {
@@ -10,22 +11,21 @@ fn settings_reach_from_the_least_to_the_greatest(rt: HostRuntime) {
     assert_eq!(rt; (greatest.workers(), greatest.cut()), (64, 256));
 }
 
-/// Settings with one out of its range, and which it is.
-const OUTSIDE: &[(u64, u64, usize, u64, OutOfRange)] = &[
-    (65, 0, 1, 1, OutOfRange::Ratio),
-    (6, 256, 1, 1, OutOfRange::Ceiling),
-    (6, 32, 0, 1, OutOfRange::Workers),
-    (6, 32, 4, 257, OutOfRange::Cut),
-];
+/// Settings are refused for this.
+fn are_refused(
+    rt: &impl Abort,
+    (ratio, ceiling, workers, cut): (u64, u64, usize, u64),
+    fault: OutOfRange,
+) {
+    assert_eq!(rt; Settings::new(ratio, ceiling, workers, cut), Err(fault));
+}
 
 #[test]
 fn settings_out_of_range_are_named(rt: HostRuntime) {
-    for (ratio, ceiling, workers, cut, fault) in OUTSIDE {
-        assert_eq!(rt;
-            Settings::new(*ratio, *ceiling, *workers, *cut),
-            Err(*fault)
-        );
-    }
+    are_refused(&rt, (65, 0, 1, 1), OutOfRange::Ratio);
+    are_refused(&rt, (6, 256, 1, 1), OutOfRange::Ceiling);
+    are_refused(&rt, (6, 32, 0, 1), OutOfRange::Workers);
+    are_refused(&rt, (6, 32, 4, 257), OutOfRange::Cut);
 }
 
 // Three loops with the intervals from 0 to 3 above their least ones, two intervals a piece: the fifth

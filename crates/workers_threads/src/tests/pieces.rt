@@ -48,20 +48,26 @@ const WORKERS: &[usize] = &[0, 1, 2, 3, 5, 1000];
 
 const SUMS: &[usize] = &[0, 1, 5];
 
-#[test]
-fn workers_read_what_one_thread_reads(rt: HostRuntime) {
-    for times in SUMS {
-        let text = sums(&rt, rt.alloc(), *times, "");
-        for workers in WORKERS {
-            is_read_alike(&rt, rt.alloc(), text.as_bytes(), *workers);
-        }
+/// However many workers read so many loops of a sum, the same comes out.
+fn are_read_alike<R: Threads + Abort + Sync>(rt: &R, alloc: Global, times: usize) {
+    let text = sums(rt, alloc, times, "");
+    for workers in WORKERS {
+        is_read_alike(rt, alloc, text.as_bytes(), *workers);
     }
 }
 
-/// The fault of three loops of a sum with these lines after them, as three workers read them.
-fn fault_after<R: Threads + Abort + Sync>(rt: &R, alloc: Global, lines: &str) -> LoopFault {
+#[test]
+fn workers_read_what_one_thread_reads(rt: HostRuntime) {
+    for times in SUMS {
+        are_read_alike(&rt, rt.alloc(), *times);
+    }
+}
+
+/// Three workers find this fault in three loops of a sum with these lines after them.
+fn is_told<R: Threads + Abort + Sync>(rt: &R, alloc: Global, lines: &str, wanted: LoopFault) {
     let text = sums(rt, alloc, 3, lines);
-    read_by_workers(rt, alloc, text.as_bytes(), 3).expect_err(rt, "no fault")
+    let fault = read_by_workers(rt, alloc, text.as_bytes(), 3).expect_err(rt, "no fault");
+    assert_eq!(rt; fault, wanted);
 }
 
 // Where loops of two pieces have one name, the fault is that of the later one, with its line in the text.
@@ -82,8 +88,8 @@ const FAULTS: &[(&str, usize, LoopFaultKind)] = &[
 #[test]
 fn faults_are_told_with_their_lines(rt: HostRuntime) {
     for (lines, line, kind) in FAULTS {
-        let fault = fault_after(&rt, rt.alloc(), lines);
-        assert_eq!(rt; (fault.line, fault.kind), (*line, *kind));
+        let (line, kind) = (*line, *kind);
+        is_told(&rt, rt.alloc(), lines, LoopFault { line, kind });
     }
 }
 
@@ -180,6 +186,18 @@ fn parts_told<R: Threads + Abort + Sync>(
     parts_in(rt, alloc, told, wanted.as_str())
 }
 
+/// So many loops of a sum, with these lines after them, are told by so many workers in so many parts.
+fn is_taken<R: Threads + Abort + Sync>(
+    rt: &R,
+    alloc: Global,
+    (times, lines): (usize, &str),
+    workers: usize,
+    parts: usize,
+) {
+    let text = sums(rt, alloc, times, lines);
+    assert_eq!(rt; parts_told(rt, alloc, text.as_bytes(), workers), parts);
+}
+
 // 64 KiB are large, and each piece but the last ends with a loop. There are two pieces for each worker, or none.
 const PARTS: &[(usize, usize, usize)] = &[
     (4, 2, 4),
@@ -193,11 +211,7 @@ const PARTS: &[(usize, usize, usize)] = &[
 #[test]
 fn a_large_text_is_taken_in_pieces(rt: HostRuntime) {
     for (times, workers, parts) in PARTS {
-        let text = sums(&rt, rt.alloc(), *times, "");
-        assert_eq!(rt;
-            parts_told(&rt, rt.alloc(), text.as_bytes(), *workers),
-            *parts
-        );
+        is_taken(&rt, rt.alloc(), (*times, ""), *workers, *parts);
     }
 }
 
@@ -212,8 +226,7 @@ const WHOLE: &[&str] = &[
 #[test]
 fn a_large_text_at_fault_is_looked_at_as_a_whole(rt: HostRuntime) {
     for lines in WHOLE {
-        let text = sums(&rt, rt.alloc(), 4, lines);
-        assert_eq!(rt; parts_told(&rt, rt.alloc(), text.as_bytes(), 2), 0);
+        is_taken(&rt, rt.alloc(), (4, lines), 2, 0);
     }
 }
 
