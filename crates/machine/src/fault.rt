@@ -115,7 +115,8 @@ pub enum MachineFault {
 }
 
 impl MachineFault {
-    /// The fault that what has this name is outside its limits.
+    /// The fault that something is outside its limits, by its name; without memory for the name, that
+    /// memory ran out.
     pub(crate) fn limit(alloc: Global, name: &str) -> MachineFault
         ensures { IsFault result (Limit name.now) }
     {

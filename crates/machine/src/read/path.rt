@@ -85,7 +85,7 @@ impl<'a> Path<'a> {
         text.push_str(last)
     }
 
-    /// The fault that the key is missing here.
+    /// The fault that the key is missing here; without memory for the path, that memory ran out.
     pub(crate) fn missing(&self, alloc: Global) -> MachineFault
         ensures { IsFault result (MissingKey self.now) }
     {
@@ -95,7 +95,7 @@ impl<'a> Path<'a> {
         }
     }
 
-    /// The fault that the value here has a wrong type.
+    /// The fault that the value here has a wrong type; without memory for the path, that memory ran out.
     pub(crate) fn wrong_type(&self, alloc: Global) -> MachineFault
         ensures { IsFault result (WrongType self.now) }
     {
