@@ -47,16 +47,6 @@ unless UseBeforeDefinition fault P h p = p
 unless MissingInit fault P h p = p
 unless NoEnd fault P h p = p
 
-kind-same : (a b : LoopFaultKind) → Some a ≡ Some b → a ≡ b
-kind-same a b e = cc
-
-some-kind : (kinds : Kinds) (kind : LoopFaultKind) → AreKinds kinds → Some kind ≡ first_in kinds → IsKind kind
-some-kind [] kind h e = cc
-some-kind (k ∷ kinds) kind h e = subst IsKind (sym (kind-same kind k e)) h.0
-
-pub end-kind : (block : List Form) (kind : LoopFaultKind) → Some kind ≡ first_in (faults_of block block EndLine) → IsKind kind
-end-kind block kind e = some-kind (faults_of block block EndLine) kind (kinds-of block block EndLine) e
-
 abbrev AreFaults : List LoopFault → Type 0
 AreFaults faults = AllByRecursion (λ (f : LoopFault). IsKind f.kind) faults
 
