@@ -1,6 +1,6 @@
 //! Reservation tables.
 
-ghost use Rattle.std.specs.Prelude.{◌≡◌, ◌<◌, ◌≤◌, length, IfOk, IsOk};
+ghost use Rattle.std.specs.Prelude.{◌≡◌, ◌<◌, ◌≤◌, ◌↔◌, length, IfOk, IsOk, IsTrue};
 ghost use Rattle.machine_data.specs.Alternative.{IsAlternative, AreAlternatives};
 
 use crate::OutOfMemory;
@@ -129,6 +129,13 @@ impl Alternatives {
         }
     }
 
+    /// Whether these are the same alternatives, row by row and in the same order.
+    pub fn are_same(&self, others: &Alternatives) -> bool
+        ensures { IsTrue result ↔ self.now ≡ others.now }
+    {
+        are_same(self.as_slice(), others.as_slice())
+    }
+
     /// The same alternatives once more. Those of a machine text take no memory.
     pub fn copied(&self, alloc: Global) -> Result<Alternatives, OutOfMemory>
         ensures { IfOk result (λ copy. copy ≡ self.now) }
@@ -150,4 +157,34 @@ fn copied_all(alloc: Global, alternatives: &[Alternative]) -> Result<Vec<Alterna
         copies.push(alternative.copied(alloc)?)?;
     }
     Ok(copies)
+}
+
+/// Whether two lists of alternatives are the same, row by row.
+fn are_same(some: &[Alternative], others: &[Alternative]) -> bool
+    ensures { IsTrue result ↔ some.now ≡ others.now }
+{
+    if some.len() != others.len() {
+        return false;
+    }
+    for i in 0..some.len() {
+        if !are_same_rows(some[i].rows(), others[i].rows()) {
+            return false;
+        }
+    }
+    true
+}
+
+/// Whether two lists of rows are the same.
+fn are_same_rows(some: &[Row], others: &[Row]) -> bool
+    ensures { IsTrue result ↔ some.now ≡ others.now }
+{
+    if some.len() != others.len() {
+        return false;
+    }
+    for i in 0..some.len() {
+        if some[i] != others[i] {
+            return false;
+        }
+    }
+    true
 }

@@ -1,5 +1,5 @@
 -- Which operations of a loop have the same alternatives, for one operation more at a time.
-use Rattle.std.proofs.Common.{◌≡◌, ℕ, suc, ◌+◌, ◌<◌, ◌++◌, List, [], ◌∷◌, length, map, get_or, set, unwrap_or, refl, sym, ap, ap₂, ◌∙◌, arith, inl, inr, Option, Some, None}
+use Rattle.std.proofs.Common.{◌≡◌, ℕ, suc, ◌+◌, ◌<◌, ◌++◌, List, [], ◌∷◌, length, map, get_or, set, refl, sym, ap, ap₂, ◌∙◌, arith, ◌⊎◌, inl, inr, Option, Some, None}
 use Rattle.std.specs.List.{All, slice_index_or}
 use Rattle.std.specs.Option.{option_flatten}
 use Rattle.std.specs.Prelude.{slice_get}
@@ -11,6 +11,7 @@ use Rattle.machine_data.specs.declared.alternative.Row.{Row}
 use Rattle.machine_data.specs.Machines.{OperationData}
 use Rattle.graph.specs.Units.{alternatives_in}
 use Rattle.modulo.specs.Problems.{AreKinds}
+use Rattle.ims.specs.inner.Offers.{IsAlike}
 
 abbrev pub Table : Type 0
 Table = List (List Row)
@@ -27,24 +28,22 @@ same-there list offered (kind ∷ kinds) there =
     ap₂ (λ x xs. x ∷ xs) (get_or_append_left list (offered ∷ []) [] kind (there 0 0 (omega arith)))
     (same-there list offered kinds (λ k d low. there (suc k) d (omega arith)))
 
--- one operation more: `first` is the one that is noted for its opcode, or itself
+-- one operation more: `first` is the one that is noted for its opcode, or one that is alike, or itself
 module _ (tables : List (Option OperationData)) (list : List Table) (firsts : List (Option ℕ)) (number first : ℕ) (offered : Table)
     (noted : (n f : ℕ) → get_or firsts n None ≡ Some f → (f < length list) × (get_or list f [] ≡ at_number tables n))
-    (same : offered ≡ at_number tables number) (is : first ≡ unwrap_or (get_or firsts number None) (length list)) where
+    (same : offered ≡ at_number tables number) (is : (get_or firsts number None ≡ Some first) ⊎ IsAlike list offered first) where
   size : length (list ++ offered ∷ []) ≡ length list + 1
   size = length-append list (offered ∷ [])
 
-  of-found : (found : Option ℕ) → get_or firsts number None ≡ found → first ≡ unwrap_or found (length list)
-      → (first < length list + 1) × (get_or (list ++ offered ∷ []) first [] ≡ offered)
-  of-found None none e = (omega (arith, e), ap (λ k. get_or (list ++ offered ∷ []) k []) e ∙ get_or_push list offered [] (length list) refl)
-  of-found (Some f) some e =
-      let n = noted number f some in (
-        omega (arith, e, n.0),
-        ap (λ k. get_or (list ++ offered ∷ []) k []) e ∙ get_or_append_left list (offered ∷ []) [] f n.0 ∙ n.1 ∙ sym same,
-      )
+  in-list : first < length list → get_or list first [] ≡ offered → (first < length list + 1) × (get_or (list ++ offered ∷ []) first [] ≡ offered)
+  in-list low at = (omega (arith, low), get_or_append_left list (offered ∷ []) [] first low ∙ at)
 
   stands : (first < length list + 1) × (get_or (list ++ offered ∷ []) first [] ≡ offered)
-  stands = of-found (get_or firsts number None) refl is
+  stands = elim is [
+    | inl some ↦ let n = noted number first some in in-list n.0 (n.1 ∙ sym same)
+    | inr (inl e) ↦ (omega (arith, e), ap (λ k. get_or (list ++ offered ∷ []) k []) e ∙ get_or_push list offered [] (length list) refl)
+    | inr (inr other) ↦ in-list other.0 other.1
+  ]
 
   pub noted-more : number < length firsts → (n f : ℕ) → get_or (set firsts number (Some first)) n None ≡ Some f
       → (f < length (list ++ offered ∷ [])) × (get_or (list ++ offered ∷ []) f [] ≡ at_number tables n)

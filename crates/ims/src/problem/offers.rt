@@ -1,6 +1,6 @@
 //! Copies of the alternatives that a machine offers for the operations of a loop.
 
-ghost use Rattle.std.specs.Prelude.{◌≡◌, ◌<◌, Some, None, length, unwrap_or, slice_set, IfOk};
+ghost use Rattle.std.specs.Prelude.{◌≡◌, ◌<◌, ◌⊎◌, ℕ, Some, None, length, slice_set, IfOk};
 ghost use Rattle.std.specs.List.{All, slice_index_or};
 ghost use Rattle.machine_data.specs.Alternative.{AreAlternatives};
 ghost use Rattle.machine_data.specs.Opcodes.{opcode_number};
@@ -9,6 +9,7 @@ ghost use Rattle.graph.specs.TablesAnswer.{TablesAnswer};
 ghost use Rattle.graph.specs.Units.{first_without_table, operations_of};
 ghost use Rattle.modulo.specs.Problems.{AreKinds};
 ghost use Rattle.ims.specs.declared.problem.offers.Offered.{Offered};
+ghost use Rattle.ims.specs.inner.Offers.{IsAlike};
 
 use graph::GraphFault;
 use loop_data::Loop;
@@ -20,11 +21,11 @@ use std::alloc::Global;
 pub(crate) struct Offered {
     /// The alternatives of each operation.
     pub(crate) alternatives: Vec<Alternatives>,
-    /// Of each operation the number of the first with its opcode.
+    /// Of each operation the number of an earlier one that has the same alternatives, or its own.
     pub(crate) kinds: Vec<usize>,
 }
 
-/// The alternatives of each operation of a loop. Operations of one opcode have the same ones.
+/// The alternatives of each operation of a loop. Operations of one opcode have the same ones, and often those of several do.
 pub(crate) fn offers(
     alloc: Global,
     machine: &Machine,
@@ -37,12 +38,13 @@ pub(crate) fn offers(
 {
     let mut list = Vec::with_capacity(alloc, innermost.statements().len())?;
     let mut kinds = Vec::with_capacity(alloc, innermost.statements().len())?;
-    let mut firsts = [None; OPCODES];
+    let mut noted = [None; OPCODES];
     for statement in innermost.statements() {
         match machine.table(statement.opcode) {
             Some(table) => {
-                kinds.push(first_of(&mut firsts, statement.opcode, list.len()))?;
-                list.push(table.alternatives().copied(alloc)?)?;
+                let own = table.alternatives();
+                kinds.push(alike(&mut noted, statement.opcode, list.as_slice(), own))?;
+                list.push(own.copied(alloc)?)?;
             }
             None => return Err(GraphFault::NoTable(statement.opcode)),
         }
@@ -53,14 +55,39 @@ pub(crate) fn offers(
     })
 }
 
-/// The first operation of an opcode: the one that is noted for it, or else `op`, which is noted from now on.
-fn first_of(firsts: &mut [Option<usize>], opcode: Opcode, op: usize) -> usize
-    requires { length firsts.old ≡ 13 }
-    ensures there { opcode_number opcode < length firsts.old }
-    ensures value { result ≡ unwrap_or (slice_index_or firsts.old (opcode_number opcode) None) op }
-    ensures noted { firsts.new ≡ slice_set firsts.old (opcode_number opcode) (Some result) }
+/// An operation that has these alternatives, which are those of an opcode: the one that is noted for the opcode, or
+/// else one that is noted for another opcode, or else the next of the list. It is noted from now on.
+fn alike(
+    noted: &mut [Option<usize>],
+    opcode: Opcode,
+    list: &[Alternatives],
+    alternatives: &Alternatives,
+) -> usize
+    requires opcodes { length noted.old ≡ 13 }
+    requires there { (number op : ℕ) → slice_index_or noted.old number None ≡ Some op → op < length list.now }
+    ensures there { opcode_number opcode < length noted.old }
+    ensures value { (slice_index_or noted.old (opcode_number opcode) None ≡ Some result) ⊎ IsAlike list.now alternatives.now result }
+    ensures noted { noted.new ≡ slice_set noted.old (opcode_number opcode) (Some result) }
 {
-    let first = firsts[opcode.number()].unwrap_or(op);
-    firsts[opcode.number()] = Some(first);
-    first
+    let op = match noted[opcode.number()] {
+        Some(op) => op,
+        None => other_alike(noted, list, alternatives),
+    };
+    noted[opcode.number()] = Some(op);
+    op
+}
+
+/// One of the operations noted that has these alternatives, or else the next of the list.
+fn other_alike(noted: &[Option<usize>], list: &[Alternatives], alternatives: &Alternatives) -> usize
+    requires there { (number op : ℕ) → slice_index_or noted.now number None ≡ Some op → op < length list.now }
+    ensures { IsAlike list.now alternatives.now result }
+{
+    for one in noted {
+        if let Some(op) = one {
+            if list[*op].are_same(alternatives) {
+                return *op;
+            }
+        }
+    }
+    list.len()
 }

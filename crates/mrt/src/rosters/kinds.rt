@@ -1,6 +1,6 @@
 //! Operations that have the same alternatives.
 
-ghost use Rattle.std.specs.Prelude.{◌≡◌, ◌↔◌, [], IsTrue, MatchOption, slice_index_or};
+ghost use Rattle.std.specs.Prelude.{◌≡◌, [], MatchOption, slice_index_or};
 ghost use Rattle.std.specs.List.{All, Contains};
 ghost use Rattle.machine_data.specs.Alternative.{AreAlternatives};
 ghost use Rattle.mrt.specs.declared.rosters.kinds.Kind.{Kind};
@@ -36,17 +36,16 @@ impl Kind {
 pub(crate) fn of_kind(
     operations: &[Alternatives],
     kinds: &[Kind],
-    alternatives: &[Alternative],
+    alternatives: &Alternatives,
 ) -> Option<Kind>
-    requires some { AreAlternatives alternatives.now }
     requires kinds { All (IsKind operations.now) kinds.now }
     ensures { MatchOption result
         ((kind : Kind) → Contains kinds.now kind → slice_index_or operations.now kind.operation [] ≡ alternatives.now → ⊥)
         (λ kind. Contains kinds.now kind × (slice_index_or operations.now kind.operation [] ≡ alternatives.now)) }
 {
-    let first = first_row(alternatives);
+    let first = first_row(alternatives.as_slice());
     for kind in kinds {
-        if kind.first == first && are_same(operations[kind.operation].as_slice(), alternatives) {
+        if kind.first == first && operations[kind.operation].are_same(alternatives) {
             return Some(*kind);
         }
     }
@@ -59,34 +58,4 @@ fn first_row(alternatives: &[Alternative]) -> Row
     ensures { result ≡ first_row alternatives.now }
 {
     alternatives[0].rows()[0]
-}
-
-/// Whether two lists of alternatives are the same, row by row.
-fn are_same(some: &[Alternative], others: &[Alternative]) -> bool
-    ensures { IsTrue result ↔ some.now ≡ others.now }
-{
-    if some.len() != others.len() {
-        return false;
-    }
-    for i in 0..some.len() {
-        if !are_same_rows(some[i].rows(), others[i].rows()) {
-            return false;
-        }
-    }
-    true
-}
-
-/// Whether two lists of rows are the same.
-fn are_same_rows(some: &[Row], others: &[Row]) -> bool
-    ensures { IsTrue result ↔ some.now ≡ others.now }
-{
-    if some.len() != others.len() {
-        return false;
-    }
-    for i in 0..some.len() {
-        if some[i] != others[i] {
-            return false;
-        }
-    }
-    true
 }

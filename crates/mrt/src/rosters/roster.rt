@@ -72,7 +72,7 @@ impl Roster {
         let mut kinds: SmallVec<Kind, 16> = SmallVec::new(alloc);
         for operation in operations {
             let alternatives = operation.as_slice();
-            let earlier = match of_kind(operations, kinds.as_slice(), alternatives) {
+            let earlier = match of_kind(operations, kinds.as_slice(), operation) {
                 Some(kind) => Some(kind.operation),
                 None => {
                     kinds.push(Kind::new(groups.len(), alternatives))?;

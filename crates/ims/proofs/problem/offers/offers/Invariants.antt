@@ -14,6 +14,6 @@ invariant-loop-statement l = record {
   listed : l.list.items ≡ take l.statement-index (operations_of l.machine l.innermost);
   offered : All AreAlternatives l.list.items;
   kinds : AreKinds l.list.items l.kinds.items;
-  noted : (number first : ℕ) → slice_index_or l.firsts number None ≡ Some first
+  noted : (number first : ℕ) → slice_index_or l.noted number None ≡ Some first
       → (first < length l.list.items) × (slice_index_or l.list.items first [] ≡ alternatives_in (option_flatten (slice_get l.machine.tables number)));
 }

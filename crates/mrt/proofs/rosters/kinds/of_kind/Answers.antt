@@ -25,8 +25,8 @@ loop-kind-preserved c =
       | else-eq-via-then-eq+else-are_same w ↦ λ e.
           let found : List (List Row) = w.index-operations-kind.result in
           let read : get_or operations kind.operation [] ≡ found = get_or_default operations kind.operation [] found is.there ∙ sym w.index-operations-kind.is in
-          true≢false (sym (w.are_same.ensures.1 (w.as_slice.ensures.value ∙ sym read ∙ e)) ∙ w.if-are_same.false)
+          true≢false (sym (w.are_same.ensures.1 (sym read ∙ e)) ∙ w.if-are_same.false)
       | else-eq-via-else-eq w ↦ λ e.
-          let same : kind.first ≡ c.first_row-first.result = is.first ∙ ap first_row e ∙ sym c.first_row-first.ensures in
+          let same : kind.first ≡ c.first_row-first.result = is.first ∙ ap first_row (e ∙ sym c.as_slice.ensures.value) ∙ sym c.first_row-first.ensures in
           true≢false (sym (c.eq.ensures ∙ row-is kind.first c.first_row-first.result same) ∙ w.if-eq.false)
     ])

@@ -18,7 +18,7 @@ push_group-requires-clause-earlier c =
           let kind : Kind = w.in-Some.kind in
           let e = kind.operation in
           let before : e < k = All-contains (λ (one : Kind). one.operation < k) c.as_slice.result.now kind (rw c.as_slice.ensures i.kinds) w.in-Some.ensures.0 in
-          rw w.earlier-is (omega (arith, i.count), ap (λ os. get_or os e []) i.groups ∙ get_or-take k operations e [] before ∙ w.in-Some.ensures.1)
+          rw w.earlier-is (omega (arith, i.count), ap (λ os. get_or os e []) i.groups ∙ get_or-take k operations e [] before ∙ w.in-Some.ensures.1 ∙ sym c.as_slice-alternatives.ensures.value)
       | in-None+in_ok-push-in-None w ↦ rw w.earlier-is (search rules)
     ]
 

@@ -2,7 +2,7 @@ use Rattle.std.proofs.Common.{◌≡◌, ◌<◌, List, length, get_or, sym, ap,
 use Rattle.std.proofs.lemmas.Bool.{true≢false}
 use Rattle.std.proofs.lemmas.List.{take_more_same, get_or_default}
 use Rattle.machine_data.specs.declared.alternative.Row.{Row}
-use Rattle.mrt.proofs.rosters.kinds.are_same.Goals as goal
+use Rattle.machine_data.proofs.alternative.are_same.Goals as goal
 
 pub returns-then-not-are_same_rows : goal.returns-then-not-are_same_rows
 returns-then-not-are_same_rows c =
