@@ -8,7 +8,7 @@ ghost use Rattle.machine_lint.specs.inner.Sought.{IsAnswer};
 
 use crate::place::{Place, place_at};
 use crate::search::find_key;
-use crate::sought::answers::{Answer, Asked, answer_of, answers};
+use crate::sought::answers::{Answer, Asked, answer_of, find_marks, sort_asked, unanswered};
 use machine::OutOfMemory;
 use std::alloc::Global;
 use std::marker::Model;
@@ -85,17 +85,14 @@ impl<'a> Indexed<'a> {
     }
 
     /// Finds where words stand from offsets on, all in one walk, so that each is told at once. They are put in their order.
-    pub(crate) fn seek(
-        &mut self,
-        alloc: Global,
-        asked: &mut Vec<Asked<'a>>,
-    ) -> Result<(), OutOfMemory>
+    pub(crate) fn seek(&mut self, asked: &mut Vec<Asked<'a>>) -> Result<(), OutOfMemory>
         requires short { length self.now < 2 ^ 32 }
         ensures { OnOk result (self.new ≡ self.old) }
     {
-        let answers = answers(alloc, self.text, asked)?;
-        self.answers = answers;
-        Ok(())
+        sort_asked(asked)?;
+        let alloc = *self.answers.allocator();
+        self.answers = unanswered(alloc, asked.as_slice())?;
+        find_marks(alloc, self.text, self.answers.as_mut_slice())
     }
 
     /// The first place from an offset on at which a word stands as a key does, or at all.

@@ -1,13 +1,12 @@
 //! Judging values of the tree of a machine text.
 
-ghost use Rattle.std.specs.Prelude.{◌≡◌, ◌++◌, ◌<◌, ◌^◌, [], ◌∷◌, length, option_map, OnOk};
+ghost use Rattle.std.specs.Prelude.{◌≡◌, ◌++◌, ◌<◌, ◌^◌, [], ◌∷◌, length, option_map, IfOk, OnOk};
 ghost use Rattle.std.specs.List.{list_any};
-ghost use Rattle.machine_lint.specs.Spots.{key_of, limit_of};
-ghost use Rattle.machine_lint.specs.Tree.{missed, told, value_told};
+ghost use Rattle.machine_lint.specs.Spots.{limit_of};
+ghost use Rattle.machine_lint.specs.Tree.{missed, told, told_unless, value_told};
 ghost use Rattle.machine_lint.specs.Values.{counts, is_unit_of, is_wanted, is_within, measures, row_words_in, same_text, same_words};
-ghost use Rattle.machine_lint.specs.inner.Ats.{lint_on, spot_at};
+ghost use Rattle.machine_lint.specs.inner.Ats.{fault_of, lint_on, name_of, spot_at};
 ghost use Rattle.machine.specs.MachineText.{is_unit_name, text_of};
-ghost use Rattle.machine.specs.declared.fault.MachineFault.TheVariants.{Limit, RepeatedRow, UnknownKey, WrongType};
 ghost use Rattle.toml.specs.View.{view};
 ghost use Rattle.toml.specs.Data.{string};
 
@@ -16,7 +15,7 @@ use crate::place::{MachineLint, NOWHERE, Place, place_of};
 use crate::rows::{is_unit_name, is_within as is_between, near_row, row_words};
 use crate::spots::{At, Found, key, shown};
 use machine::limits::{MAX_ALTERNATIVES, MAX_LATENCY, MAX_REGISTERS, MAX_ROWS, MAX_UNITS};
-use machine::{MachineFault, OutOfMemory};
+use machine::{Key, MachineFault, OutOfMemory};
 use std::alloc::Global;
 use toml::Value;
 
@@ -110,9 +109,53 @@ fn limit_of(at: At<'_>) -> &'static str
     }
 }
 
+/// What is wrong with a value, with the name that is told of it where that is not its key.
+#[derive(Clone, Copy)]
+pub(crate) enum Wrong<'a> {
+    /// It has a wrong type.
+    Type,
+    /// It is outside its limits.
+    Limit,
+    /// Its key means nothing.
+    Key,
+    /// An earlier row is the same.
+    Row,
+    /// An earlier unit has this name too.
+    Repeated(&'a str),
+    /// No unit has this name.
+    Unit(&'a str),
+    /// No opcode is this word.
+    Opcode(&'a str),
+}
+
+/// The key, or the name, that is told of what is wrong.
+fn name_of(alloc: Global, at: At<'_>, wrong: Wrong<'_>) -> Result<Key, OutOfMemory>
+    ensures { IfOk result (λ name. name ≡ name_of (spot_at at.entry) wrong.entry) }
+{
+    match wrong {
+        Wrong::Type | Wrong::Key | Wrong::Row => at.to_key(alloc),
+        Wrong::Limit => key(alloc, limit_of(at)),
+        Wrong::Repeated(name) | Wrong::Unit(name) | Wrong::Opcode(name) => key(alloc, name),
+    }
+}
+
+/// The fault of what is wrong, with the key or the name that is told of it.
+fn fault_of(wrong: Wrong<'_>, name: Key) -> MachineFault
+    ensures { result ≡ fault_of wrong.entry name }
+{
+    match wrong {
+        Wrong::Type => MachineFault::WrongType(name),
+        Wrong::Limit => MachineFault::Limit(name),
+        Wrong::Key => MachineFault::UnknownKey(name),
+        Wrong::Row => MachineFault::RepeatedRow(name),
+        Wrong::Repeated(_) => MachineFault::RepeatedUnit(name),
+        Wrong::Unit(_) => MachineFault::UnknownUnit(name),
+        Wrong::Opcode(_) => MachineFault::UnknownOpcode(name),
+    }
+}
+
 /// Puts a fault after the others, at a place.
 fn put(
-    alloc: Global,
     lints: &mut Vec<MachineLint>,
     place: Place,
     at: At<'_>,
@@ -121,7 +164,7 @@ fn put(
 ) -> Result<(), OutOfMemory>
     ensures { OnOk result (lints.new.items ≡ lints.old.items ++ lint_on place (spot_at at.entry) found fault ∷ []) }
 {
-    let spot = at.to_spot(alloc)?;
+    let spot = at.to_spot(*lints.allocator())?;
     lints.push(MachineLint {
         line: place.line,
         column: place.column,
@@ -132,94 +175,52 @@ fn put(
     Ok(())
 }
 
-/// Tells a fault of a value of a text.
-pub(crate) fn tell(
-    alloc: Global,
+/// Tells what is wrong with a value of a text.
+fn tell(
     lints: &mut Vec<MachineLint>,
     text: &Indexed<'_>,
     at: At<'_>,
     value: &Value,
-    fault: MachineFault,
+    wrong: Wrong<'_>,
 ) -> Result<(), OutOfMemory>
     requires short { length text.now < 2 ^ 32 }
-    ensures { OnOk result (lints.new.items ≡ lints.old.items ++ told text.now (spot_at at.entry) (view value.now) fault ∷ []) }
+    ensures { OnOk result (lints.new.items ≡ lints.old.items ++ told text.now (spot_at at.entry) (view value.now) (fault_of wrong.entry (name_of (spot_at at.entry) wrong.entry)) ∷ []) }
 {
+    let alloc = *lints.allocator();
     let found = shown(alloc, value)?;
-    put(alloc, lints, place_of(text, at), at, found, fault)
+    let fault = fault_of(wrong, name_of(alloc, at, wrong)?);
+    put(lints, place_of(text, at), at, found, fault)
+}
+
+/// Tells what is wrong with a value of a text, unless a test holds.
+pub(crate) fn tell_unless(
+    holds: bool,
+    lints: &mut Vec<MachineLint>,
+    text: &Indexed<'_>,
+    at: At<'_>,
+    value: &Value,
+    wrong: Wrong<'_>,
+) -> Result<(), OutOfMemory>
+    requires short { length text.now < 2 ^ 32 }
+    ensures { OnOk result (lints.new.items ≡ lints.old.items ++ told_unless holds (told text.now (spot_at at.entry) (view value.now) (fault_of wrong.entry (name_of (spot_at at.entry) wrong.entry)))) }
+{
+    if holds {
+        return Ok(());
+    }
+    tell(lints, text, at, value, wrong)
 }
 
 /// Tells that a key is missing.
-fn miss(alloc: Global, lints: &mut Vec<MachineLint>, at: At<'_>) -> Result<(), OutOfMemory>
+fn miss(lints: &mut Vec<MachineLint>, at: At<'_>) -> Result<(), OutOfMemory>
     ensures { OnOk result (lints.new.items ≡ lints.old.items ++ missed (spot_at at.entry) ∷ []) }
 {
-    let fault = MachineFault::MissingKey(at.to_key(alloc)?);
-    put(alloc, lints, NOWHERE, at, Found::Nothing, fault)
-}
-
-/// Tells that a value has a wrong type.
-fn tell_type(
-    alloc: Global,
-    lints: &mut Vec<MachineLint>,
-    text: &Indexed<'_>,
-    at: At<'_>,
-    value: &Value,
-) -> Result<(), OutOfMemory>
-    requires short { length text.now < 2 ^ 32 }
-    ensures { OnOk result (lints.new.items ≡ lints.old.items ++ told text.now (spot_at at.entry) (view value.now) (WrongType (key_of (spot_at at.entry))) ∷ []) }
-{
-    let fault = MachineFault::WrongType(at.to_key(alloc)?);
-    tell(alloc, lints, text, at, value, fault)
-}
-
-/// Tells that a value is outside its limits.
-fn tell_limit(
-    alloc: Global,
-    lints: &mut Vec<MachineLint>,
-    text: &Indexed<'_>,
-    at: At<'_>,
-    value: &Value,
-) -> Result<(), OutOfMemory>
-    requires short { length text.now < 2 ^ 32 }
-    ensures { OnOk result (lints.new.items ≡ lints.old.items ++ told text.now (spot_at at.entry) (view value.now) (Limit (limit_of (spot_at at.entry))) ∷ []) }
-{
-    let fault = MachineFault::Limit(key(alloc, limit_of(at))?);
-    tell(alloc, lints, text, at, value, fault)
-}
-
-/// Tells a key that means nothing.
-pub(crate) fn tell_key(
-    alloc: Global,
-    lints: &mut Vec<MachineLint>,
-    text: &Indexed<'_>,
-    at: At<'_>,
-    value: &Value,
-) -> Result<(), OutOfMemory>
-    requires short { length text.now < 2 ^ 32 }
-    ensures { OnOk result (lints.new.items ≡ lints.old.items ++ told text.now (spot_at at.entry) (view value.now) (UnknownKey (key_of (spot_at at.entry))) ∷ []) }
-{
-    let fault = MachineFault::UnknownKey(at.to_key(alloc)?);
-    tell(alloc, lints, text, at, value, fault)
-}
-
-/// Tells a row that an earlier one repeats.
-pub(crate) fn tell_repeat(
-    alloc: Global,
-    lints: &mut Vec<MachineLint>,
-    text: &Indexed<'_>,
-    at: At<'_>,
-    value: &Value,
-) -> Result<(), OutOfMemory>
-    requires short { length text.now < 2 ^ 32 }
-    ensures { OnOk result (lints.new.items ≡ lints.old.items ++ told text.now (spot_at at.entry) (view value.now) (RepeatedRow (key_of (spot_at at.entry))) ∷ []) }
-{
-    let fault = MachineFault::RepeatedRow(at.to_key(alloc)?);
-    tell(alloc, lints, text, at, value, fault)
+    let fault = MachineFault::MissingKey(at.to_key(*lints.allocator())?);
+    put(lints, NOWHERE, at, Found::Nothing, fault)
 }
 
 /// Tells whether a value is missing, or of a wrong type, or outside its limits.
 #[tactic(auto, unfolding(crate::specs::Tree::value_told))]
 pub(crate) fn judge_value(
-    alloc: Global,
     lints: &mut Vec<MachineLint>,
     text: &Indexed<'_>,
     at: At<'_>,
@@ -229,15 +230,12 @@ pub(crate) fn judge_value(
     ensures { OnOk result (lints.new.items ≡ lints.old.items ++ value_told text.now (spot_at at.entry) (option_map (λ v. view v.now) value.entry)) }
 {
     let Some(value) = value else {
-        return miss(alloc, lints, at);
+        return miss(lints, at);
     };
     if !is_wanted(at, value) {
-        return tell_type(alloc, lints, text, at, value);
+        return tell(lints, text, at, value, Wrong::Type);
     }
-    if !is_within(at, value) {
-        return tell_limit(alloc, lints, text, at, value);
-    }
-    Ok(())
+    tell_unless(is_within(at, value), lints, text, at, value, Wrong::Limit)
 }
 
 /// Whether two values are the same text.
@@ -287,5 +285,10 @@ pub(crate) fn is_unit_of(units: Option<&Value>, name: &str) -> bool
 fn is_among(values: &[Value], name: &str) -> bool
     ensures { result ≡ list_any (λ v. same_text (string name.now) (view v)) values.now }
 {
-    values.iter().any(|value| is_text(value, name))
+    for value in values {
+        if is_text(value, name) {
+            return true;
+        }
+    }
+    false
 }

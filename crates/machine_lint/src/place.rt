@@ -10,7 +10,7 @@ use crate::spots::{At, Found, Spot};
 use machine::MachineFault;
 
 /// A fault of a machine text, and the place that it is about.
-#[derive(Debug, Drop)]
+#[derive(Drop)]
 pub struct MachineLint {
     /// The line's number, from 1; 0 where the fault has no place in the text.
     pub line: usize,

@@ -40,7 +40,12 @@ fn is_unit_word(text: &[u8]) -> bool
 fn are_unit_bytes(text: &[u8]) -> bool
     ensures { result ≡ list_all is_unit_byte text.now }
 {
-    text.iter().all(|c| is_unit_byte(*c))
+    for c in text {
+        if !is_unit_byte(*c) {
+            return false;
+        }
+    }
+    true
 }
 
 /// Whether a byte may stand after the first of a unit's name.

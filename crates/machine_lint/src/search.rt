@@ -42,10 +42,7 @@ fn is_word_at(text: &[u8], word: &str, at: usize) -> bool
     if !rest.starts_with(word.as_bytes()) {
         return false;
     }
-    if bare_at(text, at + word.len()) {
-        return false;
-    }
-    !bare_before(text, at)
+    !bare_at(text, at + word.len()) & !bare_before(text, at)
 }
 
 /// Whether a byte is a blank.

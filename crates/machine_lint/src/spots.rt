@@ -2,7 +2,8 @@
 
 ghost use Rattle.std.specs.Prelude.{◌≡◌, IfOk};
 ghost use Rattle.machine_lint.specs.Spots.{key_of, shown};
-ghost use Rattle.machine_lint.specs.inner.Ats.{spot_at};
+ghost use Rattle.machine_lint.specs.inner.Ats.{spot_at, spot_with};
+ghost use Rattle.machine_lint.specs.declared.spots.Spot.TheVariants.{TableKey};
 ghost use Rattle.machine.specs.MachineText.{path_in, path_of};
 ghost use Rattle.toml.specs.View.{view};
 
@@ -11,7 +12,7 @@ use std::alloc::Global;
 use toml::Value;
 
 /// Where in the tree of a machine text a fault is. Elements of arrays are counted from 0.
-#[derive(Debug, Drop)]
+#[derive(Drop)]
 pub enum Spot {
     /// The text as a whole.
     Whole,
@@ -40,7 +41,7 @@ pub enum Spot {
 }
 
 /// What stands in the text where a fault is, if it is short.
-#[derive(Debug, Drop)]
+#[derive(Drop)]
 pub enum Found {
     /// Nothing, or what is none of the others.
     Nothing,
@@ -97,23 +98,45 @@ fn inner_key(alloc: Global, word: &str, name: &str) -> Result<Key, OutOfMemory>
     Ok(Key::new(text))
 }
 
+/// A key in the table of a word.
+fn inner_spot(alloc: Global, word: &str, name: &str) -> Result<Spot, OutOfMemory>
+    ensures { IfOk result (λ spot. spot ≡ TableKey word.now name.now) }
+{
+    let table = key(alloc, word)?;
+    Ok(Spot::TableKey(table, key(alloc, name)?))
+}
+
 impl<'a> At<'a> {
+    /// The same, to be kept, where a key is that of the word, or of the name at the top.
+    fn with_key(self, key: Key) -> Spot
+        ensures { result ≡ spot_with self.entry key }
+    {
+        match self {
+            At::TopKey(_) => Spot::TopKey(key),
+            At::Latency(_) => Spot::Latency(key),
+            At::Alternatives(_) => Spot::Alternatives(key),
+            At::Alternative(_, index) => Spot::Alternative(key, index),
+            At::Row(_, alternative, row) => Spot::Row(key, alternative, row),
+            _ => Spot::Table(key),
+        }
+    }
+
     /// The same, to be kept.
     pub(crate) fn to_spot(self, alloc: Global) -> Result<Spot, OutOfMemory>
         ensures { IfOk result (λ spot. spot ≡ spot_at self.entry) }
     {
         match self {
-            At::TopKey(name) => Ok(Spot::TopKey(key(alloc, name)?)),
             At::Units => Ok(Spot::Units),
             At::Unit(index) => Ok(Spot::Unit(index)),
             At::Registers => Ok(Spot::Registers),
             At::Ops => Ok(Spot::Ops),
-            At::Table(word) => Ok(Spot::Table(key(alloc, word)?)),
-            At::TableKey(word, name) => Ok(Spot::TableKey(key(alloc, word)?, key(alloc, name)?)),
-            At::Latency(word) => Ok(Spot::Latency(key(alloc, word)?)),
-            At::Alternatives(word) => Ok(Spot::Alternatives(key(alloc, word)?)),
-            At::Alternative(word, index) => Ok(Spot::Alternative(key(alloc, word)?, index)),
-            At::Row(word, alternative, row) => Ok(Spot::Row(key(alloc, word)?, alternative, row)),
+            At::TableKey(word, name) => inner_spot(alloc, word, name),
+            At::TopKey(word)
+            | At::Table(word)
+            | At::Latency(word)
+            | At::Alternatives(word)
+            | At::Alternative(word, _)
+            | At::Row(word, _, _) => Ok(self.with_key(key(alloc, word)?)),
         }
     }
 

@@ -12,15 +12,13 @@ ghost use Rattle.toml.specs.Data.{get_member};
 ghost use Rattle.toml.specs.View.{table_view, view};
 
 use crate::index::Indexed;
-use crate::judge::{
-    is_unit_of, judge_value, same_row, same_text, tell, tell_key, tell_repeat, text_of,
-};
+use crate::judge::{Wrong, is_unit_of, judge_value, same_row, same_text, tell_unless, text_of};
 use crate::place::MachineLint;
 use crate::rows::row_words;
 use crate::sought::seek::seek_keys;
-use crate::spots::{At, key};
+use crate::spots::At;
 use machine::limits::{MAX_ALTERNATIVES, MAX_ROWS, MAX_UNITS};
-use machine::{MachineFault, Opcode, OutOfMemory};
+use machine::{Opcode, OutOfMemory};
 use std::alloc::Global;
 use toml::{Table, Value};
 
@@ -32,20 +30,13 @@ struct Within<'a, 'b> {
     word: &'a str,
 }
 
-/// Whether a word is one of these.
-fn is_one_of(word: &str, known: &[&str]) -> bool
-    ensures { result ≡ list_any (λ k. same_word word.now k.now) known.now }
-{
-    known.iter().any(|other| word == *other)
-}
-
 /// Whether a key may stand at the top, or in the table of a word.
 fn is_known(word: Option<&str>, name: &str) -> bool
     ensures { result ≡ list_any (same_word name.now) (known_keys (option_map (λ w. w.now) word.entry)) }
 {
     match word {
-        None => is_one_of(name, &["ops", "registers", "units"]),
-        Some(_) => is_one_of(name, &["alts", "latency"]),
+        None => matches!(name, "ops" | "registers" | "units"),
+        Some(_) => matches!(name, "alts" | "latency"),
     }
 }
 
@@ -62,7 +53,6 @@ fn key_at<'a>(word: Option<&'a str>, name: &'a str) -> At<'a>
 /// Tells a key that means nothing, if it does.
 #[tactic(auto, unfolding(crate::specs::Tree::key_told))]
 fn judge_key(
-    alloc: Global,
     lints: &mut Vec<MachineLint>,
     text: &Indexed<'_>,
     word: Option<&str>,
@@ -72,16 +62,14 @@ fn judge_key(
     requires short { length text.now < 2 ^ 32 }
     ensures { OnOk result (lints.new.items ≡ lints.old.items ++ key_told text.now (option_map (λ w. w.now) word.entry) (name.now, view value.now)) }
 {
-    if is_known(word, name) {
-        return Ok(());
-    }
-    tell_key(alloc, lints, text, key_at(word, name), value)
+    let at = key_at(word, name);
+    let known = is_known(word, name);
+    tell_unless(known, lints, text, at, value, Wrong::Key)
 }
 
 /// Tells the keys of a table that mean nothing.
 #[tactic(auto, unfolding(crate::specs::Tree::keys_told))]
 fn judge_keys(
-    alloc: Global,
     lints: &mut Vec<MachineLint>,
     text: &Indexed<'_>,
     word: Option<&str>,
@@ -91,7 +79,7 @@ fn judge_keys(
     ensures { OnOk result (lints.new.items ≡ lints.old.items ++ keys_told text.now (option_map (λ w. w.now) word.entry) (table_view table.now)) }
 {
     for (name, value) in table {
-        judge_key(alloc, lints, text, word, name.as_str(), value)?;
+        judge_key(lints, text, word, name.as_str(), value)?;
     }
     Ok(())
 }
@@ -113,7 +101,6 @@ pub(crate) fn elements(value: Option<&Value>, most: usize) -> &[Value]
 /// Tells a unit that is named by an earlier element too.
 #[tactic(auto, unfolding(crate::specs::Tree::repeated_unit))]
 fn judge_repeated_unit(
-    alloc: Global,
     lints: &mut Vec<MachineLint>,
     text: &Indexed<'_>,
     before: &[Value],
@@ -122,18 +109,22 @@ fn judge_repeated_unit(
     requires short { length text.now < 2 ^ 32 }
     ensures { OnOk result (lints.new.items ≡ lints.old.items ++ repeated_unit text.now (map view before.now) (view unit.now)) }
 {
-    if !is_text_among(before, unit) {
-        return Ok(());
-    }
-    let fault = MachineFault::RepeatedUnit(key(alloc, text_of(unit))?);
-    tell(alloc, lints, text, At::Unit(before.len()), unit, fault)
+    let at = At::Unit(before.len());
+    let once = !is_text_among(before, unit);
+    let wrong = Wrong::Repeated(text_of(unit));
+    tell_unless(once, lints, text, at, unit, wrong)
 }
 
 /// Whether one of these values is the same text.
 fn has_text(values: &[Value], value: &Value) -> bool
     ensures { result ≡ list_any (λ other. same_text (view other) (view value.now)) values.now }
 {
-    values.iter().any(|other| same_text(other, value))
+    for other in values {
+        if same_text(other, value) {
+            return true;
+        }
+    }
+    false
 }
 
 /// Whether a value is the same text as one of these.
@@ -147,7 +138,12 @@ fn is_text_among(values: &[Value], value: &Value) -> bool
 fn has_row(rows: &[Value], row: &Value) -> bool
     ensures { result ≡ list_any (λ other. same_words (row_words_in (view other)) (row_words_in (view row.now))) rows.now }
 {
-    rows.iter().any(|other| same_row(other, row))
+    for other in rows {
+        if same_row(other, row) {
+            return true;
+        }
+    }
+    false
 }
 
 /// Whether a row has the same unit and the same offset as one of these.
@@ -160,7 +156,6 @@ fn is_row_among(rows: &[Value], row: &Value) -> bool
 /// Tells what is wrong with an element of `units`, after those before it.
 #[tactic(auto, unfolding(crate::specs::Tree::unit_told))]
 fn judge_unit(
-    alloc: Global,
     lints: &mut Vec<MachineLint>,
     text: &Indexed<'_>,
     before: &[Value],
@@ -169,14 +164,13 @@ fn judge_unit(
     requires short { length text.now < 2 ^ 32 }
     ensures { OnOk result (lints.new.items ≡ lints.old.items ++ unit_told text.now (map view before.now) (view unit.now)) }
 {
-    judge_value(alloc, lints, text, At::Unit(before.len()), Some(unit))?;
-    judge_repeated_unit(alloc, lints, text, before, unit)
+    judge_value(lints, text, At::Unit(before.len()), Some(unit))?;
+    judge_repeated_unit(lints, text, before, unit)
 }
 
 /// Tells what is wrong with `units`.
 #[tactic(auto, unfolding(crate::specs::Tree::units_told))]
 fn judge_units(
-    alloc: Global,
     lints: &mut Vec<MachineLint>,
     text: &Indexed<'_>,
     units: Option<&Value>,
@@ -184,13 +178,12 @@ fn judge_units(
     requires short { length text.now < 2 ^ 32 }
     ensures { OnOk result (lints.new.items ≡ lints.old.items ++ units_told text.now (option_map (λ v. view v.now) units.entry)) }
 {
-    judge_value(alloc, lints, text, At::Units, units)?;
-    judge_unit_list(alloc, lints, text, elements(units, MAX_UNITS))
+    judge_value(lints, text, At::Units, units)?;
+    judge_unit_list(lints, text, elements(units, MAX_UNITS))
 }
 
 /// Tells what is wrong with elements of `units`.
 fn judge_unit_list(
-    alloc: Global,
     lints: &mut Vec<MachineLint>,
     text: &Indexed<'_>,
     units: &[Value],
@@ -200,7 +193,7 @@ fn judge_unit_list(
 {
     let mut passed = 0;
     for unit in units {
-        judge_unit(alloc, lints, text, &units[..passed], unit)?;
+        judge_unit(lints, text, &units[..passed], unit)?;
         passed += 1;
     }
     Ok(())
@@ -209,7 +202,6 @@ fn judge_unit_list(
 /// Tells that the units have none of the name of a row's unit.
 #[tactic(auto, unfolding(crate::specs::Tree::unknown_unit))]
 fn judge_unknown_unit(
-    alloc: Global,
     lints: &mut Vec<MachineLint>,
     within: Within<'_, '_>,
     at: At<'_>,
@@ -221,17 +213,14 @@ fn judge_unknown_unit(
     let Some((unit, _)) = row_words(row) else {
         return Ok(());
     };
-    if is_unit_of(within.units, unit) {
-        return Ok(());
-    }
-    let fault = MachineFault::UnknownUnit(key(alloc, unit)?);
-    tell(alloc, lints, within.text, at, row, fault)
+    let known = is_unit_of(within.units, unit);
+    let wrong = Wrong::Unit(unit);
+    tell_unless(known, lints, within.text, at, row, wrong)
 }
 
 /// Tells a row that an earlier one repeats.
 #[tactic(auto, unfolding(crate::specs::Tree::repeated_row))]
 fn judge_repeated_row(
-    alloc: Global,
     lints: &mut Vec<MachineLint>,
     text: &Indexed<'_>,
     at: At<'_>,
@@ -241,16 +230,13 @@ fn judge_repeated_row(
     requires short { length text.now < 2 ^ 32 }
     ensures { OnOk result (lints.new.items ≡ lints.old.items ++ repeated_row text.now (spot_at at.entry) (map view before.now) (view row.now)) }
 {
-    if !is_row_among(before, row) {
-        return Ok(());
-    }
-    tell_repeat(alloc, lints, text, at, row)
+    let once = !is_row_among(before, row);
+    tell_unless(once, lints, text, at, row, Wrong::Row)
 }
 
 /// Tells what is wrong with a row, after those before it.
 #[tactic(auto, unfolding(crate::specs::Tree::row_told))]
 fn judge_row(
-    alloc: Global,
     lints: &mut Vec<MachineLint>,
     within: Within<'_, '_>,
     number: usize,
@@ -261,14 +247,13 @@ fn judge_row(
     ensures { OnOk result (lints.new.items ≡ lints.old.items ++ row_told within.entry.text.now (option_map (λ v. view v.now) within.entry.units) within.entry.word.now number (map view before.now) (view row.now)) }
 {
     let at = At::Row(within.word, number, before.len());
-    judge_value(alloc, lints, within.text, at, Some(row))?;
-    judge_unknown_unit(alloc, lints, within, at, row)?;
-    judge_repeated_row(alloc, lints, within.text, at, before, row)
+    judge_value(lints, within.text, at, Some(row))?;
+    judge_unknown_unit(lints, within, at, row)?;
+    judge_repeated_row(lints, within.text, at, before, row)
 }
 
 /// Tells what is wrong with rows of an alternative.
 fn judge_rows(
-    alloc: Global,
     lints: &mut Vec<MachineLint>,
     within: Within<'_, '_>,
     number: usize,
@@ -279,7 +264,7 @@ fn judge_rows(
 {
     let mut passed = 0;
     for row in rows {
-        judge_row(alloc, lints, within, number, &rows[..passed], row)?;
+        judge_row(lints, within, number, &rows[..passed], row)?;
         passed += 1;
     }
     Ok(())
@@ -288,7 +273,6 @@ fn judge_rows(
 /// Tells what is wrong with an alternative that has this number.
 #[tactic(auto, unfolding(crate::specs::Tree::alternative_told))]
 fn judge_alternative(
-    alloc: Global,
     lints: &mut Vec<MachineLint>,
     within: Within<'_, '_>,
     before: &[Value],
@@ -298,14 +282,13 @@ fn judge_alternative(
     ensures { OnOk result (lints.new.items ≡ lints.old.items ++ alternative_told within.entry.text.now (option_map (λ v. view v.now) within.entry.units) within.entry.word.now (map view before.now) (view alternative.now)) }
 {
     let at = At::Alternative(within.word, before.len());
-    judge_value(alloc, lints, within.text, at, Some(alternative))?;
+    judge_value(lints, within.text, at, Some(alternative))?;
     let rows = elements(Some(alternative), MAX_ROWS);
-    judge_rows(alloc, lints, within, before.len(), rows)
+    judge_rows(lints, within, before.len(), rows)
 }
 
 /// Tells what is wrong with alternatives of a table.
 fn judge_alternative_list(
-    alloc: Global,
     lints: &mut Vec<MachineLint>,
     within: Within<'_, '_>,
     alternatives: &[Value],
@@ -315,7 +298,7 @@ fn judge_alternative_list(
 {
     let mut passed = 0;
     for alternative in alternatives {
-        judge_alternative(alloc, lints, within, &alternatives[..passed], alternative)?;
+        judge_alternative(lints, within, &alternatives[..passed], alternative)?;
         passed += 1;
     }
     Ok(())
@@ -324,7 +307,6 @@ fn judge_alternative_list(
 /// Tells what is wrong with `alts` of a table.
 #[tactic(auto, unfolding(crate::specs::Tree::alternatives_told))]
 fn judge_alternatives(
-    alloc: Global,
     lints: &mut Vec<MachineLint>,
     within: Within<'_, '_>,
     value: Option<&Value>,
@@ -333,8 +315,8 @@ fn judge_alternatives(
     ensures { OnOk result (lints.new.items ≡ lints.old.items ++ alternatives_told within.entry.text.now (option_map (λ v. view v.now) within.entry.units) within.entry.word.now (option_map (λ v. view v.now) value.entry)) }
 {
     let at = At::Alternatives(within.word);
-    judge_value(alloc, lints, within.text, at, value)?;
-    judge_alternative_list(alloc, lints, within, elements(value, MAX_ALTERNATIVES))
+    judge_value(lints, within.text, at, value)?;
+    judge_alternative_list(lints, within, elements(value, MAX_ALTERNATIVES))
 }
 
 /// The value at a key.
@@ -347,7 +329,6 @@ pub(crate) fn look_up<'a>(table: &'a Table, name: &str) -> Option<&'a Value>
 /// Tells what is wrong with the keys in a table.
 #[tactic(auto, unfolding(crate::specs::Tree::table_told))]
 fn judge_table(
-    alloc: Global,
     lints: &mut Vec<MachineLint>,
     within: Within<'_, '_>,
     keys: &Table,
@@ -356,16 +337,15 @@ fn judge_table(
     ensures { OnOk result (lints.new.items ≡ lints.old.items ++ table_told within.entry.text.now (option_map (λ v. view v.now) within.entry.units) within.entry.word.now (table_view keys.now)) }
 {
     let word = within.word;
-    judge_keys(alloc, lints, within.text, Some(word), keys)?;
+    judge_keys(lints, within.text, Some(word), keys)?;
     let latency = look_up(keys, "latency");
-    judge_value(alloc, lints, within.text, At::Latency(word), latency)?;
-    judge_alternatives(alloc, lints, within, look_up(keys, "alts"))
+    judge_value(lints, within.text, At::Latency(word), latency)?;
+    judge_alternatives(lints, within, look_up(keys, "alts"))
 }
 
 /// Tells what is wrong inside a table, if it is one.
 #[tactic(auto, unfolding(crate::specs::Tree::inside_told))]
 fn judge_inside(
-    alloc: Global,
     lints: &mut Vec<MachineLint>,
     within: Within<'_, '_>,
     value: &Value,
@@ -374,7 +354,7 @@ fn judge_inside(
     ensures { OnOk result (lints.new.items ≡ lints.old.items ++ inside_told within.entry.text.now (option_map (λ v. view v.now) within.entry.units) within.entry.word.now (view value.now)) }
 {
     match value.as_table() {
-        Some(keys) => judge_table(alloc, lints, within, keys),
+        Some(keys) => judge_table(lints, within, keys),
         None => Ok(()),
     }
 }
@@ -382,7 +362,6 @@ fn judge_inside(
 /// Tells that a word is no opcode.
 #[tactic(auto, unfolding(crate::specs::Tree::unknown_opcode))]
 fn judge_word(
-    alloc: Global,
     lints: &mut Vec<MachineLint>,
     text: &Indexed<'_>,
     word: &str,
@@ -391,17 +370,14 @@ fn judge_word(
     requires short { length text.now < 2 ^ 32 }
     ensures { OnOk result (lints.new.items ≡ lints.old.items ++ unknown_opcode text.now word.now (view value.now)) }
 {
-    if Opcode::named(word.as_bytes()).is_some() {
-        return Ok(());
-    }
-    let fault = MachineFault::UnknownOpcode(key(alloc, word)?);
-    tell(alloc, lints, text, At::Table(word), value, fault)
+    let known = Opcode::named(word.as_bytes()).is_some();
+    let wrong = Wrong::Opcode(word);
+    tell_unless(known, lints, text, At::Table(word), value, wrong)
 }
 
 /// Tells what is wrong with a key of `ops` and its table.
 #[tactic(auto, unfolding(crate::specs::Tree::entry_told))]
 fn judge_entry(
-    alloc: Global,
     lints: &mut Vec<MachineLint>,
     within: Within<'_, '_>,
     value: &Value,
@@ -410,14 +386,13 @@ fn judge_entry(
     ensures { OnOk result (lints.new.items ≡ lints.old.items ++ entry_told within.entry.text.now (option_map (λ v. view v.now) within.entry.units) (within.entry.word.now, view value.now)) }
 {
     let word = within.word;
-    judge_word(alloc, lints, within.text, word, value)?;
-    judge_value(alloc, lints, within.text, At::Table(word), Some(value))?;
-    judge_inside(alloc, lints, within, value)
+    judge_word(lints, within.text, word, value)?;
+    judge_value(lints, within.text, At::Table(word), Some(value))?;
+    judge_inside(lints, within, value)
 }
 
 /// Tells what is wrong with the tables of a machine.
 fn judge_entries(
-    alloc: Global,
     lints: &mut Vec<MachineLint>,
     text: &Indexed<'_>,
     units: Option<&Value>,
@@ -432,7 +407,7 @@ fn judge_entries(
             units,
             word: word.as_str(),
         };
-        judge_entry(alloc, lints, within, value)?;
+        judge_entry(lints, within, value)?;
     }
     Ok(())
 }
@@ -440,7 +415,6 @@ fn judge_entries(
 /// Tells what is wrong with `ops`.
 #[tactic(auto, unfolding(crate::specs::Tree::tables_told))]
 fn judge_tables(
-    alloc: Global,
     lints: &mut Vec<MachineLint>,
     text: &Indexed<'_>,
     units: Option<&Value>,
@@ -449,9 +423,9 @@ fn judge_tables(
     requires short { length text.now < 2 ^ 32 }
     ensures { OnOk result (lints.new.items ≡ lints.old.items ++ tables_told text.now (option_map (λ v. view v.now) units.entry) (option_map (λ v. view v.now) ops.entry)) }
 {
-    judge_value(alloc, lints, text, At::Ops, ops)?;
+    judge_value(lints, text, At::Ops, ops)?;
     match table_in(ops) {
-        Some(tables) => judge_entries(alloc, lints, text, units, tables),
+        Some(tables) => judge_entries(lints, text, units, tables),
         None => Ok(()),
     }
 }
@@ -469,7 +443,6 @@ pub(crate) fn table_in(value: Option<&Value>) -> Option<&Table>
 /// Tells what is wrong with a tree, where each key is found at once.
 #[tactic(auto, unfolding(crate::specs::Tree::tree_told))]
 fn judge_top(
-    alloc: Global,
     lints: &mut Vec<MachineLint>,
     text: &Indexed<'_>,
     tree: &Table,
@@ -478,16 +451,10 @@ fn judge_top(
     ensures { OnOk result (lints.new.items ≡ lints.old.items ++ tree_told text.now (table_view tree.now)) }
 {
     let units = look_up(tree, "units");
-    judge_keys(alloc, lints, text, None, tree)?;
-    judge_units(alloc, lints, text, units)?;
-    judge_value(
-        alloc,
-        lints,
-        text,
-        At::Registers,
-        look_up(tree, "registers"),
-    )?;
-    judge_tables(alloc, lints, text, units, look_up(tree, "ops"))
+    judge_keys(lints, text, None, tree)?;
+    judge_units(lints, text, units)?;
+    judge_value(lints, text, At::Registers, look_up(tree, "registers"))?;
+    judge_tables(lints, text, units, look_up(tree, "ops"))
 }
 
 /// The same, in a list of its own.
@@ -500,7 +467,7 @@ fn faults_of(
     ensures { IfOk result (λ lints. lints.items ≡ tree_told text.now (table_view tree.now)) }
 {
     let mut lints = Vec::new(alloc);
-    judge_top(alloc, &mut lints, text, tree)?;
+    judge_top(&mut lints, text, tree)?;
     Ok(lints)
 }
 

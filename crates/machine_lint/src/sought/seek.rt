@@ -45,7 +45,6 @@ fn ask_inner_keys<'a>(
 
 /// Finds where all that is asked stands, if it is more than it was.
 fn seek_more<'a>(
-    alloc: Global,
     text: &mut Indexed<'a>,
     asked: &mut Vec<Asked<'a>>,
     before: usize,
@@ -56,12 +55,11 @@ fn seek_more<'a>(
     if asked.len() == before {
         return Ok(());
     }
-    text.seek(alloc, asked)
+    text.seek(asked)
 }
 
 /// Finds where the keys of the tables stand, and then those in each table.
 fn seek_tables<'a>(
-    alloc: Global,
     text: &mut Indexed<'a>,
     asked: &mut Vec<Asked<'a>>,
     tables: &'a Table,
@@ -72,10 +70,10 @@ fn seek_tables<'a>(
     if let Some(mark) = text.find_key("ops", 0) {
         ask_keys(asked, tables, mark.at + 3)?;
     }
-    seek_more(alloc, text, asked, 0)?;
+    seek_more(text, asked, 0)?;
     let before = asked.len();
     ask_inner_keys(asked, text, tables)?;
-    seek_more(alloc, text, asked, before)
+    seek_more(text, asked, before)
 }
 
 /// Finds where the keys of a tree stand.
@@ -90,7 +88,7 @@ pub(crate) fn seek_keys<'a>(
     let mut asked = Vec::new(alloc);
     ask_keys(&mut asked, tree, 0)?;
     match table_in(look_up(tree, "ops")) {
-        Some(tables) => seek_tables(alloc, text, &mut asked, tables),
-        None => seek_more(alloc, text, &mut asked, 0),
+        Some(tables) => seek_tables(text, &mut asked, tables),
+        None => seek_more(text, &mut asked, 0),
     }
 }
