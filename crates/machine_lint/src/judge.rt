@@ -69,10 +69,10 @@ fn is_wanted(at: At<'_>, value: &Value) -> bool
 {
     match at {
         At::TopKey(_) | At::TableKey(_, _) => true,
-        At::Units | At::Alternatives(_) | At::Alternative(_, _) => value.as_array().is_some(),
-        At::Unit(_) => value.as_str().is_some(),
-        At::Registers | At::Latency(_) => value.as_integer().is_some(),
-        At::Ops | At::Table(_) => value.as_table().is_some(),
+        At::Units | At::Alternatives(_) | At::Alternative(_, _) => matches!(value, Value::Array(_)),
+        At::Unit(_) => matches!(value, Value::String(_)),
+        At::Registers | At::Latency(_) => matches!(value, Value::Integer(_)),
+        At::Ops | At::Table(_) => matches!(value, Value::Table(_)),
         At::Row(_, _, _) => row_words(value).is_some(),
     }
 }

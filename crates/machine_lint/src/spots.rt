@@ -1,10 +1,10 @@
 //! Where in the tree of a machine text something stands, and what stands there.
 
-ghost use Rattle.std.specs.Prelude.{◌≡◌, IfOk};
+ghost use Rattle.std.specs.Prelude.{◌≡◌, ◌++◌, string_bytes, IfOk, OnOk};
 ghost use Rattle.machine_lint.specs.Spots.{key_of, shown};
 ghost use Rattle.machine_lint.specs.inner.Ats.{spot_at, spot_with};
 ghost use Rattle.machine_lint.specs.declared.spots.Spot.TheVariants.{TableKey};
-ghost use Rattle.machine.specs.MachineText.{path_in, path_of};
+ghost use Rattle.machine.specs.MachineText.{path_of};
 ghost use Rattle.toml.specs.View.{view};
 
 use machine::{Key, OutOfMemory};
@@ -76,25 +76,22 @@ pub(crate) fn key(alloc: Global, text: &str) -> Result<Key, OutOfMemory>
     Ok(Key::new(String::from_str(alloc, text)?))
 }
 
-/// The key of the table of a word.
-fn table_key(alloc: Global, word: &str) -> Result<Key, OutOfMemory>
-    ensures { IfOk result (λ key. key ≡ path_of word.now) }
+/// Appends the path of a key in the table of a word to a text.
+fn push_path(text: &mut String, word: &str, dot: &str, name: &str) -> Result<(), OutOfMemory>
+    ensures { OnOk result (string_bytes text.new ≡ string_bytes text.old ++ ((path_of word.now ++ dot.now) ++ name.now)) }
 {
-    let mut text = String::new(alloc);
     text.push_str("ops.")?;
     text.push_str(word)?;
-    Ok(Key::new(text))
+    text.push_str(dot)?;
+    text.push_str(name)
 }
 
-/// The key of a key in the table of a word.
-fn inner_key(alloc: Global, word: &str, name: &str) -> Result<Key, OutOfMemory>
-    ensures { IfOk result (λ key. key ≡ path_in word.now name.now) }
+/// The key of a key in the table of a word, or of the table where the dot and the name are empty.
+fn path_key(alloc: Global, word: &str, dot: &str, name: &str) -> Result<Key, OutOfMemory>
+    ensures { IfOk result (λ key. key ≡ (path_of word.now ++ dot.now) ++ name.now) }
 {
     let mut text = String::new(alloc);
-    text.push_str("ops.")?;
-    text.push_str(word)?;
-    text.push_str(".")?;
-    text.push_str(name)?;
+    push_path(&mut text, word, dot, name)?;
     Ok(Key::new(text))
 }
 
@@ -149,11 +146,11 @@ impl<'a> At<'a> {
             At::Units | At::Unit(_) => key(alloc, "units"),
             At::Registers => key(alloc, "registers"),
             At::Ops => key(alloc, "ops"),
-            At::Table(word) => table_key(alloc, word),
-            At::TableKey(word, name) => inner_key(alloc, word, name),
-            At::Latency(word) => inner_key(alloc, word, "latency"),
+            At::Table(word) => path_key(alloc, word, "", ""),
+            At::TableKey(word, name) => path_key(alloc, word, ".", name),
+            At::Latency(word) => path_key(alloc, word, ".", "latency"),
             At::Alternatives(word) | At::Alternative(word, _) | At::Row(word, _, _) => {
-                inner_key(alloc, word, "alts")
+                path_key(alloc, word, ".", "alts")
             }
         }
     }

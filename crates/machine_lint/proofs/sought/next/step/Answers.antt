@@ -1,4 +1,4 @@
-use Rattle.std.proofs.Common.{◌≡◌, ℕ, ◌<◌, List, Option, None, drop, get_or, length, slice_set, true, ap, sym, ◌∙◌, arith}
+use Rattle.std.proofs.Common.{◌≡◌, ℕ, ◌<◌, List, Option, None, drop, get_or, length, slice_set, true, ap, sym, ◌∙◌}
 use Rattle.std.proofs.lemmas.List.{length-map}
 use Rattle.machine_lint.specs.inner.Sought.{IsLink, begins, none, nth, stepped, texts}
 use Rattle.machine_lint.proofs.InOrder.{link-first, nth-texts}
@@ -21,11 +21,11 @@ loop-now-preserved c =
     let all : length c.args.links.now ≡ length c.args.words.now = c.requires.linked in
     let long : length c.loop-now.nexts ≡ length c.args.nexts.now = c.loop-now.auto.nexts in
     let known : length c.args.nexts.now ≡ length c.args.words.now = c.requires.known in
-    let below : k < length c.args.links.now = here.0 in
+    let inside : k < length c.args.words.now = rw all at here.0 in
     record {
       first = link-first words (drop c.args.here.at c.args.here.text.now) k (length c.args.links.now) link linked here.0 here.1;
       each = each-more c.args.here.text.now c.args.here.at words c.args.nexts.now c.loop-now.nexts (slice_set c.loop-now.nexts k c.noted.result) k link
-          (omega (arith, below, all, size)) (omega (arith, long, known, size)) linked (ap (slice_set c.loop-now.nexts k) (c.noted.ensures ∙ ap (λ w. stepped c.args.here.text.now w c.args.here.at (get_or c.loop-now.nexts k none)) (sym (nth-texts c.args.words.now k _ (omega (arith, below, all)))))) (rw c.in-Some.is at c.loop-now.invariant.each);
+          (rw size inside) (long ∙ known ∙ sym size) linked (ap (slice_set c.loop-now.nexts k) (c.noted.ensures ∙ ap (λ w. stepped c.args.here.text.now w c.args.here.at (get_or c.loop-now.nexts k none)) (sym (nth-texts c.args.words.now k _ inside)))) (rw c.in-Some.is at c.loop-now.invariant.each);
     }
 
 pub returns-clause-each : goal.returns-clause-each
@@ -38,6 +38,5 @@ noted-requires-clause-first c =
     let words : List (List ℕ) = texts c.args.words.now in
     let k : ℕ = c.in-Some.number in
     let here : (k < length c.args.links.now) × (begins (nth words k) (drop c.args.here.at c.args.here.text.now) ≡ true) = rw c.in-Some.is at c.loop-now.invariant.first in
-    let below : k < length c.args.links.now = here.0 in
-    let all : length c.args.links.now ≡ length c.args.words.now = c.requires.linked in
-    ap (λ w. begins w (drop c.args.here.at c.args.here.text.now)) (sym (nth-texts c.args.words.now k _ (omega (arith, below, all)))) ∙ here.1
+    let inside : k < length c.args.words.now = rw c.requires.linked at here.0 in
+    ap (λ w. begins w (drop c.args.here.at c.args.here.text.now)) (sym (nth-texts c.args.words.now k _ inside)) ∙ here.1
