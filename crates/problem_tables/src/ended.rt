@@ -1,8 +1,10 @@
 //! Machines and problems of a text that have ended.
 
-ghost use Rattle.std.specs.Prelude.{◌≡◌, []};
-ghost use Rattle.problem_tables.specs.Seen.{ended_seen};
+ghost use Rattle.std.specs.Prelude.{◌≡◌, [], ◌∷◌, ◌++◌, None, OnOk};
+ghost use Rattle.problem_tables.specs.Seen.{Refuses, ended_seen, machine_seen, problem_seen};
 
+use crate::fault::Refusal;
+use machine_data::OutOfMemory;
 use problems::{File, Kind, Label, Order, Value};
 use registers::Read;
 use std::alloc::Global;
@@ -50,5 +52,22 @@ impl Ended {
             machines: Vec::new(alloc),
             problems: Vec::new(alloc),
         }
+    }
+
+    /// Adds a machine.
+    pub(crate) fn add_machine(&mut self, machine: TextMachine) -> Result<(), OutOfMemory>
+        ensures { OnOk result (ended_seen self.new ≡ record (ended_seen self.old) { machines = (ended_seen self.old).machines ++ machine_seen machine ∷ [] }) }
+    {
+        self.machines.push(machine)?;
+        Ok(())
+    }
+
+    /// Adds a problem.
+    pub(crate) fn add_problem(&mut self, problem: TextProblem) -> Result<(), Refusal>
+        ensures fault { Refuses result None }
+        ensures added { OnOk result (ended_seen self.new ≡ record (ended_seen self.old) { problems = (ended_seen self.old).problems ++ problem_seen problem ∷ [] }) }
+    {
+        self.problems.push(problem)?;
+        Ok(())
     }
 }

@@ -93,7 +93,7 @@ impl fmt::Display for Wrong {
 }
 
 /// A fault of a line: where, and what.
-#[derive(Clone, Copy, Debug, PartialEq, Eq)]
+#[derive(Clone, Copy)]
 pub struct Told {
     /// The column of the first byte of the word at fault, from 1.
     pub column: usize,
@@ -104,7 +104,7 @@ pub struct Told {
 }
 
 /// Why a line is not taken in.
-#[derive(Clone, Copy, Debug, PartialEq, Eq)]
+#[derive(Clone, Copy)]
 pub enum Refusal {
     /// This is its first fault.
     Fault(Told),

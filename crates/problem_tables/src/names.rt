@@ -1,12 +1,13 @@
 //! Names with their numbers.
 
-ghost use Rattle.std.specs.Prelude.{◌≡◌, ◌<◌, ℕ, List, [], ◌∷◌, ◌++◌, length, false, OnOk};
+ghost use Rattle.std.specs.Prelude.{◌≡◌, ◌<◌, ℕ, List, [], ◌∷◌, ◌++◌, length, false, None, OnOk};
+ghost use Rattle.problem_tables.specs.Seen.{Refuses};
 ghost use Rattle.problem_tables.specs.Names.{has_name, index_of, last_name};
 ghost use Rattle.problem_tables.specs.declared.names.TheConstants.{BUCKETS};
 ghost use Rattle.problem_tables.specs.inner.Numbered.{bucket_of};
 
+use crate::fault::Refusal;
 use crate::room::push_with_room;
-use machine_data::OutOfMemory;
 use problem_lines::{Word, are_same};
 use problems::Label;
 use std::alloc::Global;
@@ -103,9 +104,10 @@ impl<'a> Names<'a> {
     }
 
     /// Adds a name that is not there. Where memory runs out, all is as before.
-    pub(crate) fn add(&mut self, name: Word<'a>) -> Result<(), OutOfMemory>
+    pub(crate) fn add(&mut self, name: Word<'a>) -> Result<(), Refusal>
         requires { has_name self.old name.bytes.now ≡ false }
-        ensures { OnOk result (self.new ≡ self.old ++ name.entry.bytes.now ∷ []) }
+        ensures fault { Refuses result None }
+        ensures added { OnOk result (self.new ≡ self.old ++ name.entry.bytes.now ∷ []) }
     {
         let bucket = bucket_of(name.bytes);
         let number = self.labels.len();
@@ -118,7 +120,7 @@ impl<'a> Names<'a> {
             Ok(_) => Ok(()),
             Err(failed) => {
                 self.labels.pop();
-                Err(OutOfMemory::from(failed))
+                Err(Refusal::from(failed))
             }
         }
     }

@@ -1,10 +1,11 @@
 //! The names of problems, and whether one is under way.
 
-ghost use Rattle.std.specs.Prelude.{◌≡◌, ◌<◌, [], ◌∷◌, ◌++◌, length, true, false, OnOk};
+ghost use Rattle.std.specs.Prelude.{◌≡◌, ◌<◌, [], ◌∷◌, ◌++◌, length, true, false, IfErr, OnOk};
+ghost use Rattle.problem_tables.specs.declared.fault.Refusal.TheVariants.{Memory};
 ghost use Rattle.problem_tables.specs.Names.{has_name, last_name};
 
+use crate::fault::Refusal;
 use crate::names::Names;
-use machine_data::OutOfMemory;
 use problem_lines::Word;
 use problems::Label;
 use std::alloc::Global;
@@ -32,9 +33,10 @@ impl<'a> Opened<'a> {
     }
 
     /// Begins a problem.
-    pub(crate) fn open(&mut self, name: Word<'a>) -> Result<(), OutOfMemory>
+    pub(crate) fn open(&mut self, name: Word<'a>) -> Result<(), Refusal>
         requires absent { has_name self.old.names name.bytes.now ≡ false }
         requires outside { self.old.inside ≡ false }
+        ensures fault { IfErr result (λ refusal. refusal ≡ Memory) }
         ensures names { OnOk result (self.new.names ≡ self.old.names ++ name.entry.bytes.now ∷ []) }
         ensures inside { OnOk result (self.new.inside ≡ true) }
     {

@@ -1,17 +1,19 @@
 //! Lists that grow item by item.
 
-ghost use Rattle.std.specs.Prelude.{◌≡◌, [], ◌∷◌, ◌++◌, OnOk, OnErr};
+ghost use Rattle.std.specs.Prelude.{◌≡◌, [], ◌∷◌, ◌++◌, None, OnOk, OnErr};
+ghost use Rattle.problem_tables.specs.Seen.{Refuses};
 
-use machine_data::OutOfMemory;
+use crate::fault::Refusal;
 
 /// For how many items a list has room from its first one on: most problems have about as many of each part.
 const ROOM: usize = 16;
 
 /// Pushes an item.
 #[inline]
-pub(crate) fn push_with_room<T>(items: &mut Vec<T>, item: T) -> Result<(), OutOfMemory>
+pub(crate) fn push_with_room<T>(items: &mut Vec<T>, item: T) -> Result<(), Refusal>
 where
     T: Drop,
+    ensures fault { Refuses result None }
     ensures ok { OnOk result (items.new.items ≡ items.old.items ++ item ∷ []) }
     ensures err { OnErr result (items.new.items ≡ items.old.items) }
 {

@@ -25,6 +25,7 @@ use machine_data::OutOfMemory;
 use problem_lines::{Form, Line, Word};
 use problems::limits::MAX_PROBLEMS;
 use std::alloc::Global;
+use std::mem;
 
 /// What the lines of a text have said so far. The lines of the problem under way and those of its machine look names up
 /// in tables; machines and problems that have ended are kept as they are handed out.
@@ -90,9 +91,7 @@ impl<'a> Tables<'a> {
             return Ok(());
         }
         let name = self.machines.last();
-        let machine = self.machine.take(self.alloc, name);
-        self.ended.machines.push(machine)?;
-        Ok(())
+        self.ended.add_machine(self.machine.take(self.alloc, name))
     }
 
     /// Takes a `machine` line in.
@@ -146,8 +145,7 @@ impl<'a> Tables<'a> {
         let name = self.problems.close();
         let machine = self.machines.len().saturating_sub(1);
         let problem = self.problem.take(self.alloc, name, machine);
-        self.ended.problems.push(problem)?;
-        Ok(())
+        self.ended.add_problem(problem)
     }
 
     /// Takes in what a line says that may stand here.
@@ -214,6 +212,14 @@ impl<'a> Tables<'a> {
         self.take_form(at, line.form)
     }
 
+    /// Ends the machine under way, and takes out all that has ended.
+    fn take_ended(&mut self) -> Result<Ended, OutOfMemory>
+        ensures { IfOk result (λ ended. ended_seen ended ≡ (with_machine_ended (tables_seen self.old)).ended) }
+    {
+        self.end_machine()?;
+        Ok(mem::replace(&mut self.ended, Ended::new(self.alloc)))
+    }
+
     /// All machines and problems that have ended, and the machine under way. A problem under way is left out.
     ///
     /// # Errors
@@ -221,7 +227,8 @@ impl<'a> Tables<'a> {
     pub fn finish(mut self) -> Result<Ended, OutOfMemory>
         ensures { IfOk result (λ ended. ended_seen ended ≡ (with_machine_ended (tables_seen self.entry)).ended) }
     {
-        self.end_machine()?;
-        Ok(self.ended)
+        let ended = self.take_ended();
+        drop(self);
+        ended
     }
 }

@@ -1,11 +1,11 @@
 //! The alternatives of a `kind` line.
 
-ghost use Rattle.std.specs.Prelude.{◌≡◌, ◌∷◌, [], ◌++◌, ℕ, List, length, map, IfOk, OnOk};
+ghost use Rattle.std.specs.Prelude.{◌≡◌, ◌∷◌, [], ◌++◌, ℕ, List, length, map, OnOk};
 ghost use Rattle.std.specs.List.{list_any};
 ghost use Rattle.smallvec.specs.SmallVec.{SmallVec as Items};
 ghost use Rattle.problem_lines.specs.Seen.{hold_seen, word_seen};
 ghost use Rattle.problems.specs.declared.draft.Hold.{Hold};
-ghost use Rattle.problem_tables.specs.Data.{hold_in};
+ghost use Rattle.problem_tables.specs.Data.{hold_in, kind_of, kind_seen};
 ghost use Rattle.problem_tables.specs.Faults.{alternatives_fault, first_of};
 ghost use Rattle.problem_tables.specs.Names.{index_of};
 ghost use Rattle.problem_tables.specs.Seen.{Refuses};
@@ -15,8 +15,8 @@ use crate::fault::{Part, Refusal, Told, Wrong};
 use crate::judging::{known_fault, number_or_0, offset_fault, word_fault, word_room};
 use crate::names::Names;
 use machine_data::limits::{MAX_OFFSET, MAX_OPERATION_ALTERNATIVES, MAX_ROWS};
-use problem_lines::{Alternatives, HoldWord, Holds};
-use problems::Hold;
+use problem_lines::{Alternatives, HoldWord, Holds, Number};
+use problems::{Hold, Kind};
 use smallvec::SmallVec;
 use std::alloc::Global;
 
@@ -157,16 +157,22 @@ fn take_each(
     Ok(())
 }
 
-/// The alternatives of a `kind` line.
-pub(crate) fn take_alternatives(
+/// Adds the kind that a `kind` line declares.
+pub(crate) fn add_kind(
     alloc: Global,
+    kinds: &mut Vec<Kind>,
     units: &Names<'_>,
+    latency: Number,
     left: Alternatives<'_>,
-) -> Result<SmallVec<SmallVec<Hold, 2>, 2>, Refusal>
+) -> Result<(), Refusal>
     ensures fault { Refuses result (alternatives_fault units.now 0 left.entry) }
-    ensures taken { IfOk result (λ alternatives. map (λ (rows : Items Hold). rows.items) alternatives.items ≡ map (map (hold_in units.now)) left.entry) }
+    ensures added { OnOk result (map kind_seen kinds.new.items ≡ map kind_seen kinds.old.items ++ kind_of units.now latency left.entry ∷ []) }
 {
-    let mut alternatives = SmallVec::new(alloc);
-    take_each(alloc, units, &mut alternatives, left)?;
-    Ok(alternatives)
+    let mut kind = Kind {
+        latency: latency.value,
+        alternatives: SmallVec::new(alloc),
+    };
+    take_each(alloc, units, &mut kind.alternatives, left)?;
+    kinds.push(kind)?;
+    Ok(())
 }

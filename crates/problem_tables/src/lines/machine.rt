@@ -13,7 +13,7 @@ ghost use Rattle.problem_tables.specs.inner.Spots.{on_spot};
 use crate::ended::TextMachine;
 use crate::fault::{Part, Refusal, Told};
 use crate::judging::{Spot, new_fault, range_fault, storage_fault, word_room};
-use crate::lines::kinds::take_alternatives;
+use crate::lines::kinds::add_kind;
 use crate::names::Names;
 use machine_data::limits::{MAX_FILES, MAX_KINDS, MAX_LATENCY, MAX_UNITS};
 use problem_lines::{Alternatives, Number, Storage, UnitNames, Word};
@@ -50,8 +50,7 @@ fn take_unit<'a>(units: &mut Names<'a>, name: Word<'a>) -> Result<(), Refusal>
     if let Some(told) = unit_fault(units, name) {
         return Err(Refusal::Fault(told));
     }
-    units.add(name)?;
-    Ok(())
+    units.add(name)
 }
 
 /// Takes the names of a `units` line in.
@@ -167,12 +166,7 @@ impl<'a> MachineTables<'a> {
         if let Some(told) = self.kind_fault(at, name, latency) {
             return Err(Refusal::Fault(told));
         }
-        let alternatives = take_alternatives(alloc, &self.units, alternatives)?;
         self.kind_names.add(name)?;
-        self.kinds.push(Kind {
-            latency: latency.value,
-            alternatives,
-        })?;
-        Ok(())
+        add_kind(alloc, &mut self.kinds, &self.units, latency, alternatives)
     }
 }

@@ -104,8 +104,7 @@ impl<'a> ProblemTables<'a> {
         if let Some(told) = self.read_fault(at, words, read) {
             return Err(Refusal::Fault(told));
         }
-        push_with_room(&mut self.reads, read)?;
-        Ok(())
+        push_with_room(&mut self.reads, read)
     }
 
     /// What an `edge` line says.
@@ -154,7 +153,6 @@ impl<'a> ProblemTables<'a> {
         if let Some(told) = self.order_fault(at, words, order) {
             return Err(Refusal::Fault(told));
         }
-        push_with_room(&mut self.orders, order)?;
-        Ok(())
+        push_with_room(&mut self.orders, order)
     }
 }

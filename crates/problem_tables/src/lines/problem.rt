@@ -115,8 +115,7 @@ impl<'a> ProblemTables<'a> {
             return Err(Refusal::Fault(told));
         }
         self.operation_names.add(name)?;
-        push_with_room(&mut self.operations, number)?;
-        Ok(())
+        push_with_room(&mut self.operations, number)
     }
 
     /// What a `value` line says.
@@ -176,7 +175,6 @@ impl<'a> ProblemTables<'a> {
             return Err(Refusal::Fault(told));
         }
         self.value_names.add(words.name)?;
-        push_with_room(&mut self.values, value)?;
-        Ok(())
+        push_with_room(&mut self.values, value)
     }
 }
