@@ -5,8 +5,8 @@ ghost use Rattle.solution_reader.specs.Meaning.{at_line};
 ghost use Rattle.solution_reader.specs.Texts.{owner_text};
 ghost use Rattle.solution_reader.specs.declared.fault.Refusal.TheVariants.{Memory};
 
-use machine_data::OutOfMemory;
 use problem_lines::Expected;
+use std::alloc::AllocFailed;
 use std::fmt;
 
 /// What there may be too many of, or what a name has to be of.
@@ -109,10 +109,10 @@ pub(crate) enum Refusal {
     Memory,
 }
 
-impl From<OutOfMemory> for Refusal {
+impl<T: Drop> From<AllocFailed<T>> for Refusal {
     ghost from_gives = { λ _ refusal. refusal ≡ Memory };
 
-    fn from(_error: OutOfMemory) -> Refusal {
+    fn from(_error: AllocFailed<T>) -> Refusal {
         Refusal::Memory
     }
 }

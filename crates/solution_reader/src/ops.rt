@@ -1,16 +1,18 @@
 //! The lines of a solution's operations.
 
-ghost use Rattle.std.specs.Prelude.{◌≡◌, ℕ, List, [], ◌∷◌, ◌++◌, length, map, false, OnOk, IfSome, option_copied, option_map};
+ghost use Rattle.std.specs.Prelude.{◌≡◌, ℕ, List, [], ◌∷◌, ◌++◌, length, map, false, IfErr, OnOk, IfSome, option_copied, option_map};
 ghost use Rattle.solution_reader.specs.Data.{op_names, has_name};
 ghost use Rattle.solution_reader.specs.Resolved.{op_named};
+ghost use Rattle.solution_reader.specs.declared.fault.Refusal.TheVariants.{Memory};
 ghost use Rattle.solution_reader.specs.inner.Seen.{op_seen};
 
+use crate::fault::Refusal;
 use crate::numbers::add_number;
 use crate::rows::OpTime;
-use machine_data::OutOfMemory;
 use std::alloc::Global;
 use std::collections::BTreeMap;
 use std::marker::Model;
+use std::mem;
 
 /// Lines of operations, in the order of the text. Contracts see the list of them.
 #[derive(Drop)]
@@ -75,9 +77,10 @@ impl<'a> Ops<'a> {
     }
 
     /// Adds a line whose name has none. Where memory runs out, all is as before.
-    pub(crate) fn add(&mut self, row: OpTime<'a>) -> Result<(), OutOfMemory>
+    pub(crate) fn add(&mut self, row: OpTime<'a>) -> Result<(), Refusal>
         requires { has_name (op_names self.old) row.name.bytes.now ≡ false }
-        ensures { OnOk result (self.new ≡ self.old ++ op_seen row.entry ∷ []) }
+        ensures fault { IfErr result (λ refusal. refusal ≡ Memory) }
+        ensures added { OnOk result (self.new ≡ self.old ++ op_seen row.entry ∷ []) }
     {
         let number = self.rows.len();
         self.rows.push(row)?;
@@ -86,5 +89,13 @@ impl<'a> Ops<'a> {
             return Err(error);
         }
         Ok(())
+    }
+
+    /// Takes all lines out.
+    pub(crate) fn take(&mut self, alloc: Global) -> Ops<'a>
+        ensures taken { result ≡ self.old }
+        ensures empty { self.new ≡ [] }
+    {
+        mem::replace(self, Ops::new(alloc))
     }
 }

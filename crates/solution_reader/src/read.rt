@@ -10,7 +10,7 @@ ghost use Rattle.solution_reader.specs.Meaning.{forms_of, lines_from, solutions_
 ghost use Rattle.solution_reader.specs.Sofar.{TextLine};
 ghost use Rattle.solution_reader.specs.inner.Reading.{AnswersLine, AnswersLines, GoesOn};
 ghost use Rattle.solution_reader.specs.inner.Taken.{sofar_seen};
-ghost use Rattle.solution_reader.specs.inner.Steps.{IsSofar};
+ghost use Rattle.solution_reader.specs.inner.Steps.{IsSofar, nothing};
 
 use crate::fault::{Refusal, SolutionFault, Wrong};
 use crate::file::SolutionFile;
@@ -94,8 +94,12 @@ fn take_said<'a>(
 }
 
 /// The solutions of a text whose last line has the number before this one.
-fn finish<'a>(sofar: Sofar<'a>, number: usize) -> Result<SolutionFile<'a>, SolutionFault>
-    ensures { (forms : List (Result (Option SolutionLineForm) LineFault)) → GoesOn 1 [] forms number (sofar_seen sofar.entry) []
+fn finish<'a>(
+    alloc: Global,
+    sofar: &mut Sofar<'a>,
+    number: usize,
+) -> Result<SolutionFile<'a>, SolutionFault>
+    ensures { (forms : List (Result (Option SolutionLineForm) LineFault)) → GoesOn 1 [] forms number (sofar_seen sofar.old) []
         → AnswersText result (solutions_or (lines_from 1 [] forms)) }
 {
     if sofar.is_inside() {
@@ -106,7 +110,23 @@ fn finish<'a>(sofar: Sofar<'a>, number: usize) -> Result<SolutionFile<'a>, Solut
             what: Wrong::NoEnd,
         });
     }
-    Ok(sofar.finish())
+    Ok(sofar.finish(alloc))
+}
+
+/// The solutions of a text, before whose first line nothing has been said.
+fn read_all<'a>(
+    alloc: Global,
+    sofar: &mut Sofar<'a>,
+    text: &'a [u8],
+) -> Result<SolutionFile<'a>, SolutionFault>
+    requires size { length text.now ≤ MAX_PROBLEM_TEXT }
+    requires start { sofar_seen sofar.old ≡ nothing }
+    ensures { AnswersText result (solutions_or (lines_from 1 [] (forms_of text.now))) }
+{
+    match take_lines(alloc, sofar, text) {
+        Ok(number) => finish(alloc, sofar, number),
+        Err(fault) => Err(fault),
+    }
 }
 
 /// Reads a text of solutions of at most 16,777,216 bytes. Times, alternatives and numbers are taken as they are told:
@@ -121,8 +141,7 @@ pub fn read_solutions(alloc: Global, text: &[u8]) -> Result<SolutionFile<'_>, So
         return Err(whole_fault(Wrong::TextSize));
     }
     let mut sofar = Sofar::new(alloc);
-    match take_lines(alloc, &mut sofar, text) {
-        Ok(number) => finish(sofar, number),
-        Err(fault) => Err(fault),
-    }
+    let file = read_all(alloc, &mut sofar, text);
+    drop(sofar);
+    file
 }

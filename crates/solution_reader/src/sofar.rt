@@ -17,12 +17,10 @@ use crate::ops::Ops;
 use crate::rows::{Head, OpTime, ValueNumber};
 use crate::spot::Spot;
 use crate::values::Values;
-use machine_data::OutOfMemory;
 use machine_data::limits::{MAX_STATEMENTS, MAX_VALUES};
 use problem_lines::{Number, SolutionForm, SolutionLine, Word};
 use problems::limits::MAX_PROBLEMS;
 use std::alloc::Global;
-use std::mem;
 
 /// What the lines of a text have said so far.
 #[derive(Drop)]
@@ -109,8 +107,7 @@ impl<'a> Sofar<'a> {
             line: number,
             ii: ii.value,
         };
-        self.begun.open(head)?;
-        Ok(())
+        self.begun.open(head)
     }
 
     /// Takes in the line of an operation.
@@ -136,8 +133,7 @@ impl<'a> Sofar<'a> {
             time: time.value,
             alternative: alternative.value,
         };
-        self.ops.add(row)?;
-        Ok(())
+        self.ops.add(row)
     }
 
     /// Takes in the line of a value.
@@ -161,17 +157,7 @@ impl<'a> Sofar<'a> {
             line: number,
             number: told.value,
         };
-        self.values.add(row)?;
-        Ok(())
-    }
-
-    /// Takes in a line that ends a solution.
-    fn take_end(&mut self, alloc: Global) -> Result<(), OutOfMemory>
-        ensures { OnOk result ((number : ℕ) → sofar_seen self.new ≡ with_form (sofar_seen self.old) number SolutionEnds) }
-    {
-        let ops = mem::replace(&mut self.ops, Ops::new(alloc));
-        let values = mem::replace(&mut self.values, Values::new(alloc));
-        self.begun.close(ops, values)
+        self.values.add(row)
     }
 
     /// Takes in what a line says that may stand here.
@@ -192,10 +178,7 @@ impl<'a> Sofar<'a> {
                 self.take_op(at, number, name, time, alternative)
             }
             SolutionForm::Value(name, told) => self.take_value(at, number, name, told),
-            SolutionForm::End => {
-                self.take_end(alloc)?;
-                Ok(())
-            }
+            SolutionForm::End => self.begun.close(alloc, &mut self.ops, &mut self.values),
         }
     }
 
@@ -220,11 +203,11 @@ impl<'a> Sofar<'a> {
         self.take_form(alloc, at, number, line.form)
     }
 
-    /// The solutions that have ended, where none is under way.
-    pub(crate) fn finish(self) -> SolutionFile<'a>
-        requires { (sofar_seen self).begun.head ≡ None }
-        ensures { result ≡ (sofar_seen self.entry).begun.ended }
+    /// Takes out the solutions that have ended, where none is under way.
+    pub(crate) fn finish(&mut self, alloc: Global) -> SolutionFile<'a>
+        requires { (sofar_seen self.old).begun.head ≡ None }
+        ensures { result ≡ (sofar_seen self.old).begun.ended }
     {
-        self.begun.finish()
+        self.begun.finish(alloc)
     }
 }
