@@ -77,18 +77,18 @@ impl fmt::Display for Wrong {
     ghost output = { λ wrong. Some (wrong_text wrong) };
 
     fn fmt<W: fmt::Write>(&self, f: &mut fmt::Formatter<W>) -> fmt::Result {
-        match *self {
-            Wrong::TextSize => f.write_str("more than 16777216 bytes"),
-            Wrong::Form(expected) => write!(f, "{expected}"),
-            Wrong::Place => f.write_str("this line may not stand here"),
-            Wrong::Count(part) => write!(f, "number of {part}s out of range"),
-            Wrong::Range => f.write_str("number out of range"),
-            Wrong::Repeated => f.write_str("there already"),
-            Wrong::Unknown(part) => write!(f, "unknown {part}"),
-            Wrong::Backward => f.write_str("goes backward within an iteration"),
-            Wrong::NoEnd => f.write_str("the text ends inside a problem"),
-            Wrong::Memory => f.write_str("out of memory"),
-        }
+        f.write_str(match *self {
+            Wrong::Form(expected) => return write!(f, "{expected}"),
+            Wrong::Count(part) => return write!(f, "number of {part}s out of range"),
+            Wrong::Unknown(part) => return write!(f, "unknown {part}"),
+            Wrong::TextSize => "more than 16777216 bytes",
+            Wrong::Place => "this line may not stand here",
+            Wrong::Range => "number out of range",
+            Wrong::Repeated => "there already",
+            Wrong::Backward => "goes backward within an iteration",
+            Wrong::NoEnd => "the text ends inside a problem",
+            Wrong::Memory => "out of memory",
+        })
     }
 }
 

@@ -103,9 +103,8 @@ impl<'a> Tables<'a> {
             return Err(Refusal::Fault(told));
         }
         self.end_machine()?;
-        self.machines.add(name)?;
         self.served = false;
-        Ok(())
+        self.machines.add(name)
     }
 
     /// The fault of a `problem` line.
@@ -128,9 +127,8 @@ impl<'a> Tables<'a> {
         if let Some(told) = self.problem_fault(at, name) {
             return Err(Refusal::Fault(told));
         }
-        self.problems.open(name)?;
         self.served = true;
-        Ok(())
+        self.problems.open(name)
     }
 
     /// Takes an `end` line in.

@@ -73,19 +73,19 @@ impl fmt::Display for Wrong {
     ghost output = { λ wrong. Some (wrong_text wrong) };
 
     fn fmt<W: fmt::Write>(&self, f: &mut fmt::Formatter<W>) -> fmt::Result {
-        match *self {
-            Wrong::TextSize => f.write_str("more than 16777216 bytes"),
-            Wrong::Form(expected) => write!(f, "{expected}"),
-            Wrong::Place => f.write_str("this line may not stand here"),
-            Wrong::Count(part) => write!(f, "number of {part}s out of range"),
-            Wrong::Repeated => f.write_str("there already"),
+        f.write_str(match *self {
+            Wrong::Form(expected) => return write!(f, "{expected}"),
+            Wrong::Count(part) => return write!(f, "number of {part}s out of range"),
             Wrong::Unknown(part) => {
                 let owner = part.owner();
-                write!(f, "unknown {owner}")
+                return write!(f, "unknown {owner}");
             }
-            Wrong::NoEnd => f.write_str("the text ends inside a solution"),
-            Wrong::Memory => f.write_str("out of memory"),
-        }
+            Wrong::TextSize => "more than 16777216 bytes",
+            Wrong::Place => "this line may not stand here",
+            Wrong::Repeated => "there already",
+            Wrong::NoEnd => "the text ends inside a solution",
+            Wrong::Memory => "out of memory",
+        })
     }
 }
 
