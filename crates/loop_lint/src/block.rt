@@ -142,20 +142,20 @@ impl<'a> Table<'a> {
     {
         match form {
             Form::Array(name, _) => {
-                declare(&mut self.names, *name, Declared::Array(self.arrays))?;
-                keep(&mut self.order, *name)?;
+                let what = Declared::Array(self.arrays);
+                declare_next(&mut self.names, &mut self.order, *name, what)?;
                 self.arrays += 1;
             }
             Form::Param(name, _) => {
-                declare(&mut self.names, *name, Declared::Param(self.params))?;
-                keep(&mut self.order, *name)?;
+                let what = Declared::Param(self.params);
+                declare_next(&mut self.names, &mut self.order, *name, what)?;
                 self.params += 1;
             }
             Form::Init(name, number, _) => give(&mut self.names, *name, *number)?,
             Form::Statement(source) => {
                 if let Some(name) = source.name {
-                    declare(&mut self.names, name, Declared::Value(self.statements))?;
-                    keep(&mut self.order, name)?;
+                    let what = Declared::Value(self.statements);
+                    declare_next(&mut self.names, &mut self.order, name, what)?;
                 }
                 self.statements += 1;
                 self.statement = true;
@@ -202,8 +202,7 @@ fn declare<'a>(
 {
     let mut known = look_up(names, name);
     known.declared = known.declared.or(Some(what));
-    put(names, name, known)?;
-    Ok(())
+    put(names, name, known)
 }
 
 /// A line gives an initial value to a name.
@@ -217,8 +216,7 @@ fn give<'a>(
 {
     let mut known = look_up(names, name);
     known.inits[place_of(number)] = true;
-    put(names, name, known)?;
-    Ok(())
+    put(names, name, known)
 }
 
 /// A line is an `out` of a name.
@@ -227,8 +225,7 @@ fn mark<'a>(names: &mut BTreeMap<&'a [u8], Known>, name: &'a [u8]) -> Result<(),
 {
     let mut known = look_up(names, name);
     known.out = true;
-    put(names, name, known)?;
-    Ok(())
+    put(names, name, known)
 }
 
 /// Keeps a name after the others, unless there are enough.
@@ -239,4 +236,18 @@ fn keep<'a>(order: &mut Vec<&'a [u8]>, name: &'a [u8]) -> Result<(), OutOfMemory
         order.push(name)?;
     }
     Ok(())
+}
+
+/// A line declares a name as this, and it is kept in its order.
+fn declare_next<'a>(
+    names: &mut BTreeMap<&'a [u8], Known>,
+    order: &mut Vec<&'a [u8]>,
+    name: &'a [u8],
+    what: Declared,
+) -> Result<(), OutOfMemory>
+    ensures names { OnOk result ((q : List ℕ) → known_at names.new q ≡ (if same_word q name.now then with_declared what (known_at names.old q) else known_at names.old q)) }
+    ensures order { OnOk result (map (λ n. n.now) order.new.items ≡ with_name (map (λ n. n.now) order.old.items) name.now) }
+{
+    declare(names, name, what)?;
+    keep(order, name)
 }

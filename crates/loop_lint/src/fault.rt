@@ -8,7 +8,7 @@ use loop_reader::LoopFaultKind;
 use near_names::Word;
 
 /// What helps to mend a fault.
-#[derive(Debug, Drop)]
+#[derive(Drop)]
 pub enum Hint {
     /// Nothing.
     Nothing,
@@ -19,7 +19,7 @@ pub enum Hint {
 }
 
 /// A fault of a line of a loop text, and the word that it is about.
-#[derive(Debug, Drop)]
+#[derive(Drop)]
 pub struct LintFault {
     /// The line's number, from 1; 0 for a text that is too long. A text that ends inside a loop is told so of the line
     /// after its last.

@@ -19,7 +19,7 @@ use machine_data::{Machine, Opcode, OutOfMemory};
 use std::alloc::Global;
 
 /// A statement whose opcode the machine has no table for.
-#[derive(Clone, Copy, Debug)]
+#[derive(Clone, Copy)]
 pub struct NoTable {
     /// The line's number, from 1.
     pub line: usize,
@@ -30,7 +30,7 @@ pub struct NoTable {
 }
 
 /// What is told of a line of a loop text.
-#[derive(Debug, Drop)]
+#[derive(Drop)]
 pub enum LoopLint {
     /// A fault of the text.
     Fault(LintFault),

@@ -44,8 +44,7 @@ fn tell_opening<'a>(
     let limit = word_if(is_long(name), 1).or(word_if(loops >= MAX_LOOPS, 0));
     tell(faults, line, LoopFaultKind::Limit, limit)?;
     let there = add_name(names, name)?;
-    tell(faults, line, LoopFaultKind::RepeatedName, word_if(there, 1))?;
-    Ok(())
+    tell(faults, line, LoopFaultKind::RepeatedName, word_if(there, 1))
 }
 
 /// How far a text has been gone through: the number of the next line, the text from there on, and how many loops have
