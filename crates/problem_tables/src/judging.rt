@@ -2,7 +2,7 @@
 
 ghost use Rattle.std.specs.Prelude.{◌≡◌, IfNone, false};
 ghost use Rattle.problem_lines.specs.Seen.{word_seen};
-ghost use Rattle.problem_tables.specs.Faults.{delay_fault, first_of, in_range, known, new, number_or_0, offset_fault, on_word, room_at, storage_fault, unless};
+ghost use Rattle.problem_tables.specs.Faults.{delay_fault, in_range, known, new, number_or_0, offset_fault, on_word, room_at, storage_fault, unless};
 ghost use Rattle.problem_tables.specs.Names.{has_name, index_of};
 ghost use Rattle.problem_tables.specs.inner.Spots.{on_spot};
 
@@ -52,17 +52,6 @@ impl Spot {
         ensures { result ≡ room_at (on_spot self) count most what }
     {
         self.unless(count < most, Wrong::Count(what))
-    }
-}
-
-/// The first of some faults.
-pub(crate) fn first_of(faults: &[Option<Told>]) -> Option<Told>
-    ensures { result ≡ first_of faults.now }
-{
-    match faults {
-        [] => None,
-        [Some(told), ..] => Some(*told),
-        [None, rest @ ..] => first_of(rest),
     }
 }
 

@@ -12,7 +12,7 @@ ghost use Rattle.problem_tables.specs.Seen.{Refuses};
 ghost use Rattle.problem_tables.specs.inner.Holds.{crowd_fault, hold_fault, rest_fault, same_row};
 
 use crate::fault::{Part, Refusal, Told, Wrong};
-use crate::judging::{first_of, known_fault, number_or_0, offset_fault, word_fault, word_room};
+use crate::judging::{known_fault, number_or_0, offset_fault, word_fault, word_room};
 use crate::names::Names;
 use machine_data::limits::{MAX_OFFSET, MAX_OPERATION_ALTERNATIVES, MAX_ROWS};
 use problem_lines::{Alternatives, HoldWord, Holds, Number};
@@ -70,13 +70,19 @@ fn hold_fault(
     requires { hold ≡ hold_in units.now (hold_seen word) }
     ensures { result ≡ hold_fault units.now count sofar.now (hold_seen word.entry) }
 {
-    first_of(&[
-        crowd_fault(count, sofar, word),
-        word_room(word.unit, sofar.len(), MAX_ROWS, Part::Holds),
-        known_fault(units, hold.unit, Part::Units, word.unit),
-        offset_fault(u64::from(MAX_OFFSET), word.offset),
-        word_fault(word.unit, !is_among(hold, sofar), Wrong::Repeated),
-    ])
+    if let Some(told) = crowd_fault(count, sofar, word) {
+        return Some(told);
+    }
+    if let Some(told) = word_room(word.unit, sofar.len(), MAX_ROWS, Part::Holds) {
+        return Some(told);
+    }
+    if let Some(told) = known_fault(units, hold.unit, Part::Units, word.unit) {
+        return Some(told);
+    }
+    if let Some(told) = offset_fault(u64::from(MAX_OFFSET), word.offset) {
+        return Some(told);
+    }
+    word_fault(word.unit, !is_among(hold, sofar), Wrong::Repeated)
 }
 
 /// Takes one more hold in.

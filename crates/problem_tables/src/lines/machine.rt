@@ -12,7 +12,7 @@ ghost use Rattle.problem_tables.specs.inner.Spots.{on_spot};
 
 use crate::ended::TextMachine;
 use crate::fault::{Part, Refusal, Told};
-use crate::judging::{Spot, first_of, new_fault, range_fault, storage_fault, word_room};
+use crate::judging::{Spot, new_fault, range_fault, storage_fault, word_room};
 use crate::lines::kinds::add_kind;
 use crate::names::Names;
 use machine_data::limits::{MAX_FILES, MAX_KINDS, MAX_LATENCY, MAX_UNITS};
@@ -110,11 +110,13 @@ impl<'a> MachineTables<'a> {
         ensures value { result ≡ first_of (file_faults (machine_parts self.now) (on_spot at) (word_seen name.entry) storage) }
         ensures absent { IfNone result (has_name self.now.file_names name.entry.bytes.now ≡ false) }
     {
-        first_of(&[
-            at.room(self.file_names.len(), MAX_FILES, Part::Files),
-            new_fault(&self.file_names, name),
-            storage_fault(storage),
-        ])
+        if let Some(told) = at.room(self.file_names.len(), MAX_FILES, Part::Files) {
+            return Some(told);
+        }
+        if let Some(told) = new_fault(&self.file_names, name) {
+            return Some(told);
+        }
+        storage_fault(storage)
     }
 
     /// Takes a `file` line in.
@@ -140,11 +142,13 @@ impl<'a> MachineTables<'a> {
         ensures value { result ≡ first_of (kind_faults (machine_parts self.now) (on_spot at) (word_seen name.entry) latency) }
         ensures absent { IfNone result (has_name self.now.kind_names name.entry.bytes.now ≡ false) }
     {
-        first_of(&[
-            at.room(self.kind_names.len(), MAX_KINDS, Part::Kinds),
-            new_fault(&self.kind_names, name),
-            range_fault(1, u64::from(MAX_LATENCY), latency),
-        ])
+        if let Some(told) = at.room(self.kind_names.len(), MAX_KINDS, Part::Kinds) {
+            return Some(told);
+        }
+        if let Some(told) = new_fault(&self.kind_names, name) {
+            return Some(told);
+        }
+        range_fault(1, u64::from(MAX_LATENCY), latency)
     }
 
     /// Takes a `kind` line in.

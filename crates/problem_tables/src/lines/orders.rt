@@ -9,7 +9,7 @@ ghost use Rattle.problem_tables.specs.inner.Spots.{on_spot};
 
 use crate::fault::{Part, Refusal, Told, Wrong};
 use crate::judging::{
-    Spot, delay_fault, first_of, known_fault, number_or_0, offset_fault, range_fault, word_fault,
+    Spot, delay_fault, known_fault, number_or_0, offset_fault, range_fault, word_fault,
 };
 use crate::lines::problem::ProblemTables;
 use crate::room::push_with_room;
@@ -75,19 +75,23 @@ impl<'a> ProblemTables<'a> {
         requires { read ≡ read_of (problem_parts self.now) (word_seen words.reader) (word_seen words.value) words.distance words.offset }
         ensures { result ≡ first_of (read_faults (problem_parts self.now) (on_spot at) (word_seen words.entry.reader) (word_seen words.entry.value) words.entry.distance words.entry.offset) }
     {
-        first_of(&[
-            at.room(self.reads.len(), MAX_READS, Part::Reads),
-            known_fault(
-                &self.operation_names,
-                read.reader,
-                Part::Operations,
-                words.reader,
-            ),
-            known_fault(&self.value_names, read.value, Part::Values, words.value),
-            offset_fault(u64::from(MAX_DISTANCE), words.distance),
-            offset_fault(u64::from(MAX_OFFSET), words.offset),
-            word_fault(words.value, self.reads_forward(read), Wrong::Backward),
-        ])
+        if let Some(told) = at.room(self.reads.len(), MAX_READS, Part::Reads) {
+            return Some(told);
+        }
+        let readers = &self.operation_names;
+        if let Some(told) = known_fault(readers, read.reader, Part::Operations, words.reader) {
+            return Some(told);
+        }
+        if let Some(told) = known_fault(&self.value_names, read.value, Part::Values, words.value) {
+            return Some(told);
+        }
+        if let Some(told) = offset_fault(u64::from(MAX_DISTANCE), words.distance) {
+            return Some(told);
+        }
+        if let Some(told) = offset_fault(u64::from(MAX_OFFSET), words.offset) {
+            return Some(told);
+        }
+        word_fault(words.value, self.reads_forward(read), Wrong::Backward)
     }
 
     /// Takes a `read` line in.
@@ -120,19 +124,23 @@ impl<'a> ProblemTables<'a> {
         requires { order ≡ order_of (problem_parts self.now) (word_seen words.from) (word_seen words.to) words.delay words.distance }
         ensures { result ≡ first_of (order_faults (problem_parts self.now) (on_spot at) (word_seen words.entry.from) (word_seen words.entry.to) words.entry.delay words.entry.distance) }
     {
-        first_of(&[
-            at.room(self.orders.len(), MAX_ORDERS, Part::Edges),
-            known_fault(
-                &self.operation_names,
-                order.from,
-                Part::Operations,
-                words.from,
-            ),
-            known_fault(&self.operation_names, order.to, Part::Operations, words.to),
-            delay_fault(words.delay),
-            range_fault(0, MAX_ORDER_DISTANCE, words.distance),
-            word_fault(words.to, goes_forward(order), Wrong::Backward),
-        ])
+        if let Some(told) = at.room(self.orders.len(), MAX_ORDERS, Part::Edges) {
+            return Some(told);
+        }
+        let ends = &self.operation_names;
+        if let Some(told) = known_fault(ends, order.from, Part::Operations, words.from) {
+            return Some(told);
+        }
+        if let Some(told) = known_fault(ends, order.to, Part::Operations, words.to) {
+            return Some(told);
+        }
+        if let Some(told) = delay_fault(words.delay) {
+            return Some(told);
+        }
+        if let Some(told) = range_fault(0, MAX_ORDER_DISTANCE, words.distance) {
+            return Some(told);
+        }
+        word_fault(words.to, goes_forward(order), Wrong::Backward)
     }
 
     /// Takes an `edge` line in.

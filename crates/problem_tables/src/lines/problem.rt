@@ -10,7 +10,7 @@ ghost use Rattle.problem_tables.specs.inner.Spots.{on_spot};
 
 use crate::ended::TextProblem;
 use crate::fault::{Part, Refusal, Told};
-use crate::judging::{Spot, first_of, known_fault, new_fault, range_fault};
+use crate::judging::{Spot, known_fault, new_fault, range_fault};
 use crate::lines::machine::MachineTables;
 use crate::names::Names;
 use crate::room::push_with_room;
@@ -89,11 +89,14 @@ impl<'a> ProblemTables<'a> {
         ensures value { result ≡ first_of (op_faults (machine_parts machine.now) (problem_parts self.now) (on_spot at) (word_seen name.entry) (word_seen kind.entry)) }
         ensures absent { IfNone result (has_name self.now.operation_names name.entry.bytes.now ≡ false) }
     {
-        first_of(&[
-            at.room(self.operation_names.len(), MAX_STATEMENTS, Part::Operations),
-            new_fault(&self.operation_names, name),
-            known_fault(&machine.kind_names, number, Part::Kinds, kind),
-        ])
+        let count = self.operation_names.len();
+        if let Some(told) = at.room(count, MAX_STATEMENTS, Part::Operations) {
+            return Some(told);
+        }
+        if let Some(told) = new_fault(&self.operation_names, name) {
+            return Some(told);
+        }
+        known_fault(&machine.kind_names, number, Part::Kinds, kind)
     }
 
     /// Takes an `op` line in.
@@ -139,18 +142,21 @@ impl<'a> ProblemTables<'a> {
         ensures value { result ≡ first_of (value_faults (machine_parts machine.now) (problem_parts self.now) (on_spot at) (word_seen words.entry.name) (word_seen words.entry.maker) words.entry.lands (word_seen words.entry.file)) }
         ensures absent { IfNone result (has_name self.now.value_names words.entry.name.bytes.now ≡ false) }
     {
-        first_of(&[
-            at.room(self.value_names.len(), MAX_VALUES, Part::Values),
-            new_fault(&self.value_names, words.name),
-            known_fault(
-                &self.operation_names,
-                value.maker,
-                Part::Operations,
-                words.maker,
-            ),
-            range_fault(0, u64::from(MAX_LATENCY), words.lands),
-            known_fault(&machine.file_names, value.file, Part::Files, words.file),
-        ])
+        let count = self.value_names.len();
+        if let Some(told) = at.room(count, MAX_VALUES, Part::Values) {
+            return Some(told);
+        }
+        if let Some(told) = new_fault(&self.value_names, words.name) {
+            return Some(told);
+        }
+        let makers = &self.operation_names;
+        if let Some(told) = known_fault(makers, value.maker, Part::Operations, words.maker) {
+            return Some(told);
+        }
+        if let Some(told) = range_fault(0, u64::from(MAX_LATENCY), words.lands) {
+            return Some(told);
+        }
+        known_fault(&machine.file_names, value.file, Part::Files, words.file)
     }
 
     /// Takes a `value` line in.
