@@ -361,3 +361,20 @@ fn masks(rt: HostRuntime) {
 fn timelines(rt: HostRuntime) {
     worked_calls::<TimelineTable>(&rt, rt.alloc());
 }
+
+/// Alternatives are the same as others, row by row: not where a unit or an offset is another, or one alternative more stands there.
+#[test]
+fn alternatives_are_the_same_row_by_row(rt: HostRuntime) {
+    let alloc = rt.alloc();
+    let mut list = Vec::new(alloc);
+    push_one(alloc, &mut list, 1, 2).expect(&rt, "memory");
+    push_one(alloc, &mut list, 1, 2).expect(&rt, "memory");
+    push_one(alloc, &mut list, 2, 2).expect(&rt, "memory");
+    push_one(alloc, &mut list, 1, 3).expect(&rt, "memory");
+    let row = Row { unit: 1, offset: 2 };
+    push_two(alloc, &mut list, row, row).expect(&rt, "memory");
+    let first = list.first().expect(&rt, "alternatives");
+    for (number, other) in list.iter().enumerate() {
+        assert!(rt; first.are_same(other) == (number < 2));
+    }
+}
