@@ -1,4 +1,5 @@
 -- The slots that are held, as owners and as bits.
+pub mod Gaps
 pub mod Lanes
 pub mod Laying
 pub mod Marking

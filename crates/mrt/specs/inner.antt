@@ -2,6 +2,7 @@
 pub mod BitTables
 pub mod Choices
 pub mod Lanes
+pub mod Marks
 pub mod Masks
 pub mod OwnerTables
 pub mod Rosters

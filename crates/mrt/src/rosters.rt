@@ -2,5 +2,6 @@
 
 pub(crate) mod choices;
 pub(crate) mod kinds;
+pub(crate) mod marks;
 pub(crate) mod roster;
 pub(crate) mod slot;

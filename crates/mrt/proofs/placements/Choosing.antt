@@ -1,7 +1,7 @@
 -- Alternatives that collide with themselves, and spans of slots that are added to.
-use Rattle.std.proofs.Common.{◌≡◌, ℕ, ◌+◌, ◌-◌, ◌%◌, ◌<◌, ◌≤◌, true, false, ◌&&◌, ◌||◌, eqb, List, [], ◌∷◌, ◌++◌, length, get_or, map, take, drop, refl, sym, ap, ◌∙◌, arith, eq-eqb, zero-add, length-take}
+use Rattle.std.proofs.Common.{◌≡◌, ℕ, ◌+◌, ◌-◌, ◌%◌, ◌<◌, ◌≤◌, true, false, ◌&&◌, ◌||◌, eqb, List, [], ◌∷◌, ◌++◌, length, get_or, map, take, drop, max, refl, sym, ap, ◌∙◌, subst, arith, eq-eqb, zero-add, length-take}
 use Rattle.std.specs.List.{All, list_any, slice_range}
-use Rattle.std.proofs.lemmas.List.{drop_more, take_rest, map_push, get_or-map, length-map, take-map, drop-map}
+use Rattle.std.proofs.lemmas.List.{drop_more, take_more, take_rest, map_push, get_or-map, length-map, take-map, drop-map}
 use Rattle.std.proofs.lemmas.List.Elements.{All-push, All-head, All-tail, All-weaker, All-map, All-take, All-drop}
 use Rattle.std.proofs.lemmas.List.Folds.{list_any_at}
 use Rattle.machine_data.specs.declared.alternative.Row.{Row}
@@ -9,7 +9,8 @@ use Rattle.machine_data.specs.Alternative.{residue_of, rows_meet, collides}
 use Rattle.mrt.specs.declared.rosters.slot.Slot.{Slot}
 use Rattle.mrt.specs.declared.rosters.choices.Span.{Span}
 use Rattle.mrt.specs.inner.Slots.{IsSlot, slot_at, rows_in, needs_unit, HasUnits}
-use Rattle.mrt.specs.inner.Choices.{rows_at, IsSpan, span_at, AreChoices}
+use Rattle.mrt.specs.inner.Choices.{rows_at, IsSpan, AreChoices}
+use Rattle.mrt.specs.inner.Marks.{AreMultiples, Tells}
 use Rattle.mrt.proofs.placements.Lists.{list_any-map, slice_range_kept}
 
 -- the offset modulo the interval is the residue at time 0
@@ -41,47 +42,49 @@ pub collides-drop : (ii : ℕ) (slots : List Slot) (k : ℕ) (d : Slot) → k < 
 collides-drop ii slots k d lt = ap (λ zs. collides ii (rows_in zs)) (drop_more slots k d lt)
 
 -- an old span, after slots are added
-pub IsSpan-kept : (ii : ℕ) (old new : List Slot) (span : Span) → take (length old) new ≡ old → length old ≤ length new → IsSpan ii old span → IsSpan ii new span
-IsSpan-kept ii old new span e le s = record {
+pub IsSpan-kept : (old new : List Slot) (span : Span) → take (length old) new ≡ old → length old ≤ length new → IsSpan old span → IsSpan new span
+IsSpan-kept old new span e le s = record {
   order = s.order;
   within = omega (arith, s.within);
-  collides = s.collides ∙ ap (λ zs. collides ii (rows_in zs)) (sym (slice_range_kept old new span.start span.end e s.order s.within));
   units = λ unit. s.units unit ∙ ap (λ zs. needs_unit unit (rows_in zs)) (sym (slice_range_kept old new span.start span.end e s.order s.within));
+  gaps = λ ii multiples some are. ap (λ zs. collides ii (rows_in zs)) (slice_range_kept old new span.start span.end e s.order s.within) ∙ s.gaps ii multiples some are;
 }
 
-pub rows_at-kept : (ii : ℕ) (old new : List Slot) (spans : List Span) → take (length old) new ≡ old → All (IsSpan ii old) spans → map (rows_at new) spans ≡ map (rows_at old) spans
-rows_at-kept ii old new [] e all = refl
-rows_at-kept ii old new (s ∷ spans) e all =
-    let here = All-head (IsSpan ii old) s spans all in
+pub rows_at-kept : (old new : List Slot) (spans : List Span) → take (length old) new ≡ old → All (IsSpan old) spans → map (rows_at new) spans ≡ map (rows_at old) spans
+rows_at-kept old new [] e all = refl
+rows_at-kept old new (s ∷ spans) e all =
+    let here = All-head (IsSpan old) s spans all in
     let same = ap rows_in (slice_range_kept old new s.start s.end e here.order here.within) in
-    ap (λ x. x ∷ map (rows_at new) spans) same ∙ ap (λ xs. rows_at old s ∷ xs) (rows_at-kept ii old new spans e (All-tail (IsSpan ii old) s spans all))
+    ap (λ x. x ∷ map (rows_at new) spans) same ∙ ap (λ xs. rows_at old s ∷ xs) (rows_at-kept old new spans e (All-tail (IsSpan old) s spans all))
 
 longer : (old new : List Slot) → take (length old) new ≡ old → length old ≤ length new
 longer old new e = omega (arith, length-take (length old) new, ap length e)
 
-pub AreChoices-grown : (ii : ℕ) (old new : List Slot) (spans : List Span) → AreChoices ii old spans → All (IsSlot ii) new → take (length old) new ≡ old → AreChoices ii new spans
-AreChoices-grown ii old new spans a slots e = record {
+pub AreChoices-grown : (ii multiples : ℕ) (old new : List Slot) (spans : List Span) → AreChoices ii multiples old spans → All (IsSlot ii) new → take (length old) new ≡ old → AreChoices ii multiples new spans
+AreChoices-grown ii multiples old new spans a slots e = record {
   some = a.some;
   few = a.few;
+  turned = a.turned;
   each_slot = slots;
-  each_span = All-weaker (IsSpan ii old) (IsSpan ii new) (λ span s. IsSpan-kept ii old new span e (longer old new e) s) spans a.each_span;
+  each_span = All-weaker (IsSpan old) (IsSpan new) (λ span s. IsSpan-kept old new span e (longer old new e) s) spans a.each_span;
 }
 
 -- the slots that were added are a span of their own
-pub AreChoices-pushed : (ii : ℕ) (old new : List Slot) (spans : List Span) (span : Span) → AreChoices ii old spans → All (IsSlot ii) new → take (length old) new ≡ old
-    → span.start ≡ length old → span.end ≡ length new → span.collides ≡ collides ii (rows_at new span) → HasUnits span.units (rows_at new span) → AreChoices ii new (spans ++ span ∷ [])
-AreChoices-pushed ii old new spans span a slots e from to c u =
-    let grown = AreChoices-grown ii old new spans a slots e in
+pub AreChoices-pushed : (ii multiples : ℕ) (old new : List Slot) (spans : List Span) (span : Span) → AreChoices ii multiples old spans → All (IsSlot ii) new → take (length old) new ≡ old
+    → span.start ≡ length old → span.end ≡ length new → HasUnits span.marks.units (rows_at new span) → Tells span.marks.gaps (λ at. collides at (rows_at new span))
+    → AreChoices ii multiples new (spans ++ span ∷ [])
+AreChoices-pushed ii multiples old new spans span a slots e from to u g =
+    let grown = AreChoices-grown ii multiples old new spans a slots e in
     let le = longer old new e in
-    let own : IsSpan ii new span = record { order = omega arith; within = omega arith; collides = c; units = u } in
-    record { some = a.some; few = a.few; each_slot = slots; each_span = All-push (IsSpan ii new) spans span grown.each_span own }
+    let own : IsSpan new span = record { order = omega arith; within = omega arith; units = u; gaps = g } in
+    record { some = a.some; few = a.few; turned = a.turned; each_slot = slots; each_span = All-push (IsSpan new) spans span grown.each_span own }
 
-pub rows_at-pushed : (ii : ℕ) (old new : List Slot) (spans : List Span) (span : Span) (rows : List Row) → All (IsSpan ii old) spans → take (length old) new ≡ old
+pub rows_at-pushed : (old new : List Slot) (spans : List Span) (span : Span) (rows : List Row) → All (IsSpan old) spans → take (length old) new ≡ old
     → span.start ≡ length old → span.end ≡ length new → rows_in (drop (length old) new) ≡ rows
     → map (rows_at new) (spans ++ span ∷ []) ≡ map (rows_at old) spans ++ rows ∷ []
-rows_at-pushed ii old new spans span rows all e from to r =
+rows_at-pushed old new spans span rows all e from to r =
     let own : rows_at new span ≡ rows = ap (λ n. rows_in (slice_range new n span.end)) from ∙ ap (λ n. rows_in (slice_range new (length old) n)) to ∙ ap rows_in (take_rest new (length old)) ∙ r in
-    map_push (rows_at new) spans span ∙ ap (λ xs. xs ++ rows_at new span ∷ []) (rows_at-kept ii old new spans e all) ∙ ap (λ x. map (rows_at old) spans ++ x ∷ []) own
+    map_push (rows_at new) spans span ∙ ap (λ xs. xs ++ rows_at new span ∷ []) (rows_at-kept old new spans e all) ∙ ap (λ x. map (rows_at old) spans ++ x ∷ []) own
 
 -- ---- the same alternatives at another interval
 slice_range-map : {X Y : Type 0} (f : X → Y) (xs : List X) (i j : ℕ) → slice_range (map f xs) i j ≡ map f (slice_range xs i j)
@@ -98,29 +101,28 @@ pub All-slot_at : (was ii : ℕ) (slots : List Slot) → All (IsSlot was) slots 
 All-slot_at was ii slots all =
     All-map (IsSlot ii) (slot_at ii) slots (λ k d lt. let s = all k d lt in record { unit = s.unit; turn = refl; mask = s.mask })
 
-pub AreChoices-at : (was ii : ℕ) (slots : List Slot) (spans : List Span) → AreChoices was slots spans → 0 < ii → ii ≤ 16384
-    → AreChoices ii (map (slot_at ii) slots) (map (span_at ii (map (slot_at ii) slots)) spans)
-AreChoices-at was ii slots spans a some few =
+pub AreChoices-at : (was before ii multiples : ℕ) (slots : List Slot) (spans : List Span) → AreChoices was before slots spans → 0 < ii → ii ≤ 16384 → AreMultiples ii multiples
+    → AreChoices ii multiples (map (slot_at ii) slots) spans
+AreChoices-at was before ii multiples slots spans a some few are =
     let new = map (slot_at ii) slots in
     record {
       some = some;
       few = few;
+      turned = are;
       each_slot = All-slot_at was ii slots a.each_slot;
-      each_span = All-map (IsSpan ii new) (span_at ii new) spans (λ k d lt.
-          let s = a.each_span k d lt in
-          record {
-            order = s.order;
-            within = omega (arith, s.within, length-map slots (slot_at ii));
-            collides = refl;
-            units = λ unit. s.units unit ∙ ap (needs_unit unit) (sym (rows_at-slot_at ii slots (get_or spans k d)));
-          });
+      each_span = All-weaker (IsSpan slots) (IsSpan new) (λ span s. record {
+        order = s.order;
+        within = omega (arith, s.within, length-map slots (slot_at ii));
+        units = λ unit. s.units unit ∙ ap (needs_unit unit) (sym (rows_at-slot_at ii slots span));
+        gaps = λ at of some are. ap (collides at) (rows_at-slot_at ii slots span) ∙ s.gaps at of some are;
+      }) spans a.each_span;
     }
 
-pub rows_at-span_at : (ii : ℕ) (slots : List Slot) (spans : List Span) → map (rows_at (map (slot_at ii) slots)) (map (span_at ii (map (slot_at ii) slots)) spans) ≡ map (rows_at slots) spans
-rows_at-span_at ii slots [] = refl
-rows_at-span_at ii slots (s ∷ spans) =
+pub rows_at-reset : (ii : ℕ) (slots : List Slot) (spans : List Span) → map (rows_at (map (slot_at ii) slots)) spans ≡ map (rows_at slots) spans
+rows_at-reset ii slots [] = refl
+rows_at-reset ii slots (s ∷ spans) =
     let new = map (slot_at ii) slots in
-    ap (λ rows. rows ∷ map (rows_at new) (map (span_at ii new) spans)) (rows_at-slot_at ii slots s) ∙ ap (λ xs. rows_at slots s ∷ xs) (rows_at-span_at ii slots spans)
+    ap (λ rows. rows ∷ map (rows_at new) spans) (rows_at-slot_at ii slots s) ∙ ap (λ xs. rows_at slots s ∷ xs) (rows_at-reset ii slots spans)
 
 -- units below a number, of the slots and of the alternatives that they make up
 pub rows_at-covered : (units : ℕ) (slots : List Slot) (spans : List Span) → All (λ s. s.row.unit < units) slots → All (All (λ r. r.unit < units)) (map (rows_at slots) spans)
@@ -130,11 +132,26 @@ rows_at-covered units slots spans all =
     let each = λ (span : Span). All-map P (λ (s : Slot). s.row) (slice_range slots span.start span.end) (All-take Q (span.end - span.start) (drop span.start slots) (All-drop Q span.start slots all)) in
     All-map (All P) (rows_at slots) spans (λ k d lt. each (get_or spans k d))
 
+-- one slot more
+pub covered_more : (units more : ℕ) (slots : List Slot) (k : ℕ) (d : Slot) → k < length slots → (units ≤ 64) × All (λ s. s.row.unit < units) (take k slots)
+    → (get_or slots k d).row.unit < 64 → more ≡ max units ((get_or slots k d).row.unit + 1) → (more ≤ 64) × All (λ s. s.row.unit < more) (take (k + 1) slots)
+covered_more units more slots k d lt so_far few is =
+    let P : Slot → Type 0 = λ s. s.row.unit < more in
+    let own : (get_or slots k d).row.unit < more = omega (arith, is) in
+    let others : All P (take k slots) = All-weaker (λ (s : Slot). s.row.unit < units) P (λ s less. omega (arith, is, less)) (take k slots) so_far.1 in
+    (omega (arith, is, so_far.0, few), subst (All P) (sym (take_more slots k d lt)) (All-push P (take k slots) (get_or slots k d) others own))
+
 pub covered_slots : (units : ℕ) (slots : List Slot) (rows : List Row) → rows_in slots ≡ rows → All (λ r. r.unit < units) rows → All (λ s. s.row.unit < units) slots
 covered_slots units slots rows e all k d lt =
     let there : k < length rows = omega (arith, length-map slots (λ (s : Slot). s.row), ap length e) in
     let same : (get_or slots k d).row ≡ get_or rows k d.row = sym (get_or-map (λ (s : Slot). s.row) slots k d d.row lt) ∙ ap (λ rs. get_or rs k d.row) e in
     omega (arith, ap (λ (r : Row). r.unit) same, all k d.row there)
+
+pub offset_slots : (slots : List Slot) (rows : List Row) → rows_in slots ≡ rows → All (λ r. r.offset < 64) rows → All (λ s. s.row.offset < 64) slots
+offset_slots slots rows e all k d lt =
+    let there : k < length rows = omega (arith, length-map slots (λ (s : Slot). s.row), ap length e) in
+    let same : (get_or slots k d).row ≡ get_or rows k d.row = sym (get_or-map (λ (s : Slot). s.row) slots k d d.row lt) ∙ ap (λ rs. get_or rs k d.row) e in
+    omega (arith, ap (λ (r : Row). r.offset) same, all k d.row there)
 
 pub row_within : (slots : List Slot) (rows : List Row) (k : ℕ) → rows_in slots ≡ rows → k < length rows → k < length slots
 row_within slots rows k e lt = omega (arith, length-map slots (λ (s : Slot). s.row), ap length e)

@@ -1,30 +1,31 @@
 //! Alternatives in one piece of memory, prepared for one initiation interval.
 
-ghost use Rattle.std.specs.Prelude.{◌≡◌, ◌++◌, ◌∷◌, [], ◌<◌, ◌≤◌, ℕ, length, map, take, drop, IfOk, OnOk, OnErr, slice_index_or};
-ghost use Rattle.std.specs.List.{All, list_any};
-ghost use Rattle.machine_data.specs.Alternative.{IsAlternative, collides, rows_meet};
-ghost use Rattle.mrt.specs.inner.Choices.{span_at};
+ghost use Rattle.std.specs.Prelude.{◌≡◌, ◌++◌, ◌∷◌, [], ◌<◌, ◌≤◌, length, map, take, drop, IfOk, OnOk, OnErr, slice_index_or};
+ghost use Rattle.std.specs.List.{All};
+ghost use Rattle.machine_data.specs.Alternative.{IsAlternative, collides};
 ghost use Rattle.mrt.specs.inner.Slots.{IsSlot, slot_at, rows_in, HasUnits};
 ghost use Rattle.machine_data.specs.declared.limits.TheConstants.{MAX_INTERVAL, MAX_UNITS};
 
+use crate::rosters::marks::{Marks, marks_of, multiples};
 use crate::rosters::slot::Slot;
 use machine_data::{OutOfMemory, Row};
 use std::alloc::Global;
 use std::marker::Model;
 
-/// Where the slots of one alternative stand, whether two of them meet, and the bits of their units.
+/// Where the slots of one alternative stand, and what is known of its rows at every interval.
 #[derive(Clone, Copy)]
 struct Span {
     start: usize,
     end: usize,
-    collides: bool,
-    units: u64,
+    marks: Marks,
 }
 
 /// Alternatives at one interval. Contracts see the interval and the alternatives' rows.
 #[derive(Drop)]
 pub(crate) struct Choices {
     ii: usize,
+    /// The bits of the multiples of the interval.
+    multiples: u64,
     slots: Vec<Slot>,
     spans: Vec<Span>,
 }
@@ -37,7 +38,7 @@ impl Model for Choices {
 
     ghost view = { λ c. record { interval = c.ii; alternatives = map (rows_at c.slots.items) c.spans.items } };
 
-    ghost invariant = { λ c. AreChoices c.ii c.slots.items c.spans.items };
+    ghost invariant = { λ c. AreChoices c.ii c.multiples c.slots.items c.spans.items };
 }
 
 impl Choices {
@@ -50,6 +51,7 @@ impl Choices {
     {
         Ok(Choices {
             ii,
+            multiples: multiples(ii),
             slots: Vec::with_capacity(alloc, 64)?,
             spans: Vec::with_capacity(alloc, 32)?,
         })
@@ -63,8 +65,8 @@ impl Choices {
         ensures alternatives { self.new.alternatives ≡ self.old.alternatives }
     {
         self.ii = ii;
+        self.multiples = multiples(ii);
         reset_slots(&mut self.slots, ii);
-        reset_spans(&mut self.spans, &self.slots);
     }
 
     /// The interval, in cycles.
@@ -88,7 +90,7 @@ impl Choices {
         requires { choice < length self.now.alternatives }
         ensures { result ≡ collides self.now.interval (slice_index_or self.now.alternatives choice []) }
     {
-        self.spans[choice].collides
+        self.spans[choice].marks.gaps & self.multiples != 0
     }
 
     /// The bits of the units of an alternative's rows.
@@ -96,7 +98,7 @@ impl Choices {
         requires { choice < length self.now.alternatives }
         ensures { HasUnits result (slice_index_or self.now.alternatives choice []) }
     {
-        self.spans[choice].units
+        self.spans[choice].marks.units
     }
 
     /// The slots of an alternative.
@@ -131,15 +133,8 @@ impl Choices {
         let start = self.slots.len();
         push_slots(&mut self.slots, rows, self.ii)?;
         let end = self.slots.len();
-        let added = &self.slots[start..end];
-        let collides = collides(added);
-        let units = units_of(added);
-        self.spans.push(Span {
-            start,
-            end,
-            collides,
-            units,
-        })?;
+        let marks = marks_of(&self.slots[start..end]);
+        self.spans.push(Span { start, end, marks })?;
         Ok(())
     }
 }
@@ -169,54 +164,4 @@ fn reset_slots(slots: &mut [Slot], ii: usize)
     for slot in slots.iter_mut() {
         slot.reset(ii);
     }
-}
-
-/// Tells of each span whether two of its slots meet, once they are prepared for another interval.
-fn reset_spans(spans: &mut [Span], slots: &[Slot])
-    requires order { All (λ span. span.start ≤ span.end) spans.old }
-    requires within { All (λ span. span.end ≤ length slots.now) spans.old }
-    ensures { (ii : ℕ) → All (IsSlot ii) slots.now → spans.new ≡ map (span_at ii slots.now) spans.old }
-{
-    for span in spans.iter_mut() {
-        span.collides = collides(&slots[span.start..span.end]);
-    }
-}
-
-/// Whether two of the slots are one.
-fn collides(slots: &[Slot]) -> bool
-    ensures { (ii : ℕ) → All (IsSlot ii) slots.now → result ≡ collides ii (rows_in slots.now) }
-{
-    let mut units = 0;
-    for i in (0..slots.len()).rev() {
-        let slot = &slots[i];
-        if units & slot.mask != 0 && is_among(slot, &slots[i + 1..]) {
-            return true;
-        }
-        units |= slot.mask;
-    }
-    false
-}
-
-/// The bits of the units of some slots.
-fn units_of(slots: &[Slot]) -> u64
-    ensures { (ii : ℕ) → All (IsSlot ii) slots.now → HasUnits result (rows_in slots.now) }
-{
-    let mut units = 0;
-    for slot in slots {
-        units |= slot.mask;
-    }
-    units
-}
-
-/// Whether a slot is one of some others.
-fn is_among(slot: &Slot, others: &[Slot]) -> bool
-    ensures { (ii : ℕ) → IsSlot ii slot.now → All (IsSlot ii) others.now
-        → result ≡ list_any (λ s. rows_meet ii slot.now.row 0 s 0) (rows_in others.now) }
-{
-    for other in others {
-        if slot.row.unit == other.row.unit && slot.turn == other.turn {
-            return true;
-        }
-    }
-    false
 }
