@@ -10,7 +10,7 @@ use writing::{Text, push_told};
 /// comma between two.
 ///
 /// # Errors
-/// Memory ran out. The text is left with a part of that.
+/// [`OutOfMemory`] where memory ran out. The text is then of no use.
 pub fn push_head<T: Text>(text: &mut T, failed: u64) -> Result<(), OutOfMemory>
     ensures ok { OnOk result (T.bytes text.new ≡ T.bytes text.old ++ head_text failed) }
 {
@@ -21,7 +21,7 @@ pub fn push_head<T: Text>(text: &mut T, failed: u64) -> Result<(), OutOfMemory>
 /// Appends the part of a document after its loops, of which `met` have a kernel.
 ///
 /// # Errors
-/// Memory ran out. The text is left with a part of that.
+/// [`OutOfMemory`] where memory ran out. The text is then of no use.
 pub fn push_tail<T: Text>(text: &mut T, met: u64) -> Result<(), OutOfMemory>
     ensures ok { OnOk result (T.bytes text.new ≡ T.bytes text.old ++ tail_text met) }
 {

@@ -1,6 +1,6 @@
 //! What the parts of a problem are called.
 
-ghost use Rattle.std.specs.Prelude.{◌≡◌, ◌<◌, ◌++◌, length, OnOk};
+ghost use Rattle.std.specs.Prelude.{◌≡◌, ◌<◌, ◌++◌, length, OnOk, OnErr};
 ghost use Rattle.problem_graphs.specs.Names.{kind_name, kind_of, name_in, op_name, unit_name, value_name};
 
 use machine_data::OutOfMemory;
@@ -10,6 +10,7 @@ use writing::{Text, push_number};
 /// Appends the name with a number, or where there is none the number.
 fn push_name(text: &mut Vec<u8>, names: &[Label], number: usize) -> Result<(), OutOfMemory>
     ensures ok { OnOk result (text.new.items ≡ text.old.items ++ name_in names.now number) }
+    ensures err { OnErr result (text.new.items ≡ text.old.items) }
 {
     match names.get(number) {
         Some(name) => text.push_piece(name.as_str()),
@@ -23,6 +24,7 @@ fn push_name(text: &mut Vec<u8>, names: &[Label], number: usize) -> Result<(), O
 /// [`OutOfMemory`] where memory ran out. The text is what it was.
 pub fn push_op_name(text: &mut Vec<u8>, draft: &Draft, op: usize) -> Result<(), OutOfMemory>
     ensures ok { OnOk result (text.new.items ≡ text.old.items ++ op_name draft.now op) }
+    ensures err { OnErr result (text.new.items ≡ text.old.items) }
 {
     push_name(text, draft.names.operations.as_slice(), op)
 }
@@ -33,6 +35,7 @@ pub fn push_op_name(text: &mut Vec<u8>, draft: &Draft, op: usize) -> Result<(), 
 /// [`OutOfMemory`] where memory ran out. The text is what it was.
 pub fn push_unit_name(text: &mut Vec<u8>, draft: &Draft, unit: usize) -> Result<(), OutOfMemory>
     ensures ok { OnOk result (text.new.items ≡ text.old.items ++ unit_name draft.now unit) }
+    ensures err { OnErr result (text.new.items ≡ text.old.items) }
 {
     push_name(text, draft.names.units.as_slice(), unit)
 }
