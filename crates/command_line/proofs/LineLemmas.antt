@@ -10,11 +10,10 @@ use Rattle.command_line.specs.declared.line.Usage.TheVariants.{Help, Refused, Me
 use Rattle.clap.proofs.OnLiterals.{clap_on_literals}
 use Rattle.clap.specs.declared.error.kind.ErrorKind.TheVariants.{OutOfMemory}
 use Rattle.command_line.specs.Lines.{IsRead, IsRequest, IsSearchGiven, IsTaskGiven, IsToldBy, IsWorkGiven, AreLoopsGiven, AreProblemsGiven, AreTexts, AreTextsGiven, IsReportGiven, Means, MeansNamed, SaysFormat, SaysNumber, SaysSwitch, SaySettings, switch_word}
-use Rattle.command_line.specs.Lines.{bare_line, program_line, search_line, run_line, plain_line, schedule_line, vary_line, explain_line, dot_line, either_line, either_with_names, lint_line, solve_line, check_line}
+use Rattle.command_line.specs.Lines.{program_line, search_line, run_line, plain_line, schedule_line, vary_line, explain_line, dot_line, either_line, either_with_names, lint_line, solve_line, check_line}
 use Rattle.settings.specs.Settings.{AreSettings, SettingsData}
 use Rattle.command_line.specs.inner.Made.{HasLine, MakesLine, MakesProgram}
-use Rattle.command_line.specs.inner.Parts.{line_of, rule_by, with_arguments, with_subcommands}
-use Rattle.command_line.specs.declared.line.form.TheConstants.{SUBCOMMANDS}
+use Rattle.command_line.specs.inner.Parts.{needed_line, rule_by, with_arguments, with_subcommands}
 use Rattle.command_line.specs.declared.line.form.Argument.{Argument}
 use Rattle.command_line.specs.declared.line.form.Subcommand.{Subcommand}
 use Rattle.std.proofs.lemmas.Bool.{and_parts}
@@ -71,19 +70,15 @@ with_next_argument line arguments k default is_there =
     sym (ap (with_arguments line) (take_more arguments k default is_there) ∙ with_arguments-append line (take k arguments) (get_or arguments k default ∷ []))
 
 -- and so it is with subcommands
-with_subcommands-append : (line : App) (some others : List Subcommand) → with_subcommands line (some ++ others) ≡ with_subcommands (with_subcommands line some) others
-with_subcommands-append line [] others = refl
-with_subcommands-append line (name ∷ some) others = with_subcommands-append (with_subcommand line (line_of name).top) some others
+with_subcommands-append : (wanted : Option Subcommand) (line : App) (some others : List Subcommand)
+    → with_subcommands wanted line (some ++ others) ≡ with_subcommands wanted (with_subcommands wanted line some) others
+with_subcommands-append wanted line [] others = refl
+with_subcommands-append wanted line (name ∷ some) others = with_subcommands-append wanted (with_subcommand line (needed_line wanted name).top) some others
 
-pub with_next_subcommand : (line : App) (names : List Subcommand) (k : ℕ) (default : Subcommand) → k < length names
-    → with_subcommand (with_subcommands line (take k names)) (line_of (get_or names k default)).top ≡ with_subcommands line (take (k + 1) names)
-with_next_subcommand line names k default is_there =
-    sym (ap (with_subcommands line) (take_more names k default is_there) ∙ with_subcommands-append line (take k names) (get_or names k default ∷ []))
-
--- all subcommands make the program's line
-pub all_subcommands : with_subcommands bare_line SUBCOMMANDS ≡ program_line
-unfolding program_line
-all_subcommands = refl
+pub with_next_subcommand : (wanted : Option Subcommand) (line : App) (names : List Subcommand) (k : ℕ) (default : Subcommand) → k < length names
+    → with_subcommand (with_subcommands wanted line (take k names)) (needed_line wanted (get_or names k default)).top ≡ with_subcommands wanted line (take (k + 1) names)
+with_next_subcommand wanted line names k default is_there =
+    sym (ap (with_subcommands wanted line) (take_more names k default is_there) ∙ with_subcommands-append wanted line (take k names) (get_or names k default ∷ []))
 
 -- a word says one number
 says-one : (word : Option Text) (m n : ℕ) → SaysNumber word m → SaysNumber word n → m ≡ n

@@ -12,7 +12,7 @@ mod given;
 use crate::command::Command;
 use clap::ArgMatches;
 use clap::error::ErrorKind;
-use form::program;
+use form::{program, wanted};
 use given::command_of;
 use machine_data::OutOfMemory;
 use settings::Format;
@@ -53,7 +53,7 @@ pub fn parse_line<'a>(alloc: Global, words: &'a [&'a str]) -> Result<Command, Us
     ensures { let texts = map (λ w. w.now) words.entry.now in
         IsRead result (fault_of program_line texts) (subcommand_of program_line texts) }
 {
-    match program(alloc)?.try_get_matches_from(words) {
+    match program(alloc, wanted(words))?.try_get_matches_from(words) {
         Ok(matches) => meant(alloc, &matches),
         Err(error) => Err(usage_of(alloc, &error)),
     }

@@ -1,10 +1,12 @@
 -- The parts of the program's line.
-use Rattle.std.specs.Prelude.{List, [], ◌∷◌, codes}
-use Rattle.clap.specs.Words.{App, Rule, Text, with_rule, with_subcommand}
-use Rattle.command_line.specs.Lines.{check_line, dot_line, either_with_names, explain_line, lint_line, plain_line, run_line, schedule_line, search_line, solve_line, vary_line, with_paths}
+use Rattle.std.specs.Prelude.{List, [], ◌∷◌, Option, Some, None, codes, if◌then◌else◌}
+use Rattle.std.specs.Str.{bytes_eq}
+use Rattle.clap.specs.Words.{App, Rule, Text, new_app, with_rule, with_subcommand}
+use Rattle.command_line.specs.Lines.{bare_line, check_line, dot_line, either_with_names, explain_line, lint_line, plain_line, run_line, schedule_line, search_line, solve_line, vary_line, with_paths}
 use Rattle.command_line.specs.Lines.{ceiling_rule, cut_rule, format_rule, loop_rule, machine_only_rule, path_rule, ratio_rule, scheduled_rule, spare_rule, total_rule, trip_rule, workers_rule}
 use Rattle.command_line.specs.declared.line.form.Argument.{Argument}
 use Rattle.command_line.specs.declared.line.form.Argument.TheVariants as argument
+use Rattle.command_line.specs.declared.line.form.TheConstants.{SUBCOMMANDS}
 use Rattle.command_line.specs.declared.line.form.Subcommand.{Subcommand}
 use Rattle.command_line.specs.declared.line.form.Subcommand.TheVariants as subcommand
 
@@ -65,7 +67,16 @@ abbrev pub with_arguments : App → List Argument → App
 with_arguments line [] = line
 with_arguments line (argument ∷ arguments) = with_arguments (with_rule line (rule_by argument)) arguments
 
+-- the line of a subcommand; where another one is wanted, without its arguments
+abbrev pub needed_line : Option Subcommand → Subcommand → App
+needed_line None name = line_of name
+needed_line (Some wanted) name = if bytes_eq (word_of name) (word_of wanted) then line_of name else new_app (word_of name)
+
 -- a line with these subcommands in turn
-abbrev pub with_subcommands : App → List Subcommand → App
-with_subcommands line [] = line
-with_subcommands line (name ∷ names) = with_subcommands (with_subcommand line (line_of name).top) names
+abbrev pub with_subcommands : Option Subcommand → App → List Subcommand → App
+with_subcommands wanted line [] = line
+with_subcommands wanted line (name ∷ names) = with_subcommands wanted (with_subcommand line (needed_line wanted name).top) names
+
+-- the line of the program, where one subcommand is wanted, or each may be
+abbrev pub line_for : Option Subcommand → App
+line_for wanted = with_subcommands wanted bare_line SUBCOMMANDS

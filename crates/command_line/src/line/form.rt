@@ -1,11 +1,11 @@
 //! The form of the command line: its subcommands, their arguments and options.
 
-ghost use Rattle.std.specs.Prelude.{◌≡◌, Some, false};
+ghost use Rattle.std.specs.Prelude.{◌≡◌, Some, false, map, IfSome, slice_get};
 ghost use Rattle.clap.specs.Words.{App, app_of, new_app, new_rule, rule_of, with_rule, with_subcommand};
 ghost use Rattle.clap.specs.declared.builder.action.ArgAction.TheVariants.{SetTrue};
-ghost use Rattle.command_line.specs.Lines.{program_line, bare_line, path_rule, spare_rule, loop_rule, trip_rule, number_rule, option_rule};
+ghost use Rattle.command_line.specs.Lines.{bare_line, path_rule, spare_rule, loop_rule, trip_rule, number_rule, option_rule};
 ghost use Rattle.command_line.specs.inner.Made.{HasLine, MakesLine, MakesProgram};
-ghost use Rattle.command_line.specs.inner.Parts.{line_of, rule_by, with_arguments, word_of};
+ghost use Rattle.command_line.specs.inner.Parts.{line_for, line_of, needed_line, rule_by, with_arguments, word_of};
 
 use crate::help;
 use clap::builder::ValueParser;
@@ -33,7 +33,7 @@ const SUBCOMMANDS: [Subcommand; 12] = [
 ];
 
 #[derive(Clone, Copy)]
-enum Subcommand {
+pub(super) enum Subcommand {
     Schedule,
     Run,
     Json,
@@ -95,13 +95,30 @@ use Argument::{
 // whether there is a command: the checker goes through the drops after each `?`, and those of a command are many.
 type Made<'a> = Result<Command<'a>, OutOfMemory>;
 
-/// The line of the program, without its own name.
-pub(super) fn program<'a>(alloc: Global) -> Result<Command<'a>, OutOfMemory>
-    ensures { MakesProgram program_line result }
+/// The subcommand that the first word names.
+pub(super) fn wanted(words: &[&str]) -> Option<Subcommand>
+    ensures { IfSome result (λ name. slice_get (map (λ w. w.now) words.now) 0 ≡ Some (word_of name)) }
+{
+    let first = words.first()?;
+    for name in SUBCOMMANDS {
+        if word_of(name) == *first {
+            return Some(name);
+        }
+    }
+    None
+}
+
+/// The line of the program, without its own name, as words need it that begin with a subcommand, or with none: the others
+/// have no argument then, which takes most of the time that a short line takes.
+pub(super) fn program<'a>(
+    alloc: Global,
+    wanted: Option<Subcommand>,
+) -> Result<Command<'a>, OutOfMemory>
+    ensures { MakesProgram (line_for wanted) result }
 {
     let mut made = bare_program(alloc);
     for name in SUBCOMMANDS {
-        made = add(alloc, made, name);
+        made = add(alloc, made, wanted, name);
     }
     made
 }
@@ -122,22 +139,40 @@ fn bare_program<'a>(alloc: Global) -> Made<'a>
 }
 
 // The line with one more subcommand.
-fn add<'a>(alloc: Global, made: Made<'a>, name: Subcommand) -> Made<'a>
-    ensures { (line : App) → MakesProgram line made.entry → MakesProgram (with_subcommand line (line_of name).top) result }
+fn add<'a>(alloc: Global, made: Made<'a>, wanted: Option<Subcommand>, name: Subcommand) -> Made<'a>
+    ensures { (line : App) → MakesProgram line made.entry → MakesProgram (with_subcommand line (needed_line wanted name).top) result }
 {
     let command = made?;
-    command.subcommand(subcommand_of(alloc, name)?)
+    command.subcommand(needed(alloc, wanted, name)?)
+}
+
+// A subcommand with its arguments, or without them where another is wanted.
+fn needed<'a>(alloc: Global, wanted: Option<Subcommand>, name: Subcommand) -> Made<'a>
+    ensures { MakesLine (needed_line wanted name) result }
+{
+    match wanted {
+        Some(wanted) if word_of(name) == word_of(wanted) => subcommand_of(alloc, name),
+        Some(_) => without_arguments(alloc, name),
+        None => subcommand_of(alloc, name),
+    }
 }
 
 // A subcommand with its arguments.
 fn subcommand_of<'a>(alloc: Global, name: Subcommand) -> Made<'a>
     ensures { MakesLine (line_of name) result }
 {
-    let mut made = bare(alloc, word_of(name), about_of(name), long_about_of(name));
+    let mut made = without_arguments(alloc, name);
     for argument in arguments_of(name) {
         made = with(alloc, made, *argument);
     }
     made
+}
+
+// A subcommand without its arguments.
+fn without_arguments<'a>(alloc: Global, name: Subcommand) -> Made<'a>
+    ensures { MakesLine (new_app (word_of name)) result }
+{
+    bare(alloc, word_of(name), about_of(name), long_about_of(name))
 }
 
 // A subcommand that has no argument yet.

@@ -7,4 +7,4 @@ use Rattle.command_line.proofs.line.form.program.Given as goal
 
 -- the line has the subcommands that were gone over
 abbrev pub invariant-loop-name : goal.invariant-loop-name
-invariant-loop-name l = MakesProgram (with_subcommands bare_line (take l.name-index SUBCOMMANDS)) l.made
+invariant-loop-name l = MakesProgram (with_subcommands l.wanted bare_line (take l.name-index SUBCOMMANDS)) l.made

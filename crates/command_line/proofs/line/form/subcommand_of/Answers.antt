@@ -1,11 +1,8 @@
 use Rattle.std.proofs.Common.{subst}
-use Rattle.clap.specs.Words.{App, Text, new_app}
+use Rattle.clap.specs.Words.{App}
 use Rattle.command_line.specs.inner.Made.{MakesLine}
 use Rattle.command_line.proofs.LineLemmas.{with_next_argument}
 use Rattle.command_line.proofs.line.form.subcommand_of.Goals as goal
-
-pub loop-argument-init : goal.loop-argument-init
-loop-argument-init c = subst (λ (word : Text). MakesLine (new_app word) c.bare-made.result) c.word_of.ensures c.bare-made.ensures
 
 pub loop-argument-preserved : goal.loop-argument-preserved
 loop-argument-preserved c =
