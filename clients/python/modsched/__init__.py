@@ -291,7 +291,7 @@ class Library:
         raise MemoryError
 
     def schedule(self, machine: str | bytes, loops: str | bytes, ratio: int = 6, ceiling: int = 32) -> Printed:
-        """The listing of the loops on the machine: of each loop the kernel of its least interval that works, or why none does. At most `ratio`
+        """The listing of the loops on the machine: of each loop the kernel of the least interval at which the search finds one, or why it finds none. At most `ratio`
         placements are made for each operation and interval, 1 to 64, at most `ceiling` intervals above the least one, 0 to 255. Raises
         Refused, ValueError for a number that is out of its range, or MemoryError."""
         return self._printed("schedule", (machine, loops), ratio, ceiling)
@@ -347,7 +347,7 @@ class Library:
         raise MemoryError
 
     def solve(self, problem: Problem, ratio: int = 6, ceiling: int = 64) -> Schedule:
-        """The schedule of the least interval that works, from the greater bound to `ceiling` (0 to 255) above it, each tried with at most `ratio` (1 to 64)
+        """The schedule of the least interval at which the search finds one, from the greater bound to `ceiling` (0 to 255) above it, each tried with at most `ratio` (1 to 64)
         placements for each operation. Raises NoInterval, AtFault, ValueError for a setting that is out of its range, or MemoryError."""
         operations, values = len(problem.operations), len(problem.values)
         times, choices, numbers = ((u64 * max(it, 1))() for it in (operations, operations, values))
