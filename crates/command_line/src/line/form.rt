@@ -108,8 +108,8 @@ pub(super) fn wanted(words: &[&str]) -> Option<Subcommand>
     None
 }
 
-/// The line of the program, without its own name, as words need it that begin with a subcommand, or with none: the others
-/// have no argument then, which takes most of the time that a short line takes.
+/// The line of the program, without its own name, as far as words need it: where one subcommand is wanted, the others
+/// have no arguments, so that a short line does not wait for them.
 pub(super) fn program<'a>(
     alloc: Global,
     wanted: Option<Subcommand>,
