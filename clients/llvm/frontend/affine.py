@@ -6,6 +6,14 @@ from dataclasses import dataclass, field
 from .ir import Address, Constant, Instruction, Value, incoming
 from .loops import LeftOut, Loop
 
+MOST_DEEP = 64  # instructions one after another that are followed
+MOST_SIZE = 64  # of a product that is multiplied out
+
+
+def _wrapped(number: int) -> int:
+    """A number as 64 bits with a sign hold it, since addresses wrap around."""
+    return (number + (1 << 63)) % (1 << 64) - (1 << 63)
+
 
 @dataclass(frozen=True)
 class Linear:
@@ -16,7 +24,8 @@ class Linear:
 
     @staticmethod
     def _made(constant: int, terms: dict[tuple[Value, ...], int]) -> "Linear":
-        return Linear(constant, tuple(sorted(((it, by) for it, by in terms.items() if by), key=lambda it: [id(value) for value in it[0]])))
+        wrapped = ((it, _wrapped(by)) for it, by in terms.items())
+        return Linear(_wrapped(constant), tuple(sorted(((it, by) for it, by in wrapped if by), key=lambda it: [id(value) for value in it[0]])))
 
     def plus(self, other: "Linear", by: int = 1) -> "Linear":
         """This plus `by` times another."""
@@ -38,6 +47,11 @@ class Linear:
     def is_constant(self) -> bool:
         return not self.terms
 
+    @property
+    def size(self) -> int:
+        """How long it is to write."""
+        return 1 + sum(len(values) for values, _ in self.terms)
+
 
 @dataclass(frozen=True)
 class Affine:
@@ -54,6 +68,7 @@ class Inductions:
     loop: Loop
     steps: dict[Instruction, Linear] = field(default_factory=dict)
     _known: dict[Value, Affine | None] = field(default_factory=dict)
+    _depth: int = 0
 
     def __post_init__(self):
         for phi in self.loop.header.phis:
@@ -75,7 +90,9 @@ class Inductions:
     def of(self, value: Value) -> Affine | None:
         """A value as start and step, where it is of that form."""
         if value not in self._known:
+            self._depth += 1
             self._known[value] = self._found(value)
+            self._depth -= 1
         return self._known[value]
 
     def _found(self, value: Value) -> Affine | None:
@@ -83,10 +100,12 @@ class Inductions:
             return Affine(Linear(value.number)) if isinstance(value.number, int) else None
         if not isinstance(value, Instruction):
             return Affine(Linear(0, (((value,), 1),)))
+        if self._depth > MOST_DEEP:
+            return self._fixed(value)
         if value.opcode == "getelementptr":
             return self._address(value, value.address)
         if value.opcode == "bitcast":
-            return self.of(value.operands[0])
+            return self.of(value.operands[0]) or self._fixed(value)
         if value.opcode in ("add", "sub", "mul", "shl"):
             return self._computed(value) or self._fixed(value)
         if value.opcode == "or":
@@ -123,6 +142,8 @@ class Inductions:
         if one.step != Linear() and two.step != Linear():
             return None
         moves, stays = (one, two) if one.step != Linear() else (two, one)
+        if max(moves.start.size, moves.step.size) * stays.start.size > MOST_SIZE:
+            return None
         return Affine(moves.start.times(stays.start), moves.step.times(stays.start))
 
     def _joined(self, value: Instruction) -> Affine | None:

@@ -31,7 +31,7 @@ def command() -> str:
 
 def run(arguments: list[str]) -> str:
     """What clang writes to its standard output."""
-    done = subprocess.run([command(), *arguments], stdin=subprocess.DEVNULL, capture_output=True, text=True)
+    done = subprocess.run([command(), *arguments], stdin=subprocess.DEVNULL, capture_output=True, encoding="utf-8", errors="replace")
     if done.returncode != 0:
         raise NoClang(f"clang refuses {arguments[-1]}:\n{done.stderr.strip()}")
     return done.stdout
@@ -51,7 +51,10 @@ def to_ir(path: str, flags: Sequence[str] = ()) -> str:
     known = binding.llvm_version_info[0]
     if version() > known:
         raise NoClang(f"{command()} is of version {version()}, and llvmlite reads up to version {known}: apt-get install clang-{known}, or name one by CLANG")
-    return run([*FLAGS, *flags, "-S", "-emit-llvm", "-o", "-", path])
+    text = run([*FLAGS, *flags, "-S", "-emit-llvm", "-o", "-", path])
+    if not text:
+        raise NoClang(f"clang makes nothing of {path}: it is no C file")
+    return text
 
 
 def to_library(path: str, library: str) -> None:

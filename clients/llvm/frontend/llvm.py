@@ -59,7 +59,7 @@ OPCODES = {29: "getelementptr", 39: "ptrtoint", 40: "inttoptr", 41: "bitcast"}  
 
 
 def _taken(pointer: int) -> str:
-    text = ctypes.string_at(pointer).decode()
+    text = ctypes.string_at(pointer).decode(errors="replace")
     _dispose(pointer)
     return text
 
@@ -77,14 +77,14 @@ def printed(value: int) -> str:
 def name_of(value: int) -> str:
     """The name of a value, or an empty text."""
     size = ctypes.c_size_t()
-    return ctypes.string_at(_name(value, size), size.value).decode()
+    return ctypes.string_at(_name(value, size), size.value).decode(errors="replace")
 
 
 def file_of(value: int) -> str:
     """The source file of an instruction, or an empty text."""
     size = _NUMBER()
     found = _file(value, size)
-    return ctypes.string_at(found, size.value).decode() if found else ""
+    return ctypes.string_at(found, size.value).decode(errors="replace") if found else ""
 
 
 def constant_float(value: int) -> float:

@@ -147,7 +147,7 @@ def _convert(loop: Loop, inner: Block) -> None:
     test = loop.header.last
     wanted = loop.header.successors[0] is inner
     for one in inner.instructions:
-        if one.opcode in ("sdiv", "udiv", "srem", "urem"):
+        if one.opcode in ("sdiv", "udiv", "srem", "urem") or one.opcode.startswith(("llvm.sdiv.", "llvm.udiv.")):
             raise LeftOut("it divides under a condition")
         if one.opcode in MEMORY:
             loop.guards[one] = Guard(test.operands[0], wanted)

@@ -105,7 +105,7 @@ def _hold(text: Any, units: list[str], what: str) -> tuple[str, int]:
 
 def _terms(table: dict, key: str, what: str) -> tuple[Term, ...]:
     try:
-        return tuple(parse(_checked(it, str, f"{what}.{key}")) for it in table.get(key, []))
+        return tuple(parse(_checked(it, str, f"{what}.{key}")) for it in _checked(table.get(key, []), list, f"{what}.{key}"))
     except BadTerm as bad:
         raise BadMachine(f"{what}.{key}: {bad} is no term") from bad
 
@@ -120,12 +120,14 @@ def _kind(name: str, table: Any, units: list[str], files: dict[str, int]) -> Kin
         found = [_hold(it, units, f"{what}.alternatives") for it in _checked(holds, list, f"an alternative of {what}")]
         alternatives.append(tuple(_listed(found, 16, f"holds of an alternative of {what}")))
     _within(len(alternatives), 1, 16, f"the number of {what}.alternatives")
-    file = table.get("file", next(iter(files)))
+    file = _checked(table.get("file", next(iter(files))), str, f"{what}.file")
     if file not in files:
         raise BadMachine(f"{what}: there is no file {file}")
     latency = _within(_needed(table, "latency", int, f"{what}.latency"), 1, 64, f"{what}.latency")
     offsets = _checked(table.get("offsets", {}), dict, f"{what}.offsets")
     for leaf, offset in offsets.items():
+        if not re.fullmatch("[a-z]|guard", leaf):
+            raise BadMachine(f"{what}.offsets: {leaf} is no letter, nor guard")
         if not 0 <= _checked(offset, int, f"{what}.offsets.{leaf}") < latency:
             raise BadMachine(f"{what}.offsets.{leaf} is not from 0 to below the latency")
     return Kind(name, _terms(table, "of", what), latency, tuple(alternatives), file, offsets)
@@ -152,13 +154,25 @@ def machine_of(text: str) -> Machine:
     kinds = {name: _kind(name, it, units, files) for name, it in _needed(table, "kinds", dict, "kinds").items()}
     _within(len(kinds), 0, 256, "the number of kinds")
     addresses = _checked(table.get("addresses", {}), dict, "addresses")
+    if set(addresses) - {"affine", "scales"}:
+        raise BadMachine(f"{min(set(addresses) - {'affine', 'scales'})} is no key of addresses")
+    scales = [_checked(it, int, "one of addresses.scales") for it in _checked(addresses.get("scales", []), list, "addresses.scales")]
+    free, lacks = (list(_terms(table, it, "machine")) for it in ("free", "lacks"))
+    for term in [*free, *lacks]:
+        if term.instructions > 1:
+            raise BadMachine(f"machine: a term of free or lacks has {term.instructions} instructions, and not one")
+        if term in free and term.opcode in ("load", "store", "br", "copy"):
+            raise BadMachine(f"machine.free: {term.opcode} is never free")
     return Machine(
-        _named(_needed(table, "name", str, "name"), "name"), units, files, kinds, bool(table.get("counter", False)), bool(addresses.get("affine", False)),
-        _checked(addresses.get("scales", []), list, "addresses.scales"), list(_terms(table, "free", "machine")), list(_terms(table, "lacks", "machine")),
+        _named(_needed(table, "name", str, "name"), "name"), units, files, kinds, _checked(table.get("counter", False), bool, "counter"),
+        _checked(addresses.get("affine", False), bool, "addresses.affine"), scales, free, lacks,
     )
 
 
 def read_machine(path: str) -> Machine:
     """The machine of a file. Raises BadMachine, or OSError."""
-    with open(path, encoding="utf-8") as it:
-        return machine_of(it.read())
+    try:
+        with open(path, encoding="utf-8") as it:
+            return machine_of(it.read())
+    except UnicodeDecodeError as bad:
+        raise BadMachine(f"{path}: {bad}") from bad

@@ -1,7 +1,7 @@
 """What a machine issues for an iteration of a loop: instructions become operations, some of which do several, and reads of one another's values."""
 from __future__ import annotations
 
-from dataclasses import dataclass, field
+from dataclasses import dataclass, field, replace
 from typing import Callable
 
 from .affine import Exit, Inductions
@@ -56,6 +56,7 @@ class Operation:
     instructions: list[Instruction] = field(default_factory=list)
     operands: dict[tuple[Instruction, int], Operand] = field(default_factory=dict)
     folded: set[Instruction] = field(default_factory=set)
+    parts: dict[tuple[Instruction, int | str], Instruction] = field(default_factory=dict)  # the folded ones, by instruction and by when it is needed
     guard: tuple[Operand, bool] | None = None
     is_out: bool = False
 
@@ -69,6 +70,11 @@ class Operation:
         """The reads, each once, in order."""
         every = [*self.operands.values(), *([self.guard[0]] if self.guard else [])]
         return list(dict.fromkeys(it for it in every if isinstance(it, Read)))
+
+
+def _has_all_bits(one: Instruction, operand: Value) -> bool:
+    """Whether a free instruction has all the bits of its one operand, so that its result goes on by the same step."""
+    return len(one.operands) == 1 and (operand.type == "i64" or operand.type.endswith("*"))
 
 
 class _Again(Exception):
@@ -147,18 +153,21 @@ class Selection:
     def _built(self, kind: Kind, found: Match) -> Operation:
         operation = Operation(kind, found.instructions[-1])
         leaves = {(one, place): name for name, one, place in found.leaves}
+        addresses = {one.operands[-1] for one in found.instructions if one.opcode in MEMORY}
+        for one in reversed(found.instructions):
+            addresses.update(one.operands if one in addresses else [])
         for one in found.instructions:
             for place, operand in enumerate(one.operands):
                 if (one, place) in leaves:
                     is_address = one.opcode in MEMORY and place == len(one.operands) - 1
-                    offset = 0 if is_address else kind.offsets.get(leaves[one, place], 0)
+                    offset = 0 if is_address or one in addresses else kind.offsets.get(leaves[one, place], 0)
                     operation.operands[one, place] = self._operand(operation, operand, offset, is_address)
                 else:
                     operation.operands[one, place] = Earlier(operand)
-            operation.instructions.append(one)
             guard = self.loop.guards.get(one)
             if guard is not None:
                 operation.guard = self._guard(operation, one, guard)
+            operation.instructions.append(one)
         return operation
 
     def _guard(self, operation: Operation, one: Instruction, guard: Guard) -> tuple[Operand, bool]:
@@ -173,9 +182,9 @@ class Selection:
         if is_address and self.machine.folds_affine and self.inductions.of(value) is not None:
             return self._moving(operation, value)
         if value.opcode != "phi" and self.machine.is_free(value):
-            return self._folded(operation, value, lambda it: self._operand(operation, it, offset, is_address))
+            return self._folded(operation, value, offset, lambda it: self._operand(operation, it, offset, is_address and _has_all_bits(value, it)))
         if is_address and self._is_indexed(value):
-            return self._folded(operation, value, lambda it: self._operand(operation, it, offset, False))
+            return self._folded(operation, value, offset, lambda it: self._operand(operation, it, offset, False))
         maker, distance = self._maker(value)
         return Read(maker, distance, offset)
 
@@ -185,16 +194,18 @@ class Selection:
             return Input(value)
         if value in self.inductions.steps:
             return Induction(value)
-        return self._folded(operation, value, lambda it: self._moving(operation, it))
+        return self._folded(operation, value, "step", lambda it: self._moving(operation, it))
 
-    def _folded(self, operation: Operation, one: Instruction, operand_of: Callable[[Value], Operand]) -> Operand:
-        """Makes an instruction part of an operation, before those that are there."""
-        if one not in operation.instructions:
+    def _folded(self, operation: Operation, one: Instruction, when: int | str, operand_of: Callable[[Value], Operand]) -> Operand:
+        """Makes an instruction part of an operation, once for each time at which it is needed, since what it reads has to be there at each of them."""
+        if (one, when) not in operation.parts:
+            part = replace(one, name=f"{one.name}.at.{when}") if one in operation.folded else one
             for place, it in enumerate(one.operands):
-                operation.operands[one, place] = operand_of(it)
-            operation.instructions.append(one)
-            operation.folded.add(one)
-        return Earlier(one)
+                operation.operands[part, place] = operand_of(it)
+            operation.parts[one, when] = part
+            operation.instructions.append(part)
+            operation.folded.add(part)
+        return Earlier(operation.parts[one, when])
 
     def _is_indexed(self, value: Instruction) -> bool:
         """Whether an address is a base, a constant, and one index times a number that the machine can add by itself."""

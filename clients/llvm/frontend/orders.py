@@ -7,6 +7,7 @@ from .affine import Affine, Inductions, Linear
 from .ir import Argument, Global, Instruction, Value
 
 MOST_DISTANCE = 255  # of an order, the most that modsched takes
+FAR = 1 << 32  # bytes: by steps of so many, addresses may come round at 64 bits
 
 
 @dataclass(frozen=True)
@@ -86,7 +87,7 @@ def least_distance(one: Access, other: Access, least: int) -> int | None:
     if one.address is None or other.address is None or one.address.step != other.address.step:
         return least
     gap, step = one.address.start.plus(other.address.start, -1), one.address.step
-    if not gap.is_constant or not step.is_constant:
+    if not gap.is_constant or not step.is_constant or max(abs(gap.constant), abs(step.constant)) >= FAR:
         return _same_iteration(gap, step, one, other, least)
     # they meet where -other.size < step * d - gap < one.size
     low, high, by = gap.constant - other.size + 1, gap.constant + one.size - 1, step.constant
@@ -99,7 +100,7 @@ def least_distance(one: Access, other: Access, least: int) -> int | None:
 
 
 def _same_iteration(gap: Linear, step: Linear, one: Access, other: Access, least: int) -> int:
-    """Where the step is not known: in one iteration the two may still be known to be apart."""
+    """Where the step is not known, or is far: in one iteration the two may still be known to be apart."""
     if gap.is_constant and not -other.size < -gap.constant < one.size:
         return max(least, 1)
     return least

@@ -53,9 +53,15 @@ class Match:
 def parse(text: str) -> Term:
     """The term of a text. Raises BadTerm."""
     term, rest = _term(re.findall(r"[\w.*]+|\S", text), text)
-    if rest or term.name:
+    letters = _letters(term)
+    if rest or term.name or len(set(letters)) < len(letters):
         raise BadTerm(text)
     return term
+
+
+def _letters(term: Term) -> list[str]:
+    """The letters of a term, each as often as it is there. One that stood for two operands would not make them equal."""
+    return [term.name] if term.name else [name for it in term.operands or () for name in _letters(it)]
 
 
 def _term(words: list[str], text: str) -> tuple[Term, list[str]]:
@@ -123,5 +129,5 @@ def _match_operands(terms: tuple[Term, ...], one: Instruction, order: list[int],
             return None
         instructions += found.instructions
         leaves += found.leaves
-    leaves += [(chr(ord("a") + place), one, place) for place in range(len(terms), len(one.operands))]
+    leaves += [(chr(ord("a") + number), one, order[number]) for number in range(len(terms), len(one.operands))]
     return Match(instructions, tuple(leaves))

@@ -80,6 +80,8 @@ class _Writer:
             "source": source, "operations": [self._operation(it) for it in self.operations], "values": self._values(),
             "reads": self._reads(), "edges": self._edges(), "preloads": self._preloads(), "outs": self._outs(),
         }
+        if not self.operations:
+            raise LeftOut("it has no operations")
         for part, most in MOST.items():
             if len(found[part]) > most:
                 raise LeftOut(f"it has {len(found[part])} {part}, more than {most}")

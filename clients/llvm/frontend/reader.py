@@ -135,7 +135,7 @@ class _FunctionReader:
             return Global(f"@{llvm.name_of(reference)}", of, size)
         if kind == llvm.EXPRESSION and llvm.constant_opcode(reference) in llvm.OPCODES:
             return self._expression(reference, of)
-        raise Unread(f"the operand {llvm.printed(reference)}")
+        raise Unread(f"the operand {llvm.printed(reference).strip().partition(chr(10))[0]}")
 
     def _expression(self, reference: int, of: str) -> Instruction:
         """A constant that is told as an instruction, in no block."""

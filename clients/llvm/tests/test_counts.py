@@ -16,7 +16,8 @@ def opcodes(problem: dict) -> tuple[collections.Counter, collections.Counter]:
     """How many instructions of each opcode a problem's operations do, and how many more are folded into operations, each counted once."""
     every = [one for it in problem["operations"] for one in it["instructions"] if one["opcode"] not in (*UNCOUNTED, "copy")]
     done = [it for it in every if "folded" not in it]
-    folded = {it["name"]: it for it in every if "folded" in it and it["name"] not in {it["name"] for it in done}}
+    # (one that is needed at several times stands once for each)
+    folded = {it["name"].partition(".at.")[0]: it for it in every if "folded" in it and it["name"] not in {it["name"] for it in done}}
     return collections.Counter(it["opcode"] for it in done), collections.Counter(it["opcode"] for it in folded.values())
 
 

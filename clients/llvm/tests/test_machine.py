@@ -7,7 +7,7 @@ import unittest
 import common  # (it says where the others are)
 from frontend import patterns, reader
 from frontend.ir import Instruction
-from frontend.machine import BadMachine, machine_of
+from frontend.machine import BadMachine, machine_of, read_machine
 
 LINES = """
 define i32 @f(i32 %a, i32 %b, i16 %s, i16* %p) {
@@ -71,10 +71,13 @@ class Terms(unittest.TestCase):
         self.assertEqual(leaves("add(mul(a,b),c)", "%sum"), {"a": "%a", "b": "%b", "c": "%b"})
         self.assertEqual(leaves("add:i32(x,mul:i32(a,b))", "%sum"), {"x": "%b", "a": "%a", "b": "%b"})
         self.assertIsNone(leaves("sub(mul(a,b),c)", "%sum"))
+        # an operand that is not listed is the other one, whichever that is
+        found = patterns.match(patterns.parse("add(mul)"), GIVEN["%sum"], lambda it: True)
+        self.assertEqual([(name, one.name, place) for name, one, place in found.leaves], [("a", "%product", 0), ("b", "%product", 1), ("b", "%sum", 0)])
         self.assertIsNone(leaves("add(mul(a,b),c)", "%sum", is_inner=False), "somebody else needs the product")
 
     def test_bad_terms(self):
-        for text in ("", "a", "add(", "add(a", "add(a,b))", "add:(a)", "add a b", "a(b)", "add(a;b)", "add(a b)"):
+        for text in ("", "a", "add(", "add(a", "add(a,b))", "add:(a)", "add a b", "a(b)", "add(a;b)", "add(a b)", "mul(a,a)", "add(mul(a,b),a)"):
             with self.subTest(text):
                 self.assertRaises(patterns.BadTerm, patterns.parse, text)
 
@@ -116,12 +119,24 @@ class Machines(unittest.TestCase):
             ('[["a"], ["b", "a@2"]]', "[]", "the number of kinds.add.alternatives is 0, and not 1 to 16"), ('["a", "b"]', '["a", "a"]', "units: a is there twice"),
             ('["a", "b"]', "[]", "the number of units is 0, and not 1 to 64"), ("latency = 2", "latency = 0", "kinds.multiply.latency is 0, and not 1 to 64"),
             ("latency = 2", "latency = 65", "kinds.multiply.latency is 65"), ("r = 8", "r = 257", "files.r is 257, and not 1 to 256"),
+            ('of = ["add", "sub"]', "of = 3", "kinds.add.of is not of the type list"), ('file = "p"', 'file = ["p"]', "kinds.multiply.file is not of the type str"),
+            ("c = 1", "sum = 1", "kinds.mac.offsets: sum is no letter"), ("units =", "free = true\nunits =", "machine.free is not of the type list"),
+            ("units =", 'counter = "no"\nunits =', "counter is not of the type bool"), ("units =", "addresses = { afine = true }\nunits =", "afine is no key of addresses"),
+            ("units =", 'addresses = { affine = "no" }\nunits =', "addresses.affine is not"), ("units =", 'addresses = { scales = ["4"] }\nunits =', "one of addresses.scales is not"),
+            ("units =", 'lacks = ["add(mul)"]\nunits =', "has 2 instructions, and not one"), ("units =", 'free = ["load"]\nunits =', "load is never free"),
         ]
         for old, new, said in changes:
             with self.subTest(new):
                 self.assertIn(old, MACHINE)
                 with self.assertRaisesRegex(BadMachine, said):
                     machine_of(MACHINE.replace(old, new, 1))
+
+    def test_no_text(self):
+        """A file that is not UTF-8."""
+        path = os.path.join(common.ROOM, "latin.toml")
+        with open(path, "wb") as it:
+            it.write(b"# caf\xe9\n" + MACHINE.encode())
+        self.assertRaisesRegex(BadMachine, "latin.toml", read_machine, path)
 
     def test_given_machines(self):
         for name in common.MACHINES:

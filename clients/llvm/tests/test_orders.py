@@ -92,6 +92,16 @@ class Distances(unittest.TestCase):
         # bytes 10 to 13 are first read by iteration 2 (8 to 11)
         self.assertEqual(orders_of(lines), [(1, 0, 2, 2)])
 
+    def test_wrapped(self):
+        """p[i * 2^62] of numbers of 4 bytes is one place, since addresses have 64 bits; and p[i + 2^62] is p[i]."""
+        lines = "%a = shl i64 %i, 62\n%xp = getelementptr i32, i32* %p, i64 %a\n%x = load i32, i32* %xp\nstore i32 1, i32* %xp\n"
+        self.assertEqual(orders_of(lines), [(0, 1, -1, 0), (1, 0, 2, 1)])
+        self.assertEqual(two(("i", "load"), (f"i+{1 << 62}", "store")), [(0, 1, -1, 0)])
+        # a step of 2^62 + 1 numbers of 4 bytes is one of 4 bytes
+        self.assertEqual(two((f"{(1 << 62) + 1}*i", "load"), (f"{(1 << 62) + 1}*i+1", "store")), [(1, 0, 2, 1)])
+        # what is far apart may come round
+        self.assertEqual(two((f"{1 << 40}*i", "load"), (f"{1 << 40}*i+1", "store")), [(0, 1, -1, 1), (1, 0, 2, 1)])
+
     def test_one_place(self):
         lines = "%x = load i32, i32* %p\nstore i32 1, i32* %p\n"
         self.assertEqual(orders_of(lines), [(0, 1, -1, 0), (1, 0, 2, 1)])
@@ -153,6 +163,16 @@ class Steps(unittest.TestCase):
         loop, inductions = analysed("%x = add i64 %i, 5")
         self.assertEqual(inductions.steps, {phi: affine.Linear(1) for phi in loop.header.phis})
         self.assertEqual(inductions.of(loop.body[0]), affine.Affine(affine.Linear(5), affine.Linear(1)))
+
+    def test_long(self):
+        """A start that 1000 additions or 40 squares make, one after another, is not followed to its beginning."""
+        begin = LOOP.replace("entry:\n", "entry:\n  %s0 = add i64 %n, %k\n{1}").replace("%i = phi i64 [ 0,", "%i = phi i64 [ %s{2},")
+        for opcode, count in (("add", 1000), ("mul", 40)):
+            with self.subTest(opcode):
+                before = "".join(f"  %s{it + 1} = {opcode} i64 %s{it}, %{'k' if opcode == 'add' else f's{it}'}\n" for it in range(count))
+                function = reader.read_functions(begin.format("", before, count))[0][1]
+                loop = loops.loop_of(function, *loops.innermost(function)[0])
+                self.assertEqual(affine.Inductions(loop).steps[loop.header.phis[0]], affine.Linear(1))
 
     def test_exit(self):
         loop, inductions = analysed("")

@@ -7,6 +7,9 @@ import unittest
 
 import common  # (it says where the others are)
 import cases
+import plain
+from frontend import problem
+from frontend.machine import machine_of
 from memory import Memory, Outside
 from overlapped import Overlapped, Wrong
 from sequential import Run
@@ -45,6 +48,19 @@ def operation(problem: dict, opcode: str) -> str:
 class Found(unittest.TestCase):
     def test_right(self):
         self.assertTrue(is_right(*found_of("filters.c", "comb")))
+
+    def test_late_reads(self):
+        """A store whose value and condition are read after its issue."""
+        with open(os.path.join(common.CLIENT, "machines", "four.toml"), encoding="utf-8") as it:
+            late = it.read().replace('of = ["store"]\nlatency = 1', 'of = ["store"]\nlatency = 4\noffsets = { a = 3, guard = 2 }')
+        target = machine_of(late)
+        path = os.path.join(cases.CORPUS, "conditions.c")
+        document = problem.document(target, *problem.problems_of(common.functions(path), target, path))
+        solutions = {it["name"]: it for it in plain.solved(document)["solutions"]}
+        for case in cases.cases_of(path):
+            with self.subTest(case.name):
+                its = next(it for it in document["problems"] if it["name"] == case.name)
+                self.assertTrue(is_right(case, document["machine"], its, solutions[case.name]))
 
     def test_late_store(self):
         """The store lands when the load of the fourth iteration after it has already looked."""

@@ -7,7 +7,7 @@ import unittest
 import common  # (it says where the others are)
 import cases
 import plain
-from frontend import problem, reader, text
+from frontend import affine, loops, operations, problem, reader, text
 from frontend.machine import machine_of
 
 # one unit for memory, one for all else; a product and a sum at once, whose sum is read a cycle late
@@ -160,6 +160,34 @@ class ByHand(unittest.TestCase):
         found = [it for it in lines_of("", lines, machine=machine) if it.startswith("op")]
         self.assertEqual(found, ["op f:load memory", "op f:zext add", "op f:address add", "op f:store store", "op f:add add"])
 
+    def test_two_times(self):
+        """A free instruction at two operands, one of which is read later: its operand is read at both times."""
+        lines = "%lp = bitcast i32* %p to i64*\n%w = load i64, i64* %lp\n%t = trunc i64 %w to i32\n%m = mul i32 %t, %k\n%u = add i32 %m, %t\n" + STORE.format("%u")
+        found = lines_of("", lines, machine=MACHINE.replace('"trunc"', '"trunc", "bitcast"'))
+        self.assertEqual([it for it in found if it.startswith("read f:mac")], ["read f:mac %w distance 0 offset 0", "read f:mac %w distance 0 offset 1"])
+        # what is stored is read two cycles after the address that is made of it
+        late = MACHINE.replace("offsets = { guard = 1 }", "offsets = { a = 1 }").replace('"trunc"', '"trunc", "zext"')
+        lines = LOAD + "%w = zext i32 %x to i64\n%c = bitcast i32* %r to i64*\n%rp = getelementptr i64, i64* %c, i64 %w\nstore i64 %w, i64* %rp"
+        found = lines_of("", lines, machine=late.replace("scales = [4]", "scales = [4, 8]").replace('"trunc"', '"trunc", "bitcast"'))
+        self.assertEqual([it for it in found if it.startswith("read")], ["read f:store %x distance 0 offset 1", "read f:store %x distance 0 offset 0"])
+
+    def test_narrow_address(self):
+        """An address that is made of a number of 32 bits, which may wrap around, does not go on by itself; one of 64 bits does."""
+        machine = MACHINE.replace('"trunc"', '"trunc", "inttoptr", "zext:i64(a:i32)"')
+        for of, made in (("i32", "%w = zext i32 %a to i64"), ("i64", "%w = add i64 %a, 0")):
+            with self.subTest(of):
+                phis = f"%a = phi {of} [ 0, %entry ], [ %b, %loop ]"
+                lines = f"{made}\n%q0 = inttoptr i64 %w to i32*\nstore i32 %k, i32* %q0\n%b = add {of} %a, 12"
+                found = [it for it in lines_of(phis, lines, machine=machine) if it.startswith(("op", "read"))]
+                wanted = ["op f:store store", "op f:add add", "read f:store %b distance 1 offset 0", "read f:add %b distance 1 offset 0"]
+                self.assertEqual(found, wanted if of == "i32" else wanted[:1])
+
+    def test_index_at_the_issue(self):
+        """An index that is a part of a load's term is read at the issue, when the load looks at memory, whatever the offsets say."""
+        machine = MACHINE.replace("affine = true", "affine = false") + '[kinds.indexed]\nof = ["load:i32(getelementptr(a,b))"]\nlatency = 4\nalternatives = [["m"]]\noffsets = { b = 2 }\n'
+        found = lines_of("", LOAD + "%t = add i32 %x, %k", machine=machine, result="%t")
+        self.assertEqual([it for it in found if it.startswith("read f:indexed")], ["read f:indexed %next distance 1 offset 0"])
+
     def test_orders(self):
         """p[i + 1] is stored, and loaded in the next iteration; the store lands 2 cycles after its issue."""
         lines = LOAD + "%t = add i32 %x, 1\n%o = add i64 %i, 1\n%op = getelementptr i32, i32* %p, i64 %o\nstore i32 %t, i32* %op"
@@ -212,6 +240,11 @@ after:
         ])
         store = found[0]["operations"][-1]
         self.assertEqual(store["guard"], {"operand": {"value": "%c", "distance": 0, "offset": 1, "type": "i1"}, "wanted": False})
+        # a free condition is a part of the store, which is the last of its instructions all the same
+        free = given.replace("icmp sgt i32 %x, 0", "trunc i32 %x to i1")
+        store = problem.problems_of(reader.read_functions(free), machine_of(MACHINE), "f.c")[0][0]["operations"][-1]
+        self.assertEqual([it["opcode"] for it in store["instructions"]], ["getelementptr", "trunc", "store"])
+        self.assertEqual(store["guard"]["operand"], {"earlier": "%c", "type": "i1"})
 
     def test_machine_lines(self):
         given = problem.document(machine_of(MACHINE), [], [])
@@ -219,6 +252,11 @@ after:
             "machine plain", "units m x", "file r rotating 32", "file p unallotted", "kind memory latency 3 | m", "kind store latency 2 | m",
             "kind add latency 1 | x", "kind compare latency 1 | x", "kind mac latency 4 | x x@1", "",
         ])
+
+    def test_nothing_to_do(self):
+        """A loop that only counts has no operation where a counter ends loops, and texts take no problem without one."""
+        self.assertEqual(document_of("", "")[1][0]["reason"], "it has no operations")
+        self.assertEqual(len(document_of("", "", machine=NO_COUNTER)[0]), 1)
 
     def test_limits(self):
         """129 additions one after another, and a name as long as names may be."""
@@ -229,6 +267,41 @@ after:
         found = lines_of("", f"%{long} = add i32 %k, 1\n%{long}x = add i32 %{long}, 2\n" + STORE.format(f"%{long}x"))
         names = [it.split()[1] for it in found if it.startswith("value")]
         self.assertEqual(names, ["%" + long[:63], "%" + long[:61] + ".2"])
+
+
+class Times(unittest.TestCase):
+    """Each operand is read when the machine file says, through whatever is folded on its way."""
+
+    def test_corpus(self):
+        late = MACHINE.replace("offsets = { guard = 1 }", "offsets = { a = 1, guard = 1 }")
+        for path in cases.corpus_files():
+            for machine in (*map(common.machine, common.MACHINES), machine_of(late)):
+                for _, function in common.functions(path):
+                    for header, blocks in loops.innermost(function):
+                        with self.subTest(function=function.name, machine=machine.name):
+                            self.check(function, header, blocks, machine)
+
+    def check(self, function, header, blocks, machine) -> None:
+        try:
+            loop = loops.loop_of(function, header, blocks)
+            inductions = affine.Inductions(loop)
+            selection = operations.Selection(loop, inductions, affine.exit_of(loop, inductions), machine)
+        except loops.LeftOut:
+            return
+        for it in selection.operations.values():
+            doing = [one for one in it.instructions if one not in it.folded]
+            leaves = next(match.leaves for kind, match in machine.matches(it.root, selection._is_inner) if kind is it.kind and list(match.instructions) == doing)
+            for name, one, place in leaves:
+                is_address = one.opcode in reader.MEMORY and place == len(one.operands) - 1
+                self.check_operand(it, one, place, 0 if is_address else it.kind.offsets.get(name, 0))
+
+    def check_operand(self, operation, one, place, offset) -> None:
+        found = operation.operands[one, place]
+        if isinstance(found, operations.Read):
+            self.assertEqual(found.offset, offset)
+        elif isinstance(found, operations.Earlier) and found.instruction in operation.folded:
+            for its in range(len(found.instruction.operands)):
+                self.check_operand(operation, found.instruction, its, offset)
 
 
 NAME = r"[!-\"$-~]{1,64}"

@@ -61,6 +61,11 @@ class Reading(unittest.TestCase):
         text = "define i128 @f(i128 %x) {\n %y = add i128 %x, 36893488147419103233\n ret i128 %y\n}\n"
         self.assertIsInstance(function(text), reader.Unread)
 
+    def test_one_line(self):
+        """What is not known is told in one line."""
+        text = "define void @f(i8* %p) {\n indirectbr i8* %p, [label %a]\na:\n fence seq_cst\n ret void\n}\n"
+        self.assertNotIn("\n", str(function(text)))
+
     def test_no_text(self):
         self.assertRaises(reader.Unread, reader.read_functions, "define i32 @f( {")
 
@@ -140,6 +145,8 @@ class Loops(unittest.TestCase):
         self.assertEqual(self.left_out(text.replace("icmp slt i32 %i1, %n", "icmp slt i32 %z, %n")), "its trip count is not known before it starts")
         self.assertEqual(self.left_out(text.replace("add i32 %i, 1", "add i32 %i, 0")), "its trip count is not known before it starts")
         self.assertEqual(self.left_out(text.replace("%y = add", "%y = sdiv")), "it divides under a condition")
+        fixed = "declare i32 @llvm.sdiv.fix.i32(i32, i32, i32 immarg) readnone\n"
+        self.assertEqual(self.left_out(text.replace("%y = add i32 %i, %x", "%y = call i32 @llvm.sdiv.fix.i32(i32 %i, i32 %x, i32 4)") + fixed), "it divides under a condition")
 
 
 if __name__ == "__main__":

@@ -86,6 +86,17 @@ class Problems(unittest.TestCase):
         done = run("problems.py", "small.c", PATH="/nowhere", CLANG="")
         self.assertEqual((done.returncode, done.stderr), (2, "problems.py: clang is not on the path: apt-get install clang-14, or name one by CLANG\n"))
 
+    def test_other_files(self):
+        """A file that clang takes for none of C, and one whose name is not UTF-8."""
+        done = run("problems.py", written("small.txt", SMALL))
+        self.assertEqual((done.returncode, done.stdout, done.stderr), (2, "", "problems.py: clang makes nothing of small.txt: it is no C file\n"))
+        name = b"caf\xe9.c"
+        with open(os.path.join(common.ROOM.encode(), name), "w", encoding="utf-8") as it:
+            it.write(SMALL)
+        done = run("problems.py", "--text", os.fsdecode(name))
+        self.assertEqual((done.returncode, len(done.stderr.splitlines())), (0, 1))
+        self.assertIn("\nop caf_.c:4:load load\n", done.stdout)
+
     def test_other_clang(self):
         """A clang that is not there, and one that is newer than llvmlite."""
         with open(os.path.join(common.ROOM, "clang-99"), "w", encoding="ascii") as it:
@@ -113,6 +124,8 @@ class Solutions(unittest.TestCase):
         done = run("solve.py", "--library", "nothing.so", written("p.json", "{}"))
         self.assertEqual((done.returncode, done.stdout), (2, ""))
         self.assertIn("nothing.so", done.stderr)
+        done = run("solve.py", "--library", "libc.so.6", written("p.json", "{}"))
+        self.assertEqual((done.returncode, done.stdout, len(done.stderr.splitlines())), (2, "", 1))
 
     @unittest.skipUnless(common.HAS_LIBRARY, "./x library has not made out/libmodsched.so")
     def test_solved(self):
