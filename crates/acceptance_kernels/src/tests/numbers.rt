@@ -7,7 +7,7 @@ use ims::{Prepared, Schedule};
 use kernel::{Kernel, kernel_text};
 use loops::{Loop, read_loops};
 use machine::{Machine, read_machine};
-use rotating::{Allotment, emit, last_landing, least_registers};
+use rotating::{Allotment, emit, first_without_number, last_landing, least_registers};
 use std::alloc::Global;
 use std::process::Abort;
 use worked_texts::{ACC, M1};
@@ -242,4 +242,21 @@ fn schedules_that_are_given(rt: HostRuntime) {
     for case in cases() {
         assert!(rt; is_met(&rt, rt.alloc(), case), "{}", case.name);
     }
+}
+
+/// The first value of the running sum that has no number among so many registers, by its operation.
+fn lacking(rt: &impl Abort, alloc: Global, registers: u8) -> Option<u8> {
+    let prepared = prepared(rt, alloc, &SUMMING);
+    let schedule = scheduled(rt, alloc, &prepared, &SUMMING);
+    let registers = u64::from(registers).max(1);
+    let found = first_without_number(alloc, &schedule, registers).expect(rt, "memory");
+    found.map(|life| life.operation)
+}
+
+/// Two instances of the sum live in each cycle, and the loaded value in one.
+#[test]
+fn values_without_a_number(rt: HostRuntime) {
+    assert_eq!(rt; lacking(&rt, rt.alloc(), 1), Some(1));
+    assert_eq!(rt; lacking(&rt, rt.alloc(), 2), Some(1));
+    assert_eq!(rt; lacking(&rt, rt.alloc(), 3), None);
 }
