@@ -14,8 +14,8 @@ use writing::Text;
 
 /// Appends a loop's dependences with a schedule of the loop, as a graph in the language of Graphviz. Its label is the loop's name with the
 /// lower bounds of the interval, the interval of the schedule, all in cycles, and its stages. Each operation is a node with its number,
-/// labelled with its name and opcode and, in a second line, with its issue time, in cycles, its row and its stage; operations in one row
-/// have one color. Each dependence is an edge, labelled with its [kind](graph_text::Kind), its delay in cycles and, unless that is 0, after
+/// labelled with its name and opcode and, in a second line, with its issue time, in cycles, its row and its stage; operations in one stage
+/// have one colour. Each dependence is an edge, labelled with its [kind](graph_text::Kind), its delay in cycles and, unless that is 0, after
 /// an `@` its distance in iterations; it is dashed where it has a distance. The edges of the circuit are red; a circuit without edges makes
 /// none red.
 ///
