@@ -10,3 +10,4 @@ mod sweeps;
 
 pub use above::circuit_above;
 pub use laws::{bounds_have_circuits, circuits_bound_intervals};
+pub use sums::{Sums, sums_of};

@@ -9,11 +9,11 @@ use graph::Edge;
 
 /// The sums of the delays and distances of edges.
 #[derive(Clone, Copy)]
-struct Sums {
+pub struct Sums {
     /// In cycles.
-    delay: i64,
+    pub delay: i64,
     /// In iterations.
-    distance: u64,
+    pub distance: u64,
 }
 
 impl Sums {
@@ -35,8 +35,8 @@ impl Sums {
     }
 }
 
-/// The sums of the delays and distances of at most 128 edges.
-fn sums_of(edges: &[Edge]) -> Sums
+/// The sums of the delays, in cycles, and of the distances, in iterations, of at most 128 edges.
+pub fn sums_of(edges: &[Edge]) -> Sums
     requires few { length edges.now ≤ 128 }
     ensures delay { result.delay ≡ delay_of edges.now }
     ensures distance { result.distance ≡ distance_of edges.now }

@@ -17,6 +17,6 @@ pub use laws::{dependences_have_kinds, kinds_are_dependences, kinds_exclude};
 pub use listing::bounds::{bounds_lines, push_bounds_line};
 pub use listing::circuit::push_circuit_line;
 pub use listing::edges::{edges_lines, push_edge};
-pub use listing::sums::{Sums, push_sums, sums_of};
+pub use listing::sums::push_sums;
 pub use measuring::{LowerBounds, Measured, measure};
 pub use names::push_name;

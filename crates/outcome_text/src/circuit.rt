@@ -6,9 +6,8 @@ ghost use Rattle.graph.specs.Dependences.{EdgeData};
 ghost use Rattle.outcome_text.specs.Notes.{IsCircuitOf, circuit_line, stops_of, sums_text};
 
 use crate::listed::push_listed;
-use circuits::circuit_above;
+use circuits::{Sums, circuit_above, sums_of};
 use graph::Edge;
-use graph_text::{Sums, sums_of};
 use machine_data::OutOfMemory;
 use problems::{Draft, Problem};
 use std::alloc::Global;

@@ -8,8 +8,8 @@ ghost use Rattle.solution_json.specs.Bounds.{circuit_value};
 ghost use Rattle.solution_json.specs.Parts.{op_names};
 
 use crate::told::told_names;
+use circuits::sums_of;
 use graph::Edge;
-use graph_text::sums_of;
 use machine_data::OutOfMemory;
 use problems::Draft;
 use serde_json::{Value, json};

@@ -3,7 +3,8 @@
 ghost use Rattle.std.specs.Prelude.{◌≡◌, ◌≤◌, ◌++◌, length, OnOk};
 ghost use Rattle.graph_text.specs.CircuitLines.{circuit_line, sums_line};
 
-use crate::listing::sums::{Sums, push_sums, sums_of};
+use crate::listing::sums::push_sums;
+use circuits::{Sums, sums_of};
 use graph::Edge;
 use machine_data::OutOfMemory;
 use writing::{Text, push_told};
