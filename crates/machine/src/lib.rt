@@ -9,4 +9,4 @@ pub use fault::{Key, MachineFault};
 pub use machine_data::{
     Alternative, Alternatives, Machine, Name, Opcode, OpcodeTable, OutOfMemory, Row, limits,
 };
-pub use read::read_machine;
+pub use read::{is_unit_name, read_machine, row_words, small_offset};

@@ -22,6 +22,9 @@ mod rows;
 mod tables;
 mod units;
 
+pub use rows::{row_words, small_offset};
+pub use units::is_unit_name;
+
 /// Reads a machine text, which is TOML: the machine that it describes, or the first of the checks
 /// that it fails, in the order of the text's parts `units`, `registers` and `ops`. Keys that mean
 /// nothing come before all else at their level.

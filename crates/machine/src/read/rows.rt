@@ -123,8 +123,10 @@ fn unit_number(name: &str, units: &[Name]) -> Option<usize>
     units.iter().position(|unit| name == unit.as_str())
 }
 
-/// The unit's name and the digits of the offset of a row's text `UNIT@NUM`.
-fn row_words(value: &Value) -> Option<(&str, &str)>
+/// The name of the unit and the digits of the offset in a row's text `UNIT@NUM`: what stands before the first `@` has the form
+/// of a unit's name, and after it stand digits alone, one at least. None where the value is no such text. The offset may
+/// be of any size: [`small_offset`] tells it.
+pub fn row_words(value: &Value) -> Option<(&str, &str)>
     ensures digits { IfSome result (λ p. (0 < length p.1.now) × (all_ascii_digits p.1.now ≡ true)) }
     ensures value { option_map (λ p. (p.0.now, digits_value 10 p.1.now)) result ≡ words_in (view value.now) }
 {
@@ -143,8 +145,9 @@ fn is_number(text: &str) -> bool
     !text.is_empty() && text.bytes().all(|c| c.is_ascii_digit())
 }
 
-/// The offset that these digits write, where it is at most 63.
-fn small_offset(digits: &str) -> Option<u8>
+/// The offset of a row, 0 to 63 cycles, that these digits write: one digit at least, as [`row_words`] tells them. None where
+/// it is above 63.
+pub fn small_offset(digits: &str) -> Option<u8>
     requires some { 0 < length digits.now }
     requires digits { all_ascii_digits digits.now ≡ true }
     ensures { SomeIff result (digits_value 10 digits.now ≤ 63) (digits_value 10 digits.now) }

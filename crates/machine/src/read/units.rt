@@ -62,7 +62,7 @@ fn is_among(name: &str, names: &[Name]) -> bool
 
 /// Whether a text has the form of a unit's name: a lower-case letter, then lower-case letters,
 /// digits and low lines, 1 to 16 bytes in all.
-pub(crate) fn is_unit_name(text: &str) -> bool
+pub fn is_unit_name(text: &str) -> bool
     ensures { result ≡ is_unit_name text.now }
 {
     is_unit_word(text.as_bytes()) && is_within(text.len(), MAX_NAME)
