@@ -13,4 +13,5 @@ mod words;
 
 pub use cells::{CellWords, are_wide, cells_of};
 pub use form::{Form, StatementWords, Subscript, Use, Uses, form_of};
+pub use number::{int_of, number_of};
 pub use words::next_line;

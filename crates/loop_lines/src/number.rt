@@ -11,8 +11,8 @@ use machine_data::limits::{MAX_DISTANCE, MAX_SUBSCRIPT};
 /// One more digit fits after each number below this.
 const SMALL: u64 = u64::MAX / 10;
 
-/// The value of digits, or `u64::MAX` where it is above. `None` if the word is no number.
-fn digits_of(word: &[u8]) -> Option<u64>
+/// The value of a number, which is one or more digits, or `u64::MAX` where it is above that. `None` if the word is no number.
+pub fn number_of(word: &[u8]) -> Option<u64>
     ensures { result ≡ (if is_number word.now then Some (min (digits_value 10 word.now) (2 ^ 64 - 1)) else None) }
 {
     if word.is_empty() {
@@ -61,19 +61,19 @@ pub(crate) fn short_int(negative: bool, digits: &[u8]) -> i64
     if negative { -value } else { value }
 }
 
-/// An integer's value: the outer `Option` is whether the word is one, the inner is `None` outside 64
-/// bits.
+/// The value of an integer, which is a number with or without a `-` before it: the outer `Option` is whether the word is one, the
+/// inner is `None` outside 64 bits.
 #[tactic(auto, using(crate::proofs::Numbers::minus_is, crate::proofs::Numbers::plus_is), unfolding(crate::specs::Forms::int_of))]
-pub(crate) fn int_of(word: &[u8]) -> Option<Option<i64>>
+pub fn int_of(word: &[u8]) -> Option<Option<i64>>
     ensures { result ≡ int_of word.now }
 {
     match after_byte(word, b'-') {
         Some(digits) => {
-            let value = digits_of(digits)?;
+            let value = number_of(digits)?;
             Some(0i64.checked_sub_unsigned(value))
         }
         None => {
-            let value = digits_of(word)?;
+            let value = number_of(word)?;
             Some(0i64.checked_add_unsigned(value))
         }
     }
@@ -83,7 +83,7 @@ pub(crate) fn int_of(word: &[u8]) -> Option<Option<i64>>
 pub(crate) fn small_of(word: &[u8]) -> Option<Option<u8>>
     ensures { result ≡ (if is_number word.now then Some (small_of word.now) else None) }
 {
-    let value = digits_of(word)?;
+    let value = number_of(word)?;
     Some(if value <= MAX_DISTANCE as u64 {
         Some(value as u8)
     } else {
@@ -95,7 +95,7 @@ pub(crate) fn small_of(word: &[u8]) -> Option<Option<u8>>
 fn offset_of(negative: bool, digits: &[u8]) -> Option<Option<i8>>
     ensures { result ≡ offset_of negative digits.now }
 {
-    let value = digits_of(digits)?;
+    let value = number_of(digits)?;
     if value > MAX_SUBSCRIPT as u64 {
         return Some(None);
     }

@@ -15,7 +15,8 @@ use Rattle.loop_data.specs.Names.{is_name}
 use Rattle.loop_data.specs.Loops.{LoopData}
 use Rattle.loop_reader.specs.Meaning.{outside_faults, inside_faults, blocks_of, blocks_from, forms_of, loop_of, loops_in, first_fault, opening_faults, is_long, when, at_line, seen, LoopsAnswer, AnswersFault}
 use Rattle.loop_lines.specs.Parsed.{form_seen}
-use Rattle.loop_reader.specs.inner.Checks.{first_in, line_at, IsNearForm}
+use Rattle.loop_lines.specs.Near.{IsNearForm}
+use Rattle.loop_reader.specs.inner.Checks.{first_in, line_at}
 use Rattle.loop_reader.specs.inner.Texts.{UnlessMemory, UnlessMemoryKind, AnswersText}
 use Rattle.std.specs.Prelude.{Vec}
 use Rattle.std.specs.Global.{Global}

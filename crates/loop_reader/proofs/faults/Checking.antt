@@ -11,7 +11,8 @@ use Rattle.loop_reader.specs.declared.names.index.Counts.{Counts}
 use Rattle.loop_lines.specs.Forms.{Form, LoopLine, ArrayLine, ParamLine, InitLine, StatementLine, OutLine, EndLine, Malformed, StatementForm, Use, Number, Plain, At}
 use Rattle.loop_reader.specs.Meaning.{Declared, AnArray, AParam, AValue, declared, first_declared, how_many, is_array, is_param, is_statement, is_value, is_init, is_out_of, has_init, has_inits, has_statement, is_uncovered, is_wide, is_wide_place, is_unknown, is_unknown_place, is_early, stands, any_name, faults_of, when, is_long, is_outside, Kinds}
 use Rattle.loop_reader.specs.inner.Blocks.{one_if}
-use Rattle.loop_reader.specs.inner.Checks.{is_that, is_given, is_live, covers, covers_name, lacks_init, kinds_at, IsCounted, IsGiven, IsNear, IsNearForm, IsNearUse}
+use Rattle.loop_lines.specs.Near.{IsNear, IsNearForm, IsNearUse}
+use Rattle.loop_reader.specs.inner.Checks.{is_that, is_given, is_live, covers, covers_name, lacks_init, kinds_at, IsCounted, IsGiven}
 use Rattle.loop_reader.proofs.blocks.Reading.{is_end}
 use Rattle.loop_reader.proofs.lookups.Declared.{declared-append, same_word-here, how_many-cons}
 use Rattle.std.proofs.lemmas.List.Sums.{sum_by-append}

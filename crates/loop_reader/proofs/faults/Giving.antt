@@ -11,7 +11,8 @@ use Rattle.loop_reader.specs.declared.fault.LoopFaultKind.TheVariants.{Limit, Re
 use Rattle.loop_reader.specs.declared.fault.LoopFaultKind.{LoopFaultKind}
 use Rattle.loop_lines.specs.Forms.{Form, LoopLine, ArrayLine, ParamLine, InitLine, StatementLine, OutLine, EndLine, Malformed}
 use Rattle.loop_reader.specs.Meaning.{Declared, AnArray, AParam, AValue, declared, first_declared, how_many, is_array, is_param, is_statement, is_value, is_init, is_out_of, init_value, value_in, has_init, same_number, any_name, faults_of, when, is_long, is_outside, Kinds}
-use Rattle.loop_reader.specs.inner.Checks.{with_init, inits_with, with_live, outs_with, IsCounted, IsGiven, IsNear, IsNearForm}
+use Rattle.loop_lines.specs.Near.{IsNear, IsNearForm}
+use Rattle.loop_reader.specs.inner.Checks.{with_init, inits_with, with_live, outs_with, IsCounted, IsGiven}
 use Rattle.loop_reader.proofs.lookups.Declared.{how_many-push, option_or-none, option_or-assoc, same_word-here, same_word-yes}
 use Rattle.loop_reader.proofs.faults.Checking.{or-none, or-true, not-from, declared-below}
 

@@ -9,7 +9,8 @@ use Rattle.loop_lines.specs.Forms.{Form}
 use Rattle.loop_reader.specs.Meaning.{how_many, is_array, is_param, is_statement, faults_of, at_line, Kinds}
 use Rattle.loop_lines.specs.Parsed.{form_seen}
 use Rattle.loop_reader.specs.inner.Blocks.{forms_in, entry_faults}
-use Rattle.loop_reader.specs.inner.Checks.{first_in, kinds_at, inits_with, outs_with, IsBlock, IsGiven, IsNearForm}
+use Rattle.loop_lines.specs.Near.{IsNearForm}
+use Rattle.loop_reader.specs.inner.Checks.{first_in, kinds_at, inits_with, outs_with, IsBlock, IsGiven}
 use Rattle.loop_reader.proofs.lookups.Declared.{forms-more}
 use Rattle.loop_reader.proofs.faults.Giving.{given-more}
 use Rattle.loop_reader.proofs.blocks.BlockStanding.{line-kinds, near-block, all-at}

@@ -9,7 +9,8 @@ use Rattle.machine_data.specs.declared.opcode.Opcode.{Opcode}
 use Rattle.machine_data.specs.declared.opcode.Opcode.TheVariants.{Load, Store}
 use Rattle.machine_data.specs.Opcodes.{same_word, opcode_named}
 use Rattle.loop_data.specs.declared.language.statement.Statement.{Statement}
-use Rattle.loop_reader.specs.inner.Checks.{IsBlock, IsNear}
+use Rattle.loop_lines.specs.Near.{IsNear}
+use Rattle.loop_reader.specs.inner.Checks.{IsBlock}
 use Rattle.loop_lines.specs.Forms.{Form, LoopLine, ArrayLine, ParamLine, InitLine, StatementLine, OutLine, EndLine, Malformed, StatementForm, Subscript, Use, Number, Plain, At, form_of, line_form, is_number, small_of, signed_of, int_of, ints_of, with_int, at_of, named_use_of, or_use, use_of, uses_of, with_use, offset_of, subscript_of, place_of, formed, loop_line, array_line, param_line, init_line, init_of, store_line, store_of, out_line, end_line, load_line, compute_line, value_of, value_line}
 use Rattle.loop_data.specs.Names.{is_name}
 use Rattle.loop_data.specs.Arithmetic.{is_memory, operands_of}

@@ -6,6 +6,7 @@ use Rattle.loop_lines.specs.Forms.{Form, EndLine}
 use Rattle.loop_reader.specs.Meaning as meaning
 use Rattle.loop_reader.specs.Meaning.{declared, declared_by, how_many, is_array, is_param, is_statement, at_line, faults_of, whole, inside_faults, outside_faults, blocks_from, blocks_of, forms_of}
 use Rattle.loop_lines.specs.Parsed.{form_seen}
+use Rattle.loop_reader.specs.Declarations.{declared_seen}
 use Rattle.loop_reader.specs.declared.lines.collect.Stop.{Stop}
 use Rattle.loop_reader.specs.declared.lines.collect.Stop.TheVariants as stops
 use Rattle.loop_reader.specs.declared.lines.entry.LineEntry.{LineEntry}
@@ -13,16 +14,10 @@ use Rattle.loop_reader.specs.declared.fault.LoopFault.{LoopFault}
 use Rattle.loop_reader.specs.declared.fault.LoopFaultKind.TheVariants.{Syntax, NoEnd}
 use Rattle.loop_reader.specs.declared.names.index.Counts.{Counts}
 use Rattle.loop_reader.specs.declared.names.index.Declared.{Declared}
-use Rattle.loop_reader.specs.declared.names.index.Declared.TheVariants as variants
 
 -- the forms of lines
 abbrev pub forms_in : List LineEntry → List Form
 forms_in entries = map (λ (e : LineEntry). form_seen e.form) entries
-
-abbrev pub declared_seen : Declared → meaning.Declared
-declared_seen (variants.Array number) = meaning.AnArray number
-declared_seen (variants.Param number) = meaning.AParam number
-declared_seen (variants.Value number) = meaning.AValue number
 
 -- what a name stands for where it is the one that is declared
 abbrev pub declared_if : List ℕ → Option (Bor (List ℕ) × Declared) → Option meaning.Declared

@@ -2,9 +2,8 @@
 -- the lines so far gave to the block's values.
 use Rattle.std.specs.Prelude.{◌≡◌, ℕ, zero, suc, ℤ, ◌+◌, ◌*◌, ◌<◌, ◌≤◌, ◌==◌, ◌||◌, ◌&&◌, nat_lt, nat_le, not, Bool, true, false, if◌then◌else◌, List, [], ◌∷◌, ◌++◌, length, Option, Some, None, is_some, is_none, slice_index_or, slice_set}
 use Rattle.machine_data.specs.declared.limits.TheConstants.{MAX_CELLS}
-use Rattle.std.specs.List.{list_any, AllByRecursion}
+use Rattle.std.specs.List.{list_any}
 use Rattle.loop_lines.specs.Forms.{Form, LoopLine, ArrayLine, ParamLine, InitLine, StatementLine, OutLine, EndLine, Malformed, Use, At}
-use Rattle.loop_data.specs.Names.{is_name}
 use Rattle.loop_reader.specs.Meaning.{Declared, AnArray, AParam, AValue, declared, is_value, is_array, is_param, is_statement, how_many, is_long, is_outside, is_wide, is_wide_place, is_unknown, is_unknown_place, is_early, any_name, is_init, init_value, is_out_of, when, whole, forms_of, Kinds}
 use Rattle.loop_lines.specs.Parsed.{use_seen}
 use Rattle.loop_reader.specs.declared.fault.LoopFaultKind.{LoopFaultKind}
@@ -120,26 +119,6 @@ IsCounted block None = Unit {0}
 IsCounted block (Some (AnArray number)) = number < how_many is_array block
 IsCounted block (Some (AParam number)) = number < how_many is_param block
 IsCounted block (Some (AValue number)) = number < how_many is_statement block
-
--- a distance, or the number of an initial value, of at most 16
-abbrev pub IsNear : Option ℕ → Type 0
-IsNear None = Unit {0}
-IsNear (Some n) = n ≤ 16
-
-abbrev pub IsNearUse : Use → Type 0
-IsNearUse (At name distance) = IsNear distance
-IsNearUse _ = Unit {0}
-
--- numbers of a line that are near, and the name of a line that opens a block
-abbrev pub IsNearForm : Form → Type 0
-IsNearForm (LoopLine name) = is_name name ≡ true
-IsNearForm (InitLine name number value) = IsNear number
-IsNearForm (StatementLine source) = AllByRecursion IsNearUse source.uses
-IsNearForm _ = Unit {0}
-
-abbrev pub IsNearRead : Option code.Use → Type 0
-IsNearRead None = Unit {0}
-IsNearRead (Some u) = IsNearUse (use_seen u)
 
 -- a table of `room` initial values has those of a declaration
 abbrev pub IsRoomFor : ℕ → Option Declared → Type 0

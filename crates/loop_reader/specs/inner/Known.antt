@@ -5,7 +5,8 @@ use Rattle.std.specs.Cmp.Lexicographic.{slice_cmp}
 use Rattle.std.specs.Option.{option_or}
 use Rattle.std.specs.Ordering.{nat_cmp}
 use Rattle.loop_reader.specs.Meaning.{declared}
-use Rattle.loop_reader.specs.inner.Blocks.{declared_seen, forms_in, DeclaresOnce}
+use Rattle.loop_reader.specs.Declarations.{declared_seen}
+use Rattle.loop_reader.specs.inner.Blocks.{forms_in, DeclaresOnce}
 use Rattle.loop_reader.specs.inner.Chains.{chained_as}
 use Rattle.loop_reader.specs.declared.lines.entry.LineEntry.{LineEntry}
 use Rattle.loop_reader.specs.declared.names.index.Declared.{Declared}

@@ -9,10 +9,12 @@ ghost use Rattle.loop_reader.specs.Meaning as meaning;
 ghost use Rattle.loop_reader.specs.Meaning.{any_name, declared, how_many, number_at, is_statement, AValue};
 ghost use Rattle.loop_lines.specs.Cells.{cells_seen};
 ghost use Rattle.loop_lines.specs.Parsed.{form_seen, statement_seen, subscript_seen, uses_seen};
-ghost use Rattle.loop_reader.specs.inner.Blocks.{declared_seen, entry_faults, forms_in, IsLineIn};
+ghost use Rattle.loop_reader.specs.Declarations.{declared_seen};
+ghost use Rattle.loop_reader.specs.inner.Blocks.{entry_faults, forms_in, IsLineIn};
 ghost use Rattle.loop_reader.specs.inner.Building.{IsFew};
 ghost use Rattle.loop_reader.specs.inner.Found.{array_in, fault_in, target_in, AreFound, IsFoundFor, IsFoundIn};
-ghost use Rattle.loop_reader.specs.inner.Checks.{any_use, covers_name, first_in, inits_with, is_that, kinds_at, lacks_init, outs_with, IsBlock, IsGiven, IsNear, IsNearForm, IsNearRead, IsNearUse, IsRoomFor};
+ghost use Rattle.loop_lines.specs.Near.{IsNear, IsNearForm, IsNearRead, IsNearUse};
+ghost use Rattle.loop_reader.specs.inner.Checks.{any_use, covers_name, first_in, inits_with, is_that, kinds_at, lacks_init, outs_with, IsBlock, IsGiven, IsRoomFor};
 ghost use Rattle.machine_data.specs.declared.limits.TheConstants.{MAX_DISTANCE};
 
 use crate::checks::given::Given;
@@ -23,26 +25,29 @@ use loop_lines::{CellWords, Form, StatementWords, Subscript, Use, are_wide};
 use machine_data::OutOfMemory;
 use machine_data::limits::{MAX_ARRAYS, MAX_NAME, MAX_PARAMETERS, MAX_STATEMENTS};
 
-pub(crate) fn is_long(name: &[u8]) -> bool
+/// A name has more than 16 bytes.
+pub fn is_long(name: &[u8]) -> bool
     ensures { result ≡ meaning.is_long name.now }
 {
     name.len() > MAX_NAME
 }
 
-fn is_value(found: Option<Declared>) -> bool
+/// A name stands for the value of a statement. `None` is a name that is not declared.
+pub fn is_value(found: Option<Declared>) -> bool
     ensures { result ≡ meaning.is_value (option_map declared_seen found) }
 {
     matches!(found, Some(Declared::Value(_)))
 }
 
-fn is_readable(found: Option<Declared>) -> bool
+/// A name stands for a value or a parameter, which a use without a distance may be of. `None` is a name that is not declared.
+pub fn is_readable(found: Option<Declared>) -> bool
     ensures { result ≡ meaning.is_readable (option_map declared_seen found) }
 {
     matches!(found, Some(Declared::Value(_) | Declared::Param(_)))
 }
 
-/// The value of a statement from this one on.
-fn is_value_from(statement: usize, found: Option<Declared>) -> bool
+/// A name stands for the value of this statement or of a later one, by their numbers from 0. `None` is a name that is not declared.
+pub fn is_value_from(statement: usize, found: Option<Declared>) -> bool
     ensures { result ≡ meaning.is_value_from statement (option_map declared_seen found) }
 {
     match found {

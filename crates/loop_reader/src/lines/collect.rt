@@ -22,6 +22,20 @@ pub(crate) enum Stop<'a> {
     Open(usize),
 }
 
+/// Whether a line may stand in a loop after others, of which some is a statement where `statement` is set, and some is an `out` where `out` is.
+#[inline(always)]
+pub fn may_stand(form: &Form<'_>, statement: bool, out: bool) -> bool
+    ensures { (before : List spec.Form) → has_statement before ≡ statement → has_out before ≡ out → result ≡ stands before (form_seen form.now) }
+{
+    match form {
+        Form::Loop(_) | Form::Malformed => false,
+        Form::Array(_, _) | Form::Param(_, _) | Form::Init(_, _, _) => !statement,
+        Form::Statement(_) => !out,
+        Form::Out(_) => statement,
+        Form::End => true,
+    }
+}
+
 /// Which lines a block has so far, as far as they decide what may stand after them.
 #[derive(Clone, Copy)]
 struct Seen {
@@ -40,13 +54,7 @@ impl Seen {
         ensures { (before : List spec.Form) → has_statement before ≡ self.statement → has_out before ≡ self.out
             → result ≡ stands before (form_seen form.entry) }
     {
-        match form {
-            Form::Loop(_) | Form::Malformed => false,
-            Form::Array(_, _) | Form::Param(_, _) | Form::Init(_, _, _) => !self.statement,
-            Form::Statement(_) => !self.out,
-            Form::Out(_) => self.statement,
-            Form::End => true,
-        }
+        may_stand(&form, self.statement, self.out)
     }
 
     /// These lines and one more.

@@ -2,7 +2,7 @@
 
 ghost use Rattle.std.specs.Prelude.{◌≡◌, option_map};
 ghost use Rattle.loop_reader.specs.Meaning.{number_at};
-ghost use Rattle.loop_reader.specs.inner.Blocks.{declared_seen};
+ghost use Rattle.loop_reader.specs.Declarations.{declared_seen};
 ghost use Rattle.loop_reader.specs.inner.Building.{IsFewNumber};
 ghost use Rattle.loop_reader.specs.inner.Found.{target_at};
 

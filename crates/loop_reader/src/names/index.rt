@@ -6,7 +6,8 @@ ghost use Rattle.loop_reader.specs.inner.Known.{known_as, IsIndexed};
 ghost use Rattle.loop_reader.specs.Meaning as meaning;
 ghost use Rattle.loop_reader.specs.Meaning.{declared, declared_by, is_array, is_param, is_statement};
 ghost use Rattle.loop_lines.specs.Parsed.{form_seen};
-ghost use Rattle.loop_reader.specs.inner.Blocks.{declared_seen, declared_if, forms_in, one_if, IsCounts};
+ghost use Rattle.loop_reader.specs.Declarations.{declared_seen};
+ghost use Rattle.loop_reader.specs.inner.Blocks.{declared_if, forms_in, one_if, IsCounts};
 ghost use Rattle.loop_reader.specs.inner.Checks.{is_that};
 
 use crate::lines::entry::LineEntry;
@@ -15,11 +16,14 @@ use loop_lines::Form;
 use machine_data::OutOfMemory;
 use std::marker::Model;
 
-/// What a name stands for: an array, a parameter or the value of a statement, by its number from 0.
+/// What a name of a loop stands for, by its number from 0 among those of its kind.
 #[derive(Clone, Copy, Drop)]
-pub(crate) enum Declared {
+pub enum Declared {
+    /// An array.
     Array(usize),
+    /// A parameter.
     Param(usize),
+    /// The value of a statement.
     Value(usize),
 }
 
@@ -154,7 +158,8 @@ impl<'t, 'a> Index<'t, 'a> {
     ghost use Rattle.std.specs.Prelude.{◌≡◌, not, option_map};
     ghost use Rattle.loop_reader.specs.inner.Known.{IsIndexed};
     ghost use Rattle.loop_reader.specs.Meaning.{declared};
-    ghost use Rattle.loop_reader.specs.inner.Blocks.{forms_in, declared_seen, IsDeclaredIn};
+    ghost use Rattle.loop_reader.specs.Declarations.{declared_seen};
+    ghost use Rattle.loop_reader.specs.inner.Blocks.{forms_in, IsDeclaredIn};
     ghost use Rattle.loop_reader.specs.inner.Checks.{is_that, IsCounted};
 
     /// An index of these lines by the table of their names, of which none is declared twice where `once`

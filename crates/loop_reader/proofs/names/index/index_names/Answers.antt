@@ -2,7 +2,7 @@ use Rattle.std.proofs.Common.{refl, ap, sym, subst, ◌∙◌, arith, option_map
 use Rattle.std.proofs.lemmas.Bool.{and_parts}
 use Rattle.std.proofs.lemmas.List.{take_all}
 use Rattle.loop_reader.specs.Meaning.{declared, is_array, is_param, is_statement}
-use Rattle.loop_reader.specs.inner.Blocks.{declared_seen}
+use Rattle.loop_reader.specs.Declarations.{declared_seen}
 use Rattle.loop_reader.specs.inner.Known.{known_as, IsIndexed}
 use Rattle.loop_reader.proofs.lookups.Declared.{declared-more, how_many-more, one_if-le}
 use Rattle.loop_reader.proofs.lookups.Once.{once-none, once-lines}

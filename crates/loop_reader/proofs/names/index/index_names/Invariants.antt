@@ -1,6 +1,7 @@
 use Rattle.std.proofs.Common.{◌≡◌, ℕ, ◌≤◌, true, List, take, option_map}
 use Rattle.loop_reader.specs.inner.Known.{known_as}
-use Rattle.loop_reader.specs.inner.Blocks.{forms_in, declared_seen, DeclaresOnce}
+use Rattle.loop_reader.specs.Declarations.{declared_seen}
+use Rattle.loop_reader.specs.inner.Blocks.{forms_in, DeclaresOnce}
 use Rattle.loop_reader.specs.Meaning.{declared, how_many, is_array, is_param, is_statement}
 use Rattle.loop_reader.proofs.names.index.index_names.Given as goal
 

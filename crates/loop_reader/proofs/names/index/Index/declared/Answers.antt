@@ -1,6 +1,7 @@
 use Rattle.std.proofs.Common.{◌≡◌, option_map, rules}
 use Rattle.loop_reader.specs.Meaning.{declared}
-use Rattle.loop_reader.specs.inner.Blocks.{forms_in, declared_seen}
+use Rattle.loop_reader.specs.Declarations.{declared_seen}
+use Rattle.loop_reader.specs.inner.Blocks.{forms_in}
 use Rattle.loop_reader.proofs.faults.Checking.{counted-as}
 use Rattle.loop_reader.proofs.names.index.Index.declared.Goals as goal
 

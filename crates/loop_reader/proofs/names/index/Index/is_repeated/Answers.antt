@@ -1,5 +1,6 @@
 use Rattle.std.proofs.Common.{not, ◌∙◌, ap, sym, subst}
-use Rattle.loop_reader.specs.inner.Blocks.{forms_in, declared_seen, DeclaresOnce}
+use Rattle.loop_reader.specs.Declarations.{declared_seen}
+use Rattle.loop_reader.specs.inner.Blocks.{forms_in, DeclaresOnce}
 use Rattle.loop_reader.proofs.lookups.Once.{not-repeated}
 use Rattle.loop_reader.proofs.names.index.Index.is_repeated.Goals as goal
 

@@ -1,7 +1,7 @@
 use Rattle.std.proofs.Common.{◌≡◌, ◌-◌, ◌^◌, ◌<◌, min, length}
 use Rattle.std.specs.Str.{all_ascii_digits}
 use Rattle.std.specs.Str.Parse.{digits_value_after}
-use Rattle.loop_lines.proofs.number.digits_of.Given as goal
+use Rattle.loop_lines.proofs.number.number_of.Given as goal
 
 -- the rest decides whether all are digits, and from the value so far it leads to the whole value
 abbrev pub invariant-loop-rest : goal.invariant-loop-rest

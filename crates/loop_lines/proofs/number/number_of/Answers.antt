@@ -2,7 +2,7 @@ use Rattle.std.proofs.Common.{◌≡◌, ◌<◌, true, arith, rules, get_or, le
 use Rattle.std.proofs.lemmas.Bool.Decides.{nat_tests}
 use Rattle.std.specs.Char.{is_ascii_digit}
 use Rattle.loop_lines.proofs.Numbers.{digits_step, value_step, number_end}
-use Rattle.loop_lines.proofs.number.digits_of.Goals as goal
+use Rattle.loop_lines.proofs.number.number_of.Goals as goal
 
 pub loop-rest-preserved : goal.loop-rest-preserved
 loop-rest-preserved c =
