@@ -8,6 +8,7 @@ use Rattle.machine_data.specs.Opcodes.{same_word}
 use Rattle.machine.specs.declared.fault.MachineFault.{MachineFault}
 use Rattle.machine.specs.declared.fault.MachineFault.TheVariants.{Limit, RepeatedUnit, UnknownKey}
 use Rattle.machine.specs.MachineText.{Faults, data_of, entries_of, faults_in_turn, faults_of_number, faults_of_units, is_unit_name, path_in, path_of, text_of, unit_faults, unknown_keys, unless, within}
+use Rattle.machine.proofs.texts.Texts.{list_any-map}
 use Rattle.machine_lint.specs.Tree.{Lints, in_turn, key_told, keys_told, known_keys, repeated_unit, told, told_unless, unit_told, units_told, value_told}
 use Rattle.machine_lint.specs.Values.{same_text}
 use Rattle.machine_lint.specs.declared.place.MachineLint.{MachineLint}
@@ -123,8 +124,7 @@ module _ (text : List ℕ) where
   -- units
 
   any-strings : (name : List ℕ) (names : List (List ℕ)) → list_any (λ other. same_text other (string name)) (map string names) ≡ list_any (λ other. same_word other name) names
-  any-strings name [] = refl
-  any-strings name (n ∷ names) = ap (λ b. same_word n name || b) (any-strings name names)
+  any-strings name names = list_any-map (λ other. same_text other (string name)) string names
 
   same-unit : (names : List (List ℕ)) (d : Data) → Same (unit_told text (map string names) d) (unit_faults names d)
   unfolding unit_told unit_faults repeated_unit value_told

@@ -9,6 +9,7 @@ use Rattle.machine_data.specs.Opcodes.{opcode_named, same_word}
 use Rattle.machine.specs.declared.fault.MachineFault.{MachineFault}
 use Rattle.machine.specs.declared.fault.MachineFault.TheVariants.{Limit, UnknownOpcode}
 use Rattle.machine.specs.MachineText.{Faults, alternative_faults, answer, data_of, entries_of, entry_faults, faults_in_turn, faults_of_alternatives, faults_of_number, faults_of_tables, faults_of_units, names_of, path_in, row_faults, row_in, table_faults, text_of, tree_faults, tree_machine, unit_faults, unknown_keys, unless, within}
+use Rattle.machine.proofs.texts.Texts.{list_any-map}
 use Rattle.machine_lint.specs.Lints.{BeginsAs}
 use Rattle.machine_lint.specs.Tree.{Lints, alternative_told, alternatives_told, entry_told, in_turn, inside_told, keys_told, row_told, table_told, tables_told, told, told_unless, tree_told, units_told, unknown_opcode, value_told}
 use Rattle.machine_lint.specs.Values.{is_unit_of, same_text}
@@ -102,8 +103,7 @@ all-strings names (d ∷ ds) h =
     ap (λ (v : Data). v ∷ ds) here ∙ ap (λ (vs : List Data). string (text_of d) ∷ vs) rest
 
 any-named : (name : List ℕ) (names : List (List ℕ)) → list_any (λ unit. same_text (string name) unit) (map string names) ≡ list_any (same_word name) names
-any-named name [] = refl
-any-named name (n ∷ names) = ap (λ b. same_word name n || b) (any-named name names)
+any-named name names = list_any-map (same_text (string name)) string names
 
 knows-named : (found : Option Data) → first_fault (faults_of_units found) ≡ None → (name : List ℕ) → is_unit_of found name ≡ list_any (same_word name) (names_of found)
 unfolding faults_of_units

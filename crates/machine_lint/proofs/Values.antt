@@ -1,9 +1,7 @@
 -- Values by what the accessors of TOML's values give.
-use Rattle.std.proofs.Common.{◌≡◌, ℕ, ◌<◌, ◌≤◌, ◌^◌, true, false, List, length, map, take, Some, None, Result, Ok, Err, ℤ, pos, negsuc, nat_abs, Vec, Global, vec_len, inl, inr, refl, sym, ap, ◌∙◌, arith, lt-ltb, not, ltb}
-use Rattle.std.proofs.lemmas.Bool.{and_right, cases_lt}
+use Rattle.std.proofs.Common.{◌≡◌, ℕ, ◌≤◌, ◌&&◌, true, false, List, length, map, take, Some, None, ℤ, pos, negsuc, int_le, Vec, Global, vec_len, inl, inr, refl, sym, ap, ◌∙◌, arith, not, ltb, leb, lt-ltb, le-ltb, le-leb}
+use Rattle.std.proofs.lemmas.Bool.{cases_lt, lt-leb}
 use Rattle.std.proofs.lemmas.List.{take-map, take_all}
-use Rattle.std.specs.Int.{FitsUnsignedBits}
-use Rattle.std.specs.Result.{OkIff, result_unwrap_or}
 use Rattle.std.specs.List.{list_any}
 use Rattle.toml.specs.Data.{Data, string, integer, float, boolean, datetime, array, table, as_str, as_integer, as_array}
 use Rattle.toml.specs.View.{array_view, view}
@@ -16,8 +14,17 @@ use Rattle.machine_lint.specs.Spots.{shown}
 use Rattle.machine_lint.specs.Values.{counts, is_unit_of, items_in, measures, same_text}
 use Rattle.machine_lint.specs.declared.spots.Found.TheVariants as found
 
-pub counts-some : (d : Data) (v : Vec Value Global) (n high : ℕ) → Some (array_view v) ≡ as_array d → n ≡ vec_len v → within 1 high n ≡ counts high d
-counts-some d v n high is len = rw (array-at d (array_view v) is, count-data_of v n len)
+leb-not : (m n : ℕ) → leb m n ≡ not (ltb n m)
+leb-not m n = elim (cases_lt n m) [
+  | inl above ↦ rw (lt-leb m n above, lt-ltb n m above) refl
+  | inr below ↦ rw (le-leb m n below, le-ltb n m below) refl
+]
+
+within-is : (high n : ℕ) → (leb 1 n && leb n high) ≡ within 1 high n
+within-is high n = rw (leb-not 1 n, leb-not n high)
+
+pub counts-some : (d : Data) (v : Vec Value Global) (n high : ℕ) → Some (array_view v) ≡ as_array d → n ≡ vec_len v → 1 ≤ n → leb n high ≡ counts high d
+counts-some d v n high is len some = rw (array-at d (array_view v) is, count-data_of v n len) (let e = within-is high n in rw (le-leb 1 n some) at e)
 
 pub counts-none : (d : Data) (high : ℕ) → None ≡ as_array d → false ≡ counts high d
 counts-none (string s) high h = refl
@@ -28,17 +35,12 @@ counts-none (datetime t) high h = refl
 counts-none (array ds) high h = cc
 counts-none (table ms) high h = refl
 
-u16-measures : {E : Type 0} (high : ℕ) (z : ℤ) (r : Result ℕ E) → high < 2 ^ 16 → OkIff r (FitsUnsignedBits 16 z) (nat_abs z) → within 1 high (result_unwrap_or r 0) ≡ measures high (integer z)
-u16-measures high (pos n) (Ok x) small h = rw (← h.1)
-u16-measures high (pos n) (Err e) small h = elim (cases_lt high n) [
-  | inl above ↦ sym (rw (lt-ltb high n above) (and_right (not (ltb n 1)) false refl))
-  | inr below ↦ absurd (h (omega arith))
-]
-u16-measures high (negsuc n) (Ok x) small h = absurd h.0
-u16-measures high (negsuc n) (Err e) small h = refl
+int-measures : (high : ℕ) (z : ℤ) → (int_le (pos 1) z && int_le z (pos high)) ≡ measures high (integer z)
+int-measures high (pos n) = within-is high n
+int-measures high (negsuc n) = refl
 
-pub measures-some : {E : Type 0} (d : Data) (z : ℤ) (high : ℕ) (r : Result ℕ E) → Some z ≡ as_integer d → high < 2 ^ 16 → OkIff r (FitsUnsignedBits 16 z) (nat_abs z) → within 1 high (result_unwrap_or r 0) ≡ measures high d
-measures-some d z high r is small h = rw (integer-at d z is) (u16-measures high z r small h)
+pub measures-some : (d : Data) (z : ℤ) (high : ℕ) → Some z ≡ as_integer d → (int_le (pos 1) z && int_le z (pos high)) ≡ measures high d
+measures-some d z high is = rw (integer-at d z is) (int-measures high z)
 
 pub measures-none : (d : Data) (high : ℕ) → None ≡ as_integer d → false ≡ measures high d
 measures-none (string s) high h = refl

@@ -12,10 +12,9 @@ ghost use Rattle.toml.specs.Data.{string};
 
 use crate::index::Indexed;
 use crate::place::{MachineLint, NOWHERE, Place, place_of};
-use crate::rows::{is_unit_name, is_within as is_between, near_row, row_words};
 use crate::spots::{At, Found, key, shown};
 use machine::limits::{MAX_ALTERNATIVES, MAX_LATENCY, MAX_REGISTERS, MAX_ROWS, MAX_UNITS};
-use machine::{Key, MachineFault, OutOfMemory};
+use machine::{Key, MachineFault, OutOfMemory, is_unit_name, row_words, small_offset};
 use std::alloc::Global;
 use toml::Value;
 
@@ -24,7 +23,7 @@ fn counts(value: &Value, high: usize) -> bool
     ensures { result ≡ counts high (view value.now) }
 {
     match value.as_array() {
-        Some(elements) => is_between(elements.len(), high),
+        Some(elements) => 1 <= elements.len() && elements.len() <= high,
         None => false,
     }
 }
@@ -34,11 +33,7 @@ fn measures(value: &Value, high: u16) -> bool
     ensures { result ≡ measures high (view value.now) }
 {
     match value.as_integer() {
-        // What is no `u16` is outside the limits, and so is 0.
-        Some(number) => is_between(
-            usize::from(u16::try_from(number).unwrap_or(0)),
-            usize::from(high),
-        ),
+        Some(number) => 1 <= number && number <= i64::from(high),
         None => false,
     }
 }
@@ -61,6 +56,15 @@ fn is_name(value: &Value) -> bool
         Some(text) => is_unit_name(text),
         None => false,
     }
+}
+
+/// The unit's name and the offset of a row, where the offset is small enough.
+fn near_row(value: &Value) -> Option<(&str, u8)>
+    ensures { option_map (λ p. (p.0.now, p.1)) result ≡ row_words_in (view value.now) }
+{
+    let (unit, digits) = row_words(value)?;
+    let offset = small_offset(digits)?;
+    Some((unit, offset))
 }
 
 /// Whether a value has the type that it needs there.

@@ -7,7 +7,6 @@ mod index;
 mod judge;
 mod lint;
 mod place;
-mod rows;
 mod search;
 mod sought;
 mod spots;

@@ -14,11 +14,10 @@ ghost use Rattle.toml.specs.View.{table_view, view};
 use crate::index::Indexed;
 use crate::judge::{Wrong, is_unit_of, judge_value, same_row, same_text, tell_unless, text_of};
 use crate::place::MachineLint;
-use crate::rows::row_words;
 use crate::sought::seek::seek_keys;
 use crate::spots::At;
 use machine::limits::{MAX_ALTERNATIVES, MAX_ROWS, MAX_UNITS};
-use machine::{Opcode, OutOfMemory};
+use machine::{Opcode, OutOfMemory, row_words};
 use std::alloc::Global;
 use toml::{Table, Value};
 

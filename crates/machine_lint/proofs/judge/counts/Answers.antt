@@ -1,6 +1,6 @@
-use Rattle.std.proofs.Common.{◌∙◌}
+use Rattle.std.proofs.Common.{arith}
 use Rattle.machine_lint.proofs.Values.{counts-some}
 use Rattle.machine_lint.proofs.judge.counts.Goals as goal
 
-pub returns-in-Some : goal.returns-in-Some
-returns-in-Some c = c.is_within.ensures ∙ counts-some _ c.in-Some.elements.now _ _ c.in-Some.ensures c.len.ensures
+pub returns-then-len-ge1 : goal.returns-then-len-ge1
+returns-then-len-ge1 c = counts-some _ c.in-Some.elements.now _ _ c.in-Some.ensures c.len-then-len-ge1.ensures (omega (arith, c.if-len-ge1.true, c.len.ensures, c.len-then-len-ge1.ensures))
