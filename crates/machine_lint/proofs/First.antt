@@ -1,5 +1,5 @@
 -- The first fault that is told is the first that the reader of machine texts finds.
-use Rattle.std.proofs.Common.{◌≡◌, ℕ, ◌≤◌, Bool, true, false, not, ◌||◌, ltb, lt-ltb, List, [], ◌∷◌, ◌++◌, length, map, take, Option, Some, None, pos, negsuc, codes, inl, inr, refl, sym, ap, ◌∙◌}
+use Rattle.std.proofs.Common.{◌≡◌, ℕ, ◌≤◌, Bool, true, false, not, ltb, lt-ltb, List, [], ◌∷◌, ◌++◌, length, map, take, Option, Some, None, pos, negsuc, codes, inl, inr, refl, sym, ap, ◌∙◌}
 use Rattle.std.proofs.lemmas.Bool.{and_right, cases_lt, false≢true}
 use Rattle.std.proofs.lemmas.List.{append-nil, take_all, map-append}
 use Rattle.std.specs.List.{flat_map, list_any}
