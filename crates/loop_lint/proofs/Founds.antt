@@ -10,7 +10,6 @@ use Rattle.loop_lines.specs.declared.form.Use as code
 use Rattle.loop_lines.specs.declared.form.Uses.{Uses}
 use Rattle.machine_data.specs.declared.opcode.Opcode.{Opcode}
 use Rattle.loop_reader.specs.Meaning.{Kinds, any_name, when}
-use Rattle.loop_lint.specs.inner.Near.{one_if}
 use Rattle.loop_reader.specs.declared.fault.LoopFaultKind.{LoopFaultKind}
 use Rattle.loop_reader.specs.declared.fault.LoopFaultKind.TheVariants.{Limit, RepeatedName, UnknownName, UseBeforeDefinition, MissingInit}
 use Rattle.loop_lint.specs.Lints.{fault_at, told}
@@ -22,6 +21,7 @@ use Rattle.loop_lint.specs.declared.fault.Hint.TheVariants.{Nothing}
 use Rattle.loop_lint.specs.declared.fault.LintFault.{LintFault}
 use Rattle.loop_lint.specs.declared.tell.Found.{Found}
 use Rattle.loop_lint.specs.inner.Founds.{told_all, told_if, use_part}
+use Rattle.loop_lint.specs.inner.Tables.{one_if}
 
 -- the word of a fault that a line has or has not
 abbrev pub word_when : Bool → ℕ → Option ℕ

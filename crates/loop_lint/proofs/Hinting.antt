@@ -11,7 +11,8 @@ use Rattle.loop_reader.specs.Meaning.{declared, has_init}
 use Rattle.loop_lint.specs.Hints.{candidates, declares, listed, may_be, missing, name_in, names_of, reach}
 use Rattle.loop_lint.specs.declared.block.Table.{Table}
 use Rattle.loop_lint.specs.declared.hints.Wanted.{Wanted}
-use Rattle.loop_lint.specs.inner.Tables.{IsTable, declared_seen, flag_of, known_at, with_names}
+use Rattle.loop_reader.specs.Declarations.{declared_seen}
+use Rattle.loop_lint.specs.inner.Tables.{IsTable, flag_of, known_at, with_names}
 
 -- one more name
 

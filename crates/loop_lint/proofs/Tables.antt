@@ -16,14 +16,15 @@ use Rattle.std.specs.Option.{option_or, option_map}
 use Rattle.machine_data.specs.Opcodes.{same_word}
 use Rattle.loop_lines.specs.Forms.{Form, LoopLine, ArrayLine, ParamLine, InitLine, StatementLine, OutLine, EndLine, Malformed, At}
 use Rattle.loop_reader.specs.Meaning.{any_name, has_init, has_inits, declared, declared_by, is_array, is_init, is_out, is_out_of, is_param, is_statement, is_uncovered, same_number}
-use Rattle.loop_lint.specs.inner.Near.{one_if, IsNear, IsNearForm}
+use Rattle.loop_lines.specs.Near.{IsNear, IsNearForm}
 use Rattle.loop_reader.proofs.lookups.Declared.{at, same_word-sym, same_word-yes, option_or-none, declared-counted, declared-push, how_many-push}
 use Rattle.loop_reader.proofs.faults.Checking.{or-none}
 use Rattle.loop_lint.specs.Hints.{declares}
 use Rattle.loop_lint.proofs.Hinting.{names_more}
-use Rattle.loop_lint.specs.inner.Tables.{covers, is_bare, declared_seen, flag_of, known_at, known_with, place_of, with_declared, with_init, with_names, with_out, nothing, IsTable}
-use Rattle.loop_lint.specs.declared.block.Declared.{Declared}
-use Rattle.loop_lint.specs.declared.block.Declared.TheVariants as variants
+use Rattle.loop_reader.specs.Declarations.{declared_seen}
+use Rattle.loop_lint.specs.inner.Tables.{covers, is_bare, flag_of, known_at, known_with, one_if, place_of, with_declared, with_init, with_names, with_out, nothing, IsTable}
+use Rattle.loop_reader.specs.declared.names.index.Declared.{Declared}
+use Rattle.loop_reader.specs.declared.names.index.Declared.TheVariants as variants
 use Rattle.loop_lint.specs.declared.block.Known.{Known}
 use Rattle.loop_lint.specs.declared.block.Table.{Table}
 

@@ -3,6 +3,5 @@ pub mod Pieces
 pub mod Founds
 pub mod Lacking
 pub mod Names
-pub mod Near
 pub mod Passes
 pub mod Tables

@@ -6,11 +6,12 @@ ghost use Rattle.loop_lines.specs.Forms as spec;
 ghost use Rattle.loop_lines.specs.Parsed.{form_seen};
 ghost use Rattle.loop_reader.specs.Meaning.{is_array, is_out, is_param, is_statement, stands};
 ghost use Rattle.loop_lint.specs.Hints.{declares};
-ghost use Rattle.loop_lint.specs.inner.Near.{one_if, IsNear, IsNearForm};
-ghost use Rattle.loop_lint.specs.inner.Tables.{covers, known_at, known_with, place_of, with_declared, with_init, with_name, with_names, with_out, IsTable};
+ghost use Rattle.loop_lines.specs.Near.{IsNear, IsNearForm};
+ghost use Rattle.loop_lint.specs.inner.Tables.{covers, known_at, known_with, one_if, place_of, with_declared, with_init, with_name, with_names, with_out, IsTable};
 ghost use Rattle.machine_data.specs.declared.limits.TheConstants.{MAX_DISTANCE};
 
 use loop_lines::Form;
+use loop_reader::{Declared, may_stand};
 use machine_data::OutOfMemory;
 use machine_data::limits::{MAX_ARRAYS, MAX_PARAMETERS, MAX_STATEMENTS};
 use std::alloc::Global;
@@ -21,14 +22,6 @@ const NUMBERS: usize = 18;
 
 /// How many names of a block are kept in their order: as many as a block may declare.
 const MOST_NAMES: usize = MAX_ARRAYS + MAX_PARAMETERS + MAX_STATEMENTS;
-
-/// What a name stands for: an array, a parameter or the value of a statement, by its number from 0.
-#[derive(Clone, Copy)]
-pub(crate) enum Declared {
-    Array(usize),
-    Param(usize),
-    Value(usize),
-}
 
 /// What some lines of a block say of a name.
 #[derive(Clone, Copy)]
@@ -118,13 +111,7 @@ impl<'a> Table<'a> {
     pub(crate) fn allows(&self, form: &Form<'_>) -> bool
         ensures { (before : List spec.Form) → IsTable before self.now → result ≡ stands before (form_seen form.now) }
     {
-        match form {
-            Form::Loop(_) | Form::Malformed => false,
-            Form::Array(_, _) | Form::Param(_, _) | Form::Init(_, _, _) => !self.statement,
-            Form::Statement(_) => !self.out,
-            Form::Out(_) => self.statement,
-            Form::End => true,
-        }
+        may_stand(form, self.statement, self.out)
     }
 
     /// The lines and one more.

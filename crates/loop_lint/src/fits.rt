@@ -4,10 +4,10 @@ ghost use Rattle.std.specs.Prelude.{◌≡◌, ◌≢◌, ◌<◌, ℕ, ◌==◌
 ghost use Rattle.std.specs.List.{before_first, after_first, list_all, list_any, position_or_len};
 ghost use Rattle.machine_data.specs.Opcodes.{opcode_named, same_word};
 ghost use Rattle.loop_data.specs.Names.{is_letter, is_name, is_name_byte, is_reserved, starts_name};
-ghost use Rattle.loop_lines.specs.Forms.{named_use_of, place_of, subscript_of, use_of};
+ghost use Rattle.loop_lines.specs.Forms.{is_number, named_use_of, place_of, subscript_of, use_of};
 ghost use Rattle.loop_lint.specs.Misfits.{fits, gives_value, is_init};
 
-use crate::number::{int_of, is_number};
+use loop_lines::{int_of, number_of};
 use machine_data::Opcode;
 
 /// What has to stand in a place of a line.
@@ -117,6 +117,13 @@ pub(crate) fn split_at_byte(text: &[u8], byte: u8) -> Option<(&[u8], &[u8])>
     } else {
         None
     }
+}
+
+/// One or more digits.
+fn is_number(word: &[u8]) -> bool
+    ensures { result ≡ is_number word.now }
+{
+    number_of(word).is_some()
 }
 
 /// `NAME@NUM`.

@@ -8,13 +8,15 @@ ghost use Rattle.loop_lines.specs.Words.{words_of};
 ghost use Rattle.loop_reader.specs.declared.fault.LoopFaultKind.TheVariants.{MissingInit, UnknownName};
 ghost use Rattle.loop_lint.specs.Hints.{hint_for, may_be, name_hint, name_in, reach, wanted_at};
 ghost use Rattle.near_names.specs.Nearest as near;
-ghost use Rattle.loop_lint.specs.inner.Tables.{declared_seen, flag_of, known_at, IsTable};
+ghost use Rattle.loop_reader.specs.Declarations.{declared_seen};
+ghost use Rattle.loop_lint.specs.inner.Tables.{flag_of, known_at, IsTable};
 
-use crate::block::{Declared, Known, Table};
+use crate::block::{Known, Table};
 use crate::fault::Hint;
 use crate::fits::{is_text, split_at_byte};
-use crate::number::digits_of;
 use crate::scan::next_word;
+use loop_lines::number_of;
+use loop_reader::{Declared, is_readable, is_value};
 use machine_data::OutOfMemory;
 use near_names::{Word, nearest};
 use std::alloc::Global;
@@ -34,8 +36,8 @@ fn may_be(want: Wanted, found: Option<Declared>) -> bool
 {
     match want {
         Wanted::Array => matches!(found, Some(Declared::Array(_))),
-        Wanted::Value => matches!(found, Some(Declared::Value(_))),
-        Wanted::Readable => matches!(found, Some(Declared::Value(_) | Declared::Param(_))),
+        Wanted::Value => is_value(found),
+        Wanted::Readable => is_readable(found),
     }
 }
 
@@ -128,7 +130,7 @@ fn reach(word: &[u8]) -> u8
     let Some((_, digits)) = split_at_byte(word, b'@') else {
         return 1;
     };
-    match digits_of(digits) {
+    match number_of(digits) {
         Some(number) => number.min(16) as u8,
         None => 0,
     }

@@ -4,21 +4,22 @@ ghost use Rattle.std.specs.Prelude.{◌≡◌, ◌||◌, ◌<◌, ◌≤◌, ℕ
 ghost use Rattle.std.specs.List.{AllByRecursion, list_any};
 ghost use Rattle.loop_lines.specs.Cells.{cells_seen};
 ghost use Rattle.loop_lines.specs.Forms as spec;
+ghost use Rattle.loop_lines.specs.Forms.{int_of};
 ghost use Rattle.loop_lines.specs.Parsed.{form_seen, statement_seen, uses_seen};
 ghost use Rattle.loop_lines.specs.Words.{words_of};
-ghost use Rattle.loop_lint.specs.inner.Near.{IsNear, IsNearForm, IsNearUse};
+ghost use Rattle.loop_lines.specs.Near.{IsNear, IsNearForm, IsNearUse};
 ghost use Rattle.loop_reader.specs.Meaning as meaning;
 ghost use Rattle.loop_reader.specs.Meaning.{is_long};
-ghost use Rattle.loop_lint.specs.Parts.{cell_parts, first_part, is_over, parts_of, place_word};
+ghost use Rattle.loop_lint.specs.Parts.{cell_parts, first_part, is_over, is_wide_int, parts_of, place_word};
 ghost use Rattle.loop_lint.specs.inner.Founds.{AreFound};
 ghost use Rattle.loop_lint.specs.inner.Tables.{IsTable};
 
 use crate::block::{Table, place_of};
-use crate::number::is_wide_int;
 use crate::scan::next_word;
 use crate::tell::Found;
-use crate::uses::{is_long, is_value, judge_name, judge_place, judge_uses, word_if};
-use loop_lines::{CellWords, Form, StatementWords, are_wide};
+use crate::uses::{judge_name, judge_place, judge_uses, word_if};
+use loop_lines::{CellWords, Form, StatementWords, are_wide, int_of};
+use loop_reader::{is_long, is_value};
 use machine_data::Opcode;
 use machine_data::limits::{MAX_ARRAYS, MAX_CELLS, MAX_PARAMETERS, MAX_STATEMENTS};
 
@@ -31,6 +32,13 @@ fn after_word(line: &[u8]) -> &[u8]
         None => line,
         Some((_, rest)) => rest,
     }
+}
+
+/// An integer that does not fit 64 bits.
+fn is_wide_int(word: &[u8]) -> bool
+    ensures { result ≡ is_wide_int (int_of word.now) }
+{
+    matches!(int_of(word), Some(None))
 }
 
 /// The word of the first cell of an array line that does not fit 64 bits, or of the first one too many.

@@ -10,7 +10,6 @@ mod lacks;
 mod laws;
 mod lint;
 mod misfit;
-mod number;
 mod passes;
 mod scan;
 mod spots;

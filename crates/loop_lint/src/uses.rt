@@ -5,51 +5,22 @@ ghost use Rattle.std.specs.List.{AllByRecursion};
 ghost use Rattle.std.specs.Borrow.{Bor};
 ghost use Rattle.loop_lines.specs.Forms as spec;
 ghost use Rattle.loop_lines.specs.Parsed.{subscript_seen, uses_seen};
-ghost use Rattle.loop_reader.specs.Meaning as meaning;
 ghost use Rattle.loop_reader.specs.Meaning.{same_number};
-ghost use Rattle.loop_lint.specs.inner.Near.{one_if, IsNear, IsNearRead, IsNearUse};
+ghost use Rattle.loop_lines.specs.Near.{IsNear, IsNearRead, IsNearUse};
 ghost use Rattle.loop_lint.specs.Parts.{first_part, is_early_part, is_over, is_repeated, is_uncovered_part, is_unknown_part, name_part, place_part, use_parts, use_word};
 ghost use Rattle.loop_lint.specs.inner.Founds.{use_part};
-ghost use Rattle.loop_lint.specs.inner.Tables.{IsTable, declared_seen, is_bare};
+ghost use Rattle.loop_lint.specs.inner.Tables.{is_bare, one_if, IsTable};
 
-use crate::block::{Declared, Known, Table};
+use crate::block::{Known, Table};
 use loop_lines::{Subscript, Use, Uses};
+use loop_reader::{Declared, is_long, is_readable, is_value, is_value_from};
 use machine_data::Opcode;
-use machine_data::limits::MAX_NAME;
-
-pub(crate) fn is_long(name: &[u8]) -> bool
-    ensures { result ≡ meaning.is_long name.now }
-{
-    name.len() > MAX_NAME
-}
 
 /// The word, where this holds.
 pub(crate) fn word_if(holds: bool, word: usize) -> Option<usize>
     ensures { result ≡ (if holds then Some word else None) }
 {
     if holds { Some(word) } else { None }
-}
-
-pub(crate) fn is_value(found: Option<Declared>) -> bool
-    ensures { result ≡ meaning.is_value (option_map declared_seen found) }
-{
-    matches!(found, Some(Declared::Value(_)))
-}
-
-fn is_readable(found: Option<Declared>) -> bool
-    ensures { result ≡ meaning.is_readable (option_map declared_seen found) }
-{
-    matches!(found, Some(Declared::Value(_) | Declared::Param(_)))
-}
-
-/// The value of a statement from this one on.
-fn is_value_from(statement: usize, found: Option<Declared>) -> bool
-    ensures { result ≡ meaning.is_value_from statement (option_map declared_seen found) }
-{
-    match found {
-        Some(Declared::Value(number)) => statement <= number,
-        _ => false,
-    }
 }
 
 /// The word of a part of a statement, for each kind of faults that it has by itself.

@@ -8,20 +8,18 @@ use Rattle.std.specs.Option.{option_or}
 use Rattle.std.specs.Ordering.{nat_cmp}
 use Rattle.machine_data.specs.Opcodes.{same_word}
 use Rattle.loop_lines.specs.Forms.{Form, ArrayLine, ParamLine, InitLine, StatementLine, OutLine}
-use Rattle.loop_reader.specs.Meaning as meaning
+use Rattle.loop_reader.specs.Declarations.{declared_seen}
 use Rattle.loop_reader.specs.Meaning.{any_name, declared, has_out, has_statement, how_many, is_array, is_init, is_out_of, is_param, is_statement}
 use Rattle.machine_data.specs.declared.limits.TheConstants.{MAX_ARRAYS, MAX_PARAMETERS, MAX_STATEMENTS}
 use Rattle.loop_lint.specs.Hints.{names_of}
-use Rattle.loop_lint.specs.inner.Near.{IsNear}
-use Rattle.loop_lint.specs.declared.block.Declared.{Declared}
-use Rattle.loop_lint.specs.declared.block.Declared.TheVariants as variants
+use Rattle.loop_lines.specs.Near.{IsNear}
+use Rattle.loop_reader.specs.declared.names.index.Declared.{Declared}
+use Rattle.loop_reader.specs.declared.names.index.Declared.TheVariants as variants
 use Rattle.loop_lint.specs.declared.block.Known.{Known}
 use Rattle.loop_lint.specs.declared.block.Table.{Table}
 
-abbrev pub declared_seen : Declared → meaning.Declared
-declared_seen (variants.Array number) = meaning.AnArray number
-declared_seen (variants.Param number) = meaning.AParam number
-declared_seen (variants.Value number) = meaning.AValue number
+abbrev pub one_if : Bool → ℕ
+one_if b = if b then 1 else 0
 
 -- the flag of a number
 abbrev pub place_of : Option ℕ → ℕ

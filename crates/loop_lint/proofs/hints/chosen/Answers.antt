@@ -2,7 +2,8 @@ use Rattle.std.proofs.Common.{◌∙◌, ℕ, List, [], ap, arith, option_map}
 use Rattle.std.specs.Borrow.{Bor}
 use Rattle.loop_lint.specs.Hints.{may_be}
 use Rattle.loop_lint.specs.declared.block.Known.{Known}
-use Rattle.loop_lint.specs.inner.Tables.{declared_seen, known_at}
+use Rattle.loop_reader.specs.Declarations.{declared_seen}
+use Rattle.loop_lint.specs.inner.Tables.{known_at}
 use Rattle.loop_lint.proofs.Hinting.{chosen_step}
 use Rattle.loop_lint.proofs.hints.chosen.Goals as goal
 

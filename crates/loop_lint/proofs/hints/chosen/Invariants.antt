@@ -1,6 +1,7 @@
 use Rattle.std.proofs.Common.{◌≡◌, ℕ, List, filter, map, option_map, take}
 use Rattle.loop_lint.specs.Hints.{may_be}
-use Rattle.loop_lint.specs.inner.Tables.{declared_seen, known_at}
+use Rattle.loop_reader.specs.Declarations.{declared_seen}
+use Rattle.loop_lint.specs.inner.Tables.{known_at}
 use Rattle.loop_lint.proofs.hints.chosen.Given as goal
 
 -- those of the names so far

@@ -1,6 +1,6 @@
 use Rattle.std.proofs.Common.{arith, rules}
 use Rattle.std.proofs.lemmas.Grind.{common_steps}
-use Rattle.loop_lint.specs.inner.Near.{IsNear}
+use Rattle.loop_lines.specs.Near.{IsNear}
 use Rattle.loop_lint.proofs.Tables.{bare_there}
 use Rattle.loop_lint.proofs.uses.judge_use.Goals as goal
 
