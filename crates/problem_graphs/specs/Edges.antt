@@ -14,7 +14,8 @@ use Rattle.writing.specs.Words.{told}
 use Rattle.problem_graphs.specs.declared.whys.Why.{Why}
 use Rattle.problem_graphs.specs.declared.whys.Why.TheVariants.{Value, Order}
 use Rattle.problem_graphs.specs.Heads.{problem_line}
-use Rattle.problem_graphs.specs.Names.{kind_name, op_name}
+use Rattle.problem_graphs.specs.Names.{kind_name}
+use Rattle.solution_text.specs.Names.{op_name}
 use Rattle.problem_graphs.specs.Whys.{why_text}
 
 -- a word, the number of an operation, and what it is called

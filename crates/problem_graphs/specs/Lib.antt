@@ -1,5 +1,4 @@
 pub mod Arrows
-pub mod Causes
 pub mod Dot
 pub mod Edges
 pub mod Escapes

@@ -14,7 +14,7 @@ use Rattle.solutions.specs.Outcomes.{last_of}
 use Rattle.solutions.specs.Solutions.{schedule_of}
 use Rattle.problem_graphs.specs.declared.arrows.Look.TheVariants.{Scheduled}
 use Rattle.problem_graphs.specs.Arrows.{AreOrders, AreReads}
-use Rattle.problem_graphs.specs.Causes.{cause_word}
+use Rattle.solution_text.specs.Causes.{cause_word}
 use Rattle.problem_graphs.specs.Nodes.{node_line, node_start, title}
 
 -- the interval of the solution and its stages, or the last interval that is tried and why it gives none

@@ -3,7 +3,7 @@ use Rattle.std.specs.Prelude.{ℕ, codes, List, ◌++◌}
 use Rattle.problems.specs.declared.draft.Draft.{Draft}
 use Rattle.problem_graphs.specs.declared.whys.Why.{Why}
 use Rattle.problem_graphs.specs.declared.whys.Why.TheVariants.{Value, Order}
-use Rattle.problem_graphs.specs.Names.{value_name}
+use Rattle.solution_text.specs.Names.{value_name}
 
 -- `value V`, and `order`
 abbrev pub why_text : Draft → Why → List ℕ

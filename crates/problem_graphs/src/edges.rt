@@ -10,13 +10,14 @@ ghost use Rattle.problem_graphs.specs.Edges.{IsEdgesText, edge_line, edge_lines,
 
 use crate::demands::{order_edge, read_edge};
 use crate::heads::push_problem_line;
-use crate::names::{push_kind_name, push_op_name};
+use crate::names::push_kind_name;
 use crate::whys::{Why, push_why};
 use graph::{Edge, heights, longer_intervals_fit};
 use graph_text::push_sums;
 use machine_data::OutOfMemory;
 use problems::{Draft, Order, Problem};
 use registers::Read;
+use solution_text::push_op_name;
 use std::alloc::Global;
 use writing::{Text, push_told};
 

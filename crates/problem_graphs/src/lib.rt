@@ -2,7 +2,6 @@
 #![tactic(auto)]
 
 mod arrows;
-mod causes;
 mod demands;
 mod dot;
 mod edges;
@@ -14,12 +13,10 @@ mod nodes;
 mod scheduled;
 mod whys;
 
-pub use causes::cause_word;
 pub use demands::read_edge;
 pub use dot::push_dot;
 pub use edges::{push_edge, push_edges};
 pub use heads::push_problem_line;
 pub use laws::names_are_read_back;
-pub use names::{push_op_name, push_unit_name};
 pub use scheduled::push_scheduled;
 pub use whys::Why;

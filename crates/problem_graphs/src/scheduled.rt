@@ -6,7 +6,6 @@ ghost use Rattle.solutions.specs.declared.solving.outcome.Outcome.TheVariants as
 ghost use Rattle.problem_graphs.specs.Scheduled.{IsScheduledText, look_text, nodes_of, placed_line, result_text};
 
 use crate::arrows::{Look, push_orders, push_reads};
-use crate::causes::cause_word;
 use crate::nodes::{push_nodes, push_start, push_title};
 use graph_marks::{
     push_failed_label, push_met_label, push_nodes_filled, push_nodes_plain, push_place,
@@ -14,6 +13,7 @@ use graph_marks::{
 use graph_text::critical_circuit;
 use machine_data::OutOfMemory;
 use problems::{Draft, Problem};
+use solution_text::cause_word;
 use solutions::{Outcome, Solution};
 use std::alloc::Global;
 use writing::Text;

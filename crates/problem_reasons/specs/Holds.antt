@@ -2,17 +2,10 @@
 use Rattle.std.specs.Prelude.{◌≡◌, ℕ, ◌-◌, ◌<◌, codes, List}
 use Rattle.modulo.specs.Problems.{mii_of}
 use Rattle.problems.specs.Problems.{ProblemData}
-use Rattle.solutions.specs.declared.solving.outcome.Cause.{Cause}
-use Rattle.solutions.specs.declared.solving.outcome.Cause.TheVariants.{Table, Budget, Stages, Registers}
 use Rattle.solutions.specs.Outcomes.{FailsBy}
+use Rattle.solution_text.specs.Causes.{cause_word}
 use Rattle.problem_reasons.specs.declared.hold.Hold.{Hold}
 use Rattle.problem_reasons.specs.declared.hold.Hold.TheVariants.{Units, Recurrences, Both, Failure}
-
-abbrev pub cause_word : Cause → List ℕ
-cause_word Table = codes "table"
-cause_word Budget = codes "budget"
-cause_word Stages = codes "stages"
-cause_word (Registers file value) = codes "registers"
 
 abbrev pub hold_word : Hold → List ℕ
 hold_word Units = codes "units"

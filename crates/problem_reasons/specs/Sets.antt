@@ -1,7 +1,7 @@
 -- The line of the fullest set of units of a problem.
 use Rattle.std.specs.Prelude.{ℕ, List}
 use Rattle.problems.specs.declared.draft.Draft.{Draft}
-use Rattle.problem_graphs.specs.Names.{unit_name}
+use Rattle.solution_text.specs.Names.{unit_name}
 use Rattle.reason_lines.specs.SetLines as lines
 use Rattle.unit_sets.specs.declared.fullest.UnitSet.{UnitSet}
 

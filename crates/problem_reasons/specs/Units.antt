@@ -7,7 +7,7 @@ use Rattle.resource_bound.specs.UnitLines.{full_text, times_text}
 use Rattle.problems.specs.declared.draft.Draft.{Draft}
 use Rattle.problems.specs.Problems.{ProblemData}
 use Rattle.writing.specs.Words.{told}
-use Rattle.problem_graphs.specs.Names.{op_name, unit_name}
+use Rattle.solution_text.specs.Names.{op_name, unit_name}
 
 -- an operation after a blank, with `*K` after it where it uses a unit K times, K above 1; nothing where it does not use it
 abbrev pub user_text : Draft → ℕ → ℕ → List ℕ

@@ -4,9 +4,10 @@ ghost use Rattle.std.specs.Prelude.{◌≡◌, ◌≤◌, ◌-◌, ℕ};
 ghost use Rattle.std.specs.List.{AllZip, range_with_len};
 ghost use Rattle.solutions.specs.Failures.{FailsFor};
 ghost use Rattle.solutions.specs.Outcomes.{first_of};
-ghost use Rattle.problem_reasons.specs.Holds.{IsHold, cause_word, hold_word};
+ghost use Rattle.problem_reasons.specs.Holds.{IsHold, hold_word};
 
 use problems::Problem;
+use solution_text::cause_word;
 use solutions::{Cause, Failure};
 
 /// Why a problem has no solution at a shorter interval than its own.
@@ -20,18 +21,6 @@ pub enum Hold {
     Both,
     /// The interval is above both bounds: one cycle less gives no solution, by this cause.
     Failure(Cause),
-}
-
-/// The word of a cause, as `table`.
-fn cause_word(cause: Cause) -> &'static str
-    ensures { result.now ≡ cause_word cause }
-{
-    match cause {
-        Cause::Table => "table",
-        Cause::Budget => "budget",
-        Cause::Stages => "stages",
-        Cause::Registers(_, _) => "registers",
-    }
 }
 
 impl Hold {

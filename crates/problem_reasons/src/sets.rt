@@ -7,9 +7,9 @@ ghost use Rattle.problem_reasons.specs.Sets.{set_line};
 use graph::OfList;
 use machine_data::OutOfMemory;
 use machine_data::limits::MAX_STATEMENTS;
-use problem_graphs::push_unit_name;
 use problems::Problem;
 use reason_lines::{UnitNames, push_set_line};
+use solution_text::push_unit_name;
 use std::alloc::Global;
 use unit_sets::{UnitSet, fullest_set};
 
@@ -20,7 +20,7 @@ struct UnitsOf<'a> {
 }
 
 impl<'a> UnitNames for UnitsOf<'a> {
-    ghost use Rattle.problem_graphs.specs.Names.{unit_name};
+    ghost use Rattle.solution_text.specs.Names.{unit_name};
 
     ghost number = { λ of. of.problem.now.draft.units };
 

@@ -4,15 +4,15 @@ ghost use Rattle.std.specs.Prelude.{◌≡◌, ◌<◌, ◌++◌, ℕ, ◌==◌,
 ghost use Rattle.std.specs.List.{flat_map, range_with_len};
 ghost use Rattle.resource_bound.specs.UnitLines.{full_text};
 ghost use Rattle.writing.specs.Words.{told};
-ghost use Rattle.problem_graphs.specs.Names.{unit_name};
+ghost use Rattle.solution_text.specs.Names.{unit_name};
 ghost use Rattle.problem_reasons.specs.Units.{AreUnitLines, line_with, unit_line, user_text, users_text};
 
 use machine_data::OutOfMemory;
 use machine_data::limits::MAX_STATEMENTS;
 use outcome_text::{rows_at, rows_with, use_of};
-use problem_graphs::{push_op_name, push_unit_name};
 use problems::{Draft, Problem};
 use resource_bound::unit_choices_of;
+use solution_text::{push_op_name, push_unit_name};
 use std::alloc::Global;
 use writing::{Text, push_told};
 

@@ -9,12 +9,6 @@ use Rattle.solutions.specs.declared.solving.outcome.Cause.TheVariants.{Table, Bu
 use Rattle.solution_text.specs.Names.{file_name, value_name}
 use Rattle.solution_json.specs.Parts.{count_value, op_names}
 
-abbrev pub cause_word : Cause → List ℕ
-cause_word Table = codes "table"
-cause_word Budget = codes "budget"
-cause_word Stages = codes "stages"
-cause_word (Registers file value) = codes "registers"
-
 -- the operation that has no alternative, all that are not placed, or the one that is too late, and when it is issued
 abbrev pub culprit_object : Draft → Culprit → Data
 culprit_object draft (Blocked op) = object (member (codes "operations") (op_names draft (op ∷ [])) no_members)

@@ -16,7 +16,8 @@ use Rattle.solutions.specs.Solutions.{SolutionData}
 use Rattle.outcome_text.specs.Answers.{is_met}
 use Rattle.outcome_text.specs.Notes.{AreFullest, IsCircuitOf}
 use Rattle.solution_json.specs.Bounds.{circuit_value}
-use Rattle.solution_json.specs.Failures.{cause_word, culprit_value}
+use Rattle.solution_json.specs.Failures.{culprit_value}
+use Rattle.solution_text.specs.Causes.{cause_word}
 use Rattle.solution_json.specs.Parts.{count_value, unit_names}
 use Rattle.solution_json.specs.Solutions.{solution_object}
 

@@ -5,7 +5,7 @@ ghost use Rattle.std.specs.Option.{option_copied};
 ghost use Rattle.serde_json.specs.Data.{object, member, no_members};
 ghost use Rattle.serde_json.specs.View.{view};
 ghost use Rattle.modulo.specs.declared.outcome.attempts.Culprit.TheVariants.{Late};
-ghost use Rattle.solution_json.specs.Failures.{cause_word, culprit_object, culprit_value, found_value, lack_object};
+ghost use Rattle.solution_json.specs.Failures.{culprit_object, culprit_value, found_value, lack_object};
 ghost use Rattle.solution_json.specs.Parts.{op_names};
 
 use crate::told::{told_name, told_names};
@@ -15,18 +15,6 @@ use problems::Draft;
 use serde_json::{Value, json};
 use solutions::Cause;
 use std::alloc::Global;
-
-/// The word of a cause.
-pub(crate) fn cause_word(cause: Cause) -> &'static str
-    ensures { result.now ≡ cause_word cause }
-{
-    match cause {
-        Cause::Table => "table",
-        Cause::Budget => "budget",
-        Cause::Stages => "stages",
-        Cause::Registers(_, _) => "registers",
-    }
-}
 
 /// Operations alone.
 fn told_ops(alloc: Global, draft: &Draft, ops: &[usize]) -> Result<Value, OutOfMemory>

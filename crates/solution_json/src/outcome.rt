@@ -9,7 +9,7 @@ ghost use Rattle.solutions.specs.Told.{IsLastEvidence, IsSearched};
 ghost use Rattle.solution_json.specs.Outcomes.{IsJsonOf, IsObjectOf, IsOutcomeJson, failed_object, head_members, met_object};
 
 use crate::bounds::told_circuit;
-use crate::failures::{cause_word, told_evidence};
+use crate::failures::told_evidence;
 use crate::members::{object_of, with, with_count};
 use crate::solved::told_solution;
 use crate::told::told_names;
@@ -19,6 +19,7 @@ use modulo::Culprit;
 use outcome_text::{circuit_of, fullest_of, is_met};
 use problems::Problem;
 use serde_json::{Map, ToValue, Value};
+use solution_text::cause_word;
 use solutions::{Cause, Outcome, Solution, Solved};
 use std::alloc::Global;
 

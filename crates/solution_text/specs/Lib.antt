@@ -1,4 +1,5 @@
 pub mod Names
+pub mod Causes
 pub mod Registers
 pub mod Heads
 pub mod Operations

@@ -2,6 +2,7 @@
 //! them; and what a check says of them.
 #![tactic(auto)]
 
+mod causes;
 mod chains;
 mod failures;
 mod files;
@@ -18,11 +19,13 @@ mod uses;
 mod values;
 mod verdicts;
 
+pub use causes::cause_word;
 pub use failures::{push_cause, push_failed};
 pub use files::has_free;
 pub use issues::{held_rows, stage_of};
 pub use laws::names_are_those_of_runs;
 pub use named::{MAX_ABOVE, Register, register_after};
+pub use names::{push_name, push_op_name, push_unit_name};
 pub use outcomes::push_outcome;
 pub use solved::push_solution;
 pub use values::carried;

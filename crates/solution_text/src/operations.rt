@@ -8,7 +8,7 @@ ghost use Rattle.solution_text.specs.inner.Chains.{AreChained, AreUses, readers_
 
 use crate::chains::{Chains, Uses, chain_reads, chain_values};
 use crate::issues::{held_rows, stage_of};
-use crate::names::push_name;
+use crate::names::{push_op_name, push_unit_name};
 use crate::uses::push_uses;
 use machine_data::limits::{MAX_READS, MAX_STATEMENTS, MAX_VALUES};
 use machine_data::{OutOfMemory, Row};
@@ -57,7 +57,7 @@ fn push_placed(text: &mut Vec<u8>, solution: &Solution, op: usize) -> Result<(),
 {
     let draft = solution.problem().draft();
     text.push_piece("op ")?;
-    push_name(text, draft.names.operations.as_slice(), op)?;
+    push_op_name(text, draft, op)?;
     push_told(text, " time ", solution.time(op))?;
     push_choice(text, solution.alternative(op))
 }
@@ -67,7 +67,7 @@ fn push_hold(text: &mut Vec<u8>, draft: &Draft, row: Row) -> Result<(), OutOfMem
     ensures ok { OnOk result (text.new.items ≡ text.old.items ++ hold_text draft.now row) }
 {
     text.push_piece(" ")?;
-    push_name(text, draft.names.units.as_slice(), usize::from(row.unit))?;
+    push_unit_name(text, draft, usize::from(row.unit))?;
     if row.offset == 0 {
         return Ok(());
     }

@@ -4,7 +4,7 @@ ghost use Rattle.std.specs.Prelude.{◌≡◌, ◌++◌, OnOk};
 ghost use Rattle.solution_text.specs.inner.Parts.{joined, part_text};
 
 use crate::named::{Register, push_register};
-use crate::names::push_name;
+use crate::names::{push_name, push_op_name, push_unit_name};
 use machine_data::OutOfMemory;
 use problems::Draft;
 use writing::{Text, push_signed, push_told};
@@ -38,9 +38,9 @@ fn push_part(text: &mut Vec<u8>, draft: &Draft, part: Part<'_>) -> Result<(), Ou
         Part::Piece(piece) => text.push_piece(piece),
         Part::Told(word, number) => push_told(text, word, number),
         Part::Signed(word, number) => push_signed(text, word, number),
-        Part::Unit(unit) => push_name(text, draft.names.units.as_slice(), unit),
+        Part::Unit(unit) => push_unit_name(text, draft, unit),
         Part::File(file) => push_name(text, draft.names.files.as_slice(), file),
-        Part::Operation(op) => push_name(text, draft.names.operations.as_slice(), op),
+        Part::Operation(op) => push_op_name(text, draft, op),
         Part::Value(value) => push_name(text, draft.names.values.as_slice(), value),
         Part::Register(register) => push_register(text, draft, register),
     }

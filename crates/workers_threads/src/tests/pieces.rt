@@ -144,13 +144,14 @@ fn told_by<R: Threads + Abort + Sync>(
     tell_text(rt, alloc, machine, text, &settings, &tell)
 }
 
-/// The rows of these parts begin the listing.
+/// These parts are the rows of the listing, before its last line.
 fn begins(rt: &impl Abort, parts: &[String], wanted: &str) {
     let mut rest = wanted;
     for part in parts {
         rest = rest.strip_prefix(part.as_str()).expect(rt, "the next rows");
     }
-    assert!(rt; rest.len() < wanted.len());
+    assert!(rt; rest.starts_with("loops "), "{rest}");
+    assert_eq!(rt; rest.lines().count(), 1);
 }
 
 /// How many parts there are, and 0 where the whole is told. It comes to the listing or the fault that is wanted.

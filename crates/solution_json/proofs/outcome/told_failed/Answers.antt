@@ -6,7 +6,8 @@ use Rattle.serde_json.specs.View.{view}
 use Rattle.modulo.specs.Problems.{ProblemData as SchedulingData, mii_of}
 use Rattle.problems.specs.declared.draft.Draft.{Draft}
 use Rattle.solutions.specs.Outcomes.{last_of}
-use Rattle.solution_json.specs.Failures.{cause_word, culprit_value}
+use Rattle.solution_json.specs.Failures.{culprit_value}
+use Rattle.solution_text.specs.Causes.{cause_word}
 use Rattle.solution_json.specs.Outcomes.{failed_object, head_members}
 use Rattle.solution_json.specs.Parts.{count_value}
 use Rattle.solution_json.proofs.outcome.told_failed.Goals as goal

@@ -1,7 +1,7 @@
 //! The words of causes.
 
 ghost use Rattle.std.specs.Prelude.{◌≡◌};
-ghost use Rattle.problem_graphs.specs.Causes.{cause_word};
+ghost use Rattle.solution_text.specs.Causes.{cause_word};
 
 use solutions::Cause;
 
