@@ -13,10 +13,11 @@ ghost use Rattle.problem_lines.specs.inner.Pieces.{fault_seen, placed};
 use crate::fault::{Expected, LineFault};
 use crate::keyword::{is_text, keyword_of, solution_keyword_of};
 use crate::names::{is_hold, is_name, is_unit_name};
-use crate::number::{Integer, Number, digits_of, int_of, integer_in};
+use crate::number::{Integer, Number, integer_in};
 use crate::piece::Piece;
 use crate::scan::first_word;
 use crate::word::Word;
+use loop_lines::{int_of, number_of};
 use std::marker::Model;
 
 /// What is left of a line. Contracts see its words, and the column after those before it.
@@ -47,7 +48,7 @@ fn fits(what: Expected, word: &[u8]) -> bool
         Expected::Keyword => keyword_of(word).is_some(),
         Expected::Name => is_name(word),
         Expected::UnitName => is_unit_name(word),
-        Expected::Number => digits_of(word).is_some(),
+        Expected::Number => number_of(word).is_some(),
         Expected::Integer => int_of(word).is_some(),
         Expected::Hold => is_hold(word),
         Expected::Latency => is_text(word, "latency"),
@@ -169,7 +170,7 @@ impl<'a> Left<'a> {
         let Some(piece) = self.next() else {
             return Err(missing(column, Expected::Number));
         };
-        match digits_of(piece.bytes) {
+        match number_of(piece.bytes) {
             Some(value) => Ok(Number {
                 value,
                 column: piece.column,

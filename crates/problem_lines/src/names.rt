@@ -4,7 +4,7 @@ ghost use Rattle.std.specs.Prelude.{◌≡◌, true, false, MatchOption};
 ghost use Rattle.std.specs.List.{list_all, list_any, position_or_len, before_first, after_first};
 ghost use Rattle.problem_lines.specs.Names.{is_at, is_hold, is_name, is_printable, is_sign, is_unit_name};
 
-use crate::number::digits_of;
+use loop_lines::number_of;
 use machine_data::limits::MAX_LABEL;
 
 /// Whether a name may have this byte.
@@ -82,6 +82,6 @@ pub(crate) fn is_hold(word: &[u8]) -> bool
 {
     match split_hold(word) {
         None => is_unit_name(word),
-        Some((unit, digits)) => is_unit_name(unit) && digits_of(digits).is_some(),
+        Some((unit, digits)) => is_unit_name(unit) && number_of(digits).is_some(),
     }
 }

@@ -1,9 +1,10 @@
 //! Numbers where they stand in a line.
 
-ghost use Rattle.std.specs.Prelude.{◌≡◌, ◌-◌, ◌^◌, min, if◌then◌else◌, Some, None, true, false, is_some};
-ghost use Rattle.std.specs.Str.Parse.{digits_value};
-ghost use Rattle.loop_lines.specs.Forms.{int_of, is_number, signed_of};
+ghost use Rattle.std.specs.Prelude.{◌≡◌, true, is_some};
+ghost use Rattle.loop_lines.specs.Forms.{int_of, is_number};
 ghost use Rattle.problem_lines.specs.Numbers.{integer_of, number_of};
+
+use loop_lines::{int_of, number_of};
 
 /// A number where it stands.
 #[derive(Clone, Copy, Debug, PartialEq, Eq)]
@@ -36,65 +37,13 @@ pub enum Storage {
     Unallotted,
 }
 
-/// The value of digits, or `u64::MAX` where it is above. `None` if the word is no number.
-pub(crate) fn digits_of(word: &[u8]) -> Option<u64>
-    ensures { result ≡ (if is_number word.now then Some (min (digits_value 10 word.now) (2 ^ 64 - 1)) else None) }
-{
-    if word.is_empty() {
-        return None;
-    }
-    let mut value: u64 = 0;
-    let mut rest = word;
-    while let [digit, more @ ..] = rest {
-        if !digit.is_ascii_digit() {
-            return None;
-        }
-        let digit = u64::from(*digit - b'0');
-        value = value.saturating_mul(10).saturating_add(digit);
-        rest = more;
-    }
-    Some(value)
-}
-
-/// The value of digits after a `-`: `None` if they are no number, and the inner `None` outside 64 bits.
-#[inline(always)]
-#[tactic(auto, using(loop_lines::proofs::Numbers::minus_is))]
-fn below_zero(digits: &[u8]) -> Option<Option<i64>>
-    ensures { result ≡ (if is_number digits.now then Some (signed_of true (digits_value 10 digits.now)) else None) }
-{
-    let value = digits_of(digits)?;
-    Some(0i64.checked_sub_unsigned(value))
-}
-
-/// The value of digits, as `below_zero` tells it.
-#[inline(always)]
-#[tactic(auto, using(loop_lines::proofs::Numbers::plus_is))]
-fn from_zero(digits: &[u8]) -> Option<Option<i64>>
-    ensures { result ≡ (if is_number digits.now then Some (signed_of false (digits_value 10 digits.now)) else None) }
-{
-    let value = digits_of(digits)?;
-    Some(0i64.checked_add_unsigned(value))
-}
-
-/// An integer's value: the outer `Option` is whether the word is one, the inner is `None` outside 64
-/// bits.
-#[tactic(auto, unfolding(loop_lines::specs::Forms::int_of))]
-pub(crate) fn int_of(word: &[u8]) -> Option<Option<i64>>
-    ensures { result ≡ int_of word.now }
-{
-    match word {
-        [b'-', digits @ ..] => below_zero(digits),
-        _ => from_zero(word),
-    }
-}
-
 /// The number that digits are which stand at a column.
 pub(crate) fn number_in(digits: &[u8], column: usize) -> Number
     requires { is_number digits.now ≡ true }
     ensures { result ≡ number_of (record { bytes = digits.now; column = column }) }
 {
     Number {
-        value: digits_of(digits).unwrap_or(0),
+        value: number_of(digits).unwrap_or(0),
         column,
         width: digits.len(),
     }
