@@ -108,6 +108,11 @@ def line_of(header: Block, blocks: list[Block]) -> tuple[str, int]:
     return "", 0
 
 
+def _has_parts(value: Value) -> bool:
+    """Whether a value is a struct or an array, whose parts are taken by numbers that are no operands."""
+    return value.type[:1] in ("{", "[", "%") and not value.type.endswith("*")
+
+
 def _refuse_instructions(blocks: list[Block]) -> None:
     for one in (one for block in blocks for one in block.instructions):
         if one.opcode.startswith("call "):
@@ -118,6 +123,8 @@ def _refuse_instructions(blocks: list[Block]) -> None:
             raise LeftOut(f"it has {one.opcode}")
         if "<" in one.type or any("<" in it.type for it in one.operands):
             raise LeftOut("it has vectors")
+        if any(_has_parts(it) for it in (one, *one.operands)):
+            raise LeftOut("it has values of several parts")
 
 
 def _latch_of(header: Block, blocks: list[Block]) -> Block:

@@ -11,6 +11,7 @@ from .ir import Address, Argument, Block, Constant, Function, Global, Instructio
 
 IGNORED = ("llvm.dbg.", "llvm.lifetime.", "llvm.assume", "llvm.experimental.noalias.scope.decl")
 MEMORY = ("load", "store")
+USUAL_NAN = " 0x7FF8000000000000"  # as LLVM prints it, of both types: a number alone does not tell the bits of another one
 
 
 class Unread(Exception):
@@ -127,7 +128,8 @@ class _FunctionReader:
             return Constant(str(number), of, number)
         if kind == llvm.FLOAT and of in ("float", "double"):
             number = llvm.constant_float(reference)
-            return Constant(str(number), of, number)
+            if number == number or llvm.printed(reference).endswith(USUAL_NAN):
+                return Constant(str(number), of, number)
         if kind in (llvm.UNDEFINED, llvm.POISON, llvm.NULL):
             return Constant("0", of, 0.0 if of in ("float", "double") else 0)
         if kind in (llvm.VARIABLE, llvm.FUNCTION):

@@ -61,6 +61,14 @@ class Reading(unittest.TestCase):
         text = "define i128 @f(i128 %x) {\n %y = add i128 %x, 36893488147419103233\n ret i128 %y\n}\n"
         self.assertIsInstance(function(text), reader.Unread)
 
+    def test_no_number(self):
+        """Of what is no number, only the usual bits are read: a text could not tell the others from them, and they can be looked at in memory."""
+        for of in ("float", "double"):
+            for bits, is_read in (("7FF8000000000000", True), ("FFF8000000000000", False), ("7FF8000020000000", False), ("7FF0000020000000", False)):
+                with self.subTest(f"{of} {bits}"):
+                    found = function(f"define void @f({of}* %p) {{\n store {of} 0x{bits}, {of}* %p\n ret void\n}}\n")
+                    self.assertEqual(isinstance(found, reader.Unread), not is_read)
+
     def test_one_line(self):
         """What is not known is told in one line."""
         text = "define void @f(i8* %p) {\n indirectbr i8* %p, [label %a]\na:\n fence seq_cst\n ret void\n}\n"
@@ -145,6 +153,10 @@ class Loops(unittest.TestCase):
         self.assertEqual(self.left_out(text.replace("icmp slt i32 %i1, %n", "icmp slt i32 %z, %n")), "its trip count is not known before it starts")
         self.assertEqual(self.left_out(text.replace("add i32 %i, 1", "add i32 %i, 0")), "its trip count is not known before it starts")
         self.assertEqual(self.left_out(text.replace("%y = add", "%y = sdiv")), "it divides under a condition")
+        parts = "%w = call { i32, i1 } @llvm.sadd.with.overflow.i32(i32 %i, i32 %x)\n  %y = extractvalue { i32, i1 } %w, 0"
+        declared = "declare { i32, i1 } @llvm.sadd.with.overflow.i32(i32, i32)\n"
+        self.assertEqual(self.left_out(text.replace("%y = add i32 %i, %x", parts) + declared), "it has values of several parts")
+        self.assertEqual(self.left_out(text.replace("%y = add i32 %i, %x", "%y = extractvalue [2 x i32] undef, 1")), "it has values of several parts")
         fixed = "declare i32 @llvm.sdiv.fix.i32(i32, i32, i32 immarg) readnone\n"
         self.assertEqual(self.left_out(text.replace("%y = add i32 %i, %x", "%y = call i32 @llvm.sdiv.fix.i32(i32 %i, i32 %x, i32 4)") + fixed), "it divides under a condition")
 
