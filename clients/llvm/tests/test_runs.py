@@ -1,14 +1,18 @@
 """The whole way from C to overlapped kernels: each loop of the corpus, scheduled and run cycle by cycle, leaves what the compiled function leaves."""
 from __future__ import annotations
 
+import random
 import unittest
 
 import common  # (it says where the others are)
 import cases
+import lawful
 from common import MACHINES
 from memory import Memory
 from overlapped import Overlapped
 from sequential import Run
+
+SCHEDULES = 2  # at random, for each loop
 
 
 class Runs(unittest.TestCase):
@@ -18,6 +22,21 @@ class Runs(unittest.TestCase):
             for machine in MACHINES:
                 ran += self.run_file(path, machine)
         self.assertGreaterEqual(ran, 30 * len(MACHINES))
+
+    def test_random_schedules(self):
+        """What a loop leaves is up to the problem alone, and not to the schedule that a solver finds for it."""
+        for path in cases.corpus_files():
+            functions = dict(common.functions(path))
+            for machine_name in MACHINES:
+                document = common.document(path, machine_name)
+                machine = lawful.without_registers(document["machine"])
+                for case in cases.cases_of(path):
+                    given = [it for it in document["problems"] if it["source"]["function"] == case.name]
+                    for seed in range(SCHEDULES if case.arguments else 0):
+                        with self.subTest(file=path, function=case.name, machine=machine_name, seed=seed):
+                            chance = random.Random(f"{case.name} {seed}")
+                            schedules = {it["name"]: lawful.schedule(machine, it, chance) for it in given}
+                            self.check_run(case, functions[case.name], machine, given, schedules, 17)
 
     def run_file(self, path: str, machine_name: str) -> int:
         """Runs the loops of a file on a machine: how many."""
