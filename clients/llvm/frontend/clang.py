@@ -11,7 +11,8 @@ from typing import Sequence
 from llvmlite import binding
 
 # Loops stay as they are written: nothing is vectorized, unrolled, or made a call of memcpy or the like.
-FLAGS = ["-O2", "-gline-tables-only", "-fno-vectorize", "-fno-slp-vectorize", "-fno-unroll-loops", "-fno-discard-value-names"]
+LEVEL = "-O2"
+FLAGS = ["-gline-tables-only", "-fno-vectorize", "-fno-slp-vectorize", "-fno-unroll-loops", "-fno-discard-value-names"]
 FLAGS += [f"-fno-builtin-{it}" for it in ("memcpy", "memmove", "memset", "memcmp", "bcmp", "strlen")]
 
 
@@ -27,6 +28,12 @@ def command() -> str:
         if path:
             return path
     raise NoClang(f"CLANG names {named}, which is not there" if named else "clang is not on the path: apt-get install clang-14, or name one by CLANG")
+
+
+def flags_with(more: Sequence[str] = ()) -> list[str]:
+    """The flags of clang, with some more. Levels of optimization stand first, since one that follows would turn vectorizing on."""
+    levels = [it for it in more if it.startswith("-O")]
+    return [LEVEL, *levels, *FLAGS, *(it for it in more if it not in levels)]
 
 
 def run(arguments: list[str]) -> str:
@@ -51,7 +58,7 @@ def to_ir(path: str, flags: Sequence[str] = ()) -> str:
     known = binding.llvm_version_info[0]
     if version() > known:
         raise NoClang(f"{command()} is of version {version()}, and llvmlite reads up to version {known}: apt-get install clang-{known}, or name one by CLANG")
-    text = run([*FLAGS, *flags, "-S", "-emit-llvm", "-o", "-", path])
+    text = run([*flags_with(flags), "-S", "-emit-llvm", "-o", "-", path])
     if not text:
         raise NoClang(f"clang makes nothing of {path}: it is no C file")
     return text
@@ -59,4 +66,4 @@ def to_ir(path: str, flags: Sequence[str] = ()) -> str:
 
 def to_library(path: str, library: str) -> None:
     """Compiles a C file to a shared library, with the same optimizations."""
-    run([*FLAGS, "-shared", "-fPIC", "-o", library, path])
+    run([*flags_with(), "-shared", "-fPIC", "-o", library, path])

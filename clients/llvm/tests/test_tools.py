@@ -49,6 +49,12 @@ class Problems(unittest.TestCase):
         operations = [it for it in done.stdout.split("\n") if it.startswith(("op", "problem", "edge", "end"))]
         self.assertEqual(operations, ["problem f", "op small.c:4:load load", "op small.c:4:add default", "end"])
 
+    def test_level(self):
+        """Another level of optimization vectorizes no loop either."""
+        done = run("problems.py", "--text", "--flag=-O3", written("level.c", SMALL.partition("int g")[0]))
+        self.assertEqual((done.returncode, done.stderr), (0, ""))
+        self.assertIn("op level.c:4:load load", done.stdout.split("\n"))
+
     def test_json(self):
         done = run("problems.py", "--machine", os.path.join(common.CLIENT, "machines", "eight.toml"), written("small.c", SMALL))
         found = json.loads(done.stdout)
