@@ -66,27 +66,56 @@ def _numbers(entry: Block) -> dict[Block, int]:
     return found
 
 
+def _before(function: Function) -> dict[Block, list[Block]]:
+    """Of each block those that lead to it, as far as they are reached at all."""
+    found: dict[Block, list[Block]] = {}
+    reached = _reached(function.blocks[0], None)
+    for block in (it for it in function.blocks if it in reached):
+        for to in block.successors:
+            found.setdefault(to, []).append(block)
+    return found
+
+
+def _gone_back_to(function: Function, before: dict[Block, list[Block]]) -> list[Block]:
+    """The blocks that a walk goes back to, in the order of the function."""
+    numbers = _numbers(function.blocks[0])
+    entered = {to for to, its in before.items() if any(numbers[to] >= numbers[it] for it in its)}
+    return [it for it in function.blocks if it in entered]
+
+
+def _leading(ends: list[Block], before: dict[Block, list[Block]], header: Block) -> set[Block]:
+    """A header, and the blocks that come to the ends without passing it."""
+    inside, waiting = {header}, list(ends)
+    while waiting:
+        block = waiting.pop()
+        if block not in inside:
+            inside.add(block)
+            waiting += before.get(block, [])
+    return inside
+
+
 def _natural_loops(function: Function) -> dict[Block, set[Block]]:
     """Of each header the blocks of its loop: those that come to an edge back to it without passing it."""
-    entry, loops = function.blocks[0], {}
-    before: dict[Block, list[Block]] = {}
-    for block in function.blocks:
-        for to in block.successors:
-            before.setdefault(to, []).append(block)
-    numbers = _numbers(entry)
-    entered = {to for to, its in before.items() if any(numbers.get(to, len(numbers)) >= numbers.get(it, -1) for it in its)}
-    for header in (it for it in function.blocks if it in entered):
+    entry, loops, before = function.blocks[0], {}, _before(function)
+    for header in _gone_back_to(function, before):
         others = _reached(entry, header)
         ends = [it for it in before.get(header, []) if it not in others]
-        inside, waiting = {header}, list(ends)
-        while waiting:
-            block = waiting.pop()
-            if block not in inside:
-                inside.add(block)
-                waiting += before.get(block, [])
         if ends:
-            loops[header] = inside
+            loops[header] = _leading(ends, before, header)
     return loops
+
+
+def tangled(function: Function) -> list[tuple[Block, list[Block], int]]:
+    """The circuits with several blocks at which they are entered, and without a loop inside: of each such a block, all of its blocks, and the number of those."""
+    headers, before, found = _natural_loops(function), _before(function), []
+    seen: set[Block] = set()
+    for block in _gone_back_to(function, before):
+        circuit = _leading(before.get(block, []), before, block) & _reached(block, None)
+        if not circuit & (seen | headers.keys()):
+            seen |= circuit
+            places = [it for it in circuit if any(one not in circuit for one in before.get(it, []))]
+            found.append((block, [it for it in function.blocks if it in circuit], len(places)))
+    return found
 
 
 def innermost(function: Function) -> list[tuple[Block, list[Block]]]:

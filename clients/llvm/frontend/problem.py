@@ -175,6 +175,9 @@ def problems_of(functions: list[tuple[str, Function | Exception]], machine: Mach
                 problems.append({"name": names.new(name), **found})
             except LeftOut as reason:
                 left_out.append({"file": at or file, "line": line, "function": name, "reason": str(reason)})
+        for block, blocks, places in loops.tangled(function):
+            at, line = loops.line_of(block, blocks)
+            left_out.append({"file": at or file, "line": line, "function": name, "reason": f"it is entered at {places} places"})
     return problems, left_out
 
 

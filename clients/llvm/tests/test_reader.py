@@ -4,7 +4,7 @@ from __future__ import annotations
 import unittest
 
 import common  # (it says where the others are)
-from frontend import affine, loops, reader
+from frontend import affine, loops, problem, reader
 
 TYPES = """
 %pair = type { i8, i32, [4 x i16] }
@@ -125,6 +125,21 @@ class Loops(unittest.TestCase):
     def test_nest(self):
         read = function(NEST)
         self.assertEqual([(header.name, [it.name for it in blocks]) for header, blocks in loops.innermost(read)], [("%inner", ["%inner"])])
+
+    def test_tangled(self):
+        """A circuit that is entered at two places is no loop, and is told all the same; in a loop it is a part of an iteration."""
+        text = "define void @f(i1 %c) {\nentry:\n br i1 %c, label %one, label %two\none:\n br label %two\ntwo:\n br i1 %c, label %one, label %after\nafter:\n AFTER\n}\n"
+        read = function(text.replace("AFTER", "ret void"))
+        self.assertEqual(loops.innermost(read), [])
+        ((block, blocks, places),) = loops.tangled(read)
+        self.assertEqual((block in blocks, {it.name for it in blocks}, places), (True, {"%one", "%two"}, 2))
+        _, left_out = problem.problems_of([("f", read)], common.machine("four"), "f.c")
+        self.assertEqual(left_out, [{"file": "f.c", "line": 0, "function": "f", "reason": "it is entered at 2 places"}])
+        dead = text.replace("AFTER", "ret void\ndead:\n br label %after\nmore:\n br label %dead")
+        self.assertEqual(len(loops.tangled(function(dead))), 1, "what is never reached is no circuit")
+        around = text.replace("entry:", "start:\n br label %entry\nentry:").replace("AFTER", "br label %entry")
+        self.assertEqual((len(loops.innermost(function(around))), loops.tangled(function(around))), (1, []))
+        self.assertEqual([loops.tangled(function(it)) for it in (NEST, CONDITION.replace("BRANCHES", "then, label %latch"))], [[], []])
 
     def test_condition(self):
         """The store is guarded, and the phi is a select that has the value of the conditional block where the condition is as wanted."""
