@@ -40,7 +40,7 @@ def machine_lines(path: str) -> Iterator[str]:
 def outs_of(path: str) -> dict[str, set[str]]:
     """Which values are live at the end, by the names of the loops."""
     outs: dict[str, set[str]] = {}
-    with open(path, encoding="latin-1") as file:
+    with open(path, encoding="latin-1", newline="\n") as file:
         for line in file.read().split("\n"):
             match line.split("#")[0].split():
                 case ["loop", name]:

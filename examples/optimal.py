@@ -277,7 +277,7 @@ def main() -> None:
     given = words.parse_args()
     for path in given.paths:
         told = solve(path)
-        with open(path, encoding="ascii", errors="replace") as file:
+        with open(path, encoding="ascii", errors="replace", newline="\n") as file:
             problems = read_problems(file.read())
         for problem in problems:
             it, begin = told[problem.name], time.monotonic()

@@ -5,8 +5,11 @@ from __future__ import annotations
 import re
 from dataclasses import dataclass
 
-NUMBER = r"(?:0|[1-9][0-9]*)"
-INTEGER = rf"(?:-?[1-9][0-9]*|0)"
+# (no number has more digits than each reader of the document keeps)
+NUMBER = r"(?:0|[1-9][0-9]{0,14})"
+INTEGER = r"(?:-?[1-9][0-9]{0,14}|0)"
+# The greatest number of intervals above the first one that may be tried.
+CEILING = 255
 WORD = r"[A-Za-z_][A-Za-z0-9_]{0,15}"
 UNIT = r"[a-z][a-z0-9_]{0,15}"
 OPERATION = rf"{WORD}(?:\[i(?:[+-][1-9][0-9]*)?\])?"
@@ -291,6 +294,7 @@ def _tried(lines: Lines, bounds: Bounds) -> list[Try]:
         names = tuple(name for part in parts[:named] for name in part.split(" "))
         lines.check(int(interval) == bounds.mii + len(tried), "not the next interval")
         lines.check(int(interval) <= int(last), "the last interval is before the first")
+        lines.check(int(last) <= bounds.mii + CEILING, "the last interval is too far from the first that is tried")
         numbers = tuple(map(int, parts[named:]))
         tried += [Try(it, outcome, names, numbers) for it in range(int(interval), int(last) + 1)]
     return tried

@@ -87,6 +87,9 @@ def _slots(named: Named, solution: Solution) -> list[tuple[int, int, int]]:
 def _held_by(solved: Solved, ii: int) -> str:
     if ii > solved.bounds.mii:
         return "neither"
+    if ii == 1:
+        # (`solve` tells of no circuit then, and there may be none)
+        return "one cycle"
     sign = (solved.bounds.resources > solved.bounds.recurrences) - (solved.bounds.resources < solved.bounds.recurrences)
     return ["both", "units", "recurrences"][sign]
 

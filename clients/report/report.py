@@ -37,14 +37,14 @@ def program_beside() -> str:
 
 
 def printed(program: str, words: list[str]) -> str:
-    """What the program prints. Its status 1 tells that some loop has no kernel, and is well."""
+    """What the program prints. Its status 1 tells that some loop has no kernel, and is well. It prints ASCII alone: a line with another byte has none of its forms."""
     try:
-        ran = subprocess.run([program, *words], stdin=subprocess.DEVNULL, stdout=subprocess.PIPE, text=True, encoding="utf-8")
+        ran = subprocess.run([program, *words], stdin=subprocess.DEVNULL, stdout=subprocess.PIPE)
     except OSError as fault:
         raise Refused(2, f"report: {program} does not run: {fault.strerror}") from fault
     if ran.returncode not in (0, 1):
         raise Refused(ran.returncode, f"report: {program} is ended by signal {-ran.returncode}" if ran.returncode < 0 else "")
-    return ran.stdout
+    return ran.stdout.decode("ascii", "replace")
 
 
 def read(path: str) -> bytes:
@@ -64,7 +64,7 @@ def document_of(program: str, machine: str, loops: str, options: list[str]) -> d
     explained, listing = (printed(program, [it, *files, *options]) for it in ("explain", "json"))
     try:
         return join(read_edges(edges), read_explain(explained), json.loads(listing))
-    except (json.JSONDecodeError, KeyError, TypeError, IndexError, AttributeError) as fault:
+    except (ValueError, RecursionError, KeyError, TypeError, IndexError, AttributeError) as fault:
         raise Mismatch("json", f"not the document of docs/FORMATS.md: {fault!r}") from fault
 
 

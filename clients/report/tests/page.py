@@ -11,6 +11,8 @@ GREAT = 96
 # What the sections that are drawn tell, by their elements. Tables that wait for a click are opened first.
 FACTS = """(async () => {
   const texts = (root, of) => [...root.querySelectorAll(of)].map(it => it.textContent);
+  const meeting = letters => letters.map(it => [it.getBBox(), it.textContent]).flatMap(([a, text], at, all) => all.slice(at + 1).filter(([b]) =>
+    a.x + 1 < b.x + b.width && b.x + 1 < a.x + a.width && a.y + 3 < b.y + b.height && b.y + 3 < a.y + a.height).map(([, other]) => [text, other]));
   const cells = table => table ? [...table.querySelectorAll("tbody tr")].map(row => texts(row, "td")) : null;
   while (document.querySelector("main").getAttribute("aria-busy") === "true") await new Promise(done => setTimeout(done, 20));
   for (const it of document.querySelectorAll("main details")) it.open = true;
@@ -49,6 +51,10 @@ FACTS = """(async () => {
       mute: marks.filter(it => !it.getAttribute("aria-label")).length, stops: marks.filter(it => it.tabIndex === 0).length, charts: section.querySelectorAll("figure").length,
       nameless: [...section.querySelectorAll("figure, figure svg[role]")].filter(it => !it.getAttribute("aria-label") && !document.getElementById(it.getAttribute("aria-labelledby"))).length,
       wide: section.scrollWidth > section.clientWidth + 1,
+      axis: all("graph", ".stuck text").map(it => it.textContent).filter(it => it.startsWith("cycle")), alike: all("graph", "path.edge").length - new Set(all("graph", "path.edge").map(it => it.getAttribute("d"))).size,
+      outside: [...section.querySelectorAll("figure svg[role] text")].filter(it => it.getBBox().x < 0 || it.getBBox().x + it.getBBox().width > it.ownerSVGElement.width.baseVal.value).map(it => it.textContent),
+      meeting: ["iteration", "registers", "graph"].flatMap(kind => meeting(all(kind, kind === "graph" ? "text.sum:not(.late)" : ".stuck text.soft, .stuck text.most-text"))),
+      stages: all("kernel", "td sub").filter(it => it.getBoundingClientRect().right > it.closest("td").getBoundingClientRect().right).length,
     };
   });
 })()"""
@@ -59,6 +65,26 @@ def wrong_with(wanted: dict[str, Any], seen: dict[str, Any]) -> Iterator[str]:
     for what, it in wanted.items():
         if seen[what] != it:
             yield f"{what}: {json.dumps(seen[what])[:200]} and not {json.dumps(it)[:200]}"
+
+
+def times_of(loop: dict[str, Any]) -> list[int]:
+    """When operations are issued, or without a kernel their earliest cycles by the dependences within one iteration."""
+    if "kernel" in loop:
+        return [operation["time"] for operation in loop["operations"]]
+    times = [0] * len(loop["operations"])
+    for _ in times:
+        for edge in loop["edges"]:
+            if edge["distance"] == 0:
+                times[edge["to"]] = max(times[edge["to"]], times[edge["from"]] + edge["delay"])
+    return times
+
+
+def seen_of_graph(loop: dict[str, Any], it: dict[str, Any]) -> Iterator[str]:
+    """Where operations and labels of the graph stand: operations in rows by time, from top to bottom, and no curve on another."""
+    times = times_of(loop)
+    yield from wrong_with({"axis": [f"cycle {time}" for time in sorted({*times})], "alike": 0}, it)
+    if any(one[1] >= other[1] for one in it["heights"] for other in it["heights"] if times[one[0]] < times[other[0]]):
+        yield f"rows of the graph: {it['heights']}"
 
 
 def seen_of_all(loop: dict[str, Any], it: dict[str, Any]) -> Iterator[str]:
@@ -83,10 +109,14 @@ def seen_of_all(loop: dict[str, Any], it: dict[str, Any]) -> Iterator[str]:
         "mute": 0,
         "nameless": 0,
         "wide": False,
+        "outside": [],
+        "meeting": [],
+        "stages": 0,
         "stops": it["charts"] - (0 if "files" in loop or loop.get("kernel", {}).get("values", True) else 1),
     }
     shown = it | {key: sorted(it[key]) for key in ("nodes", "edges", "later", "critical", "labels")}
     yield from wrong_with(wanted, shown)
+    yield from seen_of_graph(loop, it)
     for number in (loop["mii"], loop["resources"], loop["recurrences"], len(names)):
         if str(number) not in it["facts"]:
             yield f"facts: {number} is not there"
@@ -219,7 +249,7 @@ def is_near(one: float, other: float) -> bool:
 
 
 def seen_of_places(loop: dict[str, Any], it: dict[str, Any]) -> Iterator[str]:
-    """Where the marks stand: operations by their times, the next iterations one and two intervals later, and operations of the graph from top to bottom by time."""
+    """Where the marks stand: operations by their times, the next iterations one and two intervals later."""
     kernel, operations = loop["kernel"], loop["operations"]
     times, ii = [operation["time"] for operation in operations], kernel["ii"]
     at = {place: x for place, x, _ in it["issues"]}
@@ -232,8 +262,6 @@ def seen_of_places(loop: dict[str, Any], it: dict[str, Any]) -> Iterator[str]:
         yield f"places of later iterations: {it['laters']}"
     if any(colour != f"c{operations[place]['stage'] % 8}" for place, _, colour in it["issues"]):
         yield f"colours of stages: {it['issues']}"
-    if any(one[1] >= other[1] for one in it["heights"] for other in it["heights"] if times[one[0]] < times[other[0]]):
-        yield f"rows of the graph: {it['heights']}"
 
 
 def seen_of_bars(ii: int, values: list[tuple[str, int, int]], lane_of: Callable[[int, int], Any], columns: list[Any], folds: list[Any]) -> Iterator[str]:

@@ -347,6 +347,17 @@ class Document(unittest.TestCase):
         ]
         self.assertEqual(loop["tried"], told)
 
+    def test_intervals_in_one_line(self):
+        for last, is_well in ((257, True), (258, False), (10**14, False)):
+            lines = [f"try 2 to {last} registers: s lives 2 to 5", "loops 1 met 0 failed 1", ""]
+            text = "\n".join([*SUM_EXPLAIN.split("\n")[:6], *lines])
+            if is_well:
+                (loop,) = read_explain(text)
+                self.assertEqual([it.interval for it in loop.tried], [*range(2, last + 1)])
+            else:
+                with self.assertRaisesRegex(Misfit, "^explain, line 7: the last interval is too far"):
+                    read_explain(text)
+
     def test_commands_that_disagree(self):
         changed = json.loads(json.dumps(SUM_JSON))
         changed["loops"][0]["kernel"]["operations"][1]["stage"] = 0
@@ -376,7 +387,7 @@ class Command(unittest.TestCase):
         with tempfile.TemporaryDirectory() as room:
             path = f"{room}/stand_in"
             with open(path, "w", encoding="utf-8") as it:
-                it.write(f"#!{sys.executable}\nimport sys\nsys.stdout.write({answers!r}[sys.argv[1]])\n")
+                it.write(f"#!{sys.executable}\nimport sys\nsys.stdout.buffer.write({answers!r}[sys.argv[1]].encode('latin-1'))\n")
                 it.write(f"sys.stderr.write({said!r})\nsys.exit({status})\n")
             os.chmod(path, 0o755)
             script = [sys.executable, f"{CLIENT}/report.py", "--modsched", path, *words, "m.toml", "l.txt"]
@@ -401,8 +412,15 @@ class Command(unittest.TestCase):
         misfit = self.run_with(self.answers(explain=SUM_EXPLAIN.replace("held by units", "held by unity")))
         self.assertEqual((misfit.returncode, misfit.stdout), (8, ""))
         self.assertRegex(misfit.stderr, r"^report: explain, line 8: not .*: held by unity\n$")
-        for broken in ("{", '{"version":1}', "[]"):
+        for broken in ("{", '{"version":1}', "[]", "[" * 100_000, f'{{"version":{"1" * 5000}}}', '{"version":\xff}'):
             self.assertEqual(self.run_with(self.answers(json=broken)).returncode, 8)
+
+    def test_lines_of_no_form(self):
+        for command, text in (("edges", SUM_EDGES), ("explain", SUM_EXPLAIN)):
+            for broken in (text.replace("acc", "ac\xff"), text.replace("ops 3", f"ops {'3' * 5000}"), text.replace("acc", "acc\r"), text.replace("acc", "ac\xc3\xa9")):
+                ended = self.run_with(self.answers(**{command: broken}))
+                self.assertEqual((ended.returncode, ended.stdout), (8, ""))
+                self.assertRegex(ended.stderr, rf"^report: {command}, line 1: not a line of bounds: loop ac")
 
 
 def luminance(colour: str) -> float:

@@ -176,6 +176,13 @@ end
         (it,) = join_problems(SUM.encode(), text)["problems"]
         self.assertEqual((it["kernel"]["held_by"], it["kernel"]["files"]), ("neither", [{"live": [3, 1, 1], "max_live": 3}]))
 
+    def test_one_cycle(self):
+        # (no circuit is told of, so that nothing but the cycle itself is known to hold it)
+        text = "machine m\nunits u\nkind k latency 1 | u\nproblem one\nop a k\nend\n"
+        printed = "# one ops 1 res 1 rec 1 mii 1\n# full u\nsolution one ii 1 # stages 1\nop a time 0 by 0 # row 0 stage 0: u\nend\n# problems 1 met 1 failed 0\n"
+        (it,) = join_problems(text.encode(), printed)["problems"]
+        self.assertEqual((it["kernel"]["held_by"], it["circuit"]), ("one cycle", None))
+
     def test_mismatches(self):
         for text, printed, why in [
             (SUM + "op u add\n", SUM_SOLVED, "this line may not stand here"),

@@ -97,7 +97,8 @@ tr.taken td { font-weight: 600; }
 .bar { display: inline-block; width: 4rem; height: .6rem; background: var(--rest); vertical-align: middle; margin-right: .4rem; }
 .bar i { display: block; height: 100%; background: var(--meter); }
 table.kernel { font-family: var(--mono); font-size: 12px; }
-table.kernel th, table.kernel td { padding: 0 .5rem; height: 24px; line-height: 23px; border-right: 1px solid var(--line); white-space: nowrap; text-align: center; vertical-align: middle; max-width: 11rem; overflow: hidden; text-overflow: ellipsis; }
+table.kernel th, table.kernel td { padding: 0 .5rem; height: 24px; line-height: 23px; border-right: 1px solid var(--line); white-space: nowrap; text-align: center; vertical-align: middle; max-width: 12.5rem; overflow: hidden; text-overflow: ellipsis; }
+table.kernel .its { display: inline-block; max-width: 10.4rem; overflow: hidden; text-overflow: ellipsis; vertical-align: bottom; }
 table.kernel tbody th { position: sticky; left: 0; z-index: 1; background: var(--band); text-align: right; }
 table.kernel thead th:first-child { left: 0; z-index: 3; }
 table.kernel thead th { height: 40px; line-height: 1.25; white-space: normal; min-width: 3.4rem; padding-top: .25rem; padding-bottom: .2rem; }
@@ -140,7 +141,7 @@ svg .edge.crit.hot { stroke: var(--bad); stroke-width: 3.4; }
 svg .quiet .edge:not(.hot):not(.crit) { opacity: .15; }
 svg .sum.late { visibility: hidden; } svg .sum.late.hot { visibility: visible; }
 svg .only .edge.aside, svg .only .tip.aside, svg .only .sum.aside { display: none; }
-#tip { position: fixed; z-index: 20; pointer-events: none; max-width: 24rem; background: var(--text); color: var(--page); font-size: .84rem; line-height: 1.4; padding: .35rem .6rem; border-radius: 5px; white-space: pre-line; }
+#tip { position: fixed; z-index: 20; pointer-events: none; max-width: 24rem; background: var(--text); color: var(--page); font-size: .84rem; line-height: 1.4; padding: .35rem .6rem; border-radius: 5px; white-space: pre-line; overflow-wrap: anywhere; }
 .tools { display: flex; gap: .6rem; flex-wrap: wrap; align-items: center; font-size: .87rem; margin-top: .45rem; }
 .tools select, .tools button, #all { font: inherit; font-size: .87rem; color: var(--text); background: var(--page); border: 1px solid var(--shape); border-radius: 4px; padding: .15rem .5rem; cursor: pointer; }
 #all { margin-top: .6rem; width: 100%; }

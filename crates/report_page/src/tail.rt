@@ -25,6 +25,7 @@ const range = count => Array.from({ length: count }, (_, at) => at);
 const clamp = (least, it, most) => Math.max(least, Math.min(it, most));
 const greatest = (numbers, least) => numbers.reduce((a, b) => Math.max(a, b), least);
 const colour = stage => "c" + stage % COLOURS;
+const roomOf = number => 6.7 * String(number).length; // pixels of a number beside a chart
 const cut = (text, most = 28) => text.length > most ? text.slice(0, most - 1) + "\u2026" : text;
 
 // What the page shows: loops, or scheduling problems, which are shown as loops are. Here a loop is either. A file of registers has its values; a loop has one
@@ -262,7 +263,7 @@ function kernelChart(loop) {
 function slotCell(loop, row, unit, place) {
   if (place === undefined) return make("td");
   const it = loop.operations[place], isIssued = it.row === row;
-  const cell = make("td", { class: "slot " + colour(it.stage) + (isIssued ? "" : " held"), "data-unit": unit }, it.name, make("sub", {}, it.stage));
+  const cell = make("td", { class: "slot " + colour(it.stage) + (isIssued ? "" : " held"), "data-unit": unit }, make("span", { class: "its" }, it.name), make("sub", {}, it.stage));
   const [first, ...rest] = told(loop, place);
   return mark(cell, place, [first, unit + " in row " + row + (isIssued ? "" : ", held after its issue"), ...rest]);
 }
@@ -273,7 +274,7 @@ function iterationChart(loop) {
   const order = range(ops.length).sort((a, b) => ops[a].time - ops[b].time || a - b);
   const total = Math.max(span + 2 * ii, stages * ii), longest = greatest(ops.map(it => cut(it.name).length + cut(it.word).length + 1), isOfProblems ? 6 : 0);
   const left = 18 + CHAR * longest, top = 36, high = 20, cell = clamp(Math.min(4, 6000 / total), (widest - left - 10) / total, 24);
-  const width = left + total * cell + 8, height = top + high * order.length + 6, x = cycle => left + cycle * cell;
+  const width = left + total * cell + Math.max(8, roomOf(total) / 2 + 2), height = top + high * order.length + 6, x = cycle => left + cycle * cell;
   const box = (cycle, y, attributes) => rect(x(cycle), y + 3, Math.max(cell - 1, 2), high - 6, { rx: 2, ...attributes });
   const bands = range(Math.ceil(total / ii)).map(it => rect(x(it * ii), 0, Math.min(ii, total - it * ii) * cell, height,
     { class: it % 2 ? "bandB" : "bandA" }));
@@ -286,10 +287,10 @@ function iterationChart(loop) {
     bars.push(mark(draw("g", {}, tail, box(it.time, y, { class: "box " + colour(it.stage) })), place, told(loop, place)));
     labels.push(draw("text", { x: 6, y: y + 14, "data-op": place }, cut(it.name) + " ", draw("tspan", { class: "soft" }, cut(it.word))));
   });
-  const wide = ii * cell, every = wide >= 14 ? 1 : Math.ceil(14 / wide);
+  const wide = ii * cell, every = Math.ceil(18 / wide);
   const heads = range(stages).filter(it => it % every === 0).map(it => letters(x(it * ii) + 3, 13, (wide > 56 ? "stage " : "") + it,
     { class: "soft" }));
-  const step = [1, 2, 5, 10, 20, 50, 100, 200, 500, 1000, 2000, 5000].find(it => it * cell >= 26) || 10000;
+  const step = [1, 2, 5, 10, 20, 50, 100, 200, 500, 1000, 2000, 5000].find(it => it * cell >= Math.max(26, roomOf(total) + 6)) || 10000;
   const ticks = range(Math.ceil(total / step)).map(it => letters(x(it * step) + cell / 2, 29, it * step, { class: "soft", "text-anchor": "middle" }));
   const chart = draw("svg", { width, height, viewBox: "0 0 " + width + " " + height, role: "group", "aria-label": "Iteration chart" }, bands,
     range(stages + 1).map(it => draw("line", { class: "grid", x1: x(it * ii), x2: x(it * ii), y1: 0, y2: height })), ghosts, bars,
@@ -345,12 +346,12 @@ function registerChart(loop, file) {
   const longest = greatest(folds.map(it => it.it.name.length), 3), fitting = Math.max(300 / ii, CHAR * longest + 14);
   const left = Math.max(92, 22 + CHAR * greatest(folds.map(it => it.label.length), 0)), top = 84, high = 20, base = 50;
   const cell = clamp(Math.min(14, 6000 / ii), Math.min(fitting, (widest - left - 8) / ii), 160);
-  const width = left + ii * cell + 8, height = top + high * lanes.length + 4, x = row => left + row * cell;
+  const width = left + ii * cell + Math.max(8, roomOf(ii) / 2 + 2), height = top + high * lanes.length + 4, x = row => left + row * cell;
   const tall = it => 38 * it / Math.max(most, 1), isMost = it => it > 0 && it === most;
   const levels = live.map((it, row) => rect(x(row) + 0.5, base - tall(it), Math.max(cell - 1, 0.5), tall(it), { class: "level", "data-live": it }));
-  const counts = live.map((it, row) => cell >= 18 && letters(x(row) + cell / 2, 64, it, { class: isMost(it) ? "most-text" : "soft",
+  const counts = live.map((it, row) => cell >= Math.max(18, roomOf(most) + 4) && letters(x(row) + cell / 2, 64, it, { class: isMost(it) ? "most-text" : "soft",
     "text-anchor": "middle" }));
-  const step = Math.ceil(24 / cell), ticks = range(ii).filter(it => it % step === 0).map(it => letters(x(it) + cell / 2, 78, it,
+  const step = Math.ceil(Math.max(24, roomOf(ii) + 6) / cell), ticks = range(ii).filter(it => it % step === 0).map(it => letters(x(it) + cell / 2, 78, it,
     { class: "soft", "text-anchor": "middle" }));
   const bars = folds.map(it => foldBar(file, it, x(it.from) + 1, top + high * lanes.indexOf(it.line) + 2, (it.to - it.from + 1) * cell - 2,
     high - 4));
@@ -394,19 +395,26 @@ function foldBar(file, { it, fold, from, to, label: line, begins, ends }, x, y, 
 
 // The dependences, in rows by time. A layer is a part of a row that fits the page's width; an edge that goes past layers has a bend in each.
 const ROW = 34, APART = 30, MANY = 500, FEW = 28;
+// The earliest cycles by the dependences within one iteration, which go from operations to later ones.
 const asapOf = loop => {
-  const at = loop.operations.map(() => 0);
-  for (const edge of loop.edges) if (!edge.distance && edge.from < edge.to) at[edge.to] = Math.max(at[edge.to], at[edge.from]
-    + Math.max(edge.delay, 0));
+  const at = loop.operations.map(() => 0), within = loop.edges.filter(it => !it.distance).sort((a, b) => a.from - b.from);
+  for (const edge of within) at[edge.to] = Math.max(at[edge.to], at[edge.from] + edge.delay);
   return at;
 };
 function drawnEdges(loop) {
   const critical = new Set(loop.circuit ? loop.circuit.edges : []);
   const all = loop.edges.map((edge, at) => ({ ...edge, at, critical: critical.has(at) }));
-  if (all.length <= MANY) return all;
+  if (all.length <= MANY) return besides(all);
   const values = all.filter(it => it.kind === "value" && !it.critical), room = loop.values ? Math.max(MANY - critical.size, 0) : values.length;
   const shown = new Set(values.slice(0, room));
-  return all.filter(it => it.critical || shown.has(it));
+  return besides(all.filter(it => it.critical || shown.has(it)));
+}
+// Edges between the same two operations stand beside each other. Each has its place among them: how many there are, and from 0 its own.
+function besides(edges) {
+  const pairs = new Map(), pairOf = it => it.from + " " + it.to;
+  for (const it of edges) pairs.set(pairOf(it), [...(pairs.get(pairOf(it)) || []), it]);
+  for (const its of pairs.values()) its.forEach((it, place) => Object.assign(it, { place, places: its.length }));
+  return edges;
 }
 function layersOf(loop, nodes) {
   const byTime = new Map(), layers = [];
@@ -474,10 +482,11 @@ function spotsOf(points, isShared) {
     return [x1 + (x2 - x1) * (3 * t * t - 2 * t * t * t), u * u * u * y1 + 3 * u * t * (y1 + y2) / 2 + t * t * t * y2 + 4];
   }));
 }
-// The first spot at which a label meets neither an operation nor another label, on its edge or else beside it.
+// The first spot at which a label meets neither an operation nor another label, on its edge or else beside it, the nearest first. None is on the axis.
 function freeSpot(spots, text, anchor, taken) {
-  const wide = 7 * text.length, near = spots.slice(0, 25), beside = [1, -1].flatMap(side => near.map(([x, y]) => [x + side * (wide / 2 + 4), y]));
-  const boxes = [...near, ...beside].map(([x, y]) => [anchor ? x : x - wide / 2, y - 9, wide, 11, x, y]);
+  const wide = 7 * text.length, near = spots.slice(0, 25), least = 80 + (anchor ? 0 : wide / 2);
+  const beside = [0, 1, 2, 3, 4].flatMap(far => [1, -1].flatMap(side => near.map(([x, y]) => [x + side * (wide / 2 + 4 + far * wide), y])));
+  const boxes = [...near, ...beside].map(([x, y]) => [Math.max(x, least), y]).map(([x, y]) => [anchor ? x : x - wide / 2, y - 9, wide, 11, x, y]);
   const meets = ([x, y, w, h]) => taken.some(([x2, y2, w2, h2]) => x < x2 + w2 && x2 < x + w && y < y2 + h2 && y2 < y + h);
   const box = boxes.find(it => !meets(it)) || boxes[0];
   taken.push(box);
@@ -486,18 +495,20 @@ function freeSpot(spots, text, anchor, taken) {
 function pathOf(edge, layers, isShared) {
   const [from, to] = [edge.chain[0], edge.chain[edge.chain.length - 1]], y = it => layers[it.layer].y;
   if (from === to) {
-    const x = from.x + from.wide / 2, middle = y(from) + ROW / 2;
-    return { d: "M" + x + " " + (middle - 7) + "c22 -14 22 28 2 15", spots: [[x + 1, y(from) - 3]], anchor: "start" };
+    const x = from.x + from.wide / 2, middle = y(from) + ROW / 2, [far, farthest] = [edge.place, edge.places - 1].map(it => 22 + it * Math.min(7, 26 / edge.places));
+    return { d: "M" + x + " " + (middle - 7) + "c" + far + " -14 " + far + " 28 2 15",
+      spots: [[x + 1, y(from) - 3], ...[8, 19, 30].map(below => [x + 0.75 * farthest + 6, y(from) + below])], anchor: "start" };
   }
+  const step = it => Math.min(7, 0.3 * it.wide / edge.places) * (edge.place - (edge.places - 1) / 2);
   if (from.layer === to.layer) {
-    const low = y(from) + ROW, middle = (from.x + to.x) / 2;
-    return { d: "M" + from.x + " " + low + "C" + from.x + " " + (low + 24) + " " + to.x + " " + (low + 26) + " " + to.x + " " + (low + 2),
+    const low = y(from) + ROW, middle = (from.x + to.x) / 2, [x, toX] = [from.x + step(from), to.x + step(to)];
+    return { d: "M" + x + " " + low + "C" + x + " " + (low + 24) + " " + toX + " " + (low + 26) + " " + toX + " " + (low + 2),
       spots: [[middle, low + 22]] };
   }
   const isDown = to.layer > from.layer, shift = isDown ? 0 : 0.3;
   const points = edge.chain.flatMap(it => {
-    if (it === from) return [[it.x + it.wide * shift, y(it) + (isDown ? ROW : 0)]];
-    if (it === to) return [[it.x + it.wide * shift, y(it) + (isDown ? -2 : ROW + 2)]];
+    if (it === from) return [[it.x + it.wide * shift + step(it), y(it) + (isDown ? ROW : 0)]];
+    if (it === to) return [[it.x + it.wide * shift + step(it), y(it) + (isDown ? -2 : ROW + 2)]];
     return isDown ? [[it.x, y(it)], [it.x, y(it) + ROW]] : [[it.x, y(it) + ROW], [it.x, y(it)]];
   });
   const steps = points.slice(1).map(([x, y], at) => {
@@ -525,8 +536,23 @@ function placed(loop, edges) {
   for (const it of all) it.x += 104 - least;
   return { nodes, layers, width: greatest(all.map(it => it.x + it.room / 2), 0) + 48, height: y + ROW + 34 };
 }
+// The curves of edges, their labels, and where the last of these ends.
+function edgeMarks(edges, nodes, layers, arrow) {
+  const few = edges.length <= FEW, lines = [], sums = [], taken = nodes.map(it => [it.x - it.wide / 2, layers[it.layer].y, it.wide, ROW]);
+  for (const edge of [...edges].sort((a, b) => b.critical - a.critical)) {
+    const path = pathOf(edge, layers, !few), [x, y] = freeSpot(path.spots, signed(edge), path.anchor, taken), aside = edge.critical ? "" : " aside",
+      hidden = few || edge.critical ? "" : " late";
+    const ends = { "data-from": edge.from, "data-to": edge.to, "data-edge": edge.at };
+    lines.push(draw("path", { d: path.d, class: "edge" + (edge.distance ? " later" : "") + (edge.critical ? " crit" : "") + aside,
+      "marker-end": "url(#" + arrow + (edge.critical ? "-critical" : "") + ")", ...ends }));
+    sums.push(letters(x, y, signed(edge), { class: "sum" + (edge.critical ? " critical" : "") + hidden + aside, "text-anchor": path.anchor
+      || "middle", ...ends }));
+  }
+  return { lines, sums, end: greatest(taken.map(([x, , wide]) => x + wide), 0) };
+}
 function graphChart(loop) {
-  const edges = drawnEdges(loop), { nodes, layers, width, height } = placed(loop, edges), few = edges.length <= FEW, arrow = "arrow-" + loops.indexOf(loop);
+  const edges = drawnEdges(loop), { nodes, layers, width: least, height } = placed(loop, edges), arrow = "arrow-" + loops.indexOf(loop);
+  const { lines, sums, end } = edgeMarks(edges, nodes, layers, arrow), width = Math.max(least, end + 6);
   const heads = ["", " critical"].map(kind => draw("marker",
     { id: arrow + (kind && "-critical"), viewBox: "0 0 8 8", refX: 7, refY: 4, markerWidth: 8, markerHeight: 8, markerUnits: "userSpaceOnUse",
     orient: "auto" }, draw("path", { d: "M0 0L8 4L0 8Z", class: "tip" + kind })));
@@ -541,16 +567,6 @@ function graphChart(loop) {
     if (loop.kernel && (!at || Math.floor(before / loop.kernel.ii) !== stage)) axis.push(letters(6, layer.y + 28, "stage " + stage,
       { class: "soft", style: "font-weight:700" }));
   });
-  const lines = [], sums = [], taken = nodes.map(it => [it.x - it.wide / 2, layers[it.layer].y, it.wide, ROW]);
-  for (const edge of [...edges].sort((a, b) => b.critical - a.critical)) {
-    const path = pathOf(edge, layers, !few), [x, y] = freeSpot(path.spots, signed(edge), path.anchor, taken), aside = edge.critical ? "" : " aside",
-      hidden = few || edge.critical ? "" : " late";
-    const ends = { "data-from": edge.from, "data-to": edge.to, "data-edge": edge.at };
-    lines.push(draw("path", { d: path.d, class: "edge" + (edge.distance ? " later" : "") + (edge.critical ? " crit" : "") + aside,
-      "marker-end": "url(#" + arrow + (edge.critical ? "-critical" : "") + ")", ...ends }));
-    sums.push(letters(x, y, signed(edge), { class: "sum" + (edge.critical ? " critical" : "") + hidden + aside, "text-anchor": path.anchor
-      || "middle", ...ends }));
-  }
   const byPlace = [...nodes].sort((a, b) => a.layer - b.layer || a.x - b.x).map(it => graphNode(loop, it, layers[it.layer].y));
   const drawn = draw("g", { class: "graph" }, lines.sort((a, b) => a.classList.contains("crit") - b.classList.contains("crit")), byPlace, sums);
   const chart = draw("svg", { width, height, viewBox: "0 0 " + width + " " + height, role: "group", "aria-label": "Dependence graph" },

@@ -122,10 +122,11 @@ function relist() {
   shown = loops.filter(fits).sort(ORDERS[byId("order").value]);
   list.replaceChildren(...shown.map(it => entries.get(it)));
   byId("shown").textContent = shown.length === loops.length ? "" : counted(shown.length, ONE) + " of " + loops.length;
-  if (!list.querySelector('a[tabindex="0"]') && shown.length) entries.get(shown[0]).firstChild.tabIndex = 0;
+  if (!list.querySelector('a[tabindex="0"]') && shown.length) stopAt(entries.get(shown[0]).firstChild);
 }
+// One entry is a stop of the tab key, also of those that the filter leaves out.
 function stopAt(entry) {
-  for (const it of links()) it.tabIndex = -1;
+  for (const it of entries.values()) it.firstChild.tabIndex = -1;
   entry.tabIndex = 0;
 }
 // The first loop is drawn at once. The others follow by and by, so that the page answers meanwhile, unless something else is to be shown.
@@ -137,10 +138,13 @@ function drawNext(what, mine) {
   if (what.length > 1) setTimeout(() => mine === drawing && drawNext(what.slice(1), mine));
 }
 function show(what, isAsked) {
+  const mine = ++drawing; // (what was under way ends)
+  heat(null);
   main.replaceChildren();
+  main.setAttribute("aria-busy", false);
   widest = clamp(520, main.clientWidth - 90, 2400);
-  if (what.length) drawNext(what, ++drawing);
-  for (const it of list.querySelectorAll("a[aria-current]")) it.removeAttribute("aria-current");
+  if (what.length) drawNext(what, mine);
+  for (const it of entries.values()) it.firstChild.removeAttribute("aria-current");
   if (what.length === 1) {
     const entry = entries.get(what[0]).firstChild;
     stopAt(entry);
