@@ -171,3 +171,22 @@ NONE = SUM | {
     "tried": [{"first": 2, "interval": 2, "last": 5, "need": 3, "operations": [1], "outcome": "registers"}],
 }
 DOCUMENT: dict[str, Any] = {"failed": 1, "loops": [ROTATING, FEW, FIVE, PUT, NONE], "met": 4, "version": 1}
+# Numbers of cycles with five digits and of rows with four, the last of each at the end of its axis: no schedule that there is, but what a page has room for.
+LATE = PUT | {
+    "kernel": PUT["kernel"] | {
+        "figures": {"cycles": 64576, "extra_turns": 63, "need": 1, "percent": [0]},
+        "held_by": "units",
+        "ii": 1009,
+        "live": [0] * 1009,
+        "slots": [slot(0, 0, 0), slot(1008, 0, 1)],
+        "stages": 64,
+    },
+    "mii": 1009,
+    "name": "late",
+    "operations": [operation("b[i]", "store", 1, 1, 0, 0, 0, 64575), operation("c[i]", "store", 1, 1, 64575, 63, 1008, 0)],
+    "resources": 1009,
+    "set": {"need": 1009, "rows": 1009, "units": ["mem"]},
+    "tried": [{"interval": 1009, "outcome": "kernel", "stages": 64}],
+    "units": [{"full": True, "name": "mem", "users": [{"operation": 0, "uses": 505}, {"operation": 1, "uses": 504}], "uses": 1009}],
+}
+LATE_DOCUMENT: dict[str, Any] = {"failed": 0, "loops": [LATE], "met": 1, "version": 1}

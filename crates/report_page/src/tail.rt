@@ -483,9 +483,9 @@ function spotsOf(points, isShared) {
   }));
 }
 // The first spot at which a label meets neither an operation nor another label, on its edge or else beside it, the nearest first. None is on the axis.
-function freeSpot(spots, text, anchor, taken) {
-  const wide = 7 * text.length, near = spots.slice(0, 25), least = 80 + (anchor ? 0 : wide / 2);
-  const beside = [0, 1, 2, 3, 4].flatMap(far => [1, -1].flatMap(side => near.map(([x, y]) => [x + side * (wide / 2 + 4 + far * wide), y])));
+function freeSpot(spots, text, anchor, taken, farthest) {
+  const wide = 7 * text.length + 5, near = spots.slice(0, 25), least = 80 + (anchor ? 0 : wide / 2);
+  const beside = range(farthest).flatMap(far => [1, -1].flatMap(side => near.map(([x, y]) => [x + side * (wide / 2 + 4 + far * wide), y])));
   const boxes = [...near, ...beside].map(([x, y]) => [Math.max(x, least), y]).map(([x, y]) => [anchor ? x : x - wide / 2, y - 9, wide, 11, x, y]);
   const meets = ([x, y, w, h]) => taken.some(([x2, y2, w2, h2]) => x < x2 + w2 && x2 < x + w && y < y2 + h2 && y2 < y + h);
   const box = boxes.find(it => !meets(it)) || boxes[0];
@@ -503,7 +503,7 @@ function pathOf(edge, layers, isShared) {
   if (from.layer === to.layer) {
     const low = y(from) + ROW, middle = (from.x + to.x) / 2, [x, toX] = [from.x + step(from), to.x + step(to)];
     return { d: "M" + x + " " + low + "C" + x + " " + (low + 24) + " " + toX + " " + (low + 26) + " " + toX + " " + (low + 2),
-      spots: [[middle, low + 22]] };
+      spots: [[middle, low + 22], [middle, low + 11]] };
   }
   const isDown = to.layer > from.layer, shift = isDown ? 0 : 0.3;
   const points = edge.chain.flatMap(it => {
@@ -540,7 +540,7 @@ function placed(loop, edges) {
 function edgeMarks(edges, nodes, layers, arrow) {
   const few = edges.length <= FEW, lines = [], sums = [], taken = nodes.map(it => [it.x - it.wide / 2, layers[it.layer].y, it.wide, ROW]);
   for (const edge of [...edges].sort((a, b) => b.critical - a.critical)) {
-    const path = pathOf(edge, layers, !few), [x, y] = freeSpot(path.spots, signed(edge), path.anchor, taken), aside = edge.critical ? "" : " aside",
+    const path = pathOf(edge, layers, !few), [x, y] = freeSpot(path.spots, signed(edge), path.anchor, taken, few ? 40 : 5), aside = edge.critical ? "" : " aside",
       hidden = few || edge.critical ? "" : " late";
     const ends = { "data-from": edge.from, "data-to": edge.to, "data-edge": edge.at };
     lines.push(draw("path", { d: path.d, class: "edge" + (edge.distance ? " later" : "") + (edge.critical ? " crit" : "") + aside,
