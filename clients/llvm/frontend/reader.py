@@ -11,7 +11,7 @@ from .ir import Address, Argument, Block, Constant, Function, Global, Instructio
 
 IGNORED = ("llvm.dbg.", "llvm.lifetime.", "llvm.assume", "llvm.experimental.noalias.scope.decl")
 MEMORY = ("load", "store")
-USUAL_NAN = " 0x7FF8000000000000"  # as LLVM prints it, of both types: a number alone does not tell the bits of another one
+USUAL_NAN = " 0x7FF8000000000000"  # as LLVM prints it, for both types: a float of Python does not keep the bits of another NaN
 
 
 class Unread(Exception):

@@ -1,4 +1,4 @@
--- What names are told to stand for, beside what they stand for.
+-- What the code tells of a name, as the definitions have it.
 use Rattle.loop_reader.specs.Meaning as meaning
 use Rattle.loop_reader.specs.declared.names.index.Declared.{Declared}
 use Rattle.loop_reader.specs.declared.names.index.Declared.TheVariants as variants

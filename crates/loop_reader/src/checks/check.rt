@@ -25,28 +25,28 @@ use loop_lines::{CellWords, Form, StatementWords, Subscript, Use, are_wide};
 use machine_data::OutOfMemory;
 use machine_data::limits::{MAX_ARRAYS, MAX_NAME, MAX_PARAMETERS, MAX_STATEMENTS};
 
-/// A name has more than 16 bytes.
+/// Whether a name has more than 16 bytes.
 pub fn is_long(name: &[u8]) -> bool
     ensures { result ≡ meaning.is_long name.now }
 {
     name.len() > MAX_NAME
 }
 
-/// A name stands for the value of a statement. `None` is a name that is not declared.
+/// Whether a name stands for the value of a statement. `None` is a name that is not declared.
 pub fn is_value(found: Option<Declared>) -> bool
     ensures { result ≡ meaning.is_value (option_map declared_seen found) }
 {
     matches!(found, Some(Declared::Value(_)))
 }
 
-/// A name stands for a value or a parameter, which a use without a distance may be of. `None` is a name that is not declared.
+/// Whether a name stands for a value or a parameter, which a use without a distance may read. `None` is a name that is not declared.
 pub fn is_readable(found: Option<Declared>) -> bool
     ensures { result ≡ meaning.is_readable (option_map declared_seen found) }
 {
     matches!(found, Some(Declared::Value(_) | Declared::Param(_)))
 }
 
-/// A name stands for the value of this statement or of a later one, by their numbers from 0. `None` is a name that is not declared.
+/// Whether a name stands for the value of this statement or of a later one, by their numbers from 0. `None` is a name that is not declared.
 pub fn is_value_from(statement: usize, found: Option<Declared>) -> bool
     ensures { result ≡ meaning.is_value_from statement (option_map declared_seen found) }
 {

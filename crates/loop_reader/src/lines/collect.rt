@@ -22,7 +22,7 @@ pub(crate) enum Stop<'a> {
     Open(usize),
 }
 
-/// Whether a line may stand in a loop after others, of which some is a statement where `statement` is set, and some is an `out` where `out` is.
+/// Whether a line may stand in a loop, by the lines before it: by whether one of them is a statement, and whether one is an `out`.
 #[inline(always)]
 pub fn may_stand(form: &Form<'_>, statement: bool, out: bool) -> bool
     ensures { (before : List spec.Form) → has_statement before ≡ statement → has_out before ≡ out → result ≡ stands before (form_seen form.now) }
