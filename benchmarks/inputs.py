@@ -97,67 +97,86 @@ def extreme():
     return machine_text(256, units, ops)
 
 
-def loop_text(r, name, statements, shape):
-    """One loop. shape: arrays, cells, recurrence and memory percents, spread of
+class Body:
+    """The statements of a loop while they are drawn. shape: arrays, cells, recurrence and memory percents, spread of
     subscripts, distances, prefix of names, how far back operands reach."""
-    arrays = ["%sa%d" % (shape["prefix"], k) for k in range(shape["arrays"])]
-    stored = arrays[: max(1, len(arrays) // 2)]
-    params = ["%sp%d" % (shape["prefix"], k) for k in range(3)]
-    values, lines, inits, last = [], [], {}, None
 
-    def subscript():
-        c = r.between(-shape["spread"], shape["spread"])
+    def __init__(self, r, shape):
+        self.r, self.shape = r, shape
+        self.arrays = ["%sa%d" % (shape["prefix"], k) for k in range(shape["arrays"])]
+        self.stored = self.arrays[: max(1, len(self.arrays) // 2)]
+        self.params = ["%sp%d" % (shape["prefix"], k) for k in range(3)]
+        self.values, self.lines, self.inits = [], [], {}
+
+    def subscript(self):
+        c = self.r.between(-self.shape["spread"], self.shape["spread"])
         return "i" if c == 0 else "i%+d" % c
 
-    def operand():
-        if values and r.chance(88):
-            reach = min(len(values), shape["reach"])
-            return values[len(values) - 1 - r.below(reach)]
-        return r.choice(params) if r.chance(60) else str(r.between(-99, 99))
+    def operand(self):
+        if self.values and self.r.chance(88):
+            reach = min(len(self.values), self.shape["reach"])
+            return self.values[len(self.values) - 1 - self.r.below(reach)]
+        return self.r.choice(self.params) if self.r.chance(60) else str(self.r.between(-99, 99))
 
-    for k in range(statements):
-        value = "%sv%d" % (shape["prefix"], k)
-        kind = r.below(100)
-        left = statements - k
-        if kind < shape["loads"] and left > 1 or k == 0:
-            lines.append("%s = load %s[%s]" % (value, r.choice(arrays), subscript()))
-        elif kind < shape["loads"] + shape["stores"] or left == 1:
-            guard = " if %s" % operand() if r.chance(shape["guards"]) else ""
-            lines.append("store %s[%s] %s%s" % (r.choice(stored), subscript(), operand(), guard))
-            continue
-        elif r.chance(shape["recurrences"]):
-            distance = r.between(1, shape["distance"])
-            inits[value] = distance
+    def operands(self, count):
+        return " ".join(self.operand() for _ in range(count))
+
+    def distance_of(self, value):
+        """How many iterations ago a value is used, of which there are initial values then."""
+        distance = self.r.between(1, self.shape["distance"])
+        self.inits[value] = max(self.inits.get(value, 0), distance)
+        return distance
+
+    def store(self):
+        guard = " if %s" % self.operand() if self.r.chance(self.shape["guards"]) else ""
+        self.lines.append("store %s[%s] %s%s" % (self.r.choice(self.stored), self.subscript(), self.operand(), guard))
+
+    def computed(self, value):
+        """What a statement that is no load computes: by its own last values, by those of another, or by operands."""
+        r, shape = self.r, self.shape
+        if r.chance(shape["recurrences"]):
+            distance = self.distance_of(value)
             op = r.choice(["add", "sub", "max", "xor", "add", "mul" if shape["mul_recurrence"] else "min"])
-            lines.append("%s = %s %s@%d %s" % (value, op, value, distance, operand()))
-        elif r.chance(shape["crossing"]) and values:
-            other = r.choice(values)
-            distance = r.between(1, shape["distance"])
-            inits[other] = max(inits.get(other, 0), distance)
-            lines.append("%s = %s %s@%d %s" % (value, r.choice(["add", "sub", "or"]), other, distance, operand()))
+            return "%s %s@%d %s" % (op, value, distance, self.operand())
+        if r.chance(shape["crossing"]) and self.values:
+            other = r.choice(self.values)
+            distance = self.distance_of(other)
+            return "%s %s@%d %s" % (r.choice(["add", "sub", "or"]), other, distance, self.operand())
+        op = r.choice(["add", "add", "sub", "mul", "mul", "and", "or", "xor", "min", "max", "lt", "sel", "mov"])
+        return "%s %s" % (op, self.operands({"sel": 3, "mov": 1}.get(op, 2)))
+
+    def draw(self, k, left):
+        """Statement k, where so many are left with it: the first one is a load, and the last one a store."""
+        value, kind, shape = "%sv%d" % (self.shape["prefix"], k), self.r.below(100), self.shape
+        if kind < shape["loads"] and left > 1 or k == 0:
+            self.lines.append("%s = load %s[%s]" % (value, self.r.choice(self.arrays), self.subscript()))
+        elif kind < shape["loads"] + shape["stores"] or left == 1:
+            self.store()
+            return
         else:
-            op = r.choice(["add", "add", "sub", "mul", "mul", "and", "or", "xor", "min", "max", "lt", "sel", "mov"])
-            if op == "sel":
-                lines.append("%s = sel %s %s %s" % (value, operand(), operand(), operand()))
-            elif op == "mov":
-                lines.append("%s = mov %s" % (value, operand()))
-            else:
-                lines.append("%s = %s %s %s" % (value, op, operand(), operand()))
-        values.append(value)
-        last = value
+            self.lines.append("%s = %s" % (value, self.computed(value)))
+        self.values.append(value)
+
+
+def loop_text(r, name, statements, shape):
+    """One loop, with arrays, parameters and initial values."""
+    body = Body(r, shape)
+    for k in range(statements):
+        body.draw(k, statements - k)
     text = ["loop %s" % name]
-    for a in arrays:
+    for a in body.arrays:
         cells = [str(r.between(-10**shape["digits"], 10**shape["digits"])) for _ in range(shape["cells"])]
         text.append(" ".join(["array %s =" % a] + cells))
-    for p in params:
+    for p in body.params:
         text.append("param %s = %d" % (p, r.between(-1000, 1000)))
-    if shape["outs"] and last:
-        inits[last] = max(inits.get(last, 0), 1)
-        lines.append("out %s" % last)
-    for value, most in inits.items():
+    if shape["outs"] and body.values:
+        last = body.values[-1]
+        body.inits[last] = max(body.inits.get(last, 0), 1)
+        body.lines.append("out %s" % last)
+    for value, most in body.inits.items():
         for m in range(1, most + 1):
             text.append("init %s@%d = %d" % (value, m, r.between(-99, 99)))
-    return "\n".join(text + lines + ["end"]) + "\n"
+    return "\n".join(text + body.lines + ["end"]) + "\n"
 
 
 BASE = dict(arrays=3, cells=8, loads=25, stores=10, guards=10, recurrences=8, crossing=5, spread=2, distance=2,
