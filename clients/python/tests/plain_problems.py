@@ -64,18 +64,26 @@ def longest(problem, ii):
 def recurrence_bound(problem):
     """The least interval at which no circuit is longer than 0: then none is at a longer one."""
     least = 1
-    while longest(problem, least) is None:
+    while heights(problem, least) is None:
         least *= 2
     short = least // 2
     while short + 1 < least:
         middle = (short + least) // 2
-        short, least = (middle, least) if longest(problem, middle) is None else (short, middle)
+        short, least = (middle, least) if heights(problem, middle) is None else (short, middle)
     return least
 
 
 def heights(problem, ii):
-    walks, latency = longest(problem, ii), latencies_of(problem)
-    return [max([latency[op], *[length + latency[other] for other, length in enumerate(walks[op]) if length is not None]]) for op in range(len(latency))]
+    """For each operation the greatest length of a walk from it, with the latency of the operation at the end, or None where a circuit is longer than 0: then walks have no greatest length."""
+    found, edges = latencies_of(problem), edges_of(problem)
+    for _ in range(len(found) + 1):
+        before = list(found)
+        for one, other, distance, delay in edges:
+            found[one] = max(found[one], delay - ii * distance + found[other])
+        # (without such a circuit the longest walk comes to no operation twice, so it has fewer edges than there are operations)
+        if found == before:
+            return found
+    return None
 
 
 # attempts

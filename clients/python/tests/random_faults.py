@@ -5,11 +5,15 @@ A round damages one of two texts without a fault, or both, and compares what `li
   - else the status is that of `bounds`. The first fault told of a text that is refused is the one that `bounds` tells: of the same kind, for a machine with the same
     key or name, for loops on the same line; and where an opcode has no table, its word is told;
   - each place is within its text, and the word told of a loop text stands there;
+  - all lines of the loop text, with their places, and of a machine text that is TOML all words with what is wrong, are those of plain Python (plain_lint.py, which shares no code with modsched),
+    and at the place of a fault of a machine text stands the last part of its key;
   - the JSON document has the same faults as the lines."""
 import json
 import re
 import subprocess
+import tomllib
 
+import plain_lint as plain
 from random_problems import Mismatch, in_words
 
 # the kinds of the faults of a machine, as all commands name them
@@ -38,6 +42,11 @@ def damaged(dice, text):
         place = dice.randrange(len(text) + 1)
         return text[:place] + dice.choice([dice.choice(LETTERS), ""]) + text[place + dice.choice([0, 1]):]
     return "\n".join(lines)
+
+
+def shown(word):
+    """A word as a line has it: a byte that is no printable ASCII by two hexadecimal digits."""
+    return "".join(it if " " <= it <= "~" else f"\\x{ord(it):02x}" for it in word)
 
 
 def ended(program, *words):
@@ -82,6 +91,7 @@ class Rounds:
         self.first(status, said.strip().removeprefix("modsched: "), faults)
         for path, line, column, rest in faults:
             self.placed(machine if path == self.machine else loops, path, line, column, rest)
+        self.by_plain(machine, loops, faults)
         self.document(found)
 
     def parted(self, line):
@@ -124,6 +134,26 @@ class Rounds:
         word = rest.split(": ")[0]
         if path == self.loops and re.fullmatch(r"\S+", word) and not re.match(r"(syntax|no end|limit)\b", rest) and not there[column - 1:].startswith(word):
             raise Mismatch(f"{path}:{line}:{column}: there is no {word!r} there")
+
+    def by_plain(self, machine, loops, faults):
+        """All faults are those of plain Python, but of a machine text that is no TOML."""
+        of_machine = [it for it in faults if it[0] == self.machine]
+        opcodes = None
+        if not any(it[3].startswith("not ") for it in of_machine):
+            wanted = [f"{word}: {what}" for word, what in plain.machine_faults(machine)]
+            self.same("faults of the machine", [it[3] for it in of_machine], wanted)
+            opcodes = None if wanted else tomllib.loads(machine)["ops"].keys()
+        wanted = [(it.line, it.column, f"{shown(it.word)}: {it.what}" if it.word else it.what) for it in plain.loop_faults(loops.encode().decode("latin-1"), opcodes)]
+        self.same("faults of the loops", [it[1:] for it in faults if it[0] == self.loops], wanted)
+        for _, line, column, rest in of_machine:
+            key = re.match(r"(?:[\w-]+\.)*([\w-]+)", rest)
+            there = machine.split("\n")[line - 1][column - 1:] if line else ""
+            if line and key and not rest.startswith("not ") and not there.startswith(key[1]):
+                raise Mismatch(f"at {line}:{column} of the machine there is no {key[1]!r}: {rest}")
+
+    def same(self, what, got, wanted):
+        if got != wanted:
+            raise Mismatch(f"{what}\n--- lint\n{got}\n--- plain Python\n{wanted}")
 
     def document(self, found):
         _, text, _ = ended(self.program, "lint", self.machine, self.loops, "--format", "json")

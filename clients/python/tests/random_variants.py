@@ -1,7 +1,7 @@
 """Variants of random machines, and what `modsched vary` has to say of them: ./x fuzz runs these rounds.
 
 A round compares
-  - `vary` by one worker with `vary` by others, as lines, as JSON and in all: the same bytes;
+  - `vary` by one worker with `vary` by others, as lines, as JSON and in all: the same bytes, and those of plain Python (plain_variants.py, which shares no code with modsched);
   - the intervals of the machine as it is, and those of some variants, with what `schedule` lists for machine texts that are edited so;
   - the least number of registers with the intervals of `schedule` for that number and for smaller ones."""
 import json
@@ -9,6 +9,8 @@ import re
 import subprocess
 import tomllib
 
+import plain_loops
+import plain_variants as plain
 from random_problems import Mismatch
 
 
@@ -62,10 +64,7 @@ class Rounds:
 
     def round(self, dice, machine, loops):
         options = ["--ratio", str(dice.choice([1, 2, 6])), "--ceiling", str(dice.choice([0, 1, 8, 32]))]
-        told = [self.by_workers(dice, machine, loops, [*options, *form]) for form in ([], ["--total"], ["--format", "json"])]
-        with open(machine, encoding="utf-8") as file:
-            text = file.read()
-        document = json.loads(told[2])
+        text, document = self.whole(dice, machine, loops, options)
         every = [(loop, variant) for loop in document["loops"] for variant in loop["variants"]]
         for loop in document["loops"]:
             self.agree(f"{loop['name']} as it is", loop["ii"], self.interval(text, loops, loop["name"], options))
@@ -74,6 +73,23 @@ class Rounds:
         loop = dice.choice(document["loops"])
         if loop["ii"] is not None:
             self.fewest(dice, text, loops, loop, options)
+
+    def whole(self, dice, machine, loops, options):
+        """Compares all that `vary` prints, and gives the machine text and the document."""
+        told = [self.by_workers(dice, machine, loops, [*options, *form]) for form in ([], ["--total"], ["--format", "json"])]
+        with open(machine, encoding="utf-8") as file:
+            text = file.read()
+        self.by_plain(text, loops, told, options)
+        return text, json.loads(told[2])
+
+    def by_plain(self, text, loops, told, options):
+        """The lines, the totals and the document are those of plain Python."""
+        with open(loops, encoding="utf-8") as file:
+            machine, found = plain_loops.read_machine(text), plain_loops.read_loops(file.read())
+        standings = plain.standings_of(machine, found, int(options[1]), int(options[3]))
+        for got, wanted in zip(told, (plain.vary_text(standings), plain.vary_total(machine, standings), plain.vary_document(standings))):
+            if got != wanted:
+                raise Mismatch(f"vary {options}\n--- the program\n{got}\n--- plain Python\n{wanted}")
 
     def by_workers(self, dice, machine, loops, options):
         one = self.call("vary", machine, loops, *options, "--workers", "1")
