@@ -6,7 +6,10 @@ A round compares with plain Python (plain_explain.py and plain_graphs.py, which 
   - what `edges`, `dot` and `dot --scheduled` print of both;
 and besides
   - the circuits of the text, of the document, of both graphs and of `solve`: of one loop or problem they are one;
-  - the schedule and the registers of the document of `explain` with the kernel of `json`."""
+  - the schedule and the registers of the document of `explain` with the kernel of `json`;
+  - `least possible`, and the intervals that fail for `table`, of small problems with a search of all schedules (plain_search.py);
+  - the document of `solve --format json` with its text, as tests/solutions_as_json reads it."""
+import importlib.machinery
 import json
 import os
 import re
@@ -14,10 +17,14 @@ import subprocess
 
 import plain_explain as plain
 import plain_graphs
+import plain_search
 import plain_texts
 from random_problems import Mismatch, problems_text
 
+ROOT = os.path.dirname(os.path.dirname(os.path.dirname(os.path.dirname(os.path.realpath(__file__)))))
+DOCUMENTS = importlib.machinery.SourceFileLoader("solutions_as_json", os.path.join(ROOT, "tests", "solutions_as_json")).load_module()
 MOST_NAME = 64
+SMALL = 4
 
 
 def renamed(dice, text):
@@ -135,7 +142,22 @@ class Rounds:
         scheduled = self.by_workers(dice, "dot", "--scheduled", path, *options)
         self.same(f"dot --scheduled {options}", scheduled, plain_graphs.dot_text(graphs, scheduled, True))
         self.one_circuit(plain.parts_of("problem", told), graphs, dot, scheduled)
-        self.of_solve(plain.parts_of("problem", told), self.call("solve", path, *options))
+        solved = self.call("solve", path, *options)
+        self.of_solve(plain.parts_of("problem", told), solved)
+        document = json.dumps(DOCUMENTS.document(solved, named), sort_keys=True, separators=(",", ":")) + "\n"
+        self.same("solve --format json, and its text", self.call("solve", path, *options, "--format", "json"), document)
+        for graph in graphs:
+            self.ruled_out(graph, plain.parts_of("problem", told)[graph.name])
+
+    def ruled_out(self, graph, part):
+        """What is said to rule an interval out does so: no schedule keeps the edges and the units there."""
+        least, sure = re.search(r"(?m)^try (\d+) solution .*\nheld by .*\nleast possible$", part), []
+        sure += [int(least[1]) - 1] if least else []
+        for begin, end in re.findall(r"(?m)^try (\d+)(?: to (\d+))? table: ", part):
+            sure += range(int(begin), int(end or begin) + 1)
+        for interval in sure:
+            if interval and len(graph.operations) <= SMALL and interval <= SMALL + 1:
+                self.same(f"whether {graph.name} has a schedule at {interval}", plain_search.has_schedule(graph.problem, interval), False)
 
     def of_solve(self, parts, solved):
         """`solve` tells the circuit of `explain`, and the same bounds and solution."""

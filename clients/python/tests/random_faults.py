@@ -44,6 +44,15 @@ def damaged(dice, text):
     return "\n".join(lines)
 
 
+def thinned(dice, machine):
+    """A machine text, at times without the table of some opcode, or with a row twice."""
+    head, *tables = machine.split("\n\n")
+    if dice.random() < 0.3:
+        del tables[dice.randrange(len(tables))]
+    text = "\n\n".join([head, *tables])
+    return re.sub(r'"(\w+@)(\d+)"', r'"\1\2", "\g<1>0\2"', text, count=1) if dice.random() < 0.1 else text
+
+
 def shown(word):
     """A word as a line has it: a byte that is no printable ASCII by two hexadecimal digits."""
     return "".join(it if " " <= it <= "~" else f"\\x{ord(it):02x}" for it in word)
@@ -64,7 +73,7 @@ class Rounds:
         return f"{self.texts} texts linted, {self.faults} faults"
 
     def round(self, dice, machine, loops):
-        texts = [machine, loops]
+        texts = [thinned(dice, machine), loops]
         for it in dice.choice([[0], [1], [1], [0, 1]]):
             for _ in range(dice.choice([1, 1, 2, 4])):
                 texts[it] = damaged(dice, texts[it])
@@ -120,9 +129,11 @@ class Rounds:
             if not any(f"{table[1]}: no table" in it[3] for it in of_loops):
                 raise Mismatch(f"{said}, and lint tells {of_loops}")
         else:
+            # (what has no table is no fault of the text itself, and is told line by line with these)
+            own = [it for it in of_loops if ": no table: " not in it[3]]
             refused = re.fullmatch(r"loops: line (\d+): (.*)", said)
-            if not refused or of_loops[0][1] != int(refused[1]) or refused[2] not in of_loops[0][3]:
-                raise Mismatch(f"{said}, and the first that lint tells is {of_loops[0]}")
+            if not refused or own[0][1] != int(refused[1]) or refused[2] not in own[0][3]:
+                raise Mismatch(f"{said}, and the first that lint tells is {own[:1]}")
 
     def placed(self, text, path, line, column, rest):
         if (line, column) == (0, 0):
