@@ -77,6 +77,10 @@ class Rounds:
         for it in dice.choice([[0], [1], [1], [0, 1]]):
             for _ in range(dice.choice([1, 1, 2, 4])):
                 texts[it] = damaged(dice, texts[it])
+        self.take(*texts)
+
+    def take(self, *texts):
+        """Compares what is told of these two texts."""
         for path, text in zip((self.machine, self.loops), texts):
             with open(path, "w", encoding="utf-8", newline="") as file:
                 file.write(text)
@@ -141,9 +145,9 @@ class Rounds:
         lines = text.split("\n")
         if not 1 <= line <= len(lines) + 1 or column < 1:
             raise Mismatch(f"{path}:{line}:{column} is no place of the text: {rest}")
-        there = lines[line - 1] if line <= len(lines) else ""
+        there = lines[line - 1].encode().decode("latin-1") if line <= len(lines) else ""
         word = rest.split(": ")[0]
-        if path == self.loops and re.fullmatch(r"\S+", word) and not re.match(r"(syntax|no end|limit)\b", rest) and not there[column - 1:].startswith(word):
+        if path == self.loops and re.fullmatch(r"\S+", word) and not re.match(r"(syntax|no end|limit)\b", rest) and not shown(there[column - 1:]).startswith(word):
             raise Mismatch(f"{path}:{line}:{column}: there is no {word!r} there")
 
     def by_plain(self, machine, loops, faults):
