@@ -52,7 +52,8 @@ way at a time, each in a stage of its own.
 The second form stands where none of the intervals from M to T gives a kernel. CAUSE tells why T does
 not: `table`, an operation would need a unit twice in one row of the modulo reservation table, however it
 is issued; `budget`, the attempt has made all its placements, and some operation has no place; `stages`,
-the schedule has more than 64 stages; `registers`, the rotating registers don't hold the values.
+the schedule has more than 64 stages; `registers`, the rotating registers don't hold the values of the
+schedule that the attempt found.
 
 The lines of a kernel, as an example:
 
@@ -121,7 +122,7 @@ order of the file, its line of `modsched bounds`, and then
   circuit delay D distance N needs C      a critical circuit, which has the bound by recurrences:
                                           D cycles over N iterations take intervals of at least C cycles.
                                           Its edges follow, as `modsched edges` prints them
-  circuit none                            no circuit has it
+  circuit none                            no circuit has it; of a problem: none needs more than one cycle
   try I CAUSE: ..                         for each interval that was tried and gave no kernel, why it did not,
                                           and the operations or the value that keep it from one; `try I to J
                                           CAUSE: ..` where that is the same for neighbours; `.., all need N` on the
@@ -132,8 +133,9 @@ order of the file, its line of `modsched bounds`, and then
   least possible                          no schedule has a shorter interval
   iteration C cycles                      how long one iteration takes, to its last result
   N iterations take N+D turns             how many turns a run of N iterations has
-  op NAME at T slack K: U@O ..            when each operation is issued, by how many cycles it could be later, and
-                                          the units that it takes, each O cycles after its issue
+  op NAME at T slack K: U@O ..            when each operation is issued, by how many cycles the dependences
+                                          alone let it be later, and the units that it takes, each O cycles
+                                          after its issue
   value NAME lives A to B register K      when each value lives, in cycles of iteration 0, and its register
   registers need N                        the least number of registers with which each value gets one
   row U U .. live                         the head of the schedule as a grid: the units that are used
@@ -150,7 +152,7 @@ and `version`, which is 1. With --format html prints it as a page that any brows
 charts of the kernel, of when values live, of an iteration with the next two and of the dependences.
 
 With one path alone, that of scheduling problems, tells the same of each problem, up to what holds its interval,
-and then its solution, as `modsched solve` prints it.";
+but how many registers would do, and then its solution, as `modsched solve` prints it.";
 
 pub(crate) const VARY_ABOUT: &str = "Tell what variants of the machine bring each loop";
 
@@ -275,8 +277,9 @@ where no text has a fault:
   PATH:LINE:COLUMN: WORD: WHAT   what is wrong, and what is expected there; WORD has the bytes of the loops that
                                  the fault is about, and is left out where there are none
 
-Every fault is told. WORD has of a machine the key in full, as in ops.add.latency = 0. Lines and columns are
-counted from 1; a fault that has no place, as a key that is missing, is told of line 0 and column 0.
+All faults are told, but of one line no two of a sort. WORD has of a machine the key in full, as in
+ops.add.latency = 0. Lines and columns are counted from 1; a fault that has no place, as a key that is missing,
+is told of line 0 and column 0.
 
 With --format json the same faults are printed as one JSON document, on one line: an object with `faults`, each
 with `column`, `line`, `message`, `path` and `word`.

@@ -17,8 +17,10 @@ pub enum Hold {
     Units,
     /// The recurrences need the interval, and the units a shorter one.
     Recurrences,
-    /// Both need the interval.
+    /// Both need the interval, which is longer than one cycle.
     Both,
+    /// The interval is one cycle, and neither bound is longer.
+    Cycle,
     /// The interval is above both bounds: one cycle less gives no solution, by this cause.
     Failure(Cause),
 }
@@ -32,6 +34,7 @@ impl Hold {
             Hold::Units => "units",
             Hold::Recurrences => "recurrences",
             Hold::Both => "both",
+            Hold::Cycle => "one cycle",
             Hold::Failure(cause) => cause_word(cause),
         }
     }
@@ -59,6 +62,8 @@ fn bound_of(problem: &Problem) -> Hold
         Hold::Recurrences
     } else if recurrences < resources {
         Hold::Units
+    } else if recurrences == 1 {
+        Hold::Cycle
     } else {
         Hold::Both
     }

@@ -102,10 +102,13 @@ function evidence(loop, it) {
       + (it.need === undefined ? "" : "; all values need " + neededRegisters(it.need));
   }
 }
+// The bound by units counts one choice of alternatives; that units need so much is sure where a set of units does.
+const isSure = loop => Boolean(loop.set) && loop.set.need === loop.resources;
 function unitsNeed(loop, they = "units") {
   const full = loop.units.filter(it => it.full);
   const told = full.map(it => it.name + (it.users ? " (" + names(loop, it.users.map(user => user.operation)) + ")" : ""));
-  return they + " need " + cycles(loop.resources) + ", by " + listed(told, isOfProblems ? 8 : 3);
+  const counts = they === "they" ? "it counts " : "the bound by units counts ";
+  return (isSure(loop) ? they + " need " : counts) + cycles(loop.resources) + ", by " + listed(told, isOfProblems ? 8 : 3);
 }
 function recurrencesNeed(loop, they = "recurrences") {
   if (!loop.circuit) return "no recurrence needs more than 1 cycle";
@@ -121,7 +124,7 @@ function circuitNames(loop) {
 function whyHeld(loop) {
   const held = loop.kernel.held_by, before = loop.tried && loop.tried[loop.tried.length - 2];
   if (held === "neither") return "That is above " + loop.mii + ", the greater of its bounds: " + unitsNeed(loop) + "; " + recurrencesNeed(loop) + ".";
-  if (held === "units") return "Units hold it: " + unitsNeed(loop, "they") + "; " + recurrencesNeed(loop) + ".";
+  if (held === "units") return (isSure(loop) ? "Units hold it: " : "The bound by units holds it: ") + unitsNeed(loop, "they") + "; " + recurrencesNeed(loop) + ".";
   if (held === "recurrences") return "Recurrences hold it: " + recurrencesNeed(loop, "they") + "; " + unitsNeed(loop) + ".";
   if (held === "both") return "Units and recurrences hold it: " + unitsNeed(loop) + "; " + recurrencesNeed(loop) + ".";
   if (held === "one cycle") return "No interval is shorter than one cycle: " + unitsNeed(loop) + "; " + recurrencesNeed(loop) + ".";
@@ -298,8 +301,8 @@ function iterationChart(loop) {
     stuck(1, 1, rect(0, 0, left - 4, top - 3, { class: "bandB" }), letters(6, 13, "stage", { class: "soft" }),
       letters(6, 29, "cycle", { class: "soft" })));
   const says = "Each operation in the cycle of its issue, by time. What is dashed are the same operations of the next two iterations, " + cycles(ii)
-    + " and " + cycles(2 * ii) + " later." + (hasSlack(loop) ? " The slack of an operation is by how many cycles it could be issued later with all others where they are: each dependence"
-    + " is kept then, and the iteration takes no longer." : "");
+    + " and " + cycles(2 * ii) + " later." + (hasSlack(loop) ? " The slack of an operation is by how many cycles the dependences let it be issued later with all others where they are, and"
+    + " the iteration takes no longer. A unit may be taken then." : "");
   const key = stageKey(stages, swatch(rect(1, 1, 20, 12, { class: "ghost c0" }), "later iterations"),
     swatch(rect(1, 5, 20, 4, { class: "tail" }), isOfProblems ? "until the last result lands" : "until the result lands"));
   return figure(loop, "iteration", "One iteration: " + cycles(span) + ", " + counted(stages, "stage"), says, chart, key,
