@@ -323,7 +323,7 @@ def problem_lines(named, part, ratio, ceiling):
     yield from reasons_of.runs([(it.interval, line.removeprefix(f"# failed {named.name} at {it.interval}: ")) for it, line in failed])
     if last.cause is None:
         yield f"try {last.interval} solution stages {max(last.times) // last.interval + 1}"
-        yield f"held by {reasons_of.held_by(why, False)}"
+        yield f"held by {reasons_of.held_by(why, why.recurrences == 1)}"
         if reasons_of.is_least(why):
             yield "least possible"
     yield bounds_line("#", named.name, named.problem, why)
