@@ -7,6 +7,8 @@ import os
 import sys
 from typing import Any, Iterator
 
+MOST_INTERVAL = 1 << 16  # more rows than any kernel has
+
 
 def arguments() -> argparse.Namespace:
     """The arguments of the command line."""
@@ -23,7 +25,7 @@ def arguments() -> argparse.Namespace:
 
 def _unit(machine: dict[str, Any], kind: str, alternative: int) -> str:
     """The unit that an alternative takes first."""
-    holds = next(it for it in machine["kinds"] if it["name"] == kind)["alternatives"][alternative]
+    holds = {it["name"]: it for it in machine["kinds"]}[kind]["alternatives"][alternative]
     return min(holds, key=lambda it: it["offset"])["unit"]
 
 
@@ -43,6 +45,8 @@ def _line(texts: dict[str, list[str]], operation: dict[str, Any]) -> str:
 def kernel_lines(machine: dict[str, Any], problem: dict[str, Any], solution: dict[str, Any], texts: dict[str, list[str]]) -> Iterator[str]:
     """The lines of a kernel. After an operation of an iteration that began N turns ago stands ?N."""
     interval, times, units = solution["interval"], solution["times"], machine["units"]
+    if not 1 <= interval <= MOST_INTERVAL:
+        raise ValueError(f"the interval of {problem['name']} is {interval}, and not 1 to {MOST_INTERVAL}")
     source = problem["source"]
     yield f"loop {problem['name']} at {os.path.basename(source['file'])}:{source['line']}, interval {interval}, stages {solution['stages']}"
     rows: list[list[tuple[int, str, str, str]]] = [[] for _ in range(interval)]
@@ -50,7 +54,7 @@ def kernel_lines(machine: dict[str, Any], problem: dict[str, Any], solution: dic
         stage, row = divmod(times[it["name"]], interval)
         unit = _unit(machine, it["kind"], solution["alternatives"][it["name"]])
         rows[row].append((units.index(unit), unit, f"{it['name']} ?{stage}", _line(texts, it)))
-    wide = max(len(name) for row in rows for _, _, name, _ in row)
+    wide = max((len(name) for row in rows for _, _, name, _ in row), default=0)
     for number, row in enumerate(rows):
         for place, (_, unit, name, line) in enumerate(sorted(row)):
             yield f"{f'{number}:' if place == 0 else '':5}{unit:4}{name:{wide}}  {line}".rstrip()
@@ -75,14 +79,15 @@ def main() -> int:
             document, solutions = json.load(one), json.load(other)
         texts = {}
         for path in given.files:
-            with open(path, encoding="utf-8") as it:
+            # (clang takes a C file with other bytes than UTF-8 in a comment)
+            with open(path, encoding="utf-8", errors="replace") as it:
                 texts[path] = it.read().split("\n")
-    except (OSError, ValueError) as bad:
+    except (OSError, RecursionError, ValueError) as bad:
         print(f"show.py: {bad}", file=sys.stderr)
         return 2
     try:
         lines = shown(document, solutions, texts)
-    except (AttributeError, IndexError, KeyError, TypeError) as bad:
+    except (AttributeError, IndexError, KeyError, TypeError, ValueError) as bad:
         print(f"show.py: {given.solutions} does not fit {given.problems}: {bad}", file=sys.stderr)
         return 2
     if not lines:

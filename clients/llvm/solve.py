@@ -32,7 +32,7 @@ def main() -> int:
         library = solving.modsched.Library(given.library)
         with open(given.problems, encoding="utf-8") as it:
             document = json.load(it)
-    except (AttributeError, OSError, ValueError) as bad:  # (some other library has none of the functions)
+    except (AttributeError, OSError, RecursionError, ValueError) as bad:  # (some other library has none of the functions)
         print(f"solve.py: {bad}", file=sys.stderr)
         return 2
     try:

@@ -10,9 +10,10 @@ MOST_DEEP = 64  # instructions one after another that are followed
 MOST_SIZE = 64  # of a product that is multiplied out
 
 
-def _wrapped(number: int) -> int:
-    """A number as 64 bits with a sign hold it, since addresses wrap around."""
-    return (number + (1 << 63)) % (1 << 64) - (1 << 63)
+def _wrapped(number: int, bits: int = 64) -> int:
+    """A number as so many bits with a sign hold it, since addresses wrap around."""
+    half = 1 << (bits - 1)
+    return (number + half) % (2 * half) - half
 
 
 @dataclass(frozen=True)
@@ -42,6 +43,10 @@ class Linear:
             for two, of in other.terms:
                 found = found.plus(Linear(0, ((tuple(sorted(one + two, key=id)), by * of),)))
         return found
+
+    def within(self, bits: int) -> "Linear":
+        """This with a constant of 64 bits or fewer, as addresses of so many bits have it."""
+        return Linear(_wrapped(self.constant, min(bits, 64)), self.terms)
 
     @property
     def is_constant(self) -> bool:
@@ -123,10 +128,14 @@ class Inductions:
         start, step = base.start.plus(Linear(address.offset)), base.step
         for place, scale in address.scaled:
             index = self.of(value.operands[place])
-            if index is None or value.operands[place].type != "i64":
+            if index is None or self._bits(value.operands[place]) < self._bits(value):
+                # (it may wrap around where the address does not)
                 return self._fixed(value)
             start, step = start.plus(index.start, scale), step.plus(index.step, scale)
         return Affine(start, step)
+
+    def _bits(self, value: Value) -> int:
+        return self.loop.function.bits_of(value.type)
 
     def _computed(self, value: Instruction) -> Affine | None:
         one, two = map(self.of, value.operands)
@@ -184,6 +193,11 @@ def exit_of(loop: Loop, inductions: Inductions) -> Exit:
 
 
 def _is_counted(value: Value, inductions: Inductions) -> bool:
-    """Whether a value goes on by a step that is a constant."""
+    """Whether a value, which may be made shorter or longer for the test, goes on by a step that is a constant."""
+    bits_of = inductions.loop.function.bits_of
+    bits = bits_of(value.type)
+    while isinstance(value, Instruction) and value.opcode in ("trunc", "zext", "sext"):
+        value = value.operands[0]
+        bits = min(bits, bits_of(value.type))
     found = inductions.of(value)
-    return found is not None and found.step.is_constant and found.step.constant != 0
+    return found is not None and found.step.is_constant and found.step.constant % (1 << bits) != 0

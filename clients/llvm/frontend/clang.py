@@ -60,7 +60,7 @@ def to_ir(path: str, flags: Sequence[str] = ()) -> str:
         raise NoClang(f"{command()} is of version {version()}, and llvmlite reads up to version {known}: apt-get install clang-{known}, or name one by CLANG")
     text = run([*flags_with(flags), "-S", "-emit-llvm", "-o", "-", path])
     if not text:
-        raise NoClang(f"clang makes nothing of {path}: it is no C file")
+        raise NoClang(f"clang makes nothing of {path}: it is no C file" + (f", or {' '.join(flags)} keeps clang from it" if flags else ""))
     return text
 
 

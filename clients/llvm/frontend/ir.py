@@ -1,6 +1,7 @@
 """Functions of LLVM IR as plain data: what the front end has to know of them."""
 from __future__ import annotations
 
+import re
 from dataclasses import dataclass, field
 
 
@@ -20,6 +21,11 @@ class Constant(Value):
     """A number. Pointers are numbers too, and what is undefined is 0."""
 
     number: int | float
+
+
+@dataclass(eq=False, repr=False)
+class Unknown(Value):
+    """A constant of which no more is known than how LLVM prints it."""
 
 
 @dataclass(eq=False, repr=False)
@@ -82,11 +88,19 @@ class Block:
 
 @dataclass(eq=False, repr=False)
 class Function:
-    """A function with a body; its first block is where it begins."""
+    """A function with a body; its first block is where it begins. `widths`: by address spaces, how many bits an address is computed with."""
 
     name: str
     arguments: list[Argument]
     blocks: list[Block]
+    widths: dict[int, int]
+
+    def bits_of(self, of: str) -> int:
+        """How many bits a whole number or an address of a type is computed with; 0 of other types."""
+        if of.endswith("*"):
+            space = re.search(r"addrspace\((\d+)\)\*$", of)
+            return self.widths.get(int(space[1]) if space else 0, self.widths[0])
+        return int(of[1:]) if re.fullmatch(r"i\d+", of) else 0
 
     def users(self) -> dict[Value, list[Instruction]]:
         """Of each value the instructions that have it as an operand, once for each time."""

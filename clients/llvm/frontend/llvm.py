@@ -3,6 +3,7 @@ from __future__ import annotations
 
 import ctypes
 import os
+import re
 
 import llvmlite.binding as binding
 
@@ -39,6 +40,7 @@ successor_count = _function("LLVMGetNumSuccessors", _NUMBER, _REFERENCE)
 successor = _function("LLVMGetSuccessor", _REFERENCE, _REFERENCE, _NUMBER)
 block_value = _function("LLVMBasicBlockAsValue", _REFERENCE, _REFERENCE)
 constant_opcode = _function("LLVMGetConstOpcode", ctypes.c_int, _REFERENCE)
+assembly = _function("LLVMIsAInlineAsm", _REFERENCE, _REFERENCE)
 called = _function("LLVMGetCalledValue", _REFERENCE, _REFERENCE)
 is_volatile = _function("LLVMGetVolatile", ctypes.c_int, _REFERENCE)
 ordering = _function("LLVMGetOrdering", ctypes.c_int, _REFERENCE)
@@ -47,6 +49,8 @@ _file = _function("LLVMGetDebugLocFilename", ctypes.c_void_p, _REFERENCE, ctypes
 _name = _function("LLVMGetValueName2", ctypes.c_void_p, _REFERENCE, ctypes.POINTER(ctypes.c_size_t))
 _print_value = _function("LLVMPrintValueToString", ctypes.c_void_p, _REFERENCE)
 _print_type = _function("LLVMPrintTypeToString", ctypes.c_void_p, _REFERENCE)
+_intrinsic = _function("LLVMLookupIntrinsicID", _NUMBER, ctypes.c_char_p, ctypes.c_size_t)
+_intrinsic_name = _function("LLVMIntrinsicGetName", ctypes.c_void_p, _NUMBER, ctypes.POINTER(ctypes.c_size_t))
 _dispose = _function("LLVMDisposeMessage", None, ctypes.c_void_p)
 
 # kinds of values (LLVMValueKind)
@@ -87,6 +91,22 @@ def file_of(value: int) -> str:
     return ctypes.string_at(found, size.value).decode(errors="replace") if found else ""
 
 
+def is_intrinsic(name: str) -> bool:
+    """Whether an intrinsic has a name, which is without types."""
+    text, size = name.encode(), ctypes.c_size_t()
+    number = _intrinsic(text, len(text))
+    # (LLVM finds one where types, or anything, follow its name)
+    return number != 0 and ctypes.string_at(_intrinsic_name(number, size), size.value) == text
+
+
 def constant_float(value: int) -> float:
     """The number of a constant of a floating-point type."""
     return broken_number(value, ctypes.c_int())
+
+
+def widths_of(layout: str) -> dict[int, int]:
+    """By address spaces, how many bits an address is computed with, as the text of a data layout says. Spaces that are not there are as 0."""
+    found = {0: 64}
+    for space, size, index in re.findall(r"(?:^|-)p(\d*):(\d+)(?::\d+)?(?::\d+)?(?::(\d+))?", layout):
+        found[int(space or 0)] = int(index or size)
+    return found

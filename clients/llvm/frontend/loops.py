@@ -3,7 +3,7 @@ from __future__ import annotations
 
 from dataclasses import dataclass, field
 
-from .ir import Block, Function, Instruction, Value, incoming
+from .ir import Block, Constant, Function, Instruction, Unknown, Value, incoming
 from .reader import MEMORY
 
 
@@ -137,23 +137,41 @@ def line_of(header: Block, blocks: list[Block]) -> tuple[str, int]:
     return "", 0
 
 
+def _is_vector(value: Value) -> bool:
+    """Whether a value is a vector, and not a packed struct without a name, which begins with an angle too, nor a pointer to either."""
+    return value.type.startswith("<") and not value.type.startswith("<{") and not value.type.endswith("*")
+
+
 def _has_parts(value: Value) -> bool:
     """Whether a value is a struct or an array, whose parts are taken by numbers that are no operands."""
-    return value.type[:1] in ("{", "[", "%") and not value.type.endswith("*")
+    return value.type.startswith(("{", "[", "%", "<{")) and not value.type.endswith("*")
+
+
+def _can_trap(one: Instruction) -> bool:
+    """Whether an instruction may trap where it is done though its condition does not hold: a division whose divisor may be 0, or -1."""
+    if one.opcode.startswith(("llvm.sdiv.", "llvm.udiv.")):
+        return True
+    divisor = one.operands[1] if one.opcode in ("sdiv", "udiv", "srem", "urem") else Constant("1", "", 1)
+    return not isinstance(divisor, Constant) or divisor.number == 0 or divisor.number == -1 and one.opcode[0] == "s"
 
 
 def _refuse_instructions(blocks: list[Block]) -> None:
     for one in (one for block in blocks for one in block.instructions):
         if one.opcode.startswith("call "):
             raise LeftOut(f"it calls {one.opcode[5:]}")
+        if one.opcode == "asm":
+            raise LeftOut("it has assembly")
         if one.is_volatile or one.opcode in ("fence", "atomicrmw", "cmpxchg"):
             raise LeftOut("it has a volatile or atomic access")
         if one.opcode in ("alloca", "va_arg"):
             raise LeftOut(f"it has {one.opcode}")
-        if "<" in one.type or any("<" in it.type for it in one.operands):
+        if any(map(_is_vector, (one, *one.operands))):
             raise LeftOut("it has vectors")
-        if any(_has_parts(it) for it in (one, *one.operands)):
+        if any(map(_has_parts, (one, *one.operands))):
             raise LeftOut("it has values of several parts")
+        unknown = next((it for it in one.operands if isinstance(it, Unknown)), None)
+        if unknown is not None:
+            raise LeftOut(f"it has the operand {unknown.name}")
 
 
 def _latch_of(header: Block, blocks: list[Block]) -> Block:
@@ -183,7 +201,7 @@ def _convert(loop: Loop, inner: Block) -> None:
     test = loop.header.last
     wanted = loop.header.successors[0] is inner
     for one in inner.instructions:
-        if one.opcode in ("sdiv", "udiv", "srem", "urem") or one.opcode.startswith(("llvm.sdiv.", "llvm.udiv.")):
+        if _can_trap(one):
             raise LeftOut("it divides under a condition")
         if one.opcode in MEMORY:
             loop.guards[one] = Guard(test.operands[0], wanted)

@@ -10,6 +10,9 @@ from .ir import Instruction
 from .patterns import BadTerm, Match, Term, match, parse
 
 
+MOST_SCALE = 1 << 32
+
+
 class BadMachine(Exception):
     """What is wrong with a machine file."""
 
@@ -107,7 +110,54 @@ def _terms(table: dict, key: str, what: str) -> tuple[Term, ...]:
     try:
         return tuple(parse(_checked(it, str, f"{what}.{key}")) for it in _checked(table.get(key, []), list, f"{what}.{key}"))
     except BadTerm as bad:
-        raise BadMachine(f"{what}.{key}: {bad} is no term") from bad
+        raise BadMachine(f"{what}.{key}: {bad}") from bad
+
+
+def _single_terms(table: dict, key: str) -> list[Term]:
+    """The terms of free or lacks."""
+    found = list(_terms(table, key, "machine"))
+    for text, term in zip(table.get(key, []), found):
+        if term.instructions > 1:
+            raise BadMachine(f"machine.{key}: {text} has {term.instructions} instructions, and not one")
+        if key == "free" and term.opcode in ("load", "store", "br", "copy"):
+            raise BadMachine(f"machine.{key}: {term.opcode} is never free")
+    return found
+
+
+def _offsets(table: dict, terms: tuple[Term, ...], latency: int, name: str) -> dict[str, int]:
+    """The offsets of a kind. Those of the kind `default` may have any letter."""
+    what = f"kinds.{name}.offsets"
+    offsets = _checked(table.get("offsets", {}), dict, what)
+    letters = [it.letters for it in terms]
+    for leaf, offset in offsets.items():
+        if not re.fullmatch("[a-z]|guard", leaf):
+            raise BadMachine(f"{what}: {leaf} is no letter, nor guard")
+        if not 0 <= _checked(offset, int, f"{what}.{leaf}") < latency:
+            raise BadMachine(f"{what}.{leaf} is not from 0 to below the latency")
+        if leaf == "guard" and name != "default" and not any(it.opcode == "store" for it in terms):
+            raise BadMachine(f"{what}: guard is for stores, and kinds.{name}.of has none")
+        if leaf != "guard" and name != "default" and not any(it is None or leaf in it for it in letters):
+            raise BadMachine(f"{what}: {leaf} is in no term of kinds.{name}.of")
+    return offsets
+
+
+def _refuse_twice(tables: dict[str, tuple[Term, ...] | list[Term]]) -> None:
+    """Raises BadMachine where a term is there twice, so that the second one is for nothing. The tables are named by their keys."""
+    seen: dict[Term, str] = {}
+    for key, terms in tables.items():
+        for term in terms:
+            if term in seen:
+                raise BadMachine(f"{key}: {term} is there twice" if seen[term] == key else f"{key}: {term} is in {seen[term]} too")
+            seen[term] = key
+
+
+def _alternatives(table: dict, units: list[str], what: str) -> tuple[tuple[tuple[str, int], ...], ...]:
+    alternatives = []
+    for holds in _needed(table, "alternatives", list, f"{what}.alternatives"):
+        found = [_hold(it, units, f"{what}.alternatives") for it in _checked(holds, list, f"an alternative of {what}")]
+        alternatives.append(tuple(_listed(found, 16, f"holds of an alternative of {what}")))
+    _within(len(alternatives), 1, 16, f"the number of {what}.alternatives")
+    return tuple(alternatives)
 
 
 def _kind(name: str, table: Any, units: list[str], files: dict[str, int]) -> Kind:
@@ -115,27 +165,20 @@ def _kind(name: str, table: Any, units: list[str], files: dict[str, int]) -> Kin
     unknown = set(_checked(table, dict, what)) - {"of", "latency", "alternatives", "file", "offsets"}
     if unknown:
         raise BadMachine(f"{what}: {min(unknown)} is no key of a kind")
-    alternatives = []
-    for holds in _needed(table, "alternatives", list, f"{what}.alternatives"):
-        found = [_hold(it, units, f"{what}.alternatives") for it in _checked(holds, list, f"an alternative of {what}")]
-        alternatives.append(tuple(_listed(found, 16, f"holds of an alternative of {what}")))
-    _within(len(alternatives), 1, 16, f"the number of {what}.alternatives")
+    alternatives = _alternatives(table, units, what)
     file = _checked(table.get("file", next(iter(files))), str, f"{what}.file")
     if file not in files:
         raise BadMachine(f"{what}: there is no file {file}")
     latency = _within(_needed(table, "latency", int, f"{what}.latency"), 1, 64, f"{what}.latency")
-    offsets = _checked(table.get("offsets", {}), dict, f"{what}.offsets")
-    for leaf, offset in offsets.items():
-        if not re.fullmatch("[a-z]|guard", leaf):
-            raise BadMachine(f"{what}.offsets: {leaf} is no letter, nor guard")
-        if not 0 <= _checked(offset, int, f"{what}.offsets.{leaf}") < latency:
-            raise BadMachine(f"{what}.offsets.{leaf} is not from 0 to below the latency")
-    return Kind(name, _terms(table, "of", what), latency, tuple(alternatives), file, offsets)
+    terms = _terms(table, "of", what)
+    return Kind(name, terms, latency, alternatives, file, _offsets(table, terms, latency, name))
 
 
 def _files(table: dict) -> dict[str, int]:
     found = {}
     for name, registers in _needed(table, "files", dict, "files").items():
+        if isinstance(registers, str) and registers != "unallotted":
+            raise BadMachine(f'files.{name} is {registers!r}, and neither a number of registers nor "unallotted"')
         found[_named(name, "files")] = 0 if registers == "unallotted" else _within(registers, 1, 256, f"files.{name}")
     _within(len(found), 1, 8, "the number of files")
     return found
@@ -147,6 +190,8 @@ def machine_of(text: str) -> Machine:
         table = tomllib.loads(text)
     except tomllib.TOMLDecodeError as bad:
         raise BadMachine(str(bad)) from bad
+    except RecursionError as deep:
+        raise BadMachine("its tables or lists are too deep in one another") from deep
     unknown = set(table) - {"name", "units", "files", "kinds", "counter", "addresses", "free", "lacks"}
     if unknown:
         raise BadMachine(f"{min(unknown)} is no key of a machine")
@@ -156,13 +201,11 @@ def machine_of(text: str) -> Machine:
     addresses = _checked(table.get("addresses", {}), dict, "addresses")
     if set(addresses) - {"affine", "scales"}:
         raise BadMachine(f"{min(set(addresses) - {'affine', 'scales'})} is no key of addresses")
-    scales = [_checked(it, int, "one of addresses.scales") for it in _checked(addresses.get("scales", []), list, "addresses.scales")]
-    free, lacks = (list(_terms(table, it, "machine")) for it in ("free", "lacks"))
-    for term in [*free, *lacks]:
-        if term.instructions > 1:
-            raise BadMachine(f"machine: a term of free or lacks has {term.instructions} instructions, and not one")
-        if term in free and term.opcode in ("load", "store", "br", "copy"):
-            raise BadMachine(f"machine.free: {term.opcode} is never free")
+    scales = [_within(it, 1, MOST_SCALE, "one of addresses.scales") for it in _checked(addresses.get("scales", []), list, "addresses.scales")]
+    free, lacks = (_single_terms(table, it) for it in ("free", "lacks"))
+    of = {f"kinds.{name}.of": it.terms for name, it in kinds.items()}
+    _refuse_twice({"machine.free": free, "machine.lacks": lacks})
+    _refuse_twice({"machine.lacks": lacks, **of})
     return Machine(
         _named(_needed(table, "name", str, "name"), "name"), units, files, kinds, _checked(table.get("counter", False), bool, "counter"),
         _checked(addresses.get("affine", False), bool, "addresses.affine"), scales, free, lacks,
@@ -174,5 +217,5 @@ def read_machine(path: str) -> Machine:
     try:
         with open(path, encoding="utf-8") as it:
             return machine_of(it.read())
-    except UnicodeDecodeError as bad:
+    except (BadMachine, UnicodeDecodeError) as bad:
         raise BadMachine(f"{path}: {bad}") from bad

@@ -11,6 +11,7 @@ from .machine import Kind, Machine
 from .patterns import Match, type_of
 from .reader import MEMORY
 
+SAME_BITS = ("trunc", "bitcast", "freeze", "ptrtoint", "inttoptr")
 MOST_DISTANCE = 16  # iterations between a value and a read of it, the most that modsched takes
 
 
@@ -70,11 +71,6 @@ class Operation:
         """The reads, each once, in order."""
         every = [*self.operands.values(), *([self.guard[0]] if self.guard else [])]
         return list(dict.fromkeys(it for it in every if isinstance(it, Read)))
-
-
-def _has_all_bits(one: Instruction, operand: Value) -> bool:
-    """Whether a free instruction has all the bits of its one operand, so that its result goes on by the same step."""
-    return len(one.operands) == 1 and (operand.type == "i64" or operand.type.endswith("*"))
 
 
 class _Again(Exception):
@@ -182,11 +178,16 @@ class Selection:
         if is_address and self.machine.folds_affine and self.inductions.of(value) is not None:
             return self._moving(operation, value)
         if value.opcode != "phi" and self.machine.is_free(value):
-            return self._folded(operation, value, offset, lambda it: self._operand(operation, it, offset, is_address and _has_all_bits(value, it)))
+            return self._folded(operation, value, offset, lambda it: self._operand(operation, it, offset, is_address and self._has_its_bits(value, it)))
         if is_address and self._is_indexed(value):
             return self._folded(operation, value, offset, lambda it: self._operand(operation, it, offset, False))
         maker, distance = self._maker(value)
         return Read(maker, distance, offset)
+
+    def _has_its_bits(self, one: Instruction, operand: Value) -> bool:
+        """Whether a free instruction only gives the bits of its operand, all of them or the low ones, so that it goes on by itself where that does."""
+        bits_of = self.loop.function.bits_of
+        return one.opcode in SAME_BITS and bits_of(operand.type) >= bits_of(one.type) > 0
 
     def _moving(self, operation: Operation, value: Value) -> Operand:
         """A part of an address that goes on by itself."""

@@ -7,16 +7,18 @@ from .affine import Affine, Inductions, Linear
 from .ir import Argument, Global, Instruction, Value
 
 MOST_DISTANCE = 255  # of an order, the most that modsched takes
-FAR = 1 << 32  # bytes: by steps of so many, addresses may come round at 64 bits
+LEAST_BITS = 32  # of addresses that are compared: those of fewer bits come round after a few iterations
 
 
 @dataclass(frozen=True)
 class Access:
-    """A load or store: the number of its operation, its address, and how many bytes it reaches. `lands`: cycles from the issue of a store to its landing."""
+    """A load or store: the number of its operation, its address, which is computed with so many bits, and how many bytes it reaches. `lands`: cycles from the
+    issue of a store to its landing."""
 
     operation: int
     instruction: Instruction
     address: Affine | None
+    bits: int
     base: Value | None
     is_store: bool
     lands: int
@@ -39,7 +41,9 @@ class Order:
 def access_of(number: int, instruction: Instruction, inductions: Inductions, lands: int) -> Access:
     """The access of an operation's load or store."""
     pointer = instruction.operands[-1]
-    return Access(number, instruction, inductions.of(pointer), base_of(pointer, inductions), instruction.opcode == "store", lands)
+    bits = inductions.loop.function.bits_of(pointer.type)
+    address = inductions.of(pointer) if bits >= LEAST_BITS else None
+    return Access(number, instruction, address, bits, base_of(pointer, inductions), instruction.opcode == "store", lands)
 
 
 def base_of(pointer: Value, inductions: Inductions) -> Value | None:
@@ -86,9 +90,11 @@ def least_distance(one: Access, other: Access, least: int) -> int | None:
         return None
     if one.address is None or other.address is None or one.address.step != other.address.step:
         return least
-    gap, step = one.address.start.plus(other.address.start, -1), one.address.step
-    if not gap.is_constant or not step.is_constant or max(abs(gap.constant), abs(step.constant)) >= FAR:
-        return _same_iteration(gap, step, one, other, least)
+    bits = min(one.bits, other.bits)
+    gap, step = one.address.start.plus(other.address.start, -1).within(bits), one.address.step.within(bits)
+    far = 1 << bits // 2  # bytes: by steps of so many, addresses may soon come round
+    if not gap.is_constant or not step.is_constant or abs(step.constant) >= far:
+        return _same_iteration(gap, one, other, least)
     # they meet where -other.size < step * d - gap < one.size
     low, high, by = gap.constant - other.size + 1, gap.constant + one.size - 1, step.constant
     if by < 0:
@@ -99,7 +105,7 @@ def least_distance(one: Access, other: Access, least: int) -> int | None:
     return distance if distance * by <= high else None
 
 
-def _same_iteration(gap: Linear, step: Linear, one: Access, other: Access, least: int) -> int:
+def _same_iteration(gap: Linear, one: Access, other: Access, least: int) -> int:
     """Where the step is not known, or is far: in one iteration the two may still be known to be apart."""
     if gap.is_constant and not -other.size < -gap.constant < one.size:
         return max(least, 1)

@@ -12,14 +12,21 @@ import re
 from dataclasses import dataclass
 from typing import Callable
 
+from . import llvm
 from .ir import Instruction, Value
 
+# How many operands the instructions have that a term may name. Those of getelementptr and of intrinsics have several numbers of them.
+OPERANDS = dict.fromkeys("add sub mul udiv sdiv urem srem shl lshr ashr and or xor fadd fsub fmul fdiv frem icmp fcmp store".split(), 2)
+OPERANDS |= dict.fromkeys("fneg freeze trunc zext sext fptrunc fpext fptoui fptosi uitofp sitofp ptrtoint inttoptr bitcast addrspacecast load br copy".split(), 1)
+OPERANDS |= {"select": 3}
+TYPE = r"(i[1-9]\d*|half|bfloat|float|double|fp128|x86_fp80|ppc_fp128)\**"
+MOST_BRACKETS = 16  # of a term
 # Their first two operands may change places.
 COMMUTE = {"add", "mul", "and", "or", "xor", "fadd", "fmul", "llvm.smax", "llvm.smin", "llvm.umax", "llvm.umin", "llvm.sadd.sat", "llvm.uadd.sat"}
 
 
 class BadTerm(Exception):
-    """A term that can't be read."""
+    """A term that can't be read, or that nothing matches: which, and why."""
 
 
 @dataclass(frozen=True)
@@ -31,10 +38,26 @@ class Term:
     operands: tuple["Term", ...] | None
     name: str = ""
 
+    def __str__(self) -> str:
+        of = f":{self.type}" if self.type else ""
+        return (self.name or self.opcode) + of + ("" if self.operands is None else f"({','.join(map(str, self.operands))})")
+
     @property
     def instructions(self) -> int:
         """How many instructions a match has."""
         return 0 if self.name else 1 + sum(it.instructions for it in self.operands or ())
+
+    @property
+    def letters(self) -> str | None:
+        """The letters of its operands, each as often as it is there; None where it is not known how many it has."""
+        if self.name:
+            return self.name
+        if self.operands is None and self.opcode not in OPERANDS:
+            return None
+        listed = [it.letters for it in self.operands or ()]
+        if None in listed:
+            return None
+        return "".join(listed) + "".join(chr(ord("a") + it) for it in range(len(listed), OPERANDS.get(self.opcode, len(listed))))
 
     @property
     def types(self) -> int:
@@ -52,10 +75,15 @@ class Match:
 
 def parse(text: str) -> Term:
     """The term of a text. Raises BadTerm."""
+    if text.count("(") > MOST_BRACKETS:
+        raise BadTerm(f"{text[:MOST_BRACKETS]}.. has more than {MOST_BRACKETS} brackets")
     term, rest = _term(re.findall(r"[\w.*]+|\S", text), text)
     letters = _letters(term)
     if rest or term.name or len(set(letters)) < len(letters):
-        raise BadTerm(text)
+        raise BadTerm(f"{text} is no term")
+    _refuse_unmatched(term, text)
+    if sum(_accesses(term)) > 1:
+        raise BadTerm(f"{text} has more than one load or store")
     return term
 
 
@@ -64,25 +92,48 @@ def _letters(term: Term) -> list[str]:
     return [term.name] if term.name else [name for it in term.operands or () for name in _letters(it)]
 
 
+def _accesses(term: Term) -> list[bool]:
+    """Of each instruction of a term whether it is a load or store."""
+    return [term.opcode in ("load", "store"), *(it for one in term.operands or () for it in _accesses(one))]
+
+
+def _refuse_unmatched(term: Term, text: str, is_inner: bool = False) -> None:
+    """Raises BadTerm for a term that no instruction matches."""
+    if term.type and not re.fullmatch(TYPE, term.type):
+        raise BadTerm(f"{text}: {term.type} is no type of a number")
+    if term.name:
+        return
+    if term.opcode not in OPERANDS and term.opcode != "getelementptr" and not llvm.is_intrinsic(term.opcode):
+        raise BadTerm(f"{'' if text == term.opcode else f'{text}: '}{term.opcode} is no opcode of an operation")
+    if len(term.operands or ()) > OPERANDS.get(term.opcode, len(term.operands or ())):
+        raise BadTerm(f"{text}: {term.opcode} has {len(term.operands)} operands, and not {OPERANDS[term.opcode]}")
+    if is_inner and term.opcode in ("store", "br", "copy"):
+        raise BadTerm(f"{text}: {term.opcode} gives no operand of an instruction")
+    if term.opcode == "br" and term.type:
+        raise BadTerm(f"{text}: {term.opcode} has no type")
+    for it in term.operands or ():
+        _refuse_unmatched(it, text, True)
+
+
 def _term(words: list[str], text: str) -> tuple[Term, list[str]]:
     if not words or not re.match(r"[\w.]", words[0]):
-        raise BadTerm(text)
+        raise BadTerm(f"{text} is no term")
     word, rest, of, operands = words[0], words[1:], "", None
     if rest[:1] == [":"]:
         if len(rest) < 2:
-            raise BadTerm(text)
+            raise BadTerm(f"{text} is no term")
         of, rest = rest[1], rest[2:]
     if rest[:1] == ["("]:
         found = []
         while rest[:1] != [")"]:
             if rest[:1] not in (["("], [","]):
-                raise BadTerm(text)
+                raise BadTerm(f"{text} is no term")
             term, rest = _term(rest[1:], text)
             found.append(term)
         operands, rest = tuple(found), rest[1:]
     if re.fullmatch("[a-z]", word):
         if operands is not None:
-            raise BadTerm(text)
+            raise BadTerm(f"{text} is no term")
         return Term("", of, None, word), rest
     return Term(word, of, operands), rest
 

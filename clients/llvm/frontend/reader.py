@@ -7,10 +7,11 @@ import re
 import llvmlite.binding as binding
 
 from . import llvm
-from .ir import Address, Argument, Block, Constant, Function, Global, Instruction, Value
+from .ir import Address, Argument, Block, Constant, Function, Global, Instruction, Unknown, Value
 
 IGNORED = ("llvm.dbg.", "llvm.lifetime.", "llvm.assume", "llvm.experimental.noalias.scope.decl")
 MEMORY = ("load", "store")
+BRANCHES = ("indirectbr", "callbr", "invoke", "catchswitch", "catchret", "cleanupret")  # whose blocks are not read
 USUAL_NAN = " 0x7FF8000000000000"  # as LLVM prints it, for both types: a float of Python does not keep the bits of another NaN
 
 
@@ -27,6 +28,7 @@ class _FunctionReader:
 
     def __init__(self, module: binding.ModuleRef, function: binding.ValueRef, computing: set[str]):
         self.layout = llvm.layout_of(ctypes.cast(module._ptr, ctypes.c_void_p))
+        self.widths = llvm.widths_of(module.data_layout)
         self.computing = computing
         self.function = function
         self.values: dict[int, Value] = {}
@@ -45,7 +47,7 @@ class _FunctionReader:
             self._fill(one, reference)
         for block, _ in made:
             block.instructions = [it for it in block.instructions if not it.opcode.startswith(IGNORED)]
-        return Function(self.function.name, arguments, [block for block, _ in made])
+        return Function(self.function.name, arguments, [block for block, _ in made], self.widths)
 
     def _name(self, reference: int) -> str:
         name = llvm.name_of(reference)
@@ -73,6 +75,8 @@ class _FunctionReader:
     def _fill(self, one: Instruction, reference: int) -> None:
         """Gives an instruction all but its name, type and opcode."""
         one.line, one.file = llvm.line_of(reference), llvm.file_of(reference)
+        if one.opcode in BRANCHES:
+            raise Unread(one.opcode)
         count = llvm.operand_count(reference)
         operands = [llvm.operand(reference, it) for it in range(count)]
         if one.opcode == "phi":
@@ -137,21 +141,23 @@ class _FunctionReader:
             return Global(f"@{llvm.name_of(reference)}", of, size)
         if kind == llvm.EXPRESSION and llvm.constant_opcode(reference) in llvm.OPCODES:
             return self._expression(reference, of)
-        raise Unread(f"the operand {llvm.printed(reference).strip().partition(chr(10))[0]}")
+        return Unknown(llvm.printed(reference).strip().partition("\n")[0], of)
 
-    def _expression(self, reference: int, of: str) -> Instruction:
-        """A constant that is told as an instruction, in no block."""
+    def _expression(self, reference: int, of: str) -> Instruction | Unknown:
+        """A constant that is told as an instruction, in no block, where all of it is known."""
         operands = [llvm.operand(reference, it) for it in range(llvm.operand_count(reference))]
         one = Instruction(llvm.printed(reference), of, llvm.OPCODES[llvm.constant_opcode(reference)])
         if one.opcode == "getelementptr":
             one.address = self._address(reference, operands)
         one.operands = [self._value(it) for it in operands]
-        return one
-
+        return Unknown(one.name, of) if any(isinstance(it, Unknown) for it in one.operands) else one
 
     def _callee(self, reference: int) -> str:
-        """The opcode of a call: `call` and a name, or of an intrinsic that only computes its name without types."""
-        name = llvm.name_of(llvm.called(reference)) or "a pointer"
+        """The opcode of a call: `call` and a name, of an intrinsic that only computes its name without types, and of assembly `asm`."""
+        called = llvm.called(reference)
+        if llvm.assembly(called):
+            return "asm"
+        name = llvm.name_of(called) or "a pointer"
         plain = re.sub(r"(\.[ipfv]\d+\w*)+$", "", name)
         return plain if name in self.computing or name.startswith(IGNORED) else f"call {plain if name.startswith('llvm.') else name}"
 
@@ -161,15 +167,24 @@ def _computing(module: binding.ModuleRef) -> set[str]:
     return {it.name for it in module.functions if it.name.startswith("llvm.") and any(b"readnone" in words.split() for words in it.attributes)}
 
 
+def _parsed(text: str, context: binding.ContextRef) -> binding.ModuleRef:
+    """The module of a text. Raises Unread where LLVM refuses it."""
+    module = None
+    try:
+        module = binding.parse_assembly(text, context)
+        module.verify()
+    except RuntimeError as bad:
+        if module is not None:
+            module.close()
+        raise Unread(f"LLVM refuses the IR: {' '.join(str(bad).split())}") from bad
+    return module
+
+
 def read_functions(text: str) -> list[tuple[str, Function | Unread]]:
     """The functions of a module that have bodies, in order; in place of one that is not known in full, why. Raises Unread where LLVM does not read the text."""
     context = binding.create_context()  # (in a context of its own, the names of types are as they stand in the text)
+    module = _parsed(text, context)
     try:
-        module = binding.parse_assembly(text, context)
-    except RuntimeError as bad:
-        raise Unread(f"what LLVM does not read: {bad}") from bad
-    try:
-        module.verify()
         computing = _computing(module)
         return [(it.name, _read(module, it, computing)) for it in module.functions if not it.is_declaration]
     finally:

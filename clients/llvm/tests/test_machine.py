@@ -123,13 +123,34 @@ class Machines(unittest.TestCase):
             ("c = 1", "sum = 1", "kinds.mac.offsets: sum is no letter"), ("units =", "free = true\nunits =", "machine.free is not of the type list"),
             ("units =", 'counter = "no"\nunits =', "counter is not of the type bool"), ("units =", "addresses = { afine = true }\nunits =", "afine is no key of addresses"),
             ("units =", 'addresses = { affine = "no" }\nunits =', "addresses.affine is not"), ("units =", 'addresses = { scales = ["4"] }\nunits =', "one of addresses.scales is not"),
-            ("units =", 'lacks = ["add(mul)"]\nunits =', "has 2 instructions, and not one"), ("units =", 'free = ["load"]\nunits =', "load is never free"),
+            ("units =", 'lacks = ["add(mul)"]\nunits =', "add.mul. has 2 instructions, and not one"), ("units =", 'free = ["load"]\nunits =', "load is never free"),
+            ('"sub"', '"subb"', "kinds.add.of: subb is no opcode of an operation"), ('"sub"', '"sub(adc(a,b),c)"', "adc is no opcode"), ('"sub"', '"phi"', "phi is no opcode"),
+            ('"sub"', '"llvm.smaxx"', "llvm.smaxx is no opcode"), ('"sub"', '"llvm.smax.i32"', "llvm.smax.i32 is no opcode"), ('"sub"', '"sub:int"', "sub:int: int is no type"),
+            ('"sub"', '"sub(a:i0)"', "i0 is no type"), ('"sub"', '"sub(a,b,c)"', "sub has 3 operands, and not 2"), ('"sub"', '"br:i1"', "br has no type"),
+            ('"sub"', '"sub(store)"', "store gives no operand"), ('"sub"', '"load(load)"', "more than one load or store"), ('"sub"', f'"{"sub(" * 5000}"', "more than 16 brackets"),
+            ('"sub"', '"sub", "add"', "kinds.add.of: add is there twice"), ('"mul:i64"', '"add"', "kinds.multiply.of: add is in kinds.add.of too"),
+            ("units =", 'lacks = ["sub"]\nunits =', "kinds.add.of: sub is in machine.lacks too"), ("units =", 'free = ["sext"]\nlacks = ["sext"]\nunits =', "sext is in machine.free too"),
+            ("c = 1", "d = 1", "kinds.mac.offsets: d is in no term of kinds.mac.of"), ("c = 1", "guard = 1", "guard is for stores, and kinds.mac.of has none"),
+            ("units =", "addresses = { scales = [0] }\nunits =", "one of addresses.scales is 0, and not 1 to"), ('"unallotted"', '"8"', "neither a number of registers nor"),
+            ("units =", f"more = {'[' * 5000}\nunits =", "too deep in one another"),
         ]
         for old, new, said in changes:
             with self.subTest(new):
                 self.assertIn(old, MACHINE)
                 with self.assertRaisesRegex(BadMachine, said):
                     machine_of(MACHINE.replace(old, new, 1))
+
+    def test_offsets(self):
+        """Letters that a term lists, those of operands that it does not list, and any of an intrinsic and of the default."""
+        more = '[kinds.{}]\nof = [{}]\nlatency = 9\nalternatives = [["a"]]\noffsets = {{ {} = 1 }}\n'
+        for name, term, letter in [
+            ("it", '"xor(x,and)"', "x"), ("it", '"xor(x,and)"', "b"), ("it", '"select"', "c"), ("it", '"llvm.smin"', "b"), ("it", '"store"', "guard"), ("default", "", "e"), ("default", "", "guard"),
+        ]:
+            with self.subTest(name, term=term, letter=letter):
+                self.assertEqual(machine_of(MACHINE + more.format(name, term, letter)).kinds[name].offsets, {letter: 1})
+        for term, letter in [('"xor(x,and)"', "c"), ('"xor(x,y)"', "a"), ('"load"', "b"), ('"load"', "guard")]:
+            with self.subTest(term, letter=letter):
+                self.assertRaises(BadMachine, machine_of, MACHINE + more.format("it", term, letter))
 
     def test_no_text(self):
         """A file that is not UTF-8."""

@@ -28,16 +28,16 @@ after:
 STORE_LATENCY = 2
 
 
-def analysed(lines: str) -> tuple[loops.Loop, affine.Inductions]:
-    """The loop with these instructions."""
-    function = reader.read_functions(LOOP.format(lines.strip().replace("\n", "\n  ")))[0][1]
+def analysed(lines: str, layout: str = "") -> tuple[loops.Loop, affine.Inductions]:
+    """The loop with these instructions, for a machine with a data layout."""
+    function = reader.read_functions(f'target datalayout = "{layout}"\n' + LOOP.format(lines.strip().replace("\n", "\n  ")))[0][1]
     loop = loops.loop_of(function, *loops.innermost(function)[0])
     return loop, affine.Inductions(loop)
 
 
-def orders_of(lines: str) -> list[tuple[int, int, int, int]]:
+def orders_of(lines: str, layout: str = "") -> list[tuple[int, int, int, int]]:
     """The orders of a loop's accesses, which are counted from 0, as (first, to, delay, distance). Loads take 3 cycles, stores 2."""
-    loop, inductions = analysed(lines)
+    loop, inductions = analysed(lines, layout)
     accesses = [it for it in loop.body if it.opcode in reader.MEMORY]
     found = [orders.access_of(place, it, inductions, STORE_LATENCY if it.opcode == "store" else 3) for place, it in enumerate(accesses)]
     return [(it.first, it.to, it.delay, it.distance) for it in orders.orders_of(found)]
@@ -140,6 +140,41 @@ class Distances(unittest.TestCase):
         self.assertEqual(len(orders_of(lines + "%x = load i32, i32* %xp\nstore i32 1, i32* %yp\n")), 2)
 
 
+class Widths(unittest.TestCase):
+    """Addresses of 32 bits and of 16."""
+
+    def two(self, layout: str, gap: int, of: str = "i32", index: str = "%j") -> list[tuple[int, int, int, int]]:
+        """A load of p[index], and a store to the number that stands so many after it."""
+        lines = f"%a = add {of} {index}, {gap}\n%xp = getelementptr i32, i32* %p, {of} {index}\n%yp = getelementptr i32, i32* %p, {of} %a\n"
+        return orders_of(lines + "%x = load i32, i32* %xp\nstore i32 1, i32* %yp\n", layout)
+
+    def test_narrow_pointers(self):
+        """An index of 32 bits wraps around where addresses of 32 bits do, and not where those of 64 bits do."""
+        both = [(0, 1, -1, 0), (1, 0, 2, 1)]
+        self.assertEqual(self.two("p:32:32", 4), [(1, 0, 2, 4)])
+        self.assertEqual(self.two("p:64:64:64:32", 4), [(1, 0, 2, 4)], "so many bits of an address are computed")
+        self.assertEqual(self.two("p:64:64", 4), both)
+        self.assertEqual(self.two("p:16:16", 4), both, "a few iterations later, addresses of 16 bits come round")
+        self.assertEqual(self.two("p:32:32", 4, "i64", "%i"), [(1, 0, 2, 4)], "the upper half of an index is cut off")
+
+    def test_come_round(self):
+        """2^30 numbers of 4 bytes after a number stands the same one, where addresses have 32 bits."""
+        self.assertEqual(self.two("p:32:32", 1 << 30), [(0, 1, -1, 0)])
+        self.assertEqual(self.two("p:32:32", (1 << 30) + 4), [(1, 0, 2, 4)])
+        self.assertEqual(self.two("p:32:32", (1 << 30) + 4, "i64", "%i"), [(1, 0, 2, 4)])
+        self.assertEqual(self.two("p:64:64", 1 << 30, "i64", "%i"), [(1, 0, 2, 255)])
+        # by 2^14 numbers in each iteration, they come round after 65536 of them
+        lines = "%a = shl i32 %j, {}\n%xp = getelementptr i32, i32* %p, i32 %a\n%yp = getelementptr i32, i32* %xp, i32 1\n%x = load i32, i32* %xp\nstore i32 1, i32* %yp\n"
+        self.assertEqual([len(orders_of(lines.format(it), "p:32:32")) for it in (13, 14)], [0, 2])
+
+    def test_spaces(self):
+        """Of the space of addresses 270, on x86-64, those have 32 bits."""
+        lines = "%a = add i32 %j, 4\n%xp = getelementptr i32, i32 addrspace(270)* null, i32 %j\n%yp = getelementptr i32, i32 addrspace(270)* null, i32 %a\n"
+        lines += "%x = load i32, i32 addrspace(270)* %xp\nstore i32 1, i32 addrspace(270)* %yp\n"
+        self.assertEqual(orders_of(lines, "p270:32:32"), [(1, 0, 2, 4)])
+        self.assertEqual(len(orders_of(lines, "p271:32:32")), 2)
+
+
 class Bases(unittest.TestCase):
     def test_pointers(self):
         both = [(0, 1, -1, 0), (1, 0, 2, 1)]
@@ -177,6 +212,21 @@ class Steps(unittest.TestCase):
     def test_exit(self):
         loop, inductions = analysed("")
         self.assertFalse(affine.exit_of(loop, inductions).goes_on)
+
+    def test_narrow_test(self):
+        """What is compared may be made shorter or longer for it, as long as it goes on by some step: of 2^32, 32 bits have none."""
+        for made, of, is_counted in [
+            ("trunc i64 %next to i32", "i32", True), ("sext i32 %jnext to i64", "i64", True), ("zext i32 %jnext to i64", "i64", True),
+            ("trunc i64 %far to i32", "i32", False), ("mul i32 %jnext, %jnext", "i32", False),
+        ]:
+            with self.subTest(made):
+                text = LOOP.format("%far = shl i64 %i, 32").replace("%last = icmp eq i64 %next, %n", f"%t = {made}\n  %last = icmp eq {of} %t, 77")
+                function = reader.read_functions(text)[0][1]
+                loop = loops.loop_of(function, *loops.innermost(function)[0])
+                if is_counted:
+                    self.assertEqual(affine.exit_of(loop, affine.Inductions(loop)).test.name, "%last")
+                else:
+                    self.assertRaises(loops.LeftOut, affine.exit_of, loop, affine.Inductions(loop))
 
 
 if __name__ == "__main__":

@@ -8,11 +8,13 @@ import unittest
 import common  # (it says where the others are)
 import cases
 import plain
-from frontend import problem
+from frontend import problem, reader
+from frontend.ir import Block
 from frontend.machine import machine_of
+from meaning import to_bytes
 from memory import Memory, Outside
 from overlapped import Overlapped, Wrong
-from sequential import Run
+from sequential import LoopRun, Run
 
 TRIP = 17
 
@@ -45,9 +47,72 @@ def operation(problem: dict, opcode: str) -> str:
     return next(it["name"] for it in problem["operations"] if it["instructions"][-1]["opcode"] == opcode)
 
 
+# a loop in a loop, where what the inner one moves on goes on from where it stood; right after it another one begins
+AGAIN = """
+define i64 @f(i32* %p, i64 %n) {
+entry:
+  br label %outer
+outer:
+  %o = phi i64 [ 0, %entry ], [ %o1, %third ]
+  %from = phi i64 [ 0, %entry ], [ %i1, %third ]
+  br label %first
+first:
+  %i = phi i64 [ %from, %outer ], [ %i1, %first ]
+  %k = phi i64 [ 0, %outer ], [ %k1, %first ]
+  %pp = getelementptr i32, i32* %p, i64 %i
+  %x = load i32, i32* %pp
+  %y = mul i32 %x, 3
+  store i32 %y, i32* %pp
+  %i1 = add i64 %i, 1
+  %k1 = add i64 %k, 1
+  %last = icmp eq i64 %k1, %n
+  br i1 %last, label %second, label %first
+second:
+  %j = phi i64 [ 0, %first ], [ %j1, %second ]
+  %qp = getelementptr i32, i32* %p, i64 %j
+  %u = load i32, i32* %qp
+  %v = add i32 %u, 7
+  store i32 %v, i32* %qp
+  %j1 = add i64 %j, 1
+  %done = icmp eq i64 %j1, %n
+  br i1 %done, label %third, label %second
+third:
+  %o1 = add i64 %o, 1
+  %end = icmp eq i64 %o1, 3
+  br i1 %end, label %after, label %outer
+after:
+  ret i64 %i1
+}
+"""
+
+
 class Found(unittest.TestCase):
     def test_right(self):
         self.assertTrue(is_right(*found_of("filters.c", "comb")))
+
+    def test_run_again(self):
+        """A loop that is run several times begins anew each time, and so does one that follows it at once."""
+        target = common.machine("four")
+        function = reader.read_functions(AGAIN)[0][1]
+        document = problem.document(target, *problem.problems_of([("f", function)], target, "f.c"))
+        headers, ran = {it.name: it for it in function.blocks}, []
+
+        def counted(its: dict) -> LoopRun:
+            overlapped = Overlapped(document["machine"], its, plain.solution(document["machine"], its))
+
+            def run_loop(run: Run, before: Block, header: Block) -> Block:
+                ran.append(header.name)
+                return overlapped(run, before, header)
+
+            return run_loop
+
+        found = []
+        for loops in ({headers[it["source"]["header"]]: counted(it) for it in document["problems"]}, {}):
+            memory = Memory()
+            at = memory.add(b"".join(to_bytes(it, "i32") for it in range(15)))
+            found.append((Run(function, memory, {}, loops=loops).call([at, 5]), bytes(memory.pieces[0][1])))
+        self.assertEqual(ran, ["%first", "%second"] * 3)
+        self.assertEqual(found[0], found[1])
 
     def test_late_reads(self):
         """A store whose value and condition are read after its issue."""

@@ -48,7 +48,7 @@ offsets = { c = 1 }
 """
 NO_COUNTER = MACHINE.replace("counter = true", "counter = false") + '[kinds.branch]\nof = ["br"]\nlatency = 1\nalternatives = [["x"]]\n'
 LOOP = """
-declare void @use(i32)
+declare i64 @llvm.bswap.i64(i64)
 define i32 @f(i32* noalias %p, i16* noalias %q, i32* noalias %r, i64 %n, i32 %k) {
 entry:
   br label %loop
@@ -65,9 +65,9 @@ after:
 """
 
 
-def lines_of(phis: str, lines: str, result: str = "0", machine: str = MACHINE) -> list[str]:
+def lines_of(phis: str, lines: str, result: str = "0", machine: str = MACHINE, layout: str = "") -> list[str]:
     """The lines of the loop's problem between its head and its end."""
-    found, left_out = document_of(phis, lines, result, machine)
+    found, left_out = document_of(phis, lines, result, machine, layout)
     if left_out:
         raise AssertionError(left_out)
     its = list(text.problem_lines(found[0]))
@@ -75,9 +75,9 @@ def lines_of(phis: str, lines: str, result: str = "0", machine: str = MACHINE) -
     return its[1:-1]
 
 
-def document_of(phis: str, lines: str, result: str = "0", machine: str = MACHINE) -> tuple[list, list]:
+def document_of(phis: str, lines: str, result: str = "0", machine: str = MACHINE, layout: str = "") -> tuple[list, list]:
     """The problems and what is left out."""
-    given = LOOP.replace("PHIS", phis.strip()).replace("LINES", lines.strip()).replace("RESULT", result)
+    given = f'target datalayout = "{layout}"' + LOOP.replace("PHIS", phis.strip()).replace("LINES", lines.strip()).replace("RESULT", result)
     return problem.problems_of(reader.read_functions(given), machine_of(machine), "f.c")
 
 
@@ -181,6 +181,21 @@ class ByHand(unittest.TestCase):
                 found = [it for it in lines_of(phis, lines, machine=machine) if it.startswith(("op", "read"))]
                 wanted = ["op f:store store", "op f:add add", "read f:store %b distance 1 offset 0", "read f:add %b distance 1 offset 0"]
                 self.assertEqual(found, wanted if of == "i32" else wanted[:1])
+
+    def test_narrow_pointer(self):
+        """Where addresses have 32 bits, a number of 32 bits that goes on makes one that does."""
+        machine = MACHINE.replace('"trunc"', '"trunc", "inttoptr", "zext:i64(a:i32)"')
+        lines = "%q0 = inttoptr i32 %a to i32*\nstore i32 %k, i32* %q0\n%b = add i32 %a, 12"
+        for layout, count in (("p:32:32", 1), ("p:64:64", 2)):
+            found = lines_of("%a = phi i32 [ 0, %entry ], [ %b, %loop ]", lines, machine=machine, layout=layout)
+            self.assertEqual(len([it for it in found if it.startswith("op")]), count)
+
+    def test_turned_address(self):
+        """An address that is made of turned bytes does not go on by itself, also where turning costs nothing."""
+        machine = MACHINE.replace('"trunc"', '"trunc", "inttoptr", "llvm.bswap"')
+        lines = "%w = call i64 @llvm.bswap.i64(i64 %i)\n%q0 = inttoptr i64 %w to i32*\nstore i32 %k, i32* %q0"
+        found = lines_of("", lines, machine=machine)
+        self.assertEqual([it for it in found if it.startswith("read")], ["read f:store %next distance 1 offset 0", "read f:add %next distance 1 offset 0"])
 
     def test_index_at_the_issue(self):
         """An index that is a part of a load's term is read at the issue, when the load looks at memory, whatever the offsets say."""

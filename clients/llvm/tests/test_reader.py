@@ -5,6 +5,7 @@ import unittest
 
 import common  # (it says where the others are)
 from frontend import affine, loops, problem, reader
+from frontend.ir import Unknown
 
 TYPES = """
 %pair = type { i8, i32, [4 x i16] }
@@ -41,8 +42,13 @@ class Reading(unittest.TestCase):
         self.assertEqual(last.operands, [read.arguments[3]])
 
     def test_unknown_operand(self):
-        text = "define <2 x i32> @f(<2 x i32> %x) {\n %y = add <2 x i32> %x, <i32 1, i32 2>\n ret <2 x i32> %y\n}\n"
-        self.assertIsInstance(function(text), reader.Unread)
+        """What is not known of a constant does not keep the rest of a function from being read; a constant that is made of it is not known either."""
+        text = "@other = alias i32, i32* @table\n@table = global i32 0\ndefine i8 @f(<2 x i32> %x) {\n %y = add <2 x i32> %x, <i32 1, i32 2>\n"
+        text += " %z = load i8, i8* getelementptr (i8, i8* bitcast (i32* @other to i8*), i64 1)\n ret i8 %z\n}\n"
+        sum_, load, _ = function(text).blocks[0].instructions
+        self.assertIsInstance(sum_.operands[1], Unknown)
+        self.assertEqual(repr(sum_.operands[1]), "<2 x i32> <i32 1, i32 2>")
+        self.assertIsInstance(load.operands[0], Unknown)
 
     def test_calls(self):
         """An intrinsic that computes has its name without types, one that does more is a call, and what is only told to the compiler is dropped."""
@@ -59,7 +65,7 @@ class Reading(unittest.TestCase):
     def test_wide_numbers(self):
         """A constant of more than 64 bits is not read, rather than cut off."""
         text = "define i128 @f(i128 %x) {\n %y = add i128 %x, 36893488147419103233\n ret i128 %y\n}\n"
-        self.assertIsInstance(function(text), reader.Unread)
+        self.assertIsInstance(function(text).blocks[0].instructions[0].operands[1], Unknown)
 
     def test_no_number(self):
         """Of what is no number, only the usual bits are read: a text could not tell the others from them, and they can be looked at in memory."""
@@ -67,15 +73,22 @@ class Reading(unittest.TestCase):
             for bits, is_read in (("7FF8000000000000", True), ("FFF8000000000000", False), ("7FF8000020000000", False), ("7FF0000020000000", False)):
                 with self.subTest(f"{of} {bits}"):
                     found = function(f"define void @f({of}* %p) {{\n store {of} 0x{bits}, {of}* %p\n ret void\n}}\n")
-                    self.assertEqual(isinstance(found, reader.Unread), not is_read)
+                    self.assertEqual(isinstance(found.blocks[0].instructions[0].operands[0], Unknown), not is_read)
 
-    def test_one_line(self):
-        """What is not known is told in one line."""
+    def test_branches(self):
+        """A function whose blocks are not all read is told in a word."""
         text = "define void @f(i8* %p) {\n indirectbr i8* %p, [label %a]\na:\n fence seq_cst\n ret void\n}\n"
-        self.assertNotIn("\n", str(function(text)))
+        self.assertIsInstance(function(text), reader.Unread)
+        self.assertEqual(str(function(text)), "indirectbr")
 
-    def test_no_text(self):
-        self.assertRaises(reader.Unread, reader.read_functions, "define i32 @f( {")
+    def test_refused(self):
+        """What LLVM refuses is told in one line: what is no IR, and IR whose values are used before they are made."""
+        early = "define i32 @f() {\n %x = add i32 %y, 1\n %y = add i32 1, 1\n ret i32 %x\n}\n"
+        for text, said in (("define i32 @f( {", "expected type"), (early, "does not dominate")):
+            with self.subTest(said):
+                with self.assertRaisesRegex(reader.Unread, f"^LLVM refuses the IR: .*{said}") as it:
+                    reader.read_functions(text)
+                self.assertNotIn("\n", str(it.exception))
 
 
 NEST = """
@@ -167,13 +180,30 @@ class Loops(unittest.TestCase):
         self.assertEqual(self.left_out(text.replace("store i32 %y, i32* %p", "call void @g()") + "declare void @g()"), "it calls g")
         self.assertEqual(self.left_out(text.replace("icmp slt i32 %i1, %n", "icmp slt i32 %z, %n")), "its trip count is not known before it starts")
         self.assertEqual(self.left_out(text.replace("add i32 %i, 1", "add i32 %i, 0")), "its trip count is not known before it starts")
-        self.assertEqual(self.left_out(text.replace("%y = add", "%y = sdiv")), "it divides under a condition")
+        for division in ("sdiv i32 %i, %x", "sdiv i32 %i, -1", "urem i32 %i, 0"):
+            self.assertEqual(self.left_out(text.replace("add i32 %i, %x", division)), "it divides under a condition")
         parts = "%w = call { i32, i1 } @llvm.sadd.with.overflow.i32(i32 %i, i32 %x)\n  %y = extractvalue { i32, i1 } %w, 0"
         declared = "declare { i32, i1 } @llvm.sadd.with.overflow.i32(i32, i32)\n"
         self.assertEqual(self.left_out(text.replace("%y = add i32 %i, %x", parts) + declared), "it has values of several parts")
         self.assertEqual(self.left_out(text.replace("%y = add i32 %i, %x", "%y = extractvalue [2 x i32] undef, 1")), "it has values of several parts")
+        self.assertEqual(self.left_out(text.replace("store i32 %y, i32* %p", 'call void asm sideeffect "nop", ""()')), "it has assembly")
+        wide = text.replace("store i32 %y", "%b = add i128 undef, 36893488147419103233\n  store i32 %y")
+        self.assertEqual(self.left_out(wide), "it has the operand i128 36893488147419103233")
         fixed = "declare i32 @llvm.sdiv.fix.i32(i32, i32, i32 immarg) readnone\n"
         self.assertEqual(self.left_out(text.replace("%y = add i32 %i, %x", "%y = call i32 @llvm.sdiv.fix.i32(i32 %i, i32 %x, i32 4)") + fixed), "it divides under a condition")
+
+    def test_taken(self):
+        """Divisions by numbers that do not trap; and accesses by pointers to vectors, and to packed structs without a name, which begin with an angle both."""
+        text = CONDITION.replace("BRANCHES", "then, label %latch")
+        for given in ("sdiv i32 %i, 7", "srem i32 %i, -2", "udiv i32 %i, -1"):
+            read = function(text.replace("add i32 %i, %x", given))
+            self.assertEqual(len(loops.loop_of(read, *loops.innermost(read)[0]).body), 6, given)
+        for of, places in (("<{ i8, i32 }>", "i64 0, i32 1"), ("<4 x i32>", "i64 0, i64 1")):
+            lines = f"%v = bitcast i32* %p to {of}*\n  %w = getelementptr {of}, {of}* %v, {places}\n  store i32 %y, i32* %w"
+            read = function(text.replace("store i32 %y, i32* %p", lines))
+            self.assertEqual(len(loops.loop_of(read, *loops.innermost(read)[0]).body), 8, of)
+        for of, said in (("<{ i8, i32 }>", "it has values of several parts"), ("<4 x i32>", "it has vectors"), ("<4 x i32*>", "it has vectors")):
+            self.assertEqual(self.left_out(text.replace("store i32 %y, i32* %p", f"store {of} undef, {of}* null")), said)
 
 
 if __name__ == "__main__":

@@ -88,7 +88,7 @@ class Problems(unittest.TestCase):
         self.assertEqual((done.returncode, done.stdout), (2, ""))
         self.assertIn("clang refuses broken.c", done.stderr)
         done = run("problems.py", "--machine", written("bad.toml", "name = 3\n"), written("small.c", SMALL))
-        self.assertEqual((done.returncode, done.stderr), (2, "problems.py: units is missing\n"))
+        self.assertEqual((done.returncode, done.stderr), (2, "problems.py: bad.toml: units is missing\n"))
         done = run("problems.py", "small.c", PATH="/nowhere", CLANG="")
         self.assertEqual((done.returncode, done.stderr), (2, "problems.py: clang is not on the path: apt-get install clang-14, or name one by CLANG\n"))
 
@@ -96,6 +96,11 @@ class Problems(unittest.TestCase):
         """A file that clang takes for none of C, and one whose name is not UTF-8."""
         done = run("problems.py", written("small.txt", SMALL))
         self.assertEqual((done.returncode, done.stdout, done.stderr), (2, "", "problems.py: clang makes nothing of small.txt: it is no C file\n"))
+        done = run("problems.py", "--flag=-fsyntax-only", written("small.c", SMALL))
+        self.assertEqual(done.stderr, "problems.py: clang makes nothing of small.c: it is no C file, or -fsyntax-only keeps clang from it\n")
+        done = run("problems.py", written("early.ll", "define i32 @f() {\n %x = add i32 %y, 1\n %y = add i32 %x, 1\n ret i32 %x\n}\n"))
+        self.assertEqual((done.returncode, done.stdout), (2, ""))
+        self.assertIn("clang refuses early.ll", done.stderr)
         name = b"caf\xe9.c"
         with open(os.path.join(common.ROOM.encode(), name), "w", encoding="utf-8") as it:
             it.write(SMALL)
@@ -213,11 +218,42 @@ class Shown(unittest.TestCase):
         solution = {"name": "f", "interval": 1, "stages": 1, "times": {"elsewhere": 0}, "alternatives": {"elsewhere": 0}}
         for told, said in [
             ({"solutions": [solution]}, "s.json does not fit p.json: 'small.c:4:load'"), ({}, "s.json does not fit p.json: 'solutions'"),
+            ({"solutions": [{**solution, "interval": 0}]}, "s.json does not fit p.json: the interval of f is 0, and not 1 to 65536"),
+            ({"solutions": [{**solution, "interval": 10**30}]}, f"s.json does not fit p.json: the interval of f is {10**30}, and not 1 to 65536"),
             ({"solutions": []}, "no loop of these files has a solution in s.json"),
         ]:
             with self.subTest(said):
                 done = run("show.py", "p.json", written("s.json", json.dumps(told)), "small.c")
                 self.assertEqual((done.returncode, done.stdout, done.stderr), (2, "", f"show.py: {said}\n"))
+
+
+    def test_what_is_wrong_in_problems(self):
+        """A kind or a unit that is not there, no operations, and lists too deep in one another."""
+        document = json.loads(run("problems.py", written("small.c", SMALL)).stdout)
+        written("s.json", json.dumps(plain.solved(document)))
+        machine, its = document["machine"], document["problems"][0]
+        for given, said in [
+            ({**document, "machine": {**machine, "kinds": []}}, "show.py: s.json does not fit p.json: 'load'\n"),
+            ({**document, "machine": {**machine, "units": ["m"]}}, "show.py: s.json does not fit p.json: 's0' is not in list\n"),
+            ({**document, "problems": [{**its, "operations": []}]}, ""),
+        ]:
+            with self.subTest(said):
+                done = run("show.py", written("p.json", json.dumps(given)), "s.json", "small.c")
+                self.assertEqual((done.returncode, done.stderr), (2 if said else 0, said))
+        for words in (("show.py", "p.json", "s.json", "small.c"), ("solve.py", "--library", common.LIBRARY, "p.json")):
+            written("p.json", "[" * 100000)
+            done = run(*words)
+            self.assertEqual((done.returncode, len(done.stderr.splitlines())), (2, 1), done.stderr)
+
+    def test_other_bytes(self):
+        """A comment that is not UTF-8 does not keep the lines of C from being shown."""
+        path = os.path.join(common.ROOM, "latin.c")
+        with open(path, "wb") as it:
+            it.write(b"// caf\xe9\n" + SMALL.encode())
+        document = json.loads(run("problems.py", path).stdout)
+        written("p.json", json.dumps(document))
+        written("s.json", json.dumps(plain.solved(document)))
+        self.assertIn("s += x[i];", run("show.py", "p.json", "s.json", path).stdout)
 
 
 class Readme(unittest.TestCase):
