@@ -98,9 +98,6 @@ class Problems(unittest.TestCase):
         self.assertEqual((done.returncode, done.stdout, done.stderr), (2, "", "problems.py: clang makes nothing of small.txt: it is no C file\n"))
         done = run("problems.py", "--flag=-fsyntax-only", written("small.c", SMALL))
         self.assertEqual(done.stderr, "problems.py: clang makes nothing of small.c: it is no C file, or -fsyntax-only keeps clang from it\n")
-        done = run("problems.py", written("early.ll", "define i32 @f() {\n %x = add i32 %y, 1\n %y = add i32 %x, 1\n ret i32 %x\n}\n"))
-        self.assertEqual((done.returncode, done.stdout), (2, ""))
-        self.assertIn("clang refuses early.ll", done.stderr)
         name = b"caf\xe9.c"
         with open(os.path.join(common.ROOM.encode(), name), "w", encoding="utf-8") as it:
             it.write(SMALL)
