@@ -13,6 +13,7 @@ from .reader import MEMORY
 
 SAME_BITS = ("trunc", "bitcast", "freeze", "ptrtoint", "inttoptr")
 MOST_DISTANCE = 16  # iterations between a value and a read of it, the most that modsched takes
+MOST_FOLDED = 128  # instructions one after another that are folded into an operation
 
 
 @dataclass(frozen=True)
@@ -90,6 +91,7 @@ class Selection:
 
     def _is_chosen(self) -> bool:
         """Chooses all operations, unless some phi turns out to need a copy: then it is one of `copied`."""
+        self._depth = 0
         self.operations: dict[Instruction, Operation] = {}
         self.preloads: dict[tuple[Instruction, int], Value] = {}
         self.outs: dict[Value, Instruction] = {}
@@ -201,8 +203,12 @@ class Selection:
         """Makes an instruction part of an operation, once for each time at which it is needed, since what it reads has to be there at each of them."""
         if (one, when) not in operation.parts:
             part = replace(one, name=f"{one.name}.at.{when}") if one in operation.folded else one
+            self._depth += 1
+            if self._depth > MOST_FOLDED:
+                raise LeftOut(f"it has more than {MOST_FOLDED} instructions one after another that cost nothing")
             for place, it in enumerate(one.operands):
                 operation.operands[part, place] = operand_of(it)
+            self._depth -= 1
             operation.parts[one, when] = part
             operation.instructions.append(part)
             operation.folded.add(part)

@@ -273,6 +273,17 @@ after:
         self.assertEqual(document_of("", "")[1][0]["reason"], "it has no operations")
         self.assertEqual(len(document_of("", "", machine=NO_COUNTER)[0]), 1)
 
+    def test_long_free(self):
+        """So many instructions that cost nothing, one after another, and one more; what is in a row alone counts."""
+        machine, long = MACHINE.replace('"trunc"', '"xor"'), "it has more than 128 instructions one after another that cost nothing"
+        for count, reasons in ((128, []), (129, [long]), (2000, [long])):
+            lines = "%a0 = add i32 %k, 1\n" + "".join(f"%a{it + 1} = xor i32 %a{it}, %k\n" for it in range(count)) + STORE.format(f"%a{count}")
+            found = [it["reason"] for it in document_of("", lines, machine=machine)[1]]
+            self.assertEqual(found, reasons)
+        pairs = (f"%a{it} = xor i32 %x, {it}\n%b{it} = xor i32 %a{it}, %k\nstore i32 %b{it}, i32* %r\n" for it in range(100))
+        lines = LOAD + "".join(pairs)
+        self.assertEqual(document_of("", lines, machine=machine)[1], [])
+
     def test_limits(self):
         """129 additions one after another, and a name as long as names may be."""
         lines = "%a0 = add i32 %k, 1\n" + "".join(f"%a{it + 1} = add i32 %a{it}, %k\n" for it in range(128)) + STORE.format("%a128")
