@@ -181,6 +181,8 @@ def _latch_of(header: Block, blocks: list[Block]) -> Block:
         raise LeftOut(f"it has {len(latches)} edges back")
     if not leaving:
         raise LeftOut("it never ends")
+    if leaving == [header] != latches:
+        raise LeftOut("it is left at the beginning of an iteration")
     if leaving != latches:
         raise LeftOut("it is left in the middle of an iteration")
     return latches[0]

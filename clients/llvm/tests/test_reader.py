@@ -175,6 +175,8 @@ class Loops(unittest.TestCase):
         text = CONDITION.replace("BRANCHES", "then, label %latch")
         self.assertEqual(self.left_out(text.replace("br label %latch", "br i1 %t, label %latch, label %after")), "it is left in the middle of an iteration")
         self.assertEqual(self.left_out(text.replace("br i1 %s, label %head, label %after", "br label %head")), "it never ends")
+        early = text.replace("label %then, label %latch", "label %after, label %latch").replace("br i1 %s, label %head, label %after", "br label %head")
+        self.assertEqual(self.left_out(early), "it is left at the beginning of an iteration")
         self.assertEqual(self.left_out(text.replace("store i32", "store volatile i32")), "it has a volatile or atomic access")
         self.assertEqual(self.left_out(text.replace("store i32", "fence seq_cst\n  store i32")), "it has a volatile or atomic access")
         self.assertEqual(self.left_out(text.replace("store i32 %y, i32* %p", "call void @g()") + "declare void @g()"), "it calls g")
