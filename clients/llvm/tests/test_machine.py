@@ -144,7 +144,8 @@ class Machines(unittest.TestCase):
         """Letters that a term lists, those of operands that it does not list, and any of an intrinsic and of the default."""
         more = '[kinds.{}]\nof = [{}]\nlatency = 9\nalternatives = [["a"]]\noffsets = {{ {} = 1 }}\n'
         for name, term, letter in [
-            ("it", '"xor(x,and)"', "x"), ("it", '"xor(x,and)"', "b"), ("it", '"select"', "c"), ("it", '"llvm.smin"', "b"), ("it", '"store"', "guard"), ("default", "", "e"), ("default", "", "guard"),
+            ("it", '"xor(x,and)"', "x"), ("it", '"xor(x,and)"', "b"), ("it", '"select"', "c"), ("it", '"llvm.smin"', "b"),
+            ("it", '"store"', "guard"), ("default", "", "e"), ("default", "", "guard"),
         ]:
             with self.subTest(name, term=term, letter=letter):
                 self.assertEqual(machine_of(MACHINE + more.format(name, term, letter)).kinds[name].offsets, {letter: 1})
