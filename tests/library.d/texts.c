@@ -1,6 +1,6 @@
 /* Calls with texts: `texts COMMAND [TRIP] MACHINE LOOPS` writes what a call hands over, and ends with its status; `plain` has no MACHINE, and `run` and
- * `plain` have a TRIP. `texts rooms MACHINE LOOPS` tries rooms of each length round that of the listing, numbers out of their ranges and texts that are
- * refused; `texts threads MACHINE LOOPS` calls from two threads at once. Compiled with REFUSES, where the library's malloc, realloc and free are those below,
+ * `plain` have a TRIP. `texts rooms MACHINE LOOPS` tries rooms of each length round that of the listing, numbers out of their ranges, texts that are
+ * refused and loops without a kernel; `texts threads MACHINE LOOPS` calls from two threads at once. Compiled with REFUSES, where the library's malloc, realloc and free are those below,
  * `texts memory MACHINE LOOPS` refuses each growth of memory in turn. Those three end with 0 where all is well. */
 #include "modsched.h"
 
@@ -194,6 +194,22 @@ static void rooms(const struct given *well) {
     }
 }
 
+/* The two statuses with a text: each loop has a kernel; or of one register some loop has none, since its sum is carried on while another number is
+ * loaded. Without a search there is nothing that could fail. */
+static void statuses(const struct given *well) {
+    struct given it = *well;
+    struct modsched_told told;
+    uint8_t out[1 << 12];
+    int command;
+    for (command = 0; command < COMMANDS; command++)
+        expect(call((enum command)command, well, out, sizeof out, &told) == MODSCHED_PRINTED, NAMES[command]);
+    it.machine = literal("registers = 1\nunits = [\"mem\", \"alu\"]\n[ops.load]\nlatency = 3\nalts = [[\"mem@0\"]]\n"
+                         "[ops.store]\nlatency = 1\nalts = [[\"mem@0\"]]\n[ops.add]\nlatency = 1\nalts = [[\"alu@0\"]]\n");
+    for (command = 0; command < COMMANDS; command++)
+        expect(call((enum command)command, &it, out, sizeof out, &told) == (command <= RUN ? MODSCHED_UNMET : MODSCHED_PRINTED), NAMES[command]);
+    free(it.machine.bytes);
+}
+
 static void *often(void *given) {
     const struct given *it = (const struct given *)given;
     static const size_t room = 1 << 16;
@@ -264,7 +280,7 @@ int main(int count, char **words) {
     if (at >= count) return 99;
     it.loops = read_file(words[at]);
     if (command < COMMANDS) return print((enum command)command, &it);
-    if (strcmp(words[1], "rooms") == 0) rooms(&it);
+    if (strcmp(words[1], "rooms") == 0) rooms(&it), statuses(&it);
     else if (strcmp(words[1], "threads") == 0) threads(&it);
     else if (strcmp(words[1], "memory") == 0) memory(&it);
     else return 99;

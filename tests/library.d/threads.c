@@ -1,9 +1,10 @@
-/* Several threads call at once, on one problem and on different ones, each with arrays of its own: all get what one thread gets. */
+/* Several threads call at once, on one problem and on different ones, each with arrays of its own: all get what one thread gets. Each has a stack of
+ * 64 KiB, which docs/LIBRARY.md says is enough. */
 #include "worked.h"
 
 #include <pthread.h>
 
-enum { THREADS = 4, ROUNDS = 50 };
+enum { THREADS = 4, ROUNDS = 50, STACK = 64 << 10 };
 
 struct task {
     size_t first; /* the worked problem with which this thread begins */
@@ -30,11 +31,13 @@ static void *call(void *given) {
 
 int main(void) {
     pthread_t threads[THREADS];
+    pthread_attr_t small;
     struct task tasks[THREADS];
     size_t i;
+    if (pthread_attr_init(&small) != 0 || pthread_attr_setstacksize(&small, STACK) != 0) return 2;
     for (i = 0; i < THREADS; i++) {
         tasks[i].first = i / 2 * 5, tasks[i].is_wrong = 0;
-        if (pthread_create(&threads[i], NULL, call, &tasks[i]) != 0) return 2;
+        if (pthread_create(&threads[i], &small, call, &tasks[i]) != 0) return 2;
     }
     for (i = 0; i < THREADS; i++) {
         pthread_join(threads[i], NULL);

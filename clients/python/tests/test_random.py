@@ -64,13 +64,64 @@ def named(problem):
 
 
 def by_library(problem):
-    """What the library gives, as plain.solve gives it."""
+    """What the library gives, as plain.solve gives it, and of a schedule its stages and bounds."""
     try:
         found = LIBRARY.solve(named(problem), problem.ratio, problem.ceiling)
     except modsched.NoInterval as none:
         cause = none.cause if none.cause != "registers" else ("registers", int(none.file[1:]), int(none.value[1:]))
-        return none.interval, cause
-    return plain.Solution(found.interval, *[list(it.values()) for it in (found.times, found.alternatives, found.numbers)])
+        return (none.interval, cause), None
+    lists = [list(it.values()) for it in (found.times, found.alternatives, found.numbers)]
+    return plain.Solution(found.interval, *lists), (found.stages, found.resources, found.recurrences)
+
+
+# The kinds of breaks by the words of plain.first_broken, and which of their numbers come after the word. (`first` is `from`.)
+BREAKS = {
+    1: ("interval",),
+    3: ("number", "value"),
+    5: ("time", "operation"),
+    6: ("alternative", "operation"),
+    7: ("slot", "earlier", "operation", "unit", "residue"),
+    8: ("edge", "first", "to", "distance", "delay", "early"),
+    9: ("stage", "operation"),
+    10: ("registers", "file", "other", "value", "register_number"),
+}
+
+
+def judged(given, schedule):
+    """How the library judges: its stages, or what is broken first as plain.first_broken tells it, but for the cycle, and all numbers of the break."""
+    try:
+        return LIBRARY.check(given, schedule), None
+    except modsched.Broken as broken:
+        word, *names = BREAKS[broken.kind]
+        return (word, *(broken.numbers[name] for name in names)), broken.numbers
+
+
+def meet_there(problem, ii, times, numbers, told):
+    """Whether in the cycle that is told two instances of the two values, or of the one, live in the register that is told."""
+    lives, registers = plain.lives(problem, ii, times), problem.files[told["file"]]
+
+    def instances(value):
+        first, last = lives[value]
+        every = range(-(last // ii) - 1, told["cycle"] // ii + 1)
+        return {(value, it) for it in every if first <= told["cycle"] - it * ii <= last and (numbers[value] - it - told["register_number"]) % registers == 0}
+
+    one, other = instances(told["other"]), instances(told["value"])
+    return one and other and len(one | other) > 1
+
+
+def damaged(chance, problem, found):
+    """A solution with one number that is another, or with all times a number of stages later."""
+    lists = [list(it) for it in found[1:]]
+    ii = chance.choice([found.ii] * 8 + [found.ii + 1, 0])
+    roll = chance.random()
+    if roll < 0.1:
+        stages = chance.choice([1, 62, 63, 64, 16384])
+        lists[0] = [it + stages * found.ii for it in lists[0]]
+    elif roll < 0.95:
+        changed = chance.choice([it for it in lists if it])
+        at = chance.randrange(len(changed))
+        changed[at] = max(0, changed[at] + chance.choice([-2, -1, 1, 2, found.ii, 1048576]))
+    return plain.Solution(ii, *lists)
 
 
 class Random(unittest.TestCase):
@@ -79,11 +130,13 @@ class Random(unittest.TestCase):
         met, causes = 0, set()
         for seed in range(first, first + rounds):
             problem = any_problem(random.Random(seed))
-            wanted, found = plain.solve(problem), by_library(problem)
+            wanted, (found, besides) = plain.solve(problem), by_library(problem)
             self.assertEqual(found, wanted, f"seed {seed}: {problem}")
             if isinstance(wanted, plain.Solution):
                 met += 1
                 self.assertTrue(plain.is_lawful(problem, found), f"seed {seed}: {problem}")
+                stages = max(wanted.times) // wanted.ii + 1
+                self.assertEqual(besides, (stages, plain.resource_bound(problem), plain.recurrence_bound(problem)), f"seed {seed}: {problem}")
             else:
                 causes.add(wanted[1] if isinstance(wanted[1], str) else wanted[1][0])
         if rounds >= 200:
@@ -91,33 +144,41 @@ class Random(unittest.TestCase):
             self.assertLess(rounds // 4, met)
             self.assertLessEqual({"table", "budget", "registers"}, causes)
 
+    def test_defaults(self):
+        """At most 6 placements for each operation, and 64 intervals. Of these two problems one has another outcome with 5, and one with 7."""
+        for seed, other in [(1120, 5), (1768, 7)]:
+            given = named(any_problem(random.Random(seed)))
+            self.assertEqual(LIBRARY.solve(given), LIBRARY.solve(given, 6, 64))
+            self.assertNotEqual(LIBRARY.solve(given), LIBRARY.solve(given, other, 64), f"any_problem is another one, and seed {seed} tests nothing now")
 
     def test_judgements(self):
-        """A lawful schedule of which one number is another: both judge it alike."""
+        """A lawful schedule of which something is another: both judge it alike, and name the same thing that is broken first."""
         first, rounds = int(os.environ.get("MODSCHED_SEED", 1)), int(os.environ.get("MODSCHED_ROUNDS", 200))
-        lawful = broken = 0
+        lawful, broken = 0, set()
         for seed in range(first, first + rounds):
             chance = random.Random(seed)
             problem = any_problem(chance)
             found = plain.solve(problem)
             if not isinstance(found, plain.Solution):
                 continue
-            lists = [list(it) for it in found[1:]]
-            changed = chance.choice([it for it in lists if it])
-            at = chance.randrange(len(changed))
-            changed[at] = max(0, changed[at] + chance.choice([-2, -1, 1, 2, found.ii]))
-            ii, given = chance.choice([found.ii, found.ii, found.ii + 1]), named(problem)
-            wanted = plain.is_lawful(problem, plain.Solution(ii, *lists))
-            schedule = modsched.Schedule(ii, 0, 0, 0, *[dict(zip(names, it)) for names, it in zip((given.operations, given.operations, given.values), lists)])
-            try:
-                LIBRARY.check(given, schedule)
-                judged = True
-            except modsched.Broken:
-                judged = False
-            self.assertEqual(judged, wanted, f"seed {seed}: {schedule} of {problem}")
-            lawful, broken = lawful + wanted, broken + (not wanted)
+            given = named(problem)
+            for _ in range(3):
+                other = damaged(chance, problem, found)
+                wanted = plain.first_broken(problem, other) or max(other.times) // other.ii + 1
+                lists = [dict(zip(names, it)) for names, it in zip((given.operations, given.operations, given.values), other[1:])]
+                got, told = judged(given, modsched.Schedule(other.ii, 0, 0, 0, *lists))
+                what = f"seed {seed}: {other} of {problem}"
+                if told is None:
+                    self.assertEqual(got, wanted, what)
+                    lawful += 1
+                    continue
+                broken.add(got[0])
+                self.assertEqual(got, wanted[:-1] if got[0] == "registers" else wanted, what)
+                if got[0] == "registers":
+                    self.assertTrue(meet_there(problem, other.ii, other.times, other.numbers, told), what)
         if rounds >= 200:
-            self.assertLess(rounds // 20, min(lawful, broken))
+            self.assertLess(rounds // 20, lawful)
+            self.assertEqual(broken, {word for word, *_ in BREAKS.values()})
 
 
 if __name__ == "__main__":

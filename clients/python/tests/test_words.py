@@ -8,6 +8,7 @@ import unittest
 ROOT = os.path.dirname(os.path.dirname(os.path.dirname(os.path.dirname(os.path.realpath(__file__)))))
 sys.path.insert(0, os.path.join(ROOT, "clients", "python"))
 from modsched import AtFault, Broken, Library, NoInterval, Problem, Schedule  # noqa: E402
+from modsched.words import break_in_words  # noqa: E402
 
 LIBRARY = Library(os.path.join(ROOT, "out", "libmodsched.so"))
 
@@ -150,6 +151,56 @@ class Words(unittest.TestCase):
             self.assertRaises(ValueError, call)
         self.assertRaises(KeyError, LIBRARY.check, it, dataclasses.replace(LAWFUL, times={"first": 0}))
 
+    def test_defaults(self):
+        """What a part has that is not told: a read and an order are within the iteration, a file is not allotted, a value is not live at the end."""
+        it = pair()
+        it.order("second", "first", 0)
+        self.fault(it, "order 1: at distance 0 the first operation does not come before the second", 24, 0, (1, 0, 0))
+        it = pair()
+        it.read("s", "first")
+        self.fault(it, "read 2: at distance 0 the maker does not come before the reader", 19, 0, (2, 0, 0))
+        it = pair(8)
+        it.value("y", "first", 3, "plain")
+        self.assertEqual((it.files["plain"], it.values["y"]), (0, (0, 3, 0, 1)))
+        self.broken("value y: its file has no register of this number", 3, {"value": 2}, it, numbers={"x": 0, "s": 3, "y": 1})
+
+    def test_made_of_parts(self):
+        """A problem that is made of its parts, as numbers, knows their names too."""
+        it = pair()
+        other = Problem(*(getattr(it, part.name) for part in dataclasses.fields(it)))
+        self.assertEqual(LIBRARY.solve(other, 6, 4), LIBRARY.solve(it, 6, 4))
+        self.assertRaises(ValueError, other.unit, "adder")
+        other.read("s", "second", 2)
+        self.assertEqual(other.reads[-1], (1, 1, 2, 0))
+
+    def test_many(self):
+        """As many of each part as there may be, and what is wrong with the last of them."""
+        it = Problem()
+        for number in range(64):
+            it.unit(f"u{number}")
+        for number in range(8):
+            it.file(f"f{number}", 256)
+        for number in range(256):
+            it.kind(f"k{number}", 64, [[(f"u{63 - number % 64}", row) for row in range(16)]] * 16)
+        for number in range(128):
+            it.operation(f"o{number}", f"k{number + 128}")
+            for which in range(2):
+                it.value(f"v{2 * number + which}", f"o{number}", 64, f"f{number % 8}")
+        for number in range(2_048):
+            it.read(f"v{number % 256}", f"o{number % 128}", 1, 63)
+        for number in range(16_384):
+            it.order(f"o{number % 128}", f"o{number // 128}", -64, 255)
+        found = LIBRARY.solve(it)
+        self.assertEqual(LIBRARY.check(it, found), found.stages)
+        self.assertEqual((len(found.times), len(found.alternatives), len(found.numbers)), (128, 128, 256))
+        # (each unit is held for 16 cycles by two of the operations)
+        self.assertEqual((found.interval, found.resources), (32, 32))
+        times = {**found.times, "o127": 1_048_576}
+        with self.assertRaisesRegex(Broken, "^operation o127: the time is not 0 to 1,048,575$"):
+            LIBRARY.check(it, dataclasses.replace(found, times=times))
+        it.kinds["k255"] = (64, [*it.kinds["k255"][1][:15], [(0, 0)] * 2])
+        self.assertRaisesRegex(AtFault, "^kind k255, alternative 15, hold 1: it is the same as one before it$", LIBRARY.solve, it)
+
     def test_settings(self):
         for ratio, ceiling, words in [(0, 0, "ratio"), (65, 0, "ratio"), (1 << 64, 0, "ratio"), (-1, 0, "ratio"), (1, 256, "ceiling"), (1, -1, "ceiling")]:
             self.assertRaisesRegex(ValueError, f"^the {words} is not", LIBRARY.solve, pair(), ratio, ceiling)
@@ -161,6 +212,26 @@ class Words(unittest.TestCase):
         with self.assertRaises(NoInterval) as it:
             LIBRARY.solve(pair(4), ceiling=0)
         self.assertEqual(str(it.exception), "no interval up to 1 works: registers, s in ring")
+        # (of one register the sum needs another at each interval, since it is carried on)
+        with self.assertRaises(NoInterval) as it:
+            LIBRARY.solve(pair(1))
+        self.assertEqual((str(it.exception), it.exception.value), ("no interval up to 65 works: registers, s in ring", "s"))
+        # An operation that holds a unit in the cycles 0 and 1 collides with itself at an interval of 1, to which the other bound does not come.
+        other = pair(8)
+        other.kinds["load"] = (3, [[(0, 0), (0, 2)]])
+        with self.assertRaises(NoInterval) as it:
+            LIBRARY.solve(other, ceiling=0)
+        self.assertEqual((str(it.exception), it.exception.file, it.exception.value), ("no interval up to 2 works: table", None, None))
+
+    def test_other_order(self):
+        """The names of a schedule may stand in any order."""
+        backward = [dict(reversed(it.items())) for it in ({"first": 0, "second": 3}, {"first": 0, "second": 1}, LAWFUL.numbers)]
+        problem = pair(8)
+        problem.kinds["add"] = (1, [[(1, 0)], [(1, 0), (1, 4)]])
+        # (the second alternative holds the adder twice, and the interval is 3 then)
+        self.assertEqual(LIBRARY.check(problem, Schedule(3, 0, 0, 0, *backward)), 2)
+        self.assertRaises(KeyError, LIBRARY.check, problem, dataclasses.replace(LAWFUL, alternatives={"first": 0}))
+        self.assertRaises(KeyError, LIBRARY.check, problem, dataclasses.replace(LAWFUL, numbers={"x": 0}))
 
     def test_ranges(self):
         for interval in (0, 16_385, 1 << 64, -1):
@@ -184,6 +255,16 @@ class Words(unittest.TestCase):
         self.broken(words, 8, {"to": 1, "delay": 3, "early": 1}, times={"first": 0, "second": 2})
         words = "operation second comes 3 cycles too early after operation first"
         self.broken(words, 8, {"to": 1, "delay": 3, "early": 3}, times={"first": 3, "second": 3})
+        # The load may be issued 2 cycles before the sum at the most.
+        it = pair(8)
+        it.order("second", "first", -2, 1)
+        words = "operation first comes 2 cycles too early after operation second"
+        self.broken(words, 8, {"first": 1, "distance": 1, "delay": -2, "early": 2}, it, times={"first": 0, "second": 5})
+
+    def test_lengths(self):
+        """The client gives a number for each value and a time for each operation, so these come from other callers alone."""
+        self.assertEqual(break_in_words({}, 2, {}), "there is not one number for each value")
+        self.assertEqual(break_in_words({}, 4, {}), "there is not one time for each operation")
 
     def test_stages(self):
         self.broken("operation first is in stage 64 or later", 9, {}, times={"first": 64, "second": 67})
