@@ -5,7 +5,8 @@
  * and delays are in cycles; a distance is in iterations.
  *
  * Arrays. An array is a pointer and a length. No pointer may be null: an array without items needs a valid, aligned pointer too,
- * for example to an item that is not part of it. What is written (times, alternatives, numbers and the answer, or the verdict) must not overlap
+ * for example to an item that is not part of it. It has as many items as its length says, also where that is above its limit: arrays
+ * are read before their lengths are tested. What is written (times, alternatives, numbers and the answer, or the verdict) must not overlap
  * one another, nor anything that is read. The library keeps no pointer when a call returns.
  *
  * Threads. There is no state and nothing to set up: any number of threads may call at once, each with arrays of its own to write.
@@ -25,35 +26,46 @@
 extern "C" {
 #endif
 
-/* An operation holds a unit in the cycle `offset` (0 to 63) after its issue. */
+/* An operation holds a unit in the cycle `offset` (0 to 63) after its issue. No two operations, of whatever iterations, hold a unit in one cycle. */
 struct modsched_hold {
     uint32_t unit;
     uint32_t offset;
 };
 
-/* An alternative: 1 to 16 different holds. */
+/* An alternative, which is one way to issue an operation: 1 to 16 different holds. */
 struct modsched_alternative {
     const struct modsched_hold *holds;
     size_t count;
 };
 
-/* A kind of operations. */
+/* A kind of operations. Its latency is how long an operation takes, 1 to 64. No other operation waits for it: what waits is said by reads and orders.
+ * It counts for the order in which the search places operations, and for how long values that are live at the end last. Of the alternatives the
+ * first one is preferred: in each cycle that is tried the first that is free is taken. */
 struct modsched_kind {
-    uint64_t latency; /* from the issue to the landing of what is made, 1 to 64 */
+    uint64_t latency;
     const struct modsched_alternative *alternatives;
     size_t alternatives_count; /* 1 to 16 */
 };
 
-/* A value that each iteration makes. An operation may make none, one or several. */
+/* A value that each iteration makes; what one iteration makes is an instance of it. An operation may make none, one or several values.
+ *
+ * An instance lives from the cycle in which it lands to the cycle of its last read, both included, or in the first alone where it is never read. Of a
+ * value that is live at the end the last cycle is, in its iteration, at least interval * stages, and the one in which the last operation or value lands.
+ * While an instance lives no other one stands in its register: so none lands there in the cycle of the last read either.
+ *
+ * A value that is read at a distance above 0, or that is live at the end, has instances before iteration 0: as many as its greatest distance, and
+ * one at least. They have to be in their registers before cycle 0. For their sake each instance of such a value lives from the cycle `interval` of its
+ * iteration on, if it does not land sooner. */
 struct modsched_value {
     uint32_t maker; /* the operation that makes it */
-    uint32_t lands; /* how many cycles after its issue, 0 to 64 */
+    uint32_t lands; /* how many cycles after its maker's issue it lands, 0 to 64: it can be read from this cycle on */
     uint32_t out;   /* not 0 where it is live at the end */
     uint32_t file;  /* its register file */
 };
 
-/* An operation reads a value that was made `distance` (0 to 16) iterations ago, `offset` (0 to 63) cycles after its own issue.
- * What is read at distance 0 is made by an operation with a lower number. */
+/* An operation reads a value that was made `distance` (0 to 16) iterations ago, `offset` (0 to 63) cycles after its own issue, and not before it
+ * has landed: t(reader) + offset + interval * distance >= t(maker) + lands, where t is an issue time. What is read at distance 0 is made by
+ * an operation with a lower number. */
 struct modsched_read {
     uint32_t value;
     uint32_t reader;
@@ -61,7 +73,8 @@ struct modsched_read {
     uint32_t offset;
 };
 
-/* t(to) + interval * distance >= t(from) + delay. The delay is -64 to 64, the distance 0 to 255; at distance 0 `from` is below `to`. */
+/* An order between two operations that no read says, as between a store and a load: t(to) + interval * distance >= t(from) + delay. The delay is
+ * -64 to 64, the distance 0 to 255; at distance 0 `from` is below `to`. An operation may wait for its own instance of an earlier iteration. */
 struct modsched_order {
     uint32_t from;
     uint32_t to;
@@ -90,7 +103,7 @@ struct modsched_problem {
  * which this interface does not have.) */
 enum {
     MODSCHED_FAULT_COUNT = 1,            /* a count is out of range: the count (its part is `part`) */
-    MODSCHED_FAULT_REGISTERS = 4,        /* the registers of a file are not 1 to 256: file */
+    MODSCHED_FAULT_REGISTERS = 4,        /* the registers of a file are above 256: file */
     MODSCHED_FAULT_LATENCY = 5,          /* the latency of a kind is not 1 to 64: kind */
     MODSCHED_FAULT_ALTERNATIVES = 6,     /* the alternatives of a kind are not 1 to 16: kind */
     MODSCHED_FAULT_HOLDS = 7,            /* the holds of an alternative are not 1 to 16: kind, alternative */
@@ -113,7 +126,8 @@ enum {
     MODSCHED_FAULT_ORDER_BACKWARD = 24   /* at distance 0 the first operation does not come before the second: order */
 };
 
-/* What is wrong with a problem: the first thing that is. Counts come first, then the parts in the order of the struct. */
+/* What is wrong with a problem: the first thing that is. Counts come first, then the parts in the order of the struct, item by item, alternative by
+ * alternative and hold by hold. Of several faults of one of these the one with the least number is told. */
 struct modsched_fault {
     uint64_t kind; /* 0 for none */
     uint64_t part; /* with MODSCHED_FAULT_COUNT: 1 units, 2 files, 3 kinds, 4 operations, 5 values, 6 reads, 7 orders */
@@ -122,12 +136,12 @@ struct modsched_fault {
     uint64_t third;
 };
 
-/* Why an interval gives no schedule. */
+/* Why an interval gives no schedule. The operations are not named here; the command `solve` of the program names them. */
 enum {
     MODSCHED_CAUSE_TABLE = 1,    /* all alternatives of an operation collide with themselves */
-    MODSCHED_CAUSE_BUDGET = 2,   /* the placements of the budget are used up */
+    MODSCHED_CAUSE_BUDGET = 2,   /* an operation has no place when all placements are made */
     MODSCHED_CAUSE_STAGES = 3,   /* an operation is in stage 64 or later */
-    MODSCHED_CAUSE_REGISTERS = 4 /* no register is left */
+    MODSCHED_CAUSE_REGISTERS = 4 /* no register is left for a value */
 };
 
 /* Which argument of modsched_solve does not fit. */
@@ -163,19 +177,21 @@ enum {
 };
 
 /* Solves a problem. Intervals are tried from the answer's mii on, at most `ceiling` (0 to 255) above it, each with at most `ratio`
- * (1 to 64) placements for each operation; 6 and 64 are fair choices (the command `solve` takes 6 and 32). The schedule is that of the
- * least interval that gives one.
+ * (1 to 64) times as many placements as there are operations; 6 and 64 are fair choices (the command `solve` takes 6 and 32). The schedule is
+ * that of the least interval that gives one.
  *
  * With status 0, of each operation the issue time in its iteration (less than 64 intervals) is in `times` and the number of the
  * alternative in `alternatives`; both need room for as many items as there are operations. Of each value of a rotating file its
  * number is in `numbers`, which needs room for as many items as there are values: the instance of iteration i stands in the register
- * (number - i) modulo the registers of the file. The numbers of values of other files are 0. What is after these items stays as it
- * was, and with any other status all of the three arrays do. The answer is written with each status. */
+ * (number - i) modulo the registers of the file, also for an i below 0. The numbers of values of other files are 0. What is after these
+ * items stays as it was, and with any other status all of the three arrays do. The answer is written with each status. */
 uint32_t modsched_solve(const struct modsched_problem *problem, uint64_t ratio, uint64_t ceiling, uint64_t *times,
                         size_t times_count, uint64_t *alternatives, size_t alternatives_count, uint64_t *numbers,
                         size_t numbers_count, struct modsched_answer *answer);
 
-/* What a schedule breaks, in this order: where it breaks several, the first is told. `residue` is a cycle modulo the interval. */
+/* What a schedule breaks, in this order: where it breaks several, the first is told. Of several of one kind that is the first value, operation or
+ * file; of edges the one with the least `from`, `to`, `distance` and `delay`, in this order. `residue` is a cycle modulo the interval. An edge is an
+ * order, or a read: it goes from the maker of its value to the reader, with the delay `lands` less `offset`. */
 enum {
     MODSCHED_BREAK_INTERVAL = 1,     /* the interval is not 1 to 16,384 */
     MODSCHED_BREAK_NUMBER_COUNT = 2, /* there is not one number for each value */
@@ -186,7 +202,7 @@ enum {
     MODSCHED_BREAK_SLOT = 7,         /* `operation` takes a slot, `unit` at `residue`, that `earlier` has; both may be the same one */
     MODSCHED_BREAK_EDGE = 8,         /* t(to) + interval * distance is `early` cycles below t(from) + delay */
     MODSCHED_BREAK_STAGE = 9,        /* `operation` is in stage 64 or later */
-    MODSCHED_BREAK_REGISTER = 10     /* instances of the values `other` and `value`, or two of one, stand in one register of `file` in `cycle` */
+    MODSCHED_BREAK_REGISTER = 10     /* instances of the values `other` and `value`, or two of one, stand in `register_number` of `file` in `cycle` */
 };
 
 /* What a check tells. What does not belong to its status and kind is 0. */
@@ -206,7 +222,7 @@ struct modsched_verdict {
     uint64_t other;
     uint64_t file;
     uint64_t register_number;
-    uint64_t cycle;  /* from the beginning of iteration 0 */
+    uint64_t cycle;  /* from the beginning of iteration 0; the instance of `value` is that of iteration 0 */
     uint64_t misfit; /* status 2: 1, there are not as many times as alternatives */
     struct modsched_fault fault; /* status 5 */
 };
