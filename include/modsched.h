@@ -38,9 +38,9 @@ struct modsched_alternative {
     size_t count;
 };
 
-/* A kind of operations. Its latency is how long an operation takes, 1 to 64. No other operation waits for it: what waits is said by reads and orders.
- * It counts for the order in which the search places operations, and for how long values that are live at the end last. Of the alternatives the
- * first one is preferred: in each cycle that is tried the first that is free is taken. */
+/* A kind of operations. Its latency is how long an operation takes from its issue until it is done, 1 to 64. No other operation waits for that: what
+ * waits is said by reads and orders. It counts for the order in which the search places operations, and for how long values that are live at the end
+ * last. Of the alternatives the first one is preferred: in each cycle that is tried the first that is free is taken. */
 struct modsched_kind {
     uint64_t latency;
     const struct modsched_alternative *alternatives;
@@ -50,8 +50,9 @@ struct modsched_kind {
 /* A value that each iteration makes; what one iteration makes is an instance of it. An operation may make none, one or several values.
  *
  * An instance lives from the cycle in which it lands to the cycle of its last read, both included, or in the first alone where it is never read. Of a
- * value that is live at the end the last cycle is, in its iteration, at least interval * stages, and the one in which the last operation or value lands.
- * While an instance lives no other one stands in its register: so none lands there in the cycle of the last read either.
+ * value that is live at the end the last cycle, from the beginning of its iteration, is not below interval * stages, nor below the one in which the last
+ * operation of the iteration is done or its last value lands. While an instance lives no other one stands in its register: so none lands there in the
+ * cycle of the last read either.
  *
  * A value that is read at a distance above 0, or that is live at the end, has instances before iteration 0: as many as its greatest distance, and
  * one at least. They have to be in their registers before cycle 0. For their sake each instance of such a value lives from the cycle `interval` of its
@@ -144,7 +145,7 @@ enum {
     MODSCHED_CAUSE_REGISTERS = 4 /* no register is left for a value */
 };
 
-/* Which argument of modsched_solve does not fit. */
+/* Which argument of modsched_solve does not fit: of several the first of these. */
 enum {
     MODSCHED_MISFIT_RATIO = 1,
     MODSCHED_MISFIT_CEILING = 2,
