@@ -162,6 +162,21 @@ static void stages(void) {
     expect(breaks_edge(0, 1, 0, 64, 64), "an edge before that");
 }
 
+/* The sums in a file of their own. In it the second sum, from 2 to 6, stands in 2, and the first one, from 5 to 5, in 1: so that of the iteration before
+ * stands in 2 in cycle 3. */
+static void second_file(void) {
+    static const uint32_t files[] = {16, 16};
+    static struct modsched_value values[6];
+    size_t i;
+    take(TAPS);
+    for (i = 0; i < 6; i++) values[i] = it.problem.values[i], values[i].file = i < 4 ? 0 : 1;
+    it.problem.files = files, it.problem.files_count = 2, it.problem.values = values;
+    it.numbers[5] = 3;
+    expect(is_lawful(3), "two files");
+    it.numbers[5] = 2;
+    expect(breaks_register(1, 4, 5, 2, 3), "two values in one register of the second file");
+}
+
 /* The second sum, from 2 to 6, in 2: the second load of the second tap stands in 1 and lives in 4, that of the iteration before in 2, in cycle
  * 2. The first sum meets the second one too, but its number comes later; the loads before it stand in 2 in other cycles. */
 static void registers(void) {
@@ -175,6 +190,7 @@ static void registers(void) {
     /* A value from 2 to 8 in one of three registers: that of three iterations before lives to 2, and that of three later from 8 on. */
     take(named("initial values, few registers")), it.numbers[0] = 1;
     expect(breaks_register(0, 0, 0, 1, 2) || breaks_register(0, 0, 0, 1, 8), "two instances of one value in one register");
+    second_file();
     /* In the file that is not allotted two instances of the sum live at once, and that breaks nothing. */
     take(named("an unallotted sum"));
     expect(is_lawful(2), "two instances of one value in no register");
