@@ -40,7 +40,11 @@ def any_problem(chance):
     for _ in range(chance.choice([0, 0, 1, 3])):
         one, other = chance.randrange(count), chance.randrange(count)
         orders.append((one, other, chance.randint(-4, 6), chance.randint(0 if one < other else 1, 3)))
-    return plain.Problem(units, files, kinds, operations, values, reads, orders, chance.choice([1, 2, 6]), chance.choice([0, 2, 12]))
+    ratio, ceiling = chance.choice([1, 2, 6]), chance.choice([0, 2, 12])
+    if chance.random() < 0.1:
+        # (such an operation collides with itself at the intervals 1, 2, 3 and 6, so that "table" comes now and then)
+        kinds[operations[0]], ceiling = (1, [[(0, 0), (0, 6)]]), 0
+    return plain.Problem(units, files, kinds, operations, values, reads, orders, ratio, ceiling)
 
 
 def named(problem):
@@ -110,17 +114,19 @@ def meet_there(problem, ii, times, numbers, told):
 
 
 def damaged(chance, problem, found):
-    """A solution with one number that is another, or with all times a number of stages later."""
+    """A solution with one number that is another, with one time some stages later, which takes no other slot, or with all times some stages later."""
     lists = [list(it) for it in found[1:]]
     ii = chance.choice([found.ii] * 8 + [found.ii + 1, 0])
     roll = chance.random()
     if roll < 0.1:
         stages = chance.choice([1, 62, 63, 64, 16384])
         lists[0] = [it + stages * found.ii for it in lists[0]]
+    elif roll < 0.3:
+        lists[0][chance.randrange(len(lists[0]))] += chance.choice([1, 2, 3]) * found.ii
     elif roll < 0.95:
         changed = chance.choice([it for it in lists if it])
         at = chance.randrange(len(changed))
-        changed[at] = max(0, changed[at] + chance.choice([-2, -1, 1, 2, found.ii, 1048576]))
+        changed[at] = max(0, changed[at] + chance.choice([-2, -1, 1, 2, found.ii, 1048576, 1048576]))
     return plain.Solution(ii, *lists)
 
 
