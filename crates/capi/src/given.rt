@@ -14,7 +14,7 @@ pub struct Hold {
 #[repr(C)]
 #[derive(Clone, Copy)]
 pub struct Kind<'a> {
-    /// Cycles from the issue to the landing of what the operation makes, 1 to 64.
+    /// How many cycles an operation takes until it is done, 1 to 64. What it makes lands when its values say.
     pub latency: u64,
     /// The 1 to 16 ways to issue the operation, each by 1 to 16 different holds.
     pub alternatives: &'a [&'a [Hold]],

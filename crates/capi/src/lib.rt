@@ -37,7 +37,7 @@ pub use texts::{
 };
 pub use verdict::Verdict;
 
-/// Solves a problem, with at most `ratio` placements for each operation and interval, 1 to 64, and at most `ceiling`
+/// Solves a problem, at each interval with at most `ratio`, 1 to 64, times as many placements as operations, and at most `ceiling`
 /// intervals above the least one, 0 to 255. Where there is a solution, it writes the issue time of each operation, in
 /// cycles, the number of the alternative of each, from 0, and of each value the number of its register.
 ///

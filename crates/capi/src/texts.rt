@@ -20,8 +20,8 @@ use machine_data::limits::{MAX_CEILING, MAX_RATIO};
 use settings::{TRIP_LIMIT, Trip};
 use std::alloc::Global;
 
-/// Writes the listing of the loops on the machine, as `modsched schedule` prints it, with at most `ratio` placements for each
-/// operation and interval, 1 to 64, and at most `ceiling` intervals above the least one of a loop, 0 to 255.
+/// Writes the listing of the loops on the machine, as `modsched schedule` prints it, at each interval with at most `ratio`, 1 to 64,
+/// times as many placements as operations, and with at most `ceiling` intervals above the least one of a loop, 0 to 255.
 ///
 /// 0: each loop has a kernel. 1: some loop has none. 2: a number is out of its range. 4: the machine's text is refused. 5: the
 /// loops' text is refused. 7: memory ran out, which says nothing of the texts. As much of the text as there is room for is written

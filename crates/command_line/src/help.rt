@@ -375,8 +375,8 @@ pub(crate) const SOLUTIONS: &str = "The file with the text of their solutions";
 pub(crate) const TRIP: &str = "How many iterations each loop is run, from 0 to 100000";
 
 pub(crate) const RATIO: &str =
-    "How many placements an attempt at an interval may make for each operation, from 1 to 64. More may find
-a kernel at a shorter interval, but an interval that gives none takes longer";
+    "How many times as many placements as there are operations an attempt at an interval may make, from 1 to
+64. More may find a kernel at a shorter interval, but an interval that gives none takes longer";
 
 pub(crate) const CEILING: &str =
     "How many intervals above MII are tried, from 0 to 255. More may find a kernel where there was none, but

@@ -66,7 +66,7 @@ impl fmt::Display for OutOfRange {
 }
 
 impl Settings {
-    /// The settings of these numbers: how many placements an attempt may make for each operation, 1 to
+    /// The settings of these numbers: how many times as many placements as operations an attempt may make, 1 to
     /// 64; how many intervals above its least one a loop is tried at, 0 to 255; how many workers there
     /// are, 1 to 64; and how many intervals a worker draws at once, 1 to 256. Workers and cut change
     /// no listing.
@@ -98,7 +98,7 @@ impl Settings {
         })
     }
 
-    /// How many placements an attempt may make for each operation, 1 to 64.
+    /// How many times as many placements as operations an attempt may make, 1 to 64.
     pub fn ratio(self) -> u64
         ensures value { result ≡ self.ratio }
         ensures well_formed { AreSettings self }

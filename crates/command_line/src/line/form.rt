@@ -66,7 +66,7 @@ enum Argument {
     // The names of the loops that are wanted.
     Names,
     Trip,
-    // How many placements an attempt may make for each operation.
+    // How many times as many placements as there are operations an attempt may make.
     Ratio,
     // How many intervals above the least one are tried.
     Ceiling,

@@ -40,7 +40,7 @@ pub struct Parts {
     pub arrays: ArrayNames,
     /// The operations, by their numbers: of one row, those of smaller numbers are issued first.
     pub operations: Operations,
-    /// The registers that do not open at 0.
+    /// The registers that are set before the first turn; all others open at 0.
     pub preloads: Preloads,
     /// The values that are live at the end, in the order of a memory's.
     pub outs: Outs,
