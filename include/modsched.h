@@ -272,8 +272,8 @@ enum {
 };
 
 /* `modsched schedule`: the listing. Each loop gets the kernel of the least interval at which the search finds one, or the cause why it finds none.
- * Intervals are tried from the greater bound on, at most `ceiling` (0 to 255) above it, each with at most `ratio` (1 to 64) placements for each operation; the
- * program takes 6 and 32 where it is not told others. The calling thread alone searches; what is found is what the program finds with any number of workers. */
+ * Intervals are tried from the greater bound on, at most `ceiling` (0 to 255) above it, each with at most `ratio` (1 to 64) times as many placements as
+ * operations; the program takes 6 and 32 where it is not told others. The calling thread alone searches; what is found is what the program finds with any number of workers. */
 uint32_t modsched_schedule(const uint8_t *machine, size_t machine_length, const uint8_t *loops, size_t loops_length, uint64_t ratio,
                            uint64_t ceiling, uint8_t *out, size_t room, struct modsched_told *told);
 

@@ -19,7 +19,7 @@ def arguments() -> argparse.Namespace:
         " each problem that has no solution, and why: the status is then 1.",
     )
     parser.add_argument("--library", default=solving.library_beside(), metavar="FILE", help="the library (%(default)s)")
-    parser.add_argument("--ratio", type=int, default=6, help="placements for each operation in an attempt, 1 to 64 (6)")
+    parser.add_argument("--ratio", type=int, default=6, help="how many times as many placements as operations an attempt may make, 1 to 64 (6)")
     parser.add_argument("--ceiling", type=int, default=64, help="how many intervals above the least one are tried, 0 to 255 (64)")
     parser.add_argument("problems", metavar="problems.json")
     return parser.parse_args()

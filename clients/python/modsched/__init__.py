@@ -348,7 +348,7 @@ class Library:
 
     def solve(self, problem: Problem, ratio: int = 6, ceiling: int = 64) -> Schedule:
         """The schedule of the least interval at which the search finds one, from the greater bound to `ceiling` (0 to 255) above it, each tried with at most `ratio` (1 to 64)
-        placements for each operation. Raises NoInterval, AtFault, ValueError for a setting that is out of its range, or MemoryError."""
+        times as many placements as there are operations. Raises NoInterval, AtFault, ValueError for a setting that is out of its range, or MemoryError."""
         operations, values = len(problem.operations), len(problem.values)
         times, choices, numbers = ((u64 * max(it, 1))() for it in (operations, operations, values))
         answer, given = _Answer(), problem._given()
