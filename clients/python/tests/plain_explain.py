@@ -6,7 +6,7 @@ be printed, with the circuits that a text tells.
 import json
 import re
 
-import plain_loops
+import plain_loop_problems
 import plain_problems as plain
 import plain_reasons as reasons_of
 import plain_texts
@@ -25,8 +25,8 @@ class LoopTold:
     def __init__(self, machine, loop, ratio, ceiling):
         self.machine, self.loop, self.circuit = machine, loop, NO_CIRCUIT
         self.names = [it.name for it in loop.statements]
-        self.problem = plain_loops.problem_of(machine, loop, ratio, ceiling)
-        self.edges = plain_loops.dependences(machine, loop)
+        self.problem = plain_loop_problems.problem_of(machine, loop, ratio, ceiling)
+        self.edges = plain_loop_problems.dependences(machine, loop)
         self.why = reasons_of.reasons_of(self.problem)
         self.makers = [maker for maker, *_ in self.problem.values]
         self.last = self.why.tried[-1]
@@ -178,8 +178,8 @@ def parts_of(word, text):
 
 
 def loops_told(machine, loops, ratio, ceiling):
-    machine = plain_loops.read_machine(machine)
-    return [LoopTold(machine, it, ratio, ceiling) for it in plain_loops.read_loops(loops)]
+    machine = plain_loop_problems.read_machine(machine)
+    return [LoopTold(machine, it, ratio, ceiling) for it in plain_loop_problems.read_loops(loops)]
 
 
 def edge_told(told, line):

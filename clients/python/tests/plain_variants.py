@@ -1,172 +1,148 @@
-"""What `modsched vary` prints, as lines, as JSON and in all, by the letter of docs/FORMATS.md, in plain Python: it shares no code with modsched."""
+"""What variants of a machine bring its loops, by the letter of docs/FORMATS.md ("The text of variants", "The text of totals", "The JSON document of variants"): it has no code in common with modsched."""
 import json
-from collections import namedtuple
+from typing import NamedTuple
 
-import plain_loops
-import plain_problems as plain
-import plain_reasons as reasons_of
+from plain_loops import OPCODES, Machine, Row, Table
+from plain_printouts import bounds_of, choice_of
 
-ORDER = ["load", "store", "add", "sub", "mul", "and", "or", "xor", "min", "max", "lt", "sel", "mov"]
-MOST_UNITS, MOST_ALTERNATIVES, MOST_REGISTERS = 64, 8, 256
-
-Variant = namedtuple("Variant", "sort name number machine")
-"""`unit`, `latency` or `registers`; the unit or the opcode; the latency or the registers; and the machine, or None where it passes a limit."""
-Standing = namedtuple("Standing", "loop mii interval registers findings")
-"""What a loop has on the machine as it is, and pairs of a variant that concerns it and its interval there, or None."""
+UNITS, ALTERNATIVES, REGISTERS = 64, 8, 256
 
 
-# variants
+class Variant(NamedTuple):
+    """What is changed: `unit` with a name, `latency` with an opcode and what it is there, or `registers` with how many there are; and the machine, or none where it passes a limit."""
+    what: str
+    name: str | None
+    number: int | None
+    machine: Machine | None
+
+    def words(self):
+        return {"unit": f"unit {self.name} doubled", "latency": f"latency {self.name} {self.number}", "registers": f"registers {self.number}"}[self.what]
 
 
-def doubled(machine, unit):
-    """The machine with a unit twice, or None where it passes a limit."""
-    new, ops = len(machine.units), {}
-    for opcode, (latency, ways) in machine.ops.items():
-        copies = [[(new if it == unit else it, offset) for it, offset in rows] for rows in ways if any(it == unit for it, _ in rows)]
-        ops[opcode] = latency, ways + copies
-    if new == MOST_UNITS or any(len(ways) > MOST_ALTERNATIVES for _, ways in ops.values()):
-        return None
-    return machine._replace(units=[*machine.units, "new unit"], ops=ops)
+class Result(NamedTuple):
+    """What a variant comes to for a loop: the interval there, or none, and how it compares."""
+    variant: Variant
+    interval: int | None
+    change: str | None
 
 
-def variants_of(machine, loop):
-    """The variants that concern a loop, in order."""
-    opcodes, found = {it.opcode for it in loop.statements}, []
-    for unit, name in enumerate(machine.units):
-        if any(it == unit for opcode in opcodes for rows in machine.ops[opcode][1] for it, _ in rows):
-            found.append(Variant("unit", name, None, doubled(machine, unit)))
-    for opcode in ORDER:
-        if opcode in opcodes and machine.ops[opcode][0] > 1:
-            latency, ways = machine.ops[opcode]
-            found.append(Variant("latency", opcode, latency - 1, machine._replace(ops=machine.ops | {opcode: (latency - 1, ways)})))
-    own = machine.registers
-    for number in sorted({own // 2, own - 1, own + 1, 2 * own, MOST_REGISTERS} - {own}):
-        if 1 <= number <= MOST_REGISTERS:
-            found.append(Variant("registers", None, number, machine._replace(registers=number)))
-    return found
+class Standing(NamedTuple):
+    """A loop with its operations and MII, its interval and the least number of registers for it, or none, and the results of the variants that concern it."""
+    loop: object
+    least: int
+    interval: int | None
+    registers: int | None
+    results: list
 
 
-# intervals
+def unit_twice(machine, unit):
+    new = f"{unit} twice"
+    tables = {}
+    for opcode, (latency, alternatives) in machine.tables.items():
+        copies = [[Row(new if row.unit == unit else row.unit, row.offset) for row in rows] for rows in alternatives if any(row.unit == unit for row in rows)]
+        tables[opcode] = Table(latency, alternatives + copies)
+    is_over = len(machine.units) == UNITS or any(len(table.alternatives) > ALTERNATIVES for table in tables.values())
+    return None if is_over else Machine(machine.registers, [*machine.units, new], tables)
 
 
-class Schedules:
-    """What the attempts at a problem give, each tried once."""
+def variants_of(machine):
+    """All variants of a machine, in their order."""
+    variants = [Variant("unit", unit, None, unit_twice(machine, unit)) for unit in machine.units]
+    for opcode in OPCODES:
+        table = machine.tables.get(opcode)
+        if table and table.latency > 1:
+            tables = machine.tables | {opcode: table._replace(latency=table.latency - 1)}
+            variants.append(Variant("latency", opcode, table.latency - 1, machine._replace(tables=tables)))
+    now = machine.registers
+    numbers = {now // 2, now - 1, now + 1, 2 * now, REGISTERS} - {now}
+    return variants + [Variant("registers", None, it, machine._replace(registers=it)) for it in sorted(numbers) if 1 <= it <= REGISTERS]
 
-    def __init__(self, problem):
-        self.problem, self.found = problem, {}
-        self.mii = max(plain.resource_bound(problem), plain.recurrence_bound(problem))
 
-    def lives(self, interval):
-        """The lives of the values of the schedule at an interval, or None where the attempt gives none."""
-        if interval not in self.found:
-            got = plain.attempt(self.problem, interval)
-            self.found[interval] = None if isinstance(got, str) else plain.lives(self.problem, interval, got[0])
-        return self.found[interval]
+def concerns(variant, machine, loop):
+    opcodes = {statement.opcode for statement in loop.statements}
+    if variant.what == "unit":
+        return any(row.unit == variant.name for opcode in opcodes for rows in machine.tables[opcode].alternatives for row in rows)
+    return variant.what == "registers" or variant.name in opcodes
 
-    def gives(self, interval, registers):
-        lives = self.lives(interval)
-        return lives is not None and len(reasons_of.numbers_of(lives, interval, registers)) == len(lives)
 
-    def interval(self, registers):
-        tried = range(self.mii, self.mii + self.problem.ceiling + 1)
-        return next((it for it in tried if self.gives(it, registers)), None)
+def interval_with(bounds, registers, ceiling):
+    kernel = choice_of(bounds, registers, ceiling).kernel
+    return kernel and kernel.interval
+
+
+def result_of(variant, loop, interval, ratio, ceiling):
+    there = variant.machine and interval_with(bounds_of(variant.machine, loop, ratio), variant.machine.registers, ceiling)
+    if there is None:
+        return Result(variant, None, None)
+    if interval is None:
+        return Result(variant, there, "new")
+    return Result(variant, there, "same" if there == interval else "shorter" if there < interval else "longer")
 
 
 def standing_of(machine, loop, ratio, ceiling):
-    as_it_is = Schedules(plain_loops.problem_of(machine, loop, ratio, ceiling))
-    interval = as_it_is.interval(machine.registers)
-    registers = next((it for it in range(1, MOST_REGISTERS + 1) if as_it_is.interval(it) == interval), None) if interval else None
-    findings = []
-    for it in variants_of(machine, loop):
-        if it.sort == "registers":
-            findings.append((it, as_it_is.interval(it.number)))
-        else:
-            there = it.machine and Schedules(plain_loops.problem_of(it.machine, loop, ratio, ceiling)).interval(machine.registers)
-            findings.append((it, there))
-    return Standing(loop, as_it_is.mii, interval, registers, findings)
+    bounds = bounds_of(machine, loop, ratio)
+    interval = interval_with(bounds, machine.registers, ceiling)
+    fewest = interval and next(number for number in range(1, REGISTERS + 1) if interval_with(bounds, number, ceiling) == interval)
+    results = [result_of(variant, loop, interval, ratio, ceiling) for variant in variants_of(machine) if concerns(variant, machine, loop)]
+    return Standing(loop, bounds.least(), interval, fewest, results)
 
 
-def change(as_it_is, there):
-    if there is None:
-        return None
-    if as_it_is is None:
-        return "new"
-    return "same" if there == as_it_is else "shorter" if there < as_it_is else "longer"
-
-
-# texts
-
-
-def variant_words(it):
-    return {"unit": f"unit {it.name} doubled", "latency": f"latency {it.name} {it.number}", "registers": f"registers {it.number}"}[it.sort]
-
-
-def result_words(as_it_is, it, there):
-    if it.machine is None:
+def result_words(result):
+    if result.variant.machine is None:
         return "-"
-    return "failed" if there is None else f"ii {there} {change(as_it_is, there)}"
-
-
-def standing_lines(it):
-    head = f"loop {it.loop.name} ops {len(it.loop.statements)} mii {it.mii}"
-    yield f"{head} failed" if it.interval is None else f"{head} ii {it.interval} registers {it.registers}"
-    yield from (f"{variant_words(variant)} {result_words(it.interval, variant, there)}" for variant, there in it.findings)
+    return "failed" if result.interval is None else f"ii {result.interval} {result.change}"
 
 
 def last_line(standings):
-    met = sum(it.interval is not None for it in standings)
+    met = sum(standing.interval is not None for standing in standings)
     return f"loops {len(standings)} met {met} failed {len(standings) - met}"
 
 
-def vary_text(standings):
-    return "".join(f"{line}\n" for it in standings for line in standing_lines(it)) + last_line(standings) + "\n"
+def vary_lines(standings):
+    lines = []
+    for standing in standings:
+        bounds = f"loop {standing.loop.name} ops {len(standing.loop.statements)} mii {standing.least}"
+        lines.append(f"{bounds} failed" if standing.interval is None else f"{bounds} ii {standing.interval} registers {standing.registers}")
+        lines += [f"{result.variant.words()} {result_words(result)}" for result in standing.results]
+    return lines + [last_line(standings)]
 
 
-def standing_object(it):
-    variants = [
-        {
-            "change": change(it.interval, there),
-            "ii": there,
-            "latency": variant.number if variant.sort == "latency" else None,
-            "limit": variant.machine is None,
-            "name": variant.name,
-            "registers": variant.number if variant.sort == "registers" else None,
-            "variant": variant.sort,
-        }
-        for variant, there in it.findings
-    ]
-    return {"ii": it.interval, "mii": it.mii, "name": it.loop.name, "operations": len(it.loop.statements), "registers": it.registers, "variants": variants}
+def sums(intervals):
+    return f"ii {sum(it for it in intervals if it is not None)} failed {intervals.count(None)}"
 
 
-def vary_document(standings):
-    met = sum(it.interval is not None for it in standings)
-    document = {"failed": len(standings) - met, "loops": [standing_object(it) for it in standings], "met": met, "version": 1}
-    return json.dumps(document, sort_keys=True, separators=(",", ":")) + "\n"
+def total_lines(machine, standings):
+    lines = [f"total loops {len(standings)} {sums([standing.interval for standing in standings])}"]
+    for variant in variants_of(machine):
+        there = [next((result for result in standing.results if result.variant.words() == variant.words()), None) for standing in standings]
+        if not any(there):
+            continue
+        if variant.machine is None:
+            lines.append(f"{variant.words()} -")
+            continue
+        pairs = [(standing.interval, result.interval if result else standing.interval) for standing, result in zip(standings, there)]
+        # that there is no interval counts as longer than each
+        shorter, longer = [sum((one is not None) and (other is None or one < other) for one, other in its) for its in ([(j, i) for i, j in pairs], pairs)]
+        lines.append(f"{variant.words()} {sums([interval for _, interval in pairs])} shorter {shorter} longer {longer}")
+    return lines + [last_line(standings)]
 
 
-def total_line(words, there, standings):
-    """What loops have in all, by the interval of each there."""
-    failed, changes = sum(it is None for it in there), []
-    for it, its in zip(standings, there):
-        is_lost = its is None and it.interval is not None
-        changes.append("longer" if is_lost else change(it.interval, its))
-    total = f"{words} ii {sum(it or 0 for it in there)} failed {failed}"
-    shorter = changes.count("shorter") + changes.count("new")
-    return total, f"{total} shorter {shorter} longer {changes.count('longer')}"
+def result_object(result):
+    variant = result.variant
+    number = {variant.what: variant.number}
+    return {"change": result.change, "ii": result.interval, "latency": number.get("latency"), "limit": variant.machine is None, "name": variant.name,
+            "registers": number.get("registers"), "variant": variant.what}
 
 
-def vary_total(machine, standings):
-    """The lines of all loops together: a loop that a variant does not concern has the interval there that it has as the machine is."""
-    lines = [total_line(f"total loops {len(standings)}", [it.interval for it in standings], standings)[0]]
-    concern = {variant_words(variant): variant for it in standings for variant, _ in it.findings}
-    units = [f"unit {it} doubled" for it in machine.units]
-    latencies = [f"latency {it} {machine.ops[it][0] - 1}" for it in ORDER if it in machine.ops]
-    registers = [f"registers {it}" for it in range(1, MOST_REGISTERS + 1)]
-    for words in [it for it in [*units, *latencies, *registers] if it in concern]:
-        there = [{variant_words(variant): its for variant, its in it.findings}.get(words, it.interval) for it in standings]
-        lines.append(f"{words} -" if concern[words].machine is None else total_line(words, there, standings)[1])
-    return "".join(f"{line}\n" for line in [*lines, last_line(standings)])
+def document_line(standings):
+    failed = sum(standing.interval is None for standing in standings)
+    loops = [{"ii": standing.interval, "mii": standing.least, "name": standing.loop.name, "operations": len(standing.loop.statements), "registers": standing.registers,
+              "variants": [result_object(result) for result in standing.results]} for standing in standings]
+    return json.dumps({"failed": failed, "loops": loops, "met": len(loops) - failed, "version": 1}, sort_keys=True, separators=(",", ":"))
 
 
-def standings_of(machine, loops, ratio=6, ceiling=32):
-    return [standing_of(machine, it, ratio, ceiling) for it in loops]
+def lines_of(machine, loops, ratio, ceiling, is_total, is_document):
+    """What `vary` prints, as lines, and whether each loop has a kernel on the machine as it is."""
+    standings = [standing_of(machine, loop, ratio, ceiling) for loop in loops]
+    lines = total_lines(machine, standings) if is_total else [document_line(standings)] if is_document else vary_lines(standings)
+    return lines, all(standing.interval is not None for standing in standings)

@@ -1,0 +1,54 @@
+"""What commands over loops print, by the letter of docs/FORMATS.md, in plain Python that has no code in common with modsched: `schedule`, `json`, `run`, `vary`, `bounds`, `edges` and `plain`, for texts
+without a fault."""
+import plain_variants
+from plain_loops import loops_in, machine_in
+from plain_printouts import bounds_line, bounds_of, choice_of, document_line, edges_lines, listing_lines, run_text_lines
+from plain_runs import run_lines
+
+
+class Refused(Exception):
+    """What is said of texts that are right each, where one lacks what the other needs."""
+
+
+def named(loops, names):
+    """The loops of these names, or all where none is given; or what is said of the first name that no loop has."""
+    for name in names:
+        if all(loop.name != name for loop in loops):
+            raise Refused(f"loops: no loop {name}")
+    return [loop for loop in loops if not names or loop.name in names]
+
+
+def check_tables(machine, loops):
+    for loop in loops:
+        for statement in loop.statements:
+            if statement.opcode not in machine.tables:
+                raise Refused(f"loops: loop {loop.name}: no table for {statement.opcode}")
+
+
+def lines_of(command, texts, names=(), ratio=6, ceiling=32, trip=0, format="text", total=False):
+    """What a command prints of these texts, as lines, and whether each loop has a kernel that is to have one."""
+    loops = named(loops_in(texts[-1]), names)
+    if command == "plain":
+        return [line for loop in loops for line in run_lines(loop, trip)] + [f"loops {len(loops)}"], True
+    machine = machine_in(texts[0])
+    check_tables(machine, loops)
+    if command == "vary":
+        return plain_variants.lines_of(machine, loops, ratio, ceiling, total, format == "json")
+    every = [bounds_of(machine, loop, ratio) for loop in loops]
+    if command in ("bounds", "edges"):
+        told = {"bounds": lambda bounds: [bounds_line(bounds)], "edges": edges_lines}[command]
+        return [line for bounds in every for line in told(bounds)] + [f"loops {len(loops)}"], True
+    choices = [choice_of(bounds, machine.registers, ceiling) for bounds in every]
+    are_met = all(choice.kernel is not None for choice in choices)
+    if command == "run":
+        return run_text_lines(choices, trip), are_met
+    return [document_line(choices)] if command == "json" or format == "json" else listing_lines(choices), are_met
+
+
+def answer(command, texts, **options):
+    """The exit status of a command, what it prints, and what it tells on the standard error. Texts are given as bytes, options by their words."""
+    try:
+        lines, are_met = lines_of(command, texts, **options)
+    except Refused as why:
+        return 5, "", f"modsched: {why}\n"
+    return int(not are_met), "".join(line + "\n" for line in lines), ""
