@@ -2,9 +2,12 @@
 attempts of iterative modulo scheduling, and the registers of a schedule's values. It is written from the documents alone, has no code in common with modsched, and is made to be read beside
 them and not to be fast. It takes texts without a fault; what is wrong with others it does not tell."""
 import re
+import sys
 import tomllib
 from typing import NamedTuple
 
+# a number of a text may have as many digits as it likes
+sys.set_int_max_str_digits(0)
 OPCODES = ("load", "store", "add", "sub", "mul", "and", "or", "xor", "min", "max", "lt", "sel", "mov")
 STAGES = 64
 

@@ -2,6 +2,7 @@
 
 A round takes the texts as they are, or written in another way, and options, and compares what `schedule` prints, as text or as JSON, for all loops or those of some names, and what another command
 prints, with what plain Python comes to (plain_commands.py, which shares no code with modsched): the same bytes and the same status."""
+import difflib
 import json
 import os
 import re
@@ -166,7 +167,7 @@ def another_line(dice, words):
 
 def another_loops(dice, text):
     """The same loops, with other names, blanks and forms of numbers, with comments, and with initial values in any order and beyond those that are used."""
-    others = dict(zip("alpx", dice.choice([("a", "l", "p", "x"), ("r", "loop_", "ii", "_"), ("B", "Z", "if_", "X_y_z_0123456_"), ("end_", "out1", "r", "add2")])))
+    others = dict(zip("alpx", dice.choice([("a", "l", "p", "x"), ("r", "loop_", "ii", "_"), ("B", "Z", "if_", "X_y_z_012345_"), ("end_", "out1", "r", "add2")])))
     lines = []
     for line in text.splitlines():
         words = [re.sub(r"^([alpx])(?=\d)", lambda it: others[it[1]], word) for word in line.split()]
@@ -205,6 +206,17 @@ def without_repeats(lines):
 # rounds
 
 
+def escaped(text):
+    """The same on lines that can be read, whatever bytes the comments have."""
+    return text.encode("unicode_escape").decode("ascii").replace("\\n", "\n")
+
+
+def printed(answer):
+    """The lines of what a command prints and says, and its status."""
+    status, out, err = answer
+    return escaped(f"{out}{err}status {status}").split("\n")
+
+
 class Rounds:
     """Rounds with the program of this path, which writes its texts into a folder."""
 
@@ -229,8 +241,8 @@ class Rounds:
         """What a command prints, which has to be what plain Python comes to."""
         got, wanted = self.run(command, texts, **options), plain_commands.answer(command, texts, **options)
         if got != wanted:
-            shown = "".join(f"--- text\n{it.decode('latin-1')}\n" for it in texts)
-            raise Mismatch(f"{command} {options}\n--- the program\n{got}\n--- plain Python\n{wanted}\n{shown}")
+            lines = difflib.unified_diff(printed(wanted), printed(got), "plain Python", "the program", n=1, lineterm="")
+            raise Mismatch("\n".join([f"{command} {options}", *lines, *(f"--- text\n{escaped(it.decode('latin-1'))}" for it in texts)]))
         self.compared += 1
         return got
 
