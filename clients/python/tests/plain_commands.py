@@ -1,8 +1,8 @@
-"""What commands over loops print, by the letter of docs/FORMATS.md, in plain Python that has no code in common with modsched: `schedule`, `json`, `run`, `vary`, `bounds`, `edges` and `plain`, for texts
-without a fault."""
+"""What commands over loops print, by the letter of docs/FORMATS.md, in plain Python that has no code in common with modsched: `schedule`, `json`, `run`, `vary`, `bounds`, `edges`, `dot` and `plain`, for
+texts without a fault."""
 import plain_variants
 from plain_loops import loops_in, machine_in
-from plain_printouts import bounds_line, bounds_of, choice_of, document_line, edges_lines, listing_lines, run_text_lines
+from plain_printouts import bounds_line, bounds_of, choice_of, document_line, edges_lines, graph_lines, listing_lines, plain_nodes, run_text_lines, scheduled_graph_lines
 from plain_runs import run_lines
 
 
@@ -25,7 +25,7 @@ def check_tables(machine, loops):
                 raise Refused(f"loops: loop {loop.name}: no table for {statement.opcode}")
 
 
-def lines_of(command, texts, names=(), ratio=6, ceiling=32, trip=0, format="text", total=False):
+def lines_of(command, texts, names=(), ratio=6, ceiling=32, trip=0, format="text", total=False, scheduled=False):
     """What a command prints of these texts, as lines, and whether each loop has a kernel that is to have one."""
     loops = named(loops_in(texts[-1]), names)
     if command == "plain":
@@ -38,10 +38,14 @@ def lines_of(command, texts, names=(), ratio=6, ceiling=32, trip=0, format="text
     if command in ("bounds", "edges"):
         told = {"bounds": lambda bounds: [bounds_line(bounds)], "edges": edges_lines}[command]
         return [line for bounds in every for line in told(bounds)] + [f"loops {len(loops)}"], True
+    if command == "dot" and not scheduled:
+        return [line for bounds in every for line in graph_lines(bounds, "", plain_nodes(bounds), lambda distance: "")], True
     choices = [choice_of(bounds, machine.registers, ceiling) for bounds in every]
     are_met = all(choice.kernel is not None for choice in choices)
     if command == "run":
         return run_text_lines(choices, trip), are_met
+    if command == "dot":
+        return [line for choice in choices for line in scheduled_graph_lines(choice)], are_met
     return [document_line(choices)] if command == "json" or format == "json" else listing_lines(choices), are_met
 
 

@@ -143,6 +143,34 @@ def edges_lines(bounds):
     return lines
 
 
+def graph_lines(bounds, words, nodes, end_of):
+    """The graph of a loop without a mark on a circuit, of which any may be taken that needs the bound: what its label goes on with, its nodes, and how an arrow ends by its distance."""
+    lines = [f'digraph "{bounds.loop.name}" {{', f'  label="{bounds.loop.name} res {bounds.resources} rec {bounds.recurrences} mii {bounds.least()}{words}"', *nodes]
+    for edge in bounds.problem.edges:
+        later = f" @{edge.distance}" if edge.distance else ""
+        lines.append(f'  {edge.start} -> {edge.end} [label="{edge.kind} {edge.delay}{later}"{end_of(edge.distance)}]')
+    return [*lines, "}"]
+
+
+def plain_nodes(bounds):
+    return ["  node [shape=box]"] + [f'  {number} [label="{operation_name(it)} {it.opcode}"]' for number, it in enumerate(bounds.loop.statements)]
+
+
+def scheduled_graph_lines(choice):
+    bounds, kernel = choice.bounds, choice.kernel
+
+    def end_of(distance):
+        return ",style=dashed,constraint=false" if distance else ""
+
+    if kernel is None:
+        return graph_lines(bounds, f" failed to {choice.last}: {choice.cause}", plain_nodes(bounds), end_of)
+    nodes = ["  node [shape=box,style=filled,colorscheme=pastel19]"]
+    for number, (statement, it) in enumerate(zip(bounds.loop.statements, kernel.operations)):
+        when = f"time {it.stage * kernel.interval + it.row} row {it.row} stage {it.stage}"
+        nodes.append(f'  {number} [label="{operation_name(statement)} {it.opcode}\\n{when}",fillcolor={it.stage % 9 + 1}]')
+    return graph_lines(bounds, f" ii {kernel.interval} stages {kernel.stages}", nodes, end_of)
+
+
 def choice_head(choice):
     if choice.kernel is None:
         return f"{bounds_line(choice.bounds)} failed to {choice.last}: {choice.cause}"

@@ -208,7 +208,7 @@ def without_repeats(lines):
 
 def escaped(text):
     """The same on lines that can be read, whatever bytes the comments have."""
-    return text.encode("unicode_escape").decode("ascii").replace("\\n", "\n")
+    return "\n".join(line.encode("unicode_escape").decode("ascii") for line in text.split("\n"))
 
 
 def printed(answer):
@@ -235,7 +235,9 @@ class Rounds:
                 file.write(text)
         words = [word for name, value in [*(("loop", name) for name in names), *options.items()] for word in (f"--{name}", *([] if value is True else [str(value)]))]
         ran = subprocess.run([self.program, command, *paths, *words], capture_output=True, timeout=300)
-        return ran.returncode, ran.stdout.decode("latin-1"), ran.stderr.decode("latin-1")
+        text = ran.stdout.decode("latin-1")
+        # (of circuits any may be marked that needs the bound)
+        return ran.returncode, re.sub(",style=bold]$|,color=red,penwidth=2]$", "]", text, flags=re.MULTILINE) if command == "dot" else text, ran.stderr.decode("latin-1")
 
     def compare(self, command, texts, **options):
         """What a command prints, which has to be what plain Python comes to."""
@@ -256,6 +258,12 @@ class Rounds:
         search = {"ratio": dice.choice([1, 2, 3, 6, 6, 20]), "ceiling": dice.choice([0, 1, 3, 10, 32]), **options}
         trip, few = {"trip": dice.choice([0, 1, 2, 5, 30])}, {"ratio": dice.choice([1, 3]), "ceiling": dice.choice([0, 3])}
         found = [self.compare("schedule", texts, **search, format=dice.choice(["text", "text", "json"]))]
-        command = dice.choice(["json", "run", "plain", "bounds", "edges", "vary"])
-        needed = {"json": search, "run": search | trip, "plain": options | trip, "vary": options | few | dice.choice([{}, {"format": "json"}, {"total": True}])}.get(command, options)
-        return [*found, self.compare(command, texts[1:] if command == "plain" else texts, **needed)]
+        command = dice.choice(["json", "run", "plain", "bounds", "edges", "dot", "vary"])
+        needed = {
+            "json": search,
+            "run": search | trip,
+            "plain": options | trip,
+            "vary": options | few | dice.choice([{}, {"format": "json"}, {"total": True}]),
+            "dot": dice.choice([options, search | {"scheduled": True}]),
+        }
+        return [*found, self.compare(command, texts[1:] if command == "plain" else texts, **needed.get(command, options))]
