@@ -6,7 +6,7 @@ be printed, with the circuits that a text tells.
 import json
 import re
 
-import plain_loop_problems
+import plain_loops
 import plain_problems as plain
 import plain_reasons as reasons_of
 import plain_texts
@@ -19,14 +19,29 @@ WRONG_CIRCUIT = "circuit that is none, or that does not need the bound"
 # loops
 
 
+def problem_of(machine, loop, edges, ratio, ceiling):
+    """The scheduling problem that a loop is: each value lands after the latency of its operation, in the one file."""
+    places = {unit: place for place, unit in enumerate(machine.units)}
+    opcodes = sorted({it.opcode for it in loop.statements})
+    tables = [machine.tables[it] for it in opcodes]
+    kinds = [(latency, [[(places[row.unit], row.offset) for row in rows] for rows in alternatives]) for latency, alternatives in tables]
+    makers = [op for op, it in enumerate(loop.statements) if it.name is not None]
+    number = {op: value for value, op in enumerate(makers)}
+    values = [(op, machine.tables[loop.statements[op].opcode].latency, 0, op in loop.outs) for op in makers]
+    reads = [(number[use.statement], user, use.distance, 0) for user, it in enumerate(loop.statements) for use in it.uses if isinstance(use, plain_loops.Value)]
+    orders = [(it.start, it.end, it.delay, it.distance) for it in edges if it.kind != "value"]
+    operations = [opcodes.index(it.opcode) for it in loop.statements]
+    return plain.Problem(len(machine.units), [machine.registers], kinds, operations, values, reads, orders, ratio, ceiling)
+
+
 class LoopTold:
     """A loop of a text on a machine, with all that there is to tell of it. `edges` are its dependences, and `circuit` places among them; or a line in its place."""
 
     def __init__(self, machine, loop, ratio, ceiling):
         self.machine, self.loop, self.circuit = machine, loop, NO_CIRCUIT
-        self.names = [it.name for it in loop.statements]
-        self.problem = plain_loop_problems.problem_of(machine, loop, ratio, ceiling)
-        self.edges = plain_loop_problems.dependences(machine, loop)
+        self.names = [plain_loops.operation_name(it) for it in loop.statements]
+        self.edges = plain_loops.edges_of(loop.statements, [machine.tables[it.opcode].latency for it in loop.statements])
+        self.problem = problem_of(machine, loop, self.edges, ratio, ceiling)
         self.why = reasons_of.reasons_of(self.problem)
         self.makers = [maker for maker, *_ in self.problem.values]
         self.last = self.why.tried[-1]
@@ -56,7 +71,7 @@ class LoopTold:
         """By how many cycles each operation could be issued later: by each edge to another one as long as that keeps, and as long as the iteration lasts no longer."""
         times, latency, found = self.last.times, plain.latencies_of(self.problem), []
         for op, time in enumerate(times):
-            rooms = [times[it.other] + self.last.interval * it.distance - it.delay - time for it in self.edges if it.one == op and it.other != op]
+            rooms = [times[it.end] + self.last.interval * it.distance - it.delay - time for it in self.edges if it.start == op != it.end]
             found.append(min([*rooms, self.cycles() - time - latency[op]]))
         return found
 
@@ -99,7 +114,7 @@ def circuit_lines(told):
     delay, distance = circuit_sums(edges)
     yield f"circuit delay {delay} distance {distance} needs {-(-delay // distance)}"
     for it in edges:
-        yield f"edge {it.one} {told.names[it.one]} {it.other} {told.names[it.other]} {it.kind} delay {it.delay} distance {it.distance}"
+        yield f"edge {it.start} {told.names[it.start]} {it.end} {told.names[it.end]} {it.kind} delay {it.delay} distance {it.distance}"
 
 
 def cause_text(told, it, needs):
@@ -178,14 +193,14 @@ def parts_of(word, text):
 
 
 def loops_told(machine, loops, ratio, ceiling):
-    machine = plain_loop_problems.read_machine(machine)
-    return [LoopTold(machine, it, ratio, ceiling) for it in plain_loop_problems.read_loops(loops)]
+    machine = plain_loops.machine_in(machine.encode())
+    return [LoopTold(machine, it, ratio, ceiling) for it in plain_loops.loops_in(loops.encode())]
 
 
 def edge_told(told, line):
     """The place of the edge that a line tells, or None."""
     for place, it in enumerate(told.edges):
-        if line == f"edge {it.one} {told.names[it.one]} {it.other} {told.names[it.other]} {it.kind} delay {it.delay} distance {it.distance}":
+        if line == f"edge {it.start} {told.names[it.start]} {it.end} {told.names[it.end]} {it.kind} delay {it.delay} distance {it.distance}":
             return place
     return None
 
@@ -202,7 +217,7 @@ def explain_loops(told, text):
 
 
 def edge_object(it):
-    return {"delay": it.delay, "distance": it.distance, "from": it.one, "kind": it.kind, "to": it.other}
+    return {"delay": it.delay, "distance": it.distance, "from": it.start, "kind": it.kind, "to": it.end}
 
 
 def circuit_object(told):
@@ -227,7 +242,7 @@ def tried_object(told, it, needs):
 def operation_objects(told):
     heights = plain.heights(told.problem, told.why.mii)
     for op, it in enumerate(told.loop.statements):
-        known = {"height": heights[op], "latency": told.machine.ops[it.opcode][0], "name": it.name, "opcode": it.opcode}
+        known = {"height": heights[op], "latency": told.machine.tables[it.opcode].latency, "name": told.names[op], "opcode": it.opcode}
         if told.is_met:
             time, interval = told.last.times[op], told.last.interval
             known |= {"alternative": told.last.alternatives[op], "row": time % interval, "slack": told.slacks()[op], "stage": time // interval, "time": time}

@@ -15,7 +15,7 @@ distance, delay), and what an edge line and a graph tell of it before its delay.
 
 def of_loop(told):
     """The graph of a `plain_explain.LoopTold`."""
-    operations = [(it.name, it.opcode) for it in told.loop.statements]
+    operations = [(name, it.opcode) for name, it in zip(told.names, told.loop.statements)]
     return Graph("loop", told.loop.name, told.problem, told.why, operations, [(it[:4], it.kind) for it in told.edges])
 
 

@@ -10,6 +10,7 @@ from typing import NamedTuple
 sys.set_int_max_str_digits(0)
 OPCODES = ("load", "store", "add", "sub", "mul", "and", "or", "xor", "min", "max", "lt", "sel", "mov")
 STAGES = 64
+REGISTERS = 256
 
 
 class Row(NamedTuple):
@@ -165,6 +166,14 @@ def statement_of(words, params, numbers):
     if words[2] == "load":
         return Statement("load", words[0], place(words[3]), [])
     return Statement(words[2], words[0], None, [use(word) for word in words[3:]])
+
+
+def operation_name(statement):
+    """A statement is named by its value, and a store by its place."""
+    if statement.name is not None:
+        return statement.name
+    array, offset = statement.place
+    return f"{array}[i{offset:+}]" if offset else f"{array}[i]"
 
 
 def edges_of(statements, latencies):

@@ -3,7 +3,7 @@ find. It is written from the documents alone, and has no code in common with mod
 import json
 from typing import NamedTuple
 
-from plain_loops import Constant, Loop, Parameter, Problem, Value, allot, attempt, carried, heights_at, lifetimes_of, problem_of, recurrence_bound, unit_bound, uses_of
+from plain_loops import Constant, Loop, Parameter, Problem, Value, allot, attempt, carried, heights_at, lifetimes_of, operation_name, problem_of, recurrence_bound, unit_bound, uses_of
 from plain_runs import run_lines
 
 
@@ -123,13 +123,6 @@ def kernel_lines(kernel):
 
 def bounds_line(bounds):
     return f"loop {bounds.loop.name} ops {len(bounds.loop.statements)} res {bounds.resources} rec {bounds.recurrences} mii {bounds.least()}"
-
-
-def operation_name(statement):
-    if statement.name is not None:
-        return statement.name
-    array, offset = statement.place
-    return f"{array}[i{offset:+}]" if offset else f"{array}[i]"
 
 
 def edges_lines(bounds):
