@@ -2,10 +2,10 @@
 import json
 from typing import NamedTuple
 
-from plain_loops import OPCODES, Machine, Row, Table
+from plain_loops import OPCODES, REGISTERS, Machine, Row, Table
 from plain_printouts import bounds_of, choice_of
 
-UNITS, ALTERNATIVES, REGISTERS = 64, 8, 256
+UNITS, ALTERNATIVES = 64, 8
 
 
 class Variant(NamedTuple):
@@ -70,8 +70,10 @@ def interval_with(bounds, registers, ceiling):
     return kernel and kernel.interval
 
 
-def result_of(variant, loop, interval, ratio, ceiling):
-    there = variant.machine and interval_with(bounds_of(variant.machine, loop, ratio), variant.machine.registers, ceiling)
+def result_of(variant, bounds, interval, ratio, ceiling):
+    """What a variant comes to for a loop with these bounds on the machine as it is: other registers change none of the attempts."""
+    its = bounds if variant.what == "registers" else variant.machine and bounds_of(variant.machine, bounds.loop, ratio)
+    there = its and interval_with(its, variant.machine.registers, ceiling)
     if there is None:
         return Result(variant, None, None)
     if interval is None:
@@ -83,8 +85,12 @@ def standing_of(machine, loop, ratio, ceiling):
     bounds = bounds_of(machine, loop, ratio)
     interval = interval_with(bounds, machine.registers, ceiling)
     fewest = interval and next(number for number in range(1, REGISTERS + 1) if interval_with(bounds, number, ceiling) == interval)
-    results = [result_of(variant, loop, interval, ratio, ceiling) for variant in variants_of(machine) if concerns(variant, machine, loop)]
+    results = [result_of(variant, bounds, interval, ratio, ceiling) for variant in variants_of(machine) if concerns(variant, machine, loop)]
     return Standing(loop, bounds.least(), interval, fewest, results)
+
+
+def standings_of(machine, loops, ratio, ceiling):
+    return [standing_of(machine, loop, ratio, ceiling) for loop in loops]
 
 
 def result_words(result):
@@ -143,6 +149,6 @@ def document_line(standings):
 
 def lines_of(machine, loops, ratio, ceiling, is_total, is_document):
     """What `vary` prints, as lines, and whether each loop has a kernel on the machine as it is."""
-    standings = [standing_of(machine, loop, ratio, ceiling) for loop in loops]
+    standings = standings_of(machine, loops, ratio, ceiling)
     lines = total_lines(machine, standings) if is_total else [document_line(standings)] if is_document else vary_lines(standings)
     return lines, all(standing.interval is not None for standing in standings)

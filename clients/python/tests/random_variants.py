@@ -1,7 +1,7 @@
 """Variants of random machines, and what `modsched vary` has to say of them: ./x fuzz runs these rounds.
 
 A round compares
-  - `vary` by one worker with `vary` by others, as lines, as JSON and in all: the same bytes, and those of plain Python (plain_variant_problems.py, which shares no code with modsched);
+  - `vary` by one worker with `vary` by others, as lines, as JSON and in all: the same bytes, and those of plain Python (plain_variants.py, which shares no code with modsched);
   - the intervals of the machine as it is, and those of some variants, with what `schedule` lists for machine texts that are edited so;
   - the least number of registers with the intervals of `schedule` for that number and for smaller ones."""
 import json
@@ -9,8 +9,8 @@ import re
 import subprocess
 import tomllib
 
-import plain_loop_problems
-import plain_variant_problems as plain
+import plain_loops
+import plain_variants as plain
 from random_problems import Mismatch
 
 
@@ -84,10 +84,11 @@ class Rounds:
 
     def by_plain(self, text, loops, told, options):
         """The lines, the totals and the document are those of plain Python."""
-        with open(loops, encoding="utf-8") as file:
-            machine, found = plain_loop_problems.read_machine(text), plain_loop_problems.read_loops(file.read())
+        with open(loops, "rb") as file:
+            machine, found = plain_loops.machine_in(text.encode()), plain_loops.loops_in(file.read())
         standings = plain.standings_of(machine, found, int(options[1]), int(options[3]))
-        for got, wanted in zip(told, (plain.vary_text(standings), plain.vary_total(machine, standings), plain.vary_document(standings))):
+        for got, lines in zip(told, (plain.vary_lines(standings), plain.total_lines(machine, standings), [plain.document_line(standings)])):
+            wanted = "".join(f"{line}\n" for line in lines)
             if got != wanted:
                 raise Mismatch(f"vary {options}\n--- the program\n{got}\n--- plain Python\n{wanted}")
 
