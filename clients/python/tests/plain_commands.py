@@ -1,8 +1,10 @@
 """What commands over loops print, by the letter of docs/FORMATS.md, in plain Python that has no code in common with modsched: `schedule`, `json`, `run`, `vary`, `bounds`, `edges`, `dot` and `plain`, for
 texts without a fault."""
+import plain_explain
+import plain_graphs
 import plain_variants
 from plain_loops import loops_in, machine_in
-from plain_printouts import bounds_line, bounds_of, choice_of, document_line, edges_lines, graph_lines, listing_lines, plain_nodes, run_text_lines, scheduled_graph_lines
+from plain_printouts import bounds_line, bounds_of, choice_of, document_line, listing_lines, run_text_lines
 from plain_runs import run_lines
 
 
@@ -25,7 +27,17 @@ def check_tables(machine, loops):
                 raise Refused(f"loops: loop {loop.name}: no table for {statement.opcode}")
 
 
-def lines_of(command, texts, names=(), ratio=6, ceiling=32, trip=0, format="text", total=False, scheduled=False):
+def graph_lines(command, machine, loops, printed, ratio, ceiling, is_scheduled):
+    """The lines of `edges` or of `dot`, and whether each loop has a kernel that is to have one."""
+    # (where no schedule is told the attempts do not matter, and one with few placements is soon made)
+    search = (ratio, ceiling) if is_scheduled else (1, 0)
+    graphs = [plain_graphs.of_loop(plain_explain.LoopTold(machine, loop, *search)) for loop in loops]
+    if command == "edges":
+        return plain_graphs.every_edge_line(graphs, "loops"), True
+    return plain_graphs.dot_lines(graphs, printed, is_scheduled), not is_scheduled or all(map(plain_graphs.is_met, graphs))
+
+
+def lines_of(command, texts, printed, names=(), ratio=6, ceiling=32, trip=0, format="text", total=False, scheduled=False):
     """What a command prints of these texts, as lines, and whether each loop has a kernel that is to have one."""
     loops = named(loops_in(texts[-1]), names)
     if command == "plain":
@@ -34,25 +46,23 @@ def lines_of(command, texts, names=(), ratio=6, ceiling=32, trip=0, format="text
     check_tables(machine, loops)
     if command == "vary":
         return plain_variants.lines_of(machine, loops, ratio, ceiling, total, format == "json")
+    if command in ("edges", "dot"):
+        return graph_lines(command, machine, loops, printed, ratio, ceiling, scheduled)
     every = [bounds_of(machine, loop, ratio) for loop in loops]
-    if command in ("bounds", "edges"):
-        told = {"bounds": lambda bounds: [bounds_line(bounds)], "edges": edges_lines}[command]
-        return [line for bounds in every for line in told(bounds)] + [f"loops {len(loops)}"], True
-    if command == "dot" and not scheduled:
-        return [line for bounds in every for line in graph_lines(bounds, "", plain_nodes(bounds), lambda distance: "")], True
+    if command == "bounds":
+        return [bounds_line(bounds) for bounds in every] + [f"loops {len(loops)}"], True
     choices = [choice_of(bounds, machine.registers, ceiling) for bounds in every]
     are_met = all(choice.kernel is not None for choice in choices)
     if command == "run":
         return run_text_lines(choices, trip), are_met
-    if command == "dot":
-        return [line for choice in choices for line in scheduled_graph_lines(choice)], are_met
     return [document_line(choices)] if command == "json" or format == "json" else listing_lines(choices), are_met
 
 
-def answer(command, texts, **options):
-    """The exit status of a command, what it prints, and what it tells on the standard error. Texts are given as bytes, options by their words."""
+def answer(command, texts, printed, **options):
+    """The exit status of a command, what it prints, and what it tells on the standard error. Texts are given as bytes, options by their words. Of several circuits that need the bound `dot` may
+    mark any: it is given what was printed, and takes the circuits from there."""
     try:
-        lines, are_met = lines_of(command, texts, **options)
+        lines, are_met = lines_of(command, texts, printed, **options)
     except Refused as why:
         return 5, "", f"modsched: {why}\n"
     return int(not are_met), "".join(line + "\n" for line in lines), ""

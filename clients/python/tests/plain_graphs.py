@@ -28,6 +28,10 @@ def of_problem(named, ratio, ceiling):
     return Graph("problem", named.name, problem, plain_reasons.reasons_of(problem), list(zip(named.operations, kinds)), reads + orders)
 
 
+def is_met(graph):
+    return graph.why.tried[-1].cause is None
+
+
 def bounds(graph):
     why = graph.why
     return f"res {why.resources} rec {why.recurrences} mii {why.mii}"
@@ -42,8 +46,8 @@ def edges_lines(graph):
         yield f"edge {one} {graph.operations[one][0]} {other} {graph.operations[other][0]} {why} delay {delay} distance {distance}"
 
 
-def edges_text(graphs, word):
-    return "".join(f"{line}\n" for it in graphs for line in edges_lines(it)) + f"{word} {len(graphs)}\n"
+def every_edge_line(graphs, word):
+    return [line for it in graphs for line in edges_lines(it)] + [f"{word} {len(graphs)}"]
 
 
 # graphs
@@ -80,7 +84,7 @@ def node_lines(graph, is_scheduled):
     last = graph.why.tried[-1]
     for op, (name, opcode) in enumerate(graph.operations):
         words = quoted(f"{name} {opcode}")
-        if is_scheduled and last.cause is None:
+        if is_scheduled and is_met(graph):
             stage, row = divmod(last.times[op], last.interval)
             yield f'  {op} [label="{words}\\ntime {last.times[op]} row {row} stage {stage}",fillcolor={stage % 9 + 1}]'
         else:
@@ -94,7 +98,7 @@ def graph_lines(graph, part, is_scheduled):
         label += f" failed to {last.interval}: {last.cause}" if last.cause else f" ii {last.interval} stages {max(last.times) // last.interval + 1}"
     yield f'digraph "{quoted(graph.name)}" {{'
     yield f'  label="{label}"'
-    yield "  node [shape=box" + (",style=filled,colorscheme=pastel19]" if is_scheduled and last.cause is None else "]")
+    yield "  node [shape=box" + (",style=filled,colorscheme=pastel19]" if is_scheduled and is_met(graph) else "]")
     yield from node_lines(graph, is_scheduled)
     circuit = marked(graph, re.findall(r"(?m)^  \d+ -> .*$", part))
     if "no circuit" in circuit:
@@ -103,8 +107,8 @@ def graph_lines(graph, part, is_scheduled):
     yield "}"
 
 
-def dot_text(graphs, text, is_scheduled=False):
-    """The text that `dot` has to print of these graphs, with the circuits of the one that is compared."""
+def dot_lines(graphs, text, is_scheduled=False):
+    """The lines that `dot` has to print of these graphs, with the circuits of the text that is compared."""
     parts = re.split(r"(?m)^(?=digraph )", text)[1:]
     parts += [""] * (len(graphs) - len(parts))
-    return "".join(f"{line}\n" for it, part in zip(graphs, parts) for line in graph_lines(it, part, is_scheduled))
+    return [line for it, part in zip(graphs, parts) for line in graph_lines(it, part, is_scheduled)]

@@ -1,9 +1,9 @@
-"""The kernels of loops, and what `schedule`, `json`, `run`, `bounds` and `edges` print of them, by the letter of docs/SEMANTICS.md and docs/FORMATS.md, from what plain_loops.py and plain_runs.py
+"""The kernels of loops, and what `schedule`, `json`, `run` and `bounds` print of them, by the letter of docs/SEMANTICS.md and docs/FORMATS.md, from what plain_loops.py and plain_runs.py
 find. It is written from the documents alone, and has no code in common with modsched."""
 import json
 from typing import NamedTuple
 
-from plain_loops import Constant, Loop, Parameter, Problem, Value, allot, attempt, carried, heights_at, lifetimes_of, operation_name, problem_of, recurrence_bound, unit_bound, uses_of
+from plain_loops import Constant, Loop, Parameter, Problem, Value, allot, attempt, carried, lifetimes_of, problem_of, recurrence_bound, unit_bound, uses_of
 from plain_runs import run_lines
 
 
@@ -123,45 +123,6 @@ def kernel_lines(kernel):
 
 def bounds_line(bounds):
     return f"loop {bounds.loop.name} ops {len(bounds.loop.statements)} res {bounds.resources} rec {bounds.recurrences} mii {bounds.least()}"
-
-
-def edges_lines(bounds):
-    statements, problem = bounds.loop.statements, bounds.problem
-    names, heights = [operation_name(statement) for statement in statements], heights_at(problem, bounds.least())
-    lines = [bounds_line(bounds)]
-    for number, statement in enumerate(statements):
-        lines.append(f"op {number} {names[number]} {statement.opcode} latency {problem.latencies[number]} height {heights[number]}")
-    for edge in problem.edges:
-        lines.append(f"edge {edge.start} {names[edge.start]} {edge.end} {names[edge.end]} {edge.kind} delay {edge.delay} distance {edge.distance}")
-    return lines
-
-
-def graph_lines(bounds, words, nodes, end_of):
-    """The graph of a loop without a mark on a circuit, of which any may be taken that needs the bound: what its label goes on with, its nodes, and how an arrow ends by its distance."""
-    lines = [f'digraph "{bounds.loop.name}" {{', f'  label="{bounds.loop.name} res {bounds.resources} rec {bounds.recurrences} mii {bounds.least()}{words}"', *nodes]
-    for edge in bounds.problem.edges:
-        later = f" @{edge.distance}" if edge.distance else ""
-        lines.append(f'  {edge.start} -> {edge.end} [label="{edge.kind} {edge.delay}{later}"{end_of(edge.distance)}]')
-    return [*lines, "}"]
-
-
-def plain_nodes(bounds):
-    return ["  node [shape=box]"] + [f'  {number} [label="{operation_name(it)} {it.opcode}"]' for number, it in enumerate(bounds.loop.statements)]
-
-
-def scheduled_graph_lines(choice):
-    bounds, kernel = choice.bounds, choice.kernel
-
-    def end_of(distance):
-        return ",style=dashed,constraint=false" if distance else ""
-
-    if kernel is None:
-        return graph_lines(bounds, f" failed to {choice.last}: {choice.cause}", plain_nodes(bounds), end_of)
-    nodes = ["  node [shape=box,style=filled,colorscheme=pastel19]"]
-    for number, (statement, it) in enumerate(zip(bounds.loop.statements, kernel.operations)):
-        when = f"time {it.stage * kernel.interval + it.row} row {it.row} stage {it.stage}"
-        nodes.append(f'  {number} [label="{operation_name(statement)} {it.opcode}\\n{when}",fillcolor={it.stage % 9 + 1}]')
-    return graph_lines(bounds, f" ii {kernel.interval} stages {kernel.stages}", nodes, end_of)
 
 
 def choice_head(choice):

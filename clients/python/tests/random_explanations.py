@@ -46,6 +46,10 @@ def turned(edges):
     return edges[at:] + edges[:at]
 
 
+def joined(lines):
+    return "".join(f"{line}\n" for line in lines)
+
+
 class Rounds:
     """Rounds with the program of this path, which writes its texts into a folder."""
 
@@ -92,11 +96,11 @@ class Rounds:
         document = self.by_workers(dice, "explain", *paths, *options, "--format", "json")
         self.same(f"explain {options} --format json", document, plain.explain_document(told, document))
         graphs = [plain_graphs.of_loop(it) for it in told]
-        self.same("edges", self.call("edges", *paths), plain_graphs.edges_text(graphs, "loops"))
+        self.same("edges", self.call("edges", *paths), joined(plain_graphs.every_edge_line(graphs, "loops")))
         dot = self.call("dot", *paths)
-        self.same("dot", dot, plain_graphs.dot_text(graphs, dot))
+        self.same("dot", dot, joined(plain_graphs.dot_lines(graphs, dot)))
         scheduled = self.by_workers(dice, "dot", "--scheduled", *paths, *options)
-        self.same(f"dot --scheduled {options}", scheduled, plain_graphs.dot_text(graphs, scheduled, True))
+        self.same(f"dot --scheduled {options}", scheduled, joined(plain_graphs.dot_lines(graphs, scheduled, True)))
         self.one_circuit(plain.parts_of("loop", text), graphs, dot, scheduled)
         self.agree(json.loads(document), json.loads(self.call("json", *paths, *options)), plain.parts_of("loop", text))
 
@@ -136,11 +140,11 @@ class Rounds:
         told = self.by_workers(dice, "explain", path, *options)
         self.same(f"explain {options}", told, plain.explain_problems(named, told, ratio, ceiling))
         graphs = [plain_graphs.of_problem(it, ratio, ceiling) for it in named]
-        self.same("edges", self.call("edges", path), plain_graphs.edges_text(graphs, "problems"))
+        self.same("edges", self.call("edges", path), joined(plain_graphs.every_edge_line(graphs, "problems")))
         dot = self.call("dot", path)
-        self.same("dot", dot, plain_graphs.dot_text(graphs, dot))
+        self.same("dot", dot, joined(plain_graphs.dot_lines(graphs, dot)))
         scheduled = self.by_workers(dice, "dot", "--scheduled", path, *options)
-        self.same(f"dot --scheduled {options}", scheduled, plain_graphs.dot_text(graphs, scheduled, True))
+        self.same(f"dot --scheduled {options}", scheduled, joined(plain_graphs.dot_lines(graphs, scheduled, True)))
         self.one_circuit(plain.parts_of("problem", told), graphs, dot, scheduled)
         solved = self.call("solve", path, *options)
         self.of_solve(plain.parts_of("problem", told), solved)

@@ -235,13 +235,12 @@ class Rounds:
                 file.write(text)
         words = [word for name, value in [*(("loop", name) for name in names), *options.items()] for word in (f"--{name}", *([] if value is True else [str(value)]))]
         ran = subprocess.run([self.program, command, *paths, *words], capture_output=True, timeout=300)
-        text = ran.stdout.decode("latin-1")
-        # (of circuits any may be marked that needs the bound)
-        return ran.returncode, re.sub(",style=bold]$|,color=red,penwidth=2]$", "]", text, flags=re.MULTILINE) if command == "dot" else text, ran.stderr.decode("latin-1")
+        return ran.returncode, ran.stdout.decode("latin-1"), ran.stderr.decode("latin-1")
 
     def compare(self, command, texts, **options):
         """What a command prints, which has to be what plain Python comes to."""
-        got, wanted = self.run(command, texts, **options), plain_commands.answer(command, texts, **options)
+        got = self.run(command, texts, **options)
+        wanted = plain_commands.answer(command, texts, got[1], **options)
         if got != wanted:
             lines = difflib.unified_diff(printed(wanted), printed(got), "plain Python", "the program", n=1, lineterm="")
             raise Mismatch("\n".join([f"{command} {options}", *lines, *(f"--- text\n{escaped(it.decode('latin-1'))}" for it in texts)]))
