@@ -1,5 +1,5 @@
-"""What commands over loops print, by the letter of docs/FORMATS.md, in plain Python that has no code in common with modsched: `schedule`, `json`, `run`, `vary`, `bounds`, `edges`, `dot` and `plain`, for
-texts without a fault."""
+"""What commands over loops print, by the letter of docs/FORMATS.md, in plain Python that has no code in common with modsched: `schedule`, `json`, `run`, `vary`, `bounds`, `edges`, `dot` and `plain`,
+for texts without a fault."""
 import plain_explain
 import plain_graphs
 import plain_variants

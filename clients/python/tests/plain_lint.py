@@ -7,9 +7,10 @@ import re
 import tomllib
 from collections import namedtuple
 
+from plain_loops import OPCODES
+
 RESERVED = {"loop", "array", "param", "init", "end", "out", "if", "i"}
 COUNTS = {"mov": 1, "sel": 3, **dict.fromkeys(["add", "sub", "mul", "and", "or", "xor", "min", "max", "lt"], 2)}
-OPCODES = ["load", "store", "add", "sub", "mul", "and", "or", "xor", "min", "max", "lt", "sel", "mov"]
 MOST_NAMES = 224
 MOST_TEXT = 1_048_576
 

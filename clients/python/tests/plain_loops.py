@@ -352,7 +352,7 @@ def are_apart(one, other, turn):
 
 
 def allot(lifetimes, interval, registers):
-    """For each value, in order, the least number that is lawful with those before it; none where some value has no number. Of a value with the number c the instances of the iterations c, c + R,
+    """For each value, in order, the least number that is lawful with those before it, up to the first value that has no number. Of a value with the number c the instances of the iterations c, c + R,
     c + 2 R and on, and c - R and on, are in the physical register 0 of R, and in each other one it is the same some intervals later: so numbers are lawful where they are in that register."""
     turn = registers * interval
     numbers, spans = [], []
@@ -362,7 +362,7 @@ def allot(lifetimes, interval, registers):
         lawful = ((number, (start, length)) for number, start in enumerate(starts) if length <= turn and all(are_apart((start, length), span, turn) for span in spans))
         least = next(lawful, None)
         if least is None:
-            return None
+            break
         numbers.append(least[0])
         spans.append(least[1])
     return numbers

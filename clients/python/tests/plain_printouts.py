@@ -52,7 +52,7 @@ def kernel_of(loop, latencies, schedule, registers):
     """The kernel of a schedule, or none where its values have no registers."""
     lifetimes = lifetimes_of(loop, latencies, schedule)
     allotted = allot(lifetimes.values(), schedule.interval, registers)
-    if allotted is None:
+    if len(allotted) < len(lifetimes):
         return None
     numbers, uses = dict(zip(lifetimes, allotted)), uses_of(loop)
 

@@ -4,9 +4,9 @@ that is tried, and what holds the one that is taken. It shares no code with mods
 from collections import namedtuple
 from fractions import Fraction
 
+import plain_loops
 import plain_problems as plain
 
-MOST_REGISTERS = 256
 Tried = namedtuple("Tried", "interval cause who times alternatives lives numbers")
 """What comes of an interval: the cause why it gives no solution and whom it names, or None, the schedule, and what it gives each value. `who` is for `table` an operation, for `budget`
 some, for `stages` one and its time, and for `registers` the first file that lacks them and its first value that gets none."""
@@ -61,31 +61,9 @@ def fullest_set(problem):
 # registers
 
 
-def meetings(one, other, interval):
-    """By how many iterations an instance of the one value is later than one of the other with which it lives in one cycle."""
-    if one[0] > one[1] or other[0] > other[1]:
-        return range(0)
-    return range(-((one[1] - other[0]) // interval), (other[1] - one[0]) // interval + 1)
-
-
-def numbers_of(lives, interval, registers):
-    """The least number that is free for each value, one after another, as many as get one."""
-    numbers = []
-    for place, life in enumerate(lives):
-        if any(ahead % registers == 0 for ahead in meetings(life, life, interval) if ahead):
-            break
-        # (instance j of a value stands in the register that is j below its number)
-        taken = {(number - ahead) % registers for number, it in zip(numbers, lives[:place]) for ahead in meetings(it, life, interval)}
-        free = next((it for it in range(registers) if it not in taken), None)
-        if free is None:
-            break
-        numbers.append(free)
-    return numbers
-
-
 def need_of(lives, interval):
     """The least number of registers with which each value gets a number, or None."""
-    return next((it for it in range(1, MOST_REGISTERS + 1) if len(numbers_of(lives, interval, it)) == len(lives)), None)
+    return next((it for it in range(1, plain_loops.REGISTERS + 1) if len(plain_loops.allot(lives, interval, it)) == len(lives)), None)
 
 
 def allot(problem, interval, lives):
@@ -93,7 +71,7 @@ def allot(problem, interval, lives):
     numbers = [0] * len(lives)
     for file, registers in enumerate(problem.files):
         its = [value for value, (_, _, of, _) in enumerate(problem.values) if of == file and registers is not None]
-        found = numbers_of([lives[it] for it in its], interval, registers or 0)
+        found = plain_loops.allot([lives[it] for it in its], interval, registers or 0)
         if len(found) < len(its):
             return file, its[len(found)]
         for value, number in zip(its, found):

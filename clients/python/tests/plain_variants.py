@@ -1,4 +1,5 @@
-"""What variants of a machine bring its loops, by the letter of docs/FORMATS.md ("The text of variants", "The text of totals", "The JSON document of variants"): it has no code in common with modsched."""
+"""What variants of a machine bring its loops, by the letter of docs/FORMATS.md ("The text of variants", "The text of totals", "The JSON document of variants"): it has no code in common with
+modsched."""
 import json
 from typing import NamedTuple
 

@@ -14,7 +14,6 @@ import plain_loops
 from random_problems import Mismatch
 
 TWO = ["add", "sub", "mul", "and", "or", "xor", "min", "max", "lt"]
-OPCODES = ["load", "store", *TWO, "sel", "mov"]
 EDGES = [0, 1, -1, 2, 7, 64, 2**31, -(2**31), 2**63 - 1, -(2**63)]
 
 
@@ -28,7 +27,7 @@ def machine_text(dice):
     registers = dice.choice([1, 2, 3, 4, 6, 8, 12, 16, 32, 64, 256])
     lines = [f"registers = {registers}", "units = [" + ", ".join(f'"{it}"' for it in units) + "]"]
     slowest = dice.choice([1, 2, 4, 8, 64])
-    for opcode in OPCODES:
+    for opcode in plain_loops.OPCODES:
         alternatives = [alternative(dice, units) for _ in range(dice.choice([1, 1, 2, 3]))]
         rows = ["[" + ", ".join(f'"{it}"' for it in rows) + "]" for rows in alternatives]
         lines += ["", f"[ops.{opcode}]", f"latency = {dice.randint(1, slowest)}", f"alts = [{', '.join(rows)}]"]
