@@ -4,7 +4,7 @@ import plain_explain
 import plain_graphs
 import plain_variants
 from plain_loops import loops_in, machine_in
-from plain_printouts import bounds_line, bounds_of, choice_of, document_line, listing_lines, run_text_lines
+from plain_printouts import are_met, bounds_line, bounds_of, choice_of, document_line, listing_lines, run_text_lines
 from plain_runs import run_lines
 
 
@@ -52,17 +52,16 @@ def lines_of(command, texts, printed, names=(), ratio=6, ceiling=32, trip=0, for
     if command == "bounds":
         return [bounds_line(bounds) for bounds in every] + [f"loops {len(loops)}"], True
     choices = [choice_of(bounds, machine.registers, ceiling) for bounds in every]
-    are_met = all(choice.kernel is not None for choice in choices)
-    if command == "run":
-        return run_text_lines(choices, trip), are_met
-    return [document_line(choices)] if command == "json" or format == "json" else listing_lines(choices), are_met
+    is_document = command == "json" or format == "json"
+    lines = run_text_lines(choices, trip) if command == "run" else [document_line(choices)] if is_document else listing_lines(choices)
+    return lines, all(are_met(choices))
 
 
 def answer(command, texts, printed, **options):
     """The exit status of a command, what it prints, and what it tells on the standard error. Texts are given as bytes, options by their words. Of several circuits that need the bound `dot` may
     mark any: it is given what was printed, and takes the circuits from there."""
     try:
-        lines, are_met = lines_of(command, texts, printed, **options)
+        lines, is_met = lines_of(command, texts, printed, **options)
     except Refused as why:
         return 5, "", f"modsched: {why}\n"
-    return int(not are_met), "".join(line + "\n" for line in lines), ""
+    return int(not is_met), "".join(line + "\n" for line in lines), ""

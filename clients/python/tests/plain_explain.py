@@ -10,6 +10,7 @@ import plain_loops
 import plain_problems as plain
 import plain_reasons as reasons_of
 import plain_texts
+from plain_printouts import last_line
 
 
 NO_CIRCUIT = "circuit none"
@@ -181,11 +182,6 @@ def loop_lines(told):
         yield from kernel_lines(told)
 
 
-def last_line(told):
-    met = sum(it.is_met for it in told)
-    return f"loops {len(told)} met {met} failed {len(told) - met}"
-
-
 def parts_of(word, text):
     """What a text tells of each loop or problem, by its name."""
     parts = re.split(rf"(?m)^(?={word} \S+ ops )", text)
@@ -210,7 +206,7 @@ def explain_loops(told, text):
     parts = parts_of("loop", text)
     for it in told:
         it.take_circuit([edge_told(it, line) for line in re.findall(r"(?m)^edge .*$", parts.get(it.loop.name, ""))])
-    return "".join(f"{line}\n" for it in told for line in loop_lines(it)) + last_line(told) + "\n"
+    return "".join(f"{line}\n" for it in told for line in loop_lines(it)) + last_line([it.is_met for it in told]) + "\n"
 
 
 # the document

@@ -5,6 +5,7 @@ Of several circuits that need the bound any may be bold, so `dot` is given the t
 import re
 from collections import namedtuple
 
+import plain_explain
 import plain_problems as plain
 import plain_reasons
 
@@ -32,13 +33,8 @@ def is_met(graph):
     return graph.why.tried[-1].cause is None
 
 
-def bounds(graph):
-    why = graph.why
-    return f"res {why.resources} rec {why.recurrences} mii {why.mii}"
-
-
 def edges_lines(graph):
-    yield f"{graph.word} {graph.name} ops {len(graph.operations)} {bounds(graph)}"
+    yield plain_explain.bounds_line(graph.word, graph.name, graph.problem, graph.why)
     found = zip(graph.operations, plain.latencies_of(graph.problem), plain.heights(graph.problem, graph.why.mii))
     for op, ((name, opcode), latency, height) in enumerate(found):
         yield f"op {op} {name} {opcode} latency {latency} height {height}"
@@ -92,8 +88,8 @@ def node_lines(graph, is_scheduled):
 
 
 def graph_lines(graph, part, is_scheduled):
-    last = graph.why.tried[-1]
-    label = f"{quoted(graph.name)} {bounds(graph)}"
+    why, last = graph.why, graph.why.tried[-1]
+    label = f"{quoted(graph.name)} res {why.resources} rec {why.recurrences} mii {why.mii}"
     if is_scheduled:
         label += f" failed to {last.interval}: {last.cause}" if last.cause else f" ii {last.interval} stages {max(last.times) // last.interval + 1}"
     yield f'digraph "{quoted(graph.name)}" {{'

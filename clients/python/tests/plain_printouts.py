@@ -131,16 +131,20 @@ def choice_head(choice):
     return f"{bounds_line(choice.bounds)} ii {choice.kernel.interval} stages {choice.kernel.stages}"
 
 
-def last_line(choices):
-    met = sum(choice.kernel is not None for choice in choices)
-    return f"loops {len(choices)} met {met} failed {len(choices) - met}"
+def last_line(are_met):
+    """How many loops there are, and how many of them have a kernel, by whether each has one."""
+    return f"loops {len(are_met)} met {sum(are_met)} failed {len(are_met) - sum(are_met)}"
+
+
+def are_met(choices):
+    return [choice.kernel is not None for choice in choices]
 
 
 def listing_lines(choices):
     lines = ["version 2"] if any(choice.bounds.loop.outs for choice in choices) else []
     for choice in choices:
         lines += [choice_head(choice)] + ([] if choice.kernel is None else kernel_lines(choice.kernel))
-    return lines + [last_line(choices)]
+    return lines + [last_line(are_met(choices))]
 
 
 def source_object(source, params):
@@ -173,7 +177,7 @@ def choice_object(choice):
 
 
 def document_line(choices):
-    met = sum(choice.kernel is not None for choice in choices)
+    met = sum(are_met(choices))
     document = {"failed": len(choices) - met, "loops": [choice_object(choice) for choice in choices], "met": met, "version": 1}
     return json.dumps(document, sort_keys=True, separators=(",", ":"))
 
@@ -183,4 +187,4 @@ def run_text_lines(choices, trip):
     lines = []
     for choice in choices:
         lines += [choice_head(choice)] if choice.kernel is None else run_lines(choice.bounds.loop, trip)
-    return lines + [last_line(choices)]
+    return lines + [last_line(are_met(choices))]

@@ -4,7 +4,7 @@ import json
 from typing import NamedTuple
 
 from plain_loops import OPCODES, REGISTERS, Machine, Row, Table
-from plain_printouts import bounds_of, choice_of
+from plain_printouts import bounds_of, choice_of, last_line
 
 UNITS, ALTERNATIVES = 64, 8
 
@@ -100,9 +100,8 @@ def result_words(result):
     return "failed" if result.interval is None else f"ii {result.interval} {result.change}"
 
 
-def last_line(standings):
-    met = sum(standing.interval is not None for standing in standings)
-    return f"loops {len(standings)} met {met} failed {len(standings) - met}"
+def are_met(standings):
+    return [standing.interval is not None for standing in standings]
 
 
 def vary_lines(standings):
@@ -111,7 +110,7 @@ def vary_lines(standings):
         bounds = f"loop {standing.loop.name} ops {len(standing.loop.statements)} mii {standing.least}"
         lines.append(f"{bounds} failed" if standing.interval is None else f"{bounds} ii {standing.interval} registers {standing.registers}")
         lines += [f"{result.variant.words()} {result_words(result)}" for result in standing.results]
-    return lines + [last_line(standings)]
+    return lines + [last_line(are_met(standings))]
 
 
 def sums(intervals):
@@ -131,7 +130,7 @@ def total_lines(machine, standings):
         # that there is no interval counts as longer than each
         shorter, longer = [sum((one is not None) and (other is None or one < other) for one, other in its) for its in ([(j, i) for i, j in pairs], pairs)]
         lines.append(f"{variant.words()} {sums([interval for _, interval in pairs])} shorter {shorter} longer {longer}")
-    return lines + [last_line(standings)]
+    return lines + [last_line(are_met(standings))]
 
 
 def result_object(result):
@@ -142,14 +141,14 @@ def result_object(result):
 
 
 def document_line(standings):
-    failed = sum(standing.interval is None for standing in standings)
+    met = sum(are_met(standings))
     loops = [{"ii": standing.interval, "mii": standing.least, "name": standing.loop.name, "operations": len(standing.loop.statements), "registers": standing.registers,
               "variants": [result_object(result) for result in standing.results]} for standing in standings]
-    return json.dumps({"failed": failed, "loops": loops, "met": len(loops) - failed, "version": 1}, sort_keys=True, separators=(",", ":"))
+    return json.dumps({"failed": len(loops) - met, "loops": loops, "met": met, "version": 1}, sort_keys=True, separators=(",", ":"))
 
 
 def lines_of(machine, loops, ratio, ceiling, is_total, is_document):
     """What `vary` prints, as lines, and whether each loop has a kernel on the machine as it is."""
     standings = standings_of(machine, loops, ratio, ceiling)
     lines = total_lines(machine, standings) if is_total else [document_line(standings)] if is_document else vary_lines(standings)
-    return lines, all(standing.interval is not None for standing in standings)
+    return lines, all(are_met(standings))
