@@ -1,4 +1,4 @@
-//! Workers on a board of words, in threads where they can be started.
+//! Workers on a board of words, each in a thread where one can be started.
 ghost use Rattle.std.specs.Prelude.{◌≡◌, ◌<◌, length};
 ghost use Rattle.std.specs.List.{All};
 ghost use Rattle.board.specs.Boards.{sizes_of};
@@ -11,7 +11,6 @@ use board::{WordBoard, WordPass};
 use candidates::Pieces;
 use ims::Prepared;
 use reports::Report;
-use shared_jobs::threads_for;
 use std::alloc::Global;
 use std::thread::{self, Threads};
 
@@ -57,8 +56,7 @@ impl<'a> Place<'a> {
     }
 }
 
-/// Works with the pass of each place, in threads where they can be started, and no more of them than there are processors: a thread that has several
-/// places works with one after another.
+/// Works with the pass of each place, each in a thread where one can be started.
 pub(crate) fn run_all<'a, R: Threads + Sync, G: Gate + Sync>(
     rt: &R,
     alloc: Global,
@@ -77,11 +75,11 @@ pub(crate) fn run_all<'a, R: Threads + Sync, G: Gate + Sync>(
     ensures all { length places.new ≡ length places.old }
     ensures done { All (IsDonePlace board.now loops.now pieces.now (G.always_goes_on gate.now)) places.new }
 {
-    let threads = threads_for(rt, places.len());
+    let workers = places.len();
     thread::for_each_mut(
         rt,
         places,
-        threads,
+        workers,
         &|worker, place| place.run(alloc, worker, board, loops, pieces, gate),
     );
 }

@@ -19,8 +19,8 @@ use reports::Report;
 use std::alloc::Global;
 use std::thread::Threads;
 
-/// The reports of `workers` workers, 1 to 64, on a board of their own, in threads where they can be started, and no more of them than there are
-/// processors, but two. Where the gate always lets a worker go on, each finds no piece left in the end. Then, unless a
+/// The reports of `workers` workers, 1 to 64, on a board of their own, each in a thread where one can be
+/// started. Where the gate always lets a worker go on, each finds no piece left in the end. Then, unless a
 /// worker was refused memory, nothing is left to try when the reports are gathered.
 ///
 /// # Errors

@@ -136,7 +136,7 @@ fn solved_in<R: Threads + Sync>(
 
 /// Solves each problem of a text, and tells in this format what that comes to: as text the answers one after another, in the order of
 /// the text, and at the end the line `# problems P met A failed B`; as JSON one document, on one line. The workers of the settings,
-/// in threads where they can be started, share the problems. With one worker no thread is started. Neither workers nor cut
+/// each in a thread where one can be started, share the problems. With one worker no thread is started. Neither workers nor cut
 /// change anything that is told.
 ///
 /// # Errors

@@ -5,7 +5,6 @@ ghost use Rattle.std.specs.List.{All};
 ghost use Rattle.shared_jobs.specs.inner.Slots.{IsMadeBelow};
 
 use crate::jobs::Job;
-use crate::threads::threads_for;
 use machine_data::OutOfMemory;
 use std::alloc::Global;
 use std::sync::atomic::{AtomicUsize, Ordering};
@@ -18,8 +17,8 @@ pub(crate) struct Made<T> {
     pub(crate) part: T,
 }
 
-/// What at most `workers` workers make together, each in a thread where one can be started, and no more of them than there are processors. Each
-/// draws jobs until none is left, or until it is refused memory: what is then lacking is left to the calling thread.
+/// What `workers` workers make together, each in a thread where one can be started. Each draws jobs until none is left,
+/// or until it is refused memory: what is then lacking is left to the calling thread.
 pub(crate) fn made_by_all<
     R: Threads + Sync,
     T: Drop + Send,
@@ -31,11 +30,10 @@ pub(crate) fn made_by_all<
 {
     let next = AtomicUsize::new(0);
     let drawn = &next;
-    let threads = threads_for(rt, workers);
     let made = thread::map_indices(
         rt,
         alloc,
-        threads,
+        workers,
         &|_| made_by_one(alloc, drawn, jobs, make),
     );
     match made {

@@ -6,8 +6,6 @@
 mod drawn;
 mod jobs;
 mod slots;
-mod threads;
 
 pub use jobs::{Job, Jobs, shared};
 pub use slots::parts_of;
-pub use threads::threads_for;
