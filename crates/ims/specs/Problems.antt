@@ -11,7 +11,7 @@ use Rattle.graph.specs.Units.{operations_of}
 use Rattle.modulo.specs.Problems as modulo
 
 -- the loop; its edges, and each operation's latency in cycles and alternatives; the machine's registers; the two lower bounds of the
--- interval; the placements allowed for each operation, and how many intervals above the least one are tried
+-- interval; an attempt may make ratio times as many placements as there are operations; how many intervals above the least one are tried
 pub record ProblemData : Type 0 where
   pub loop : LoopData
   pub graph : GraphData

@@ -56,7 +56,7 @@ pub const MAX_TRIP: u64 = 100_000;
 /// Stages of a schedule: iterations that overlap. The least is 1.
 pub const MAX_STAGES: u64 = 64;
 
-/// Budget ratio: placements that an attempt may make for each operation of its loop. The least is 1.
+/// Budget ratio: how many times as many placements as operations an attempt may make. The least is 1.
 pub const MAX_RATIO: u64 = 64;
 
 /// Ceiling: intervals above the lower bound that are tried after it.

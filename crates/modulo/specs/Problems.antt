@@ -8,8 +8,8 @@ use Rattle.graph.specs.Graphs.{GraphData, IsGraph}
 use Rattle.graph.specs.Units.{IsUnitBound}
 use Rattle.graph.specs.Walks.{IsRecurrenceBound}
 
--- the edges, and each operation's latency in cycles and alternatives; the two lower bounds of the interval; the placements allowed for
--- each operation, and how many intervals above the least one are tried
+-- the edges, and each operation's latency in cycles and alternatives; the two lower bounds of the interval; an attempt may make ratio
+-- times as many placements as there are operations; how many intervals above the least one are tried
 pub record ProblemData : Type 0 where
   pub graph : GraphData
   pub operations : List (List (List Row))

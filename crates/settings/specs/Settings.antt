@@ -4,8 +4,8 @@ use Rattle.machine_data.specs.declared.limits.TheConstants.{MAX_CEILING, MAX_CUT
 use Rattle.settings.specs.declared.OutOfRange.{OutOfRange}
 use Rattle.settings.specs.declared.OutOfRange.TheVariants.{Ratio, Ceiling, Workers, Cut}
 
--- how many placements an attempt may make for each operation, how many intervals above its least one a loop is tried at, how many
--- workers there are, and how many intervals a piece has
+-- an attempt may make ratio times as many placements as there are operations, for all together; how many intervals above its least
+-- one a loop is tried at, how many workers there are, and how many intervals a piece has
 pub record SettingsData : Type 0 where
   pub ratio : ℕ
   pub ceiling : ℕ

@@ -158,7 +158,7 @@ impl Prepared {
         self.problem.recurrences()
     }
 
-    /// How many placements an attempt may make for each operation, 1 to 64.
+    /// How many times as many placements as operations an attempt may make, 1 to 64.
     pub fn ratio(&self) -> u64
         ensures value { result ≡ self.now.ratio }
         ensures well_formed { IsProblem self.now }

@@ -40,9 +40,9 @@ impl Model for Problem {
 }
 
 impl Problem {
-    /// The problem of operations with these edges, latencies and alternatives: with a budget of `ratio`
-    /// placements for each operation, 1 to 64, and `ceiling` intervals above the least one to be tried, 0 to
-    /// 255. Both lower bounds of the interval are found here.
+    /// The problem of operations with these edges, latencies and alternatives: with a budget of `ratio` times
+    /// as many placements as operations, 1 to 64, and `ceiling` intervals above the least one to be tried, 0
+    /// to 255. Both lower bounds of the interval are found here.
     ///
     /// # Errors
     /// None: no memory is taken.
@@ -186,7 +186,7 @@ impl Problem {
         self.recurrences
     }
 
-    /// How many placements an attempt may make for each operation, 1 to 64.
+    /// How many times as many placements as operations an attempt may make, 1 to 64.
     pub fn ratio(&self) -> u64
         ensures value { result ≡ self.now.ratio }
         ensures well_formed { IsProblem self.now }
