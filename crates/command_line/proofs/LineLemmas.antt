@@ -3,7 +3,7 @@ use Rattle.std.proofs.lemmas.List.{take_more}
 use Rattle.std.proofs.Common.{[], ◌∷◌, ◌++◌, ◌+◌, ◌<◌, length, take, ◌≡◌, ◌⊎◌, ap, ℕ, List, Option, Some, None, Err, Ok, Result, IfOk, true, false, Bool, ◌||◌, ◌≤◌, ◌∙◌, codes, refl, sym, ap₂, subst, inl, inr, IfSome, IfNone, arith, get_or}
 use Rattle.clap.specs.declared.builder.command.Command as clap
 use Rattle.clap.specs.declared.builder.arg.Arg.{Arg}
-use Rattle.clap.specs.Words.{AddsArg, AddsSubcommand, App, HasKind, Kinds, Row, Text, app_of, rule_of, with_rule, with_subcommand, all_of, first_of, is_simple, is_simple_and_free, kind_of}
+use Rattle.clap.specs.Words.{AddsArg, AddsSubcommand, App, HasKind, Kinds, Row, Text, app_of, rule_of, with_rule, with_subcommand, all_of, first_of, is_simple_and_free, kind_of}
 use Rattle.clap.specs.declared.error.Error.{Error}
 use Rattle.command_line.specs.declared.line.Usage.{Usage}
 use Rattle.command_line.specs.declared.line.Usage.TheVariants.{Help, Refused, Memory}
@@ -16,7 +16,6 @@ use Rattle.command_line.specs.inner.Made.{HasLine, MakesLine, MakesProgram}
 use Rattle.command_line.specs.inner.Parts.{needed_line, rule_by, with_arguments, with_subcommands}
 use Rattle.command_line.specs.declared.line.form.Argument.{Argument}
 use Rattle.command_line.specs.declared.line.form.Subcommand.{Subcommand}
-use Rattle.std.proofs.lemmas.Bool.{and_parts}
 use Rattle.std.proofs.lemmas.Result.{IfOk-weaker}
 use Rattle.command_line.specs.declared.command.Command.{Command}
 use Rattle.command_line.specs.declared.command.Command.TheVariants as command
@@ -35,10 +34,6 @@ use Rattle.command_line.specs.declared.command.Work.TheVariants.{Plain, OnMachin
 pub program_is_free : is_simple_and_free program_line ≡ true
 unfolding program_line search_line schedule_line vary_line explain_line either_line either_with_names run_line plain_line lint_line solve_line check_line dot_line clap_on_literals
 program_is_free = refl
-
--- of which this is a part, so that it is not computed again
-pub program_is_simple : is_simple program_line ≡ true
-program_is_simple = (and_parts _ _ program_is_free).0
 
 -- an argument that is not global adds its rule, and makes nothing global
 pub adds : {E : Type 0} {made new : Result clap.Command E} (old : clap.Command) (arg : Arg) {line : App} → made ≡ Ok old → IfOk new (λ c. AddsArg old arg c)
@@ -271,14 +266,6 @@ lint-none rows none (command.Problems problems told) h = (other-report told (cod
 lint-none rows none (command.Check problems solutions) h = apart-check-lint (sym h.0)
 lint-none rows none (command.Lint texts format) h = none texts h.1
 
--- .. or its option says no format
-pub lint-formless : (rows : List Row) → ((f : Format) → ¬ SaysFormat (first_of (codes "format") rows) f) → (c : Command) → MeansNamed c (codes "lint") rows → ⊥
-lint-formless rows none (command.Loops loops names work) h = (other-work work (codes "lint") rows h.2).2 refl
-lint-formless rows none (command.Solve problems settings format) h = apart-solve-lint (sym h.0)
-lint-formless rows none (command.Problems problems told) h = (other-report told (codes "lint") rows h.3).2 refl
-lint-formless rows none (command.Check problems solutions) h = apart-check-lint (sym h.0)
-lint-formless rows none (command.Lint texts format) h = none format h.2
-
 -- the texts that `lint` was given are those of the paths and the option that were found
 pub no-texts : (rows : List Row) (path : Text) (is_given : Bool) (second : Option Text) → Some path ≡ first_of (codes "machine") rows
     → SaysSwitch (first_of (codes "machine-only") rows) is_given → second ≡ first_of (codes "loops") rows
@@ -370,11 +357,6 @@ pub on-is-not-off : (rows : List Row) (name : Text) (given : Bool) → SaysSwitc
 on-is-not-off rows name given says on off =
     let same : false ≡ given = one-switch false given (sym off ∙ says) in
     let apart : false ≡ true = same ∙ on in absurd (cc)
-
-pub off-is-not-on : (rows : List Row) (name : Text) (given : Bool) → SaysSwitch (first_of name rows) given → given ≡ false → ¬ SaysSwitch (first_of name rows) true
-off-is-not-on rows name given says off on =
-    let same : true ≡ given = one-switch true given (sym on ∙ says) in
-    let apart : true ≡ false = same ∙ off in absurd (cc)
 
 -- what `dot` may tell of loops, and of problems
 pub dot-tasks : (rows : List Row) → ¬ SaysSwitch (first_of (codes "scheduled") rows) false

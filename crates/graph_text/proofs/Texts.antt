@@ -23,9 +23,6 @@ zipped-push R f (a ∷ xs) [] x y h = absurd h
 zipped-push R f (a ∷ xs) (b ∷ ys) x y h =
     ap (λ rest. f a b ++ rest) (zipped-push R f xs ys x y h.1) ∙ sym (append_assoc (f a b) (zipped f xs ys) (f x y))
 
-pub texts-none : {A B : Type 0} (R : A → B → Type 0) (f : A → B → List ℕ) → AreTexts R f [] []
-texts-none R f = record { values = []; are_right = tt; is_text = refl }
-
 pub texts-push : {A B : Type 0} (R : A → B → Type 0) (f : A → B → List ℕ) (xs : List A) (text : List ℕ) (x : A) (y : B) → AreTexts R f xs text → R x y
     → AreTexts R f (xs ++ x ∷ []) (text ++ f x y)
 texts-push R f xs text x y h r = record {

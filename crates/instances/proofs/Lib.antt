@@ -1,4 +1,3 @@
-pub mod Apart
 pub mod Turned
 pub mod Issued
 pub mod Lives

@@ -1,7 +1,7 @@
 -- What lifetimes give: they begin no later than the landing, last to each read, and those of initial values are there at the start.
 use Rattle.std.proofs.Common.{◌≡◌, ◌⊎◌, ℕ, suc, zero, ◌+◌, ◌-◌, ◌*◌, ◌<◌, ◌≤◌, min, max, Bool, true, false, eqb, List, [], ◌∷◌, length, map, Some, pos, negsuc, ◌-ℤ◌, refl, sym, ap, ◌∙◌, subst, inl, inr, arith}
 use Rattle.std.specs.Prelude.{slice_get, if◌then◌else◌, ◌*ℤ◌}
-use Rattle.std.proofs.lemmas.Bool.{cases_Bool, cases_eq, cases_lt, eq-eqb, ne_eqb, cond-true, cond-false, cond_both, true≢false}
+use Rattle.std.proofs.lemmas.Bool.{cases_Bool, cases_eq, cases_lt, eq-eqb, ne_eqb, cond-true, cond-false, true≢false}
 use Rattle.std.proofs.lemmas.Int.{ints}
 use Rattle.std.proofs.lemmas.Option.{get_or_from_slice_get, slice_get-get_or, slice_get_within}
 use Rattle.std.proofs.Math.IntN.{negsuc-*ℤ-pos}
@@ -11,6 +11,7 @@ use Rattle.registers.specs.declared.value.Read.{Read}
 use Rattle.registers.specs.Lifetimes.{IsLiveIn}
 use Rattle.registers.specs.Values.{greatest_of, reads_of, landing_of, read_at, last_read, first_cycle, live_of, lives_from, lives_of}
 use Rattle.registers.proofs.Whole.{times-more}
+use Rattle.registers.proofs.lives.Spans.{first-early, late}
 use Rattle.instances.specs.Runs.{RunData, IsRun, carried_by, landing, value_of}
 
 -- the iteration `d` before iteration `j`, in cycles
@@ -123,28 +124,7 @@ last-most : (landing : ℕ) (ns : List ℕ) → greatest_of ns ≤ last_read lan
 last-most landing [] = omega arith
 last-most landing (n ∷ ns) = omega arith
 
--- the last read is no earlier than the landing, where no read is
-last-late : (f : Read → ℕ) (landing v : ℕ) (reads : List Read) → ((k : ℕ) (r : Read) → slice_get reads k ≡ Some r → r.value ≡ v → landing ≤ f r)
-    → landing ≤ last_read landing (map f (reads_of reads v))
-last-late f landing v [] all = omega arith
-last-late f landing v (r ∷ reads) all = elim (cases_eq r.value v) [
-  | inl same ↦
-      let e : last_read landing (map f (reads_of (r ∷ reads) v)) ≡ max (f r) (most f reads v)
-      = ap (λ (rs : List Read). last_read landing (map f rs)) (taken r reads v same) in
-      let h = all 0 r refl same in
-      omega arith
-  | inr apart ↦
-      let e : last_read landing (map f (reads_of (r ∷ reads) v)) ≡ last_read landing (map f (reads_of reads v))
-      = ap (λ (rs : List Read). last_read landing (map f rs)) (left r reads v apart) in
-      let h = last-late f landing v reads (λ k x there. all (suc k) x there) in
-      omega arith
-]
-
 -- a value's lifetime
-
-first-early : (ii landing iterations : ℕ) → first_cycle ii landing iterations ≤ landing
-first-early ii landing iterations =
-    cond_both (eqb iterations 0) landing (min landing ii) (λ n. n ≤ landing) (λ _. omega arith) (λ _. omega arith)
 
 first-interval : (ii landing iterations : ℕ) → 1 ≤ iterations → first_cycle ii landing iterations ≤ ii
 first-interval ii landing iterations some =
@@ -183,7 +163,7 @@ module _ (run : RunData) (is : IsRun run) where
   pub lasts-to_landing : (v : ℕ) → v < length run.values → landing_of run.times (value_of run v) ≤ (life run v).last
   unfolding life
   lasts-to_landing v within =
-      let l = last-late (read_at run.ii run.times) (landing_of run.times (value_of run v)) v run.reads
+      let l = late (read_at run.ii run.times) (landing_of run.times (value_of run v)) v run.reads
       (λ k r there same. is.in_time k r (value_of run v) there (ap (slice_get run.values) same ∙ value-there run v within)) in
       omega arith
 

@@ -37,10 +37,10 @@ line_whole text n h e past =
 
 -- words
 
-blank_no_hash : (c : ℕ) → is_blank c ≡ true → (c == 35) ≡ false
+pub blank_no_hash : (c : ℕ) → is_blank c ≡ true → (c == 35) ≡ false
 blank_no_hash c h = grind (arith, nat_tests)
 
-position_next : (p : ℕ → Bool) (c : ℕ) (cs : List ℕ) → p c ≡ false → position_or_len p (c ∷ cs) ≡ 1 + position_or_len p cs
+pub position_next : (p : ℕ → Bool) (c : ℕ) (cs : List ℕ) → p c ≡ false → position_or_len p (c ∷ cs) ≡ 1 + position_or_len p cs
 position_next p c cs h = rw h refl
 
 pub before_next : (p : ℕ → Bool) (c : ℕ) (cs : List ℕ) → p c ≡ false → before_first p (c ∷ cs) ≡ c ∷ before_first p cs

@@ -1,4 +1,5 @@
 pub mod AtSigns
+pub mod Columns
 pub mod Cuts
 pub mod Ends
 pub mod Equals

@@ -2,6 +2,7 @@ pub use Rattle.loop_data.specs.Arithmetic
 pub use Rattle.loop_data.specs.Names
 pub use Rattle.machine_data.specs.Opcodes
 pub mod Cells
+pub mod Columns
 pub mod Forms
 pub mod Near
 pub mod Parsed

@@ -57,7 +57,7 @@ pub fn next_line(text: &[u8]) -> (&[u8], &[u8])
 }
 
 /// A space, a tab or a carriage return.
-fn is_blank(byte: u8) -> bool
+pub(crate) fn is_blank(byte: u8) -> bool
     ensures { result ≡ is_blank byte }
 {
     byte == b' ' || byte == b'\t' || byte == b'\r'
@@ -65,7 +65,8 @@ fn is_blank(byte: u8) -> bool
 
 /// A blank, or `#`, with which a comment begins. Most words end at a space, and the bytes of names,
 /// numbers and signs are all above `#`.
-fn ends_word(byte: u8) -> bool
+#[inline]
+pub fn ends_word(byte: u8) -> bool
     ensures { result ≡ stops_word byte }
 {
     byte == b' ' || (byte <= b'#' && (is_blank(byte) || byte == b'#'))
@@ -109,7 +110,7 @@ fn without_blanks(text: &[u8]) -> &[u8]
 }
 
 /// How many bytes stand before the first blank or `#`.
-fn count_word(text: &[u8]) -> usize
+pub fn count_word(text: &[u8]) -> usize
     ensures { result ≡ position_or_len stops_word text.now }
 {
     let mut at = 0;

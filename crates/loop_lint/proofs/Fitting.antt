@@ -32,9 +32,6 @@ bare-position : (p : ℕ → Bool) (word : List ℕ) → list_any p word ≡ fal
 bare-position p [] h = refl
 bare-position p (c ∷ cs) h = bare-at p c cs (p c) refl (bare-position p cs) h
 
-abbrev is_open : ℕ → Bool
-is_open c = c == 91
-
 abbrev name_of : List ℕ → List ℕ
 name_of word = before_first (λ c. c == 91) word
 

@@ -14,7 +14,8 @@ use Rattle.loop_reader.specs.declared.fault.LoopFaultKind.{LoopFaultKind}
 use Rattle.loop_reader.specs.declared.fault.LoopFaultKind.TheVariants.{Limit, RepeatedName, UnknownName, UseBeforeDefinition, MissingInit}
 use Rattle.loop_lint.specs.Lints.{fault_at, told}
 use Rattle.loop_lint.specs.Parts.{AName, APlace, AUse, Part, PartAt, first_part, name_part, place_part, use_parts, use_word}
-use Rattle.loop_lint.specs.Words.{Placed, spot_at}
+use Rattle.loop_lines.specs.Columns.{Placed}
+use Rattle.loop_lint.specs.Words.{spot_at}
 use Rattle.loop_lint.specs.Hints.{no_hint}
 use Rattle.loop_lint.specs.declared.fault.Hint.{Hint}
 use Rattle.loop_lint.specs.declared.fault.Hint.TheVariants.{Nothing}

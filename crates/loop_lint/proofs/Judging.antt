@@ -2,8 +2,8 @@
 use Rattle.std.proofs.Common.{◌≡◌, ℕ, ◌+◌, ◌||◌, Bool, true, false, not, cond, List, [], ◌∷◌, ◌++◌, length, Option, Some, None, option_map, refl, sym, ◌∙◌, ap, unwrap_or, is_some, is_none, leb, ltb, get_or, lit≤, ℤ}
 use Rattle.std.specs.List.{list_any}
 use Rattle.std.specs.Option.{option_or}
-use Rattle.loop_lines.specs.Forms.{Form, ArrayLine, ParamLine, InitLine, StatementLine, OutLine, EndLine, Subscript, Use, StatementForm}
-use Rattle.loop_reader.specs.Meaning.{any_name, declared, has_init, has_statement, how_many, is_array, is_early, is_init, is_long, is_out_of, is_outside, is_param, is_statement, is_uncovered, is_unknown, is_unknown_place, is_value, is_wide, is_wide_place, when}
+use Rattle.loop_lines.specs.Forms.{Form, ArrayLine, InitLine, StatementLine, OutLine, EndLine, Subscript, Use, StatementForm}
+use Rattle.loop_reader.specs.Meaning.{any_name, declared, has_init, has_statement, how_many, is_array, is_early, is_init, is_long, is_out_of, is_outside, is_statement, is_uncovered, is_unknown, is_unknown_place, is_value, is_wide, is_wide_place, when}
 use Rattle.loop_lines.specs.Near.{IsNear}
 use Rattle.loop_reader.specs.declared.fault.LoopFaultKind.TheVariants.{Limit}
 use Rattle.loop_reader.proofs.lookups.Declared.{option_or-none}
@@ -21,12 +21,6 @@ use Rattle.loop_lint.proofs.Tables.{declared_there}
 head-word : (b : Bool) (w : ℕ) (rest : Option ℕ) → word_when b w ≡ word_when b (unwrap_or (cond b (Some w) rest) 0)
 head-word true w rest = refl
 head-word false w rest = refl
-
-over-two : (a b many : Bool) → option_or (option_or (word_when a 1) (word_when b 3)) (word_when many 0) ≡ word_when ((a || b) || many) (unwrap_or (cond a (Some 1) (cond b (Some 3) None)) 0)
-over-two true b many = refl
-over-two false true many = refl
-over-two false false true = refl
-over-two false false false = refl
 
 over-init : (a o b : Bool) → option_or (word_when a 1) (option_or (word_when o 1) (word_when b 3)) ≡ word_when ((a || o) || b) (unwrap_or (cond (a || o) (Some 1) (cond b (Some 3) None)) 0)
 over-init true o b = refl
@@ -48,20 +42,6 @@ found_array lines block words name cells table found is l r u e m = record {
       all_told line ws hint (word_of_fault lines block words (ArrayLine name cells)) found _ (wide || leb 32 (how_many is_array lines)) (is_some (declared lines name)) false false false
       (kinds_two _ _)
       (l ∙ ap (λ n. word_when (wide || leb 32 n) (unwrap_or (first_part is_over (parts_of words (ArrayLine name cells))) 0)) is.arrays)
-      (r ∙ ap (λ b. word_when b 1) (declared_there lines table name is) ∙ head-word (is_some (declared lines name)) 1 _)
-      u e m;
-}
-
-pub found_param : (lines block : List Form) (words : List (List ℕ)) (name : List ℕ) (value : Option ℤ) (table : Table) (found : Found) → IsTable lines table
-    → found.limit ≡ option_or (option_or (word_when (is_long name) 1) (word_when (is_none value) 3)) (word_when (leb 64 table.params) 0)
-    → found.repeated ≡ word_when (is_some (known_at table.names name).declared) 1 → found.unknown ≡ None → found.early ≡ None → found.missing ≡ None
-    → AreFound lines block words (ParamLine name value) found
-found_param lines block words name value table found is l r u e m = record {
-  same = λ line ws hint.
-      all_told line ws hint (word_of_fault lines block words (ParamLine name value)) found _ ((is_long name || is_none value) || leb 64 (how_many is_param lines)) (is_some (declared lines name)) false false false
-      (kinds_two _ _)
-      (l ∙ over-two (is_long name) (is_none value) (leb 64 table.params)
-      ∙ ap (λ n. word_when ((is_long name || is_none value) || leb 64 n) (unwrap_or (cond (is_long name) (Some 1) (cond (is_none value) (Some 3) None)) 0)) is.params)
       (r ∙ ap (λ b. word_when b 1) (declared_there lines table name is) ∙ head-word (is_some (declared lines name)) 1 _)
       u e m;
 }

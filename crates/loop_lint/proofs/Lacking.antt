@@ -14,7 +14,7 @@ use Rattle.loop_reader.specs.declared.fault.LoopFault.{LoopFault}
 use Rattle.loop_reader.specs.declared.fault.LoopFaultKind.TheVariants.{Limit, Syntax}
 use Rattle.loop_lint.specs.Lacks.{AreToldOn, HasTables, MeansLoops, SilentWith, count_before, faults_among, has_tables, inside_after, lack, lacks_for, lacks_from, lacks_in, merged}
 use Rattle.loop_lint.specs.Lints.{AreFaults, BeginsAs, TextLine, Blank, Words, faults_in, forms_in, line_with, plain, text_lines}
-use Rattle.loop_lint.specs.Words.{Placed, placed_words}
+use Rattle.loop_lines.specs.Columns.{Placed, placed_words}
 use Rattle.loop_lint.specs.declared.fault.LintFault.{LintFault}
 use Rattle.loop_lint.specs.declared.lacks.LoopLint.{LoopLint}
 use Rattle.loop_lint.specs.declared.lacks.LoopLint.TheVariants as lint

@@ -1,13 +1,10 @@
 -- All faults of a text, line by line, and without their words.
-use Rattle.std.proofs.Common.{◌≡◌, ℕ, ◌+◌, ◌<◌, ◌≤◌, ◌||◌, Bool, true, false, cond, List, [], ◌∷◌, ◌++◌, length, map, Option, Some, None, Err, refl, sym, ◌∙◌, ap, append_assoc, ltb, leb, length-append, subst}
+use Rattle.std.proofs.Common.{◌≡◌, ℕ, ◌+◌, ◌<◌, ◌≤◌, ◌||◌, Bool, true, false, cond, List, [], ◌∷◌, ◌++◌, length, map, Option, Some, Err, refl, sym, ◌∙◌, ap, append_assoc, ltb, length-append, subst}
 use Rattle.std.proofs.lemmas.Bool.{true≢false, le-ltb, lt-ltb}
-use Rattle.std.proofs.lemmas.List.{append-nil, map-append}
+use Rattle.std.proofs.lemmas.List.{map-append}
 use Rattle.std.proofs.lemmas.List.Folds.{list_any-append}
 use Rattle.std.specs.Borrow.{Bor}
-use Rattle.std.specs.BTreeMap.{is_at}
 use Rattle.std.specs.BTreeSet.{BTreeSet}
-use Rattle.std.specs.Cmp.Lexicographic.{slice_cmp}
-use Rattle.std.specs.Ordering.{nat_cmp}
 use Rattle.std.specs.List.{list_any}
 use Rattle.std.specs.Option.{option_or}
 use Rattle.machine_data.specs.Opcodes.{same_word}
@@ -17,14 +14,15 @@ use Rattle.loop_lines.specs.declared.form.Form as code
 use Rattle.loop_lines.specs.declared.form.Form.TheVariants as variants
 use Rattle.loop_lines.specs.Words.{lines_of, words_of}
 use Rattle.loop_data.specs.Loops.{LoopData}
-use Rattle.loop_reader.specs.Meaning.{Kinds, at_line, blocks_of, faults_of, first_fault, forms_of, inside_faults, is_long, line_faults, loop_of, loops_in, opening_faults, outside_faults, when, whole, with_line}
+use Rattle.loop_reader.specs.Meaning.{Kinds, at_line, blocks_of, faults_of, first_fault, forms_of, inside_faults, line_faults, loop_of, loops_in, opening_faults, outside_faults, when, whole, with_line}
 use Rattle.loop_reader.specs.declared.fault.LoopFault.{LoopFault}
 use Rattle.loop_reader.specs.declared.fault.LoopFaultKind.{LoopFaultKind}
 use Rattle.loop_reader.specs.declared.fault.LoopFaultKind.TheVariants.{Limit, RepeatedName, Syntax}
 use Rattle.loop_reader.proofs.faults.Checking.{or-none}
 use Rattle.loop_lint.specs.Lints.{AreFaults, BeginsAs, TextLine, Blank, Words, bytes_in, fault_at, faults_in, forms_in, inside_lints, line_with, lints_in, outside_lints, plain, text_lines, told, too_long}
 use Rattle.loop_lint.specs.Parts.{syntax_word, word_of_fault, word_of_opening}
-use Rattle.loop_lint.specs.Words.{Placed, placed_words, spot_at}
+use Rattle.loop_lines.specs.Columns.{Placed, placed_words}
+use Rattle.loop_lint.specs.Words.{spot_at}
 use Rattle.loop_lint.specs.Hints.{hint_of, no_hint}
 use Rattle.loop_lint.specs.declared.fault.Hint.{Hint}
 use Rattle.loop_lint.specs.declared.fault.Hint.TheVariants.{Nothing}
@@ -32,9 +30,9 @@ use Rattle.loop_lint.specs.declared.fault.LintFault.{LintFault}
 use Rattle.loop_lint.specs.inner.Founds.{told_if}
 use Rattle.loop_lint.specs.inner.Names.{is_among, AreNames, GoesOn}
 use Rattle.loop_lint.specs.inner.Passes.{is_end}
-use Rattle.loop_lint.proofs.Cuts.{same_words}
+use Rattle.loop_lines.proofs.Columns.{same_words}
 use Rattle.loop_lint.proofs.Founds.{word_when}
-use Rattle.loop_lint.proofs.Passing.{forms_read, inside-next, lines_next, lines_none}
+use Rattle.loop_lint.proofs.Passing.{forms_read, inside-next, lines_next}
 
 -- one line outside of loops
 
@@ -65,19 +63,6 @@ opening-at line words word false true false h k = rw h refl
 opening-at line words word false false true h k = rw k refl
 opening-at line words word false false false h k = refl
 
-pub opening_told : (line : ℕ) (words : List Placed) (before : List (List ℕ)) (names : BTreeSet (Bor (List ℕ))) (name : List ℕ) (loops : ℕ) (limit : Option ℕ) (there : Bool) (old next last : List LintFault)
-    → AreNames before names loops → limit ≡ option_or (word_when (is_long name) 1) (word_when (leb 1024 loops) 0) → there ≡ is_among names name
-    → next ≡ old ++ told_if line words no_hint Limit limit → last ≡ next ++ told_if line words no_hint RepeatedName (word_when there 1)
-    → last ≡ old ++ told line words no_hint (word_of_opening before name) (opening_faults before name)
-opening_told line words before names name loops limit there old next last are l t n k =
-    let one = told_if line words no_hint Limit limit in
-    let two = told_if line words no_hint RepeatedName (word_when there 1) in
-    let many : leb 1024 loops ≡ leb 1024 (length before) = ap (leb 1024) (sym are.count) in
-    k ∙ ap (λ fs. fs ++ two) n ∙ append_assoc old one two
-    ∙ ap (λ o. old ++ (told_if line words no_hint Limit o ++ two)) (l ∙ ap (λ b. option_or (word_when (is_long name) 1) (word_when b 0)) many)
-    ∙ ap (λ b. old ++ (told_if line words no_hint Limit (option_or (word_when (is_long name) 1) (word_when (leb 1024 (length before)) 0)) ++ told_if line words no_hint RepeatedName (word_when b 1))) (t ∙ are.each name)
-    ∙ ap (λ fs. old ++ fs) (opening-at line words (word_of_opening before name) (is_long name) (leb 1024 (length before)) (list_any (same_word name) before) refl refl)
-
 pub names_more : (before : List (List ℕ)) (old new : BTreeSet (Bor (List ℕ))) (name : List ℕ) (loops : ℕ) → ((q : List ℕ) → is_among new q ≡ (is_among old q || same_word q name)) → AreNames before old loops
     → AreNames (before ++ name ∷ []) new (loops + 1)
 names_more before old new name loops more are = record {
@@ -89,16 +74,6 @@ names_more before old new name loops more are = record {
 }
 
 -- how a text goes on
-
-pub goes_blank : (before : List (List ℕ)) (names : BTreeSet (Bor (List ℕ))) (number loops : ℕ) (rest this after : List ℕ) (faults : List LintFault) → lines_of rest ≡ this ∷ lines_of after
-    → line_form (words_of this) ≡ None → AreNames before names loops
-    → GoesOn names (number + 1) loops (text_lines after) faults (faults ++ outside_lints number before (text_lines rest))
-goes_blank before names number loops rest this after faults h none are = record {
-  more = before;
-  are = are;
-  same = ap (λ lines. faults ++ outside_lints number before lines) (lines_next rest this after h)
-      ∙ ap (λ form. faults ++ outside_lints number before (line_with (placed_words this) form ∷ text_lines after)) none;
-}
 
 pub goes_syntax : (before : List (List ℕ)) (names : BTreeSet (Bor (List ℕ))) (number loops word : ℕ) (rest this after : List ℕ) (form : Form) (old new : List LintFault) → lines_of rest ≡ this ∷ lines_of after
     → line_form (words_of this) ≡ Some form → is_loop form ≡ false → word ≡ syntax_word (words_of this) form → new ≡ old ++ told_if number (placed_words this) no_hint Syntax (Some word)
@@ -139,23 +114,12 @@ goes_loop before old new number loops next rest this after left form name first 
       ∙ block (before ++ name ∷ []);
 }
 
-pub empty_among : (names : BTreeSet (Bor (List ℕ))) → names.keys ≡ [] → (q : List ℕ) → is_among names q ≡ false
-empty_among names h q = ap (λ (ks : List (Bor (List ℕ))). list_any (is_at (λ (k : Bor (List ℕ)). slice_cmp nat_cmp q k.now)) ks) h
-
-pub goes_first : (names : BTreeSet (Bor (List ℕ))) (text : List ℕ) (faults : List LintFault) → ((q : List ℕ) → is_among names q ≡ false)
-    → GoesOn names 1 0 (text_lines text) faults (faults ++ outside_lints 1 [] (text_lines text))
-goes_first names text faults none = record { more = []; are = record { each = none; count = refl }; same = refl }
-
 pub goes_on : (old new : BTreeSet (Bor (List ℕ))) (number loops next more : ℕ) (rest left : List TextLine) (faults last all : List LintFault) → GoesOn old number loops rest faults all
     → ((before : List (List ℕ)) → AreNames before old loops → GoesOn new next more left last (faults ++ outside_lints number before rest))
     → GoesOn new next more left last all
 goes_on old new number loops next more rest left faults last all g step =
     let s = step g.more g.are in
     record { more = s.more; are = s.are; same = g.same ∙ s.same }
-
-pub goes_ends : (names : BTreeSet (Bor (List ℕ))) (number loops : ℕ) (rest : List ℕ) (faults all : List LintFault) → length rest ≡ 0 → GoesOn names number loops (text_lines rest) faults all → faults ≡ all
-goes_ends names number loops rest faults all none g =
-    sym (g.same ∙ ap (λ lines. faults ++ outside_lints number g.more lines) (lines_none rest none) ∙ append-nil faults)
 
 -- without their words
 

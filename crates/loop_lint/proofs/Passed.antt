@@ -3,7 +3,8 @@ use Rattle.std.proofs.Common.{◌≡◌, ℕ, zero, suc, ◌+◌, ◌-◌, ◌<�
 use Rattle.loop_lines.specs.Forms.{int_of}
 use Rattle.loop_lint.specs.Misfits.{fits, places_misfit}
 use Rattle.loop_lint.specs.Parts.{cell_parts, first_part, is_over, is_wide_int}
-use Rattle.loop_lint.specs.Words.{Placed, after_word, spot_from}
+use Rattle.loop_lines.specs.Columns.{Placed, column_after}
+use Rattle.loop_lint.specs.Words.{spot_from}
 use Rattle.loop_lint.specs.declared.fits.Expected.{Expected}
 use Rattle.loop_lint.specs.declared.fits.Expected.TheVariants as expected
 use Rattle.loop_lint.specs.declared.spots.Spot.{Spot}
@@ -13,11 +14,11 @@ pub spot_here : (column left : ℕ) (words rest : List Placed) (w : Placed) (spo
 spot_here column left words rest w spot h z e = sym (ap (λ ws. spot_from column ws left) h ∙ ap (spot_from column (w ∷ rest)) z) ∙ e
 
 pub spot_next : (column left : ℕ) (words rest : List Placed) (w : Placed) (spot : Spot) → words ≡ w ∷ rest → 0 < left → spot_from column words left ≡ spot
-    → spot_from (after_word w) rest (left - 1) ≡ spot
+    → spot_from (column_after w) rest (left - 1) ≡ spot
 spot_next column zero words rest w spot h some e = absurd (omega arith)
 spot_next column (suc left) words rest w spot h some e =
     let less : suc left - 1 ≡ left = omega arith in
-    ap (spot_from (after_word w) rest) less ∙ sym (ap (λ ws. spot_from column ws (suc left)) h) ∙ e
+    ap (spot_from (column_after w) rest) less ∙ sym (ap (λ ws. spot_from column ws (suc left)) h) ∙ e
 
 pub spot_none : (column left : ℕ) (words : List Placed) (spot : Spot) → words ≡ [] → spot_from column words left ≡ spot → record { column = column; width = 0 } ≡ spot
 spot_none column left words spot h e = sym (ap (λ ws. spot_from column ws left) h) ∙ e

@@ -1,16 +1,16 @@
 -- The two passes over a block, line by line.
 use Rattle.std.proofs.Common.{◌≡◌, ℕ, ◌+◌, Bool, true, false, cond, List, [], ◌∷◌, ◌++◌, length, map, Option, Some, None, refl, sym, ◌∙◌, ap, subst, arith, append_assoc}
 use Rattle.std.proofs.lemmas.Bool.{true≢false}
-use Rattle.std.proofs.lemmas.List.{append-nil}
 use Rattle.loop_lines.specs.Forms.{Form, LoopLine, ArrayLine, ParamLine, InitLine, StatementLine, OutLine, EndLine, Malformed, line_form}
 use Rattle.loop_lines.specs.Words.{lines_of, words_of}
 use Rattle.loop_reader.specs.Meaning.{faults_of, forms_of, line_faults, stands, whole, with_line}
 use Rattle.loop_reader.specs.declared.fault.LoopFaultKind.TheVariants.{Syntax}
 use Rattle.loop_lines.specs.Near.{IsNearForm}
 use Rattle.loop_reader.proofs.blocks.BlockStanding.{Holds, near-words}
-use Rattle.loop_lint.specs.Lints.{TextLine, Words, bytes_in, fault_at, form_in, forms_in, inside_lints, line_read, line_with, no_end, outside_lints, text_lines, told}
+use Rattle.loop_lint.specs.Lints.{TextLine, Words, bytes_in, fault_at, form_in, forms_in, inside_lints, line_read, line_with, outside_lints, text_lines, told}
 use Rattle.loop_lint.specs.Parts.{syntax_word, word_of_fault}
-use Rattle.loop_lint.specs.Words.{Placed, placed_words, spot_at}
+use Rattle.loop_lines.specs.Columns.{Placed, placed_words}
+use Rattle.loop_lint.specs.Words.{spot_at}
 use Rattle.loop_lint.specs.declared.block.Table.{Table}
 use Rattle.loop_lint.specs.Hints.{hint_of}
 use Rattle.loop_lint.specs.declared.fault.Hint.TheVariants.{Nothing}
@@ -19,7 +19,7 @@ use Rattle.loop_lint.specs.declared.tell.Found.{Found}
 use Rattle.loop_lint.specs.inner.Founds.{told_all, AreFound}
 use Rattle.loop_lint.specs.inner.Passes.{is_end, Gathers, Tells}
 use Rattle.loop_lint.specs.inner.Tables.{IsTable}
-use Rattle.loop_lint.proofs.Cuts.{same_words}
+use Rattle.loop_lines.proofs.Columns.{same_words}
 
 -- lines of a text
 
@@ -42,10 +42,6 @@ forms_next text this after h = ap (map (λ line. line_form (words_of line))) h
 
 pub lines_next : (text this after : List ℕ) → lines_of text ≡ this ∷ lines_of after → text_lines text ≡ line_read this ∷ text_lines after
 lines_next text this after h = ap (map line_read) h
-
-pub lines_none : (text : List ℕ) → length text ≡ 0 → text_lines text ≡ []
-lines_none [] h = refl
-lines_none (c ∷ cs) h = absurd (omega arith)
 
 pub forms_none : (text : List ℕ) → length text ≡ 0 → forms_of text ≡ []
 forms_none [] h = refl
@@ -154,26 +150,6 @@ told_next number text block first at rest this after old new faults more end h e
       same = λ names. t.same names ∙ ap (λ lines. faults ++ inside_lints at names t.before lines) next ∙ (said.2 names (text_lines after) here).0;
     }
 
-pub told_end : (number : ℕ) (text : List ℕ) (block : List Form) (first : List LintFault) (at : ℕ) (rest this after : List ℕ) (old new : Table) (faults more : List LintFault) (end : Bool)
-    → lines_of rest ≡ this ∷ lines_of after → end ≡ true
-    → ((lines : List Form) → IsTable lines old → Tells at lines this new faults more block end)
-    → IsTold number text block first at rest old faults
-    → (names : List (List ℕ)) → first ++ inside_lints number names [] (text_lines text) ≡ more ++ outside_lints (at + 1) names (text_lines after)
-told_end number text block first at rest this after old new faults more end h e line t names =
-    let said : Tells at t.before this new faults more block true = subst (Tells at t.before this new faults more block) e (line t.before t.is) in
-    let next = lines_next rest this after h in
-    let here : whole t.before (line_form (words_of this) ∷ forms_in (text_lines after)) ≡ block
-    = ap (λ form. whole t.before (form ∷ forms_in (text_lines after))) (sym (form-read this)) ∙ ap (λ lines. whole t.before (forms_in lines)) (sym next) ∙ t.wholly in
-    t.same names ∙ ap (λ lines. faults ++ inside_lints at names t.before lines) next ∙ said names (text_lines after) here
-
-pub told_open : (number : ℕ) (text : List ℕ) (block : List Form) (first : List LintFault) (at : ℕ) (rest : List ℕ) (table : Table) (faults more : List LintFault) → length rest ≡ 0
-    → more ≡ faults ++ no_end at ∷ [] → IsTold number text block first at rest table faults
-    → (names : List (List ℕ)) → first ++ inside_lints number names [] (text_lines text) ≡ more ++ outside_lints at names (text_lines rest)
-told_open number text block first at rest table faults more none pushed t names =
-    let nothing = lines_none rest none in
-    t.same names ∙ ap (λ lines. faults ++ inside_lints at names t.before lines) nothing ∙ sym pushed
-    ∙ sym (append-nil more) ∙ ap (λ lines. more ++ outside_lints at names lines) (sym nothing)
-
 -- one line of it
 
 pub inside-next : (number : ℕ) (names : List (List ℕ)) (before : List Form) (words : List Placed) (form : Form) (lines : List TextLine) → is_end form ≡ false
@@ -188,17 +164,6 @@ inside-next number names before words (StatementLine source) lines e = refl
 inside-next number names before words (OutLine name) lines e = refl
 inside-next number names before words EndLine lines e = absurd (true≢false e)
 inside-next number names before words Malformed lines e = refl
-
-pub tells_none : (number : ℕ) (before : List Form) (line : List ℕ) (table : Table) (faults : List LintFault) (block : List Form) → line_form (words_of line) ≡ None → IsTable before table
-    → Tells number before line table faults faults block false
-tells_none number before line table faults block h is = (
-  before,
-  is,
-  λ names lines whole-is. (
-    ap (λ form. faults ++ inside_lints number names before (line_with (placed_words line) form ∷ lines)) h,
-    ap (λ form. whole before (form ∷ forms_in lines)) (sym h) ∙ whole-is,
-  ),
-)
 
 pub tells_no : (number : ℕ) (before : List Form) (line : List ℕ) (form : Form) (table : Table) (old faults : List LintFault) (block : List Form) (word : ℕ) → line_form (words_of line) ≡ Some form
     → stands before form ≡ false → IsTable before table → word ≡ syntax_word (words_of line) form

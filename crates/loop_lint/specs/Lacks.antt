@@ -10,7 +10,8 @@ use Rattle.loop_data.specs.declared.language.statement.Statement.{Statement}
 use Rattle.loop_lines.specs.Forms.{Form, LoopLine, ArrayLine, ParamLine, InitLine, StatementLine, OutLine, EndLine, Malformed}
 use Rattle.loop_reader.specs.Meaning.{loops_in}
 use Rattle.loop_lint.specs.Lints.{AreFaults, BeginsAs, TextLine, Blank, Words, plain, text_lines}
-use Rattle.loop_lint.specs.Words.{Placed, spot_at}
+use Rattle.loop_lines.specs.Columns.{Placed}
+use Rattle.loop_lint.specs.Words.{spot_at}
 use Rattle.loop_lint.specs.declared.fault.LintFault.{LintFault}
 use Rattle.loop_lint.specs.declared.lacks.LoopLint.{LoopLint}
 use Rattle.loop_lint.specs.declared.lacks.LoopLint.TheVariants as lint

@@ -4,6 +4,5 @@ pub mod Lacks
 pub mod Lints
 pub mod Misfits
 pub mod Parts
-pub mod Promises
 pub mod Words
 pub mod inner

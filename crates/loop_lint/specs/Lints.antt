@@ -12,7 +12,8 @@ use Rattle.loop_reader.specs.declared.fault.LoopFaultKind.{LoopFaultKind}
 use Rattle.loop_reader.specs.declared.fault.LoopFaultKind.TheVariants.{Limit, NoEnd, Syntax}
 use Rattle.loop_lint.specs.Hints.{hint_of, no_hint}
 use Rattle.loop_lint.specs.Parts.{syntax_word, word_of_fault, word_of_opening}
-use Rattle.loop_lint.specs.Words.{Placed, placed_words, spot_at}
+use Rattle.loop_lines.specs.Columns.{Placed, placed_words}
+use Rattle.loop_lint.specs.Words.{spot_at}
 use Rattle.loop_lint.specs.declared.spots.Spot.{Spot}
 use Rattle.loop_lint.specs.declared.fault.Hint.{Hint}
 use Rattle.loop_lint.specs.declared.fault.Hint.TheVariants.{Nothing}

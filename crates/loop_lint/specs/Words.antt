@@ -1,46 +1,13 @@
--- The words of a line, each with its column.
---
--- Without their columns they are the words of the loop text (a law says so).
-use Rattle.std.specs.Prelude.{ℕ, zero, suc, ◌+◌, ◌==◌, if◌then◌else◌, List, [], ◌∷◌, length}
-use Rattle.std.specs.List.{before_first}
-use Rattle.loop_lines.specs.Words.{ends_word, is_blank}
+-- Where the words of a line stand.
+use Rattle.std.specs.Prelude.{ℕ, zero, suc, List, [], ◌∷◌, length}
+use Rattle.loop_lines.specs.Columns.{Placed, column_after}
 use Rattle.loop_lint.specs.declared.spots.Spot.{Spot}
-
--- a word where it stands: the column of its first byte, from 1
-pub record Placed : Type 0 where
-  pub bytes : List ℕ
-  pub column : ℕ
-
--- a byte at a column, in front of the first word
-abbrev pub onto_first : ℕ → ℕ → List Placed → List Placed
-onto_first c column [] = record { bytes = c ∷ []; column = column } ∷ []
-onto_first c column (w ∷ ws) = record { bytes = c ∷ w.bytes; column = column } ∷ ws
-
--- the words of what has no comment and begins at a column
-abbrev pub pieces_from : ℕ → List ℕ → List Placed
-pieces_from column [] = []
-pieces_from column (c ∷ cs) =
-    if is_blank c then pieces_from (column + 1) cs
-    else if ends_word cs then record { bytes = c ∷ []; column = column } ∷ pieces_from (column + 1) cs
-    else onto_first c column (pieces_from (column + 1) cs)
-
--- the words of a rest of a line that begins at a column: `#` and what follows it is a comment
-abbrev pub words_from : ℕ → List ℕ → List Placed
-words_from column text = pieces_from column (before_first (λ c. c == 35) text)
-
--- the words of a line
-abbrev pub placed_words : List ℕ → List Placed
-placed_words line = words_from 1 line
-
--- the column after a word's last byte
-abbrev pub after_word : Placed → ℕ
-after_word w = w.column + length w.bytes
 
 -- where word `number` stands, counted from 0. Where there is none, the column after the last byte of the last one, and no byte
 abbrev pub spot_from : ℕ → List Placed → ℕ → Spot
 spot_from column [] number = record { column = column; width = 0 }
 spot_from column (w ∷ ws) zero = record { column = w.column; width = length w.bytes }
-spot_from column (w ∷ ws) (suc number) = spot_from (after_word w) ws number
+spot_from column (w ∷ ws) (suc number) = spot_from (column_after w) ws number
 
 abbrev pub spot_at : List Placed → ℕ → Spot
 spot_at words number = spot_from 1 words number

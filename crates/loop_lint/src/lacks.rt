@@ -5,7 +5,7 @@ ghost use Rattle.loop_lines.specs.Parsed.{form_seen};
 ghost use Rattle.machine_data.specs.Machines.{table_of};
 ghost use Rattle.loop_lint.specs.Lacks.{AreToldOn, SilentWith, column_of, count_before, inside_after, lack, lacks_for, lacks_from, line_of, merged, opcode_word, width_of};
 ghost use Rattle.loop_lint.specs.Lints.{text_lines};
-ghost use Rattle.loop_lint.specs.Words.{placed_words};
+ghost use Rattle.loop_lines.specs.Columns.{placed_words};
 ghost use Rattle.loop_lint.specs.inner.Lacking.{IsPassed};
 ghost use Rattle.loop_lint.specs.declared.lacks.LoopLint.TheVariants as lint;
 

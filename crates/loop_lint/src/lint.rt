@@ -6,7 +6,7 @@ ghost use Rattle.loop_reader.specs.Meaning.{loops_in, opening_faults};
 ghost use Rattle.loop_lint.specs.Hints.{no_hint};
 ghost use Rattle.loop_lint.specs.Lints.{AreFaults, BeginsAs, outside_lints, plain, text_lines, told};
 ghost use Rattle.loop_lint.specs.Parts.{word_of_opening};
-ghost use Rattle.loop_lint.specs.Words.{placed_words};
+ghost use Rattle.loop_lines.specs.Columns.{placed_words};
 ghost use Rattle.loop_lint.specs.inner.Names.{is_among, AreNames, GoesOn};
 
 use crate::fault::LintFault;

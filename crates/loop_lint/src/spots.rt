@@ -1,7 +1,8 @@
 //! Where the words of a line stand.
 
 ghost use Rattle.std.specs.Prelude.{◌≡◌, ◌+◌, ◌<◌, ◌^◌, length};
-ghost use Rattle.loop_lint.specs.Words.{placed_words, spot_at, words_from};
+ghost use Rattle.loop_lines.specs.Columns.{placed_words, words_from};
+ghost use Rattle.loop_lint.specs.Words.{spot_at};
 
 use crate::scan::first_word;
 

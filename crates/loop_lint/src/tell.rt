@@ -6,7 +6,8 @@ ghost use Rattle.loop_lines.specs.Words.{words_of};
 ghost use Rattle.loop_reader.specs.declared.fault.LoopFaultKind.TheVariants.{MissingInit, UnknownName};
 ghost use Rattle.loop_lint.specs.Hints.{hint_of, no_hint};
 ghost use Rattle.loop_lint.specs.Lints.{fault_at};
-ghost use Rattle.loop_lint.specs.Words.{placed_words, spot_at};
+ghost use Rattle.loop_lines.specs.Columns.{placed_words};
+ghost use Rattle.loop_lint.specs.Words.{spot_at};
 ghost use Rattle.loop_lint.specs.inner.Founds.{told_all, told_if};
 ghost use Rattle.loop_lint.specs.inner.Tables.{IsTable};
 

@@ -9,7 +9,7 @@ use Rattle.machine.specs.declared.fault.MachineFault.TheVariants.{Limit, Unknown
 use Rattle.machine_lint.specs.Spots.{key_of, limit_of}
 use Rattle.machine_lint.specs.HasFault.{HasAlternative, HasMachineFault, HasRow, HasTable, HasUnit, IsThere, limit, missing_key, repeated_row, repeated_unit, unknown_key, unknown_opcode, unknown_table_key, unknown_unit, wrong_type}
 use Rattle.machine_lint.specs.Tree as tree
-use Rattle.machine_lint.specs.Tree.{Lints, alternative_told, alternatives_told, entry_told, in_turn, inside_told, key_told, keys_told, missed, row_told, table_told, tables_told, told, tree_told, unit_told, units_told, value_told}
+use Rattle.machine_lint.specs.Tree.{alternative_told, alternatives_told, entry_told, in_turn, inside_told, key_told, keys_told, missed, row_told, table_told, tables_told, told, tree_told, unit_told, units_told, value_told}
 use Rattle.machine_lint.specs.Values.{is_wanted, is_within}
 use Rattle.machine_lint.specs.declared.place.MachineLint.{MachineLint}
 use Rattle.machine_lint.specs.declared.spots.Spot.{Spot}

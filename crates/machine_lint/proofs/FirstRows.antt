@@ -23,9 +23,6 @@ known-number units a h = elim (position (same_word a) units) as (λ o. position 
   | Some k ↦ λ e. (k, e)
 ] refl
 
-number-of : (units : List (List ℕ)) (a : List ℕ) (k : ℕ) → position (same_word a) units ≡ Some k → unwrap_or (position (same_word a) units) 0 ≡ k
-number-of units a k h = rw h
-
 at-number : (units : List (List ℕ)) (a : List ℕ) (k : ℕ) → position (same_word a) units ≡ Some k → get_or units k [] ≡ a
 at-number units a k h =
     let found = position-Some (same_word a) units k [] h in

@@ -1,5 +1,5 @@
 -- Words in their order: those that come first in a text are parts of the last one that is not above it.
-use Rattle.std.proofs.Common.{◌≡◌, ℕ, zero, suc, min, ◌+◌, ◌-◌, ◌<◌, ◌≤◌, ◌==◌, ◌&&◌, Bool, true, false, nat_cmp, List, [], ◌∷◌, ◌++◌, length, take, get_or, Option, Some, None, IfSome, Ordering, Less, Equal, Greater, ◌⊎◌, inl, inr, refl, sym, ap, ◌∙◌, arith, length-append, eq-eqb}
+use Rattle.std.proofs.Common.{◌≡◌, ℕ, zero, suc, ◌+◌, ◌-◌, ◌<◌, ◌≤◌, ◌==◌, ◌&&◌, Bool, true, false, nat_cmp, List, [], ◌∷◌, ◌++◌, length, take, get_or, Option, Some, None, IfSome, Ordering, Less, Equal, Greater, ◌⊎◌, inl, inr, refl, sym, ap, ◌∙◌, arith, length-append, eq-eqb}
 use Rattle.std.proofs.Math.ListN.{get_or-append}
 use Rattle.std.proofs.Math.Seq.{get_or-append_seam}
 use Rattle.std.proofs.lemmas.Bool.{cases_lt, eqb-true, false≢true}
@@ -266,12 +266,6 @@ common-differ w s t at apart one other = elim (cases_lt at (length w)) [
   | inl below ↦ absurd (apart (sym (begins-byte w s at one below) ∙ begins-byte w t at other below))
   | inr above ↦ above
 ]
-
-pub common-end : (w s t : List ℕ) (most : ℕ) → most ≡ min (length s) (length t) → begins w s ≡ true → begins w t ≡ true → length w ≤ most
-common-end w s t most is one other =
-    let left = begins-length w s one in
-    let right = begins-length w t other in
-    omega (arith, is, left, right)
 
 -- from a word that does not come first to the one that its link leads to
 

@@ -10,7 +10,7 @@ use Rattle.machine_lint.specs.declared.index.Mark.{Mark}
 use Rattle.machine_lint.specs.declared.sought.next.Next.{Next}
 use Rattle.std.proofs.lemmas.Slice.Eq.{bytes_eq-Decides}
 use Rattle.machine_lint.proofs.Keys.{and-false, key-no-word}
-use Rattle.machine_lint.proofs.Steps.{first-none, first-step}
+use Rattle.machine_lint.proofs.Steps.{first-step}
 
 module _ (text word : List ℕ) (at : ℕ) where
   pub word-here : begins word (drop at text) ≡ true → bare_at text (at + length word) ≡ false → bare_before text at ≡ false → is_word_at text word at ≡ true
@@ -149,12 +149,6 @@ pub next-step : (text : List ℕ) (words : List (List ℕ)) (at : ℕ) (olds new
     → ((j : ℕ) → j < length words → get_or news j none ≡ stepped text (nth words j) at (get_or olds j none)) → AreNext text words at news
 next-step text words at olds news below are each j inside =
     each j inside ∙ ap (stepped text (nth words j) at) (are j inside) ∙ from-step text (nth words j) at below
-
-pub next-end : (text : List ℕ) (words : List (List ℕ)) (nexts : List Next) → ((j : ℕ) → j < length words → get_or nexts j none ≡ none) → AreNext text words (length text) nexts
-next-end text words nexts nothing j inside =
-    let key = first-none (is_key_at text (nth words j)) (length text) (length text) (omega arith) in
-    let word = first-none (is_word_at text (nth words j)) (length text) (length text) (omega arith) in
-    nothing j inside ∙ rw (key, word) refl
 
 pub answer-is : (text own word : List ℕ) (from at : ℕ) (next : Next) (r : Option Mark) → next ≡ record { key = first_key text own at; word = first_word text own at } → own ≡ word → from ≡ at
     → r ≡ option_map (mark_at text) (option_or next.key next.word) → r ≡ option_map (mark_at text) (key_from text word from)

@@ -1,5 +1,5 @@
 -- Values by what the accessors of TOML's values give.
-use Rattle.std.proofs.Common.{◌≡◌, ℕ, ◌≤◌, ◌&&◌, true, false, List, length, map, take, Some, None, ℤ, pos, negsuc, int_le, Vec, Global, vec_len, inl, inr, refl, sym, ap, ◌∙◌, arith, not, ltb, leb, lt-ltb, le-ltb, le-leb}
+use Rattle.std.proofs.Common.{◌≡◌, ℕ, ◌≤◌, ◌&&◌, List, length, map, take, Some, None, Vec, Global, vec_len, inl, inr, refl, sym, ap, ◌∙◌, arith, not, ltb, leb, lt-ltb, le-ltb, le-leb}
 use Rattle.std.proofs.lemmas.Bool.{cases_lt, lt-leb}
 use Rattle.std.proofs.lemmas.List.{take-map, take_all}
 use Rattle.std.specs.List.{list_any}
@@ -7,11 +7,11 @@ use Rattle.toml.specs.Data.{Data, string, integer, float, boolean, datetime, arr
 use Rattle.toml.specs.View.{array_view, view}
 use Rattle.toml.specs.declared.value.Value.{Value}
 use Rattle.machine.specs.MachineText.{within}
-use Rattle.machine.proofs.checks.Faults.{array-at, integer-at, string-at}
+use Rattle.machine.proofs.checks.Faults.{array-at}
 use Rattle.machine.proofs.checks.Turns.{count-data_of, data_of-view}
 use Rattle.machine.proofs.texts.Texts.{list_any-map}
 use Rattle.machine_lint.specs.Spots.{shown}
-use Rattle.machine_lint.specs.Values.{counts, is_unit_of, items_in, measures, same_text}
+use Rattle.machine_lint.specs.Values.{counts, is_unit_of, items_in, same_text}
 use Rattle.machine_lint.specs.declared.spots.Found.TheVariants as found
 
 leb-not : (m n : ℕ) → leb m n ≡ not (ltb n m)
@@ -25,37 +25,6 @@ within-is high n = rw (leb-not 1 n, leb-not n high)
 
 pub counts-some : (d : Data) (v : Vec Value Global) (n high : ℕ) → Some (array_view v) ≡ as_array d → n ≡ vec_len v → 1 ≤ n → leb n high ≡ counts high d
 counts-some d v n high is len some = rw (array-at d (array_view v) is, count-data_of v n len) (let e = within-is high n in rw (le-leb 1 n some) at e)
-
-pub counts-none : (d : Data) (high : ℕ) → None ≡ as_array d → false ≡ counts high d
-counts-none (string s) high h = refl
-counts-none (integer z) high h = refl
-counts-none (float x) high h = refl
-counts-none (boolean b) high h = refl
-counts-none (datetime t) high h = refl
-counts-none (array ds) high h = cc
-counts-none (table ms) high h = refl
-
-int-measures : (high : ℕ) (z : ℤ) → (int_le (pos 1) z && int_le z (pos high)) ≡ measures high (integer z)
-int-measures high (pos n) = within-is high n
-int-measures high (negsuc n) = refl
-
-pub measures-some : (d : Data) (z : ℤ) (high : ℕ) → Some z ≡ as_integer d → (int_le (pos 1) z && int_le z (pos high)) ≡ measures high d
-measures-some d z high is = rw (integer-at d z is) (int-measures high z)
-
-pub measures-none : (d : Data) (high : ℕ) → None ≡ as_integer d → false ≡ measures high d
-measures-none (string s) high h = refl
-measures-none (integer z) high h = cc
-measures-none (float x) high h = refl
-measures-none (boolean b) high h = refl
-measures-none (datetime t) high h = refl
-measures-none (array ds) high h = refl
-measures-none (table ms) high h = refl
-
-pub shown-word : (d : Data) (text : List ℕ) → Some text ≡ as_str d → found.Word text ≡ shown d
-shown-word d text is = rw (string-at d text is)
-
-pub shown-number : (d : Data) (z : ℤ) → Some z ≡ as_integer d → found.Number z ≡ shown d
-shown-number d z is = rw (integer-at d z is)
 
 pub shown-elements : (d : Data) (v : Vec Value Global) (n : ℕ) → Some (array_view v) ≡ as_array d → n ≡ vec_len v → found.Elements n ≡ shown d
 shown-elements d v n is len = rw (array-at d (array_view v) is, count-data_of v n len)
@@ -79,12 +48,3 @@ elements-all d v n most is len few =
 
 pub unit-of-some : (d : Data) (v : Vec Value Global) (name : List ℕ) → Some (array_view v) ≡ as_array d → list_any (λ unit. same_text (string name) (view unit)) v.items ≡ is_unit_of (Some d) name
 unit-of-some d v name is = rw (array-at d (array_view v) is, data_of-view v.items) (sym (list_any-map (same_text (string name)) view v.items))
-
-pub unit-of-none : (d : Data) (name : List ℕ) → None ≡ as_array d → true ≡ is_unit_of (Some d) name
-unit-of-none (string s) name h = refl
-unit-of-none (integer z) name h = refl
-unit-of-none (float x) name h = refl
-unit-of-none (boolean b) name h = refl
-unit-of-none (datetime t) name h = refl
-unit-of-none (array ds) name h = cc
-unit-of-none (table ms) name h = refl

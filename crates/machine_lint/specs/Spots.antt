@@ -1,5 +1,5 @@
 -- Where in the tree of a machine text something stands, and what stands there.
-use Rattle.std.specs.Prelude.{ℕ, List, codes, length, Option, Some, None}
+use Rattle.std.specs.Prelude.{ℕ, List, codes, length}
 use Rattle.toml.specs.Data.{Data, string, integer, array}
 use Rattle.machine.specs.MachineText.{data_of, path_in, path_of}
 use Rattle.machine_lint.specs.declared.spots.Found.{Found}
@@ -13,10 +13,6 @@ shown (string text) = found.Word text
 shown (integer number) = found.Number number
 shown (array elements) = found.Elements (length (data_of elements))
 shown _ = found.Nothing
-
-abbrev pub shown_in : Option Data → Found
-shown_in None = found.Nothing
-shown_in (Some value) = shown value
 
 -- the key at which the reader of machine texts tells a fault there
 abbrev pub key_of : Spot → List ℕ

@@ -1,9 +1,9 @@
 -- Lists of variants, one more at a time.
-use Rattle.std.proofs.Common.{◌≡◌, ◌<◌, ◌≤◌, ◌+◌, ℕ, Bool, true, false, cond, List, [], ◌∷◌, ◌++◌, length, map, filter, get_or, take, refl, sym, ap, ◌∙◌, subst, append_assoc, arith}
+use Rattle.std.proofs.Common.{◌≡◌, ◌<◌, ◌≤◌, ◌+◌, ℕ, Bool, true, false, cond, List, [], ◌∷◌, ◌++◌, length, map, filter, refl, sym, ap, ◌∙◌, subst, append_assoc, arith}
 use Rattle.std.specs.Prelude.{nat_lt}
 use Rattle.std.specs.List.{All, range_with_len}
 use Rattle.std.proofs.lemmas.Bool.{ltb-true}
-use Rattle.std.proofs.lemmas.List.{map-append, map-id, take_more}
+use Rattle.std.proofs.lemmas.List.{map-append, map-id}
 use Rattle.std.proofs.lemmas.List.Elements.{All-append, All-filter, All-map, All-weaker, filter-append, filter_passes}
 use Rattle.std.proofs.lemmas.List.FromFn.{get_or-range_with_len, length-range_with_len, map-range_with_len_more}
 use Rattle.machine_data.specs.declared.opcode.Opcode.{Opcode}
@@ -37,11 +37,6 @@ kept-more f p xs x old items new b before same now =
     ∙ ap (λ ys. old ++ ys)
     (ap (λ c. map f (filter p xs) ++ cond c (f x ∷ []) []) same ∙ ap (λ ys. map f (filter p xs) ++ ys) (sym (one-kept f (p x) x))
     ∙ sym (map-append f (filter p xs) (cond (p x) (x ∷ []) [])) ∙ ap (map f) (sym (filter-append p xs (x ∷ []))))
-
-pub kept-item : {A : Type 0} (f : A → Variant) (p : A → Bool) (xs : List A) (i : ℕ) (x : A) (old items new : List Variant) (b : Bool) → i < length xs → x ≡ get_or xs i x
-    → items ≡ old ++ map f (filter p (take i xs)) → b ≡ p x → new ≡ items ++ cond b (f x ∷ []) [] → new ≡ old ++ map f (filter p (take (i + 1) xs))
-kept-item f p xs i x old items new b low at before same now =
-    kept-more f p (take i xs) x old items new b before same now ∙ ap (λ ys. old ++ map f (filter p ys)) (ap (λ y. take i xs ++ y ∷ []) at ∙ sym (take_more xs i x low))
 
 -- each variant of a machine is one
 

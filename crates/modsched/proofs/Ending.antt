@@ -3,26 +3,16 @@ use Rattle.std.proofs.Common.{◌≡◌, ℕ, ◌<◌, List, String, string_byte
 use Rattle.std.specs.Prelude.{Result, Ok, Err}
 use Rattle.std.proofs.lemmas.List.{take_all, length-take-le}
 use Rattle.std.proofs.lemmas.Bool.{cases_lt, lt-ltb}
-use Rattle.machine.specs.declared.fault.MachineFault.{MachineFault}
-use Rattle.machine.specs.declared.fault.MachineFault.TheVariants as machine_fault
 use Rattle.loops.specs.LoopFault.{LoopFault}
-use Rattle.loops.specs.LoopFaultKind.{LoopFaultKind}
-use Rattle.loops.specs.LoopFaultKind.TheVariants as kinds
 use Rattle.command_line.specs.declared.command.Command.{Command}
 use Rattle.command_line.specs.declared.command.Command.TheVariants as command
 use Rattle.command_line.specs.declared.command.Report.{Report}
 use Rattle.command_line.specs.declared.command.Report.TheVariants as report
 use Rattle.command_line.specs.declared.command.Work.{Work}
 use Rattle.command_line.specs.declared.command.Work.TheVariants.{Plain, OnMachine}
-use Rattle.file_faults.specs.declared.fault.FileFault.{FileFault}
-use Rattle.file_faults.specs.declared.fault.FileFault.TheVariants as file
-use Rattle.problem_tables.specs.declared.fault.Wrong.{Wrong as ProblemsWrong}
 use Rattle.problem_tables.specs.declared.fault.Wrong.TheVariants as problems_wrong
-use Rattle.problem_reader.specs.declared.fault.TextFault.{TextFault}
 use Rattle.problem_reader.specs.Files.{file_in_text, data_or}
 use Rattle.problem_reader.specs.Meaning.{forms_in}
-use Rattle.solution_reader.specs.declared.fault.Wrong.{Wrong as SolutionsWrong}
-use Rattle.solution_reader.specs.declared.fault.Wrong.TheVariants as solutions_wrong
 use Rattle.solution_reader.specs.declared.fault.SolutionFault.{SolutionFault}
 use Rattle.solution_reader.specs.Data.{SolutionData as TextSolution}
 use Rattle.solution_reader.specs.Meaning.{size_fault, solutions_in_text}
@@ -41,67 +31,10 @@ use Rattle.loops.specs.Meaning.{loops_in}
 use Rattle.modsched.specs.inner.Refusals.{IsRefusal}
 use Rattle.modsched.proofs.Lengths.{loops_in-take, machine_of-take}
 use Rattle.modsched.proofs.Linting.{lint-take}
-use Rattle.exit_status.specs.Statuses.{status_number, loops_status, problems_status, solutions_status, refusal_of_file, refusal_of_machine, refusal_of_problems}
+use Rattle.exit_status.specs.Statuses.{status_number}
 use Rattle.exit_status.specs.declared.status.Status.{Status}
 use Rattle.exit_status.specs.declared.status.Status.TheVariants.{Done, Unmet, MachineFaulty, LoopsFaulty, MachineUnread, LoopsUnread, ProblemsUnread, SolutionsUnread}
 use Rattle.exit_status.specs.declared.status.Status.TheVariants.{Machine, Loops, NoTable, NoLoop, Problems, Solutions, Unwritten, OutOfMemory}
-
--- the status of each refusal is one
-machine_refusal : (f : MachineFault) → IsRefusal (refusal_of_machine f)
-machine_refusal machine_fault.Memory = tt
-machine_refusal machine_fault.NotUtf8 = refl
-machine_refusal machine_fault.NotToml = refl
-machine_refusal (machine_fault.MissingKey k) = refl
-machine_refusal (machine_fault.WrongType k) = refl
-machine_refusal (machine_fault.UnknownKey k) = refl
-machine_refusal (machine_fault.UnknownUnit k) = refl
-machine_refusal (machine_fault.UnknownOpcode k) = refl
-machine_refusal (machine_fault.RepeatedUnit k) = refl
-machine_refusal (machine_fault.RepeatedRow k) = refl
-machine_refusal (machine_fault.Limit k) = refl
-
-loops_refusal_at : (kind : LoopFaultKind) (f : LoopFault) → f.kind ≡ kind → IsRefusal (loops_status kind f)
-loops_refusal_at kinds.Memory f is = tt
-loops_refusal_at kinds.Syntax f is = rw is refl
-loops_refusal_at kinds.Limit f is = rw is refl
-loops_refusal_at kinds.RepeatedName f is = rw is refl
-loops_refusal_at kinds.UnknownName f is = rw is refl
-loops_refusal_at kinds.UseBeforeDefinition f is = rw is refl
-loops_refusal_at kinds.MissingInit f is = rw is refl
-loops_refusal_at kinds.NoEnd f is = rw is refl
-
-pub file_refusal : (fault : FileFault) → IsRefusal (refusal_of_file fault)
-file_refusal (file.Machine f) = machine_refusal f
-file_refusal (file.Loops f) = loops_refusal_at f.kind f refl
-file_refusal (file.NoTable name opcode) = tt
-file_refusal file.Memory = tt
-
-problems_refusal_at : (what : ProblemsWrong) (f : TextFault) → f.what ≡ what → IsRefusal (problems_status what f)
-problems_refusal_at problems_wrong.Memory f is = tt
-problems_refusal_at problems_wrong.TextSize f is = rw is refl
-problems_refusal_at (problems_wrong.Form expected) f is = rw is refl
-problems_refusal_at problems_wrong.Place f is = rw is refl
-problems_refusal_at (problems_wrong.Count part) f is = rw is refl
-problems_refusal_at problems_wrong.Range f is = rw is refl
-problems_refusal_at problems_wrong.Repeated f is = rw is refl
-problems_refusal_at (problems_wrong.Unknown part) f is = rw is refl
-problems_refusal_at problems_wrong.Backward f is = rw is refl
-problems_refusal_at problems_wrong.NoEnd f is = rw is refl
-
-solutions_refusal_at : (what : SolutionsWrong) (f : SolutionFault) → f.what ≡ what → IsRefusal (solutions_status what f)
-solutions_refusal_at solutions_wrong.Memory f is = tt
-solutions_refusal_at solutions_wrong.TextSize f is = rw is refl
-solutions_refusal_at (solutions_wrong.Form expected) f is = rw is refl
-solutions_refusal_at solutions_wrong.Place f is = rw is refl
-solutions_refusal_at (solutions_wrong.Count part) f is = rw is refl
-solutions_refusal_at solutions_wrong.Repeated f is = rw is refl
-solutions_refusal_at (solutions_wrong.Unknown part) f is = rw is refl
-solutions_refusal_at solutions_wrong.NoEnd f is = rw is refl
-
-pub problems_refusal : (fault : ProblemsFault) → IsRefusal (refusal_of_problems fault)
-problems_refusal (problems.Problems f) = problems_refusal_at f.what f refl
-problems_refusal (problems.Solutions f) = solutions_refusal_at f.what f refl
-problems_refusal problems.Memory = tt
 
 -- among them one status alone tells that memory ran out
 pub refusal_memory : (status : Status) → IsRefusal status → status_number status ≡ 7 → status ≡ OutOfMemory

@@ -1,20 +1,14 @@
 -- What is written of a search, by what the search gave.
-use Rattle.std.proofs.Common.{◌≡◌, ◌<◌, ℕ, List}
-use Rattle.std.specs.Prelude.{Option, Some, None, Result, Ok, Err, IfOk, Vec}
+use Rattle.std.proofs.Common.{ℕ, List}
+use Rattle.std.specs.Prelude.{Option, Result, Ok, Err, Vec}
 use Rattle.std.specs.Global.{Global}
-use Rattle.machine.specs.Machines.{MachineData}
 use Rattle.machine.specs.Opcode.{Opcode}
-use Rattle.loops.specs.LoopFault.{LoopFault}
 use Rattle.loops.specs.Loops.{LoopData}
-use Rattle.graph.specs.Units.{first_lacking}
 use Rattle.ims.specs.Problems.{ProblemData}
 use Rattle.candidates.specs.Listings.{ListingData}
-use Rattle.file_faults.specs.Answers.{AnswersIn, AnswersLoops, AnswersOn}
+use Rattle.file_faults.specs.Answers.{AnswersLoops, AnswersOn}
 use Rattle.file_faults.specs.declared.fault.FileFault.{FileFault}
 use Rattle.file_faults.specs.declared.fault.FileFault.TheVariants.{Machine, Loops, NoTable, Memory}
-use Rattle.file_faults.proofs.Answering.{on_ok}
-use Rattle.one_thread.specs.Files.{ListsProblems, PreparesAndLists}
-use Rattle.printouts.proofs.Told.{own_ceiling}
 
 abbrev Lacking : Type 0
 Lacking = Option (List ℕ × Opcode)
@@ -37,12 +31,3 @@ module _ {A : Type 0} (F : List LoopData → A → Type 0) (lacking : List LoopD
 
 abbrev Searched : Type 0
 Searched = Result (Vec ProblemData Global × ListingData) FileFault
-
--- what a search gave lists its loops
-pub lists_own : (machine : MachineData) (ratio ceiling : ℕ) (loops : Result (List LoopData) LoopFault) (searched : Searched)
-    → AnswersIn (PreparesAndLists ratio ceiling machine) machine loops searched → IfOk searched (λ both. ListsProblems both.1.ceiling both.0.items both.1)
-lists_own machine ratio ceiling (Err e) (Ok both) a = cc
-lists_own machine ratio ceiling (Ok xs) (Ok both) a =
-    let is = on_ok (PreparesAndLists ratio ceiling machine xs) (first_lacking machine xs) both a in
-    own_ceiling ceiling both.0.items both.1 is.1.1
-lists_own machine ratio ceiling loops (Err fault) a = tt

@@ -1,10 +1,9 @@
 -- The answer is the nearest name.
-use Rattle.std.proofs.Common.{◌≡◌, ℕ, ◌+◌, ◌<◌, ◌≤◌, ◌&&◌, Bool, true, false, cond, List, [], ◌∷◌, ◌++◌, length, Option, Some, None, refl, sym, ◌∙◌, ap, arith, leb, ltb, inl, inr}
-use Rattle.std.proofs.lemmas.Bool.{cases_Bool, true≢false}
+use Rattle.std.proofs.Common.{◌≡◌, ℕ, ◌+◌, ◌<◌, ◌≤◌, ◌&&◌, Bool, true, false, cond, List, [], ◌∷◌, length, Option, Some, None, refl, sym, ap, arith, leb, ltb}
+use Rattle.std.proofs.lemmas.Bool.{true≢false}
 use Rattle.std.proofs.lemmas.Bool.Decides.{nat_tests}
-use Rattle.std.specs.List.{AllByRecursion}
 use Rattle.std.specs.Option.{option_or}
-use Rattle.near_names.specs.Nearest.{IsNearest, IsNearestBelow, distance, is_nearer, nearest, nearest_below}
+use Rattle.near_names.specs.Nearest.{IsNearestBelow, distance, is_nearer, nearest_below}
 
 both : (short : Bool) (apart limit : ℕ) → (short && ltb apart limit) ≡ true → (short ≡ true) × (apart < limit)
 both true apart limit h = (refl, grind (arith, nat_tests))

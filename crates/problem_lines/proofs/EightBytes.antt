@@ -1,11 +1,11 @@
 -- Eight bytes at once, and the first bit of a word.
-use Rattle.std.proofs.Common.{◌≡◌, ℕ, ◌+◌, ◌-◌, ◌^◌, ◌%◌, ◌<◌, ◌≤◌, ◌||◌, inl, inr, Bool, true, false, cond, eqb, ltb, min, List, length, get_or, map, take, drop, replicate, refl, sym, ap, ◌∙◌, arith, w8, w64}
+use Rattle.std.proofs.Common.{◌≡◌, ℕ, ◌+◌, ◌-◌, ◌^◌, ◌%◌, ◌<◌, ◌≤◌, ◌||◌, Bool, true, false, cond, eqb, ltb, min, List, length, get_or, map, take, drop, replicate, refl, sym, ap, ◌∙◌, arith, w8, w64}
 use Rattle.std.specs.Prelude.{◌++◌}
 use Rattle.std.specs.Int.{bit_at, trailing_zeros}
 use Rattle.std.specs.Simd.Lanes.{mask_l}
 use Rattle.std.specs.List.{starts_with}
 use Rattle.std.specs.Str.{bytes_eq}
-use Rattle.std.proofs.lemmas.Bool.{cases_lt, false_from_ne_true}
+use Rattle.std.proofs.lemmas.Bool.{false_from_ne_true}
 use Rattle.std.proofs.lemmas.Bool.Decides.{nat_tests, same_from_decides}
 use Rattle.std.proofs.lemmas.List.{get_or-map, take_all, take_rest, length-take-le, length-drop}
 use Rattle.std.proofs.lemmas.Simd.{bit_mask_l, bitmask_splat, zip2_splat, zip2_splat_left}
@@ -37,17 +37,6 @@ mask_above bytes y long =
 
 pub high_printable : (c : ℕ) → (ltb c 36 || ltb 126 c) ≡ false → is_printable c ≡ true
 high_printable c h = grind (arith, nat_tests)
-
--- what holds of each byte before a place, and of some more after them
-pub more_named : (text : List ℕ) (at ahead : ℕ) → ((k : ℕ) → k < at → is_printable (get_or text k 0) ≡ true) → ((k : ℕ) → k < ahead → is_printable (get_or text (at + k) 0) ≡ true)
-    → (k : ℕ) → k < at + ahead → is_printable (get_or text k 0) ≡ true
-more_named text at ahead here more k lt =
-    elim (cases_lt k at) [
-      | inl before ↦ here k before
-      | inr past ↦
-          let same : at + (k - at) ≡ k = omega arith in
-          ap (λ n. is_printable (get_or text n 0)) (sym same) ∙ more (k - at) (omega arith)
-    ]
 
 -- texts that are the same up to a place, and eight bytes more
 pub more_same : (one other : List ℕ) (at n : ℕ) → take at one ≡ take at other → bytes_eq (take n (drop at one)) (take n (drop at other)) ≡ true → take (at + n) one ≡ take (at + n) other

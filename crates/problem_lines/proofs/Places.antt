@@ -2,7 +2,7 @@
 use Rattle.std.proofs.Common.{◌≡◌, ℕ, List, ◌∷◌, Option, Some, None, refl}
 use Rattle.problem_lines.specs.Fits.{misfit}
 use Rattle.problem_lines.specs.Lines.{places_fault}
-use Rattle.problem_lines.specs.Words.{Placed, column_after}
+use Rattle.loop_lines.specs.Columns.{Placed, column_after}
 use Rattle.problem_lines.specs.declared.fault.Expected.{Expected}
 use Rattle.problem_lines.specs.declared.fault.LineFault.{LineFault}
 

@@ -4,7 +4,7 @@ use Rattle.machine_data.specs.Opcodes.{same_word}
 use Rattle.loop_lines.specs.Forms.{int_of, is_number}
 use Rattle.problem_lines.specs.Keywords.{keyword_named, solution_keyword_named}
 use Rattle.problem_lines.specs.Names.{is_name, is_unit_name, is_hold}
-use Rattle.problem_lines.specs.Words.{Placed}
+use Rattle.loop_lines.specs.Columns.{Placed}
 use Rattle.problem_lines.specs.declared.fault.Expected.{Expected}
 use Rattle.problem_lines.specs.declared.fault.Expected.TheVariants as expected
 use Rattle.problem_lines.specs.declared.fault.LineFault.{LineFault}

@@ -9,7 +9,8 @@ use Rattle.problem_lines.specs.Fits.{fault_on, misfit, surplus}
 use Rattle.problem_lines.specs.Forms.{Form, MachineLine, UnitsLine, FileLine, KindLine, ProblemLine, OpLine, ValueLine, ReadLine, EdgeLine, EndLine, HoldForm, hold_of}
 use Rattle.problem_lines.specs.Keywords.{keyword_named}
 use Rattle.problem_lines.specs.Numbers.{integer_of, number_of}
-use Rattle.problem_lines.specs.Words.{Placed, LeftWords, column_after, word_at}
+use Rattle.loop_lines.specs.Columns.{Placed, column_after}
+use Rattle.problem_lines.specs.Words.{LeftWords, word_at}
 use Rattle.problem_lines.specs.declared.fault.Expected.{Expected}
 use Rattle.problem_lines.specs.declared.fault.Expected.TheVariants.{Keyword, Name, UnitName, Number, Integer, Hold, Latency, Storage, Bar, Of, Lands, In, Distance, Offset, Delay}
 use Rattle.problem_lines.specs.declared.fault.LineFault.{LineFault}

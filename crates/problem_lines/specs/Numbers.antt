@@ -2,7 +2,7 @@
 use Rattle.std.specs.Prelude.{◌-◌, ◌^◌, min, length, unwrap_or}
 use Rattle.std.specs.Str.Parse.{digits_value}
 use Rattle.loop_lines.specs.Forms.{int_of}
-use Rattle.problem_lines.specs.Words.{Placed}
+use Rattle.loop_lines.specs.Columns.{Placed}
 use Rattle.problem_lines.specs.declared.number.Number.{Number}
 use Rattle.problem_lines.specs.declared.number.Integer.{Integer}
 use Rattle.std.specs.Prelude.{None}

@@ -1,6 +1,6 @@
 -- What is read of words, beside what it stands for.
 use Rattle.problem_lines.specs.Forms.{HoldForm}
-use Rattle.problem_lines.specs.Words.{Placed}
+use Rattle.loop_lines.specs.Columns.{Placed}
 use Rattle.problem_lines.specs.declared.kinds.HoldWord.{HoldWord}
 use Rattle.problem_lines.specs.declared.word.Word.{Word}
 

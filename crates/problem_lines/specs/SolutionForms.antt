@@ -1,5 +1,5 @@
 -- What a line of a text of solutions says.
-use Rattle.problem_lines.specs.Words.{Placed}
+use Rattle.loop_lines.specs.Columns.{Placed}
 use Rattle.problem_lines.specs.declared.number.Number.{Number}
 
 pub data SolutionForm : Type 0 where

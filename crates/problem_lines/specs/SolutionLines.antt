@@ -5,7 +5,8 @@ use Rattle.problem_lines.specs.Keywords.{solution_keyword_named}
 use Rattle.problem_lines.specs.Lines.{places_fault, unless_fault}
 use Rattle.problem_lines.specs.Numbers.{number_of}
 use Rattle.problem_lines.specs.SolutionForms.{SolutionForm, SolutionBegins, OpTime, ValueNumber, SolutionEnds}
-use Rattle.problem_lines.specs.Words.{Placed, LeftWords, column_after, word_at}
+use Rattle.loop_lines.specs.Columns.{Placed, column_after}
+use Rattle.problem_lines.specs.Words.{LeftWords, word_at}
 use Rattle.problem_lines.specs.declared.fault.Expected.{Expected}
 use Rattle.problem_lines.specs.declared.fault.Expected.TheVariants.{Name, Number, SolutionKeyword, Ii, Time, By, NumberWord}
 use Rattle.problem_lines.specs.declared.fault.LineFault.{LineFault}

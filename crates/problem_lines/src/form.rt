@@ -3,7 +3,7 @@
 ghost use Rattle.std.specs.Prelude.{◌≡◌};
 ghost use Rattle.problem_lines.specs.Lines.{keyword_line, line_form};
 ghost use Rattle.problem_lines.specs.Parsed.{result_seen, seen};
-ghost use Rattle.problem_lines.specs.Words.{placed_words};
+ghost use Rattle.loop_lines.specs.Columns.{placed_words};
 ghost use Rattle.problem_lines.specs.declared.keyword.Keyword.TheVariants as keywords;
 
 use crate::fault::{Expected, LineFault};

@@ -1,11 +1,6 @@
-//! What words of a problem text are: laws, stated by the contracts of functions that do nothing.
+//! What names of a problem text are: a law, stated by the contract of a function that does nothing.
 
-ghost use Rattle.problem_lines.specs.Promises.{WordsAreWords, NamesAreLabels};
-
-/// Without their columns the words of a line are those that the line would have in a loop text.
-pub fn words_are_words()
-    ensures { WordsAreWords }
-{}
+ghost use Rattle.problem_lines.specs.Promises.{NamesAreLabels};
 
 /// The words that are names are just the texts that labels have.
 pub fn names_are_labels()

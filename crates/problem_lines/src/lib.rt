@@ -21,7 +21,7 @@ pub use eights::are_same;
 pub use fault::{Expected, LineFault};
 pub use form::{Form, Line, line_of};
 pub use kinds::{Alternatives, HoldWord, Holds};
-pub use laws::{names_are_labels, words_are_words};
+pub use laws::names_are_labels;
 pub use lists::UnitNames;
 pub use number::{Integer, Number, Storage};
 pub use solution_form::{SolutionForm, SolutionLine, solution_line_of};

@@ -21,7 +21,7 @@ pub struct UnitNames<'a> {
 
 impl<'a> Model for UnitNames<'a> {
     ghost use Rattle.std.specs.Prelude.{◌≡◌, List, true};
-    ghost use Rattle.problem_lines.specs.Words.{Placed};
+    ghost use Rattle.loop_lines.specs.Columns.{Placed};
     ghost use Rattle.problem_lines.specs.inner.Cursors.{are_unit_names};
 
     ghost Value = { List Placed };

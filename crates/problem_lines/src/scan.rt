@@ -2,48 +2,15 @@
 
 ghost use Rattle.std.specs.Prelude.{◌≡◌, ℕ, ◌+◌, ◌<◌, ◌≤◌, ◌^◌, [], ◌∷◌, length, take, slice_index, true, false, IfSome, MatchOption};
 ghost use Rattle.std.specs.List.{list_all, position_or_len};
-ghost use Rattle.loop_lines.specs.Words.{is_blank, starts_blank, stops_word};
+ghost use Rattle.loop_lines.specs.Columns.{column_after, words_from};
+ghost use Rattle.loop_lines.specs.Words.{stops_word};
 ghost use Rattle.problem_lines.specs.Names.{is_printable};
-ghost use Rattle.problem_lines.specs.Words.{column_after, words_from};
 ghost use Rattle.problem_lines.specs.inner.Pieces.{placed};
 
 use crate::eights::count_named;
 use crate::names::is_printable;
 use crate::piece::Piece;
-
-/// A space, a tab or a carriage return.
-fn is_blank(byte: u8) -> bool
-    ensures { result ≡ is_blank byte }
-{
-    byte == b' ' || byte == b'\t' || byte == b'\r'
-}
-
-/// A blank, or `#`, with which a comment begins.
-fn ends_word(byte: u8) -> bool
-    ensures { result ≡ stops_word byte }
-{
-    is_blank(byte) || byte == b'#'
-}
-
-/// What follows the blanks in front, and its column.
-#[tactic(auto, using(crate::proofs::Cuts::blank_passed))]
-fn without_blanks(text: &[u8], column: usize) -> (&[u8], usize)
-    requires { column + length text.now < 2 ^ 64 }
-    ensures same_words { words_from result.1 result.0.now ≡ words_from column text.now }
-    ensures no_blank { starts_blank result.0.now ≡ false }
-    ensures same_end { result.1 + length result.0.now ≡ column + length text.now }
-{
-    let mut rest = text;
-    let mut at = column;
-    while let [first, more @ ..] = rest {
-        if !is_blank(*first) {
-            break;
-        }
-        rest = more;
-        at += 1;
-    }
-    (rest, at)
-}
+use loop_lines::{ends_word, past_blanks};
 
 /// How far a word goes.
 #[derive(Clone, Copy)]
@@ -106,13 +73,13 @@ fn count_word(text: &[u8]) -> Extent
 }
 
 /// The first word of a rest of a line that begins at a column, and what follows it.
-#[tactic(auto, using(crate::proofs::Cuts::words_none))]
+#[tactic(auto, using(loop_lines::proofs::Columns::words_none))]
 pub(crate) fn first_word(rest: &[u8], column: usize) -> Option<(Piece<'_>, &[u8])>
     requires { column + length rest.now < 2 ^ 64 }
     ensures words { MatchOption result (words_from column rest.now ≡ []) (λ x. words_from column rest.now ≡ placed x.0 ∷ words_from (column_after (placed x.0)) x.1.now) }
     ensures room { IfSome result (λ x. column_after (placed x.0) + length x.1.now < 2 ^ 64) }
 {
-    let (text, start) = without_blanks(rest, column);
+    let (text, start) = past_blanks(rest, column);
     let word = count_word(text);
     if word.count == 0 {
         return None;

@@ -3,7 +3,7 @@
 ghost use Rattle.std.specs.Prelude.{◌≡◌};
 ghost use Rattle.problem_lines.specs.SolutionLines.{solution_line_form, solution_rest};
 ghost use Rattle.problem_lines.specs.SolutionParsed.{solution_rest_seen, solution_seen};
-ghost use Rattle.problem_lines.specs.Words.{placed_words};
+ghost use Rattle.loop_lines.specs.Columns.{placed_words};
 ghost use Rattle.problem_lines.specs.declared.keyword.SolutionKeyword.TheVariants as keywords;
 
 use crate::fault::{Expected, LineFault};

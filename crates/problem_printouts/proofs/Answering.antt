@@ -1,5 +1,5 @@
 -- Answers for texts from those of their parts.
-use Rattle.std.proofs.Common.{◌≡◌, ◌≢◌, ℕ, List, refl, sym, subst, ap, ◌∙◌}
+use Rattle.std.proofs.Common.{◌≡◌, ◌≢◌, ℕ, List, sym, subst, ap, ◌∙◌}
 use Rattle.std.specs.Prelude.{Result, Ok, Err, ◌⊎◌}
 use Rattle.std.proofs.Common.{inl, inr}
 use Rattle.settings.specs.declared.format.Format.{Format}
@@ -7,17 +7,14 @@ use Rattle.settings.specs.Settings.{SettingsData}
 use Rattle.problem_tables.specs.Data.{FileData}
 use Rattle.problem_tables.specs.declared.fault.Wrong.{Wrong as ProblemWrong}
 use Rattle.problem_tables.specs.declared.fault.Wrong.TheVariants as problem_wrong
-use Rattle.problem_reader.specs.Files.{file_in_text, out_of_memory, AnswersText as ProblemsAnswer}
+use Rattle.problem_reader.specs.Files.{file_in_text, out_of_memory}
 use Rattle.problem_reader.specs.declared.fault.TextFault.{TextFault}
 use Rattle.solution_reader.specs.Data.{SolutionData as TextSolution}
-use Rattle.solution_reader.specs.Meaning.{solutions_in_text, AnswersFault, AnswersText as SolutionsAnswer}
-use Rattle.solution_reader.specs.declared.fault.SolutionFault.{SolutionFault}
-use Rattle.solution_reader.specs.declared.fault.Wrong.{Wrong as SolutionWrong}
-use Rattle.solution_reader.specs.declared.fault.Wrong.TheVariants as solution_wrong
+use Rattle.solution_reader.specs.Meaning.{solutions_in_text}
 use Rattle.problem_printouts.specs.declared.answers.Answers.{Answers}
 use Rattle.problem_printouts.specs.declared.fault.ProblemsFault.{ProblemsFault}
 use Rattle.problem_printouts.specs.declared.fault.ProblemsFault.TheVariants.{Problems, Solutions, Memory}
-use Rattle.problem_printouts.specs.Faults.{of_problems, of_problem_wrong, of_solutions, of_solution_wrong}
+use Rattle.problem_printouts.specs.Faults.{of_problem_wrong}
 use Rattle.problem_printouts.specs.Solving.{AnswersSolve, IsSolveIn}
 use Rattle.problem_printouts.specs.Judging.{AnswersCheck, IsFaultOf}
 use Rattle.problem_printouts.specs.inner.Judged.{AnswersLists}
@@ -41,12 +38,6 @@ refused-at F text fault what is so a =
     let other : fault.what ≢ problem_wrong.Memory = λ bad. let never : what ≡ problem_wrong.Memory = sym is ∙ bad in cc in
     so.problems fault (is-fault text fault a other) other
 
-pub solve_refused : (settings : SettingsData) (format : Format) (text : List ℕ) (fault : TextFault) → ProblemsAnswer (Err fault) (file_in_text text) → AnswersSolve settings format text (Err (of_problems fault))
-solve_refused settings format text fault a = refused-at (AnswersSolve settings format text) text fault fault.what refl (record { memory = tt; problems = λ f is other. (is, other) }) a
-
-pub check_refused : (problems solutions : List ℕ) (fault : TextFault) → ProblemsAnswer (Err fault) (file_in_text problems) → AnswersCheck problems solutions (Err (of_problems fault))
-check_refused problems solutions fault a = refused-at (AnswersCheck problems solutions) problems fault fault.what refl (record { memory = tt; problems = λ f is other. (is, other) }) a
-
 -- the problems are solved
 
 pub solve_told : (settings : SettingsData) (format : Format) (text : List ℕ) (file : FileData) (told : Answers) → Ok file ≡ file_in_text text → IsSolveIn format file settings told
@@ -54,17 +45,6 @@ pub solve_told : (settings : SettingsData) (format : Format) (text : List ℕ) (
 solve_told settings format text file told is a = (file, sym is, a)
 
 -- the text of solutions is refused
-
-solutions-at : (problems solutions : List ℕ) (file : FileData) (fault : SolutionFault) (what : SolutionWrong) → fault.what ≡ what → Ok file ≡ file_in_text problems
-    → AnswersFault {A = List TextSolution} what fault (solutions_in_text solutions) → AnswersCheck problems solutions (Err (of_solution_wrong what fault))
-solutions-at problems solutions file fault solution_wrong.Memory is is_file a = tt
-solutions-at problems solutions file fault what is is_file a =
-    let other : fault.what ≢ solution_wrong.Memory = λ bad. let never : what ≡ solution_wrong.Memory = sym is ∙ bad in cc in
-    record { file = file; is_file = sym is_file; is_fault = subst (λ meaning. IsFaultOf file meaning fault) a refl; of_text = other }
-
-pub solutions_refused : (problems solutions : List ℕ) (file : FileData) (fault : SolutionFault) → Ok file ≡ file_in_text problems → SolutionsAnswer (Err fault) (solutions_in_text solutions)
-    → AnswersCheck problems solutions (Err (of_solutions fault))
-solutions_refused problems solutions file fault is_file a = solutions-at problems solutions file fault fault.what refl is_file a
 
 -- both mean something
 

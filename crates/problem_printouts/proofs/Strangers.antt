@@ -1,7 +1,7 @@
 -- Names that are unknown.
-use Rattle.std.proofs.Common.{◌≡◌, ◌≢◌, ℕ, ◌+◌, ◌<◌, ◌≤◌, Bool, true, false, List, [], ◌∷◌, length, drop, Option, Some, None, refl, sym, ◌∙◌, ap, option_map}
+use Rattle.std.proofs.Common.{◌≡◌, ◌≢◌, ℕ, ◌+◌, ◌<◌, Bool, true, false, List, [], ◌∷◌, length, drop, Option, Some, None, sym, ◌∙◌, ap, option_map}
 use Rattle.std.specs.Option.{option_or}
-use Rattle.std.proofs.lemmas.List.{at_drop_all, at_drop_more}
+use Rattle.std.proofs.lemmas.List.{at_drop_more}
 use Rattle.problems.specs.declared.draft.Draft.{Draft}
 use Rattle.problem_tables.specs.Data.{FileData}
 use Rattle.problem_reader.specs.Files.{IsDraftOf, machine_at, problem_at}
@@ -67,9 +67,6 @@ unknown-is-no-memory file list fault is = first-one file list fault is
 pub record ArePast (file : FileData) (list : List TextSolution) (number : ℕ) : Type 0 where
   pub same : first_unknown file (drop number list) ≡ first_unknown file list
 
-pub past-none : (file : FileData) (list : List TextSolution) → ArePast file list 0
-past-none file list = record { same = refl }
-
 past-here : (file : FileData) (list : List TextSolution) (number : ℕ) → number < length list → ArePast file list number
     → option_or (unknown_of file (solution_at list number)) (first_unknown file (drop (number + 1) list)) ≡ first_unknown file list
 past-here file list number low past = sym (at_drop_more (first_unknown file) list number no_solution low) ∙ past.same
@@ -83,9 +80,6 @@ pub past-found : (file : FileData) (list : List TextSolution) (number : ℕ) (fa
     → Some fault ≡ first_unknown file list
 past-found file list number fault low past some =
     ap (λ o. option_or o (first_unknown file (drop (number + 1) list))) some ∙ past-here file list number low past
-
-pub past-all : (file : FileData) (list : List TextSolution) (number : ℕ) → length list ≤ number → ArePast file list number → None ≡ first_unknown file list
-past-all file list number high past = sym (at_drop_all (first_unknown file) list number high) ∙ past.same
 
 -- by the draft of a problem
 pub unknown-by-draft : (file : FileData) (s : TextSolution) (number : ℕ) (draft : Draft) → IsDraftOf (machine_at file (problem_at file number).machine) (problem_at file number) draft

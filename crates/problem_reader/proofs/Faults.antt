@@ -3,7 +3,7 @@ use Rattle.std.proofs.Common.{◌≡◌, ℕ, ℤ, zero, suc, pos, negsuc, ◌<�
 use Rattle.std.specs.Prelude.{◌&&◌, ◌||◌, ◌≤ℤ◌, nat_lt, nat_le, int_le, unwrap_or}
 use Rattle.std.specs.Option.{option_or}
 use Rattle.std.proofs.lemmas.Bool.{false≢true, and_parts, leb-true, ltb-true, or_cases}
-use Rattle.problem_lines.specs.Words.{Placed}
+use Rattle.loop_lines.specs.Columns.{Placed}
 use Rattle.problem_lines.specs.declared.number.Integer.{Integer}
 use Rattle.problem_lines.specs.declared.number.Number.{Number}
 use Rattle.problem_lines.specs.declared.number.Storage.{Storage}

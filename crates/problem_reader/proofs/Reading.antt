@@ -8,7 +8,7 @@ use Rattle.std.proofs.lemmas.List.{append-nil, length_push}
 use Rattle.loop_lines.specs.Words.{lines_of}
 use Rattle.problem_lines.specs.Forms.{Form, MachineLine, UnitsLine, FileLine, KindLine, ProblemLine, OpLine, ValueLine, ReadLine, EdgeLine, EndLine}
 use Rattle.problem_lines.specs.Lines.{LineForm, line_form}
-use Rattle.problem_lines.specs.Words.{Placed, placed_words}
+use Rattle.loop_lines.specs.Columns.{Placed, placed_words}
 use Rattle.problem_lines.specs.declared.number.Integer.{Integer}
 use Rattle.problem_lines.specs.declared.number.Number.{Number}
 use Rattle.problem_lines.specs.declared.fault.LineFault.{LineFault}

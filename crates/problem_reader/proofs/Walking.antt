@@ -10,7 +10,7 @@ use Rattle.problem_lines.specs.Forms.{Form, MachineLine, UnitsLine, FileLine, Ki
 use Rattle.problem_tables.specs.Data.{MachineData, ProblemData}
 use Rattle.problem_tables.specs.Names.{last_name}
 use Rattle.problem_tables.specs.Tables as tables
-use Rattle.problem_tables.specs.Tables.{MachineParts, ProblemParts, TablesData, no_machine, no_problem, no_tables, with_form, with_machine, with_machine_ended}
+use Rattle.problem_tables.specs.Tables.{MachineParts, ProblemParts, TablesData, no_machine, no_problem, with_form, with_machine, with_machine_ended}
 use Rattle.problem_reader.specs.Files.{last_machine, machine_of, problem_of, problems_from}
 use Rattle.problem_reader.specs.Sofar.{files_in, has_machine, inside, is_inside, is_machine, is_problem, is_served, kinds_in, machine_lines, machine_name, machines_in, problem_lines, problem_name, problems_in}
 use Rattle.problem_reader.proofs.Pushes.{filter-push, inside-push, since-push}

@@ -5,7 +5,7 @@ use Rattle.machine_data.specs.declared.limits.TheConstants.{MAX_DISTANCE, MAX_FI
 use Rattle.loop_lines.specs.Words.{lines_of}
 use Rattle.problem_lines.specs.Forms.{Form, MachineLine, UnitsLine, FileLine, KindLine, ProblemLine, OpLine, ValueLine, ReadLine, EdgeLine, EndLine}
 use Rattle.problem_lines.specs.Lines.{LineForm, line_form}
-use Rattle.problem_lines.specs.Words.{Placed, placed_words}
+use Rattle.loop_lines.specs.Columns.{Placed, placed_words}
 use Rattle.problem_lines.specs.declared.fault.LineFault.{LineFault}
 use Rattle.problem_lines.specs.declared.number.Number.{Number}
 use Rattle.problems.specs.declared.limits.TheConstants.{MAX_PROBLEMS, MAX_PROBLEM_TEXT}

@@ -2,7 +2,7 @@
 
 ghost use Rattle.std.specs.Prelude.{◌≡◌, IfOk, OnOk};
 ghost use Rattle.problem_lines.specs.Lines.{line_form};
-ghost use Rattle.problem_lines.specs.Words.{placed_words};
+ghost use Rattle.loop_lines.specs.Columns.{placed_words};
 ghost use Rattle.problem_tables.specs.Seen.{tables_seen};
 ghost use Rattle.problem_tables.specs.Tables.{with_machine_ended};
 ghost use Rattle.problem_reader.specs.inner.Reading.{text_fault, with_text, AnswersEnd, RefusesText};

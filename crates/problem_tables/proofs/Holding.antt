@@ -3,8 +3,8 @@ use Rattle.std.proofs.Common.{◌≡◌, ℕ, ◌++◌, Bool, true, false, not, 
 use Rattle.std.specs.Prelude.{◌||◌, ◌&&◌, ◌==◌}
 use Rattle.std.specs.List.{All, list_any}
 use Rattle.std.specs.Option.{option_or}
-use Rattle.std.proofs.lemmas.List.{append-nil, length-map, map-append}
-use Rattle.std.proofs.lemmas.List.Elements.{All-nil, All-push, All-head, All-tail}
+use Rattle.std.proofs.lemmas.List.{length-map, map-append}
+use Rattle.std.proofs.lemmas.List.Elements.{All-push, All-head, All-tail}
 use Rattle.problem_lines.specs.Forms.{HoldForm}
 use Rattle.problems.specs.declared.draft.Hold.{Hold}
 use Rattle.problem_tables.specs.Data.{hold_in}
@@ -65,9 +65,6 @@ same-repeated units hold sofar all none =
     ap (λ b. unless (not b) (on_word hold.unit wrong.Repeated))
     (same-rows units hold sofar (known-has (has_name units hold.unit.bytes) (on_word hold.unit (wrong.Unknown part.Units)) none) all)
 
-pub taken-none : (units : List (List ℕ)) (count : ℕ) (all : List HoldForm) (rows : List Hold) → rows ≡ [] → IsTaken units count all rows all
-taken-none units count all rows none = record { sofar = []; whole = refl; known = All-nil (IsKnown units); taken = none; fault = refl }
-
 pub taken-more : (units : List (List ℕ)) (count : ℕ) (all : List HoldForm) (rows more : List Hold) (hold : HoldForm) (left holds : List HoldForm)
     → IsTaken units count all rows left → left ≡ hold ∷ holds → hold_fault units count rows hold ≡ None → more ≡ rows ++ hold_in units hold ∷ []
     → IsTaken units count all more holds
@@ -92,12 +89,3 @@ taken-fault units count all rows hold left holds told t first some =
     ∙ fail-5 (crowd_fault count (map (hold_in units) t.sofar) hold) (room_at (on_word hold.unit) (length t.sofar) 16 part.Holds) (known units part.Units hold.unit)
     (offset_fault 63 hold.offset) _ _ (rest_fault units count (t.sofar ++ hold ∷ []) holds) told (same-repeated units hold t.sofar t.known)
     (sym (hold-faults units count t.sofar rows hold t.taken) ∙ some)
-
-rest-end : (units : List (List ℕ)) (count : ℕ) (sofar : List HoldForm) → rest_fault units count sofar [] ≡ None
-rest-end units count [] = refl
-rest-end units count (first ∷ sofar) = refl
-
-pub taken-all : (units : List (List ℕ)) (count : ℕ) (all : List HoldForm) (rows : List Hold) (left : List HoldForm) → IsTaken units count all rows left → left ≡ []
-    → (rest_fault units count [] all ≡ None) × (rows ≡ map (hold_in units) all)
-taken-all units count all rows left t none =
-    (t.fault ∙ ap (rest_fault units count t.sofar) none ∙ rest-end units count t.sofar, t.taken ∙ ap (map (hold_in units)) (sym (t.whole ∙ ap (λ hs. t.sofar ++ hs) none ∙ append-nil t.sofar)))

@@ -53,14 +53,6 @@ pub index-more : (names more : List (List ℕ)) (q : List ℕ) → has_name name
 index-more [] more q e = absurd (false≢true e)
 index-more (x ∷ xs) more q e = more-step (same_word q x) (has_name xs q) (index_of xs q) (index_of (xs ++ more) q) (index-more xs more q) e
 
-after-step : (here has : Bool) (i j count : ℕ) → (has ≡ false → j ≡ count + i) → (here || has) ≡ false → (if here then 0 else j + 1) ≡ suc count + i
-after-step true has i j count h e = absurd (false≢true (sym e))
-after-step false has i j count h e = let k = h e in omega (arith, k)
-
-pub index-after : (names more : List (List ℕ)) (q : List ℕ) → has_name names q ≡ false → index_of (names ++ more) q ≡ length names + index_of more q
-index-after [] more q e = let z : index_of more q ≡ 0 + index_of more q = omega arith in z
-index-after (x ∷ xs) more q e = after-step (same_word q x) (has_name xs q) (index_of more q) (index_of (xs ++ more) q) (length xs) (index-after xs more q) e
-
 -- names that there are have different numbers
 
 same-step : (a b : Bool) (x y first : List ℕ) (hasx hasy : Bool) (i j : ℕ) → (a ≡ true → x ≡ first) → (b ≡ true → y ≡ first) → (a || hasx) ≡ true → (b || hasy) ≡ true

@@ -6,7 +6,7 @@ use Rattle.machine_data.specs.declared.limits.TheConstants.{MAX_DELAY, MAX_OFFSE
 use Rattle.machine_data.specs.Opcodes.{same_word}
 use Rattle.problem_lines.specs.Forms.{HoldForm}
 use Rattle.problem_lines.specs.Lines.{LineForm}
-use Rattle.problem_lines.specs.Words.{Placed}
+use Rattle.loop_lines.specs.Columns.{Placed}
 use Rattle.problem_lines.specs.declared.number.Number.{Number}
 use Rattle.problem_lines.specs.declared.number.Integer.{Integer}
 use Rattle.problem_lines.specs.declared.number.Storage.{Storage}

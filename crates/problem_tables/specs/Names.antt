@@ -2,7 +2,7 @@
 use Rattle.std.specs.Prelude.{ℕ, ◌+◌, ◌-◌, Bool, if◌then◌else◌, List, [], ◌∷◌, length, map}
 use Rattle.std.specs.List.{list_any, slice_index_or}
 use Rattle.machine_data.specs.Opcodes.{same_word}
-use Rattle.problem_lines.specs.Words.{Placed}
+use Rattle.loop_lines.specs.Columns.{Placed}
 
 abbrev pub bytes_of : List Placed → List (List ℕ)
 bytes_of ws = map (λ (w : Placed). w.bytes) ws

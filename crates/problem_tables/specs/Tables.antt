@@ -4,7 +4,7 @@ use Rattle.std.specs.List.{slice_index_or}
 use Rattle.machine_data.specs.declared.limits.TheConstants.{MAX_DISTANCE, MAX_FILES, MAX_KINDS, MAX_LATENCY, MAX_OFFSET, MAX_ORDERS, MAX_ORDER_DISTANCE, MAX_READS, MAX_STATEMENTS, MAX_VALUES}
 use Rattle.problem_lines.specs.Forms.{Form, MachineLine, UnitsLine, FileLine, KindLine, ProblemLine, OpLine, ValueLine, ReadLine, EdgeLine, EndLine, HoldForm}
 use Rattle.problem_lines.specs.Lines.{LineForm}
-use Rattle.problem_lines.specs.Words.{Placed}
+use Rattle.loop_lines.specs.Columns.{Placed}
 use Rattle.problem_lines.specs.declared.number.Number.{Number}
 use Rattle.problem_lines.specs.declared.number.Integer.{Integer}
 use Rattle.problem_lines.specs.declared.number.Storage.{Storage}

@@ -16,13 +16,6 @@ ahead-more found told (Err number) = refl
 pub record IsAhead {A : Type 0} (all : List (Option A)) (found : List A) (number : ℕ) : Type 0 where
   pub same : each_told 0 all ≡ ahead found (each_told number (drop number all))
 
-ahead-none : {A : Type 0} (rest : Result (List A) ℕ) → rest ≡ ahead [] rest
-ahead-none (Ok more) = refl
-ahead-none (Err number) = refl
-
-pub ahead_first : {A : Type 0} (all : List (Option A)) → IsAhead all [] 0
-ahead_first all = record { same = ahead-none (each_told 0 all) }
-
 pub ahead_next : {A : Type 0} (all : List (Option A)) (found more : List A) (number : ℕ) (told : A) → IsAhead all found number → number < length all → get_or all number None ≡ Some told → more ≡ found ++ told ∷ [] → IsAhead all more (number + 1)
 ahead_next all found more number told is lt here e = record {
   same = is.same

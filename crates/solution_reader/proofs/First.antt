@@ -1,7 +1,7 @@
 -- The first thing of a list that passes a test.
-use Rattle.std.proofs.Common.{◌≡◌, ℕ, suc, ◌+◌, ◌<◌, ◌≤◌, Bool, true, false, cond, List, [], ◌∷◌, length, get_or, map, drop, Some, None, refl, sym, ◌∙◌, ap, arith, drop-cons, add-one, not}
+use Rattle.std.proofs.Common.{◌≡◌, ℕ, suc, ◌+◌, ◌<◌, Bool, true, false, cond, List, [], ◌∷◌, length, get_or, map, drop, Some, refl, sym, ◌∙◌, ap, arith, drop-cons, add-one, not}
 use Rattle.std.proofs.Math.ListN.{get_or-map}
-use Rattle.std.proofs.lemmas.List.{drop_all, length-map}
+use Rattle.std.proofs.lemmas.List.{length-map}
 use Rattle.std.specs.Option.{option_map}
 use Rattle.std.specs.Prelude.{find}
 use Rattle.solution_reader.specs.Data.{OpData, ValueData}
@@ -15,9 +15,6 @@ find_same p q h (x ∷ xs) = ap (λ b. cond b (Some x) (find p xs)) (h x) ∙ ap
 -- over rows that are seen as something, those before this number fail
 pub record IsPast {R A : Type 0} (seen : R → A) (p : A → Bool) (rows : List R) (number : ℕ) : Type 0 where
   pub same : find p (drop number (map seen rows)) ≡ find p (map seen rows)
-
-pub past_first : {R A : Type 0} (seen : R → A) (p : A → Bool) (rows : List R) → IsPast seen p rows 0
-past_first seen p rows = record { same = refl }
 
 past-cut : {R A : Type 0} (seen : R → A) (p : A → Bool) (rows : List R) (number : ℕ) (d : R) → number < length rows → (b : Bool) → p (seen (get_or rows number d)) ≡ b
     → find p (drop number (map seen rows)) ≡ cond b (Some (seen (get_or rows number d))) (find p (drop (suc number) (map seen rows)))
@@ -34,11 +31,6 @@ past_next seen p rows number d is lt here = record {
 pub past_here : {R A : Type 0} (seen : R → A) (p : A → Bool) (rows : List R) (number : ℕ) (d : R) → IsPast seen p rows number → number < length rows → p (seen (get_or rows number d)) ≡ true
     → Some (seen (get_or rows number d)) ≡ find p (map seen rows)
 past_here seen p rows number d is lt here = sym (past-cut seen p rows number d lt true here) ∙ is.same
-
-pub past_end : {R A : Type 0} (seen : R → A) (p : A → Bool) (rows : List R) (number : ℕ) → IsPast seen p rows number → length rows ≤ number → None ≡ find p (map seen rows)
-past_end seen p rows number is h =
-    let short : length (map seen rows) ≤ number = omega (arith, length-map rows seen) in
-    sym (ap (find p) (drop_all number (map seen rows) short)) ∙ is.same
 
 -- by another test that says the same
 

@@ -2,16 +2,15 @@
 use Rattle.std.proofs.Common.{◌≡◌, ℕ, ◌+◌, ◌<◌, ◌≤◌, Bool, true, false, List, [], ◌∷◌, ◌++◌, length, map, Option, Some, None, Result, Ok, Err, refl, sym, ◌∙◌, ap, subst, arith, not}
 use Rattle.std.proofs.lemmas.Bool.Decides.{nat_tests}
 use Rattle.std.specs.Bool.{nat_lt}
-use Rattle.std.specs.Option.{is_some}
 use Rattle.loop_lines.specs.Words.{lines_of}
 use Rattle.problem_lines.specs.SolutionForms.{SolutionForm, SolutionBegins, OpTime, ValueNumber, SolutionEnds}
 use Rattle.problem_lines.specs.SolutionLines.{SolutionLineForm, solution_line_form}
-use Rattle.problem_lines.specs.Words.{Placed, placed_words}
+use Rattle.loop_lines.specs.Columns.{Placed, placed_words}
 use Rattle.problem_lines.specs.declared.fault.LineFault.{LineFault}
 use Rattle.solution_reader.specs.Data.{has_name, op_names, value_names, solution_names}
 use Rattle.solution_reader.specs.Faults.{first_of, unless, on_line, on_word, one_more, stands, meaning_fault, line_fault}
-use Rattle.solution_reader.specs.Meaning.{at_line, end_fault, size_fault, judged, text_line, lines_from, forms_of, solutions_or, solutions_in_text, AnswersFault}
-use Rattle.solution_reader.specs.Sofar.{TextLine, head_in, ops_in, values_in, solutions_in}
+use Rattle.solution_reader.specs.Meaning.{at_line, size_fault, judged, text_line, lines_from, forms_of, solutions_or, solutions_in_text, AnswersFault}
+use Rattle.solution_reader.specs.Sofar.{TextLine, ops_in, values_in, solutions_in}
 use Rattle.solution_reader.specs.declared.fault.Part.{Part}
 use Rattle.solution_reader.specs.declared.fault.Part.TheVariants as part
 use Rattle.solution_reader.specs.declared.fault.SolutionFault.{SolutionFault}
@@ -117,25 +116,7 @@ pub goes_on : (before : List TextLine) (forms : Forms) (number : ℕ) (s new : S
 goes_on before forms number s new text line after g e step =
     record { after = step.after; is = step.is; same = g.same ∙ ap (λ ls. lines_from number g.after (map form_at ls)) e ∙ step.same }
 
-pub goes_wrong : (before : List TextLine) (forms : Forms) (number : ℕ) (s : SofarData) (text line after : List ℕ) (fault : SolutionFault) (g : GoesOn 1 before forms number s (forms_of text)) → lines_of text ≡ line ∷ lines_of after
-    → AnswersFault fault.what fault (lines_from number g.after (form_at line ∷ forms_of after))
-    → AnswersFault fault.what fault (lines_from 1 before forms)
-goes_wrong before forms number s text line after fault g e h =
-    subst (λ (meaning : Result (List TextLine) SolutionFault). AnswersFault fault.what fault meaning) (sym (g.same ∙ ap (λ ls. lines_from number g.after (map form_at ls)) e)) h
-
 -- the end of the text
-
-pub finished : (forms : Forms) (number : ℕ) (s : SofarData) → GoesOn 1 [] forms number s [] → is_some s.begun.head ≡ false → Ok s.begun.ended ≡ solutions_or (lines_from 1 [] forms)
-finished forms number s g outside =
-    let none : is_some (head_in g.after) ≡ false = ap is_some (sym g.is.head) ∙ outside in
-    let ends : lines_from number g.after [] ≡ Ok g.after = rw none refl in
-    ap Ok g.is.ended ∙ sym (ap solutions_or (g.same ∙ ends))
-
-pub unfinished : (forms : Forms) (number : ℕ) (s : SofarData) → GoesOn 1 [] forms number s [] → is_some s.begun.head ≡ true → Err (end_fault number) ≡ solutions_or (lines_from 1 [] forms)
-unfinished forms number s g inside =
-    let some : is_some (head_in g.after) ≡ true = ap is_some (sym g.is.head) ∙ inside in
-    let ends : lines_from number g.after [] ≡ Err (end_fault number) = rw some refl in
-    sym (ap solutions_or (g.same ∙ ends))
 
 pub too_long : (text : List ℕ) → 16777216 < length text → Err size_fault ≡ solutions_in_text text
 unfolding solutions_in_text

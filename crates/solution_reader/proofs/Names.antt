@@ -47,7 +47,7 @@ push-from t i (y ∷ ys) x = push-at t i y ys x (t y) refl (push-from t (i + 1) 
 number-from : (names : List (List ℕ)) (q : List ℕ) → number_of_name names q ≡ position_from (same_word q) 0 names
 number-from names q = position_from-zero (same_word q) names
 
-number-push : (names : List (List ℕ)) (name q : List ℕ) → number_of_name (names ++ name ∷ []) q ≡ option_or (number_of_name names q) (if same_word q name then Some (length names) else None)
+pub number-push : (names : List (List ℕ)) (name q : List ℕ) → number_of_name (names ++ name ∷ []) q ≡ option_or (number_of_name names q) (if same_word q name then Some (length names) else None)
 number-push names name q =
     let zero_first : 0 + length names ≡ length names = omega arith in
     number-from (names ++ name ∷ []) q
@@ -71,7 +71,7 @@ has-number names q = ap is_some (number-from names q) ∙ any-from (same_word q)
 pub has_known : (names : List (List ℕ)) (numbers : BTreeMap (Bor (List ℕ)) ℕ) (q : List ℕ) → AreNumbers names numbers → is_some (known_at numbers q) ≡ has_name names q
 has_known names numbers q are = ap is_some (are.each q) ∙ has-number names q
 
-none-known : {T : Type 0} (o : Option T) → is_some o ≡ false → o ≡ None
+pub none-known : {T : Type 0} (o : Option T) → is_some o ≡ false → o ≡ None
 none-known None h = refl
 none-known (Some x) h = cc
 
@@ -81,7 +81,7 @@ absent_known names numbers q are h = none-known (known_at numbers q) (has_known 
 -- a name is added
 
 -- a map with one more name
-added : {X : Type 0} (old new : List ℕ → Option X) (name : List ℕ) (what : X) → old name ≡ None
+pub added : {X : Type 0} (old new : List ℕ → Option X) (name : List ℕ) (what : X) → old name ≡ None
     → ((q : List ℕ) → new q ≡ update bytes_eq old name (Some what) q)
     → (q : List ℕ) → new q ≡ option_or (old q) (if same_word q name then Some what else None)
 added {X} old new name what none is q =
@@ -109,9 +109,6 @@ more_numbers names more old new name number are count is_more known = record {
       ∙ sym (number-push names name q)
       ∙ ap (λ ns. number_of_name ns q) (sym is_more);
 }
-
-pub same_numbers : (names : List (List ℕ)) (old new : BTreeMap (Bor (List ℕ)) ℕ) → AreNumbers names old → ((q : List ℕ) → known_at new q ≡ known_at old q) → AreNumbers names new
-same_numbers names old new are same = record { each = λ q. same q ∙ are.each q }
 
 -- what stands at a number
 

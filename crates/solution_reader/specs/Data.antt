@@ -2,7 +2,7 @@
 use Rattle.std.specs.Prelude.{ℕ, Bool, List, map, Option}
 use Rattle.std.specs.List.{list_any, position}
 use Rattle.machine_data.specs.Opcodes.{same_word}
-use Rattle.problem_lines.specs.Words.{Placed}
+use Rattle.loop_lines.specs.Columns.{Placed}
 
 -- the name of a problem, the number of the line where its solution begins, and the interval, in cycles
 pub record HeadData : Type 0 where

@@ -4,7 +4,7 @@ use Rattle.std.specs.Option.{option_or}
 use Rattle.machine_data.specs.declared.limits.TheConstants.{MAX_STATEMENTS, MAX_VALUES}
 use Rattle.problem_lines.specs.SolutionForms.{SolutionForm, SolutionBegins, OpTime, ValueNumber, SolutionEnds}
 use Rattle.problem_lines.specs.SolutionLines.{SolutionLineForm}
-use Rattle.problem_lines.specs.Words.{Placed}
+use Rattle.loop_lines.specs.Columns.{Placed}
 use Rattle.problems.specs.declared.limits.TheConstants.{MAX_PROBLEMS}
 use Rattle.solution_reader.specs.Data.{has_name, op_names, value_names, solution_names}
 use Rattle.solution_reader.specs.Sofar.{TextLine, head_in, ops_in, values_in, solutions_in}

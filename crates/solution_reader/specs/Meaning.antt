@@ -2,7 +2,7 @@
 use Rattle.std.specs.Prelude.{◌≡◌, ℕ, ◌+◌, nat_lt, is_some, if◌then◌else◌, List, [], ◌∷◌, ◌++◌, length, map, Option, Some, None, Result, Ok, Err}
 use Rattle.loop_lines.specs.Words.{lines_of}
 use Rattle.problem_lines.specs.SolutionLines.{SolutionLineForm, solution_line_form}
-use Rattle.problem_lines.specs.Words.{placed_words}
+use Rattle.loop_lines.specs.Columns.{placed_words}
 use Rattle.problem_lines.specs.declared.fault.LineFault.{LineFault}
 use Rattle.problems.specs.declared.limits.TheConstants.{MAX_PROBLEM_TEXT}
 use Rattle.solution_reader.specs.Data.{SolutionData}

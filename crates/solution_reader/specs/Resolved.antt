@@ -3,7 +3,7 @@ use Rattle.std.specs.Prelude.{ℕ, ◌+◌, nat_lt, not, Bool, if◌then◌else�
 use Rattle.std.specs.Global.{Global}
 use Rattle.std.specs.List.{zip, slice_index_or}
 use Rattle.machine_data.specs.Opcodes.{same_word}
-use Rattle.problem_lines.specs.Words.{Placed}
+use Rattle.loop_lines.specs.Columns.{Placed}
 use Rattle.problems.specs.declared.draft.Draft.{Draft}
 use Rattle.problems.specs.declared.draft.File.{File}
 use Rattle.problems.specs.declared.draft.File.TheVariants as file

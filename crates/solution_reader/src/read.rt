@@ -3,7 +3,7 @@
 ghost use Rattle.std.specs.Prelude.{◌≡◌, ◌≤◌, List, [], Option, Some, Result, Ok, length};
 ghost use Rattle.problem_lines.specs.SolutionLines.{SolutionLineForm, solution_line_form};
 ghost use Rattle.problem_lines.specs.SolutionParsed.{solution_line_seen};
-ghost use Rattle.problem_lines.specs.Words.{placed_words};
+ghost use Rattle.loop_lines.specs.Columns.{placed_words};
 ghost use Rattle.problem_lines.specs.declared.fault.LineFault.{LineFault};
 ghost use Rattle.problems.specs.declared.limits.TheConstants.{MAX_PROBLEM_TEXT};
 ghost use Rattle.solution_reader.specs.Meaning.{forms_of, lines_from, solutions_in_text, solutions_or, AnswersText};

@@ -4,7 +4,7 @@ use Rattle.std.specs.Prelude.{slice_get, slice_index}
 use Rattle.std.specs.List.{All, slice_index_or}
 use Rattle.std.proofs.lemmas.List.{length-map}
 use Rattle.std.proofs.lemmas.Option.{get_or_from_slice_get, slice_get-get_or, slice_get_within}
-use Rattle.instances.specs.Runs.{DoMeet, Home, InRegister, Alone, Rotates, IsRun, home_of, place_in, place_of}
+use Rattle.instances.specs.Runs.{DoMeet, Home, Rotates, IsRun, home_of, place_in}
 use Rattle.instances.specs.Runs as runs
 use Rattle.problems.specs.declared.draft.Draft.{Draft}
 use Rattle.problems.specs.declared.draft.File.{File}

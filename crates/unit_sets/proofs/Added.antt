@@ -7,14 +7,6 @@ use Rattle.std.proofs.lemmas.Grind.{flat_map-append}
 use Rattle.std.specs.List.{flat_map, range_with_len}
 use Rattle.unit_sets.specs.inner.Added.{IsAdded}
 
--- nothing is added
-pub added-none : (before : List ℕ) → IsAdded before [] before
-added-none before = record {
-  kept = λ set h. h;
-  there = λ set h. absurd (omega (arith, h.1));
-  only = λ set h. inl h;
-}
-
 -- more are added
 pub added-more : (before xs mid ys after : List ℕ) → IsAdded before xs mid → IsAdded mid ys after → IsAdded before (xs ++ ys) after
 added-more before xs mid ys after first next = record {

@@ -37,11 +37,6 @@ is_in-filter p xs v = elim (cases_Bool (p v)) [
   | inr refused ↦ is_in-filter_no p xs v refused ∙ ap (λ b. b && is_in xs v) (sym refused)
 ]
 
-is_in-range_below : (a n v : ℕ) → v < a → is_in (range_with_len a n) v ≡ false
-is_in-range_below a zero v below = refl
-is_in-range_below a (suc n) v below =
-    ap (λ b. b || is_in (range_with_len (a + 1) n) v) (ne_eqb a v (λ e. omega arith)) ∙ is_in-range_below (a + 1) n v (omega arith)
-
 is_in-range : (a n v : ℕ) → a ≤ v → v < a + n → is_in (range_with_len a n) v ≡ true
 is_in-range a zero v low high = absurd (omega arith)
 is_in-range a (suc n) v low high = elim (cases_eq a v) [

@@ -1,7 +1,7 @@
 -- What is made of two lists, place by place, one place more at a time.
 use Rattle.std.proofs.Common.{◌≡◌, ℕ, zero, suc, ◌+◌, ◌<◌, ◌≤◌, List, [], ◌∷◌, ◌++◌, length, get_or, min, take, sym, ap, ◌∙◌, subst, zero-add, arith}
 use Rattle.std.specs.List.{AllZip, flat_map, range_with_len, zip}
-use Rattle.std.proofs.lemmas.List.{append-nil, flat_map_more, get_or_default, take_all, take_more}
+use Rattle.std.proofs.lemmas.List.{flat_map_more, get_or_default, take_all, take_more}
 use Rattle.std.proofs.lemmas.List.FromFn.{get_or-range_with_len, length-range_with_len}
 use Rattle.std.proofs.lemmas.Slice.Zip.{get_or-zip, length-zip}
 use Rattle.graph_text.proofs.Texts.{all_zip-push}
@@ -29,9 +29,6 @@ pub zipped-next : {A B X : Type 0} (f : A → B → List X) (xs : List A) (ys : 
 zipped-next f xs ys i d e old mid new same low m n =
     let there : i < length ys = omega (arith, same) in
     zipped-more f xs ys i (get_or xs i d) (get_or ys i e) old mid new same low (get_or_default xs i d (get_or xs i d) low) (get_or_default ys i e (get_or ys i e) there) m n
-
-pub zipped-none : {A B X : Type 0} (f : A → B → List X) (xs : List A) (ys : List B) (old : List X) → old ≡ old ++ zipped_to 0 f xs ys
-zipped-none f xs ys old = sym (append-nil old)
 
 pub zipped-all : {A B X : Type 0} (f : A → B → List X) (xs : List A) (ys : List B) (i : ℕ) (old new : List X) → length xs ≤ i → new ≡ old ++ zipped_to i f xs ys → new ≡ old ++ zipped f xs ys
 zipped-all {A} {B} f xs ys i old new high n =

@@ -6,10 +6,6 @@ use Rattle.loop_lines.specs.Words.{lines_of, onto_first, words_of}
 use Rattle.loop_reader.specs.Meaning.{forms_of}
 use Rattle.workers.specs.Apart.{EndsLine}
 
--- a byte in front of lines, of which there is at least one
-onto-front : (c : ℕ) (line : List ℕ) (lines others : List (List ℕ)) → onto_first c ((line ∷ lines) ++ others) ≡ onto_first c (line ∷ lines) ++ others
-onto-front c line lines others = refl
-
 -- the lines of a text that ends its last line: there is one, and what follows has its own lines
 pub record AreEnded (text : List ℕ) : Type 0 where
   pub first : List ℕ

@@ -164,9 +164,6 @@ pub record TogetherSoFar {T : Type 0} (all : List (Option (Piece T))) (names : L
   pub named : names ≡ flat_map (λ (t : Piece T). t.names.items) tolds
   pub told : parts ≡ map (λ (t : Piece T). t.part) tolds
 
-pub together-none : {T : Type 0} (all : List (Option (Piece T))) (names : List (List ℕ)) (parts : List T) → names ≡ [] → parts ≡ [] → TogetherSoFar all names parts all
-together-none all names parts none empty = record { tolds = []; made = refl; named = none; told = empty }
-
 -- .. of one more piece
 pub together-more : {T : Type 0} (all before left : List (Option (Piece T))) (names longer : List (List ℕ)) (parts more : List T) (one : Piece T)
     → TogetherSoFar all names parts before → before ≡ Some one ∷ left → longer ≡ names ++ one.names.items → more ≡ parts ++ one.part ∷ [] → TogetherSoFar all longer more left

@@ -1,6 +1,6 @@
 -- The choices made so far, with one more.
-use Rattle.std.proofs.Common.{◌≡◌, ◌≢◌, ℕ, ◌+◌, ◌<◌, ◌≤◌, ◌==◌, Bool, true, false, cond, List, [], ◌∷◌, ◌++◌, length, get_or, take, sym, ap, ◌∙◌, subst, arith, filter}
-use Rattle.std.proofs.lemmas.List.{append-nil, append_assoc, get_or-map, length-map, take_all}
+use Rattle.std.proofs.Common.{◌≡◌, ◌≢◌, ℕ, ◌+◌, ◌<◌, ◌==◌, Bool, true, false, cond, List, [], ◌∷◌, ◌++◌, length, get_or, take, sym, ap, ◌∙◌, subst, arith, filter}
+use Rattle.std.proofs.lemmas.List.{append-nil, append_assoc, get_or-map, length-map}
 use Rattle.std.proofs.lemmas.List.Elements.{filter_more}
 use Rattle.std.proofs.lemmas.Bool.{eq-eqb, ne_eqb}
 use Rattle.machine_data.specs.declared.alternative.Row.{Row}
@@ -89,7 +89,3 @@ operation_at machine loop i s within is =
 pub length-operations : (machine : MachineData) (loop : LoopData) → length (operations_of machine loop) ≡ length loop.statements
 length-operations machine loop =
     length-map (opcodes_of loop) (λ opcode. alternatives_in (table_of machine opcode)) ∙ length-map loop.statements (λ (s : Statement). s.opcode)
-
-pub take_operations : (machine : MachineData) (loop : LoopData) (i : ℕ) → length loop.statements ≤ i → take i (operations_of machine loop) ≡ operations_of machine loop
-take_operations machine loop i all = take_all i (operations_of machine loop)
-    (let same : length (operations_of machine loop) ≡ length loop.statements = length-operations machine loop in omega arith)

@@ -8,7 +8,8 @@ use Rattle.loop_reader.specs.declared.fault.LoopFaultKind.{LoopFaultKind}
 use Rattle.loop_reader.specs.declared.fault.LoopFaultKind.TheVariants.{Limit, RepeatedName, UnknownName, UseBeforeDefinition, MissingInit}
 use Rattle.loop_lint.specs.Lints.{fault_at, told}
 use Rattle.loop_lint.specs.Parts.{AUse, PartAt, word_of_fault}
-use Rattle.loop_lint.specs.Words.{Placed, spot_at}
+use Rattle.loop_lines.specs.Columns.{Placed}
+use Rattle.loop_lint.specs.Words.{spot_at}
 use Rattle.loop_lint.specs.declared.fault.Hint.{Hint}
 use Rattle.loop_lint.specs.declared.fault.LintFault.{LintFault}
 use Rattle.loop_lint.specs.declared.tell.Found.{Found}

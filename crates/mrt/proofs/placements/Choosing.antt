@@ -1,9 +1,8 @@
 -- Alternatives that collide with themselves, and spans of slots that are added to.
-use Rattle.std.proofs.Common.{◌≡◌, ℕ, ◌+◌, ◌-◌, ◌%◌, ◌<◌, ◌≤◌, true, false, ◌&&◌, ◌||◌, eqb, List, [], ◌∷◌, ◌++◌, length, get_or, map, take, drop, max, refl, sym, ap, ◌∙◌, subst, arith, eq-eqb, zero-add, length-take}
+use Rattle.std.proofs.Common.{◌≡◌, ℕ, ◌+◌, ◌-◌, ◌%◌, ◌<◌, ◌≤◌, false, ◌||◌, List, [], ◌∷◌, ◌++◌, length, get_or, map, take, drop, max, refl, sym, ap, ◌∙◌, subst, arith, zero-add, length-take}
 use Rattle.std.specs.List.{All, list_any, slice_range}
 use Rattle.std.proofs.lemmas.List.{drop_more, take_more, take_rest, map_push, get_or-map, length-map, take-map, drop-map}
 use Rattle.std.proofs.lemmas.List.Elements.{All-push, All-head, All-tail, All-weaker, All-map, All-take, All-drop}
-use Rattle.std.proofs.lemmas.List.Folds.{list_any_at}
 use Rattle.machine_data.specs.declared.alternative.Row.{Row}
 use Rattle.machine_data.specs.Alternative.{residue_of, rows_meet, collides}
 use Rattle.mrt.specs.declared.rosters.slot.Slot.{Slot}
@@ -16,20 +15,6 @@ use Rattle.mrt.proofs.placements.Lists.{list_any-map, slice_range_kept}
 -- the offset modulo the interval is the residue at time 0
 turn_is : (ii : ℕ) (slot : Slot) → IsSlot ii slot → slot.turn ≡ residue_of ii slot.row 0
 turn_is ii slot s = s.turn ∙ ap (λ n. n % ii) (sym (zero-add slot.row.offset))
-
-pub rows_meet-by_turns : (ii : ℕ) (a b : Slot) → IsSlot ii a → IsSlot ii b → rows_meet ii a.row 0 b.row 0 ≡ (eqb a.row.unit b.row.unit && eqb a.turn b.turn)
-rows_meet-by_turns ii a b s t =
-    ap (λ n. eqb a.row.unit b.row.unit && eqb n (residue_of ii b.row 0)) (sym (turn_is ii a s))
-    ∙ ap (λ n. eqb a.row.unit b.row.unit && eqb a.turn n) (sym (turn_is ii b t))
-
-pub meets_one : (ii : ℕ) (slot : Slot) (others : List Slot) (k : ℕ) (d : Slot) → IsSlot ii slot → All (IsSlot ii) others → k < length others
-    → slot.row.unit ≡ (get_or others k d).row.unit → slot.turn ≡ (get_or others k d).turn
-    → true ≡ list_any (λ s. rows_meet ii slot.row 0 s 0) (rows_in others)
-meets_one ii slot others k d s all lt unit turn =
-    let here = rows_meet-by_turns ii slot (get_or others k d) s (all k d lt) in
-    let same : (eqb slot.row.unit (get_or others k d).row.unit && eqb slot.turn (get_or others k d).turn) ≡ true =
-    rw (eq-eqb slot.row.unit (get_or others k d).row.unit unit) (eq-eqb slot.turn (get_or others k d).turn turn) in
-    sym (list_any-map (λ s. rows_meet ii slot.row 0 s 0) (λ (x : Slot). x.row) others ∙ list_any_at (λ (x : Slot). rows_meet ii slot.row 0 x.row 0) others k d lt (here ∙ same))
 
 pub meets_none : (ii : ℕ) (slot : Slot) (others : List Slot)
     → list_any (λ (s : Slot). rows_meet ii slot.row 0 s.row 0) others ≡ false

@@ -1,12 +1,12 @@
 -- What is kept of operations and their placements, as they change.
-use Rattle.std.proofs.Common.{zero, suc, ◌≡◌, ℕ, ◌+◌, ◌-◌, ◌<◌, inl, inr, List, [], ◌∷◌, ◌++◌, length, get_or, set, map, replicate, take, drop, Option, Some, None, refl, sym, ap, ◌∙◌, subst, arith, length-set, length-append}
+use Rattle.std.proofs.Common.{zero, suc, ◌≡◌, ℕ, ◌+◌, ◌-◌, ◌<◌, inl, inr, List, [], ◌∷◌, ◌++◌, length, get_or, set, map, replicate, take, drop, Option, Some, None, refl, sym, ap, ◌∙◌, subst, arith, length-set}
 use Rattle.std.specs.List.{All, slice_get, slice_range}
 use Rattle.std.specs.Option.{option_map, IfSome}
 use Rattle.std.proofs.lemmas.Bool.{cases_eq, cases_lt}
 use Rattle.std.proofs.lemmas.Option.{none-some, same_Some, slice_get-get_or, slice_get_within}
 use Rattle.std.proofs.lemmas.List.{map_push, map-set, get_or-set_other, length-take-le, take_more, get_or-map, get_or-take, take_rest, drop_at, get_or-replicate, get_or_past, length-replicate}
 use Rattle.std.proofs.lemmas.Grind.{get_or-set_at}
-use Rattle.std.proofs.lemmas.List.Elements.{All-push, All-head, All-tail, All-weaker, All-map, All-nil, All-take, All-drop}
+use Rattle.std.proofs.lemmas.List.Elements.{All-head, All-tail, All-weaker, All-map, All-nil, All-take, All-drop}
 use Rattle.machine_data.specs.declared.alternative.Row.{Row}
 use Rattle.mrt.specs.declared.rosters.kinds.Kind.{Kind}
 use Rattle.mrt.specs.declared.rosters.roster.Group.{Group}
@@ -44,19 +44,6 @@ module _ (ii : ℕ) (alternatives : List (List Row)) (groups : List Group) (issu
     each_issue = kept_issue None (λ i e. cc);
   }
 
-IsGroup-grown : (alternatives more : List (List Row)) (groups : List Group) → All (IsGroup (length alternatives)) groups → All (IsGroup (length (alternatives ++ more))) groups
-IsGroup-grown alternatives more groups all =
-    All-weaker (IsGroup (length alternatives)) (IsGroup (length (alternatives ++ more))) (λ g i. record { order = i.order; within = omega (arith, i.within, length-append alternatives more) }) groups all
-
--- the group of the alternatives that were added
-pub IsGroup-pushed : (alternatives more whole : List (List Row)) (groups : List Group) (group : Group) → whole ≡ alternatives ++ more
-    → All (IsGroup (length alternatives)) groups → group.first ≡ length alternatives → group.end ≡ length whole → All (IsGroup (length whole)) (groups ++ group ∷ [])
-IsGroup-pushed alternatives more whole groups group e all from to =
-    let long : length whole ≡ length alternatives + length more = ap length e ∙ length-append alternatives more in
-    let own : IsGroup (length whole) group = record { order = omega arith; within = omega arith } in
-    let others : All (IsGroup (length whole)) groups = rw e (IsGroup-grown alternatives more groups all) in
-    All-push (IsGroup (length whole)) groups group others own
-
 group_of-grown : (alternatives more : List (List Row)) (groups : List Group) → All (IsGroup (length alternatives)) groups
     → map (group_of (alternatives ++ more)) groups ≡ map (group_of alternatives) groups
 group_of-grown alternatives more [] all = refl
@@ -83,10 +70,6 @@ group_of-shared alternatives more groups e group there is same =
     let f = group_of alternatives in
     let own : f group ≡ more = ap f is ∙ sym (get_or-map f groups e group [] there) ∙ same in
     map_push f groups group ∙ ap (λ x. map f groups ++ x ∷ []) own
-
-pub IsGroup-shared : (count : ℕ) (groups : List Group) (e : ℕ) (group : Group) → All (IsGroup count) groups → e < length groups → group ≡ get_or groups e group
-    → All (IsGroup count) (groups ++ group ∷ [])
-IsGroup-shared count groups e group all there is = All-push (IsGroup count) groups group all (subst (IsGroup count) (sym is) (all e group there))
 
 -- kinds of operations below a number are below the next
 pub below-more : (k : ℕ) (kinds : List Kind) → All (λ (one : Kind). one.operation < k) kinds → All (λ (one : Kind). one.operation < k + 1) kinds

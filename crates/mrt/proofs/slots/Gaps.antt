@@ -1,17 +1,16 @@
 -- Bits of gaps between rows of one unit, and of the multiples of an interval.
-use Rattle.std.proofs.Common.{◌≡◌, ◌≢◌, ℕ, ◌+◌, ◌-◌, ◌*◌, ◌/◌, ◌%◌, ◌^◌, ◌<◌, ◌≤◌, inl, inr, Bool, true, false, not, ◌&&◌, ◌||◌, cond, eqb, bit_and, bit_or, List, length, get_or, drop, take, refl, sym, ap, ◌∙◌, arith, eq-eqb, zero-add}
+use Rattle.std.proofs.Common.{◌≡◌, ◌≢◌, ℕ, ◌+◌, ◌-◌, ◌*◌, ◌/◌, ◌%◌, ◌^◌, ◌<◌, ◌≤◌, inl, inr, Bool, true, false, not, ◌&&◌, ◌||◌, cond, eqb, bit_and, bit_or, List, length, get_or, drop, take, sym, ap, ◌∙◌, arith, eq-eqb, zero-add}
 use Rattle.std.specs.Int.{bit_at}
-use Rattle.std.specs.Int.Bits.{and_zero_l}
 use Rattle.std.specs.List.{list_any}
 use Rattle.std.proofs.Math.Nat.{add-mod, mod-eq_of_lt, mod-eq-sub-mod, mod-lt, mod-add-div', mul-mod_left, mul-div_cancel, mul-le-mul_right, div-mul-le_self}
 use Rattle.std.proofs.Math.Bool.{or-false, or-true, or_comm}
 use Rattle.std.proofs.lemmas.Bool.{cases_eq, cases_lt, ne_eqb}
-use Rattle.std.proofs.lemmas.Nat.{and_comm, and_assoc, and_or_self, and_or_apart, le-div}
+use Rattle.std.proofs.lemmas.Nat.{and_comm, and_assoc, and_or_self, and_or_apart}
 use Rattle.std.proofs.lemmas.List.Folds.{list_any_more}
 use Rattle.machine_data.specs.declared.alternative.Row.{Row}
 use Rattle.machine_data.specs.Alternative.{residue_of, rows_meet, collides}
 use Rattle.mrt.specs.declared.rosters.slot.Slot.{Slot}
-use Rattle.mrt.specs.inner.Marks.{AreMultiples, Tells}
+use Rattle.mrt.specs.inner.Marks.{Tells}
 use Rattle.mrt.specs.inner.Slots.{rows_in}
 use Rattle.mrt.proofs.placements.Lists.{list_any-map}
 use Rattle.mrt.proofs.placements.Choosing.{collides-drop}
@@ -33,10 +32,6 @@ share_or a b m =
           let both : share (bit_or a b) m ≡ true = ap not (ne_eqb (bit_and (bit_or a b) m) 0 (λ e. some (whole ∙ ap (λ n. bit_and n b) e))) in
           both ∙ sym (ap (λ t. share a m || t) own ∙ or-true (share a m))
     ]
-
--- no bit tells of nothing
-pub Tells-none : Tells 0 (λ _. false)
-Tells-none ii multiples some are = sym (ap (λ n. not (eqb n 0)) (and_zero_l multiples))
 
 -- two things, of which one or the other holds
 pub Tells-or : (a b : ℕ) (p q : ℕ → Bool) → Tells a p → Tells b q → Tells (bit_or a b) (λ at. p at || q at)
@@ -161,12 +156,6 @@ module _ (ii bits count : ℕ) (some : 0 < ii) (mask : ℕ) (m : mask ≡ 2 ^ (c
       let own = λ (e : c ≡ count * ii). ap (λ n. n / ii) e ∙ mul-div_cancel count some in
       let other : c ≢ count * ii = λ e. omega (arith, past, own e) in
       with_set bits mask (count * ii) c m ∙ ap (λ b. cond b true (eqb (bit_at bits c) 1)) (ne_eqb c (count * ii) other) ∙ rest c (omega (arith, past))
-
--- all below 64 are told once their quotients are
-pub quotient_below : (ii count c : ℕ) → 0 < ii → count ≡ 63 / ii + 1 → c < 64 → c / ii < count
-quotient_below ii count c some is lt =
-    let le : c / ii ≤ 63 / ii = le-div (c / ii) 63 ii some (omega (arith, div-mul-le_self c ii)) in
-    omega arith
 
 pub multiple_below : (ii count : ℕ) → count ≤ 63 / ii → count * ii < 64
 multiple_below ii count le = omega (arith, mul-le-mul_right ii le, div-mul-le_self 63 ii)

@@ -1,15 +1,13 @@
 -- The units of rows, as bits.
-use Rattle.std.proofs.Common.{zero, suc, ◌≡◌, ℕ, ◌+◌, ◌^◌, ◌<◌, inl, inr, Bool, true, false, ◌&&◌, ◌||◌, cond, eqb, bit_and, bit_or, List, [], ◌∷◌, length, get_or, drop, take, refl, sym, ap, ◌∙◌}
+use Rattle.std.proofs.Common.{zero, suc, ◌≡◌, ℕ, ◌+◌, ◌^◌, ◌<◌, inl, inr, Bool, true, false, ◌&&◌, ◌||◌, cond, eqb, bit_and, bit_or, List, [], ◌∷◌, length, get_or, drop, refl, sym, ap, ◌∙◌}
 use Rattle.std.specs.List.{list_any}
 use Rattle.std.proofs.lemmas.Bool.{cases_Bool, true≢false}
 use Rattle.std.proofs.lemmas.List.{drop_more}
-use Rattle.std.proofs.lemmas.List.Folds.{list_any_more}
 use Rattle.machine_data.specs.declared.alternative.Row.{Row}
 use Rattle.machine_data.specs.Alternative.{residue_of, rows_meet, collides}
 use Rattle.mrt.specs.declared.rosters.slot.Slot.{Slot}
 use Rattle.mrt.specs.inner.Slots.{rows_in, needs_unit, HasUnits}
 use Rattle.mrt.specs.Taken.{takes}
-use Rattle.mrt.proofs.placements.Lists.{list_any-map}
 use Rattle.mrt.proofs.placements.Choosing.{collides-drop}
 use Rattle.mrt.proofs.slots.Masking.{with_set, test_clear}
 
@@ -42,24 +40,9 @@ meets_none_of ii row rows h =
 pub needs_not : (bits mask unit : ℕ) (rows : List Row) → mask ≡ 2 ^ unit → HasUnits bits rows → bit_and bits mask ≡ 0 → needs_unit unit rows ≡ false
 needs_not bits mask unit rows m has none = sym (has unit) ∙ test_clear bits mask unit m none
 
-or_last : (a b : Bool) → cond a true b ≡ (b || a)
-or_last true true = refl
-or_last true false = refl
-or_last false true = refl
-or_last false false = refl
-
 or_first : (a b : Bool) → cond a true b ≡ (a || b)
 or_first true b = refl
 or_first false b = refl
-
--- one slot more after the others, and before them
-pub HasUnits-more : (bits mask : ℕ) (slots : List Slot) (k : ℕ) (d : Slot) → k < length slots → mask ≡ 2 ^ (get_or slots k d).row.unit
-    → HasUnits bits (rows_in (take k slots)) → HasUnits (bit_or bits mask) (rows_in (take (k + 1) slots))
-HasUnits-more bits mask slots k d lt m has unit =
-    let own = (get_or slots k d).row.unit in
-    with_set bits mask own unit m ∙ ap (λ b. cond (eqb unit own) true b) (has unit) ∙ or_last (eqb unit own) (needs_unit unit (rows_in (take k slots)))
-    ∙ sym (list_any-map (λ (row : Row). eqb unit row.unit) (λ (s : Slot). s.row) (take (k + 1) slots) ∙ list_any_more (λ (s : Slot). eqb unit s.row.unit) slots k d lt
-    ∙ ap (λ b. b || eqb unit own) (sym (list_any-map (λ (row : Row). eqb unit row.unit) (λ (s : Slot). s.row) (take k slots))))
 
 pub HasUnits-before : (bits mask : ℕ) (slots : List Slot) (k : ℕ) (d : Slot) → k < length slots → mask ≡ 2 ^ (get_or slots k d).row.unit
     → HasUnits bits (rows_in (drop (k + 1) slots)) → HasUnits (bit_or bits mask) (rows_in (drop k slots))

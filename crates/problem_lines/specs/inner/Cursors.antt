@@ -5,7 +5,8 @@ use Rattle.problem_lines.specs.Fits.{surplus}
 use Rattle.problem_lines.specs.Lines.{hold_places, is_bar, places_fault}
 use Rattle.problem_lines.specs.Names.{is_hold, is_unit_name}
 use Rattle.problem_lines.specs.Numbers.{number_of}
-use Rattle.problem_lines.specs.Words.{LeftWords, Placed, word_at}
+use Rattle.loop_lines.specs.Columns.{Placed}
+use Rattle.problem_lines.specs.Words.{LeftWords, word_at}
 use Rattle.problem_lines.specs.declared.fault.Expected.{Expected}
 use Rattle.problem_lines.specs.declared.fault.Expected.TheVariants.{Number, Offset}
 use Rattle.problem_lines.specs.declared.fault.LineFault.{LineFault}

@@ -1,6 +1,6 @@
 -- Words before they are judged.
 use Rattle.std.specs.Prelude.{Option, Some, None, Result, Ok, Err}
-use Rattle.problem_lines.specs.Words.{Placed}
+use Rattle.loop_lines.specs.Columns.{Placed}
 use Rattle.problem_lines.specs.declared.fault.LineFault.{LineFault}
 use Rattle.problem_lines.specs.declared.piece.Piece.{Piece}
 

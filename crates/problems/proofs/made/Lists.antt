@@ -1,11 +1,11 @@
 -- Lists of alternatives that are told by their numbers, for one kind more at a time.
-use Rattle.std.proofs.Common.{◌≡◌, ℕ, suc, Bool, true, ◌+◌, ◌<◌, ◌≤◌, ◌++◌, List, [], ◌∷◌, length, map, take, get_or, refl, sym, ap, ap₂, ◌∙◌, subst, arith}
+use Rattle.std.proofs.Common.{◌≡◌, ℕ, suc, Bool, true, ◌+◌, ◌<◌, ◌++◌, List, [], ◌∷◌, length, map, take, get_or, refl, sym, ap, ap₂, ◌∙◌, subst, arith}
 use Rattle.std.specs.Prelude.{slice_index}
 use Rattle.std.specs.Cmp.Lexicographic.{pointwise}
 use Rattle.std.specs.List.{All, slice_index_or}
 use Rattle.std.proofs.lemmas.Bool.{true≢false, and_parts}
-use Rattle.std.proofs.lemmas.List.{get_or-map, get_or-take, get_or_append_left, length-map, length-take-le, length-append, map_push, take_more}
-use Rattle.std.proofs.lemmas.List.Elements.{All-nil, All-push, All-weaker, All-map}
+use Rattle.std.proofs.lemmas.List.{get_or-map, get_or_append_left, length-map, length-append, map_push, take_more}
+use Rattle.std.proofs.lemmas.List.Elements.{All-push, All-weaker, All-map}
 use Rattle.std.proofs.Math.Seq.{get_or-append_seam}
 use Rattle.smallvec.specs.SmallVec.{SmallVec}
 use Rattle.machine_data.specs.declared.alternative.Row.{Row}
@@ -14,13 +14,9 @@ use Rattle.problems.specs.declared.draft.Kind.{Kind}
 use Rattle.problems.specs.declared.draft.Draft.{Draft}
 use Rattle.problems.specs.Drafts.{alternatives_of, operations_of, row_of}
 use Rattle.problems.specs.inner.Listed.{AreListed}
-use Rattle.problems.proofs.made.Tables.{map-all}
 
 abbrev Table : Type 0
 Table = List (List Row)
-
-pub listed-none : (lists : List Table) → AreListed lists [] []
-listed-none lists = record { there = All-nil (λ number. number < length lists); same = refl }
 
 -- as many numbers as lists that they stand for
 listed-long : (lists all : List Table) (numbers : List ℕ) → AreListed lists numbers all → length numbers ≡ length all
@@ -63,32 +59,6 @@ own-list lists numbers kinds number kind is there at =
     subst (AreListed (lists ++ list ∷ []) (numbers ++ length lists ∷ [])) (ap (λ k. map alternatives_of (take number kinds) ++ alternatives_of k ∷ []) at ∙ one-more kinds number kind there)
     (listed-more (lists ++ list ∷ []) (map alternatives_of (take number kinds)) numbers (length lists) list
     (listed-longer lists (map alternatives_of (take number kinds)) numbers list is) (omega arith) (get_or-append_seam lists list [] []))
-
--- a kind with the list of the kind with an earlier number
-pub shared-list : (lists : List Table) (numbers : List ℕ) (kinds : List Kind) (number earlier : ℕ) (kind other : Kind) → AreListed lists numbers (map alternatives_of (take number kinds))
-    → number < length kinds → earlier < number → kind ≡ get_or kinds number kind → other ≡ get_or kinds earlier other → alternatives_of kind ≡ alternatives_of other
-    → AreListed lists (numbers ++ get_or numbers earlier 0 ∷ []) (map alternatives_of (take (number + 1) kinds))
-shared-list lists numbers kinds number earlier kind other is there before at other_at same =
-    let all : List Table = map alternatives_of (take number kinds) in
-    let sofar : length (take number kinds) ≡ number = length-take-le number kinds (omega arith) in
-    let mapped : length all ≡ length (take number kinds) = length-map (take number kinds) alternatives_of in
-    let long : length numbers ≡ length all = listed-long lists all numbers is in
-    let low : earlier < length numbers = omega arith in
-    let first : earlier < length (take number kinds) = omega arith in
-    let list : ℕ → Table = λ number. slice_index_or lists number [] in
-    let stands : list (get_or numbers earlier 0) ≡ alternatives_of kind
-    = sym (get_or-map list numbers earlier 0 [] low)
-    ∙ ap (λ xs. get_or xs earlier []) is.same
-    ∙ get_or-map alternatives_of (take number kinds) earlier other [] first
-    ∙ ap alternatives_of (get_or-take number kinds earlier other before ∙ sym other_at)
-    ∙ sym same in
-    subst (AreListed lists (numbers ++ get_or numbers earlier 0 ∷ [])) (ap (λ k. all ++ alternatives_of k ∷ []) at ∙ one-more kinds number kind there)
-    (listed-more lists all numbers (get_or numbers earlier 0) (alternatives_of kind) is (is.there earlier 0 low) stands)
-
--- all kinds
-pub all-kinds : (lists : List Table) (numbers : List ℕ) (kinds : List Kind) (count : ℕ) → length kinds ≤ count → AreListed lists numbers (map alternatives_of (take count kinds))
-    → AreListed lists numbers (map alternatives_of kinds)
-all-kinds lists numbers kinds count le is = subst (AreListed lists numbers) (map-all alternatives_of kinds (map alternatives_of (take count kinds)) count le refl) is
 
 -- by the numbers of the lists of the kinds, those of the lists of the operations
 pub of-operations : (lists : List Table) (of_kinds : List ℕ) (draft : Draft) → AreListed lists of_kinds (map alternatives_of draft.kinds.items)

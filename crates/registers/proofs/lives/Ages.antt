@@ -1,32 +1,12 @@
 -- The instances of a value that live in the cycle of a row, by the ages of their iterations.
-use Rattle.std.proofs.Common.{◌≡◌, ℕ, suc, ◌+◌, ◌-◌, ◌*◌, ◌/◌, ◌<◌, ◌≤◌, ℤ, pos, negsuc, ◌+ℤ◌, ◌-ℤ◌, ◌*ℤ◌, refl, ap, ◌∙◌, arith}
+use Rattle.std.proofs.Common.{◌≡◌, ℕ, suc, ◌+◌, ◌-◌, ◌*◌, ◌/◌, ◌<◌, ◌≤◌, ℤ, pos, negsuc, ◌+ℤ◌, ◌-ℤ◌, ◌*ℤ◌, refl, arith}
 use Rattle.std.specs.Prelude.{◌≤ℤ◌, ◌<ℤ◌}
 use Rattle.std.proofs.lemmas.Int.{ints}
 use Rattle.std.proofs.Math.Nat.{div-lt_iff_lt-mul, le-div_iff_mul-le}
 use Rattle.std.proofs.Math.IntN.{negsuc-*ℤ-pos}
 use Rattle.registers.specs.declared.lifetime.Lifetime.{Lifetime}
 use Rattle.registers.specs.Crowds.{least_age, ages_end, AgesAreBetween}
-use Rattle.registers.proofs.allotted.Meeting.{times-diff}
-
--- each whole number is a difference
-parts : (z : ℤ) → (a : ℕ) × (b : ℕ) × (z ≡ (pos a -ℤ pos b))
-parts (pos n) = (n, 0, omega (arith, ints))
-parts (negsuc n) = (0, suc n, omega (arith, ints))
-
-times-parts : (z : ℤ) (a b m : ℕ) → z ≡ (pos a -ℤ pos b) → ((z *ℤ pos m) +ℤ pos (b * m)) ≡ pos (a * m)
-times-parts z a b m e = ap (λ y. (y *ℤ pos m) +ℤ pos (b * m)) e ∙ times-diff a b m
-
-times-apart : (t i : ℤ) (m : ℕ) → ((t -ℤ i) *ℤ pos m) ≡ ((t *ℤ pos m) -ℤ (i *ℤ pos m))
-times-apart t i m =
-    let x = parts t in
-    let y = parts i in
-    let e : (t -ℤ i) ≡ (pos (x.0 + y.1) -ℤ pos (x.1 + y.0)) = let g = x.2 in let h = y.2 in omega (arith, ints) in
-    let a = times-parts t x.0 x.1 m x.2 in
-    let b = times-parts i y.0 y.1 m y.2 in
-    let c = times-parts (t -ℤ i) (x.0 + y.1) (x.1 + y.0) m e in
-    let f : (x.0 + y.1) * m ≡ x.0 * m + y.1 * m = omega arith in
-    let g : (x.1 + y.0) * m ≡ x.1 * m + y.0 * m = omega arith in
-    omega (arith, ints)
+use Rattle.registers.proofs.allotted.More.{mul-less}
 
 -- of an iteration that began `n` intervals before
 
@@ -78,7 +58,7 @@ age-to ii row life (negsuc n) lt from to = absurd (omega (arith, ints))
 
 pub ages-are_between : AgesAreBetween
 ages-are_between ii row life iteration interval lt ordered =
-    let e = times-apart interval iteration ii in (
+    let e = mul-less interval iteration ii in (
       λ lives.
           let a = lives.begun in
           let b = lives.lasts in

@@ -17,7 +17,7 @@ at-place P (y ∷ xs) zero x all e = let same : y ≡ x = cc in subst P same (al
 at-place P (y ∷ xs) (suc k) x all e = at-place P xs k x (λ i d lt. all (suc i) d (omega arith)) e
 
 -- the last read is no earlier than the landing
-late : (f : Read → ℕ) (landing number : ℕ) (reads : List Read) → ((k : ℕ) (r : Read) → slice_get reads k ≡ Some r → r.value ≡ number → landing ≤ f r)
+pub late : (f : Read → ℕ) (landing number : ℕ) (reads : List Read) → ((k : ℕ) (r : Read) → slice_get reads k ≡ Some r → r.value ≡ number → landing ≤ f r)
     → landing ≤ last_read landing (map f (reads_of reads number))
 late f landing number [] all = omega arith
 late f landing number (r ∷ reads) all = elim (cases_eq r.value number) [
@@ -55,7 +55,7 @@ last-most : (landing : ℕ) (ns : List ℕ) → last_read landing ns ≤ max lan
 last-most landing [] = omega arith
 last-most landing (n ∷ ns) = omega arith
 
-first-early : (ii landing iterations : ℕ) → first_cycle ii landing iterations ≤ landing
+pub first-early : (ii landing iterations : ℕ) → first_cycle ii landing iterations ≤ landing
 first-early ii landing iterations = elim (cases_eq iterations 0) [
   | inl none ↦ let e = cond-true (eqb iterations 0) landing (min landing ii) (eq-eqb iterations 0 none) in omega arith
   | inr some ↦ let e = cond-false (eqb iterations 0) landing (min landing ii) (ne_eqb iterations 0 some) in omega arith

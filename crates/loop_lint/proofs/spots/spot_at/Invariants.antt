@@ -1,5 +1,6 @@
 use Rattle.std.proofs.Common.{◌≡◌, ◌+◌, ◌<◌, ◌^◌, length}
-use Rattle.loop_lint.specs.Words.{placed_words, spot_at, spot_from, words_from}
+use Rattle.loop_lines.specs.Columns.{placed_words, words_from}
+use Rattle.loop_lint.specs.Words.{spot_at, spot_from}
 use Rattle.loop_lint.proofs.spots.spot_at.Given as goal
 
 -- the word is among those that are left

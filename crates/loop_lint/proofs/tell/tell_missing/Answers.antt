@@ -3,7 +3,8 @@ use Rattle.loop_lines.specs.Words.{words_of}
 use Rattle.loop_reader.specs.declared.fault.LoopFaultKind.TheVariants.{MissingInit}
 use Rattle.loop_lint.specs.Hints.{hint_for, hint_of}
 use Rattle.loop_lint.specs.Lints.{fault_at}
-use Rattle.loop_lint.specs.Words.{placed_words, spot_at}
+use Rattle.loop_lines.specs.Columns.{placed_words}
+use Rattle.loop_lint.specs.Words.{spot_at}
 use Rattle.loop_lint.specs.inner.Founds.{told_if}
 use Rattle.loop_lint.proofs.tell.tell_missing.Goals as goal
 

@@ -1,4 +1,4 @@
-use Rattle.std.proofs.Common.{◌≡◌, List, ℕ, Option, arith, map, option_map, subst, sym}
+use Rattle.std.proofs.Common.{◌≡◌, arith, map, option_map, subst, sym}
 use Rattle.std.proofs.lemmas.Grind.{common_steps}
 use Rattle.near_names.specs.Nearest.{IsNearest, first_too_far, nearest}
 use Rattle.near_names.proofs.Closest.{is_nearest}

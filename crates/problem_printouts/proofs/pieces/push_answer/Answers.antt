@@ -2,8 +2,7 @@ use Rattle.std.proofs.Common.{◌≡◌, ◌∙◌, refl, subst, sym}
 use Rattle.problem_tables.specs.Data.{FileData}
 use Rattle.problem_reader.specs.Files.{machine_at, problem_at, IsDraftOf}
 use Rattle.problem_printouts.specs.Problems.{IsProblemIn}
-use Rattle.problem_printouts.specs.Solving.{IsAnswer, IsOutcomeIn}
-use Rattle.problem_printouts.specs.inner.Sofar.{IsOneMore}
+use Rattle.problem_printouts.specs.Solving.{IsOutcomeIn}
 use Rattle.problem_printouts.proofs.pieces.push_answer.Goals as goal
 
 -- the draft that is given back is that of the problem

@@ -1,5 +1,5 @@
 use Rattle.std.proofs.Common.{◌≡◌, ◌∙◌, ap, sym, subst, Option, Some, IfOk}
-use Rattle.problem_lines.specs.Words.{Placed}
+use Rattle.loop_lines.specs.Columns.{Placed}
 use Rattle.solution_reader.specs.Data.{number_of_name}
 use Rattle.solution_reader.specs.Resolved.{solution_at}
 use Rattle.solution_reader.specs.declared.fault.SolutionFault.{SolutionFault}

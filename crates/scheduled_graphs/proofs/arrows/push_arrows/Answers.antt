@@ -1,4 +1,4 @@
-use Rattle.std.proofs.Common.{◌≡◌, ◌++◌, List, pos, get_or, ap, ◌∙◌, subst}
+use Rattle.std.proofs.Common.{◌≡◌, List, pos, get_or, ap, ◌∙◌, subst}
 use Rattle.graph.specs.Dependences.{EdgeData}
 use Rattle.graph.specs.Graphs.{GraphData}
 use Rattle.graph_text.specs.Kinds.{IsOfKind}

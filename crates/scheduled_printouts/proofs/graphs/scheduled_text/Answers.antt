@@ -1,4 +1,4 @@
-use Rattle.std.proofs.Common.{◌≡◌, List, subst}
+use Rattle.std.proofs.Common.{List, subst}
 use Rattle.graph.specs.Units.{first_lacking}
 use Rattle.file_faults.proofs.Answering.{on_more}
 use Rattle.ims.specs.Problems.{ProblemData}

@@ -1,4 +1,4 @@
-use Rattle.std.proofs.Common.{◌≡◌, ◌≤◌, ℕ, List, Option, length, sym, subst, arith, rules}
+use Rattle.std.proofs.Common.{◌≤◌, ℕ, List, length, subst, arith, rules}
 use Rattle.std.specs.Borrow.{Bor}
 use Rattle.std.specs.List.{AllZip}
 use Rattle.workers.specs.inner.Made.{IsMadeOf}

@@ -3,8 +3,7 @@ use Rattle.std.specs.Int.{abs_diff}
 use Rattle.std.proofs.lemmas.Nat.{one_shl}
 use Rattle.std.proofs.lemmas.List.{take_all}
 use Rattle.mrt.specs.declared.rosters.slot.Slot.{Slot}
-use Rattle.mrt.specs.inner.Marks.{Tells}
-use Rattle.mrt.proofs.slots.Gaps.{meets, Tells-one, Tells-other}
+use Rattle.mrt.proofs.slots.Gaps.{Tells-one, Tells-other}
 use Rattle.mrt.proofs.rosters.marks.gaps_between.Goals as goal
 use Rattle.mrt.proofs.rosters.marks.gaps_between.Goals.{then-slot-other, else-slot-other}
 

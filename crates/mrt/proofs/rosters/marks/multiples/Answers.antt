@@ -1,4 +1,4 @@
-use Rattle.std.proofs.Common.{◌*◌, ◌/◌, ◌<◌, ◌≤◌, arith}
+use Rattle.std.proofs.Common.{◌*◌, ◌/◌, ◌≤◌, arith}
 use Rattle.std.proofs.lemmas.Nat.{one_shl}
 use Rattle.mrt.proofs.slots.Gaps.{multiple_below, multiples_told, multiples_rest}
 use Rattle.mrt.proofs.rosters.marks.multiples.Goals as goal
