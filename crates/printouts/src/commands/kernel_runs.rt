@@ -7,6 +7,8 @@ ghost use Rattle.candidates.specs.declared.listings.Row as row;
 ghost use Rattle.candidates.specs.Choices.{IsChoice};
 ghost use Rattle.candidates.specs.Listings.{IsRow};
 ghost use Rattle.candidates.specs.Texts.{counts_line, row_text};
+ghost use Rattle.kernel.specs.Overlapped.{overlapped};
+ghost use Rattle.loops.specs.Run.{opening_of};
 ghost use Rattle.one_thread.specs.Files.{ListsProblems};
 ghost use Rattle.printouts.specs.inner.Runnable.{HasSizesOf, IsRunnable};
 ghost use Rattle.printouts.specs.Run.{choice_lines, kernel_lines, told_lines};
@@ -18,7 +20,7 @@ use crate::output::run_lines::{push_run, within_limits};
 use candidates::{Choice, Listing, Row, write_last, write_row};
 use ims::Prepared;
 use kernel::{Kernel, simulate};
-use loops::{Loop, opening};
+use loops::{Loop, Memory, opening};
 use machine::OutOfMemory;
 use settings::Trip;
 use std::alloc::Global;
@@ -124,9 +126,22 @@ fn push_kernel(
     requires { HasSizesOf innermost.now kernel.now }
     ensures { OnOk result (text.new.items ≡ text.old.items ++ kernel_lines trip innermost.now kernel.now) }
 {
+    let after = left_by(alloc, innermost, kernel, trip)?;
+    push_run(text, innermost, &after)
+}
+
+/// The memory that the kernel leaves of the loop's opening memory.
+fn left_by(
+    alloc: Global,
+    innermost: &Loop,
+    kernel: &Kernel,
+    trip: Trip,
+) -> Result<Memory, OutOfMemory>
+    requires { HasSizesOf innermost.now kernel.now }
+    ensures { IfOk result (λ after. after ≡ overlapped kernel.now (opening_of innermost.now trip)) }
+{
     let before = within_limits(opening(alloc, innermost, trip.count()))?;
-    let after = within_limits(simulate(alloc, kernel, trip.count(), &before))?;
-    push_run(text, innermost, &before, &after)
+    within_limits(simulate(alloc, kernel, trip.count(), &before))
 }
 
 /// Appends the line of a loop without a kernel.

@@ -9,7 +9,7 @@ use crate::output::lines::push_last;
 use crate::output::printout::Printout;
 use crate::output::run_lines::{push_run, within_limits};
 use file_faults::FileFault;
-use loops::{Loop, opening, run_from};
+use loops::{Loop, run_plain};
 use machine::OutOfMemory;
 use settings::Trip;
 use std::alloc::Global;
@@ -51,8 +51,6 @@ pub fn push_plain(
 ) -> Result<(), OutOfMemory>
     ensures { OnOk result (text.new.items ≡ text.old.items ++ plain_lines trip innermost.now) }
 {
-    let before = within_limits(opening(alloc, innermost, trip.count()))?;
-    let copy = before.copied(alloc)?;
-    let after = within_limits(run_from(alloc, innermost, copy))?;
-    push_run(text, innermost, &before, &after)
+    let after = within_limits(run_plain(alloc, innermost, trip.count()))?;
+    push_run(text, innermost, &after)
 }

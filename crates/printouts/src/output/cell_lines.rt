@@ -1,37 +1,54 @@
 //! The lines of the cells that a run changed. A long run writes millions of them, so that a line is made
 //! from its end to its begin in one buffer, and appended at once.
 
-ghost use Rattle.std.specs.Prelude.{◌≡◌, ◌+◌, ◌<◌, ◌≤◌, ◌++◌, codes, length, drop, OnOk};
+ghost use Rattle.std.specs.Prelude.{◌≡◌, ◌+◌, ◌<◌, ◌≤◌, ◌++◌, ℕ, [], pos, codes, length, drop, get_or, OnOk};
 ghost use Rattle.std.specs.Fmt.{signed_decimal};
+ghost use Rattle.loops.specs.Run.{MemoryData, opening_cells};
 ghost use Rattle.printouts.specs.Plain.{cell_line, cell_lines, line_if_changed};
 
 use itoa::write_digits;
 use loops::Memory;
 use machine::OutOfMemory;
+use machine_data::limits::MAX_SUBSCRIPT;
+
+/// How many cells of an array stand before cell 0.
+const MARGIN: usize = MAX_SUBSCRIPT as usize;
 
 /// How many bytes the longest end of a cell's line has, from `[` on: two numbers of at most 20 bytes each,
 /// and four more.
 const TAIL: usize = 44;
 
-/// Appends the lines of the changed cells of the array of a number and a name, in ascending order.
+/// Appends the lines of the cells of the array of a number and a name that a run changed, in ascending
+/// order. What is written for the array is all that is needed to know its cells before the run.
 pub(crate) fn push_cells(
     text: &mut Vec<u8>,
     name: &str,
-    array: usize,
-    before: &Memory,
+    number: usize,
+    written: &[i64],
     after: &Memory,
 ) -> Result<(), OutOfMemory>
-    requires trip { before.now.trip ≡ after.now.trip }
-    requires before { array < length before.now.arrays }
-    requires after { array < length after.now.arrays }
-    ensures { OnOk result (text.new.items ≡ text.old.items ++ cell_lines before.now after.now array name.now) }
+    requires { number < length after.now.arrays }
+    ensures { OnOk result ((opening : MemoryData) → get_or opening.arrays number [] ≡ opening_cells after.now.trip written.now
+        → text.new.items ≡ text.old.items ++ cell_lines opening after.now number name.now) }
 {
-    let kept = before.cells(array);
-    let values = after.cells(array);
+    let values = after.cells(number);
     for (index, value) in values.iter().enumerate() {
-        push_changed(text, name, index as i64 - 64, kept[index], *value)?;
+        let kept = kept_at(written, index);
+        push_changed(text, name, index as i64 - MARGIN as i64, kept, *value)?;
     }
     Ok(())
+}
+
+/// What the cell at this place in the list of an array's cells holds before a run: what is written for it,
+/// or 0.
+#[inline(always)]
+fn kept_at(written: &[i64], index: usize) -> i64
+    ensures { (trip : ℕ) → index < trip + 128 → result ≡ get_or (opening_cells trip written.now) index (pos 0) }
+{
+    if index < MARGIN || index - MARGIN >= written.len() {
+        return 0;
+    }
+    written[index - MARGIN]
 }
 
 /// Appends the line of a cell, where it has another value than before.

@@ -1,7 +1,7 @@
 //! The lines of a run.
 
 ghost use Rattle.std.specs.Prelude.{◌≡◌, ◌++◌, length, IfOk, OnOk, IsErrOf, Ok};
-ghost use Rattle.loops.specs.Run.{HasShapeOf};
+ghost use Rattle.loops.specs.Run.{HasShapeOf, opening_of};
 ghost use Rattle.printouts.specs.Plain.{run_line, out_line, array_lines, out_lines, run_lines};
 
 use crate::output::cell_lines::push_cells;
@@ -24,20 +24,17 @@ pub(crate) fn within_limits(answer: Result<Memory, RunFault>) -> Result<Memory, 
     }
 }
 
-/// Appends the lines of a run of a loop from one memory to another.
+/// Appends the lines of a run of a loop from its opening memory to this one.
 pub(crate) fn push_run(
     text: &mut Vec<u8>,
     innermost: &Loop,
-    before: &Memory,
     after: &Memory,
 ) -> Result<(), OutOfMemory>
-    requires trip { before.now.trip ≡ after.now.trip }
-    requires before { HasShapeOf innermost.now before.now }
-    requires after { HasShapeOf innermost.now after.now }
-    ensures { OnOk result (text.new.items ≡ text.old.items ++ run_lines innermost.now before.now after.now) }
+    requires { HasShapeOf innermost.now after.now }
+    ensures { OnOk result (text.new.items ≡ text.old.items ++ run_lines innermost.now (opening_of innermost.now after.now.trip) after.now) }
 {
     push_head(text, innermost, after.trip())?;
-    push_arrays(text, innermost, before, after)?;
+    push_arrays(text, innermost, after)?;
     push_outs(text, innermost, after)
 }
 
@@ -50,22 +47,16 @@ fn push_head(text: &mut Vec<u8>, innermost: &Loop, trip: u64) -> Result<(), OutO
     text.push_piece("\n")
 }
 
-/// Appends the lines of the changed cells of all arrays, in order.
-fn push_arrays(
-    text: &mut Vec<u8>,
-    innermost: &Loop,
-    before: &Memory,
-    after: &Memory,
-) -> Result<(), OutOfMemory>
-    requires trip { before.now.trip ≡ after.now.trip }
-    requires before { length before.now.arrays ≡ length innermost.now.arrays }
-    requires after { length after.now.arrays ≡ length innermost.now.arrays }
-    ensures { OnOk result (text.new.items ≡ text.old.items ++ array_lines innermost.now before.now after.now) }
+/// Appends the lines of the cells of all arrays that a run changed, in order.
+fn push_arrays(text: &mut Vec<u8>, innermost: &Loop, after: &Memory) -> Result<(), OutOfMemory>
+    requires { length after.now.arrays ≡ length innermost.now.arrays }
+    ensures { OnOk result (text.new.items ≡ text.old.items ++ array_lines innermost.now (opening_of innermost.now after.now.trip) after.now) }
 {
     let arrays = innermost.arrays();
     for number in 0..arrays.len() {
-        let name = arrays[number].name.as_str();
-        push_cells(text, name, number, before, after)?;
+        let array = &arrays[number];
+        let name = array.name.as_str();
+        push_cells(text, name, number, array.cells.as_slice(), after)?;
     }
     Ok(())
 }

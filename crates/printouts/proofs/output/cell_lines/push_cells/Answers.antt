@@ -1,6 +1,6 @@
 use Rattle.std.proofs.Common.{◌≡◌, ◌∙◌, ◌-ℤ◌, ◌+ℤ◌, ℕ, ℤ, List, [], get_or, pos, sym, ap, ap₂, arith, rules, nat_abs, w64, to_z, of_z}
 use Rattle.std.proofs.lemmas.Int.{ints, to_z-of_z}
-use Rattle.loops.specs.Run.{cell_of, cell_index}
+use Rattle.loops.specs.Run.{cell_of, cell_index, opening_cells}
 use Rattle.printouts.specs.Plain.{changed_line, line_if_changed}
 use Rattle.printouts.proofs.PlainLines.{cell_more, cell_all}
 use Rattle.printouts.proofs.output.cell_lines.push_cells.Goals as goal
@@ -14,23 +14,25 @@ read arrays array cells i cell value place is e =
     e ∙ ap (λ (xs : List ℤ). get_or xs i (pos 0)) is ∙ ap (λ (n : ℕ). get_or (get_or arrays array []) n (pos 0)) (sym there)
 
 pub loop-index-preserved : goal.loop-index-preserved
-loop-index-preserved c =
+loop-index-preserved c = λ opening h.
     let i = c.loop-index.index in
+    let number = c.args.number in
     let cell : ℤ = to_z w64 (of_z w64 (to_z w64 i -ℤ pos 64)) in
     let place : cell ≡ pos i -ℤ pos 64 = first_of (omega (arith, ints), grind (arith, ints)) in
-    let kept : ℤ = to_z w64 (of_z w64 (get_or c.cells-kept.result.now i (pos 0))) in
     let value : ℤ = to_z w64 (of_z w64 (get_or c.cells-values.result.now i (pos 0))) in
-    let same_kept : kept ≡ get_or c.cells-kept.result.now i (pos 0) = first_of (grind (arith, ints, to_z-of_z), search (rules, to_z-of_z)) in
     let same_value : value ≡ get_or c.cells-values.result.now i (pos 0) = first_of (grind (arith, ints, to_z-of_z), search (rules, to_z-of_z)) in
-    let is_kept : kept ≡ cell_of c.args.before.now.arrays c.args.array cell
-    = read c.args.before.now.arrays c.args.array c.cells-kept.result.now i cell kept place c.cells-kept.ensures.value same_kept in
-    let is_value : value ≡ cell_of c.args.after.now.arrays c.args.array cell
-    = read c.args.after.now.arrays c.args.array c.cells-values.result.now i cell value place c.cells-values.ensures.value same_value in
-    c.in_ok-push_changed.ensures ∙ cell_more (changed_line c.args.before.now c.args.after.now c.args.array c.args.name.now) c.args.text.now.items c.loop-index.text.items _
-    c.args.after.now.trip i cell (omega (arith, c.cells-values.ensures.many)) place c.loop-index.invariant
+    let kept : ℤ = to_z w64 (of_z w64 c.kept_at-kept.result) in
+    let same_kept : kept ≡ c.kept_at-kept.result = first_of (grind (arith, ints, to_z-of_z), search (rules, to_z-of_z)) in
+    let is_kept : kept ≡ cell_of opening.arrays number cell
+    = read opening.arrays number (opening_cells c.args.after.now.trip c.args.written.now) i cell kept place (sym h)
+    (same_kept ∙ c.kept_at-kept.ensures c.args.after.now.trip (omega (arith, c.cells-values.ensures.many))) in
+    let is_value : value ≡ cell_of c.args.after.now.arrays number cell
+    = read c.args.after.now.arrays number c.cells-values.result.now i cell value place c.cells-values.ensures.value same_value in
+    c.in_ok-push_changed.ensures ∙ cell_more (changed_line opening c.args.after.now number c.args.name.now) c.args.text.now.items c.loop-index.text.items _
+    c.args.after.now.trip i cell (omega (arith, c.cells-values.ensures.many)) place (c.loop-index.invariant opening h)
     (ap₂ (λ (k v : ℤ). line_if_changed c.args.name.now cell k v) is_kept is_value)
 
 pub returns : goal.returns
-returns c =
-    cell_all c.args.before.now c.args.after.now c.args.array c.args.name.now c.args.text.now.items c.loop-index.text.items c.loop-index.index
-    (omega (arith, c.cells-values.ensures.many)) c.loop-index.invariant
+returns c = λ opening h.
+    cell_all opening c.args.after.now c.args.number c.args.name.now c.args.text.now.items c.loop-index.text.items c.loop-index.index
+    (omega (arith, c.cells-values.ensures.many)) (c.loop-index.invariant opening h)

@@ -1,21 +1,30 @@
-use Rattle.std.proofs.Common.{◌≡◌, ◌∙◌, ℕ, List, length, get_or, sym, ap, arith}
+use Rattle.std.proofs.Common.{◌≡◌, ◌∙◌, ℕ, List, [], length, get_or, sym, ap, arith}
 use Rattle.loops.specs.Array.{Array}
+use Rattle.loops.specs.Run.{MemoryData, opening_cells, opening_of}
 use Rattle.printouts.specs.Plain.{cell_lines}
 use Rattle.printouts.proofs.PlainLines.{array_more, array_all}
+use Rattle.printouts.proofs.Openings.{opening-array}
 use Rattle.printouts.proofs.output.run_lines.push_arrays.Goals as goal
 
 pub loop-number-preserved : goal.loop-number-preserved
 loop-number-preserved c =
-    let long : length c.arrays-arrays.result.now ≡ length c.args.innermost.now.arrays = ap length c.arrays-arrays.ensures.value in
-    c.in_ok-push_cells.ensures ∙ array_more (λ (a : ℕ × Array). cell_lines c.args.before.now c.args.after.now a.0 a.1.name) c.args.text.now.items c.loop-number.text.items _
-    c.args.innermost.now.arrays c.loop-number.number c.index-arrays-number.result (omega arith)
-    (ap (λ (xs : List Array). get_or xs c.loop-number.number c.index-arrays-number.result) (sym c.arrays-arrays.ensures.value) ∙ sym c.index-arrays-number.is)
-    c.loop-number.invariant
-    (ap (λ (n : List ℕ). cell_lines c.args.before.now c.args.after.now c.loop-number.number n)
-    (c.as_str-name.ensures.value ∙ ap (λ (a : Array). a.name) (sym c.index-arrays-number.is)))
+    let loop = c.args.innermost.now in
+    let opening : MemoryData = opening_of loop c.args.after.now.trip in
+    let number : ℕ = c.loop-number.number in
+    let array : Array = c.index-arrays-number.result in
+    let long : length c.arrays-arrays.result.now ≡ length loop.arrays = ap length c.arrays-arrays.ensures.value in
+    let is : get_or loop.arrays number array ≡ array
+    = ap (λ (xs : List Array). get_or xs number array) (sym c.arrays-arrays.ensures.value) ∙ sym c.index-arrays-number.is in
+    let opens : get_or opening.arrays number [] ≡ opening_cells c.args.after.now.trip c.as_slice.result.now
+    = opening-array loop c.args.after.now.trip number array (omega arith) ∙ ap (opening_cells c.args.after.now.trip) (ap (λ (a : Array). a.cells) is ∙ sym c.as_slice.ensures) in
+    c.in_ok-push_cells.ensures opening opens
+    ∙ array_more (λ (a : ℕ × Array). cell_lines opening c.args.after.now a.0 a.1.name) c.args.text.now.items c.loop-number.text.items _
+    loop.arrays number array (omega arith) is c.loop-number.invariant
+    (ap (λ (n : List ℕ). cell_lines opening c.args.after.now number n) c.as_str-name.ensures.value)
 
 pub returns : goal.returns
 returns c =
-    let long : length c.arrays-arrays.result.now ≡ length c.args.innermost.now.arrays = ap length c.arrays-arrays.ensures.value in
-    array_all (λ (a : ℕ × Array). cell_lines c.args.before.now c.args.after.now a.0 a.1.name) c.args.text.now.items c.loop-number.text.items
-    c.args.innermost.now.arrays c.loop-number.number (omega arith) c.loop-number.invariant
+    let loop = c.args.innermost.now in
+    let long : length c.arrays-arrays.result.now ≡ length loop.arrays = ap length c.arrays-arrays.ensures.value in
+    array_all (λ (a : ℕ × Array). cell_lines (opening_of loop c.args.after.now.trip) c.args.after.now a.0 a.1.name) c.args.text.now.items c.loop-number.text.items
+    loop.arrays c.loop-number.number (omega arith) c.loop-number.invariant
