@@ -7,7 +7,7 @@ use crate::answers::{Answer, tell, tell_not_begun};
 use crate::bare::try_checks;
 use graph::{Edges, feasible, heights};
 use ims::{Prepared, Schedule, Try, attempt};
-use kernel::{Kernel, simulate};
+use kernel::{Kernel, simulate, simulate_from};
 use loops::{Memory, RunFault, opening, run_from, write_loop};
 use mrt::{MaskTable, ModuloTable, OwnerTable};
 use rotating::{Allotment, allot, emit};
@@ -160,6 +160,12 @@ fn try_runs(
 ) -> io::Result<()> {
     let alloc = rt.alloc();
     tell(rt, "run_from", ran(alloc, prepared), ran(alloc, prepared))?;
+    tell(
+        rt,
+        "simulate_from",
+        left(alloc, prepared, kernel),
+        left(alloc, prepared, kernel),
+    )?;
     match opening(alloc, prepared.innermost(), 3) {
         Ok(memory) => tell(
             rt,
@@ -168,6 +174,13 @@ fn try_runs(
             come_to(simulate(alloc, kernel, 3, &memory)),
         ),
         Err(_) => tell_not_begun(rt),
+    }
+}
+
+fn left(alloc: Global, prepared: &Prepared, kernel: &Kernel) -> Answer {
+    match opening(alloc, prepared.innermost(), 3) {
+        Ok(memory) => come_to(simulate_from(alloc, kernel, 3, memory)),
+        Err(_) => Answer::Refused,
     }
 }
 

@@ -3,7 +3,7 @@
 use super::briefs::{BARE, Brief, BriefOperation, kernel_of};
 use super::numbers::loop_of;
 use kernel::Source::{Constant, Register};
-use kernel::{Address, Kernel, Preload, simulate};
+use kernel::{Address, Kernel, Preload, simulate, simulate_from};
 use loops::{Memory, RunFault, opening};
 use machine::Opcode;
 use std::alloc::Global;
@@ -413,24 +413,26 @@ fn is_refused(fault: RunFault, run: &Run) -> bool {
     }
 }
 
-/// A kernel on a memory comes to what it has to.
-fn comes_to(alloc: Global, kernel: &Kernel, memory: &Memory, run: &Run) -> bool {
-    match simulate(alloc, kernel, run.3.1, memory) {
+/// What a kernel came to is what it has to come to.
+fn is_wanted(answer: Result<Memory, RunFault>, run: &Run) -> bool {
+    match answer {
         Ok(after) => is_left(&after, run),
         Err(fault) => is_refused(fault, run),
     }
 }
 
-/// The kernel of a run comes to what it has to on a memory.
-fn runs_on(rt: &impl Abort, alloc: Global, memory: &Memory, run: &Run) -> bool {
+/// The kernel of a run comes to what it has to on a memory, which is kept or given away.
+fn runs_on(rt: &impl Abort, alloc: Global, memory: Memory, run: &Run) -> bool {
     let kernel = kernel_of(rt, alloc, run.1);
-    comes_to(alloc, &kernel, memory, run)
+    let kept = simulate(alloc, &kernel, run.3.1, &memory);
+    let given = simulate_from(alloc, &kernel, run.3.1, memory);
+    is_wanted(kept, run) && is_wanted(given, run)
 }
 
 /// A run comes to what it has to.
 fn is_met(rt: &impl Abort, alloc: Global, run: &Run) -> bool {
     let memory = opened(rt, alloc, run.2, run.3.0);
-    runs_on(rt, alloc, &memory, run)
+    runs_on(rt, alloc, memory, run)
 }
 
 // (A function that names a table repeats its value in each step of its proof.)

@@ -19,7 +19,7 @@ use crate::output::printout::Printout;
 use crate::output::run_lines::{push_run, within_limits};
 use candidates::{Choice, Listing, Row, write_last, write_row};
 use ims::Prepared;
-use kernel::{Kernel, simulate};
+use kernel::{Kernel, simulate_from};
 use loops::{Loop, Memory, opening};
 use machine::OutOfMemory;
 use settings::Trip;
@@ -141,7 +141,7 @@ fn left_by(
     ensures { IfOk result (λ after. after ≡ overlapped kernel.now (opening_of innermost.now trip)) }
 {
     let before = within_limits(opening(alloc, innermost, trip.count()))?;
-    within_limits(simulate(alloc, kernel, trip.count(), &before))
+    within_limits(simulate_from(alloc, kernel, trip.count(), before))
 }
 
 /// Appends the line of a loop without a kernel.

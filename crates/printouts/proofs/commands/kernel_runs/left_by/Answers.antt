@@ -9,7 +9,7 @@ within_limits-requires-2-clause-shape c =
     let loop = c.args.innermost.now in
     let before : c.in_ok-before.before ≡ opening_of loop c.args.trip = (rw c.in_ok-before.ensures at c.opening.ensures.opening) ∙ ap (opening_of loop) c.count.ensures.value in
     let fits = opening_fits c.args.trip loop c.args.kernel.now c.requires in
-    λ is_shape. (c.simulate.ensures.shape.0 is_shape).1 (
+    λ is_shape. (c.simulate_from.ensures.shape.0 is_shape).1 (
       record {
         same_arrays = ap (λ (m : MemoryData). length m.arrays) before ∙ fits.same_arrays;
         same_outs = ap (λ (m : MemoryData). length m.outs) before ∙ fits.same_outs;
