@@ -295,7 +295,11 @@ def judge(lines, edit):
         return False, "NOT REFUSED: the prover could not tell"
     if any("; it calls " in it or it.startswith("no proof: it calls ") for it in said.values()):
         return None
-    return False, "NOT REFUSED: its function is still proved" if said else "BAD EDIT: the prover tells of no such function"
+    if not said:
+        return False, "BAD EDIT: the prover tells of no such function"
+    # (a function of a form that the prover has no proof for is refused, whatever it does)
+    told = next((it for it in said.values() if it != "proved"), None)
+    return False, f"NOT REFUSED for a goal of its function: {told[:160]}" if told else "NOT REFUSED: its function is still proved"
 
 
 def first_error(lines):
