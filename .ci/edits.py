@@ -56,6 +56,17 @@ class Edit:
             if function not in self.functions:
                 self.functions.append(function)
 
+    def changed(self, texts):
+        """The texts of the files that it changes, where these files have these texts, or those of the crate; or None where it can't be applied."""
+        found = {}
+        for file, old, new in self.pairs:
+            path = f"crates/{self.crate}/{file}"
+            text = found.get(file) or texts.get(file) or (read(path) if os.path.isfile(path) else "")
+            if not old or text.count(old) != 1:
+                return None
+            found[file] = text.replace(old, new)
+        return found
+
     def apply(self, top):
         for file, old, new in self.pairs:
             text = read(f"{top}/{file}")
@@ -332,18 +343,21 @@ def try_together(library, edits, kept):
         return told
     if len(edits) == 1:
         return [(False, f"BAD EDIT: it did not reach the prover: {first_error(lines)}")]
-    return [try_together(library, [it], kept)[0] for it in edits]
+    half = len(edits) // 2
+    return try_together(library, edits[:half], kept) + try_together(library, edits[half:], kept)
 
 
 def next_batch(edits):
-    """The first edits that change different functions."""
-    batch, taken = [], set()
+    """The first edits that change different functions and can be applied one after another. (The first edit is one of them, whatever it is.)"""
+    batch, taken, texts = [], set(), {}
     for it in edits:
         is_alone = None in it.functions or not it.functions
-        if len(batch) < MOST and not (is_alone and batch) and not taken & set(it.functions):
+        changed = it.changed(texts)
+        if not batch or (len(batch) < MOST and changed and not is_alone and not taken & set(it.functions)):
             batch.append(it)
             taken |= set(it.functions)
-        if is_alone and batch == [it]:
+            texts.update(changed or {})
+        if batch == [it] and (is_alone or not changed):
             break
     return batch
 
