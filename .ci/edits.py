@@ -14,7 +14,7 @@ import subprocess
 import tempfile
 from concurrent.futures import ThreadPoolExecutor
 
-# So many edits at a time, for the memory that a check takes.
+# The most edits that are tried together, for the memory that a check takes.
 MOST = 16
 # In bytes: what a check takes at most.
 NEED = 3_000_000_000
@@ -136,7 +136,7 @@ def holder_of(line):
 
 
 def after_parameters(line):
-    """The rest of a line behind the type parameters with which it begins, if it does."""
+    """The rest of a line after the type parameters with which it begins, if it does."""
     depth = 0
     for at, letter in enumerate(line):
         depth += (letter == "<") - (letter == ">")
@@ -152,7 +152,7 @@ def names_in(text):
 
 
 class Library:
-    """Where a crate's copy stands, and the words by which the prover checks it over the libraries that `rt ci` built."""
+    """The libraries that `rt ci` built, and the words by which the prover checks a copy of a crate over them."""
 
     def __init__(self, kit, lines, uses, rlib):
         self.kit, self.lines, self.uses, self.rlib = kit, lines, uses, rlib
