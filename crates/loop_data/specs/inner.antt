@@ -1,2 +1,3 @@
 -- How a run is carried out: what the clauses of private functions cite.
+pub mod Blocks
 pub mod Steps
