@@ -1,8 +1,11 @@
+pub mod Columns
+pub mod Earlier
 pub mod Holding
+pub mod HoldingBlocks
 pub mod Initials
 pub mod InstanceCells
 pub mod Instances
 pub mod LastStores
 pub mod Openings
+pub mod Ordering
 pub mod Promised
-pub mod Rings
