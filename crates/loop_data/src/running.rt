@@ -3,7 +3,9 @@
 mod act;
 mod alone;
 mod block;
+mod choosing;
 mod columns;
+mod combining;
 mod computing;
 mod filling;
 mod group;
@@ -15,3 +17,4 @@ mod resolve;
 pub(crate) mod run;
 mod sources;
 mod step;
+mod storing;
