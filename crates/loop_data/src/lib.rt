@@ -20,5 +20,5 @@ pub use laws::{
 };
 pub use list::ListOf;
 pub use memory::Memory;
-pub use running::run::{RunFault, opening, run_from, run_plain};
+pub use running::run::{RunFault, opening, run_beginning, run_from, run_plain};
 pub use short_list::ShortListOf;
