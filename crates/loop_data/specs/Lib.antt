@@ -7,4 +7,3 @@ pub mod Names
 pub mod Promises
 pub mod Run
 pub mod RunFaults
-pub mod inner

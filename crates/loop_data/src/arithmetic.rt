@@ -40,7 +40,7 @@ pub fn apply_two(opcode: Opcode, a: i64, b: i64) -> i64
 }
 
 /// The second value where the first isn't 0, and else the third.
-pub(crate) fn chosen(condition: i64, a: i64, b: i64) -> i64
+pub fn chosen(condition: i64, a: i64, b: i64) -> i64
     ensures { result ≡ (if is_zero condition then b else a) }
 {
     if condition == 0 { b } else { a }

@@ -1,5 +1,5 @@
-//! The language of loops as data, and what its iterations do. It serves the crates of this repository:
-//! other users take the crate `loops`, which passes all of it on.
+//! The language of loops as data, what its iterations do, and the memory of a run. It serves the crates of
+//! this repository: other users take the crate `loops`, which passes on what they need of it.
 #![tactic(auto)]
 
 mod arithmetic;
@@ -10,7 +10,7 @@ mod memory;
 mod running;
 mod short_list;
 
-pub use arithmetic::{apply, apply_two};
+pub use arithmetic::{apply, apply_two, chosen};
 pub use language::innermost::Loop;
 pub use language::lists::{Array, Cells, Initial, Operands, Param};
 pub use language::statement::{Operand, Place, Statement};
@@ -19,6 +19,6 @@ pub use laws::{
     plain_runs_keep_shapes,
 };
 pub use list::ListOf;
-pub use memory::Memory;
-pub use running::run::{RunFault, opening, run_beginning, run_from, run_plain};
+pub use memory::{ArrayCells, Memory, MemoryParts};
+pub use running::run::{RunFault, opening};
 pub use short_list::ShortListOf;

@@ -18,10 +18,23 @@ pub struct Memory {
     pub(crate) outs: Vec<i64>,
 }
 
-/// The cells of one array, in one piece.
+/// The cells of one array, in one piece. Contracts see the list of them.
 #[derive(Drop)]
-pub(crate) struct ArrayCells {
-    pub(crate) cells: Vec<i64>,
+pub struct ArrayCells {
+    /// In ascending order.
+    pub cells: Vec<i64>,
+}
+
+/// The parts of a memory, for what works on them itself. Contracts see them as a memory, which it need not
+/// be: `Memory::of_parts` asks for that.
+#[derive(Drop)]
+pub struct MemoryParts {
+    /// How many iterations the run has.
+    pub trip: u32,
+    /// The cells of each array, from cell -64 on.
+    pub arrays: Vec<ArrayCells>,
+    /// The values that are live at the end.
+    pub outs: Vec<i64>,
 }
 
 impl Model for ArrayCells {
@@ -30,6 +43,14 @@ impl Model for ArrayCells {
     ghost Value = { List ℤ };
 
     ghost view = { λ b. b.cells.items };
+}
+
+impl Model for MemoryParts {
+    ghost use Rattle.loop_data.specs.Run.{MemoryData};
+
+    ghost Value = { MemoryData };
+
+    ghost view = { λ m. record { trip = m.trip; arrays = m.arrays.items; outs = m.outs.items } };
 }
 
 impl Model for Memory {
@@ -114,6 +135,24 @@ impl Memory {
         ensures { self.new ≡ record self.old { outs = slice_set self.old.outs index value } }
     {
         self.outs[index] = value;
+    }
+
+    /// The parts of the memory.
+    pub fn into_parts(self) -> MemoryParts
+        ensures value { result ≡ self }
+        ensures well_formed { IsMemory result }
+    {
+        let Self { trip, arrays, outs } = self;
+        MemoryParts { trip, arrays, outs }
+    }
+
+    /// The memory of these parts.
+    pub fn of_parts(parts: MemoryParts) -> Memory
+        requires { IsMemory parts }
+        ensures { result ≡ parts }
+    {
+        let MemoryParts { trip, arrays, outs } = parts;
+        Memory { trip, arrays, outs }
     }
 
     /// A copy of the memory.

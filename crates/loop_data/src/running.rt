@@ -1,20 +1,3 @@
-//! The plain run of a loop.
+//! The memory before a run, and why a run is refused.
 
-mod act;
-mod alone;
-mod block;
-mod choosing;
-mod columns;
-mod combining;
-mod computing;
-mod filling;
-mod group;
-mod groups;
-mod iterate;
-mod order;
-mod ranks;
-mod resolve;
 pub(crate) mod run;
-mod sources;
-mod step;
-mod storing;

@@ -11,7 +11,7 @@ use Rattle.loop_reader.specs.Meaning.{is_long}
 use Rattle.loops.specs.Text.{array_name, param_name, value_name}
 use Rattle.loops.proofs.faultless.Lookups.{array_named, param_named, gives-named}
 use Rattle.loops.proofs.Parts.{all-at, all-left, all-right, all-unmapped, all-unfiltered}
-use Rattle.loop_data.proofs.Holding.{element_at}
+use Rattle.loop_data.proofs.Instances.{element_at}
 
 pub not-long : (name : List ℕ) → IsName name → is_long name ≡ false
 not-long name h = le-ltb 16 (length name) h.short

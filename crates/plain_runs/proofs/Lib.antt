@@ -1,0 +1,13 @@
+pub mod ColumnPlaces
+pub mod Earlier
+pub mod Grouping
+pub mod Holding
+pub mod HoldingBlocks
+pub mod Independence
+pub mod Instancing
+pub mod Ordering
+pub mod Reordering
+pub mod RunningAlone
+pub mod Slots
+pub mod Stepping
+pub mod Turning

@@ -1,0 +1,25 @@
+//! Runs loops: the memory that a loop leaves, as the definition `plain` of `loop_data` says. The code goes
+//! through blocks of iterations, and in each block one group of statements after another. It serves the
+//! crates of this repository: other users take the crate `loops`, which passes its functions on.
+#![tactic(auto)]
+
+mod act;
+mod alone;
+mod block;
+mod choosing;
+mod columns;
+mod combining;
+mod computing;
+mod filling;
+mod group;
+mod groups;
+mod iterate;
+mod order;
+mod ranks;
+mod resolve;
+mod run;
+mod sources;
+mod step;
+mod storing;
+
+pub use run::{run_beginning, run_from, run_plain};
