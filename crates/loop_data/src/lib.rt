@@ -1,5 +1,5 @@
-//! The language of loops as data, what its iterations do, and the memory of a run. It serves the crates of
-//! this repository: other users take the crate `loops`, which passes on what they need of it.
+//! The language of loops as data, what its iterations do, and the memory of a run. It serves the
+//! crates of this repository: other users take the crate `loops`, which passes on what they need.
 #![tactic(auto)]
 
 mod arithmetic;

@@ -21,17 +21,17 @@ pub struct Memory {
 /// The cells of one array, in one piece. Contracts see the list of them.
 #[derive(Drop)]
 pub struct ArrayCells {
-    /// In ascending order.
+    /// From the array's cell -64 on.
     pub cells: Vec<i64>,
 }
 
-/// The parts of a memory, for what works on them itself. Contracts see them as a memory, which it need not
-/// be: `Memory::of_parts` asks for that.
+/// The parts of a memory, for what works on its cells itself. Contracts see them as the data of a
+/// memory; `Memory::of_parts` asks that it is one.
 #[derive(Drop)]
 pub struct MemoryParts {
-    /// How many iterations the run has.
+    /// How many iterations the run has, in a memory at most 100,000.
     pub trip: u32,
-    /// The cells of each array, from cell -64 on.
+    /// The cells of each array.
     pub arrays: Vec<ArrayCells>,
     /// The values that are live at the end.
     pub outs: Vec<i64>,
