@@ -39,7 +39,7 @@ impl Model for ArrayCells {
 
 impl Model for Memory {
     ghost use Rattle.machine_data.specs.declared.limits.TheConstants.{MAX_TRIP};
-ghost use Rattle.loop_data.specs.Run.{MemoryData, IsMemory};
+    ghost use Rattle.loop_data.specs.Run.{MemoryData, IsMemory};
 
     ghost Value = { MemoryData };
 

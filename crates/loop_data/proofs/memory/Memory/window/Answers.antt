@@ -1,8 +1,8 @@
-use Rattle.std.proofs.Common.{◌≡◌, ℕ, ◌+◌, ◌-◌, ℤ, ◌≤◌, List, length, map, take, drop, sym, ap, subst, arith, rules}
+use Rattle.std.proofs.Common.{◌≡◌, ℕ, ◌+◌, ℤ, ◌≤◌, List, length, map, take, drop, sym, ap, subst, arith, rules}
 use Rattle.std.specs.List.{All}
 use Rattle.std.proofs.lemmas.List.{length-drop, length-take-le}
 use Rattle.std.proofs.lemmas.List.Elements.{All-map, All-weaker}
-use Rattle.loop_data.specs.Run.{MemoryData, IsMemory}
+use Rattle.loop_data.specs.Run.{MemoryData}
 use Rattle.loop_data.proofs.memory.Memory.window.Goals as goal
 
 -- a window of so many cells is that long
