@@ -3,6 +3,7 @@ pub mod Cycles
 pub mod Ending
 pub mod Filling
 pub mod Flat
+pub mod Halved
 pub mod Held
 pub mod Issuing
 pub mod Landings

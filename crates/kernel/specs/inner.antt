@@ -1,4 +1,5 @@
 -- What the clauses of private functions cite.
+pub mod Halves
 pub mod Holding
 pub mod Kinds
 pub mod Prepared

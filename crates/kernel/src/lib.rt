@@ -11,5 +11,6 @@ pub use kernels::lists::{ArrayNames, Operations, Outs, Params, Preloads, Sources
 pub use kernels::operation::{Address, Operation, Source};
 pub use kernels::parts::{Kernel, Out, Parts, Preload};
 pub use laws::{runs_keep_shapes, well_formed_keeps_rules};
+pub use running::halves::{Guess, simulate_in_halves};
 pub use running::simulation::{simulate, simulate_from};
 pub use text::{kernel_text, text_room, write_kernel};

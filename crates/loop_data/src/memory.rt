@@ -1,12 +1,17 @@
 //! The memory of a run.
 
-ghost use Rattle.std.specs.Prelude.{◌≡◌, ◌+◌, ◌-◌, ◌<◌, ◌≤◌, ◌≤ℤ◌, ◌<ℤ◌, ℤ, pos, neg_ℤ, [], length, slice_index_or, slice_set, IfOk};
+ghost use Rattle.std.specs.Prelude.{◌≡◌, ◌+◌, ◌-◌, ◌<◌, ◌≤◌, ◌≤ℤ◌, ◌<ℤ◌, ℤ, pos, neg_ℤ, List, [], drop, length, map, slice_index_or, slice_set, take, IfOk};
+ghost use Rattle.std.specs.List.{All};
+ghost use Rattle.machine_data.specs.declared.limits.TheConstants.{MAX_TRIP};
 ghost use Rattle.loop_data.specs.Run.{MemoryData, IsMemory, cell_of, with_cell};
 
 use machine_data::OutOfMemory;
 use machine_data::limits::MAX_SUBSCRIPT;
 use std::alloc::Global;
 use std::marker::Model;
+
+/// How many cells an array has more than iterations.
+const SURPLUS: usize = 2 * MAX_SUBSCRIPT as usize;
 
 /// The cells of some arrays, each from -64 to 63 more than the number of iterations, and the values
 /// that are live at the end of a run. Contracts see it as data.
@@ -54,6 +59,7 @@ impl Model for MemoryParts {
 }
 
 impl Model for Memory {
+    ghost use Rattle.machine_data.specs.declared.limits.TheConstants.{MAX_TRIP};
     ghost use Rattle.loop_data.specs.Run.{MemoryData, IsMemory};
 
     ghost Value = { MemoryData };
@@ -155,6 +161,21 @@ impl Memory {
         Memory { trip, arrays, outs }
     }
 
+    /// The memory of a run of `trip` iterations, of which the first is iteration `from` of this one: of
+    /// each array the cells that such a run reaches, and all live values.
+    pub fn window(&self, alloc: Global, from: u64, trip: u64) -> Result<Memory, OutOfMemory>
+        requires within { from + trip ≤ self.now.trip }
+        ensures { IfOk result (λ part. part ≡ record { trip = trip; arrays = map (λ (a : List ℤ). take (trip + 128) (drop from a)) self.now.arrays; outs = self.now.outs }) }
+    {
+        let arrays = windows(alloc, self.arrays.as_slice(), from as usize, trip as usize)?;
+        let outs = Vec::from_slice(alloc, self.outs.as_slice())?;
+        Ok(Memory {
+            trip: trip as u32,
+            arrays,
+            outs,
+        })
+    }
+
     /// A copy of the memory.
     pub fn copied(&self, alloc: Global) -> Result<Memory, OutOfMemory>
         ensures { IfOk result (λ copy. copy ≡ self.now) }
@@ -178,4 +199,27 @@ fn copied_arrays(alloc: Global, arrays: &[ArrayCells]) -> Result<Vec<ArrayCells>
         })?;
     }
     Ok(copies)
+}
+
+/// A copy of the cells that a run of `trip` iterations reaches, of each of some arrays, where the run's
+/// first iteration is iteration `from` of theirs.
+fn windows(
+    alloc: Global,
+    arrays: &[ArrayCells],
+    from: usize,
+    trip: usize,
+) -> Result<Vec<ArrayCells>, OutOfMemory>
+    requires within { All (λ (a : List ℤ). from + trip + 128 ≤ length a) arrays.now }
+    requires few { from + trip ≤ MAX_TRIP }
+    ensures { IfOk result (λ parts. parts.items ≡ map (λ (a : List ℤ). take (trip + 128) (drop from a)) arrays.now) }
+{
+    let end = from + trip + SURPLUS;
+    let mut parts = Vec::with_capacity(alloc, arrays.len())?;
+    for array in arrays {
+        let cells = &array.cells[from..end];
+        parts.push(ArrayCells {
+            cells: Vec::from_slice(alloc, cells)?,
+        })?;
+    }
+    Ok(parts)
 }
