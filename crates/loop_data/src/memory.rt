@@ -176,8 +176,8 @@ fn windows(
 {
     let end = from + trip + SURPLUS;
     let mut parts = Vec::with_capacity(alloc, arrays.len())?;
-    for array in arrays {
-        let cells = &array.cells[from..end];
+    for held in arrays {
+        let cells = &held.cells[from..end];
         parts.push(ArrayCells {
             cells: Vec::from_slice(alloc, cells)?,
         })?;
