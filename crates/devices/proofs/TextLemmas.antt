@@ -1,11 +1,12 @@
 -- How a text is read and written part by part.
-use Rattle.std.proofs.Common.{◌≡◌, ◌+◌, ◌-◌, ◌<◌, ◌≤◌, ◌++◌, ◌∙◌, ℕ, List, Option, Some, None, take, drop, length, option_map}
+use Rattle.std.proofs.Common.{◌≡◌, ◌+◌, ◌-◌, ◌<◌, ◌≤◌, ◌++◌, ◌∙◌, ℕ, zero, suc, List, [], ◌∷◌, Option, Some, None, get_or, take, drop, length, length-append, option_map, Vec}
+use Rattle.std.specs.Global.{Global}
 use Rattle.std.proofs.Common.{◌↔◌, Result, Ok, Err, IsErrAnd, IsErrOf}
 use Rattle.devices.specs.declared.text.ReadTextError.{ReadTextError}
 use Rattle.devices.specs.declared.text.ReadTextError.TheVariants.{Fault, Memory}
 use Rattle.std.proofs.Common.{IfSome, refl, ap, ap₂, sym, arith, append_assoc}
-use Rattle.std.proofs.lemmas.List.{take-append-drop, take-take, drop-take, drop-drop, length-drop, take_all, drop_all}
-use Rattle.devices.specs.Devices.{Reads, Writes, HoldsText}
+use Rattle.std.proofs.lemmas.List.{take_at, drop_at, take-append-le, take-append-drop, take-take, drop-take, drop-drop, length-drop, take_all, drop_all}
+use Rattle.devices.specs.Devices.{Reads, Writes, HoldsText, TakesBeginning, joined_text}
 
 -- a beginning is a shorter beginning and what follows there
 pub take-add : (n m : ℕ) (xs : List ℕ) → take (n + m) xs ≡ take n xs ++ take m (drop n xs)
@@ -44,6 +45,33 @@ Written-write taken now after text rest later n w s e =
       left = e ∙ ap (drop n) w.left ∙ drop-drop n w.done text;
       took = takes-more taken now after text w.done n w.took (rw (← w.left) s.known);
     }
+
+-- an output that took some bytes and then a beginning of a text took a beginning of those bytes, the text, and what comes after it
+pub begins_after : (taken now after : Option (List ℕ)) (done text later : List ℕ)
+    → now ≡ option_map (λ before. before ++ done) taken → TakesBeginning now after text → TakesBeginning taken after (done ++ (text ++ later))
+begins_after taken now after done text later e b =
+    let n = b.0 in
+    let whole : List ℕ = done ++ (text ++ later) in
+    let fits : n ≤ length text = b.1 in
+    let all : length whole ≡ length done + (length text + length later) = simp length-append refl in
+    let front : done ≡ take (length done) whole = sym (take_at done (text ++ later) (length done) refl) in
+    let rest : drop (length done) whole ≡ text ++ later = drop_at done (text ++ later) (length done) refl in
+    let part : take n text ≡ take n (drop (length done) whole) = sym (ap (take n) rest ∙ take-append-le n text later fits) in (
+      length done + n,
+      omega arith,
+      takes-more taken now after whole (length done) n
+          (e ∙ ap (λ (p : List ℕ). option_map (λ before. before ++ p) taken) front)
+          (b.2 ∙ ap (λ (p : List ℕ). option_map (λ before. before ++ p) now) part),
+    )
+
+-- texts one after another are those before one, that one, and those after it
+pub joined-apart : (texts : List (Vec ℕ Global)) (i : ℕ) (text : Vec ℕ Global) → i < length texts → text ≡ get_or texts i text
+    → joined_text texts ≡ joined_text (take i texts) ++ (text.items ++ joined_text (drop (suc i) texts))
+joined-apart [] i text h e = absurd (omega (arith, h))
+joined-apart (x ∷ texts) zero text h e = ap (λ (t : Vec ℕ Global). t.items ++ joined_text texts) (sym e)
+joined-apart (x ∷ texts) (suc i) text h e =
+    ap (λ (t : List ℕ). x.items ++ t) (joined-apart texts i text (omega (arith, h)) e)
+    ∙ sym (append_assoc x.items (joined_text (take i texts)) (text.items ++ joined_text (drop (suc i) texts)))
 
 -- the first n bytes of an input stand at the front of a buffer, and the others are left
 pub record ReadSoFar (left now : Option (List ℕ)) (buffer : List ℕ) (n : ℕ) : Type 0 where

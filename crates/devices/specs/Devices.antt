@@ -1,5 +1,7 @@
 -- What inputs and outputs give and take, where their bytes are known.
-use Rattle.std.specs.Prelude.{◌≡◌, ◌≢◌, ℕ, ◌+◌, ◌-◌, ◌<◌, ◌≤◌, Bool, true, false, codes, min, List, [], ◌++◌, length, take, drop, Option, Some, None, option_map, Result, Ok, Err}
+use Rattle.std.specs.Prelude.{◌≡◌, ◌≢◌, ℕ, ◌+◌, ◌-◌, ◌<◌, ◌≤◌, Bool, true, false, codes, min, List, [], ◌++◌, length, take, drop, Option, Some, None, option_map, Result, Ok, Err, Vec}
+use Rattle.std.specs.Global.{Global}
+use Rattle.std.specs.List.{flat_map}
 use Rattle.devices.specs.declared.device.Fault.{Fault}
 use Rattle.devices.specs.declared.text.ReadTextError.{ReadTextError}
 use Rattle.devices.specs.declared.text.ReadTextError.TheVariants as error
@@ -37,6 +39,10 @@ told_of error.Memory = codes "out of memory"
 abbrev pub TakesBeginning : Option (List ℕ) → Option (List ℕ) → List ℕ → Type 0
 TakesBeginning taken after bytes =
     (n : ℕ) × (n ≤ length bytes) × (after ≡ option_map (λ before. before ++ take n bytes) taken)
+
+-- texts one after another
+abbrev pub joined_text : List (Vec ℕ Global) → List ℕ
+joined_text texts = flat_map (λ (text : Vec ℕ Global). text.items) texts
 
 -- how an input that fails reads: how many bytes it gives at most, and after how many reads one fails
 pub record Reading : Type 0 where

@@ -9,7 +9,7 @@ mod text;
 pub use device::{
     Bytes, Fault, FaultyInput, FaultyOutput, FileInput, Input, Output, StandardOutput, TakenBytes,
 };
-pub use text::{ReadTextError, TEXT_LIMIT, read_text, read_text_of, write_text};
+pub use text::{ReadTextError, TEXT_LIMIT, read_text, read_text_of, write_text, write_texts};
 
 /// The only error of calls that fail for lack of memory alone.
 pub type OutOfMemory = std::alloc::AllocError;

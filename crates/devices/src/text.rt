@@ -2,7 +2,7 @@
 
 ghost use Rattle.std.specs.Prelude.{◌≡◌, ◌+◌, ◌-◌, ◌^◌, ◌<◌, ◌≤◌, ◌↔◌, ◌++◌, Some, take, drop, length, vec_len, option_map};
 ghost use Rattle.std.specs.Prelude.{IfOk, IfSome, OnOk, OnErr, IsErrOf};
-ghost use Rattle.devices.specs.Devices.{Reads, TakesBeginning, most_read, HoldsText};
+ghost use Rattle.devices.specs.Devices.{Reads, TakesBeginning, joined_text, most_read, HoldsText};
 ghost use Rattle.devices.specs.declared.text.ReadTextError.TheVariants.{Fault as FaultError, Memory};
 
 use crate::OutOfMemory;
@@ -187,10 +187,40 @@ pub fn write_text<O: Output>(output: &mut O, text: &[u8]) -> Result<(), Fault>
     ensures fault { OnErr result (O.failed output.new ≡ O.failed output.old + 1) }
     ensures beginning { OnErr result (TakesBeginning (O.taken output.old) (O.taken output.new) text.now) }
 {
+    give(output, text)?;
+    output.flush()
+}
+
+/// Writes whole texts, one after another, and flushes, so that all of them are handed on. After a fault it makes
+/// no further call, and what was taken is a beginning of the texts.
+pub fn write_texts<O: Output>(output: &mut O, texts: &[Vec<u8>]) -> Result<(), Fault>
+    requires { O.failed output.old < 2 ^ 64 - 1 }
+    ensures whole { OnOk result (O.taken output.new ≡ option_map (λ before. before ++ joined_text texts.now) (O.taken output.old)) }
+    ensures handed { OnOk result (O.handed output.new ≡ O.taken output.new) }
+    ensures fine { OnOk result (O.failed output.new ≡ O.failed output.old) }
+
+    ensures fault { OnErr result (O.failed output.new ≡ O.failed output.old + 1) }
+    ensures beginning { OnErr result (TakesBeginning (O.taken output.old) (O.taken output.new) (joined_text texts.now)) }
+{
+    for text in texts {
+        give(output, text.as_slice())?;
+    }
+    output.flush()
+}
+
+// Writes a whole text, which the output may keep back.
+fn give<O: Output>(output: &mut O, text: &[u8]) -> Result<(), Fault>
+    requires { O.failed output.old < 2 ^ 64 - 1 }
+    ensures whole { OnOk result (O.taken output.new ≡ option_map (λ before. before ++ text.now) (O.taken output.old)) }
+    ensures fine { OnOk result (O.failed output.new ≡ O.failed output.old) }
+
+    ensures fault { OnErr result (O.failed output.new ≡ O.failed output.old + 1) }
+    ensures beginning { OnErr result (TakesBeginning (O.taken output.old) (O.taken output.new) text.now) }
+{
     let mut rest = text;
     while !rest.is_empty() {
         let n = output.write(rest)?;
         rest = &rest[n..];
     }
-    output.flush()
+    Ok(())
 }

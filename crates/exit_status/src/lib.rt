@@ -10,4 +10,4 @@ mod written;
 pub use exit::{Told, exit_number};
 pub use status::{Line, Status};
 pub use verdict::Verdict;
-pub use written::{finish, show};
+pub use written::{finish, finish_texts, show};

@@ -33,7 +33,7 @@ use printouts::{Printout, bounds_text, dot_text, edges_text};
 use searches::{json_text, run_text, schedule_text};
 use settings::Settings;
 use side_by_side::{
-    document_text_of, explain_document_on, explain_page_on, explain_text_on, plain_text_on,
+    Parted, document_text_of, explain_document_on, explain_page_on, explain_text_on, plain_text_on,
     run_text_of, schedule_text_of, scheduled_text_on, vary_document_on, vary_text_on,
     vary_total_on,
 };
@@ -69,13 +69,23 @@ pub(crate) fn answer_of<R: Threads + Sync>(
 }
 
 /// What loops come to, with the status of a refusal.
-fn loops_ending(outcome: Result<Printout, FileFault>) -> Result<Answer, Status>
+fn loops_ending(outcome: Result<Parted, FileFault>) -> Result<Answer, Status>
     ensures ending { ending_of result ≡ loops_ending outcome }
     ensures kind { IfErr result IsRefusal }
 {
     match outcome {
-        Ok(printout) => Ok(Answer::Printout(printout)),
+        Ok(parted) => Ok(Answer::Parted(parted)),
         Err(fault) => Err(Status::from(fault)),
+    }
+}
+
+/// A printout alone, where there is one.
+fn whole(outcome: Result<Printout, FileFault>) -> Result<Parted, FileFault>
+    ensures { result ≡ outcome }
+{
+    match outcome {
+        Ok(printout) => Ok(Parted::whole(printout)),
+        Err(fault) => Err(fault),
     }
 }
 
@@ -143,7 +153,7 @@ fn text_of<R: Threads + Sync>(
     task: &Task,
     machine: &Machine,
     text: &[u8],
-) -> Result<Printout, FileFault>
+) -> Result<Parted, FileFault>
     ensures { AnswersIn (IsTaskText task.now machine.now) machine.now (loops_in text.now) result }
 {
     match task {
@@ -163,12 +173,12 @@ fn search_of<R: Threads + Sync>(
     search: &Search,
     machine: &Machine,
     text: &[u8],
-) -> Result<Printout, FileFault>
+) -> Result<Parted, FileFault>
     ensures { AnswersIn (IsSearchText settings.now.ratio settings.now.ceiling search.now machine.now) machine.now (loops_in text.now) result }
 {
     match search {
-        Search::Schedule => schedule_text_of(rt, alloc, machine, text, settings),
-        Search::Json => document_text_of(rt, alloc, machine, text, settings),
+        Search::Schedule => whole(schedule_text_of(rt, alloc, machine, text, settings)),
+        Search::Json => whole(document_text_of(rt, alloc, machine, text, settings)),
         Search::Run(trip) => run_text_of(rt, alloc, machine, text, settings, *trip),
         _ => {
             let loops = read_by_workers(rt, alloc, text, settings.workers())?;
@@ -184,14 +194,14 @@ fn task_text<R: Threads + Sync>(
     task: &Task,
     machine: &Machine,
     loops: Vec<Loop>,
-) -> Result<Printout, FileFault>
+) -> Result<Parted, FileFault>
     requires few { vec_len loops ≤ MAX_LOOPS }
     ensures { AnswersOn (IsTaskText task.now machine.now loops.items) (first_lacking machine.now loops.items) result }
 {
     match task {
-        Task::Bounds => bounds_text(alloc, machine, loops.as_slice()),
-        Task::Edges => edges_text(alloc, machine, loops.as_slice()),
-        Task::Dot => dot_text(alloc, machine, loops.as_slice()),
+        Task::Bounds => whole(bounds_text(alloc, machine, loops.as_slice())),
+        Task::Edges => whole(edges_text(alloc, machine, loops.as_slice())),
+        Task::Dot => whole(dot_text(alloc, machine, loops.as_slice())),
         Task::Search(settings, search) => search_text(rt, alloc, settings, search, machine, loops),
     }
 }
@@ -204,26 +214,30 @@ fn search_text<R: Threads + Sync>(
     search: &Search,
     machine: &Machine,
     loops: Vec<Loop>,
-) -> Result<Printout, FileFault>
+) -> Result<Parted, FileFault>
     requires few { vec_len loops ≤ MAX_LOOPS }
     ensures { AnswersOn (IsSearchText settings.now.ratio settings.now.ceiling search.now machine.now loops.items) (first_lacking machine.now loops.items) result }
 {
     match search {
         Search::Schedule => {
             let searched = pipeline_on(rt, alloc, machine, loops, settings, &OpenGate);
-            schedule_text(rt, alloc, searched, settings.workers())
+            whole(schedule_text(rt, alloc, searched, settings.workers()))
         }
         Search::Json => {
             let searched = pipeline_on(rt, alloc, machine, loops, settings, &OpenGate);
-            json_text(alloc, searched)
+            whole(json_text(alloc, searched))
         }
-        Search::Explain(Format::Text) => explain_text_on(rt, alloc, machine, loops, settings),
-        Search::Explain(Format::Json) => explain_document_on(rt, alloc, machine, loops, settings),
-        Search::Page => explain_page_on(rt, alloc, machine, loops, settings),
-        Search::Scheduled => scheduled_text_on(rt, alloc, machine, loops, settings),
-        Search::Vary(Format::Text) => vary_text_on(rt, alloc, machine, loops, settings),
-        Search::Vary(Format::Json) => vary_document_on(rt, alloc, machine, loops, settings),
-        Search::Total => vary_total_on(rt, alloc, machine, loops, settings),
+        Search::Explain(Format::Text) => whole(explain_text_on(
+            rt, alloc, machine, loops, settings,
+        )),
+        Search::Explain(Format::Json) => whole(explain_document_on(
+            rt, alloc, machine, loops, settings,
+        )),
+        Search::Page => whole(explain_page_on(rt, alloc, machine, loops, settings)),
+        Search::Scheduled => whole(scheduled_text_on(rt, alloc, machine, loops, settings)),
+        Search::Vary(Format::Text) => whole(vary_text_on(rt, alloc, machine, loops, settings)),
+        Search::Vary(Format::Json) => whole(vary_document_on(rt, alloc, machine, loops, settings)),
+        Search::Total => whole(vary_total_on(rt, alloc, machine, loops, settings)),
         Search::Run(trip) => {
             let searched = pipeline_on(rt, alloc, machine, loops, settings, &OpenGate);
             run_text(rt, alloc, searched, *trip, settings.workers())

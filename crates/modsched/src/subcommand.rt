@@ -10,7 +10,7 @@ mod texts;
 use crate::commands::answer_of;
 use command_line::{Command, LintTexts};
 use devices::{Input, Output, ReadTextError};
-use exit_status::{Status, finish};
+use exit_status::Status;
 use std::alloc::Global;
 use std::thread::Threads;
 use texts::{first_text, last_text};
@@ -72,7 +72,7 @@ pub fn engine<R: Threads + Sync, M: Input, L: Input, O: Output>(
         Err(ReadTextError::Memory) => return Status::OutOfMemory,
     };
     match answer_of(rt, alloc, command, first.as_slice(), last.as_slice()) {
-        Ok(answer) => finish(output, answer.text(), answer.verdict()),
+        Ok(answer) => answer.write(output),
         Err(refusal) => refusal,
     }
 }

@@ -1,5 +1,6 @@
 -- What the clauses of private functions cite.
 pub mod Explained
+pub mod Held
 pub mod Objects
 pub mod Parts
 pub mod Scheduled

@@ -3,6 +3,7 @@
 #![tactic(auto)]
 
 mod commands;
+mod parted;
 mod parts;
 
 pub use commands::documents::document_text_of;
@@ -14,3 +15,4 @@ pub use commands::runs::run_text_on;
 pub use commands::scheduling::scheduled_text_on;
 pub use commands::texts::{run_text_of, schedule_text_of};
 pub use commands::varying::{vary_document_on, vary_text_on, vary_total_on};
+pub use parted::{Bytes, Parted};

@@ -14,7 +14,7 @@ use command_line::Trip;
 use file_faults::FileFault;
 use ims::Prepared;
 use printouts::{Printout, document_printout};
-use side_by_side::{listing_printout_on, run_text_on};
+use side_by_side::{Parted, listing_printout_on, run_text_on};
 use std::alloc::Global;
 use std::thread::Threads;
 
@@ -51,7 +51,7 @@ pub(crate) fn run_text<R: Threads + Sync>(
     searched: Searched,
     trip: Trip,
     workers: usize,
-) -> Result<Printout, FileFault>
+) -> Result<Parted, FileFault>
     requires { IfOk searched (λ both. ListsProblems both.1.ceiling both.0.items both.1) }
     ensures { (machine : MachineData) (ratio ceiling : ℕ) (loops : Result (List LoopData) LoopFault) → AnswersIn (PreparesAndLists ratio ceiling machine) machine loops searched
         → AnswersIn (IsRunText trip ratio ceiling machine) machine loops result }

@@ -5,12 +5,13 @@ ghost use Rattle.std.specs.List.{All};
 ghost use Rattle.file_faults.specs.Answers.{AnswersOn};
 ghost use Rattle.printouts.specs.Plain.{IsPlainText, plain_lines};
 
-use crate::parts::joined::joined;
+use crate::parted::Parted;
+use crate::parts::joined::texts_of;
 use crate::parts::part::Part;
 use file_faults::FileFault;
 use loops::Loop;
 use machine::OutOfMemory;
-use printouts::{Printout, plain_text, push_last, push_plain};
+use printouts::{plain_text, push_last, push_plain};
 use settings::Trip;
 use shared_jobs::{Jobs, parts_of, shared};
 use std::alloc::Global;
@@ -27,7 +28,7 @@ pub fn plain_text_on<R: Threads + Sync>(
     loops: &[Loop],
     trip: Trip,
     workers: usize,
-) -> Result<Printout, FileFault>
+) -> Result<Parted, FileFault>
     ensures { AnswersOn (IsPlainText trip loops.now) None result }
 {
     let jobs = shared(
@@ -38,7 +39,7 @@ pub fn plain_text_on<R: Threads + Sync>(
     );
     match jobs {
         Some(jobs) => Ok(plain_by(rt, alloc, loops, trip, &jobs)?),
-        None => plain_text(alloc, loops, trip),
+        None => Ok(Parted::whole(plain_text(alloc, loops, trip)?)),
     }
 }
 
@@ -59,7 +60,7 @@ fn plain_by<R: Threads + Sync>(
     loops: &[Loop],
     trip: Trip,
     jobs: &Jobs,
-) -> Result<Printout, OutOfMemory>
+) -> Result<Parted, OutOfMemory>
     requires each { vec_len jobs.now.list ≡ length loops.now }
     requires within { All (λ (j : _). j.number < length loops.now) jobs.now.list.items }
     ensures { IfOk result (IsPlainText trip loops.now) }
@@ -70,9 +71,9 @@ fn plain_by<R: Threads + Sync>(
         jobs,
         &|number| plain_part(alloc, loops, trip, number),
     )?;
-    let mut text = joined(alloc, parts)?;
-    push_last(&mut text, loops.len() as u64)?;
-    Ok(Printout::new(text, true))
+    let mut last = Vec::new(alloc);
+    push_last(&mut last, loops.len() as u64)?;
+    Ok(Parted::of_texts(texts_of(alloc, parts, last)?, true))
 }
 
 /// What `plain` writes of the loop of a number.

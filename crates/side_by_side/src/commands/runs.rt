@@ -10,12 +10,13 @@ ghost use Rattle.printouts.specs.Run.{choice_lines, told_lines};
 ghost use Rattle.printouts.specs.Schedule.{are_met};
 
 use crate::commands::plain::run_work;
-use crate::parts::joined::joined;
+use crate::parted::Parted;
+use crate::parts::joined::texts_of;
 use crate::parts::part::Part;
 use candidates::Listing;
 use ims::Prepared;
 use machine::OutOfMemory;
-use printouts::{Printout, are_met, push_choice, push_counts, run_printout};
+use printouts::{are_met, push_choice, push_counts, run_printout};
 use settings::Trip;
 use shared_jobs::{Jobs, parts_of, shared};
 use std::alloc::Global;
@@ -33,7 +34,7 @@ pub fn run_text_on<R: Threads + Sync>(
     listing: &Listing,
     trip: Trip,
     workers: usize,
-) -> Result<Printout, OutOfMemory>
+) -> Result<Parted, OutOfMemory>
     requires { ListsProblems listing.now.ceiling prepared.now listing.now }
     ensures text { IfOk result (λ w. w.text ≡ told_lines trip listing.now.ceiling (map (λ (p : ProblemData). p.loop) prepared.now) listing.now.rows ++ counts_line listing.now.rows) }
     ensures met { IfOk result (λ w. w.all_met ≡ are_met listing.now.rows) }
@@ -46,7 +47,7 @@ pub fn run_text_on<R: Threads + Sync>(
     );
     match jobs {
         Some(jobs) => run_by(rt, alloc, prepared, listing, trip, &jobs),
-        None => run_printout(alloc, prepared, listing, trip),
+        None => Ok(Parted::whole(run_printout(alloc, prepared, listing, trip)?)),
     }
 }
 
@@ -58,7 +59,7 @@ fn run_by<R: Threads + Sync>(
     listing: &Listing,
     trip: Trip,
     jobs: &Jobs,
-) -> Result<Printout, OutOfMemory>
+) -> Result<Parted, OutOfMemory>
     requires lists { ListsProblems listing.now.ceiling prepared.now listing.now }
     requires each { vec_len jobs.now.list ≡ length prepared.now }
     requires within { All (λ (j : _). j.number < length prepared.now) jobs.now.list.items }
@@ -71,9 +72,10 @@ fn run_by<R: Threads + Sync>(
         jobs,
         &|number| { run_part(alloc, prepared, listing, trip, number) },
     )?;
-    let mut text = joined(alloc, parts)?;
-    push_counts(alloc, &mut text, listing.rows())?;
-    Ok(Printout::new(text, are_met(listing.rows())))
+    let mut last = Vec::new(alloc);
+    push_counts(alloc, &mut last, listing.rows())?;
+    let texts = texts_of(alloc, parts, last)?;
+    Ok(Parted::of_texts(texts, are_met(listing.rows())))
 }
 
 /// What `run` writes of the loop of a number.

@@ -14,7 +14,8 @@ ghost use Rattle.side_by_side.specs.inner.Told.{IsCounted, last_told, number_fai
 
 use crate::commands::listings::{ROOM, listing_printout_on};
 use crate::commands::runs::run_text_on;
-use crate::parts::told::{ToldLoops, some_outs, told_together};
+use crate::parted::Parted;
+use crate::parts::told::{ToldLoops, some_outs, told_apart, told_together};
 use candidates::{Listing, Row, write_row};
 use file_faults::FileFault;
 use ims::Prepared;
@@ -118,7 +119,7 @@ pub fn run_text_of<R: Threads + Sync>(
     text: &[u8],
     settings: &Settings,
     trip: Trip,
-) -> Result<Printout, FileFault>
+) -> Result<Parted, FileFault>
     ensures { AnswersIn (IsRunText trip settings.now.ratio settings.now.ceiling machine.now) machine.now (loops_in text.now) result }
 {
     let told = tell_text(
@@ -134,7 +135,7 @@ pub fn run_text_of<R: Threads + Sync>(
         { told_runs(alloc, prepared, listing, trip) },
     )?;
     match told {
-        Told::Apart(parts) => Ok(told_together(alloc, "", parts)?),
+        Told::Apart(parts) => Ok(told_apart(alloc, parts)?),
         Told::Whole(prepared, listing) => Ok(run_text_on(
             rt,
             alloc,

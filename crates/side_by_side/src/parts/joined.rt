@@ -1,7 +1,8 @@
-//! The text of all parts.
+//! The texts of all parts, as one text or one after another.
 
 ghost use Rattle.std.specs.Prelude.{◌≡◌, ◌++◌, IfOk, OnOk};
 ghost use Rattle.std.specs.List.{flat_map};
+ghost use Rattle.side_by_side.specs.Parted.{joined_text};
 ghost use Rattle.side_by_side.specs.inner.Parts.{text_of};
 
 use crate::parts::part::{HasText, Part};
@@ -43,6 +44,34 @@ pub(crate) fn append<P: HasText>(text: &mut Vec<u8>, parts: Vec<P>) -> Result<()
         if let Err(fault) = text.extend_from_slice(part.text()) {
             return Err(fault);
         }
+    }
+    Ok(())
+}
+
+/// The texts of parts, one after another, and a last one. None is copied.
+///
+/// # Errors
+/// Memory was refused.
+pub(crate) fn texts_of<P: HasText>(
+    alloc: Global,
+    parts: Vec<P>,
+    last: Vec<u8>,
+) -> Result<Vec<Vec<u8>>, OutOfMemory>
+    ensures { IfOk result (λ texts. joined_text texts.items ≡ flat_map P.HasText.bytes parts.items ++ last.items) }
+{
+    let mut texts = Vec::with_capacity(alloc, parts.len().saturating_add(1))?;
+    move_texts(&mut texts, parts)?;
+    texts.push(last)?;
+    Ok(texts)
+}
+
+/// Appends the texts of parts to a list of texts.
+fn move_texts<P: HasText>(texts: &mut Vec<Vec<u8>>, parts: Vec<P>) -> Result<(), OutOfMemory>
+    ensures { OnOk result (joined_text texts.new.items ≡ joined_text texts.old.items ++ flat_map P.HasText.bytes parts.items) }
+{
+    let mut parts = parts.into_iter();
+    while let Some(part) = parts.next() {
+        texts.push(part.into_text())?;
     }
     Ok(())
 }

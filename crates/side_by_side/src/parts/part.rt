@@ -9,6 +9,10 @@ pub(crate) trait HasText: Drop {
     /// Its text.
     fn text(&self) -> &[u8]
         ensures { result.now ≡ bytes self.now };
+
+    /// Its text, without a copy.
+    fn into_text(self) -> Vec<u8>
+        ensures { result.items ≡ bytes self };
 }
 
 /// What is written of a loop.
@@ -26,5 +30,9 @@ impl HasText for Part {
 
     fn text(&self) -> &[u8] {
         self.text.as_slice()
+    }
+
+    fn into_text(self) -> Vec<u8> {
+        self.text
     }
 }

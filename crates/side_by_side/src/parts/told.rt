@@ -6,7 +6,8 @@ ghost use Rattle.machine_data.specs.declared.limits.TheConstants.{MAX_LOOPS};
 ghost use Rattle.candidates.specs.Texts.{has_outs};
 ghost use Rattle.side_by_side.specs.inner.Told.{IsCounted, last_told, number_failed_told, number_met_told, number_told, outs_of, text_of_told};
 
-use crate::parts::joined::{append, room_for};
+use crate::parted::Parted;
+use crate::parts::joined::{append, room_for, texts_of};
 use crate::parts::part::HasText;
 use candidates::{Row, number_failed, number_met};
 use machine::OutOfMemory;
@@ -48,6 +49,10 @@ impl HasText for ToldLoops {
 
     fn text(&self) -> &[u8] {
         self.text.as_slice()
+    }
+
+    fn into_text(self) -> Vec<u8> {
+        self.text
     }
 }
 
@@ -101,4 +106,21 @@ pub(crate) fn told_together(
     append(&mut text, parts)?;
     push_last(&mut text, "loops ", met + failed, met, failed)?;
     Ok(Printout::new(text, failed == 0))
+}
+
+/// What is told of all loops: the texts of the parts, and the last line, as [`told_together`] tells them, without a copy of the texts.
+///
+/// # Errors
+/// Memory was refused.
+pub(crate) fn told_apart(alloc: Global, parts: Vec<ToldLoops>) -> Result<Parted, OutOfMemory>
+    requires { number_told parts.items ≤ MAX_LOOPS }
+    ensures text { IfOk result (λ w. w.text ≡ flat_map text_of_told parts.items ++ last_told parts.items) }
+    ensures met { IfOk result (λ w. w.all_met ≡ (number_failed_told parts.items == 0)) }
+{
+    let met = all_met(parts.as_slice());
+    let failed = all_failed(parts.as_slice());
+    let mut last = Vec::new(alloc);
+    push_last(&mut last, "loops ", met + failed, met, failed)?;
+    let texts = texts_of(alloc, parts, last)?;
+    Ok(Parted::of_texts(texts, failed == 0))
 }

@@ -17,8 +17,8 @@ returns-in-Schedule g c =
     let m = c.args.machine.now in
     let ls = c.args.loops.items in
     let searched = of_loops (PreparesAndLists r k m) (first_lacking m) ls c.pipeline_on-searched.result c.pipeline_on-searched.ensures.exact in
-    subst (λ (s : search.Search). AnswersOn (IsSearchText r k s m ls) (first_lacking m ls) c.schedule_text.result) (sym c.in-Schedule.is)
-    (on_loops (IsListingText r k m) (first_lacking m) ls c.schedule_text.result (c.schedule_text.ensures m r k (Ok ls) searched))
+    rw c.whole.ensures (subst (λ (s : search.Search). AnswersOn (IsSearchText r k s m ls) (first_lacking m ls) c.schedule_text.result) (sym c.in-Schedule.is)
+    (on_loops (IsListingText r k m) (first_lacking m) ls c.schedule_text.result (c.schedule_text.ensures m r k (Ok ls) searched)))
 
 pub returns-in-Json : goal.returns-in-Json
 returns-in-Json g c =
@@ -27,8 +27,8 @@ returns-in-Json g c =
     let m = c.args.machine.now in
     let ls = c.args.loops.items in
     let searched = of_loops (PreparesAndLists r k m) (first_lacking m) ls c.pipeline_on-searched-in-Json.result c.pipeline_on-searched-in-Json.ensures.exact in
-    subst (λ (s : search.Search). AnswersOn (IsSearchText r k s m ls) (first_lacking m ls) c.json_text.result) (sym c.in-Json.is)
-    (on_loops (IsListingDocument r k m) (first_lacking m) ls c.json_text.result (c.json_text.ensures m r k (Ok ls) searched))
+    rw c.whole-in-Json.ensures (subst (λ (s : search.Search). AnswersOn (IsSearchText r k s m ls) (first_lacking m ls) c.json_text.result) (sym c.in-Json.is)
+    (on_loops (IsListingDocument r k m) (first_lacking m) ls c.json_text.result (c.json_text.ensures m r k (Ok ls) searched)))
 
 pub returns-in-Run : goal.returns-in-Run
 returns-in-Run g c =

@@ -9,7 +9,7 @@ pub returns-in-Ok-answer_of-clause-exact : goal.returns-in-Ok-answer_of-clause-e
 returns-in-Ok-answer_of-clause-exact g c answered first last f l =
     let ff : c.as_slice.result.now ≡ take (most_read_by c.args.command.now) first = c.as_slice.ensures.value ∙ (rw f at c.in-Ok.ensures.text) in
     let ll : c.as_slice-2.result.now ≡ take (most_read_by c.args.command.now) last = c.as_slice-2.ensures.value ∙ (rw l at c.in-Ok-last_text.ensures.text) in
-    (ending_of (Ok c.in-Ok-answer_of.answer), brings-read c.args.command.now _ _ _ _ _ ff ll c.in-Ok-answer_of.ensures.brings, rw (c.text.ensures, c.verdict.ensures) at c.finish.ensures.ends)
+    (ending_of (Ok c.in-Ok-answer_of.answer), brings-read c.args.command.now _ _ _ _ _ ff ll c.in-Ok-answer_of.ensures.brings, c.write.ensures.ends)
 
 pub returns-clause-exact : goal.returns-clause-exact
 returns-clause-exact g c answered first last f l =

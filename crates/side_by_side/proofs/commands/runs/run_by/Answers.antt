@@ -1,4 +1,4 @@
-use Rattle.std.proofs.Common.{◌≡◌, ◌∙◌, ◌++◌, ℕ, List, ap, arith, of_calls, rules}
+use Rattle.std.proofs.Common.{◌≡◌, ◌∙◌, ◌++◌, ℕ, List, ap₂, arith, of_calls, rules}
 use Rattle.std.specs.List.{flat_map}
 use Rattle.candidates.specs.Texts.{counts_line}
 use Rattle.candidates.specs.declared.listings.Row as row
@@ -17,5 +17,5 @@ returns-clause-text g c =
     let same : flat_map text_of parts ≡ told_lines c.args.trip listing.ceiling (loops_of problems) listing.rows
     = told_joined c.args.trip listing.ceiling problems listing.rows parts (listed_long listing.ceiling problems listing c.requires.lists) (made.each ∙ c.requires.each)
     (λ k p r part h. let told = (made.made k part (omega (arith, c.requires.each, h))).met in search (rules, of_calls, told)) in
-    c.new.ensures.text ∙ (c.in_ok-push_counts.ensures ∙ ap (λ (rs : List row.Row). c.in_ok-text.text.items ++ counts_line rs) c.rows.ensures.value)
-    ∙ ap (λ (t : List ℕ). t ++ counts_line listing.rows) (c.in_ok-text.ensures ∙ same)
+    let last : c.push_counts.new.text.items ≡ counts_line listing.rows = c.in_ok-push_counts.ensures ∙ ap₂ (λ (t : List ℕ) (rs : List row.Row). t ++ counts_line rs) c.new-last.ensures.items c.rows.ensures.value in
+    c.of_texts.ensures.text ∙ c.in_ok-texts.ensures ∙ ap₂ (λ (s t : List ℕ). s ++ t) same last

@@ -1,7 +1,7 @@
 use Rattle.std.proofs.Common.{◌∙◌}
 use Rattle.std.proofs.lemmas.List.{take_rest}
 use Rattle.devices.proofs.TextLemmas.{Written-write}
-use Rattle.devices.proofs.text.write_text.Goals as goal
+use Rattle.devices.proofs.text.give.Goals as goal
 
 pub loop-rest-preserved : goal.loop-rest-preserved
 loop-rest-preserved g c = record {

@@ -1,6 +1,6 @@
 use Rattle.std.proofs.Common.{◌≡◌, length}
 use Rattle.devices.proofs.TextLemmas.{Written}
-use Rattle.devices.proofs.text.write_text.Given as goal
+use Rattle.devices.proofs.text.give.Given as goal
 
 abbrev pub invariant-loop-rest : goal.invariant-loop-rest
 invariant-loop-rest g l = record {

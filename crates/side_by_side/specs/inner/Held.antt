@@ -1,0 +1,10 @@
+-- How what a command writes is held.
+use Rattle.printouts.specs.Outcomes.{Written}
+use Rattle.side_by_side.specs.Parted.{joined_text}
+use Rattle.side_by_side.specs.declared.parted.Held.{Held}
+use Rattle.side_by_side.specs.declared.parted.Held.TheVariants.{Whole, Texts}
+
+-- what it is
+abbrev pub written_of : Held → Written
+written_of (Whole written) = written
+written_of (Texts held) = record { text = joined_text held.texts.items; all_met = held.all_met }
