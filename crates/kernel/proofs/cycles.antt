@@ -1,16 +1,3 @@
--- The machine, from cycle to cycle and turn to turn.
-pub mod Cycles
-pub mod Ending
-pub mod Filling
-pub mod Flat
-pub mod Halved
-pub mod Held
-pub mod Issuing
+-- Which write lands last, and what runs promise.
 pub mod Landings
-pub mod Launching
-pub mod Naming
 pub mod Promised
-pub mod Room
-pub mod RowWrites
-pub mod Turning
-pub mod Twofold

@@ -6,4 +6,3 @@ pub mod Overlapped
 pub mod Promises
 pub mod Rules
 pub mod Text
-pub mod inner

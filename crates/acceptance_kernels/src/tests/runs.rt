@@ -3,7 +3,8 @@
 use super::briefs::{BARE, Brief, BriefOperation, kernel_of};
 use super::numbers::loop_of;
 use kernel::Source::{Constant, Register};
-use kernel::{Address, Kernel, Preload, simulate, simulate_from};
+use kernel::{Address, Kernel, Preload};
+use kernel_runs::{simulate, simulate_from};
 use loops::{Memory, RunFault, opening};
 use machine::Opcode;
 use std::alloc::Global;

@@ -1,5 +1,0 @@
-use Rattle.std.proofs.Common.{◌≡◌, ℕ, ◌<◌, [], get_or}
-use Rattle.kernel.proofs.running.same.same_arrays.Given as goal
-
-abbrev pub invariant-loop-array : goal.invariant-loop-array
-invariant-loop-array l = (k : ℕ) → k < l.array → get_or l.one.arrays k [] ≡ get_or l.other.arrays k []

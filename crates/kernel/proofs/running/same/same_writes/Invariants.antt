@@ -1,6 +1,0 @@
-use Rattle.std.proofs.Common.{◌≡◌, ℕ, ◌<◌, get_or}
-use Rattle.kernel.specs.declared.running.flight.Pending.{Pending}
-use Rattle.kernel.proofs.running.same.same_writes.Given as goal
-
-abbrev pub invariant-loop-place : goal.invariant-loop-place
-invariant-loop-place l = (k : ℕ) (d : Pending) → k < l.place → get_or l.one k d ≡ get_or l.other k d
