@@ -254,7 +254,7 @@ class Rounds:
         every = [loop.name for loop in plain_loops.loops_in(texts[1])]
         options = {"names": dice.sample(every, dice.randint(1, len(every)))} if dice.random() < 0.2 else {}
         search = {"ratio": dice.choice([1, 2, 3, 6, 6, 20]), "ceiling": dice.choice([0, 1, 3, 10, 32]), **options}
-        trip, few = {"trip": dice.choice([0, 1, 2, 5, 30])}, {"ratio": dice.choice([1, 3]), "ceiling": dice.choice([0, 3])}
+        trip, few = {"trip": dice.choice([0, 1, 2, 5, 30, 33, 130])}, {"ratio": dice.choice([1, 3]), "ceiling": dice.choice([0, 3])}
         found = [self.compare("schedule", texts, **search, format=dice.choice(["text", "text", "json"]))]
         command = dice.choice(["json", "run", "plain", "bounds", "edges", "dot", "vary"])
         needed = {
