@@ -6,7 +6,10 @@ use super::given::{
     ABS, ACC, ACCO, ALTS, CHAIN, EDGE, FAR, FORCE, HOLD, KEEP, LAST, LATE, LONE, POW, SHIFT, SUM,
     WRAP,
 };
-use loops::{Loop, Memory, RunFault, apply, opening, read_loops, run_from, run_plain, write_loop};
+use loops::{
+    Loop, Memory, RunFault, apply, opening, read_loops, run_beginning, run_from, run_plain,
+    write_loop,
+};
 use machine::Opcode;
 use std::alloc::Global;
 use std::process::Abort;
@@ -103,6 +106,30 @@ fn sets_a_copy_alone(rt: HostRuntime) -> Result<(), Fail> {
     shows(&rt, &copy, 8, -8, -9);
     shows(&rt, &memory, 0, 0, 6);
     Ok(())
+}
+
+// After two of three iterations the sums are 1 and 3, and the next one begins with 3.
+#[test]
+fn begins_runs(rt: HostRuntime) -> Result<(), Fail> {
+    let innermost = one(rt.alloc(), ACCO)?;
+    let memory = opening(rt.alloc(), &innermost, 3)?;
+    let (memory, initials) = run_beginning(rt.alloc(), &innermost, memory, 2)?;
+    shows_sums(&rt, &memory, 3, &[0, 1, 3, 0, 0]);
+    assert_eq!(rt; initials.len(), 1);
+    for init in &initials {
+        assert_eq!(rt; (init.statement, init.number, init.value), (1, 1, 3));
+    }
+    assert!(rt; 2 + 1 <= memory.trip());
+    let part = memory.window(rt.alloc(), 2, 1)?;
+    shows_sums(&rt, &part, 1, &[3, 0, 0, 0, 0]);
+    Ok(())
+}
+
+/// The cells of the sums from cell -1 to cell 3, in a memory for this many iterations.
+fn shows_sums(rt: &impl Abort, memory: &Memory, trip: u64, sums: &[i64]) {
+    assert_eq!(rt; memory.trip(), trip);
+    assert_eq!(rt; memory.array_count(), 2);
+    assert_eq!(rt; memory.cells(1).get(63..68), Some(sums));
 }
 
 /// The canonical text of the last loop of a text.
