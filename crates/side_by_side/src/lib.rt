@@ -5,6 +5,7 @@
 mod commands;
 mod parted;
 mod parts;
+mod stubs;
 
 pub use commands::documents::document_text_of;
 pub use commands::explaining::explain_text_on;
