@@ -1,12 +1,11 @@
 //! What `run` writes of a loop whose kernel is run in two halves side by side.
 
-ghost use Rattle.std.specs.Prelude.{◌≡◌, ◌≤◌, ◌++◌, IfOk, OnOk};
+ghost use Rattle.std.specs.Prelude.{◌≡◌, ◌≤◌, ◌++◌, length, IfOk, OnOk};
 ghost use Rattle.machine_data.specs.declared.limits.TheConstants.{MAX_CEILING};
 ghost use Rattle.candidates.specs.Choices.{IsChoice};
 ghost use Rattle.candidates.specs.Listings.{IsRow};
 ghost use Rattle.kernel.specs.Overlapped.{overlapped};
 ghost use Rattle.loops.specs.Run.{opening_of};
-ghost use Rattle.printouts.specs.inner.Runnable.{HasSizesOf};
 ghost use Rattle.printouts.specs.Run.{choice_lines, kernel_lines};
 
 use crate::stubs::{Guess, run_beginning, simulate_in_halves};
@@ -57,7 +56,8 @@ fn push_halves<R: Threads + Sync>(
     kernel: &Kernel,
     trip: Trip,
 ) -> Result<(), OutOfMemory>
-    requires { HasSizesOf innermost.now kernel.now }
+    requires arrays { length kernel.now.arrays ≡ length innermost.now.arrays }
+    requires outs { length kernel.now.outs ≡ length innermost.now.outs }
     ensures { OnOk result (text.new.items ≡ text.old.items ++ kernel_lines trip innermost.now kernel.now) }
 {
     let after = left_by_halves(rt, alloc, innermost, kernel, trip)?;
@@ -72,7 +72,8 @@ fn left_by_halves<R: Threads + Sync>(
     kernel: &Kernel,
     trip: Trip,
 ) -> Result<Memory, OutOfMemory>
-    requires { HasSizesOf innermost.now kernel.now }
+    requires arrays { length kernel.now.arrays ≡ length innermost.now.arrays }
+    requires outs { length kernel.now.outs ≡ length innermost.now.outs }
     ensures { IfOk result (λ after. after ≡ overlapped kernel.now (opening_of innermost.now trip)) }
 {
     let before = within_limits(opening(alloc, innermost, trip.count()))?;

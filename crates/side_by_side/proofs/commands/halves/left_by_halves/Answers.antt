@@ -8,7 +8,7 @@ pub within_limits-requires-2-clause-shape : goal.within_limits-requires-2-clause
 within_limits-requires-2-clause-shape g c =
     let loop = c.args.innermost.now in
     let before : c.in_ok-before.before ≡ opening_of loop c.args.trip = (rw c.in_ok-before.ensures at c.opening.ensures.opening) ∙ ap (opening_of loop) c.count.ensures.value in
-    let fits = opening_fits c.args.trip loop c.args.kernel.now c.requires in
+    let fits = opening_fits c.args.trip loop c.args.kernel.now (record { same_arrays = c.requires.arrays; same_outs = c.requires.outs }) in
     λ is_shape. (c.simulate_in_halves.ensures.shape.0 is_shape).1 (
       record {
         same_arrays = ap (λ (m : MemoryData). length m.arrays) before ∙ fits.same_arrays;
