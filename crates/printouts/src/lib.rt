@@ -16,3 +16,4 @@ pub use laws::kernels_tell_plain_lines;
 pub use output::lines::push_last;
 pub use output::objects::{Object, object_of, objects_document, objects_page};
 pub use output::printout::Printout;
+pub use output::run_lines::{push_run, within_limits};

@@ -2,6 +2,7 @@
 
 pub(crate) mod documents;
 pub(crate) mod explaining;
+pub(crate) mod halves;
 pub(crate) mod listings;
 pub(crate) mod objects;
 pub(crate) mod plain;

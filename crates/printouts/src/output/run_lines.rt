@@ -10,7 +10,10 @@ use machine::OutOfMemory;
 use writing::{Text, push_both, push_signed, push_told};
 
 /// The answer of a run that only lack of memory can refuse.
-pub(crate) fn within_limits(answer: Result<Memory, RunFault>) -> Result<Memory, OutOfMemory>
+///
+/// # Errors
+/// Memory was refused to the run.
+pub fn within_limits(answer: Result<Memory, RunFault>) -> Result<Memory, OutOfMemory>
     requires trip { ¬ IsErrOf answer RunFault.Trip }
     requires shape { ¬ IsErrOf answer RunFault.Shape }
     ensures { IfOk result (λ memory. answer ≡ Ok memory) }
@@ -25,11 +28,10 @@ pub(crate) fn within_limits(answer: Result<Memory, RunFault>) -> Result<Memory, 
 }
 
 /// Appends the lines of a run of a loop from its opening memory to this one.
-pub(crate) fn push_run(
-    text: &mut Vec<u8>,
-    innermost: &Loop,
-    after: &Memory,
-) -> Result<(), OutOfMemory>
+///
+/// # Errors
+/// Memory was refused. The text is left with a part of that.
+pub fn push_run(text: &mut Vec<u8>, innermost: &Loop, after: &Memory) -> Result<(), OutOfMemory>
     requires { HasShapeOf innermost.now after.now }
     ensures { OnOk result (text.new.items ≡ text.old.items ++ run_lines innermost.now (opening_of innermost.now after.now.trip) after.now) }
 {

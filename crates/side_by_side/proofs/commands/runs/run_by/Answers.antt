@@ -1,7 +1,5 @@
-use Rattle.std.proofs.Common.{◌≡◌, ◌∙◌, ◌++◌, ℕ, List, ap₂, arith, of_calls, rules}
+use Rattle.std.proofs.Common.{◌≡◌, ◌∙◌, arith, of_calls, rules}
 use Rattle.std.specs.List.{flat_map}
-use Rattle.candidates.specs.Texts.{counts_line}
-use Rattle.candidates.specs.declared.listings.Row as row
 use Rattle.printouts.specs.Run.{told_lines}
 use Rattle.printouts.proofs.Told.{loops_of}
 use Rattle.side_by_side.specs.inner.Parts.{text_of}
@@ -17,5 +15,4 @@ returns-clause-text g c =
     let same : flat_map text_of parts ≡ told_lines c.args.trip listing.ceiling (loops_of problems) listing.rows
     = told_joined c.args.trip listing.ceiling problems listing.rows parts (listed_long listing.ceiling problems listing c.requires.lists) (made.each ∙ c.requires.each)
     (λ k p r part h. let told = (made.made k part (omega (arith, c.requires.each, h))).met in search (rules, of_calls, told)) in
-    let last : c.push_counts.new.text.items ≡ counts_line listing.rows = c.in_ok-push_counts.ensures ∙ ap₂ (λ (t : List ℕ) (rs : List row.Row). t ++ counts_line rs) c.new-last.ensures.items c.rows.ensures.value in
-    c.of_texts.ensures.text ∙ c.in_ok-texts.ensures ∙ ap₂ (λ (s t : List ℕ). s ++ t) same last
+    rw (← same) c.with_counts.ensures.text
