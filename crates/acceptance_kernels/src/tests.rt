@@ -2,6 +2,7 @@
 //! kernels with a lifetime cut short would do.
 
 mod briefs;
+mod halves;
 mod numbers;
 mod runs;
 mod texts;
