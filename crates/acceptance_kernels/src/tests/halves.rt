@@ -5,7 +5,8 @@ ghost use Rattle.std.specs.Prelude.{◌≤◌, ◌≤ℤ◌, ◌<ℤ◌, pos, ne
 use super::briefs::{BARE, Brief, kernel_of};
 use super::numbers::loop_of;
 use kernel::Source::{Constant, Register};
-use kernel::{Address, Guess, Kernel, Preload, simulate_from, simulate_in_halves};
+use kernel::{Address, Kernel, Preload};
+use kernel_runs::{Guess, simulate_from, simulate_in_halves};
 use loops::{Loop, Memory, opening};
 use machine::Opcode;
 use std::alloc::Global;
