@@ -4,6 +4,6 @@ pub(crate) mod alone;
 pub(crate) mod bounds;
 pub(crate) mod explaining;
 pub(crate) mod graphs;
-pub(crate) mod kernel_runs;
 pub(crate) mod listings;
 pub(crate) mod plain;
+pub(crate) mod running;

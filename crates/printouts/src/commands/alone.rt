@@ -7,8 +7,8 @@ ghost use Rattle.file_faults.specs.Answers.{AnswersOn};
 ghost use Rattle.printouts.specs.Run.{IsRunText};
 ghost use Rattle.printouts.specs.Schedule.{IsListingDocument, IsListingText};
 
-use crate::commands::kernel_runs::run_printout;
 use crate::commands::listings::{document_printout, listing_printout};
+use crate::commands::running::run_printout;
 use crate::output::printout::Printout;
 use file_faults::FileFault;
 use loops::Loop;

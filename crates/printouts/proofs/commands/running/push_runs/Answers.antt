@@ -8,7 +8,7 @@ use Rattle.printouts.specs.inner.Runnable.{IsRunnable}
 use Rattle.printouts.proofs.PlainLines.{pair_more, pair_all}
 use Rattle.printouts.proofs.Runnable.{all_zip_at, listed_runnable}
 use Rattle.printouts.proofs.Told.{told_problems}
-use Rattle.printouts.proofs.commands.kernel_runs.push_runs.Goals as goal
+use Rattle.printouts.proofs.commands.running.push_runs.Goals as goal
 
 pub bounds-prepared-index : goal.bounds-prepared-index
 bounds-prepared-index c =

@@ -3,7 +3,7 @@ use Rattle.std.specs.List.{flat_map, zip}
 use Rattle.ims.specs.Problems.{ProblemData}
 use Rattle.candidates.specs.declared.listings.Row as row
 use Rattle.printouts.specs.Run.{choice_lines}
-use Rattle.printouts.proofs.commands.kernel_runs.push_runs.Given as goal
+use Rattle.printouts.proofs.commands.running.push_runs.Given as goal
 
 abbrev pub invariant-loop-index : goal.invariant-loop-index
 invariant-loop-index l =

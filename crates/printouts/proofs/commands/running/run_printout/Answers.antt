@@ -4,7 +4,7 @@ use Rattle.candidates.specs.declared.listings.Row as row
 use Rattle.printouts.specs.Run.{told_lines}
 use Rattle.printouts.specs.Schedule.{are_met}
 use Rattle.printouts.proofs.Told.{loops_of}
-use Rattle.printouts.proofs.commands.kernel_runs.run_printout.Goals as goal
+use Rattle.printouts.proofs.commands.running.run_printout.Goals as goal
 
 pub returns-clause-text : goal.returns-clause-text
 returns-clause-text c =

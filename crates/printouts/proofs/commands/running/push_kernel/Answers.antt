@@ -3,7 +3,7 @@ use Rattle.loops.specs.Run.{HasShapeOf, MemoryData, opening_of}
 use Rattle.printouts.specs.Plain.{run_lines}
 use Rattle.printouts.specs.Run.{kernel_lines}
 use Rattle.printouts.proofs.KernelLines.{left_shape, left_trip}
-use Rattle.printouts.proofs.commands.kernel_runs.push_kernel.Goals as goal
+use Rattle.printouts.proofs.commands.running.push_kernel.Goals as goal
 
 pub push_run-requires : goal.push_run-requires
 push_run-requires c =

@@ -2,7 +2,7 @@ use Rattle.std.proofs.Common.{sym, subst}
 use Rattle.loops.specs.Loops.{LoopData}
 use Rattle.printouts.specs.inner.Runnable.{IsRunnable}
 use Rattle.printouts.proofs.Runnable.{runnable}
-use Rattle.printouts.proofs.commands.kernel_runs.push_choice.Goals as goal
+use Rattle.printouts.proofs.commands.running.push_choice.Goals as goal
 
 pub push_row-requires-clause-runs : goal.push_row-requires-clause-runs
 push_row-requires-clause-runs c =
