@@ -48,7 +48,11 @@ pub(crate) fn append<P: HasText>(text: &mut Vec<u8>, parts: Vec<P>) -> Result<()
     Ok(())
 }
 
-/// The texts of parts, one after another, and a last one. None is copied.
+/// How many bytes a text has, on average, that is written by itself and not copied.
+const LONG: usize = 65_536;
+
+/// The texts of parts, one after another, and a last one. Long texts are not copied. Short ones are joined, since it takes
+/// less time to copy them than to write each by itself.
 ///
 /// # Errors
 /// Memory was refused.
@@ -59,9 +63,29 @@ pub(crate) fn texts_of<P: HasText>(
 ) -> Result<Vec<Vec<u8>>, OutOfMemory>
     ensures { IfOk result (λ texts. joined_text texts.items ≡ flat_map P.HasText.bytes parts.items ++ last.items) }
 {
+    if room_for(parts.as_slice()) / LONG < parts.len() {
+        return one_text(alloc, parts, last);
+    }
     let mut texts = Vec::with_capacity(alloc, parts.len().saturating_add(1))?;
     move_texts(&mut texts, parts)?;
     texts.push(last)?;
+    Ok(texts)
+}
+
+/// The same as one text.
+fn one_text<P: HasText>(
+    alloc: Global,
+    parts: Vec<P>,
+    last: Vec<u8>,
+) -> Result<Vec<Vec<u8>>, OutOfMemory>
+    ensures { IfOk result (λ texts. joined_text texts.items ≡ flat_map P.HasText.bytes parts.items ++ last.items) }
+{
+    let room = room_for(parts.as_slice());
+    let mut text = Vec::with_capacity(alloc, room)?;
+    append(&mut text, parts)?;
+    text.extend_from_slice(last.as_slice())?;
+    let mut texts = Vec::with_capacity(alloc, 1)?;
+    texts.push(text)?;
     Ok(texts)
 }
 
