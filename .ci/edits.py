@@ -5,27 +5,38 @@ crate are tried together, in one copy of the crate. There all other functions ke
 to do for them. Each edit is judged by what the prover says of the function that it changes: a function that is refused for its own sake has a goal that
 is not proved. Where it is refused only because one that it calls is, nothing is known of its edit. `control_all` asks for the same functions without
 their edits: there none may be refused for its own sake.
+
+Checks of edits take the processors that no other process wants, so that they can go on beside proofs and tests.
 """
 import contextlib
 import os
 import re
 import shutil
+import signal
 import subprocess
 import tempfile
+import threading
+import time
 from concurrent.futures import ThreadPoolExecutor
 
 # The most edits that are tried together, for the memory that a check takes.
 MOST = 16
 # In bytes: what a check takes at most.
 NEED = 3_000_000_000
-# In seconds.
+# In seconds of a processor. (Beside other work a check may wait for long.)
 LIMIT = 1800
+# The checks that run, and whether all are to end.
+checks, is_stopped = set(), threading.Event()
 # What is told of a proof that names something which the edit took away.
 NAMES = re.compile(r"has no field|is not in scope|has no `|was not admitted")
 
 
 class BadEdit(Exception):
     """Why an edit cannot be tried."""
+
+
+class Stopped(Exception):
+    """All checks are to end."""
 
 
 class Edit:
@@ -247,13 +258,25 @@ def check(library, name, functions, edits, kept, is_cut):
             cut(name, room, functions)
         for edit in edits:
             edit.apply(room)
-        words = library.words(name, functions, kept)
+        wait_for_memory()
+        words = ["nice", "-n", "19", "prlimit", f"--cpu={LIMIT}", *library.words(name, functions, kept)]
         how = {"cwd": room, "stdin": subprocess.DEVNULL, "stdout": subprocess.PIPE, "stderr": subprocess.STDOUT, "text": True, "errors": "replace"}
-        try:
-            lines = subprocess.run(words, timeout=LIMIT, check=False, **how).stdout.rstrip("\n").split("\n")
-        except subprocess.TimeoutExpired:
+        with subprocess.Popen(words, **how) as run:
+            checks.add(run)
+            said = run.communicate()[0]
+            checks.discard(run)
+        if is_stopped.is_set():
+            raise Stopped
+        if run.returncode in (-signal.SIGXCPU, -signal.SIGKILL):
             return ["it took too long"]
-        return [with_function(name, room, it) for it in lines]
+        return [with_function(name, room, it) for it in said.rstrip("\n").split("\n")]
+
+
+def wait_for_memory():
+    """Waits until a check has the memory that it takes at most, but no longer than checks of other crates take."""
+    until = time.monotonic() + LIMIT
+    while free_memory() < NEED and time.monotonic() < until and not is_stopped.wait(1):
+        pass
 
 
 def with_function(crate, room, line):
@@ -394,12 +417,16 @@ def control_crate(library, edits, tell):
     return well
 
 
+def free_memory():
+    """In bytes."""
+    with contextlib.suppress(OSError):
+        return 1024 * int(re.search(r"MemAvailable:\s+(\d+)", read("/proc/meminfo"))[1])
+    return 1 << 62
+
+
 def lanes():
     """How many checks run side by side, by processors and by free memory."""
-    memory = 1 << 62
-    with contextlib.suppress(OSError):
-        memory = 1024 * int(re.search(r"MemAvailable:\s+(\d+)", read("/proc/meminfo"))[1])
-    return max(1, min(len(os.sched_getaffinity(0)), memory // NEED))
+    return max(1, min(len(os.sched_getaffinity(0)), free_memory() // NEED))
 
 
 def edits_of(crates, folder):
@@ -423,6 +450,35 @@ def side_by_side(library, found, work):
 def try_all(library, found, tell):
     """Tries the edits of several crates. Gives how many were refused, and how many not."""
     return side_by_side(library, found, lambda edits: try_crate(library, edits, tell))
+
+
+class Trials:
+    """Edits that are tried while crates are still being proved."""
+
+    def __init__(self, library, found, tell):
+        self.library, self.left, self.tell, self.begun, self.count = library, dict(found), tell, [], 0
+        self.pool = ThreadPoolExecutor(lanes())
+
+    def begin(self, name):
+        """Begins to try the edits of a crate, if it has some, where the libraries that it stands on are built."""
+        if name in self.left and self.library.is_there(name):
+            edits = self.left.pop(name)
+            self.count += len(edits)
+            self.begun.append(self.pool.submit(try_crate, self.library, edits, self.tell))
+
+    def end(self):
+        """Gives, once those that were begun are tried, how many of them were refused and how many not."""
+        refused = sum(it.result() for it in self.begun)
+        return refused, self.count - refused
+
+    def stop(self):
+        """Ends all checks of edits."""
+        is_stopped.set()
+        self.pool.shutdown(wait=False, cancel_futures=True)
+        while any(it.running() for it in self.begun):
+            for it in [*checks]:
+                it.kill()
+            time.sleep(0.1)
 
 
 def control_all(library, found, tell):
