@@ -23,7 +23,7 @@ from concurrent.futures import ThreadPoolExecutor
 MOST = 16
 # In bytes: what a check takes at most.
 NEED = 3_000_000_000
-# In seconds of a processor. (Beside other work a check may wait for long.)
+# In seconds of a processor: beside other work a check may wait for long.
 LIMIT = 1800
 # The checks that run, and whether all are to end.
 checks, is_stopped = set(), threading.Event()
@@ -258,23 +258,33 @@ def check(library, name, functions, edits, kept, is_cut):
             cut(name, room, functions)
         for edit in edits:
             edit.apply(room)
-        wait_for_memory()
-        words = ["nice", "-n", "19", "prlimit", f"--cpu={LIMIT}", *library.words(name, functions, kept)]
-        how = {"cwd": room, "stdin": subprocess.DEVNULL, "stdout": subprocess.PIPE, "stderr": subprocess.STDOUT, "text": True, "errors": "replace"}
-        with subprocess.Popen(words, **how) as run:
-            checks.add(run)
-            said = run.communicate()[0]
-            checks.discard(run)
-        if is_stopped.is_set():
-            raise Stopped
-        if run.returncode in (-signal.SIGXCPU, -signal.SIGKILL):
+        words = library.words(name, functions, kept)
+        status, said = run_beside(words, room)
+        if status == -signal.SIGKILL:
+            # (most likely for memory)
+            status, said = run_beside(words, room)
+        if status == -signal.SIGXCPU:
             return ["it took too long"]
         return [with_function(name, room, it) for it in said.rstrip("\n").split("\n")]
 
 
+def run_beside(words, room):
+    """Runs a check in a folder beside other work, once there is memory for it. Gives its exit status and what it says."""
+    wait_for_memory()
+    words = ["nice", "-n", "19", "prlimit", f"--cpu={LIMIT}:{2 * LIMIT}", *words]
+    how = {"cwd": room, "stdin": subprocess.DEVNULL, "stdout": subprocess.PIPE, "stderr": subprocess.STDOUT, "text": True, "errors": "replace"}
+    with subprocess.Popen(words, **how) as run:
+        checks.add(run)
+        said = run.communicate()[0]
+        checks.discard(run)
+    if is_stopped.is_set():
+        raise Stopped
+    return run.returncode, said
+
+
 def wait_for_memory():
-    """Waits until a check has the memory that it takes at most, but no longer than checks of other crates take."""
-    until = time.monotonic() + LIMIT
+    """Waits until there is the memory that a check takes at most, for half an hour at the longest."""
+    until = time.monotonic() + 1800
     while free_memory() < NEED and time.monotonic() < until and not is_stopped.wait(1):
         pass
 
