@@ -5,10 +5,10 @@ mod varied;
 
 use loops::{Loop, read_loops};
 use machine::{Machine, read_machine};
-use printouts::Printout;
 use settings::Settings;
 use std::alloc::Global;
 use std::process::Abort;
+use written::Printout;
 
 /// A machine of a text.
 fn machine_of(rt: &impl Abort, alloc: Global, text: &str) -> Machine {

@@ -4,21 +4,22 @@ ghost use Rattle.machine.specs.MachineText.{machine_of};
 ghost use Rattle.loops.specs.Meaning.{loops_in};
 ghost use Rattle.file_faults.specs.Answers.{AnswersAlone, AnswersFile};
 ghost use Rattle.printouts.specs.Bounds.{IsBoundsText};
-ghost use Rattle.printouts.specs.Explain.{IsExplainText};
+ghost use Rattle.explain_printouts.specs.Explain.{IsExplainText};
 ghost use Rattle.printouts.specs.Graphs.{IsDotText, IsEdgesText};
 ghost use Rattle.printouts.specs.Plain.{IsPlainText};
 ghost use Rattle.printouts.specs.Run.{IsRunText};
 ghost use Rattle.printouts.specs.Schedule.{IsListingDocument, IsListingText};
 
+use explain_printouts::explain_text;
 use file_faults::FileFault;
 use loops::read_loops;
 use machine::read_machine;
 use printouts::{
-    Printout, bounds_text, dot_text, edges_text, explain_text, json_alone, plain_text, run_alone,
-    schedule_alone,
+    bounds_text, dot_text, edges_text, json_alone, plain_text, run_alone, schedule_alone,
 };
 use settings::{Settings, Trip};
 use std::alloc::Global;
+use written::Printout;
 
 /// What `schedule` prints.
 pub(crate) fn scheduled(

@@ -8,8 +8,8 @@ ghost use Rattle.capi.specs.Texts.{Hands, HandsNothing, HandsRefusal, filled, li
 use exit_status::Status;
 use file_faults::FileFault;
 use machine_data::OutOfMemory;
-use printouts::Printout;
 use std::alloc::Global;
+use written::Printout;
 
 /// What a call tells beside its text. What does not belong to its status is 0.
 #[repr(C)]

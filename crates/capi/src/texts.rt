@@ -6,7 +6,7 @@ ghost use Rattle.machine.specs.MachineText.{machine_of};
 ghost use Rattle.loops.specs.Meaning.{loops_in};
 ghost use Rattle.file_faults.specs.Answers.{AnswersAlone, AnswersFile};
 ghost use Rattle.printouts.specs.Bounds.{IsBoundsText};
-ghost use Rattle.printouts.specs.Explain.{IsExplainText};
+ghost use Rattle.explain_printouts.specs.Explain.{IsExplainText};
 ghost use Rattle.printouts.specs.Graphs.{IsDotText, IsEdgesText};
 ghost use Rattle.printouts.specs.Plain.{IsPlainText};
 ghost use Rattle.printouts.specs.Run.{IsRunText};

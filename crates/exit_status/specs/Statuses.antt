@@ -18,8 +18,8 @@ use Rattle.solution_reader.specs.Texts.{fault_text as solutions_fault_text}
 use Rattle.solution_reader.specs.declared.fault.SolutionFault.{SolutionFault}
 use Rattle.solution_reader.specs.declared.fault.Wrong.{Wrong as SolutionsWrong}
 use Rattle.solution_reader.specs.declared.fault.Wrong.TheVariants as solutions_wrong
-use Rattle.problem_printouts.specs.declared.fault.ProblemsFault.{ProblemsFault}
-use Rattle.problem_printouts.specs.declared.fault.ProblemsFault.TheVariants as problems
+use Rattle.problem_faults.specs.declared.fault.ProblemsFault.{ProblemsFault}
+use Rattle.problem_faults.specs.declared.fault.ProblemsFault.TheVariants as problems
 use Rattle.exit_status.specs.declared.status.Status.{Status}
 use Rattle.exit_status.specs.declared.status.Status.TheVariants.{Done, Unmet, MachineFaulty, LoopsFaulty, MachineUnread, LoopsUnread, ProblemsUnread, SolutionsUnread}
 use Rattle.exit_status.specs.declared.status.Status.TheVariants.{Machine, Loops, NoTable, NoLoop, Problems, Solutions, Unwritten}

@@ -7,7 +7,7 @@ ghost use Rattle.exit_status.specs.Statuses.{refusal_of_problems, refusal_of_pro
 use file_faults::FileFault;
 use loops::{LoopFault, LoopFaultKind};
 use machine::{MachineFault, Name, Opcode};
-use problem_printouts::ProblemsFault;
+use problem_faults::ProblemsFault;
 use problem_reader::{TextFault, Wrong as ProblemsWrong};
 use solution_reader::{SolutionFault, Wrong as SolutionsWrong};
 use std::fmt;

@@ -1,5 +1,4 @@
 pub mod Circuits
-pub mod Objects
 pub mod Parts
 pub mod Reasoned
 pub mod Showing

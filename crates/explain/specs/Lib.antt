@@ -1,6 +1,5 @@
 pub mod CircuitTexts
 pub mod Explanations
-pub mod Objects
 pub mod Reasons
 pub mod SetLines
 pub mod Shown

@@ -77,11 +77,7 @@ struct UnitLines {
 }
 
 /// The fullest set of units of a loop.
-pub(crate) fn set_of(
-    alloc: Global,
-    machine: &Machine,
-    innermost: &Loop,
-) -> Result<UnitSet, OutOfMemory>
+fn set_of(alloc: Global, machine: &Machine, innermost: &Loop) -> Result<UnitSet, OutOfMemory>
     requires { first_without_table machine.now innermost.now ≡ None }
     ensures exact { IfOk result (IsFullest (operations_of machine.now innermost.now)) }
 {

@@ -1,15 +1,13 @@
-//! Why each loop has the interval that it has, as text and as JSON.
+//! Why each loop has the interval that it has, as text.
 #![tactic(auto)]
 
 mod circuit;
 mod file;
 mod intervals;
 mod laws;
-mod object;
 mod shown;
 mod single;
 
 pub use file::{Explained, explain_lines, push_last, push_prepared};
 pub use laws::{circuits_need_bounds, least_is_least};
-pub use object::push_prepared_json;
 pub use single::push_explanation;

@@ -20,8 +20,8 @@ use Rattle.problem_printouts.specs.Solving.{AnswersSolve}
 use Rattle.settings.specs.declared.format.Format.{Format}
 use Rattle.problem_printouts.specs.Judging.{AnswersCheck, IsFaultOf}
 use Rattle.problem_printouts.specs.declared.answers.Answers.{Answers}
-use Rattle.problem_printouts.specs.declared.fault.ProblemsFault.{ProblemsFault}
-use Rattle.problem_printouts.specs.declared.fault.ProblemsFault.TheVariants as problems
+use Rattle.problem_faults.specs.declared.fault.ProblemsFault.{ProblemsFault}
+use Rattle.problem_faults.specs.declared.fault.ProblemsFault.TheVariants as problems
 use Rattle.settings.specs.Settings.{SettingsData}
 use Rattle.modsched.specs.Devices.{most_read}
 use Rattle.modsched.specs.Engine.{AnswersReport, Brings, ChosenBring, Ending, LacksLoop, LoopsBring, most_problems_read, most_read_by}

@@ -25,10 +25,11 @@ use Rattle.loops.specs.Loops.{LoopData}
 use Rattle.loops.specs.LoopFault.{LoopFault}
 use Rattle.loops.specs.Meaning.{loops_in}
 use Rattle.printouts.specs.Bounds.{IsBoundsText}
-use Rattle.printouts.specs.Explain.{IsExplainText}
-use Rattle.printouts.specs.ExplainDocuments.{IsExplainDocument, IsExplainPage}
+use Rattle.explain_printouts.specs.Explain.{IsExplainText}
+use Rattle.explain_printouts.specs.ExplainDocuments.{IsExplainDocument, IsExplainPage}
 use Rattle.printouts.specs.Graphs.{IsDotText, IsEdgesText}
-use Rattle.printouts.specs.Outcomes.{Outcome, Written}
+use Rattle.printouts.specs.Outcomes.{Outcome}
+use Rattle.written.specs.Written.{Written}
 use Rattle.printouts.specs.Plain.{IsPlainText}
 use Rattle.printouts.specs.Run.{IsRunText}
 use Rattle.printouts.specs.Schedule.{IsListingText, IsListingDocument}
@@ -48,7 +49,7 @@ use Rattle.problem_printouts.specs.Graphing.{AnswersDot, AnswersEdges}
 use Rattle.problem_printouts.specs.Explaining.{AnswersExplain}
 use Rattle.problem_printouts.specs.Scheduling.{AnswersScheduled}
 use Rattle.problem_printouts.specs.declared.answers.Answers.{Answers}
-use Rattle.problem_printouts.specs.declared.fault.ProblemsFault.{ProblemsFault}
+use Rattle.problem_faults.specs.declared.fault.ProblemsFault.{ProblemsFault}
 use Rattle.exit_status.specs.Statuses.{refusal_of_file, refusal_of_machine, refusal_of_problems}
 use Rattle.exit_status.specs.Writing.{EndsWritten, verdict_of_met}
 use Rattle.exit_status.specs.declared.verdict.Verdict.{Verdict}

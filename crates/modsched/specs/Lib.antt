@@ -4,7 +4,7 @@ pub use Rattle.exit_status.specs.Exits
 pub use Rattle.exit_status.specs.Statuses
 pub use Rattle.exit_status.specs.Writing
 pub use Rattle.printouts.specs.Bounds
-pub use Rattle.printouts.specs.Explain
+pub use Rattle.explain_printouts.specs.Explain
 pub use Rattle.printouts.specs.Graphs
 pub use Rattle.printouts.specs.Outcomes
 pub use Rattle.printouts.specs.Plain
@@ -12,6 +12,7 @@ pub use Rattle.printouts.specs.Run
 pub use Rattle.printouts.specs.Schedule
 pub use Rattle.lint_text.specs.Printout
 pub use Rattle.variants.specs.Texts as VaryTexts
+pub use Rattle.written.specs.Written
 pub mod Engine
 pub mod Naming
 pub mod inner

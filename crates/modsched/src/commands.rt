@@ -29,7 +29,7 @@ use linting::lint_text;
 use loops::Loop;
 use machine::{Machine, read_machine};
 use naming::loops_named;
-use printouts::{Printout, bounds_text, dot_text, edges_text};
+use printouts::{bounds_text, dot_text, edges_text};
 use searches::{json_text, run_text, schedule_text};
 use settings::Settings;
 use side_by_side::{
@@ -40,6 +40,7 @@ use side_by_side::{
 use std::alloc::Global;
 use std::thread::Threads;
 use workers::{OpenGate, pipeline_on, read_by_workers};
+use written::Printout;
 
 /// What a command writes for the bytes of its texts, each of which is read once, or the status of a refusal. A command that reads
 /// one text ignores the first bytes.

@@ -1,5 +1,4 @@
 pub mod KernelLines
-pub mod Objects
 pub mod Openings
 pub mod PlainLines
 pub mod Runnable

@@ -10,7 +10,7 @@ use Rattle.candidates.specs.declared.listings.Row as row
 use Rattle.listing_json.specs.Documents.{document_text}
 use Rattle.one_thread.specs.Files.{ArePrepared, ListsProblems}
 use Rattle.one_thread.proofs.Listed.{lists_of, right_of}
-use Rattle.printouts.specs.Outcomes.{Written}
+use Rattle.written.specs.Written.{Written}
 use Rattle.printouts.specs.Run.{IsRunText, choice_lines, told_lines}
 use Rattle.printouts.specs.Schedule.{IsListingDocument, IsListingText, are_met}
 

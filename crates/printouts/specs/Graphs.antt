@@ -4,7 +4,8 @@ use Rattle.machine.specs.Machines.{MachineData}
 use Rattle.loops.specs.Loops.{LoopData}
 use Rattle.graph_text.specs.Drawings.{AreDotParts}
 use Rattle.graph_text.specs.Edges.{AreEdgesParts}
-use Rattle.printouts.specs.Outcomes.{Written, last_line}
+use Rattle.printouts.specs.Outcomes.{last_line}
+use Rattle.written.specs.Written.{Written}
 
 -- the dependences of each loop, and then `loops A`. No loop is unmet, since none is scheduled
 abbrev pub IsEdgesText : MachineData → List LoopData → Written → Type 0

@@ -1,6 +1,4 @@
 pub mod Bounds
-pub mod Explain
-pub mod ExplainDocuments
 pub mod Graphs
 pub mod Outcomes
 pub mod Plain

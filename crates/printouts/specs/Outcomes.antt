@@ -1,12 +1,8 @@
 -- What subcommands do with their texts, and the line that the outputs of `bounds` and `plain` end with.
-use Rattle.std.specs.Prelude.{ℕ, Bool, codes, List, Result}
+use Rattle.std.specs.Prelude.{ℕ, codes, List, Result}
 use Rattle.writing.specs.Words.{ended, told}
 use Rattle.file_faults.specs.declared.fault.FileFault.{FileFault}
-
--- a text that is written, with whether every loop is met
-pub record Written : Type 0 where
-  pub text : List ℕ
-  pub all_met : Bool
+use Rattle.written.specs.Written.{Written}
 
 -- what a subcommand does with its texts: it writes, or it refuses them; or memory ran out, which says nothing of them
 abbrev pub Outcome : Type 0

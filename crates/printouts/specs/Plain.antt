@@ -7,7 +7,8 @@ use Rattle.loops.specs.Array.{Array}
 use Rattle.loops.specs.Loops.{LoopData}
 use Rattle.loops.specs.Run.{MemoryData, cell_of, opening_of, plain}
 use Rattle.loops.specs.Text.{value_name}
-use Rattle.printouts.specs.Outcomes.{Written, last_line}
+use Rattle.printouts.specs.Outcomes.{last_line}
+use Rattle.written.specs.Written.{Written}
 
 -- lines, each with a line feed
 

@@ -14,7 +14,7 @@ use Rattle.candidates.specs.declared.listings.Row.{Row}
 use Rattle.candidates.specs.Listings.{ListingData}
 use Rattle.candidates.specs.Promises.{IsRight, Lists}
 use Rattle.candidates.specs.Texts.{row_text, counts_line}
-use Rattle.printouts.specs.Outcomes.{Written}
+use Rattle.written.specs.Written.{Written}
 use Rattle.printouts.specs.Plain.{plain_lines, run_lines}
 use Rattle.printouts.specs.Schedule.{are_met}
 

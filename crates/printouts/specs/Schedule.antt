@@ -8,7 +8,7 @@ use Rattle.candidates.specs.Listings.{ListingData, is_met}
 use Rattle.candidates.specs.Promises.{IsRight, Lists}
 use Rattle.candidates.specs.Texts.{listing_text_of}
 use Rattle.listing_json.specs.Documents.{document_text}
-use Rattle.printouts.specs.Outcomes.{Written}
+use Rattle.written.specs.Written.{Written}
 
 -- every loop has a kernel
 abbrev pub are_met : List Row → Bool

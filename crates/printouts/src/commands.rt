@@ -2,7 +2,6 @@
 
 pub(crate) mod alone;
 pub(crate) mod bounds;
-pub(crate) mod explaining;
 pub(crate) mod graphs;
 pub(crate) mod listings;
 pub(crate) mod plain;

@@ -2,6 +2,4 @@
 
 pub(crate) mod cell_lines;
 pub(crate) mod lines;
-pub(crate) mod objects;
-pub(crate) mod printout;
 pub(crate) mod run_lines;

@@ -12,9 +12,9 @@ use Rattle.problem_reader.specs.declared.fault.TextFault.{TextFault}
 use Rattle.solution_reader.specs.Data.{SolutionData as TextSolution}
 use Rattle.solution_reader.specs.Meaning.{solutions_in_text}
 use Rattle.problem_printouts.specs.declared.answers.Answers.{Answers}
-use Rattle.problem_printouts.specs.declared.fault.ProblemsFault.{ProblemsFault}
-use Rattle.problem_printouts.specs.declared.fault.ProblemsFault.TheVariants.{Problems, Solutions, Memory}
-use Rattle.problem_printouts.specs.Faults.{of_problem_wrong}
+use Rattle.problem_faults.specs.declared.fault.ProblemsFault.{ProblemsFault}
+use Rattle.problem_faults.specs.declared.fault.ProblemsFault.TheVariants.{Problems, Solutions, Memory}
+use Rattle.problem_faults.specs.Faults.{of_problem_wrong}
 use Rattle.problem_printouts.specs.Solving.{AnswersSolve, IsSolveIn}
 use Rattle.problem_printouts.specs.Judging.{AnswersCheck, IsFaultOf}
 use Rattle.problem_printouts.specs.inner.Judged.{AnswersLists}

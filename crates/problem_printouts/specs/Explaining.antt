@@ -7,7 +7,7 @@ use Rattle.problem_tables.specs.Data.{FileData, ProblemData as TextProblem}
 use Rattle.problem_printouts.specs.Problems.{AnswersProblems, IsProblemIn}
 use Rattle.problem_printouts.specs.Told.{Answer, TellsEach, counts_after}
 use Rattle.problem_printouts.specs.declared.answers.Answers.{Answers}
-use Rattle.problem_printouts.specs.declared.fault.ProblemsFault.{ProblemsFault}
+use Rattle.problem_faults.specs.declared.fault.ProblemsFault.{ProblemsFault}
 
 -- why a problem of the file has its interval, and whether it has a solution
 pub record IsReasonsAnswer (file : FileData) (settings : SettingsData) (problem : TextProblem) (answer : Answer) : Type 0 where

@@ -8,7 +8,7 @@ use Rattle.writing.specs.Words.{told as words_told}
 use Rattle.problem_printouts.specs.Problems.{AnswersProblems, IsProblemIn}
 use Rattle.problem_printouts.specs.Told.{Answer, TellsEach}
 use Rattle.problem_printouts.specs.declared.answers.Answers.{Answers}
-use Rattle.problem_printouts.specs.declared.fault.ProblemsFault.{ProblemsFault}
+use Rattle.problem_faults.specs.declared.fault.ProblemsFault.{ProblemsFault}
 
 -- neither the budget ratio nor the ceiling changes what is told; each problem is met
 pub record IsGraphAnswer (is_part : List ℕ → ProblemData → List ℕ → Type 0) (file : FileData) (problem : TextProblem) (answer : Answer) : Type 0 where

@@ -19,8 +19,8 @@ use Rattle.solution_text.specs.declared.verdicts.Missing.TheVariants.{Solution a
 use Rattle.problem_printouts.specs.Problems.{IsProblemIn}
 use Rattle.problem_printouts.specs.Told.{Answer, TellsEach, counts_after}
 use Rattle.problem_printouts.specs.declared.answers.Answers.{Answers}
-use Rattle.problem_printouts.specs.declared.fault.ProblemsFault.{ProblemsFault}
-use Rattle.problem_printouts.specs.declared.fault.ProblemsFault.TheVariants.{Problems, Solutions, Memory}
+use Rattle.problem_faults.specs.declared.fault.ProblemsFault.{ProblemsFault}
+use Rattle.problem_faults.specs.declared.fault.ProblemsFault.TheVariants.{Problems, Solutions, Memory}
 
 -- names that are none of the problems'
 

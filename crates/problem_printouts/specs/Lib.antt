@@ -1,5 +1,4 @@
 pub mod Problems
-pub mod Faults
 pub mod Told
 pub mod Solving
 pub mod Judging

@@ -6,8 +6,8 @@ use Rattle.problem_tables.specs.Data.{FileData, ProblemData as TextProblem}
 use Rattle.problem_tables.specs.declared.fault.Wrong.TheVariants as wrong
 use Rattle.problem_reader.specs.Files.{IsDraftOf, file_in_text, machine_at}
 use Rattle.problem_printouts.specs.declared.answers.Answers.{Answers}
-use Rattle.problem_printouts.specs.declared.fault.ProblemsFault.{ProblemsFault}
-use Rattle.problem_printouts.specs.declared.fault.ProblemsFault.TheVariants.{Problems, Solutions, Memory}
+use Rattle.problem_faults.specs.declared.fault.ProblemsFault.{ProblemsFault}
+use Rattle.problem_faults.specs.declared.fault.ProblemsFault.TheVariants.{Problems, Solutions, Memory}
 
 -- a problem that is made of the draft of a problem of the file, with this budget ratio and ceiling
 pub record IsProblemIn (file : FileData) (ratio ceiling : ℕ) (problem : TextProblem) (made : ProblemData) : Type 0 where

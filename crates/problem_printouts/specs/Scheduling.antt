@@ -10,7 +10,7 @@ use Rattle.outcome_text.specs.Answers.{is_met}
 use Rattle.problem_printouts.specs.Problems.{AnswersProblems, IsProblemIn}
 use Rattle.problem_printouts.specs.Told.{Answer, TellsEach}
 use Rattle.problem_printouts.specs.declared.answers.Answers.{Answers}
-use Rattle.problem_printouts.specs.declared.fault.ProblemsFault.{ProblemsFault}
+use Rattle.problem_faults.specs.declared.fault.ProblemsFault.{ProblemsFault}
 
 -- the graph of a problem of the file with what it comes to, and whether it has a solution
 pub record IsScheduledAnswer (file : FileData) (settings : SettingsData) (problem : TextProblem) (answer : Answer) : Type 0 where

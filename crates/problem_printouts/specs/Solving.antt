@@ -12,7 +12,7 @@ use Rattle.solution_json.specs.Outcomes.{IsOutcomeJson}
 use Rattle.problem_printouts.specs.Problems.{AnswersProblems, IsProblemIn}
 use Rattle.problem_printouts.specs.Told.{Answer, TellsEach, counts_after, failed_in, met_in}
 use Rattle.problem_printouts.specs.declared.answers.Answers.{Answers}
-use Rattle.problem_printouts.specs.declared.fault.ProblemsFault.{ProblemsFault}
+use Rattle.problem_faults.specs.declared.fault.ProblemsFault.{ProblemsFault}
 
 -- what a problem comes to in this format, and whether it is solved
 abbrev pub IsOutcomeIn : Format → List ℕ → ProblemData → Bool → List ℕ → Type 0

@@ -6,10 +6,10 @@ ghost use Rattle.problem_printouts.specs.Explaining.{AnswersExplain, IsExplainOf
 ghost use Rattle.problem_printouts.specs.inner.Sofar.{IsOneMore};
 
 use crate::answers::Answers;
-use crate::fault::ProblemsFault;
 use crate::making::problem_in;
 use crate::walk::{Teller, push_all};
 use machine_data::OutOfMemory;
+use problem_faults::ProblemsFault;
 use problem_reader::{ProblemFile, read_problems};
 use problem_reasons::push_reasons;
 use settings::Settings;

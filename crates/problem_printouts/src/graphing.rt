@@ -8,11 +8,11 @@ ghost use Rattle.problem_printouts.specs.Graphing.{AnswersDot, AnswersEdges, IsD
 ghost use Rattle.problem_printouts.specs.inner.Sofar.{IsOneMore};
 
 use crate::answers::Answers;
-use crate::fault::ProblemsFault;
 use crate::judging::settings;
 use crate::making::problem_in;
 use crate::walk::{Teller, push_all};
 use machine_data::OutOfMemory;
+use problem_faults::ProblemsFault;
 use problem_graphs::{push_dot, push_edges};
 use problem_reader::{ProblemFile, read_problems};
 use std::alloc::Global;

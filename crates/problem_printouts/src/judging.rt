@@ -9,11 +9,11 @@ ghost use Rattle.problem_printouts.specs.inner.Judged.{AnswersLists, IsCheckedLi
 ghost use Rattle.problem_printouts.specs.inner.Sofar.{IsOneMore};
 
 use crate::answers::Answers;
-use crate::fault::ProblemsFault;
 use crate::making::problem_in;
 use crate::unknown::first_unknown;
 use crate::walk::{Teller, push_all};
 use machine_data::OutOfMemory;
+use problem_faults::ProblemsFault;
 use problem_reader::{ProblemFile, read_problems};
 use problems::{Label, Problem};
 use settings::Settings;

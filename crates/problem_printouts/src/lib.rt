@@ -5,7 +5,6 @@
 mod answers;
 mod documents;
 mod explaining;
-mod fault;
 mod graphing;
 mod judging;
 mod known;
@@ -19,7 +18,6 @@ mod walk;
 
 pub use answers::Answers;
 pub use explaining::explain_printout;
-pub use fault::ProblemsFault;
 pub use graphing::{dot_printout, edges_printout};
 pub use judging::check_printout;
 pub use scheduling::scheduled_printout;

@@ -6,11 +6,11 @@ ghost use Rattle.problem_printouts.specs.Scheduling.{AnswersScheduled, IsSchedul
 ghost use Rattle.problem_printouts.specs.inner.Sofar.{IsOneMore};
 
 use crate::answers::Answers;
-use crate::fault::ProblemsFault;
 use crate::making::problem_in;
 use crate::walk::{Teller, push_all};
 use machine_data::OutOfMemory;
 use outcome_text::is_met;
+use problem_faults::ProblemsFault;
 use problem_graphs::push_scheduled;
 use problem_reader::{ProblemFile, read_problems};
 use settings::Settings;

@@ -9,11 +9,11 @@ ghost use Rattle.problem_printouts.specs.inner.Sofar.{IsOneMore};
 
 use crate::answers::Answers;
 use crate::documents::documented;
-use crate::fault::ProblemsFault;
 use crate::pieces::push_answer;
 use crate::sharing::{Piece, made, taken};
 use crate::walk::{Teller, push_all};
 use machine_data::OutOfMemory;
+use problem_faults::ProblemsFault;
 use problem_reader::{KeptDrafts, ProblemFile, read_problems};
 use settings::{Format, Settings};
 use std::alloc::Global;

@@ -13,7 +13,7 @@ use Rattle.candidates.specs.Listings.{is_met}
 use Rattle.candidates.specs.Outcomes.{IsPlacedAs}
 use Rattle.one_thread.specs.Files.{ArePrepared}
 use Rattle.scheduled_graphs.specs.Drawn.{IsScheduledGraph, IsUnscheduledGraph}
-use Rattle.printouts.specs.Outcomes.{Written}
+use Rattle.written.specs.Written.{Written}
 
 -- a loop's choice, and the graph of the loop
 pub record DrawnData : Type 0 where

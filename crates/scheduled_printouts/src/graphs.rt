@@ -12,10 +12,10 @@ use ims::Prepared;
 use loops::Loop;
 use machine::{Machine, OutOfMemory};
 use one_thread::prepare_all;
-use printouts::Printout;
 use scheduled_graphs::push_drawn;
 use settings::Settings;
 use std::alloc::Global;
+use written::Printout;
 
 /// What `dot --scheduled` prints.
 ///

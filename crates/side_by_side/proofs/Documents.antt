@@ -18,7 +18,7 @@ use Rattle.listing_json.specs.Documents.{row_object}
 use Rattle.json_objects.proofs.Joined.{join-map}
 use Rattle.listing_json.proofs.Joined.{documents-joined}
 use Rattle.one_thread.specs.Files.{ArePrepared}
-use Rattle.printouts.specs.Outcomes.{Written}
+use Rattle.written.specs.Written.{Written}
 use Rattle.printouts.specs.Schedule.{IsListingDocument}
 use Rattle.printouts.proofs.Told.{told_document}
 use Rattle.workers.specs.Told.{Group, choices_of, problems_of}

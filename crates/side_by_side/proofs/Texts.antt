@@ -23,7 +23,7 @@ use Rattle.candidates.specs.declared.listings.Row.{Row}
 use Rattle.file_faults.specs.Answers.{AnswersIn}
 use Rattle.one_thread.specs.Files.{ArePrepared, ListsProblems}
 use Rattle.one_thread.proofs.Listed.{prepared_long}
-use Rattle.printouts.specs.Outcomes.{Written}
+use Rattle.written.specs.Written.{Written}
 use Rattle.writing.specs.Words.{last_line}
 use Rattle.printouts.specs.Run.{IsRunText, choice_lines, told_lines}
 use Rattle.printouts.specs.Schedule.{IsListingText, are_met}

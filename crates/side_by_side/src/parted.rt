@@ -3,8 +3,8 @@
 ghost use Rattle.std.specs.Prelude.{◌≡◌};
 ghost use Rattle.side_by_side.specs.Parted.{joined_text, text_in};
 
-use printouts::Printout;
 use std::marker::Model;
+use written::Printout;
 
 /// What a command writes: a text, or several, one after another. Contracts see all of it as one text, with whether every
 /// loop is met.
@@ -37,7 +37,7 @@ pub enum Bytes<'a> {
 }
 
 impl Model for Parted {
-    ghost use Rattle.printouts.specs.Outcomes.{Written};
+    ghost use Rattle.written.specs.Written.{Written};
     ghost use Rattle.side_by_side.specs.inner.Held.{written_of};
 
     ghost Value = { Written };

@@ -9,7 +9,7 @@ use Rattle.serde_json.specs.View.{items_of}
 use Rattle.serde_json.specs.Written.{compact_text}
 use Rattle.machine_data.specs.Machines.{MachineData}
 use Rattle.ims.specs.Problems.{ProblemData, mii_of}
-use Rattle.printouts.specs.Outcomes.{Written}
+use Rattle.written.specs.Written.{Written}
 use Rattle.machine_variants.specs.declared.variant.Variant.{Variant}
 use Rattle.machine_variants.specs.Variants.{variants_for, variants_of}
 use Rattle.variants.specs.declared.found.finding.Finding.{Finding}

@@ -12,7 +12,7 @@ use Rattle.machine_data.specs.declared.limits.TheConstants.{MAX_INTERVAL, MAX_LO
 use Rattle.graph_text.specs.Texts.{AreTexts}
 use Rattle.writing.specs.Words.{last_line, told}
 use Rattle.ims.specs.Problems.{IsProblemOf, ProblemData}
-use Rattle.printouts.specs.Outcomes.{Written}
+use Rattle.written.specs.Written.{Written}
 use Rattle.machine_variants.specs.declared.variant.Variant.{Variant}
 use Rattle.machine_variants.specs.Variants.{concerns, passes_limit, variants_of}
 use Rattle.variants.specs.declared.found.finding.Standing.{Standing}

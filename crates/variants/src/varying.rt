@@ -15,9 +15,9 @@ use crate::told::totals::findings_total;
 use file_faults::FileFault;
 use loops::Loop;
 use machine::Machine;
-use printouts::Printout;
 use settings::Settings;
 use std::alloc::Global;
+use written::Printout;
 
 /// What each variant of a machine brings loops: for each loop, in order, the interval that it has, with the least number of registers
 /// for it, and a line for each variant that concerns it, with the interval that it has there. A variant is one more unit beside one

@@ -2,8 +2,9 @@
 
 ghost use Rattle.std.specs.Prelude.{◌<◌, length};
 
+use problem_faults::ProblemsFault;
 use problem_lines::Expected;
-use problem_printouts::{ProblemsFault, check_printout};
+use problem_printouts::check_printout;
 use problem_reader::{Part, ProblemFile, TextFault, Wrong, read_problems};
 use solution_reader::{
     Part as SolutionPart, SolutionFault, Wrong as SolutionWrong, read_solutions,

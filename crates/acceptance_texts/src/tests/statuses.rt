@@ -3,7 +3,7 @@
 use exit_status::Status;
 use loops::{LoopFault, LoopFaultKind};
 use machine::MachineFault;
-use problem_printouts::ProblemsFault;
+use problem_faults::ProblemsFault;
 use problem_reader::{TextFault, Wrong as ProblemWrong};
 use solution_reader::{SolutionFault, Wrong as SolutionWrong};
 use std::alloc::Global;

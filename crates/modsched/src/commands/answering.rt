@@ -10,14 +10,15 @@ ghost use Rattle.modsched.specs.inner.Refusals.{IsRefusal};
 use super::answer::Answer;
 use command_line::{Format, Report};
 use exit_status::Status;
-use printouts::Printout;
+use problem_faults::ProblemsFault;
 use problem_printouts::{
-    Answers, ProblemsFault, check_printout, dot_printout, edges_printout, explain_printout,
-    scheduled_printout, solve_printout,
+    Answers, check_printout, dot_printout, edges_printout, explain_printout, scheduled_printout,
+    solve_printout,
 };
 use settings::Settings;
 use std::alloc::Global;
 use std::thread::Threads;
+use written::Printout;
 
 /// What `solve` writes of the problems of a text, or the status of a refusal.
 pub(crate) fn solve_text<R: Threads + Sync>(

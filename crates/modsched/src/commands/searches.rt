@@ -13,10 +13,11 @@ use candidates::Listing;
 use command_line::Trip;
 use file_faults::FileFault;
 use ims::Prepared;
-use printouts::{Printout, document_printout};
+use printouts::document_printout;
 use side_by_side::{Parted, listing_printout_on, run_text_on};
 use std::alloc::Global;
 use std::thread::Threads;
+use written::Printout;
 
 /// What a search gives: each loop prepared, and the listing of these loops; or a fault.
 pub(crate) type Searched = Result<(Vec<Prepared>, Listing), FileFault>;

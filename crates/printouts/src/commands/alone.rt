@@ -9,13 +9,13 @@ ghost use Rattle.printouts.specs.Schedule.{IsListingDocument, IsListingText};
 
 use crate::commands::listings::{document_printout, listing_printout};
 use crate::commands::running::run_printout;
-use crate::output::printout::Printout;
 use file_faults::FileFault;
 use loops::Loop;
 use machine::Machine;
 use one_thread::pipeline_alone;
 use settings::{Settings, Trip};
 use std::alloc::Global;
+use written::Printout;
 
 /// What `schedule` writes. There are at most 1,024 loops, which is the most that a text has.
 ///

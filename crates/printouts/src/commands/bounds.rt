@@ -5,12 +5,12 @@ ghost use Rattle.file_faults.specs.Answers.{AnswersOn};
 ghost use Rattle.printouts.specs.Bounds.{IsBoundsText};
 
 use crate::output::lines::push_last;
-use crate::output::printout::Printout;
 use file_faults::FileFault;
 use graph_text::bounds_lines;
 use loops::Loop;
 use machine::Machine;
 use std::alloc::Global;
+use written::Printout;
 
 /// What `bounds` writes.
 pub fn bounds_text(alloc: Global, machine: &Machine, loops: &[Loop]) -> Result<Printout, FileFault>

@@ -5,11 +5,11 @@ ghost use Rattle.candidates.specs.Texts.{listing_text_of};
 ghost use Rattle.listing_json.specs.Documents.{document_text};
 ghost use Rattle.printouts.specs.Schedule.{are_met};
 
-use crate::output::printout::Printout;
 use candidates::{Listing, Row, listing_text};
 use listing_json::document_text;
 use machine::OutOfMemory;
 use std::alloc::Global;
+use written::Printout;
 
 /// What `schedule` writes of a listing.
 ///

@@ -6,13 +6,13 @@ ghost use Rattle.file_faults.specs.Answers.{AnswersOn};
 ghost use Rattle.printouts.specs.Plain.{IsPlainText, plain_lines};
 
 use crate::output::lines::push_last;
-use crate::output::printout::Printout;
 use crate::output::run_lines::{push_run, within_limits};
 use file_faults::FileFault;
 use loops::{Loop, run_plain};
 use machine::OutOfMemory;
 use settings::Trip;
 use std::alloc::Global;
+use written::Printout;
 
 /// What `plain` writes.
 pub fn plain_text(alloc: Global, loops: &[Loop], trip: Trip) -> Result<Printout, FileFault>

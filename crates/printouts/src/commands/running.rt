@@ -15,7 +15,6 @@ ghost use Rattle.printouts.specs.Run.{choice_lines, kernel_lines, told_lines};
 ghost use Rattle.printouts.specs.Schedule.{are_met};
 
 use crate::commands::listings::are_met;
-use crate::output::printout::Printout;
 use crate::output::run_lines::{push_run, within_limits};
 use candidates::{Choice, Listing, Row, write_last, write_row};
 use ims::Prepared;
@@ -25,6 +24,7 @@ use loops::{Loop, Memory, opening};
 use machine::OutOfMemory;
 use settings::Trip;
 use std::alloc::Global;
+use written::Printout;
 
 /// What `run` writes of prepared loops with their listing.
 ///

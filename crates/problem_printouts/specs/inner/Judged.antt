@@ -6,8 +6,8 @@ use Rattle.solution_reader.specs.Data.{SolutionData as TextSolution}
 use Rattle.problem_printouts.specs.Judging.{IsChecked, IsCheckText, first_unknown}
 use Rattle.problem_printouts.specs.Told.{Answer}
 use Rattle.problem_printouts.specs.declared.answers.Answers.{Answers}
-use Rattle.problem_printouts.specs.declared.fault.ProblemsFault.{ProblemsFault}
-use Rattle.problem_printouts.specs.declared.fault.ProblemsFault.TheVariants.{Problems, Solutions, Memory}
+use Rattle.problem_faults.specs.declared.fault.ProblemsFault.{ProblemsFault}
+use Rattle.problem_faults.specs.declared.fault.ProblemsFault.TheVariants.{Problems, Solutions, Memory}
 
 -- the answer is what a check says of these lists
 abbrev pub IsCheckedLists : ProblemData → List ℕ → ℕ → List (ℕ × ℕ) → List ℕ → Answer → Type 0

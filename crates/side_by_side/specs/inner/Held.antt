@@ -1,5 +1,5 @@
 -- How what a command writes is held.
-use Rattle.printouts.specs.Outcomes.{Written}
+use Rattle.written.specs.Written.{Written}
 use Rattle.side_by_side.specs.Parted.{joined_text}
 use Rattle.side_by_side.specs.declared.parted.Held.{Held}
 use Rattle.side_by_side.specs.declared.parted.Held.TheVariants.{Whole, Texts}

@@ -5,7 +5,7 @@ use Rattle.loops.specs.Loops.{LoopData}
 use Rattle.ims.specs.Problems.{ProblemData}
 use Rattle.candidates.specs.Listings.{is_met}
 use Rattle.one_thread.specs.Files.{ArePrepared}
-use Rattle.printouts.specs.Outcomes.{Written}
+use Rattle.written.specs.Written.{Written}
 use Rattle.scheduled_printouts.specs.Graphs.{AreScheduledGraphs, DrawnData, IsDrawn}
 use Rattle.side_by_side.specs.declared.parts.part.Part.{Part}
 

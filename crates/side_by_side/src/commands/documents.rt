@@ -18,12 +18,13 @@ use ims::Prepared;
 use json_objects::{push_head, push_tail};
 use listing_json::push_row;
 use machine::{Machine, OutOfMemory};
-use printouts::{Printout, document_printout};
+use printouts::document_printout;
 use settings::Settings;
 use std::alloc::Global;
 use std::thread::Threads;
 use workers::{Told, tell_text};
 use writing::Text;
+use written::Printout;
 
 /// What `json` writes of the loops of a text, by at most as many workers as the settings say. Of a text of 64 KiB or more each worker takes
 /// pieces all the way from reading to what is written; else they read, prepare and try intervals in turn, and the calling thread writes. One

@@ -5,7 +5,7 @@ ghost use Rattle.std.specs.List.{All};
 ghost use Rattle.graph.specs.Units.{first_lacking};
 ghost use Rattle.ims.specs.Problems.{ProblemData};
 ghost use Rattle.file_faults.specs.Answers.{AnswersOn};
-ghost use Rattle.printouts.specs.Explain.{IsExplainText};
+ghost use Rattle.explain_printouts.specs.Explain.{IsExplainText};
 ghost use Rattle.side_by_side.specs.inner.Explained.{ExplainsPrepared, IsExplainedPart};
 ghost use Rattle.side_by_side.specs.inner.Parts.{met_of};
 
@@ -13,16 +13,17 @@ use crate::parts::jobs::loop_jobs;
 use crate::parts::joined::joined;
 use crate::parts::part::Part;
 use explain::{Explained, push_last, push_prepared};
+use explain_printouts::explain_text;
 use file_faults::FileFault;
 use ims::Prepared;
 use loops::Loop;
 use machine::{Machine, OutOfMemory};
-use printouts::{Printout, explain_text};
 use settings::Settings;
 use shared_jobs::{Jobs, parts_of};
 use std::alloc::Global;
 use std::thread::Threads;
 use workers::prepare_by_workers;
+use written::Printout;
 
 /// About how much work the explanation of a loop is for each of its statements, in statements that are executed once.
 pub(crate) const EXPLAINED: u64 = 400;

@@ -12,10 +12,11 @@ use crate::parts::joined::{append, room_for};
 use crate::parts::part::Part;
 use candidates::{Listing, Row, write_row, write_version};
 use machine::OutOfMemory;
-use printouts::{Printout, are_met, listing_printout, push_counts};
+use printouts::{are_met, listing_printout, push_counts};
 use shared_jobs::{Jobs, parts_of, shared};
 use std::alloc::Global;
 use std::thread::Threads;
+use written::Printout;
 
 /// About how much work it is to write the kernel of a loop, for each of its operations, in statements that are executed once.
 const WRITTEN: u64 = 30;

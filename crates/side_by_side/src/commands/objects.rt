@@ -5,20 +5,21 @@ ghost use Rattle.std.specs.List.{All, AllZip};
 ghost use Rattle.graph.specs.Units.{first_lacking};
 ghost use Rattle.ims.specs.Problems.{ProblemData};
 ghost use Rattle.file_faults.specs.Answers.{AnswersOn};
-ghost use Rattle.printouts.specs.ExplainDocuments.{AreObjects, IsExplainDocument, IsExplainPage, IsObjectOf};
+ghost use Rattle.explain_printouts.specs.ExplainDocuments.{AreObjects, IsExplainDocument, IsExplainPage, IsObjectOf};
 
 use crate::commands::explaining::EXPLAINED;
 use crate::parts::jobs::loop_jobs;
+use explain_printouts::{Object, explain_objects, object_of, objects_document, objects_page};
 use file_faults::FileFault;
 use ims::Prepared;
 use loops::Loop;
 use machine::{Machine, OutOfMemory};
-use printouts::{Object, Printout, explain_objects, object_of, objects_document, objects_page};
 use settings::Settings;
 use shared_jobs::{Jobs, parts_of};
 use std::alloc::Global;
 use std::thread::Threads;
 use workers::prepare_by_workers;
+use written::Printout;
 
 /// What `explain --format json` writes, by at most as many workers as the settings say, side by side. One worker starts no
 /// thread, and neither do a single loop and loops with few statements.

@@ -16,13 +16,13 @@ use file_faults::FileFault;
 use ims::Prepared;
 use loops::Loop;
 use machine::{Machine, OutOfMemory};
-use printouts::Printout;
 use scheduled_printouts::{push_graph, scheduled_text};
 use settings::Settings;
 use shared_jobs::{Jobs, parts_of};
 use std::alloc::Global;
 use std::thread::Threads;
 use workers::prepare_by_workers;
+use written::Printout;
 
 /// About how much work the schedule of a loop is for each of its statements, in statements that are executed once.
 const SCHEDULED: u64 = 400;

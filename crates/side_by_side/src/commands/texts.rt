@@ -20,11 +20,12 @@ use candidates::{Listing, Row, write_row};
 use file_faults::FileFault;
 use ims::Prepared;
 use machine::{Machine, OutOfMemory};
-use printouts::{Printout, push_runs};
+use printouts::push_runs;
 use settings::{Settings, Trip};
 use std::alloc::Global;
 use std::thread::Threads;
 use workers::{Told, tell_text};
+use written::Printout;
 
 /// What `schedule` writes of the loops of a text, by at most as many workers as the settings say. Of a text of 64 KiB or more each worker takes
 /// pieces all the way from reading to what is written; else they read, prepare, try intervals and write in turn. One worker starts no thread.

@@ -15,7 +15,6 @@ use file_faults::FileFault;
 use ims::Prepared;
 use loops::Loop;
 use machine::{Machine, OutOfMemory};
-use printouts::Printout;
 use settings::Settings;
 use shared_jobs::{Jobs, parts_of, shared};
 use std::alloc::Global;
@@ -25,6 +24,7 @@ use variants::{
     findings_total,
 };
 use workers::prepare_by_workers;
+use written::Printout;
 
 /// About how much work the search on the variants of a machine is for each statement of a loop, in statements that are executed once.
 const VARIED: u64 = 2_000;

@@ -11,9 +11,9 @@ use crate::parts::joined::{append, room_for, texts_of};
 use crate::parts::part::HasText;
 use candidates::{Row, number_failed, number_met};
 use machine::OutOfMemory;
-use printouts::Printout;
 use std::alloc::Global;
 use writing::{Text, push_last};
+use written::Printout;
 
 /// What is told of some loops of a text.
 #[derive(Drop)]

@@ -18,9 +18,9 @@ use crate::told::values::{told_least, told_own, told_variants};
 use ims::Prepared;
 use machine_data::{Machine, OutOfMemory};
 use machine_variants::{Variant, variants_of};
-use printouts::Printout;
 use serde_json::{Value, json};
 use std::alloc::Global;
+use written::Printout;
 
 /// A loop, with what is found of it.
 #[tactic(auto, unfolding(crate::specs::inner::Told::part_object))]

@@ -14,9 +14,9 @@ use crate::told::lines::{push_line, push_loop};
 use ims::Prepared;
 use machine_data::{Machine, OutOfMemory};
 use machine_variants::{Variant, variants_of};
-use printouts::Printout;
 use std::alloc::Global;
 use writing::push_last;
+use written::Printout;
 
 /// How many loops have an interval on the machine as it is.
 pub(crate) fn number_met(loops: &[LoopFindings]) -> u64

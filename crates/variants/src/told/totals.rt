@@ -18,9 +18,9 @@ use crate::told::columns::{
 use crate::told::lines::push_variant;
 use machine_data::{Machine, OutOfMemory};
 use machine_variants::{Variant, variants_of};
-use printouts::Printout;
 use std::alloc::Global;
 use writing::{Text, push_last, push_told};
+use written::Printout;
 
 /// Appends the sum of intervals, and how many loops have none.
 fn push_sums(text: &mut Vec<u8>, ii: u64, failed: u64) -> Result<(), OutOfMemory>

@@ -2,7 +2,7 @@ use Rattle.std.proofs.Common.{sym, ◌∙◌, inr}
 use Rattle.machine.specs.MachineText.{machine_of}
 use Rattle.loops.specs.Meaning.{loops_in}
 use Rattle.file_faults.specs.Answers.{AnswersFile}
-use Rattle.printouts.specs.Explain.{IsExplainText}
+use Rattle.explain_printouts.specs.Explain.{IsExplainText}
 use Rattle.capi.proofs.Texting.{brought}
 use Rattle.capi.proofs.texts.modsched_explain.Goals as goal
 

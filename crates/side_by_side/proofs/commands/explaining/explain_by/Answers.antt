@@ -4,7 +4,7 @@ use Rattle.file_faults.proofs.Answering.{on_more, on_ok}
 use Rattle.ims.specs.Problems.{ProblemData}
 use Rattle.one_thread.specs.Files.{ArePrepared, Prepares}
 use Rattle.one_thread.proofs.Listed.{prepared_long}
-use Rattle.printouts.specs.Explain.{IsExplainText}
+use Rattle.explain_printouts.specs.Explain.{IsExplainText}
 use Rattle.side_by_side.proofs.commands.explaining.explain_by.Goals as goal
 
 pub explained_by-requires-clause-each : goal.explained_by-requires-clause-each

@@ -2,8 +2,8 @@ use Rattle.std.proofs.Common.{List, refl, sym, subst}
 use Rattle.std.specs.Prelude.{◌==◌}
 use Rattle.graph.specs.Units.{first_lacking}
 use Rattle.file_faults.proofs.Answering.{on_none, on_ok}
-use Rattle.printouts.specs.declared.output.objects.Object.{Object}
-use Rattle.printouts.specs.ExplainDocuments.{AreObjects, AreObjectsOf, IsExplainPage, document_text, number_failed}
+use Rattle.explain_printouts.specs.declared.objects.Object.{Object}
+use Rattle.explain_printouts.specs.ExplainDocuments.{AreObjects, AreObjectsOf, IsExplainPage, document_text, number_failed}
 use Rattle.side_by_side.proofs.commands.objects.explain_page_on.Goals as goal
 
 pub returns : goal.returns

@@ -1,5 +1,5 @@
 use Rattle.std.proofs.Common.{◌∙◌, arith, of_calls, rules}
-use Rattle.printouts.specs.ExplainDocuments.{IsObjectOf}
+use Rattle.explain_printouts.specs.ExplainDocuments.{IsObjectOf}
 use Rattle.shared_jobs.proofs.Zipped.{all_right}
 use Rattle.side_by_side.proofs.commands.objects.made_by.Goals as goal
 

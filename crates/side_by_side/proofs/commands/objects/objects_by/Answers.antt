@@ -5,7 +5,7 @@ use Rattle.file_faults.proofs.Answering.{on_none, on_ok}
 use Rattle.ims.specs.Problems.{ProblemData}
 use Rattle.one_thread.specs.Files.{Prepares}
 use Rattle.one_thread.proofs.Listed.{prepared_long}
-use Rattle.printouts.specs.ExplainDocuments.{AreObjects, IsObjectOf}
+use Rattle.explain_printouts.specs.ExplainDocuments.{AreObjects, IsObjectOf}
 use Rattle.side_by_side.proofs.commands.objects.objects_by.Goals as goal
 
 pub made_by-requires-clause-each : goal.made_by-requires-clause-each

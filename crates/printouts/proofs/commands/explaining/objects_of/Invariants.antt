@@ -1,7 +1,0 @@
-use Rattle.std.proofs.Common.{take}
-use Rattle.std.specs.List.{AllZip}
-use Rattle.printouts.specs.ExplainDocuments.{IsObjectOf}
-use Rattle.printouts.proofs.commands.explaining.objects_of.Given as goal
-
-abbrev pub invariant-loop-index : goal.invariant-loop-index
-invariant-loop-index l = AllZip (IsObjectOf l.machine) (take l.index l.prepared) l.objects.items

@@ -1,0 +1,34 @@
+-- What the faults of texts are for a command over problems, and what is told of them.
+use Rattle.std.specs.Prelude.{ℕ, codes, List, ◌++◌}
+use Rattle.problem_reader.specs.declared.fault.TextFault.{TextFault}
+use Rattle.problem_reader.specs.Texts.{fault_text as problem_fault_text}
+use Rattle.problem_tables.specs.declared.fault.Wrong.{Wrong as ProblemWrong}
+use Rattle.problem_tables.specs.declared.fault.Wrong.TheVariants as problem_wrong
+use Rattle.solution_reader.specs.declared.fault.SolutionFault.{SolutionFault}
+use Rattle.solution_reader.specs.declared.fault.Wrong.{Wrong as SolutionWrong}
+use Rattle.solution_reader.specs.declared.fault.Wrong.TheVariants as solution_wrong
+use Rattle.solution_reader.specs.Texts.{fault_text as solution_fault_text}
+use Rattle.problem_faults.specs.declared.fault.ProblemsFault.{ProblemsFault}
+use Rattle.problem_faults.specs.declared.fault.ProblemsFault.TheVariants.{Problems, Solutions, Memory}
+
+-- what a fault of the reader of problems is for a command, and one of the reader of solutions
+
+abbrev pub of_problem_wrong : ProblemWrong → TextFault → ProblemsFault
+of_problem_wrong problem_wrong.Memory fault = Memory
+of_problem_wrong what fault = Problems fault
+
+abbrev pub of_problems : TextFault → ProblemsFault
+of_problems fault = of_problem_wrong fault.what fault
+
+abbrev pub of_solution_wrong : SolutionWrong → SolutionFault → ProblemsFault
+of_solution_wrong solution_wrong.Memory fault = Memory
+of_solution_wrong what fault = Solutions fault
+
+abbrev pub of_solutions : SolutionFault → ProblemsFault
+of_solutions fault = of_solution_wrong fault.what fault
+
+-- what is told of a fault
+abbrev pub told_of : ProblemsFault → List ℕ
+told_of (Problems fault) = codes "problems: " ++ problem_fault_text fault
+told_of (Solutions fault) = codes "solutions: " ++ solution_fault_text fault
+told_of Memory = codes "out of memory"
