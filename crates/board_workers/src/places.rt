@@ -11,8 +11,9 @@ use board::{WordBoard, WordPass};
 use candidates::Pieces;
 use ims::Prepared;
 use reports::Report;
+use shared_jobs::change_in_threads;
 use std::alloc::Global;
-use std::thread::{self, Threads};
+use std::thread::Threads;
 
 /// Where a worker's pass lies before it works, and its pass and report afterwards.
 #[derive(Drop)]
@@ -75,11 +76,9 @@ pub(crate) fn run_all<'a, R: Threads + Sync, G: Gate + Sync>(
     ensures all { length places.new ≡ length places.old }
     ensures done { All (IsDonePlace board.now loops.now pieces.now (G.always_goes_on gate.now)) places.new }
 {
-    let workers = places.len();
-    thread::for_each_mut(
+    change_in_threads(
         rt,
         places,
-        workers,
         &|worker, place| place.run(alloc, worker, board, loops, pieces, gate),
     );
 }

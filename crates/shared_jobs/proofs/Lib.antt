@@ -1,3 +1,4 @@
+pub mod Changed
 pub mod Numbers
 pub mod Works
 pub mod Zipped

@@ -1,2 +1,3 @@
 -- What the clauses of private functions cite.
+pub mod Changes
 pub mod Slots

@@ -4,11 +4,12 @@ ghost use Rattle.std.specs.Prelude.{◌≡◌, ◌<◌, ℕ, length};
 ghost use Rattle.std.specs.List.{All};
 ghost use Rattle.shared_jobs.specs.inner.Slots.{IsMadeBelow};
 
+use crate::calls::call_in_threads;
 use crate::jobs::Job;
 use machine_data::OutOfMemory;
 use std::alloc::Global;
 use std::sync::atomic::{AtomicUsize, Ordering};
-use std::thread::{self, Threads};
+use std::thread::Threads;
 
 /// A part, and its number.
 #[derive(Drop)]
@@ -30,7 +31,7 @@ pub(crate) fn made_by_all<
 {
     let next = AtomicUsize::new(0);
     let drawn = &next;
-    let made = thread::map_indices(
+    let made = call_in_threads(
         rt,
         alloc,
         workers,
