@@ -32,13 +32,14 @@ use naming::loops_named;
 use printouts::{bounds_text, dot_text, edges_text};
 use searches::{json_text, run_text, schedule_text};
 use settings::Settings;
+use shared_runs::plain_text_on;
 use side_by_side::{
-    Parted, document_text_of, explain_document_on, explain_page_on, explain_text_on, plain_text_on,
-    run_text_of, schedule_text_of, scheduled_text_on, vary_document_on, vary_text_on,
-    vary_total_on,
+    document_text_of, explain_document_on, explain_page_on, explain_text_on, run_text_of,
+    schedule_text_of, scheduled_text_on, vary_document_on, vary_text_on, vary_total_on,
 };
 use std::alloc::Global;
 use std::thread::Threads;
+use text_parts::Parted;
 use workers::{OpenGate, pipeline_on, read_by_workers};
 use written::Printout;
 

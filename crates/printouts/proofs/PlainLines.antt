@@ -1,13 +1,13 @@
 -- The lines of a run, piece by piece.
-use Rattle.std.proofs.Common.{◌≡◌, ℕ, ℤ, pos, ◌+◌, ◌-ℤ◌, ◌<◌, ◌≤◌, Bool, true, false, List, [], ◌∷◌, ◌++◌, length, take, get_or, min, refl, sym, ap, ap₂, ◌∙◌, arith}
+use Rattle.std.proofs.Common.{◌≡◌, ℕ, ℤ, pos, ◌+◌, ◌-◌, ◌-ℤ◌, ◌<◌, ◌≤◌, Bool, true, false, List, [], ◌∷◌, ◌++◌, length, map, take, get_or, min, refl, sym, ap, ap₂, ◌∙◌, arith}
 use Rattle.std.specs.Prelude.{if◌then◌else◌, cond}
-use Rattle.std.specs.List.{enumerate_from, filter, flat_map, zip}
+use Rattle.std.specs.List.{enumerate_from, filter, flat_map, range_with_len, zip}
 use Rattle.std.proofs.lemmas.List.{take_all, take_more, flat_map_more}
-use Rattle.std.proofs.lemmas.List.FromFn.{length-enumerate_from, get_or-enumerate_from, get_or-map-range_with_len, length-map-range_with_len}
+use Rattle.std.proofs.lemmas.List.FromFn.{length-enumerate_from, get_or-enumerate_from, map-range_with_len_more}
 use Rattle.std.proofs.lemmas.Slice.Zip.{get_or-zip, length-zip}
 use Rattle.loops.specs.Array.{Array}
 use Rattle.loops.specs.Run.{MemoryData, cell_of}
-use Rattle.printouts.specs.Plain.{cell_line, cells_of, is_changed, changed_line, cell_lines}
+use Rattle.printouts.specs.Plain.{cell_line, cells_between, cells_of, changed_line, is_changed, cell_lines, stretch_lines}
 
 -- one more piece of a text
 pub pieces_more : {X : Type 0} (f : X → List ℕ) (before now piece : List ℕ) (xs : List X) (i : ℕ) (d x : X) → i < length xs → get_or xs i d ≡ x
@@ -62,22 +62,26 @@ flat_map-filter p f (x ∷ xs) = step (p x) (flat_map-filter p f xs)
     step true e = ap (λ rest. f x ++ rest) e
     step false e = e
 
-length-cells_of : (trip : ℕ) → length (cells_of trip) ≡ trip + 128
-length-cells_of trip = length-map-range_with_len (λ k. pos k -ℤ pos 64) 0 (trip + 128)
+-- the cells between two places, and one more
+cells_between-more : (from i : ℕ) → from ≤ i → cells_between from (i + 1) ≡ cells_between from i ++ (pos i -ℤ pos 64) ∷ []
+cells_between-more from i h =
+    let place : ℕ → ℤ = λ k. pos k -ℤ pos 64 in
+    let count : i + 1 - from ≡ i - from + 1 = omega arith in
+    ap (λ n. map place (range_with_len from n)) count ∙ map-range_with_len_more place from (i - from) i (omega arith)
 
--- the cells by their places
-pub cell_more : (f : ℤ → List ℕ) (before now piece : List ℕ) (trip i : ℕ) (cell : ℤ) → i < trip + 128 → cell ≡ pos i -ℤ pos 64
-    → now ≡ before ++ flat_map f (take i (cells_of trip)) → piece ≡ f cell
-    → now ++ piece ≡ before ++ flat_map f (take (i + 1) (cells_of trip))
-cell_more f before now piece trip i cell h is e p =
-    let long : length (cells_of trip) ≡ trip + 128 = length-cells_of trip in
-    pieces_more f before now piece (cells_of trip) i cell cell (omega (arith, long))
-    (get_or-map-range_with_len (λ k. pos k -ℤ pos 64) 0 (trip + 128) i i cell h (omega arith) ∙ sym is) e p
+pub stretch_more : (f : ℤ → List ℕ) (before now piece : List ℕ) (from i : ℕ) (cell : ℤ) → from ≤ i → cell ≡ pos i -ℤ pos 64
+    → now ≡ before ++ flat_map f (cells_between from i) → piece ≡ f cell
+    → now ++ piece ≡ before ++ flat_map f (cells_between from (i + 1))
+stretch_more f before now piece from i cell h is e p =
+    ap₂ (λ (s t : List ℕ). s ++ t) e (p ∙ ap f is) ∙ flat_map_more f before (cells_between from i) (pos i -ℤ pos 64)
+    ∙ ap (λ cells. before ++ flat_map f cells) (sym (cells_between-more from i h))
 
-pub cell_all : (opening after : MemoryData) (array : ℕ) (name before now : List ℕ) (i : ℕ) → after.trip + 128 ≤ i
-    → now ≡ before ++ flat_map (changed_line opening after array name) (take i (cells_of after.trip))
-    → now ≡ before ++ cell_lines opening after array name
-cell_all opening after array name before now i all e =
-    let long : length (cells_of after.trip) ≡ after.trip + 128 = length-cells_of after.trip in
-    pieces_all (changed_line opening after array name) before now (cells_of after.trip) i (omega (arith, long)) e
-    ∙ ap (λ t. before ++ t) (flat_map-filter (is_changed opening after array) (λ cell. cell_line name cell (cell_of after.arrays array cell)) (cells_of after.trip))
+-- none and all of them
+pub cells_between-none : (from i : ℕ) → i ≤ from → cells_between from i ≡ []
+cells_between-none from i h = let none : i - from ≡ 0 = omega arith in ap (λ n. map (λ k. pos k -ℤ pos 64) (range_with_len from n)) none
+
+pub stretch_all : (opening after : MemoryData) (array : ℕ) (name : List ℕ) → stretch_lines opening after array name 0 (after.trip + 128) ≡ cell_lines opening after array name
+stretch_all opening after array name =
+    let whole : after.trip + 128 - 0 ≡ after.trip + 128 = omega arith in
+    ap (λ n. flat_map (changed_line opening after array name) (map (λ k. pos k -ℤ pos 64) (range_with_len 0 n))) whole
+    ∙ flat_map-filter (is_changed opening after array) (λ cell. cell_line name cell (cell_of after.arrays array cell)) (cells_of after.trip)

@@ -1,5 +1,5 @@
 -- What `plain` writes.
-use Rattle.std.specs.Prelude.{◌≡◌, ℕ, ℤ, pos, ◌+◌, ◌-ℤ◌, codes, Bool, true, not, if◌then◌else◌, List, [], ◌++◌, length, map}
+use Rattle.std.specs.Prelude.{◌≡◌, ℕ, ℤ, pos, ◌+◌, ◌-◌, ◌-ℤ◌, codes, Bool, true, not, if◌then◌else◌, List, [], ◌++◌, length, map}
 use Rattle.std.specs.List.{enumerate_from, filter, flat_map, range_with_len, zip}
 use Rattle.std.specs.Ordering.{int_eq}
 use Rattle.writing.specs.Words.{ended, told, told_signed}
@@ -34,6 +34,10 @@ out_line name value = ended ((codes "out " ++ name) ++ told_signed (codes " ") v
 abbrev pub cells_of : ℕ → List ℤ
 cells_of trip = map (λ k. pos k -ℤ pos 64) (range_with_len 0 (trip + 128))
 
+-- of them those from this place on, and before the other one, where cell -64 has place 0
+abbrev pub cells_between : ℕ → ℕ → List ℤ
+cells_between from end = map (λ k. pos k -ℤ pos 64) (range_with_len from (end - from))
+
 -- a cell of the array of this number has another value after the run than before it
 abbrev pub is_changed : MemoryData → MemoryData → ℕ → ℤ → Bool
 is_changed opening after array cell = not (int_eq (cell_of after.arrays array cell) (cell_of opening.arrays array cell))
@@ -50,6 +54,10 @@ changed_line opening after array name cell = line_if_changed name cell (cell_of 
 abbrev pub cell_lines : MemoryData → MemoryData → ℕ → List ℕ → List ℕ
 cell_lines opening after array name =
     flat_map (λ cell. cell_line name cell (cell_of after.arrays array cell)) (filter (is_changed opening after array) (cells_of after.trip))
+
+-- the lines of those of its cells that stand between two places
+abbrev pub stretch_lines : MemoryData → MemoryData → ℕ → List ℕ → ℕ → ℕ → List ℕ
+stretch_lines opening after array name from end = flat_map (changed_line opening after array name) (cells_between from end)
 
 -- of all arrays of a loop, in order
 abbrev pub array_lines : LoopData → MemoryData → MemoryData → List ℕ

@@ -14,4 +14,4 @@ pub use commands::plain::{plain_text, push_plain};
 pub use commands::running::{push_choice, push_counts, push_runs, run_printout};
 pub use laws::kernels_tell_plain_lines;
 pub use output::lines::push_last;
-pub use output::run_lines::{push_run, within_limits};
+pub use output::run_lines::{push_head, push_outs, push_run, push_stretch, within_limits};

@@ -14,9 +14,9 @@ use Rattle.explain.specs.Explanations.{ArePartsOf, IsExplanationOf, PartData, la
 use Rattle.explain.proofs.Parts.{part_of}
 use Rattle.one_thread.specs.Files.{ArePrepared}
 use Rattle.one_thread.proofs.Listed.{prepared_long}
-use Rattle.side_by_side.specs.declared.parts.part.Part.{Part}
+use Rattle.text_parts.specs.declared.part.Part.{Part}
 use Rattle.side_by_side.specs.inner.Explained.{IsExplainedPart}
-use Rattle.side_by_side.specs.inner.Parts.{met_of, text_of}
+use Rattle.text_parts.specs.Parts.{met_of, text_of}
 
 -- a choice is met or failed
 one_of : (choice : Choice) → cond (is_met choice) 1 0 + cond (is_failed choice) 1 0 ≡ 1

@@ -4,9 +4,9 @@ use Rattle.std.specs.List.{flat_map}
 use Rattle.candidates.specs.Listings.{ListingData}
 use Rattle.candidates.specs.Texts.{counts_line, listing_text_of, row_text, version_text}
 use Rattle.candidates.specs.declared.listings.Row as row
-use Rattle.side_by_side.specs.declared.parts.part.Part.{Part}
-use Rattle.side_by_side.specs.inner.Parts.{text_of}
-use Rattle.side_by_side.proofs.Joining.{flat_same}
+use Rattle.text_parts.specs.declared.part.Part.{Part}
+use Rattle.text_parts.specs.Parts.{text_of}
+use Rattle.text_parts.proofs.Pieces.{flat_same}
 
 -- parts that tell each row
 pub rows_joined : (ceiling : ℕ) (rows : List row.Row) (parts : List Part) → length parts ≡ length rows

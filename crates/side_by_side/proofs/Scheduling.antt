@@ -3,8 +3,8 @@ use Rattle.std.proofs.Common.{◌≡◌, ◌&&◌, ◌<◌, ℕ, suc, Bool, List
 use Rattle.std.specs.List.{flat_map, list_all}
 use Rattle.ims.specs.Problems.{ProblemData}
 use Rattle.scheduled_printouts.specs.Graphs.{AreDrawn}
-use Rattle.side_by_side.specs.declared.parts.part.Part.{Part}
-use Rattle.side_by_side.specs.inner.Parts.{met_of, text_of}
+use Rattle.text_parts.specs.declared.part.Part.{Part}
+use Rattle.text_parts.specs.Parts.{met_of, text_of}
 use Rattle.side_by_side.specs.inner.Scheduled.{IsDrawnPart}
 
 pub drawn_parts : (problems : List ProblemData) (parts : List Part) → length parts ≡ length problems

@@ -34,7 +34,7 @@ use Rattle.workers.specs.declared.pieces.Told.TheVariants.{Apart, Whole}
 use Rattle.side_by_side.specs.declared.parts.told.ToldLoops.{ToldLoops}
 use Rattle.side_by_side.specs.inner.Told.{IsCounted, last_told, number_failed_told, number_met_told, number_told, outs_of, text_of_told, version_if}
 use Rattle.side_by_side.proofs.Answered.{right_gives, right_more}
-use Rattle.side_by_side.proofs.Joining.{rows_long}
+use Rattle.shared_runs.proofs.Joining.{rows_long}
 use Rattle.side_by_side.proofs.Listing.{listed}
 
 -- the rows of a group

@@ -2,11 +2,8 @@
 
 pub(crate) mod documents;
 pub(crate) mod explaining;
-pub(crate) mod halves;
 pub(crate) mod listings;
 pub(crate) mod objects;
-pub(crate) mod plain;
-pub(crate) mod runs;
 pub(crate) mod scheduling;
 pub(crate) mod texts;
 pub(crate) mod varying;

@@ -9,7 +9,7 @@ ghost use Rattle.modsched.specs.Engine.{lint_verdict};
 use devices::Output;
 use exit_status::{Status, Verdict, finish, finish_texts};
 use lint_text::LintText;
-use side_by_side::{Bytes, Parted};
+use text_parts::{Bytes, Parted};
 use written::Printout;
 
 /// A text that a command writes, with what it tells.

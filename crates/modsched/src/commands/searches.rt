@@ -14,9 +14,11 @@ use command_line::Trip;
 use file_faults::FileFault;
 use ims::Prepared;
 use printouts::document_printout;
-use side_by_side::{Parted, listing_printout_on, run_text_on};
+use shared_runs::run_text_on;
+use side_by_side::listing_printout_on;
 use std::alloc::Global;
 use std::thread::Threads;
+use text_parts::Parted;
 use written::Printout;
 
 /// What a search gives: each loop prepared, and the listing of these loops; or a fault.

@@ -4,7 +4,7 @@
 ghost use Rattle.std.specs.Prelude.{◌≡◌, ◌+◌, ◌<◌, ◌≤◌, ◌++◌, ℕ, [], pos, codes, length, drop, get_or, OnOk};
 ghost use Rattle.std.specs.Fmt.{signed_decimal};
 ghost use Rattle.loops.specs.Run.{MemoryData, opening_cells};
-ghost use Rattle.printouts.specs.Plain.{cell_line, cell_lines, line_if_changed};
+ghost use Rattle.printouts.specs.Plain.{cell_line, line_if_changed, stretch_lines};
 
 use itoa::write_digits;
 use loops::Memory;
@@ -18,23 +18,34 @@ const MARGIN: usize = MAX_SUBSCRIPT as usize;
 /// and four more.
 const TAIL: usize = 44;
 
-/// Appends the lines of the cells of the array of a number and a name that a run changed, in ascending
-/// order. What is written for the array is all that is needed to know its cells before the run.
+/// Appends the lines of those cells of the array of a number and a name that a run changed, in ascending
+/// order, of the cells from place `from` on and before place `end` in the list of the array's cells. What is
+/// written for the array is all that is needed to know its cells before the run.
 pub(crate) fn push_cells(
     text: &mut Vec<u8>,
     name: &str,
     number: usize,
     written: &[i64],
     after: &Memory,
+    from: usize,
+    end: usize,
 ) -> Result<(), OutOfMemory>
-    requires { number < length after.now.arrays }
+    requires number { number < length after.now.arrays }
+    requires order { from ≤ end }
+    requires within { end ≤ after.now.trip + 128 }
     ensures { OnOk result ((opening : MemoryData) → get_or opening.arrays number [] ≡ opening_cells after.now.trip written.now
-        → text.new.items ≡ text.old.items ++ cell_lines opening after.now number name.now) }
+        → text.new.items ≡ text.old.items ++ stretch_lines opening after.now number name.now from end) }
 {
     let values = after.cells(number);
-    for (index, value) in values.iter().enumerate() {
+    for index in from..end {
         let kept = kept_at(written, index);
-        push_changed(text, name, index as i64 - MARGIN as i64, kept, *value)?;
+        push_changed(
+            text,
+            name,
+            index as i64 - MARGIN as i64,
+            kept,
+            values[index],
+        )?;
     }
     Ok(())
 }

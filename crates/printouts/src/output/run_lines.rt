@@ -1,11 +1,12 @@
 //! The lines of a run.
 
-ghost use Rattle.std.specs.Prelude.{◌≡◌, ◌++◌, length, IfOk, OnOk, IsErrOf, Ok};
-ghost use Rattle.loops.specs.Run.{HasShapeOf, opening_of};
-ghost use Rattle.printouts.specs.Plain.{run_line, out_line, array_lines, out_lines, run_lines};
+ghost use Rattle.std.specs.Prelude.{◌≡◌, ◌+◌, ◌<◌, ◌≤◌, ◌++◌, [], get_or, length, slice_index_or, IfOk, OnOk, IsErrOf, Ok};
+ghost use Rattle.loops.specs.Array.{Array};
+ghost use Rattle.loops.specs.Run.{HasShapeOf, MemoryData, opening_cells, opening_of};
+ghost use Rattle.printouts.specs.Plain.{run_line, out_line, array_lines, cell_lines, out_lines, run_lines, stretch_lines};
 
 use crate::output::cell_lines::push_cells;
-use loops::{Loop, Memory, RunFault, value_name};
+use loops::{Array, Loop, Memory, RunFault, value_name};
 use machine::OutOfMemory;
 use writing::{Text, push_both, push_signed, push_told};
 
@@ -40,8 +41,11 @@ pub fn push_run(text: &mut Vec<u8>, innermost: &Loop, after: &Memory) -> Result<
     push_outs(text, innermost, after)
 }
 
-/// Appends the line that names a loop and its trip count.
-fn push_head(text: &mut Vec<u8>, innermost: &Loop, trip: u64) -> Result<(), OutOfMemory>
+/// Appends the line that names a loop and its trip count: the first line of a run.
+///
+/// # Errors
+/// Memory was refused. The text is left with a part of that.
+pub fn push_head(text: &mut Vec<u8>, innermost: &Loop, trip: u64) -> Result<(), OutOfMemory>
     ensures { OnOk result (text.new.items ≡ text.old.items ++ run_line innermost.now.name trip) }
 {
     push_both(text, "loop ", innermost.name().as_str())?;
@@ -56,15 +60,70 @@ fn push_arrays(text: &mut Vec<u8>, innermost: &Loop, after: &Memory) -> Result<(
 {
     let arrays = innermost.arrays();
     for number in 0..arrays.len() {
-        let array = &arrays[number];
-        let name = array.name.as_str();
-        push_cells(text, name, number, array.cells.as_slice(), after)?;
+        push_array(text, &arrays[number], number, after)?;
     }
     Ok(())
 }
 
-/// Appends the lines of the values that are live at the end, in order.
-fn push_outs(text: &mut Vec<u8>, innermost: &Loop, after: &Memory) -> Result<(), OutOfMemory>
+/// Appends the lines of the cells of an array that a run changed.
+fn push_array(
+    text: &mut Vec<u8>,
+    array: &Array,
+    number: usize,
+    after: &Memory,
+) -> Result<(), OutOfMemory>
+    requires { number < length after.now.arrays }
+    ensures { OnOk result ((opening : MemoryData) → get_or opening.arrays number [] ≡ opening_cells after.now.trip array.now.cells
+        → text.new.items ≡ text.old.items ++ cell_lines opening after.now number array.now.name) }
+{
+    let end = after.cells(number).len();
+    push_cells(
+        text,
+        array.name.as_str(),
+        number,
+        array.cells.as_slice(),
+        after,
+        0,
+        end,
+    )
+}
+
+/// Appends the lines of those cells of the array of this number that a run changed, in ascending order, of the cells from
+/// place `from` on and before place `end`. The cell -64 has place 0, and there are 128 more places than iterations.
+///
+/// # Errors
+/// Memory was refused. The text is left with a part of that.
+pub fn push_stretch(
+    text: &mut Vec<u8>,
+    innermost: &Loop,
+    after: &Memory,
+    number: usize,
+    from: usize,
+    end: usize,
+) -> Result<(), OutOfMemory>
+    requires shape { HasShapeOf innermost.now after.now }
+    requires number { number < length after.now.arrays }
+    requires order { from ≤ end }
+    requires within { end ≤ after.now.trip + 128 }
+    ensures { OnOk result ((d : Array) → text.new.items ≡ text.old.items ++ stretch_lines (opening_of innermost.now after.now.trip) after.now number (slice_index_or innermost.now.arrays number d).name from end) }
+{
+    let array = &innermost.arrays()[number];
+    push_cells(
+        text,
+        array.name.as_str(),
+        number,
+        array.cells.as_slice(),
+        after,
+        from,
+        end,
+    )
+}
+
+/// Appends the lines of the values that are live at the end, in order: the last lines of a run.
+///
+/// # Errors
+/// Memory was refused. The text is left with a part of that.
+pub fn push_outs(text: &mut Vec<u8>, innermost: &Loop, after: &Memory) -> Result<(), OutOfMemory>
     requires { length after.now.outs ≡ length innermost.now.outs }
     ensures { OnOk result (text.new.items ≡ text.old.items ++ out_lines innermost.now after.now) }
 {

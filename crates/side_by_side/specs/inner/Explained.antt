@@ -8,7 +8,7 @@ use Rattle.candidates.specs.Listings.{is_met}
 use Rattle.explain.specs.declared.file.Explained.{Explained}
 use Rattle.explain.specs.Explanations.{IsExplanationOf, IsToldOn}
 use Rattle.one_thread.specs.Files.{ArePrepared}
-use Rattle.side_by_side.specs.declared.parts.part.Part.{Part}
+use Rattle.text_parts.specs.declared.part.Part.{Part}
 
 -- what is told of a problem, with whether its choice is a kernel
 pub record IsExplainedPart (machine : MachineData) (problem : ProblemData) (part : Part) : Type 0 where

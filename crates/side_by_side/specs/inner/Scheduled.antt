@@ -7,7 +7,7 @@ use Rattle.candidates.specs.Listings.{is_met}
 use Rattle.one_thread.specs.Files.{ArePrepared}
 use Rattle.written.specs.Written.{Written}
 use Rattle.scheduled_printouts.specs.Graphs.{AreScheduledGraphs, DrawnData, IsDrawn}
-use Rattle.side_by_side.specs.declared.parts.part.Part.{Part}
+use Rattle.text_parts.specs.declared.part.Part.{Part}
 
 -- the graph of a problem, with whether its choice is a kernel
 pub record IsDrawnPart (problem : ProblemData) (part : Part) : Type 0 where

@@ -10,7 +10,6 @@ ghost use Rattle.printouts.specs.Schedule.{IsListingDocument};
 ghost use Rattle.side_by_side.specs.inner.Objects.{objects_text, without_comma};
 ghost use Rattle.side_by_side.specs.inner.Told.{IsCounted, number_failed_told, number_met_told, number_told, text_of_told};
 
-use crate::parts::joined::{append, room_for};
 use crate::parts::told::{ToldLoops, all_failed, all_met};
 use candidates::Listing;
 use file_faults::FileFault;
@@ -22,6 +21,7 @@ use printouts::document_printout;
 use settings::Settings;
 use std::alloc::Global;
 use std::thread::Threads;
+use text_parts::{append, room_for};
 use workers::{Told, tell_text};
 use writing::Text;
 use written::Printout;

@@ -7,11 +7,9 @@ ghost use Rattle.ims.specs.Problems.{ProblemData};
 ghost use Rattle.file_faults.specs.Answers.{AnswersOn};
 ghost use Rattle.explain_printouts.specs.Explain.{IsExplainText};
 ghost use Rattle.side_by_side.specs.inner.Explained.{ExplainsPrepared, IsExplainedPart};
-ghost use Rattle.side_by_side.specs.inner.Parts.{met_of};
+ghost use Rattle.text_parts.specs.Parts.{met_of};
 
 use crate::parts::jobs::loop_jobs;
-use crate::parts::joined::joined;
-use crate::parts::part::Part;
 use explain::{Explained, push_last, push_prepared};
 use explain_printouts::explain_text;
 use file_faults::FileFault;
@@ -22,6 +20,7 @@ use settings::Settings;
 use shared_jobs::{Jobs, parts_of};
 use std::alloc::Global;
 use std::thread::Threads;
+use text_parts::{Part, joined};
 use workers::prepare_by_workers;
 use written::Printout;
 

@@ -8,14 +8,13 @@ ghost use Rattle.candidates.specs.Texts.{listing_text_of, row_text};
 ghost use Rattle.candidates.specs.declared.listings.Row as row;
 ghost use Rattle.printouts.specs.Schedule.{are_met};
 
-use crate::parts::joined::{append, room_for};
-use crate::parts::part::Part;
 use candidates::{Listing, Row, write_row, write_version};
 use machine::OutOfMemory;
 use printouts::{are_met, listing_printout, push_counts};
 use shared_jobs::{Jobs, parts_of, shared};
 use std::alloc::Global;
 use std::thread::Threads;
+use text_parts::{Part, append, room_for};
 use written::Printout;
 
 /// About how much work it is to write the kernel of a loop, for each of its operations, in statements that are executed once.

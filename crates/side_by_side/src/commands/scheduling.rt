@@ -6,12 +6,10 @@ ghost use Rattle.graph.specs.Units.{first_lacking};
 ghost use Rattle.ims.specs.Problems.{ProblemData};
 ghost use Rattle.file_faults.specs.Answers.{AnswersOn};
 ghost use Rattle.scheduled_printouts.specs.Graphs.{AreScheduledGraphs};
-ghost use Rattle.side_by_side.specs.inner.Parts.{met_of};
+ghost use Rattle.text_parts.specs.Parts.{met_of};
 ghost use Rattle.side_by_side.specs.inner.Scheduled.{DrawsPrepared, IsDrawnPart};
 
 use crate::parts::jobs::loop_jobs;
-use crate::parts::joined::joined;
-use crate::parts::part::Part;
 use file_faults::FileFault;
 use ims::Prepared;
 use loops::Loop;
@@ -21,6 +19,7 @@ use settings::Settings;
 use shared_jobs::{Jobs, parts_of};
 use std::alloc::Global;
 use std::thread::Threads;
+use text_parts::{Part, joined};
 use workers::prepare_by_workers;
 use written::Printout;
 

@@ -13,8 +13,6 @@ ghost use Rattle.printouts.specs.Schedule.{IsListingText};
 ghost use Rattle.side_by_side.specs.inner.Told.{IsCounted, last_told, number_failed_told, number_told, outs_of, text_of_told, version_if};
 
 use crate::commands::listings::{ROOM, listing_printout_on};
-use crate::commands::runs::run_text_on;
-use crate::parted::Parted;
 use crate::parts::told::{ToldLoops, some_outs, told_apart, told_together};
 use candidates::{Listing, Row, write_row};
 use file_faults::FileFault;
@@ -22,8 +20,10 @@ use ims::Prepared;
 use machine::{Machine, OutOfMemory};
 use printouts::push_runs;
 use settings::{Settings, Trip};
+use shared_runs::run_text_on;
 use std::alloc::Global;
 use std::thread::Threads;
+use text_parts::Parted;
 use workers::{Told, tell_text};
 use written::Printout;
 

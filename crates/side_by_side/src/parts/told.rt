@@ -6,12 +6,10 @@ ghost use Rattle.machine_data.specs.declared.limits.TheConstants.{MAX_LOOPS};
 ghost use Rattle.candidates.specs.Texts.{has_outs};
 ghost use Rattle.side_by_side.specs.inner.Told.{IsCounted, last_told, number_failed_told, number_met_told, number_told, outs_of, text_of_told};
 
-use crate::parted::Parted;
-use crate::parts::joined::{append, room_for, texts_of};
-use crate::parts::part::HasText;
 use candidates::{Row, number_failed, number_met};
 use machine::OutOfMemory;
 use std::alloc::Global;
+use text_parts::{HasText, Parted, append, room_for, texts_of};
 use writing::{Text, push_last};
 use written::Printout;
 

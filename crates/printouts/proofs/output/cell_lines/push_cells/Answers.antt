@@ -1,8 +1,9 @@
-use Rattle.std.proofs.Common.{◌≡◌, ◌∙◌, ◌-ℤ◌, ◌+ℤ◌, ℕ, ℤ, List, [], get_or, pos, sym, ap, ap₂, arith, rules, nat_abs, w64, to_z, of_z}
+use Rattle.std.proofs.Common.{◌≡◌, ◌∙◌, ◌-◌, ◌-ℤ◌, ◌+ℤ◌, ◌++◌, ℕ, ℤ, List, [], get_or, map, pos, sym, ap, ap₂, arith, rules, nat_abs, w64, to_z, of_z}
+use Rattle.std.specs.List.{flat_map, range_with_len}
 use Rattle.std.proofs.lemmas.Int.{ints, to_z-of_z}
 use Rattle.loops.specs.Run.{cell_of, cell_index, opening_cells}
 use Rattle.printouts.specs.Plain.{changed_line, line_if_changed}
-use Rattle.printouts.proofs.PlainLines.{cell_more, cell_all}
+use Rattle.printouts.proofs.PlainLines.{stretch_more}
 use Rattle.printouts.proofs.output.cell_lines.push_cells.Goals as goal
 
 -- a cell by its place in a list of the array's cells
@@ -28,11 +29,12 @@ loop-index-preserved c = λ opening h.
     (same_kept ∙ c.kept_at-kept.ensures c.args.after.now.trip (omega (arith, c.cells-values.ensures.many))) in
     let is_value : value ≡ cell_of c.args.after.now.arrays number cell
     = read c.args.after.now.arrays number c.cells-values.result.now i cell value place c.cells-values.ensures.value same_value in
-    c.in_ok-push_changed.ensures ∙ cell_more (changed_line opening c.args.after.now number c.args.name.now) c.args.text.now.items c.loop-index.text.items _
-    c.args.after.now.trip i cell (omega (arith, c.cells-values.ensures.many)) place (c.loop-index.invariant opening h)
+    c.in_ok-push_changed.ensures ∙ stretch_more (changed_line opening c.args.after.now number c.args.name.now) c.args.text.now.items c.loop-index.text.items _
+    c.args.from i cell (omega arith) place (c.loop-index.invariant opening h)
     (ap₂ (λ (k v : ℤ). line_if_changed c.args.name.now cell k v) is_kept is_value)
 
 pub returns : goal.returns
 returns c = λ opening h.
-    cell_all opening c.args.after.now c.args.number c.args.name.now c.args.text.now.items c.loop-index.text.items c.loop-index.index
-    (omega (arith, c.cells-values.ensures.many)) (c.loop-index.invariant opening h)
+    let end : c.loop-index.index - c.args.from ≡ c.args.end - c.args.from = omega (arith, c.requires.order) in
+    c.loop-index.invariant opening h
+    ∙ ap (λ n. c.args.text.now.items ++ flat_map (changed_line opening c.args.after.now c.args.number c.args.name.now) (map (λ k. pos k -ℤ pos 64) (range_with_len c.args.from n))) end

@@ -1,4 +1,4 @@
-use Rattle.std.proofs.Common.{◌≡◌, ◌∙◌, ℕ, List, [], length, get_or, sym, ap, arith}
+use Rattle.std.proofs.Common.{◌≡◌, ◌∙◌, ℕ, List, [], length, get_or, refl, sym, ap, arith}
 use Rattle.loops.specs.Array.{Array}
 use Rattle.loops.specs.Run.{MemoryData, opening_cells, opening_of}
 use Rattle.printouts.specs.Plain.{cell_lines}
@@ -15,12 +15,11 @@ loop-number-preserved c =
     let long : length c.arrays-arrays.result.now ≡ length loop.arrays = ap length c.arrays-arrays.ensures.value in
     let is : get_or loop.arrays number array ≡ array
     = ap (λ (xs : List Array). get_or xs number array) (sym c.arrays-arrays.ensures.value) ∙ sym c.index-arrays-number.is in
-    let opens : get_or opening.arrays number [] ≡ opening_cells c.args.after.now.trip c.as_slice.result.now
-    = opening-array loop c.args.after.now.trip number array (omega arith) ∙ ap (opening_cells c.args.after.now.trip) (ap (λ (a : Array). a.cells) is ∙ sym c.as_slice.ensures) in
-    c.in_ok-push_cells.ensures opening opens
+    let opens : get_or opening.arrays number [] ≡ opening_cells c.args.after.now.trip array.cells
+    = opening-array loop c.args.after.now.trip number array (omega arith) ∙ ap (opening_cells c.args.after.now.trip) (ap (λ (a : Array). a.cells) is) in
+    c.in_ok-push_array.ensures opening opens
     ∙ array_more (λ (a : ℕ × Array). cell_lines opening c.args.after.now a.0 a.1.name) c.args.text.now.items c.loop-number.text.items _
-    loop.arrays number array (omega arith) is c.loop-number.invariant
-    (ap (λ (n : List ℕ). cell_lines opening c.args.after.now number n) c.as_str-name.ensures.value)
+    loop.arrays number array (omega arith) is c.loop-number.invariant refl
 
 pub returns : goal.returns
 returns c =

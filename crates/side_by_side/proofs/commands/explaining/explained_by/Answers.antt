@@ -1,8 +1,8 @@
 use Rattle.std.proofs.Common.{◌∙◌, ◌++◌, ◌-◌, List, ℕ, length, refl, ap, arith, of_calls, rules}
 use Rattle.std.specs.Prelude.{count_by}
 use Rattle.explain.specs.Explanations.{last_line}
-use Rattle.side_by_side.specs.declared.parts.part.Part.{Part}
-use Rattle.side_by_side.specs.inner.Parts.{met_of}
+use Rattle.text_parts.specs.declared.part.Part.{Part}
+use Rattle.text_parts.specs.Parts.{met_of}
 use Rattle.side_by_side.proofs.Explaining.{explanation}
 use Rattle.side_by_side.proofs.commands.explaining.explained_by.Goals as goal
 

@@ -2,7 +2,7 @@ use Rattle.std.proofs.Common.{◌≡◌, ◌∙◌, ◌++◌, ℕ, List, Vec, Gl
 use Rattle.std.specs.List.{flat_map}
 use Rattle.candidates.specs.Texts.{counts_line, row_text, version_text}
 use Rattle.candidates.specs.declared.listings.Row as row
-use Rattle.side_by_side.specs.inner.Parts.{text_of}
+use Rattle.text_parts.specs.Parts.{text_of}
 use Rattle.side_by_side.proofs.Listing.{listed, rows_joined}
 use Rattle.side_by_side.proofs.commands.listings.listing_by.Goals as goal
 

@@ -1,8 +1,8 @@
 use Rattle.std.proofs.Common.{◌∙◌, ℕ, Bool, List, sym, subst, ap, arith, of_calls, rules}
 use Rattle.std.specs.List.{list_all}
 use Rattle.scheduled_printouts.specs.Graphs.{AreDrawn}
-use Rattle.side_by_side.specs.declared.parts.part.Part.{Part}
-use Rattle.side_by_side.specs.inner.Parts.{met_of}
+use Rattle.text_parts.specs.declared.part.Part.{Part}
+use Rattle.text_parts.specs.Parts.{met_of}
 use Rattle.side_by_side.proofs.Scheduling.{drawn_parts}
 use Rattle.side_by_side.proofs.commands.scheduling.drawn_by.Goals as goal
 

@@ -1,0 +1,99 @@
+//! What `plain` writes.
+
+ghost use Rattle.std.specs.Prelude.{None, IfOk, IfSome};
+ghost use Rattle.file_faults.specs.Answers.{AnswersOn};
+ghost use Rattle.printouts.specs.Plain.{IsPlainText};
+ghost use Rattle.shared_runs.specs.inner.Made.{AreMadeOf};
+
+use crate::made::{Made, lines_of_all, made_in_order, made_of};
+use crate::work::{has_more, run_work, share_of};
+use file_faults::FileFault;
+use loops::Loop;
+use machine_data::OutOfMemory;
+use printouts::{plain_text, push_last};
+use settings::Trip;
+use shared_jobs::{parts_of, shared};
+use std::alloc::Global;
+use std::thread::Threads;
+use text_parts::{Parted, texts_of};
+
+/// What `plain` writes, by at most `workers` workers side by side. One worker starts no thread, and neither do loops whose
+/// runs are little work. Of a loop that is more than a worker's share of the work, one worker makes the run, and then all
+/// workers write its lines.
+///
+/// # Errors
+/// [`FileFault::Memory`], where the calling thread was refused memory.
+pub fn plain_text_on<R: Threads + Sync>(
+    rt: &R,
+    alloc: Global,
+    loops: &[Loop],
+    trip: Trip,
+    workers: usize,
+) -> Result<Parted, FileFault>
+    ensures { AnswersOn (IsPlainText trip loops.now) None result }
+{
+    // (Where memory is refused to the workers or for what they made, the calling thread may still have enough for one loop
+    // after another.)
+    if let Ok(Some(written)) = plain_by(rt, alloc, loops, trip, workers) {
+        return Ok(written);
+    }
+    Ok(Parted::whole(plain_text(alloc, loops, trip)?))
+}
+
+/// What `plain` writes, by workers, of what they make of loops. It is `None` where no thread is worth its start.
+fn plain_by<R: Threads + Sync>(
+    rt: &R,
+    alloc: Global,
+    loops: &[Loop],
+    trip: Trip,
+    workers: usize,
+) -> Result<Option<Parted>, OutOfMemory>
+    ensures { IfOk result (λ written. IfSome written (IsPlainText trip loops.now)) }
+{
+    let share = share_of(loops, trip, workers);
+    let Some(made) = made_by(rt, alloc, loops, trip, workers, share)? else {
+        return Ok(None);
+    };
+    let texts = lines_of_all(rt, alloc, loops, made, workers)?;
+    let mut last = Vec::new(alloc);
+    push_last(&mut last, loops.len() as u64)?;
+    let texts = texts_of(alloc, texts, last)?;
+    Ok(Some(Parted::of_texts(texts, true)))
+}
+
+/// What workers make of loops, or the calling thread, where there are too few loops for workers but one is more work than a
+/// share. It is `None` where no thread is worth its start.
+fn made_by<R: Threads + Sync>(
+    rt: &R,
+    alloc: Global,
+    loops: &[Loop],
+    trip: Trip,
+    workers: usize,
+    share: u64,
+) -> Result<Option<Vec<Made>>, OutOfMemory>
+    ensures { IfOk result (λ made. IfSome made (λ all. AreMadeOf trip loops.now all.items)) }
+{
+    let jobs = shared(
+        alloc,
+        loops.len(),
+        workers,
+        &|number| { run_work(&loops[number], trip) },
+    );
+    match jobs {
+        Some(jobs) => {
+            let made = parts_of(
+                rt,
+                alloc,
+                &jobs,
+                &|number| made_of(alloc, loops, trip, share, number),
+            )?;
+            Ok(Some(made))
+        }
+        None => {
+            if !has_more(loops, trip, share) {
+                return Ok(None);
+            }
+            Ok(Some(made_in_order(alloc, loops, trip, share)?))
+        }
+    }
+}

@@ -1,0 +1,2 @@
+-- How what a command writes is held.
+pub mod Held
