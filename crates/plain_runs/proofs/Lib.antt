@@ -5,6 +5,7 @@ pub mod Holding
 pub mod HoldingBlocks
 pub mod Independence
 pub mod Instancing
+pub mod Living
 pub mod Ordering
 pub mod Reordering
 pub mod RunningAlone

@@ -1,5 +1,6 @@
 //! Runs loops: the memory that a loop leaves, as the definition `plain` of `loop_data` says. The code goes
-//! through blocks of iterations, and in each block one group of statements after another. It serves the
+//! through blocks of iterations, and in each block one group of statements after another, without those
+//! whose values nobody reads. It serves the
 //! crates of this repository: other users take the crate `loops`, which passes its functions on.
 #![tactic(auto)]
 
@@ -14,6 +15,7 @@ mod filling;
 mod group;
 mod groups;
 mod iterate;
+mod live;
 mod order;
 mod ranks;
 mod resolve;
