@@ -1,4 +1,5 @@
 pub mod ColumnPlaces
+pub mod Copying
 pub mod Earlier
 pub mod Grouping
 pub mod Holding
