@@ -1,7 +1,7 @@
 //! Runs loops: the memory that a loop leaves, as the definition `plain` of `loop_data` says. The code goes
-//! through blocks of iterations, and in each block one group of statements after another, without those
-//! whose values nobody reads. It serves the
-//! crates of this repository: other users take the crate `loops`, which passes its functions on.
+//! through blocks of iterations, and in each block one group of statements after another. Statements whose
+//! values nobody reads are left out. It serves the crates of this repository: other users take the crate
+//! `loops`, which passes its functions on.
 #![tactic(auto)]
 
 mod act;
