@@ -7,6 +7,7 @@ pub mod HoldingBlocks
 pub mod Independence
 pub mod Instancing
 pub mod Living
+pub mod Members
 pub mod Ordering
 pub mod Reordering
 pub mod RunningAlone

@@ -2,4 +2,5 @@
 pub mod Blocks
 pub mod Orders
 pub mod Steps
+pub mod Together
 pub mod Turns

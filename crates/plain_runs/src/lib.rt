@@ -23,5 +23,6 @@ mod run;
 mod sources;
 mod step;
 mod storing;
+mod together;
 
 pub use run::{run_beginning, run_from, run_plain};
