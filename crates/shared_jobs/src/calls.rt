@@ -8,12 +8,13 @@ ghost use Rattle.shared_jobs.specs.inner.Changes.{AreChanged, IsChanged};
 
 use machine_data::OutOfMemory;
 use std::alloc::Global;
-use std::thread::{Threads, join, join_mut};
+use std::thread::{Threads, join, join_mut, yield_now};
 
 /// What `call` gives for each number below `count`, in order. Each call has a thread of its own where one can be started, and
 /// else the calling thread makes it. The calling thread starts all threads, one after another, and then waits for them.
 /// It does nothing else meanwhile: a system may put a new thread on the processor of the thread that started it, where it
-/// would wait although other processors are idle.
+/// would wait although other processors are idle. So each new thread first lets others run: else the calling thread, on the
+/// same processor, may have to wait before it starts the next one, on Linux for up to four milliseconds.
 ///
 /// # Errors
 /// Memory was refused. Then what the calls gave is lost.
@@ -35,7 +36,10 @@ pub fn call_in_threads<R: Threads + Sync, T: Send + Drop, F: Fn(usize) -> T + Sy
     let one = move || -> T
         requires { F.pre call.now last }
         ensures { FnReturns F.Fn call.entry.now (last, tt) result }
-    { call(last) };
+    {
+        yield_now();
+        call(last)
+    };
     let others = move || -> Result<Vec<T>, OutOfMemory>
         requires { IsSync R.row × IsSync F.row × IsSend T.row × (last < 2 ^ 64) × ((k : ℕ) → k < last → F.pre call.now k) }
         ensures { IfOk result (λ given. (vec_len given ≡ last) × GivesEach F.Fn call.entry.now last given.items) }
@@ -96,7 +100,10 @@ fn change_both<R: Threads + Sync, T: Send, F: Fn(usize, &mut T) + Sync>(
     let mut one = ||
         requires { AcceptsAt F.Fn call.now number own.now }
         ensures { IsChanged F.Fn call.entry.now number own.entry.now own.exit.now }
-    { change(call, number, own) };
+    {
+        yield_now();
+        change(call, number, own);
+    };
     let mut rest = ||
         requires { IsSync R.row × IsSync F.row × IsSend T.row × AcceptsEach F.Fn call.now others.now }
         ensures { AreChanged F.Fn call.entry.now others.entry.now others.exit.now }
@@ -124,9 +131,25 @@ pub fn both_in_threads<
     ensures first { F.post first result.0 }
     ensures second { G.post second result.1 }
 {
+    let one = move || -> A
+        requires { F.pre first }
+        ensures { F.post first result }
+    {
+        yield_now();
+        first()
+    };
     let other = move || -> B
         requires { G.pre second }
         ensures { G.post second result }
-    { join(rt, second, || ()).0 };
-    join(rt, first, other)
+    {
+        let last = move || -> B
+            requires { G.pre second }
+            ensures { G.post second result }
+        {
+            yield_now();
+            second()
+        };
+        join(rt, last, || ()).0
+    };
+    join(rt, one, other)
 }
