@@ -1,5 +1,5 @@
 -- The pieces of the arrays' lines, one after another, are the lines of the arrays.
-use Rattle.std.proofs.Common.{◌≡◌, ℕ, zero, suc, ℤ, pos, ◌+◌, ◌-◌, ◌*◌, ◌/◌, ◌%◌, ◌-ℤ◌, ◌<◌, ◌≤◌, List, [], ◌∷◌, ◌++◌, length, get_or, map, refl, sym, ap, ap₂, ◌∙◌, arith}
+use Rattle.std.proofs.Common.{◌≡◌, ℕ, zero, suc, ℤ, pos, ◌+◌, ◌-◌, ◌*◌, ◌/◌, ◌%◌, ◌-ℤ◌, ◌<◌, ◌≤◌, List, [], ◌∷◌, ◌++◌, length, get_or, map, refl, sym, ap, ap₂, ◌∙◌, ⊎_elim, length-append, arith}
 use Rattle.std.specs.List.{enumerate_from, flat_map, range_with_len}
 use Rattle.std.proofs.lemmas.Grind.{flat_map-append}
 use Rattle.std.proofs.lemmas.List.{append-nil, get_or_default, map-append}
@@ -10,7 +10,13 @@ use Rattle.loops.specs.Run.{MemoryData, opening_of}
 use Rattle.printouts.specs.Plain.{array_lines, cell_lines, cells_between, changed_line, stretch_lines}
 use Rattle.printouts.proofs.PlainLines.{cells_between-none, stretch_all}
 use Rattle.text_parts.proofs.Pieces.{flat_same}
-use Rattle.shared_runs.specs.inner.Pieces.{place_of, lines_of_piece, piece_lines}
+use Rattle.std.specs.Prelude.{Vec}
+use Rattle.std.specs.Global.{Global}
+use Rattle.std.proofs.Math.Seq.{get_or-append_seam}
+use Rattle.std.proofs.lemmas.Bool.{cases_lt}
+use Rattle.std.proofs.lemmas.List.{get_or_append_left}
+use Rattle.text_parts.specs.Parted.{joined_text}
+use Rattle.shared_runs.specs.inner.Pieces.{ArePieces, place_of, lines_of_piece, piece_lines}
 
 -- numbers one after another, in two parts
 range_parts : (a m n : ℕ) → range_with_len a (m + n) ≡ range_with_len a m ++ range_with_len (a + m) n
@@ -117,3 +123,46 @@ pieces_are_arrays loop after d =
     let here : 0 + k ≡ k = omega arith in
     ap line (get_or-enumerate_from 0 loop.arrays k y within ∙ ap₂ (λ (n : ℕ) (a : Array). (n, a)) here (get_or_default loop.arrays k y.1 d within))
     ∙ sym (ap of_array (get_or-range_with_len 0 (length loop.arrays) k x within ∙ here))))
+
+-- texts of pieces, one after another
+pieces_joined : (loop : LoopData) (after : MemoryData) (d : Array) (from : ℕ) (pieces : List (Vec ℕ Global)) → ArePieces loop after from pieces
+    → joined_text pieces ≡ flat_map (piece_lines loop after d) (range_with_len from (length pieces))
+pieces_joined loop after d from pieces are =
+    flat_same (piece_lines loop after d) (λ (text : Vec ℕ Global). text.items) (range_with_len from (length pieces)) pieces (sym (length-range_with_len from (length pieces)))
+    (λ k x text h.
+    let within : k < length pieces = omega (arith, h, length-range_with_len from (length pieces)) in
+    are.each k text d within ∙ ap (piece_lines loop after d) (sym (get_or-range_with_len from (length pieces) k x within)))
+
+-- the first ones and all others
+pub pieces_are_all : (loop : LoopData) (after : MemoryData) (d : Array) (first others : List (Vec ℕ Global)) → ArePieces loop after 0 first → ArePieces loop after (length first) others
+    → length first + length others ≡ length loop.arrays * 8 → joined_text first ++ joined_text others ≡ array_lines loop (opening_of loop after.trip) after
+pieces_are_all loop after d first others are rest many =
+    let pieces : ℕ → List ℕ = piece_lines loop after d in
+    let here : 0 + length first ≡ length first = omega arith in
+    ap₂ (λ (s t : List ℕ). s ++ t) (pieces_joined loop after d 0 first are) (pieces_joined loop after d (length first) others rest)
+    ∙ sym (flat_map-append pieces (range_with_len 0 (length first)) (range_with_len (length first) (length others)))
+    ∙ ap (λ k. flat_map pieces (range_with_len 0 (length first) ++ range_with_len k (length others))) (sym here)
+    ∙ ap (flat_map pieces) (sym (range_parts 0 (length first) (length others)))
+    ∙ ap (λ k. flat_map pieces (range_with_len 0 k)) many
+    ∙ pieces_are_arrays loop after d
+
+-- no piece
+pub no_pieces : (loop : LoopData) (after : MemoryData) (from : ℕ) → from ≤ length loop.arrays * 8 → ArePieces loop after from []
+no_pieces loop after from within = record {
+  few = omega (arith, within);
+  each = λ k t d h. absurd (omega (arith, h));
+}
+
+-- a piece more
+pub one_piece_more : (loop : LoopData) (after : MemoryData) (from : ℕ) (pieces : List (Vec ℕ Global)) (text : Vec ℕ Global) → ArePieces loop after from pieces
+    → from + length pieces < length loop.arrays * 8 → ((d : Array) → text.items ≡ piece_lines loop after d (from + length pieces)) → ArePieces loop after from (pieces ++ text ∷ [])
+one_piece_more loop after from pieces text are within told = record {
+  few = let long = length-append pieces (text ∷ []) in omega (arith, within, long);
+  each = λ k t d h.
+      ⊎_elim
+      (λ (before : k < length pieces). ap (λ (u : Vec ℕ Global). u.items) (get_or_append_left pieces (text ∷ []) t k before) ∙ are.each k t d before)
+      (λ (last : length pieces ≤ k).
+      let is : k ≡ length pieces = let long = length-append pieces (text ∷ []) in omega (arith, h, long, last) in
+      ap (λ n. (get_or (pieces ++ text ∷ []) n t).items) is ∙ ap (λ (u : Vec ℕ Global). u.items) (get_or-append_seam pieces text [] t) ∙ told d ∙ ap (λ n. piece_lines loop after d (from + n)) (sym is))
+      (cases_lt k (length pieces));
+}

@@ -6,6 +6,7 @@ mod halves;
 mod lines;
 mod made;
 mod plain;
+mod pool;
 mod runs;
 mod work;
 

@@ -1,16 +1,18 @@
 //! The lines of a run, by workers.
 
-ghost use Rattle.std.specs.Prelude.{◌≡◌, ◌*◌, ◌<◌, ◌++◌, IfOk, OnOk, length, vec_len};
+ghost use Rattle.std.specs.Prelude.{◌≡◌, ◌+◌, ◌*◌, ◌<◌, ◌≤◌, ◌++◌, IfOk, OnOk, length, vec_len};
 ghost use Rattle.std.specs.List.{All};
 ghost use Rattle.loops.specs.Array.{Array};
 ghost use Rattle.loops.specs.Run.{HasShapeOf, opening_of};
 ghost use Rattle.printouts.specs.Plain.{run_lines};
-ghost use Rattle.shared_runs.specs.inner.Pieces.{piece_lines};
+ghost use Rattle.machine_data.specs.declared.limits.TheConstants.{MAX_ARRAYS};
+ghost use Rattle.shared_runs.specs.inner.Pieces.{ArePieces, piece_lines};
 ghost use Rattle.text_parts.specs.Parted.{joined_text};
 
+use crate::pool::Pool;
 use loops::{Loop, Memory};
 use machine_data::OutOfMemory;
-use printouts::{push_head, push_outs, push_run, push_stretch};
+use printouts::{push_head, push_outs, push_stretch};
 use shared_jobs::{Jobs, parts_of, shared};
 use std::alloc::Global;
 use std::thread::Threads;
@@ -18,8 +20,8 @@ use std::thread::Threads;
 /// In how many pieces the lines of each array are written.
 const PIECES: usize = 8;
 
-/// The lines of a run of a loop from its opening memory to this one, as texts that stand one after another. At most `workers`
-/// workers write them side by side. One worker starts no thread, and neither do arrays that are few cells.
+/// The lines of a run of a loop from its opening memory to this one, as texts that stand one after another. The first pieces of them
+/// are there. At most `workers` workers write the others side by side. One worker starts no thread, and neither do few cells.
 ///
 /// # Errors
 /// The calling thread was refused memory.
@@ -28,43 +30,69 @@ pub(crate) fn run_texts<R: Threads + Sync>(
     alloc: Global,
     innermost: &Loop,
     after: &Memory,
+    begun: Vec<Vec<u8>>,
     workers: usize,
 ) -> Result<Vec<Vec<u8>>, OutOfMemory>
-    requires { HasShapeOf innermost.now after.now }
+    requires shape { HasShapeOf innermost.now after.now }
+    requires begun { ArePieces innermost.now after.now 0 begun.items }
     ensures { IfOk result (λ texts. joined_text texts.items ≡ run_lines innermost.now (opening_of innermost.now after.now.trip) after.now) }
 {
-    let pieces = innermost.arrays().len() * PIECES;
-    let jobs = shared(alloc, pieces, workers, &|_| after.trip() / PIECES as u64);
-    match jobs {
-        Some(jobs) => texts_by(rt, alloc, innermost, after, &jobs),
-        None => one_text(alloc, innermost, after),
-    }
-}
-
-/// The lines as one text.
-fn one_text(alloc: Global, innermost: &Loop, after: &Memory) -> Result<Vec<Vec<u8>>, OutOfMemory>
-    requires { HasShapeOf innermost.now after.now }
-    ensures { IfOk result (λ texts. joined_text texts.items ≡ run_lines innermost.now (opening_of innermost.now after.now.trip) after.now) }
-{
-    let mut text = Vec::new(alloc);
-    push_run(&mut text, innermost, after)?;
-    let mut texts = Vec::with_capacity(alloc, 1)?;
-    texts.push(text)?;
+    let others = other_pieces(rt, alloc, innermost, after, begun.len(), workers)?;
+    let mut head = Vec::new(alloc);
+    push_head(&mut head, innermost, after.trip())?;
+    let mut outs = Vec::new(alloc);
+    push_outs(&mut outs, innermost, after)?;
+    let many = begun.len().saturating_add(others.len());
+    let mut texts = Vec::with_capacity(alloc, many.saturating_add(2))?;
+    texts.push(head)?;
+    add_texts(&mut texts, begun)?;
+    add_texts(&mut texts, others)?;
+    texts.push(outs)?;
     Ok(texts)
 }
 
-/// The lines, of which these jobs write those of the arrays.
-fn texts_by<R: Threads + Sync>(
+/// The pieces of the arrays' lines from one on.
+fn other_pieces<R: Threads + Sync>(
     rt: &R,
     alloc: Global,
     innermost: &Loop,
     after: &Memory,
+    from: usize,
+    workers: usize,
+) -> Result<Vec<Vec<u8>>, OutOfMemory>
+    requires shape { HasShapeOf innermost.now after.now }
+    requires within { from ≤ length innermost.now.arrays * 8 }
+    ensures many { IfOk result (λ pieces. from + length pieces.items ≡ length innermost.now.arrays * 8) }
+    ensures each { IfOk result (λ pieces. ArePieces innermost.now after.now from pieces.items) }
+{
+    let count = innermost.arrays().len() * PIECES;
+    let left = count - from;
+    let jobs = shared(alloc, left, workers, &|_| after.trip() / PIECES as u64);
+    if let Some(jobs) = jobs {
+        return pieces_by(rt, alloc, innermost, after, from, &jobs);
+    }
+    let mut pieces = Vec::with_capacity(alloc, left)?;
+    for number in from..count {
+        pieces.push(piece_text(alloc, innermost, after, number)?)?;
+    }
+    Ok(pieces)
+}
+
+/// The pieces from one on, by these jobs.
+fn pieces_by<R: Threads + Sync>(
+    rt: &R,
+    alloc: Global,
+    innermost: &Loop,
+    after: &Memory,
+    from: usize,
     jobs: &Jobs,
 ) -> Result<Vec<Vec<u8>>, OutOfMemory>
     requires shape { HasShapeOf innermost.now after.now }
-    requires each { vec_len jobs.now.list ≡ length innermost.now.arrays * 8 }
-    requires within { All (λ (j : _). j.number < length innermost.now.arrays * 8) jobs.now.list.items }
-    ensures { IfOk result (λ texts. joined_text texts.items ≡ run_lines innermost.now (opening_of innermost.now after.now.trip) after.now) }
+    requires few { length innermost.now.arrays ≤ MAX_ARRAYS }
+    requires each { from + vec_len jobs.now.list ≡ length innermost.now.arrays * 8 }
+    requires within { All (λ (j : _). j.number < vec_len jobs.now.list) jobs.now.list.items }
+    ensures many { IfOk result (λ pieces. from + length pieces.items ≡ length innermost.now.arrays * 8) }
+    ensures each { IfOk result (λ pieces. ArePieces innermost.now after.now from pieces.items) }
 {
     let pieces = parts_of(
         rt,
@@ -72,18 +100,36 @@ fn texts_by<R: Threads + Sync>(
         jobs,
         &|number|
             requires shape { HasShapeOf innermost.now after.now }
-            requires within { number < length innermost.now.arrays * 8 }
-        { piece_text(alloc, innermost, after, number) },
+            requires few { length innermost.now.arrays ≤ MAX_ARRAYS }
+            requires within { from + number < length innermost.now.arrays * 8 }
+        { piece_text(alloc, innermost, after, from + number) },
     )?;
-    let mut head = Vec::new(alloc);
-    push_head(&mut head, innermost, after.trip())?;
-    let mut outs = Vec::new(alloc);
-    push_outs(&mut outs, innermost, after)?;
-    let mut texts = Vec::with_capacity(alloc, pieces.len().saturating_add(2))?;
-    texts.push(head)?;
-    add_texts(&mut texts, pieces)?;
-    texts.push(outs)?;
-    Ok(texts)
+    Ok(pieces)
+}
+
+/// The first pieces of the arrays' lines, which one worker of a pool writes for as long as no other worker has to wait for that.
+///
+/// # Errors
+/// Memory was refused.
+pub(crate) fn first_pieces(
+    alloc: Global,
+    innermost: &Loop,
+    after: &Memory,
+    pool: &Pool,
+) -> Result<Vec<Vec<u8>>, OutOfMemory>
+    requires { HasShapeOf innermost.now after.now }
+    ensures { IfOk result (λ pieces. ArePieces innermost.now after.now 0 pieces.items) }
+{
+    pool.begin_lines();
+    let mut pieces = Vec::new(alloc);
+    for number in 0..innermost.arrays().len() * PIECES {
+        if pool.others_wait() {
+            break;
+        }
+        pieces.push(piece_text(alloc, innermost, after, number)?)?;
+    }
+    pool.end_lines();
+    Ok(pieces)
 }
 
 /// Adds the texts of pieces that are not empty. (Those of an array that the run leaves as it was are empty.)

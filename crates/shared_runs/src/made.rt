@@ -7,7 +7,8 @@ ghost use Rattle.loops.specs.Run.{opening_of, plain};
 ghost use Rattle.shared_runs.specs.inner.Made.{AreMadeOf, Fits, IsMadeOf, bytes_of};
 ghost use Rattle.text_parts.specs.Parted.{joined_text};
 
-use crate::lines::run_texts;
+use crate::lines::{first_pieces, run_texts};
+use crate::pool::Pool;
 use crate::work::run_work;
 use loops::{Loop, Memory, run_plain};
 use machine_data::OutOfMemory;
@@ -20,19 +21,20 @@ use text_parts::move_texts;
 /// What is made of a loop.
 #[derive(Drop)]
 pub(crate) enum Made {
-    /// The memory that the run of the loop of this number leaves. Its lines are still to be written.
-    After(usize, Memory),
+    /// The memory that the run of the loop of this number leaves, and the first pieces of its lines. The others are still to be written.
+    After(usize, Memory, Vec<Vec<u8>>),
     /// The lines of the run.
     Text(Vec<u8>),
 }
 
-/// What one worker makes of the loop of a number: the memory after its run, where that is more work than a share, and else
-/// the lines of the run.
+/// What one worker makes of the loop of a number: the lines of its run, or where that is more work than a share, the memory after it
+/// and lines for as long as no other worker has to wait for that.
 pub(crate) fn made_of(
     alloc: Global,
     loops: &[Loop],
     trip: Trip,
     share: u64,
+    pool: &Pool,
     number: usize,
 ) -> Result<Made, OutOfMemory>
     requires { number < length loops.now }
@@ -41,10 +43,13 @@ pub(crate) fn made_of(
     let innermost = &loops[number];
     if run_work(innermost, trip) > share {
         let after = memory_after(alloc, innermost, trip)?;
-        return Ok(Made::After(number, after));
+        pool.end_run();
+        let begun = first_pieces(alloc, innermost, &after, pool)?;
+        return Ok(Made::After(number, after, begun));
     }
     let mut text = Vec::new(alloc);
     push_plain(alloc, &mut text, innermost, trip)?;
+    pool.end_run();
     Ok(Made::Text(text))
 }
 
@@ -61,12 +66,13 @@ pub(crate) fn made_in_order(
     loops: &[Loop],
     trip: Trip,
     share: u64,
+    pool: &Pool,
 ) -> Result<Vec<Made>, OutOfMemory>
     ensures { IfOk result (λ made. AreMadeOf trip loops.now made.items) }
 {
     let mut made = Vec::with_capacity(alloc, loops.len())?;
     for number in 0..loops.len() {
-        made.push(made_of(alloc, loops, trip, share, number)?)?;
+        made.push(made_of(alloc, loops, trip, share, pool, number)?)?;
     }
     Ok(made)
 }
@@ -120,8 +126,8 @@ fn add_lines<R: Threads + Sync>(
     ensures { OnOk result ((d : LoopData) → joined_text texts.new.items ≡ joined_text texts.old.items ++ bytes_of loops.now d made) }
 {
     match made {
-        Made::After(number, memory) => {
-            let lines = run_texts(rt, alloc, &loops[number], &memory, workers)?;
+        Made::After(number, memory, begun) => {
+            let lines = run_texts(rt, alloc, &loops[number], &memory, begun, workers)?;
             move_texts(texts, lines)
         }
         Made::Text(text) => {

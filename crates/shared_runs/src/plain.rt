@@ -6,6 +6,7 @@ ghost use Rattle.printouts.specs.Plain.{IsPlainText};
 ghost use Rattle.shared_runs.specs.inner.Made.{AreMadeOf};
 
 use crate::made::{Made, lines_of_all, made_in_order, made_of};
+use crate::pool::Pool;
 use crate::work::{has_more, run_work, share_of};
 use file_faults::FileFault;
 use loops::Loop;
@@ -18,8 +19,8 @@ use std::thread::Threads;
 use text_parts::{Parted, texts_of};
 
 /// What `plain` writes, by at most `workers` workers side by side. One worker starts no thread, and neither do loops whose
-/// runs are little work. Of a loop that is more than a worker's share of the work, one worker makes the run, and then all
-/// workers write its lines.
+/// runs are little work. Of a loop that is more than half of a worker's share of the work, one worker makes the run. It
+/// also writes lines of it while the others have work of their own. What is left then, all workers write.
 ///
 /// # Errors
 /// [`FileFault::Memory`], where the calling thread was refused memory.
@@ -81,11 +82,12 @@ fn made_by<R: Threads + Sync>(
     );
     match jobs {
         Some(jobs) => {
+            let pool = Pool::new(workers, loops.len());
             let made = parts_of(
                 rt,
                 alloc,
                 &jobs,
-                &|number| made_of(alloc, loops, trip, share, number),
+                &|number| made_of(alloc, loops, trip, share, &pool, number),
             )?;
             Ok(Some(made))
         }
@@ -93,7 +95,9 @@ fn made_by<R: Threads + Sync>(
             if !has_more(loops, trip, share) {
                 return Ok(None);
             }
-            Ok(Some(made_in_order(alloc, loops, trip, share)?))
+            // (nobody else is at work, so that all lines of such a run are left to all workers)
+            let pool = Pool::new(workers, 0);
+            Ok(Some(made_in_order(alloc, loops, trip, share, &pool)?))
         }
     }
 }

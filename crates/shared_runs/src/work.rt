@@ -17,8 +17,8 @@ pub(crate) fn run_work(innermost: &Loop, trip: Trip) -> u64 {
     (steps as u64).saturating_mul(trip.count())
 }
 
-/// The work of one of `workers` workers, if they shared the runs of loops evenly. Of a run that is more work than this, they
-/// write the lines together. It is never so much work where there is only one worker, and neither is a run that is little.
+/// Half of the work of one of `workers` workers, if they shared the runs of loops evenly. Of a run that is more work than this,
+/// all of them may write the lines. It is never so much work where there is only one worker, and neither is a run that is little.
 pub(crate) fn share_of(loops: &[Loop], trip: Trip, workers: usize) -> u64 {
     if workers < 2 {
         return u64::MAX;
@@ -27,7 +27,7 @@ pub(crate) fn share_of(loops: &[Loop], trip: Trip, workers: usize) -> u64 {
     for innermost in loops {
         all = all.saturating_add(run_work(innermost, trip));
     }
-    LARGE.max(all / workers as u64)
+    LARGE.max(all / workers as u64 / 2)
 }
 
 /// Whether the run of some loop is more work than this.

@@ -4,18 +4,21 @@ use Rattle.std.specs.List.{slice_index_or}
 use Rattle.loops.specs.Loops.{LoopData}
 use Rattle.loops.specs.Run.{HasShapeOf, opening_of}
 use Rattle.printouts.specs.Plain.{plain_lines, run_lines}
+use Rattle.shared_runs.specs.inner.Pieces.{ArePieces}
 use Rattle.shared_runs.specs.declared.made.Made.{Made}
 use Rattle.shared_runs.specs.declared.made.Made.TheVariants.{After, Text}
 
 -- the lines that it stands for
 abbrev pub bytes_of : List LoopData → LoopData → Made → List ℕ
-bytes_of loops d (After number memory) =
+bytes_of loops d (After number memory begun) =
     run_lines (slice_index_or loops number d) (opening_of (slice_index_or loops number d) memory.trip) memory
 bytes_of loops d (Text text) = text.items
 
--- a memory is that of a loop
+-- a memory is that of a loop, and pieces are those of its lines
 abbrev pub Fits : List LoopData → Made → Type 0
-Fits loops (After number memory) = (number < length loops) × ((d : LoopData) → HasShapeOf (slice_index_or loops number d) memory)
+Fits loops (After number memory begun) =
+    (number < length loops) × ((d : LoopData) → HasShapeOf (slice_index_or loops number d) memory)
+    × ((d : LoopData) → ArePieces (slice_index_or loops number d) memory 0 begun.items)
 Fits loops (Text text) = Unit {0}
 
 -- it was made of the loop of this number

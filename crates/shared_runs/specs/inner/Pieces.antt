@@ -1,5 +1,6 @@
 -- The lines of the arrays of a run in pieces, eight for each array.
-use Rattle.std.specs.Prelude.{ℕ, ◌+◌, ◌*◌, ◌/◌, ◌%◌, List, min}
+use Rattle.std.specs.Prelude.{◌≡◌, ℕ, ◌+◌, ◌*◌, ◌/◌, ◌%◌, ◌<◌, ◌≤◌, List, Vec, length, min}
+use Rattle.std.specs.Global.{Global}
 use Rattle.std.specs.List.{slice_index_or}
 use Rattle.loops.specs.Array.{Array}
 use Rattle.loops.specs.Loops.{LoopData}
@@ -18,3 +19,8 @@ lines_of_piece loop after d array piece =
 -- of the piece of this number, where those of the first array come first
 abbrev pub piece_lines : LoopData → MemoryData → Array → ℕ → List ℕ
 piece_lines loop after d number = lines_of_piece loop after d (number / 8) (number % 8)
+
+-- texts are those of pieces one after another, from one on
+pub record ArePieces (loop : LoopData) (after : MemoryData) (from : ℕ) (pieces : List (Vec ℕ Global)) : Type 0 where
+  pub few : from + length pieces ≤ length loop.arrays * 8
+  pub each : (k : ℕ) (t : Vec ℕ Global) (d : Array) → k < length pieces → (slice_index_or pieces k t).items ≡ piece_lines loop after d (from + k)

@@ -4,6 +4,7 @@ use Rattle.loops.specs.Loops.{LoopData}
 use Rattle.loops.specs.Run.{HasShapeOf, MemoryData, opening_of, plain}
 use Rattle.printouts.specs.Plain.{plain_lines, run_lines}
 use Rattle.printouts.proofs.Shapes.{opening_trip, plain_shape, plain_trip}
+use Rattle.shared_runs.specs.inner.Pieces.{ArePieces}
 use Rattle.shared_runs.proofs.made.made_of.Goals as goal
 
 pub returns-then-run_work-share : goal.returns-then-run_work-share
@@ -19,9 +20,12 @@ returns-then-run_work-share c =
     = ap (λ (m : MemoryData). m.trip) left ∙ plain_trip loop (opening_of loop c.args.trip) ∙ opening_trip loop c.args.trip in
     let shape : HasShapeOf loop after = subst (HasShapeOf loop) (sym left) (plain_shape loop c.args.trip) in
     record {
-      fits = (c.requires, λ d. subst (λ (l : LoopData). HasShapeOf l after) (sym (is d)) shape);
+      fits = (c.requires, λ d. subst (λ (l : LoopData). HasShapeOf l after) (sym (is d)) shape, λ d. subst (λ (l : LoopData). ArePieces l after 0 c.in_ok-begun.begun.items) (sym (is d)) c.in_ok-begun.ensures);
       lines = λ d e.
           ap (λ (l : LoopData). run_lines l (opening_of l after.trip) after) (is d)
           ∙ ap₂ (λ (n : ℕ) (m : MemoryData). run_lines loop (opening_of loop n) m) trip left
           ∙ sym (ap (plain_lines c.args.trip) (is e));
     }
+
+pub first_pieces-requires : goal.first_pieces-requires
+first_pieces-requires c = subst (HasShapeOf c.index-loops-number.result) (sym c.in_ok-after.ensures) (plain_shape c.index-loops-number.result c.args.trip)

@@ -1,0 +1,9 @@
+use Rattle.std.proofs.Common.{◌≡◌, length}
+use Rattle.shared_runs.specs.inner.Pieces.{ArePieces}
+use Rattle.shared_runs.proofs.lines.first_pieces.Given as goal
+
+abbrev pub invariant-loop-number : goal.invariant-loop-number
+invariant-loop-number l = record {
+  many : length l.pieces.items ≡ l.number;
+  each : ArePieces l.innermost l.after 0 l.pieces.items;
+}
