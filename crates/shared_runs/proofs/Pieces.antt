@@ -1,5 +1,5 @@
 -- The pieces of the arrays' lines, one after another, are the lines of the arrays.
-use Rattle.std.proofs.Common.{◌≡◌, ℕ, zero, suc, ℤ, pos, ◌+◌, ◌-◌, ◌*◌, ◌/◌, ◌%◌, ◌-ℤ◌, ◌<◌, ◌≤◌, List, [], ◌∷◌, ◌++◌, length, get_or, map, refl, sym, ap, ap₂, ◌∙◌, ⊎_elim, length-append, arith}
+use Rattle.std.proofs.Common.{◌≡◌, ℕ, zero, suc, ℤ, pos, ◌+◌, ◌-◌, ◌*◌, ◌/◌, ◌%◌, ◌-ℤ◌, ◌<◌, ◌≤◌, List, [], ◌∷◌, ◌++◌, length, get_or, map, refl, sym, ap, ap₂, ◌∙◌, arith}
 use Rattle.std.specs.List.{enumerate_from, flat_map, range_with_len}
 use Rattle.std.proofs.lemmas.Grind.{flat_map-append}
 use Rattle.std.proofs.lemmas.List.{append-nil, get_or_default, map-append}
@@ -12,9 +12,6 @@ use Rattle.printouts.proofs.PlainLines.{cells_between-none, stretch_all}
 use Rattle.text_parts.proofs.Pieces.{flat_same}
 use Rattle.std.specs.Prelude.{Vec}
 use Rattle.std.specs.Global.{Global}
-use Rattle.std.proofs.Math.Seq.{get_or-append_seam}
-use Rattle.std.proofs.lemmas.Bool.{cases_lt}
-use Rattle.std.proofs.lemmas.List.{get_or_append_left}
 use Rattle.text_parts.specs.Parted.{joined_text}
 use Rattle.shared_runs.specs.inner.Pieces.{ArePieces, place_of, lines_of_piece, piece_lines}
 
@@ -108,7 +105,7 @@ pieces_of_arrays loop after d (suc n) =
     ∙ ap (λ k. flat_map lines (range_with_len 0 k)) next
 
 -- of all arrays
-pub pieces_are_arrays : (loop : LoopData) (after : MemoryData) (d : Array)
+pieces_are_arrays : (loop : LoopData) (after : MemoryData) (d : Array)
     → flat_map (piece_lines loop after d) (range_with_len 0 (length loop.arrays * 8)) ≡ array_lines loop (opening_of loop after.trip) after
 pieces_are_arrays loop after d =
     let opening : MemoryData = opening_of loop after.trip in
@@ -145,24 +142,3 @@ pieces_are_all loop after d first others are rest many =
     ∙ ap (flat_map pieces) (sym (range_parts 0 (length first) (length others)))
     ∙ ap (λ k. flat_map pieces (range_with_len 0 k)) many
     ∙ pieces_are_arrays loop after d
-
--- no piece
-pub no_pieces : (loop : LoopData) (after : MemoryData) (from : ℕ) → from ≤ length loop.arrays * 8 → ArePieces loop after from []
-no_pieces loop after from within = record {
-  few = omega (arith, within);
-  each = λ k t d h. absurd (omega (arith, h));
-}
-
--- a piece more
-pub one_piece_more : (loop : LoopData) (after : MemoryData) (from : ℕ) (pieces : List (Vec ℕ Global)) (text : Vec ℕ Global) → ArePieces loop after from pieces
-    → from + length pieces < length loop.arrays * 8 → ((d : Array) → text.items ≡ piece_lines loop after d (from + length pieces)) → ArePieces loop after from (pieces ++ text ∷ [])
-one_piece_more loop after from pieces text are within told = record {
-  few = let long = length-append pieces (text ∷ []) in omega (arith, within, long);
-  each = λ k t d h.
-      ⊎_elim
-      (λ (before : k < length pieces). ap (λ (u : Vec ℕ Global). u.items) (get_or_append_left pieces (text ∷ []) t k before) ∙ are.each k t d before)
-      (λ (last : length pieces ≤ k).
-      let is : k ≡ length pieces = let long = length-append pieces (text ∷ []) in omega (arith, h, long, last) in
-      ap (λ n. (get_or (pieces ++ text ∷ []) n t).items) is ∙ ap (λ (u : Vec ℕ Global). u.items) (get_or-append_seam pieces text [] t) ∙ told d ∙ ap (λ n. piece_lines loop after d (from + n)) (sym is))
-      (cases_lt k (length pieces));
-}

@@ -67,7 +67,8 @@ fn other_pieces<R: Threads + Sync>(
 {
     let count = innermost.arrays().len() * PIECES;
     let left = count - from;
-    let jobs = shared(alloc, left, workers, &|_| after.trip() / PIECES as u64);
+    // (the line of a cell is about as much work as eight statements, and a piece has an eighth of the cells of an array)
+    let jobs = shared(alloc, left, workers, &|_| after.trip());
     if let Some(jobs) = jobs {
         return pieces_by(rt, alloc, innermost, after, from, &jobs);
     }
