@@ -27,13 +27,13 @@ pub(crate) enum Made {
     Text(Vec<u8>),
 }
 
-/// What one worker makes of the loop of a number: the lines of its run, or where that is more work than a share, the memory after it
+/// What one worker makes of the loop of a number: the lines of its run, or where that is more work than `alone`, the memory after it
 /// and lines for as long as no other worker has to wait for that.
 pub(crate) fn made_of(
     alloc: Global,
     loops: &[Loop],
     trip: Trip,
-    share: u64,
+    alone: u64,
     pool: &Pool,
     number: usize,
 ) -> Result<Made, OutOfMemory>
@@ -41,7 +41,7 @@ pub(crate) fn made_of(
     ensures { IfOk result (IsMadeOf trip loops.now number) }
 {
     let innermost = &loops[number];
-    if run_work(innermost, trip) > share {
+    if run_work(innermost, trip) > alone {
         let after = memory_after(alloc, innermost, trip)?;
         pool.end_run();
         let begun = first_pieces(alloc, innermost, &after, pool)?;
@@ -65,14 +65,14 @@ pub(crate) fn made_in_order(
     alloc: Global,
     loops: &[Loop],
     trip: Trip,
-    share: u64,
+    alone: u64,
     pool: &Pool,
 ) -> Result<Vec<Made>, OutOfMemory>
     ensures { IfOk result (λ made. AreMadeOf trip loops.now made.items) }
 {
     let mut made = Vec::with_capacity(alloc, loops.len())?;
     for number in 0..loops.len() {
-        made.push(made_of(alloc, loops, trip, share, pool, number)?)?;
+        made.push(made_of(alloc, loops, trip, alone, pool, number)?)?;
     }
     Ok(made)
 }

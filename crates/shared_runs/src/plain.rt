@@ -7,7 +7,7 @@ ghost use Rattle.shared_runs.specs.inner.Made.{AreMadeOf};
 
 use crate::made::{Made, lines_of_all, made_in_order, made_of};
 use crate::pool::Pool;
-use crate::work::{has_more, run_work, share_of};
+use crate::work::{has_more, most_alone, run_work};
 use file_faults::FileFault;
 use loops::Loop;
 use machine_data::OutOfMemory;
@@ -51,8 +51,8 @@ fn plain_by<R: Threads + Sync>(
 ) -> Result<Option<Parted>, OutOfMemory>
     ensures { IfOk result (λ written. IfSome written (IsPlainText trip loops.now)) }
 {
-    let share = share_of(loops, trip, workers);
-    let Some(made) = made_by(rt, alloc, loops, trip, workers, share)? else {
+    let alone = most_alone(loops, trip, workers);
+    let Some(made) = made_by(rt, alloc, loops, trip, workers, alone)? else {
         return Ok(None);
     };
     let texts = lines_of_all(rt, alloc, loops, made, workers)?;
@@ -62,15 +62,15 @@ fn plain_by<R: Threads + Sync>(
     Ok(Some(Parted::of_texts(texts, true)))
 }
 
-/// What workers make of loops, or the calling thread, where there are too few loops for workers but one is more work than a
-/// share. It is `None` where no thread is worth its start.
+/// What workers make of loops, or the calling thread, where there are too few loops for workers but one is more work than
+/// `alone`. It is `None` where no thread is worth its start.
 fn made_by<R: Threads + Sync>(
     rt: &R,
     alloc: Global,
     loops: &[Loop],
     trip: Trip,
     workers: usize,
-    share: u64,
+    alone: u64,
 ) -> Result<Option<Vec<Made>>, OutOfMemory>
     ensures { IfOk result (λ made. IfSome made (λ all. AreMadeOf trip loops.now all.items)) }
 {
@@ -87,17 +87,17 @@ fn made_by<R: Threads + Sync>(
                 rt,
                 alloc,
                 &jobs,
-                &|number| made_of(alloc, loops, trip, share, &pool, number),
+                &|number| made_of(alloc, loops, trip, alone, &pool, number),
             )?;
             Ok(Some(made))
         }
         None => {
-            if !has_more(loops, trip, share) {
+            if !has_more(loops, trip, alone) {
                 return Ok(None);
             }
             // (nobody else is at work, so that all lines of such a run are left to all workers)
             let pool = Pool::new(workers, 0);
-            Ok(Some(made_in_order(alloc, loops, trip, share, &pool)?))
+            Ok(Some(made_in_order(alloc, loops, trip, alone, &pool)?))
         }
     }
 }

@@ -17,9 +17,9 @@ pub(crate) fn run_work(innermost: &Loop, trip: Trip) -> u64 {
     (steps as u64).saturating_mul(trip.count())
 }
 
-/// Half of the work of one of `workers` workers, if they shared the runs of loops evenly. Of a run that is more work than this,
-/// all of them may write the lines. It is never so much work where there is only one worker, and neither is a run that is little.
-pub(crate) fn share_of(loops: &[Loop], trip: Trip, workers: usize) -> u64 {
+/// The most work of a run that one of `workers` workers makes alone, lines and all: half of the work of each, if they shared all runs
+/// evenly, but no less than what is worth sharing. There is no such limit for one worker.
+pub(crate) fn most_alone(loops: &[Loop], trip: Trip, workers: usize) -> u64 {
     if workers < 2 {
         return u64::MAX;
     }
@@ -31,8 +31,8 @@ pub(crate) fn share_of(loops: &[Loop], trip: Trip, workers: usize) -> u64 {
 }
 
 /// Whether the run of some loop is more work than this.
-pub(crate) fn has_more(loops: &[Loop], trip: Trip, share: u64) -> bool {
+pub(crate) fn has_more(loops: &[Loop], trip: Trip, alone: u64) -> bool {
     loops
         .iter()
-        .any(|innermost| run_work(innermost, trip) > share)
+        .any(|innermost| run_work(innermost, trip) > alone)
 }

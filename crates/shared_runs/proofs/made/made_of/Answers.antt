@@ -7,9 +7,9 @@ use Rattle.printouts.proofs.Shapes.{opening_trip, plain_shape, plain_trip}
 use Rattle.shared_runs.specs.inner.Pieces.{ArePieces}
 use Rattle.shared_runs.proofs.made.made_of.Goals as goal
 
-pub returns-then-run_work-share : goal.returns-then-run_work-share
+pub returns-then-run_work-alone : goal.returns-then-run_work-alone
 unfolding plain_lines
-returns-then-run_work-share c =
+returns-then-run_work-alone c =
     let loops = c.args.loops.now in
     let number = c.args.number in
     let loop : LoopData = c.index-loops-number.result in
