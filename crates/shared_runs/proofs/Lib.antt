@@ -1,2 +1,3 @@
 pub mod Joining
-mod Pieces
+mod LineList
+mod PieceLines

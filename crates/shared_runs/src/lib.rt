@@ -5,6 +5,7 @@
 mod halves;
 mod lines;
 mod made;
+mod pieces;
 mod plain;
 mod pool;
 mod runs;

@@ -1,169 +1,246 @@
-//! The lines of a run, by workers.
+//! The lines of all that workers made of loops, in order.
 
-ghost use Rattle.std.specs.Prelude.{◌≡◌, ◌+◌, ◌*◌, ◌<◌, ◌≤◌, ◌++◌, IfOk, OnOk, length, vec_len};
-ghost use Rattle.std.specs.List.{All};
+ghost use Rattle.std.specs.Prelude.{◌≡◌, ◌-◌, ◌*◌, ◌<◌, ◌≤◌, ◌++◌, IfOk, OnOk, length, slice_index_or};
+ghost use Rattle.std.specs.Arc.{arc_value};
+ghost use Rattle.std.specs.List.{All, flat_map, range_with_len};
 ghost use Rattle.loops.specs.Array.{Array};
+ghost use Rattle.loops.specs.Loops.{LoopData};
 ghost use Rattle.loops.specs.Run.{HasShapeOf, opening_of};
 ghost use Rattle.printouts.specs.Plain.{run_lines};
-ghost use Rattle.machine_data.specs.declared.limits.TheConstants.{MAX_ARRAYS};
+ghost use Rattle.shared_runs.specs.inner.Lines.{AreWritten, IsPiece, bytes_in, bytes_left};
+ghost use Rattle.shared_runs.specs.inner.Made.{Fits, bytes_of};
 ghost use Rattle.shared_runs.specs.inner.Pieces.{ArePieces, piece_lines};
 ghost use Rattle.text_parts.specs.Parted.{joined_text};
 
-use crate::pool::Pool;
+use crate::made::Made;
+use crate::pieces::{count_of, piece_text};
 use loops::{Loop, Memory};
 use machine_data::OutOfMemory;
-use printouts::{push_head, push_outs, push_stretch};
-use shared_jobs::{Jobs, parts_of, shared};
+use printouts::{push_head, push_outs};
+use shared_jobs::{parts_of, shared};
 use std::alloc::Global;
+use std::sync::Arc;
 use std::thread::Threads;
 
-/// In how many pieces the lines of each array are written.
-const PIECES: usize = 8;
+/// Lines that stand together in what `plain` writes.
+#[derive(Drop)]
+pub(crate) enum Lines<'a> {
+    /// They are written.
+    Written(Vec<u8>),
+    /// They are the piece of this number of the run of a loop to a memory, and still to be written.
+    Left(&'a Loop, Arc<Memory>, usize),
+}
 
-/// The lines of a run of a loop from its opening memory to this one, as texts that stand one after another. The first pieces of them
-/// are there. At most `workers` workers write the others side by side. One worker starts no thread, and neither do few cells.
+/// The lines of all that was made of loops, in order, as texts that stand one after another. At most `workers` workers write
+/// what is left of them, that of all loops at once.
 ///
 /// # Errors
 /// The calling thread was refused memory.
-pub(crate) fn run_texts<R: Threads + Sync>(
+pub(crate) fn lines_of_all<R: Threads + Sync>(
     rt: &R,
     alloc: Global,
-    innermost: &Loop,
-    after: &Memory,
-    begun: Vec<Vec<u8>>,
+    loops: &[Loop],
+    made: Vec<Made>,
     workers: usize,
 ) -> Result<Vec<Vec<u8>>, OutOfMemory>
-    requires shape { HasShapeOf innermost.now after.now }
-    requires begun { ArePieces innermost.now after.now 0 begun.items }
-    ensures { IfOk result (λ texts. joined_text texts.items ≡ run_lines innermost.now (opening_of innermost.now after.now.trip) after.now) }
+    requires { All (Fits loops.now) made.items }
+    ensures { IfOk result (λ texts. (d : LoopData) → joined_text texts.items ≡ flat_map (bytes_of loops.now d) made.items) }
 {
-    let others = other_pieces(rt, alloc, innermost, after, begun.len(), workers)?;
-    let mut head = Vec::new(alloc);
-    push_head(&mut head, innermost, after.trip())?;
-    let mut outs = Vec::new(alloc);
-    push_outs(&mut outs, innermost, after)?;
-    let many = begun.len().saturating_add(others.len());
-    let mut texts = Vec::with_capacity(alloc, many.saturating_add(2))?;
-    texts.push(head)?;
-    add_texts(&mut texts, begun)?;
-    add_texts(&mut texts, others)?;
-    texts.push(outs)?;
-    Ok(texts)
+    let lines = all_lines(alloc, loops, made)?;
+    let left = left_texts(rt, alloc, lines.as_slice(), workers)?;
+    texts_in_order(alloc, lines, left)
 }
 
-/// The pieces of the arrays' lines from one on.
-fn other_pieces<R: Threads + Sync>(
-    rt: &R,
-    alloc: Global,
-    innermost: &Loop,
-    after: &Memory,
-    from: usize,
-    workers: usize,
-) -> Result<Vec<Vec<u8>>, OutOfMemory>
-    requires shape { HasShapeOf innermost.now after.now }
-    requires within { from ≤ length innermost.now.arrays * 8 }
-    ensures many { IfOk result (λ pieces. from + length pieces.items ≡ length innermost.now.arrays * 8) }
-    ensures each { IfOk result (λ pieces. ArePieces innermost.now after.now from pieces.items) }
+/// The same, with what is still to be written.
+fn all_lines(alloc: Global, loops: &[Loop], made: Vec<Made>) -> Result<Vec<Lines<'_>>, OutOfMemory>
+    requires { All (Fits loops.now) made.items }
+    ensures pieces { IfOk result (λ lines. All IsPiece lines.items) }
+    ensures text { IfOk result (λ lines. (d : LoopData) (e : Array) → flat_map (bytes_in e) lines.items ≡ flat_map (bytes_of loops.now d) made.items) }
 {
-    let count = innermost.arrays().len() * PIECES;
-    let left = count - from;
-    // (the line of a cell is about as much work as eight statements, and a piece has an eighth of the cells of an array)
-    let jobs = shared(alloc, left, workers, &|_| after.trip());
-    if let Some(jobs) = jobs {
-        return pieces_by(rt, alloc, innermost, after, from, &jobs);
+    let mut lines = Vec::with_capacity(alloc, made.len())?;
+    let mut made = made.into_iter();
+    while let Some(one) = made.next() {
+        add_made(alloc, &mut lines, loops, one)?;
     }
-    let mut pieces = Vec::with_capacity(alloc, left)?;
-    for number in from..count {
-        pieces.push(piece_text(alloc, innermost, after, number)?)?;
-    }
-    Ok(pieces)
+    Ok(lines)
 }
 
-/// The pieces from one on, by these jobs.
-fn pieces_by<R: Threads + Sync>(
-    rt: &R,
+/// Adds the lines of what was made of a loop.
+fn add_made<'a>(
     alloc: Global,
-    innermost: &Loop,
-    after: &Memory,
-    from: usize,
-    jobs: &Jobs,
-) -> Result<Vec<Vec<u8>>, OutOfMemory>
-    requires shape { HasShapeOf innermost.now after.now }
-    requires few { length innermost.now.arrays ≤ MAX_ARRAYS }
-    requires each { from + vec_len jobs.now.list ≡ length innermost.now.arrays * 8 }
-    requires within { All (λ (j : _). j.number < vec_len jobs.now.list) jobs.now.list.items }
-    ensures many { IfOk result (λ pieces. from + length pieces.items ≡ length innermost.now.arrays * 8) }
-    ensures each { IfOk result (λ pieces. ArePieces innermost.now after.now from pieces.items) }
+    lines: &mut Vec<Lines<'a>>,
+    loops: &'a [Loop],
+    made: Made,
+) -> Result<(), OutOfMemory>
+    requires { Fits loops.now made }
+    ensures pieces { OnOk result (All IsPiece lines.old.items → All IsPiece lines.new.items) }
+    ensures text { OnOk result ((d : LoopData) (e : Array) → flat_map (bytes_in e) lines.new.items ≡ flat_map (bytes_in e) lines.old.items ++ bytes_of loops.now d made) }
 {
-    let pieces = parts_of(
-        rt,
-        alloc,
-        jobs,
-        &|number|
-            requires shape { HasShapeOf innermost.now after.now }
-            requires few { length innermost.now.arrays ≤ MAX_ARRAYS }
-            requires within { from + number < length innermost.now.arrays * 8 }
-        { piece_text(alloc, innermost, after, from + number) },
-    )?;
-    Ok(pieces)
-}
-
-/// The first pieces of the arrays' lines, which one worker of a pool writes for as long as no other worker has to wait for that.
-///
-/// # Errors
-/// Memory was refused.
-pub(crate) fn first_pieces(
-    alloc: Global,
-    innermost: &Loop,
-    after: &Memory,
-    pool: &Pool,
-) -> Result<Vec<Vec<u8>>, OutOfMemory>
-    requires { HasShapeOf innermost.now after.now }
-    ensures { IfOk result (λ pieces. ArePieces innermost.now after.now 0 pieces.items) }
-{
-    pool.begin_lines();
-    let mut pieces = Vec::new(alloc);
-    for number in 0..innermost.arrays().len() * PIECES {
-        if pool.others_wait() {
-            break;
+    match made {
+        Made::After(number, memory, begun) => {
+            add_run(alloc, lines, &loops[number], memory, begun)?;
         }
-        pieces.push(piece_text(alloc, innermost, after, number)?)?;
-    }
-    pool.end_lines();
-    Ok(pieces)
-}
-
-/// Adds the texts of pieces that are not empty. (Those of an array that the run leaves as it was are empty.)
-fn add_texts(texts: &mut Vec<Vec<u8>>, pieces: Vec<Vec<u8>>) -> Result<(), OutOfMemory>
-    ensures { OnOk result (joined_text texts.new.items ≡ joined_text texts.old.items ++ joined_text pieces.items) }
-{
-    let mut pieces = pieces.into_iter();
-    while let Some(piece) = pieces.next() {
-        if !piece.is_empty() {
-            texts.push(piece)?;
-        }
+        Made::Text(text) => lines.push(Lines::Written(text))?,
     }
     Ok(())
 }
 
-/// The lines of a piece of an array.
-fn piece_text(
+/// Adds the lines of a run of a loop from its opening memory to this one. The first pieces of them are there.
+fn add_run<'a>(
     alloc: Global,
-    innermost: &Loop,
-    after: &Memory,
-    number: usize,
-) -> Result<Vec<u8>, OutOfMemory>
-    requires shape { HasShapeOf innermost.now after.now }
-    requires within { number < length innermost.now.arrays * 8 }
-    ensures { IfOk result (λ text. (d : Array) → text.items ≡ piece_lines innermost.now after.now d number) }
+    lines: &mut Vec<Lines<'a>>,
+    innermost: &'a Loop,
+    after: Memory,
+    begun: Vec<Vec<u8>>,
+) -> Result<(), OutOfMemory>
+    requires shape { HasShapeOf innermost.now after }
+    requires begun { ArePieces innermost.now after 0 begun.items }
+    ensures pieces { OnOk result (All IsPiece lines.old.items → All IsPiece lines.new.items) }
+    ensures text { OnOk result ((e : Array) → flat_map (bytes_in e) lines.new.items ≡ flat_map (bytes_in e) lines.old.items ++ run_lines innermost.now (opening_of innermost.now after.trip) after) }
 {
-    let array = number / PIECES;
-    let piece = number % PIECES;
-    let cells = after.cells(array).len();
-    let size = cells / PIECES + 1;
-    let from = cells.min(piece * size);
-    let end = cells.min((piece + 1) * size);
-    let mut text = Vec::new(alloc);
-    push_stretch(&mut text, innermost, after, array, from, end)?;
-    Ok(text)
+    let mut head = Vec::new(alloc);
+    push_head(&mut head, innermost, after.trip())?;
+    let mut outs = Vec::new(alloc);
+    push_outs(&mut outs, innermost, &after)?;
+    let from = begun.len();
+    lines.push(Lines::Written(head))?;
+    add_begun(lines, begun)?;
+    add_left(alloc, lines, innermost, after, from)?;
+    lines.push(Lines::Written(outs))?;
+    Ok(())
+}
+
+/// Adds pieces that are written.
+fn add_begun(lines: &mut Vec<Lines<'_>>, begun: Vec<Vec<u8>>) -> Result<(), OutOfMemory>
+    ensures pieces { OnOk result (All IsPiece lines.old.items → All IsPiece lines.new.items) }
+    ensures text { OnOk result ((e : Array) → flat_map (bytes_in e) lines.new.items ≡ flat_map (bytes_in e) lines.old.items ++ joined_text begun.items) }
+{
+    let mut begun = begun.into_iter();
+    while let Some(text) = begun.next() {
+        lines.push(Lines::Written(text))?;
+    }
+    Ok(())
+}
+
+/// Adds the pieces of the lines of a run from one on, which are still to be written.
+fn add_left<'a>(
+    alloc: Global,
+    lines: &mut Vec<Lines<'a>>,
+    innermost: &'a Loop,
+    after: Memory,
+    from: usize,
+) -> Result<(), OutOfMemory>
+    requires shape { HasShapeOf innermost.now after }
+    requires within { from ≤ length innermost.now.arrays * 8 }
+    ensures pieces { OnOk result (All IsPiece lines.old.items → All IsPiece lines.new.items) }
+    ensures text { OnOk result ((e : Array) → flat_map (bytes_in e) lines.new.items
+        ≡ flat_map (bytes_in e) lines.old.items ++ flat_map (piece_lines innermost.now after e) (range_with_len from (length innermost.now.arrays * 8 - from))) }
+{
+    let after = Arc::new(alloc, after)?;
+    for number in from..count_of(innermost) {
+        lines.push(Lines::Left(innermost, Arc::try_clone(&after)?, number))?;
+    }
+    Ok(())
+}
+
+/// The texts of these lines, one for each, as far as they are still to be written. Of those that are written they are empty. At most
+/// `workers` workers write them side by side. One worker starts no thread, and neither do few cells.
+fn left_texts<R: Threads + Sync>(
+    rt: &R,
+    alloc: Global,
+    lines: &[Lines<'_>],
+    workers: usize,
+) -> Result<Vec<Vec<u8>>, OutOfMemory>
+    requires { All IsPiece lines.now }
+    ensures { IfOk result (λ texts. AreWritten lines.now texts.items) }
+{
+    let jobs = shared(
+        alloc,
+        lines.len(),
+        workers,
+        &|number| left_work(&lines[number]),
+    );
+    if let Some(jobs) = jobs {
+        let written = parts_of(rt, alloc, &jobs, &|number| text_at(alloc, lines, number))?;
+        return Ok(written);
+    }
+    let mut texts = Vec::with_capacity(alloc, lines.len())?;
+    for number in 0..lines.len() {
+        texts.push(text_at(alloc, lines, number)?)?;
+    }
+    Ok(texts)
+}
+
+/// About how much work it is to write these lines. (The line of a cell is about as much work as eight statements, and a piece has an
+/// eighth of the cells of an array.)
+fn left_work(lines: &Lines<'_>) -> u64 {
+    match lines {
+        Lines::Written(_) => 0,
+        Lines::Left(_, after, _) => after.trip(),
+    }
+}
+
+/// The text of the lines at a place, if they are still to be written, and else none.
+fn text_at(alloc: Global, lines: &[Lines<'_>], number: usize) -> Result<Vec<u8>, OutOfMemory>
+    requires number { number < length lines.now }
+    requires pieces { All IsPiece lines.now }
+    ensures { IfOk result (λ text. (e : Array) (l : Lines) → text.items ≡ bytes_left e (slice_index_or lines.now number l)) }
+{
+    left_text(alloc, &lines[number])
+}
+
+/// The text of these lines, if they are still to be written, and else none.
+fn left_text(alloc: Global, lines: &Lines<'_>) -> Result<Vec<u8>, OutOfMemory>
+    requires { IsPiece lines.now }
+    ensures { IfOk result (λ text. (e : Array) → text.items ≡ bytes_left e lines.now) }
+{
+    match lines {
+        Lines::Written(_) => Ok(Vec::new(alloc)),
+        Lines::Left(innermost, after, number) => piece_text(alloc, innermost, after, *number),
+    }
+}
+
+/// The texts of lines, in order, where `left` has those that were still to be written. Empty ones are left out. (The pieces of an array
+/// that the run leaves as it was are empty.)
+fn texts_in_order(
+    alloc: Global,
+    lines: Vec<Lines<'_>>,
+    left: Vec<Vec<u8>>,
+) -> Result<Vec<Vec<u8>>, OutOfMemory>
+    requires { AreWritten lines.items left.items }
+    ensures { IfOk result (λ texts. (e : Array) → joined_text texts.items ≡ flat_map (bytes_in e) lines.entry.items) }
+{
+    let mut texts = Vec::with_capacity(alloc, lines.len())?;
+    let mut left = left.into_iter();
+    let mut lines = lines.into_iter();
+    while let Some(one) = lines.next() {
+        // (there are as many texts as lines)
+        let Some(text) = left.next() else {
+            break;
+        };
+        add_lines(&mut texts, one, text)?;
+    }
+    Ok(texts)
+}
+
+/// Adds the text of lines, where `left` has it if it was still to be written.
+fn add_lines(texts: &mut Vec<Vec<u8>>, lines: Lines<'_>, left: Vec<u8>) -> Result<(), OutOfMemory>
+    requires { (e : Array) → left.items ≡ bytes_left e lines }
+    ensures { OnOk result ((e : Array) → joined_text texts.new.items ≡ joined_text texts.old.items ++ bytes_in e lines.entry) }
+{
+    match lines {
+        Lines::Written(text) => add_text(texts, text)?,
+        Lines::Left(..) => add_text(texts, left)?,
+    }
+    Ok(())
+}
+
+/// Adds a text, unless it is empty.
+fn add_text(texts: &mut Vec<Vec<u8>>, text: Vec<u8>) -> Result<(), OutOfMemory>
+    ensures { OnOk result (joined_text texts.new.items ≡ joined_text texts.old.items ++ text.items) }
+{
+    if !text.is_empty() {
+        texts.push(text)?;
+    }
+    Ok(())
 }

@@ -5,7 +5,8 @@ ghost use Rattle.file_faults.specs.Answers.{AnswersOn};
 ghost use Rattle.printouts.specs.Plain.{IsPlainText};
 ghost use Rattle.shared_runs.specs.inner.Made.{AreMadeOf};
 
-use crate::made::{Made, lines_of_all, made_in_order, made_of};
+use crate::lines::lines_of_all;
+use crate::made::{Made, made_in_order, made_of};
 use crate::pool::Pool;
 use crate::work::{has_more, most_alone, run_work};
 use file_faults::FileFault;
@@ -87,7 +88,7 @@ fn made_by<R: Threads + Sync>(
                 rt,
                 alloc,
                 &jobs,
-                &|number| made_of(alloc, loops, trip, alone, &pool, number),
+                &|number| made_of(alloc, loops, trip, alone, Some(&pool), number),
             )?;
             Ok(Some(made))
         }
@@ -95,9 +96,7 @@ fn made_by<R: Threads + Sync>(
             if !has_more(loops, trip, alone) {
                 return Ok(None);
             }
-            // (nobody else is at work, so that all lines of such a run are left to all workers)
-            let pool = Pool::new(workers, 0);
-            Ok(Some(made_in_order(alloc, loops, trip, alone, &pool)?))
+            Ok(Some(made_in_order(alloc, loops, trip, alone)?))
         }
     }
 }

@@ -27,5 +27,5 @@ returns-then-run_work-alone c =
           ∙ sym (ap (plain_lines c.args.trip) (is e));
     }
 
-pub first_pieces-requires : goal.first_pieces-requires
-first_pieces-requires c = subst (HasShapeOf c.index-loops-number.result) (sym c.in_ok-after.ensures) (plain_shape c.index-loops-number.result c.args.trip)
+pub begun_lines-requires : goal.begun_lines-requires
+begun_lines-requires c = subst (HasShapeOf c.index-loops-number.result) (sym c.in_ok-after.ensures) (plain_shape c.index-loops-number.result c.args.trip)

@@ -16,7 +16,7 @@ use Rattle.text_parts.specs.Parted.{joined_text}
 use Rattle.shared_runs.specs.inner.Pieces.{ArePieces, place_of, lines_of_piece, piece_lines}
 
 -- numbers one after another, in two parts
-range_parts : (a m n : ℕ) → range_with_len a (m + n) ≡ range_with_len a m ++ range_with_len (a + m) n
+pub range_parts : (a m n : ℕ) → range_with_len a (m + n) ≡ range_with_len a m ++ range_with_len (a + m) n
 range_parts a zero n =
     let none : 0 + n ≡ n = omega arith in
     let same : a ≡ a + 0 = omega arith in
@@ -131,14 +131,16 @@ pieces_joined loop after d from pieces are =
     are.each k text d within ∙ ap (piece_lines loop after d) (sym (get_or-range_with_len from (length pieces) k x within)))
 
 -- the first ones and all others
-pub pieces_are_all : (loop : LoopData) (after : MemoryData) (d : Array) (first others : List (Vec ℕ Global)) → ArePieces loop after 0 first → ArePieces loop after (length first) others
-    → length first + length others ≡ length loop.arrays * 8 → joined_text first ++ joined_text others ≡ array_lines loop (opening_of loop after.trip) after
-pieces_are_all loop after d first others are rest many =
+pub pieces_are_all : (loop : LoopData) (after : MemoryData) (d : Array) (first : List (Vec ℕ Global)) → ArePieces loop after 0 first
+    → joined_text first ++ flat_map (piece_lines loop after d) (range_with_len (length first) (length loop.arrays * 8 - length first)) ≡ array_lines loop (opening_of loop after.trip) after
+pieces_are_all loop after d first are =
     let pieces : ℕ → List ℕ = piece_lines loop after d in
+    let left : ℕ = length loop.arrays * 8 - length first in
     let here : 0 + length first ≡ length first = omega arith in
-    ap₂ (λ (s t : List ℕ). s ++ t) (pieces_joined loop after d 0 first are) (pieces_joined loop after d (length first) others rest)
-    ∙ sym (flat_map-append pieces (range_with_len 0 (length first)) (range_with_len (length first) (length others)))
-    ∙ ap (λ k. flat_map pieces (range_with_len 0 (length first) ++ range_with_len k (length others))) (sym here)
-    ∙ ap (flat_map pieces) (sym (range_parts 0 (length first) (length others)))
+    let many : length first + left ≡ length loop.arrays * 8 = omega (arith, are.few) in
+    ap (λ t. t ++ flat_map pieces (range_with_len (length first) left)) (pieces_joined loop after d 0 first are)
+    ∙ sym (flat_map-append pieces (range_with_len 0 (length first)) (range_with_len (length first) left))
+    ∙ ap (λ k. flat_map pieces (range_with_len 0 (length first) ++ range_with_len k left)) (sym here)
+    ∙ ap (flat_map pieces) (sym (range_parts 0 (length first) left))
     ∙ ap (λ k. flat_map pieces (range_with_len 0 k)) many
     ∙ pieces_are_arrays loop after d
