@@ -1,7 +1,6 @@
 //! The lines of all that workers made of loops, in order.
 
 ghost use Rattle.std.specs.Prelude.{◌≡◌, ◌-◌, ◌*◌, ◌<◌, ◌≤◌, ◌++◌, IfOk, OnOk, length, slice_index_or};
-ghost use Rattle.std.specs.Arc.{arc_value};
 ghost use Rattle.std.specs.List.{All, flat_map, range_with_len};
 ghost use Rattle.loops.specs.Array.{Array};
 ghost use Rattle.loops.specs.Loops.{LoopData};

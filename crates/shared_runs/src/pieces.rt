@@ -1,6 +1,6 @@
 //! The lines of the arrays of a run, in pieces.
 
-ghost use Rattle.std.specs.Prelude.{◌≡◌, ◌*◌, ◌<◌, ◌≤◌, IfOk, length};
+ghost use Rattle.std.specs.Prelude.{◌≡◌, ◌*◌, ◌<◌, IfOk, length};
 ghost use Rattle.loops.specs.Array.{Array};
 ghost use Rattle.loops.specs.Run.{HasShapeOf};
 ghost use Rattle.shared_runs.specs.inner.Pieces.{ArePieces, piece_lines};
