@@ -122,23 +122,24 @@ pieces_are_arrays loop after d =
     ∙ sym (ap of_array (get_or-range_with_len 0 (length loop.arrays) k x within ∙ here))))
 
 -- texts of pieces, one after another
-pieces_joined : (loop : LoopData) (after : MemoryData) (d : Array) (from : ℕ) (pieces : List (Vec ℕ Global)) → ArePieces loop after from pieces
-    → joined_text pieces ≡ flat_map (piece_lines loop after d) (range_with_len from (length pieces))
-pieces_joined loop after d from pieces are =
-    flat_same (piece_lines loop after d) (λ (text : Vec ℕ Global). text.items) (range_with_len from (length pieces)) pieces (sym (length-range_with_len from (length pieces)))
+pieces_joined : (loop : LoopData) (after : MemoryData) (d : Array) (pieces : List (Vec ℕ Global)) → ArePieces loop after pieces
+    → joined_text pieces ≡ flat_map (piece_lines loop after d) (range_with_len 0 (length pieces))
+pieces_joined loop after d pieces are =
+    flat_same (piece_lines loop after d) (λ (text : Vec ℕ Global). text.items) (range_with_len 0 (length pieces)) pieces (sym (length-range_with_len 0 (length pieces)))
     (λ k x text h.
-    let within : k < length pieces = omega (arith, h, length-range_with_len from (length pieces)) in
-    are.each k text d within ∙ ap (piece_lines loop after d) (sym (get_or-range_with_len from (length pieces) k x within)))
+    let within : k < length pieces = omega (arith, h, length-range_with_len 0 (length pieces)) in
+    let here : 0 + k ≡ k = omega arith in
+    are.each k text d within ∙ ap (piece_lines loop after d) (sym (get_or-range_with_len 0 (length pieces) k x within ∙ here)))
 
 -- the first ones and all others
-pub pieces_are_all : (loop : LoopData) (after : MemoryData) (d : Array) (first : List (Vec ℕ Global)) → ArePieces loop after 0 first
+pub pieces_are_all : (loop : LoopData) (after : MemoryData) (d : Array) (first : List (Vec ℕ Global)) → ArePieces loop after first
     → joined_text first ++ flat_map (piece_lines loop after d) (range_with_len (length first) (length loop.arrays * 8 - length first)) ≡ array_lines loop (opening_of loop after.trip) after
 pieces_are_all loop after d first are =
     let pieces : ℕ → List ℕ = piece_lines loop after d in
     let left : ℕ = length loop.arrays * 8 - length first in
     let here : 0 + length first ≡ length first = omega arith in
     let many : length first + left ≡ length loop.arrays * 8 = omega (arith, are.few) in
-    ap (λ t. t ++ flat_map pieces (range_with_len (length first) left)) (pieces_joined loop after d 0 first are)
+    ap (λ t. t ++ flat_map pieces (range_with_len (length first) left)) (pieces_joined loop after d first are)
     ∙ sym (flat_map-append pieces (range_with_len 0 (length first)) (range_with_len (length first) left))
     ∙ ap (λ k. flat_map pieces (range_with_len 0 (length first) ++ range_with_len k left)) (sym here)
     ∙ ap (flat_map pieces) (sym (range_parts 0 (length first) left))

@@ -50,7 +50,7 @@ pub(crate) fn lines_of_all<R: Threads + Sync>(
     texts_in_order(alloc, lines, left)
 }
 
-/// The same, with what is still to be written.
+/// The lines of all that was made of loops, in order, some of them still to be written.
 fn all_lines(alloc: Global, loops: &[Loop], made: Vec<Made>) -> Result<Vec<Lines<'_>>, OutOfMemory>
     requires { All (Fits loops.now) made.items }
     ensures pieces { IfOk result (λ lines. All IsPiece lines.items) }
@@ -93,7 +93,7 @@ fn add_run<'a>(
     begun: Vec<Vec<u8>>,
 ) -> Result<(), OutOfMemory>
     requires shape { HasShapeOf innermost.now after }
-    requires begun { ArePieces innermost.now after 0 begun.items }
+    requires begun { ArePieces innermost.now after begun.items }
     ensures pieces { OnOk result (All IsPiece lines.old.items → All IsPiece lines.new.items) }
     ensures text { OnOk result ((e : Array) → flat_map (bytes_in e) lines.new.items ≡ flat_map (bytes_in e) lines.old.items ++ run_lines innermost.now (opening_of innermost.now after.trip) after) }
 {

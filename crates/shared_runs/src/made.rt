@@ -58,7 +58,7 @@ fn begun_lines(
     pool: Option<&Pool>,
 ) -> Result<Vec<Vec<u8>>, OutOfMemory>
     requires { HasShapeOf innermost.now after.now }
-    ensures { IfOk result (λ pieces. ArePieces innermost.now after.now 0 pieces.items) }
+    ensures { IfOk result (λ pieces. ArePieces innermost.now after.now pieces.items) }
 {
     let Some(pool) = pool else {
         return Ok(Vec::new(alloc));

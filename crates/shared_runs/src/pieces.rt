@@ -32,7 +32,7 @@ pub(crate) fn first_pieces(
     pool: &Pool,
 ) -> Result<Vec<Vec<u8>>, OutOfMemory>
     requires { HasShapeOf innermost.now after.now }
-    ensures { IfOk result (λ pieces. ArePieces innermost.now after.now 0 pieces.items) }
+    ensures { IfOk result (λ pieces. ArePieces innermost.now after.now pieces.items) }
 {
     pool.begin_lines();
     let pieces = pieces_for_now(alloc, innermost, after, pool);
@@ -48,7 +48,7 @@ fn pieces_for_now(
     pool: &Pool,
 ) -> Result<Vec<Vec<u8>>, OutOfMemory>
     requires { HasShapeOf innermost.now after.now }
-    ensures { IfOk result (λ pieces. ArePieces innermost.now after.now 0 pieces.items) }
+    ensures { IfOk result (λ pieces. ArePieces innermost.now after.now pieces.items) }
 {
     let mut pieces = Vec::new(alloc);
     for number in 0..count_of(innermost) {

@@ -18,7 +18,7 @@ bytes_of loops d (Text text) = text.items
 abbrev pub Fits : List LoopData → Made → Type 0
 Fits loops (After number memory begun) =
     (number < length loops) × ((d : LoopData) → HasShapeOf (slice_index_or loops number d) memory)
-    × ((d : LoopData) → ArePieces (slice_index_or loops number d) memory 0 begun.items)
+    × ((d : LoopData) → ArePieces (slice_index_or loops number d) memory begun.items)
 Fits loops (Text text) = Unit {0}
 
 -- it was made of the loop of this number

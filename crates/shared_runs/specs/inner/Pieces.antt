@@ -20,7 +20,7 @@ lines_of_piece loop after d array piece =
 abbrev pub piece_lines : LoopData → MemoryData → Array → ℕ → List ℕ
 piece_lines loop after d number = lines_of_piece loop after d (number / 8) (number % 8)
 
--- texts are those of pieces one after another, from one on
-pub record ArePieces (loop : LoopData) (after : MemoryData) (from : ℕ) (pieces : List (Vec ℕ Global)) : Type 0 where
-  pub few : from + length pieces ≤ length loop.arrays * 8
-  pub each : (k : ℕ) (t : Vec ℕ Global) (d : Array) → k < length pieces → (slice_index_or pieces k t).items ≡ piece_lines loop after d (from + k)
+-- texts are those of the first pieces, one after another
+pub record ArePieces (loop : LoopData) (after : MemoryData) (pieces : List (Vec ℕ Global)) : Type 0 where
+  pub few : length pieces ≤ length loop.arrays * 8
+  pub each : (k : ℕ) (t : Vec ℕ Global) (d : Array) → k < length pieces → (slice_index_or pieces k t).items ≡ piece_lines loop after d k

@@ -20,7 +20,7 @@ returns-then-run_work-alone c =
     = ap (λ (m : MemoryData). m.trip) left ∙ plain_trip loop (opening_of loop c.args.trip) ∙ opening_trip loop c.args.trip in
     let shape : HasShapeOf loop after = subst (HasShapeOf loop) (sym left) (plain_shape loop c.args.trip) in
     record {
-      fits = (c.requires, λ d. subst (λ (l : LoopData). HasShapeOf l after) (sym (is d)) shape, λ d. subst (λ (l : LoopData). ArePieces l after 0 c.in_ok-begun.begun.items) (sym (is d)) c.in_ok-begun.ensures);
+      fits = (c.requires, λ d. subst (λ (l : LoopData). HasShapeOf l after) (sym (is d)) shape, λ d. subst (λ (l : LoopData). ArePieces l after c.in_ok-begun.begun.items) (sym (is d)) c.in_ok-begun.ensures);
       lines = λ d e.
           ap (λ (l : LoopData). run_lines l (opening_of l after.trip) after) (is d)
           ∙ ap₂ (λ (n : ℕ) (m : MemoryData). run_lines loop (opening_of loop n) m) trip left

@@ -5,5 +5,5 @@ use Rattle.shared_runs.proofs.pieces.pieces_for_now.Given as goal
 abbrev pub invariant-loop-number : goal.invariant-loop-number
 invariant-loop-number l = record {
   many : length l.pieces.items ≡ l.number;
-  each : ArePieces l.innermost l.after 0 l.pieces.items;
+  each : ArePieces l.innermost l.after l.pieces.items;
 }
