@@ -190,9 +190,10 @@ uint32_t modsched_solve(const struct modsched_problem *problem, uint64_t ratio, 
                         size_t times_count, uint64_t *alternatives, size_t alternatives_count, uint64_t *numbers,
                         size_t numbers_count, struct modsched_answer *answer);
 
-/* What a schedule breaks, in this order: where it breaks several, the first is told. Of several of one kind that is the first value, operation or
- * file; of edges the one with the least `from`, `to`, `distance` and `delay`, in this order. `residue` is a cycle modulo the interval. An edge is an
- * order, or a read: it goes from the maker of its value to the reader, with the delay `lands` less `offset`. */
+/* What a schedule breaks, in this order: where it breaks several, the first is told. But times and alternatives (5 and 6) are looked at operation by
+ * operation, of each first the time. Of several of one kind that is the first value, operation or file; of edges the one with the least `from`, `to`,
+ * `distance` and `delay`, in this order. `residue` is the row of the kernel: a cycle modulo the interval. An edge is an order, or a read: it goes
+ * from the maker of its value to the reader, with the delay `lands` less `offset`. */
 enum {
     MODSCHED_BREAK_INTERVAL = 1,     /* the interval is not 1 to 16,384 */
     MODSCHED_BREAK_NUMBER_COUNT = 2, /* there is not one number for each value */
