@@ -59,8 +59,8 @@ class Edit:
         """Finds the functions in which the texts stand; None is one that stands in no function."""
         texts = {}
         for file, old, new in self.pairs:
-            text = texts.get(file) or read(f"crates/{self.crate}/{file}")
-            if text.count(old) != 1:
+            text = texts.get(file) or read_if_there(f"crates/{self.crate}/{file}")
+            if not old or text.count(old) != 1:
                 continue
             texts[file] = text.replace(old, new)
             function = function_at(self.crate, file, text, text.index(old)) if file.startswith("src/") else None
@@ -71,8 +71,7 @@ class Edit:
         """The texts of the files that it changes, where these files have these texts, or those of the crate; or None where it can't be applied."""
         found = {}
         for file, old, new in self.pairs:
-            path = f"crates/{self.crate}/{file}"
-            text = found.get(file) or texts.get(file) or (read(path) if os.path.isfile(path) else "")
+            text = found.get(file) or texts.get(file) or read_if_there(f"crates/{self.crate}/{file}")
             if not old or text.count(old) != 1:
                 return None
             found[file] = text.replace(old, new)
@@ -80,7 +79,7 @@ class Edit:
 
     def apply(self, top):
         for file, old, new in self.pairs:
-            text = read(f"{top}/{file}")
+            text = read_if_there(f"{top}/{file}")
             if not old or text.count(old) != 1:
                 raise BadEdit(f"its old text is in {file} {text.count(old)} times, and not once")
             write(f"{top}/{file}", text.replace(old, new))
@@ -91,6 +90,11 @@ class Edit:
 def read(path):
     with open(path, encoding="utf-8") as file:
         return file.read()
+
+
+def read_if_there(path):
+    """The text of a file, or an empty one. (An edit may name a file that is gone. That is told of this edit, and the others are tried.)"""
+    return read(path) if os.path.isfile(path) else ""
 
 
 def write(path, text):
@@ -452,9 +456,25 @@ def edits_of(crates, folder):
 def side_by_side(library, found, work):
     """Does some work for each crate, the highest crates first. Gives for how many of all edits it went as it has to, and for how many not."""
     order = sorted(found, key=lambda it: -len(library.below(it)))
-    with ThreadPoolExecutor(lanes()) as pool:
-        well = sum(pool.map(lambda it: work(found[it]), order))
+    pool = ThreadPoolExecutor(lanes())
+    begun = [pool.submit(work, found[it]) for it in order]
+    try:
+        well = sum(it.result() for it in begun)
+    except BaseException:
+        end_all(pool, begun)
+        raise
+    pool.shutdown()
     return well, sum(map(len, found.values())) - well
+
+
+def end_all(pool, begun):
+    """Ends all checks, and the work that would go on to the next ones."""
+    is_stopped.set()
+    pool.shutdown(wait=False, cancel_futures=True)
+    while any(it.running() for it in begun):
+        for it in [*checks]:
+            it.kill()
+        time.sleep(0.1)
 
 
 def try_all(library, found, tell):
@@ -483,12 +503,7 @@ class Trials:
 
     def stop(self):
         """Ends all checks of edits."""
-        is_stopped.set()
-        self.pool.shutdown(wait=False, cancel_futures=True)
-        while any(it.running() for it in self.begun):
-            for it in [*checks]:
-                it.kill()
-            time.sleep(0.1)
+        end_all(self.pool, self.begun)
 
 
 def control_all(library, found, tell):
