@@ -27,11 +27,12 @@ A path that is `-` is the standard input, and `./-` a file of that name. Where a
 one of them may come from it.
 
 Exit status: 0 done; 1 done, but some loop has no kernel at any interval that was tried, some problem is
-not solved, or some problem has no solution that holds; 2 the line is refused; 3 a file can't be read;
-4 the machine is refused, or the text of problems; 5 the loops are refused, or have none of a name that
-was given, or an opcode has no reservation table, or the text of solutions is refused; 6 the output can't be written; 7 out of memory.
-A fault is told in one line on the standard error. Only `lint` prints the faults of texts to the standard
-output; it ends with 4 where one is of the machine, and else with 5.";
+not solved, or some problem has no solution that holds; 2 the command line is refused; 3 a file can't be
+read; 4 the machine is refused, or the text of problems; 5 the loops are refused, or have none of a name
+that was given, or an opcode has no reservation table, or the text of solutions is refused; 6 the output
+can't be written; 7 out of memory. With 3 to 7 one line on the standard error tells what is wrong. Only
+`lint` prints the faults of texts to the standard output; it ends with 4 where one is of the machine, and
+else with 5.";
 
 pub(crate) const SCHEDULE_ABOUT: &str = "Find a kernel for each loop, and print the listing";
 
@@ -52,8 +53,8 @@ way at a time, each in a stage of its own.
 The second form stands where none of the intervals from M to T gives a kernel. CAUSE tells why T does
 not: `table`, an operation would need a unit twice in one row of the modulo reservation table, however it
 is issued; `budget`, the attempt has made all its placements, and some operation has no place; `stages`,
-the schedule has more than 64 stages; `registers`, the rotating registers don't hold the values of the
-schedule that the attempt found.
+the schedule has more than 64 stages; `registers`, some value of the schedule that the attempt found gets no
+rotating register.
 
 The lines of a kernel, as an example:
 
@@ -151,8 +152,8 @@ With --format json prints all of that as one JSON document, on one line: an obje
 and `version`, which is 1. With --format html prints it as a page that any browser opens, without a network:
 charts of the kernel, of when values live, of an iteration with the next two and of the dependences.
 
-With one path alone, that of scheduling problems, tells the same of each problem, up to what holds its interval,
-but how many registers would do, and then its solution, as `modsched solve` prints it.";
+With one path alone, that of scheduling problems, prints the same lines of each problem up to `least possible`, but
+not how many registers would do, and then its solution, as `modsched solve` prints it. One thread does all of this.";
 
 pub(crate) const VARY_ABOUT: &str = "Tell what variants of the machine bring each loop";
 
@@ -183,7 +184,7 @@ and F the number of the others:
 
   total loops N ii SUM failed F           on the machine as it is
   VARIANT ii SUM failed F shorter A longer B
-                                          on each variant that a loop may feel: A loops have a shorter interval
+                                          on each variant that concerns some loop: A loops have a shorter interval
                                           there, and B a longer one
 
 With --format json prints what is found of each loop as one JSON document, on one line: an object with
@@ -204,7 +205,7 @@ next one. Prints a line for each loop, in the order of the file:
 O is the number of its operations. R is the bound by resources: the number of cycles for which an iteration takes
 the busiest unit. An operation with several alternatives is counted on the one that leaves the busiest
 unit taken the least; where a loop has such operations, a schedule below R may exist. C is the bound by
-recurrences: the least interval that the cycles of dependences allow, 1 where there are none. M is the
+recurrences: the least interval that the circuits of dependences allow, 1 where there are none. M is the
 greater of R and C. All three are in cycles.
 
 The last line, loops A, has the number of loops.";
@@ -239,7 +240,7 @@ pub(crate) const DOT_LONG_ABOUT: &str = "Draw the dependences of each loop, as g
 
 Prints a directed graph for each loop, in the order of the file, in the language of Graphviz: a node for
 each operation, and an edge for each dependence with its kind, its delay in cycles and, after an `@`, its
-distance in iterations where that is not 0. Where the bound by recurrences is above 1, one critical
+distance in iterations where that is not 0. Where some circuit needs the bound by recurrences, one such
 circuit is bold. `modsched dot MACHINE LOOPS | dot -Tsvg -O` makes a picture of each.
 
 With --scheduled a kernel is searched for as `modsched schedule` does with the same options, and each node
@@ -277,7 +278,7 @@ where no text has a fault:
   PATH:LINE:COLUMN: WORD: WHAT   what is wrong, and what is expected there; WORD has the bytes of the loops that
                                  the fault is about, and is left out where there are none
 
-All faults are told, but of one line no two of a sort. WORD has of a machine the key in full, as in
+All faults are told, but of one line of the loops no two of a sort. WORD has of a machine the key in full, as in
 ops.add.latency = 0. Lines and columns are counted from 1; a fault that has no place, as a key that is missing,
 is told of line 0 and column 0.
 
@@ -285,8 +286,9 @@ With --format json the same faults are printed as one JSON document, on one line
 with `column`, `line`, `message`, `path` and `word`.
 
 One path is that of loops, or with --machine-only that of a machine. With both texts, and where the machine has no
-fault, each statement is told too whose opcode the machine has no table for. An unknown name of a loop text is
-told with the nearest one that may stand there, and a missing initial value with the numbers that are missing.
+fault, each statement is told too whose opcode the machine has no table for. An unknown name of the loops, and an
+unknown key, unit or opcode of the machine, is told with the nearest one that may stand there, and a missing initial
+value with the numbers that are missing.
 No kernel is searched for.";
 
 pub(crate) const SOLVE_ABOUT: &str = "Find a schedule and registers for each scheduling problem";
