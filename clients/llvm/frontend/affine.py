@@ -109,7 +109,8 @@ class Inductions:
             return self._fixed(value)
         if value.opcode == "getelementptr":
             return self._address(value, value.address)
-        if value.opcode == "bitcast":
+        # (between whole numbers and addresses only: what a phi of floats begins with has no such form)
+        if value.opcode == "bitcast" and self._bits(value) and self._bits(value.operands[0]):
             return self.of(value.operands[0]) or self._fixed(value)
         if value.opcode in ("add", "sub", "mul", "shl"):
             return self._computed(value) or self._fixed(value)

@@ -197,6 +197,18 @@ class ByHand(unittest.TestCase):
         found = lines_of("", lines, machine=machine)
         self.assertEqual([it for it in found if it.startswith("read")], ["read f:store %next distance 1 offset 0", "read f:add %next distance 1 offset 0"])
 
+    def test_counted_bits(self):
+        """A float whose bits are counted up does not go on by itself, whatever it begins with: they are added to, and an address that is made of them reads them."""
+        machine = MACHINE.replace('"trunc"', '"trunc", "bitcast"')
+        read = ["op f:add add", "op f:store store", "op f:copy add", *(f"read f:{it} distance {at} offset 0" for it, at in (("add %a.copy", 1), ("store %a.copy", 1), ("copy %v", 0)))]
+        for of, start, wanted in (("double", "1.0", read), ("double", "%z", read), ("i64", "1", ["op f:store store"])):
+            with self.subTest(of, start=start):
+                bits = f"%w = bitcast {of} %a to i64\n%v = add i64 %w, 1\n%b = bitcast i64 %v to {of}\n"
+                given = LOOP.replace("i32 %k)", "i32 %k, double %z)").replace("PHIS", f"%a = phi {of} [ {start}, %entry ], [ %b, %loop ]").replace("RESULT", "0")
+                given = given.replace("LINES", bits + "%rp = getelementptr i32, i32* %r, i64 %w\nstore i32 %k, i32* %rp")
+                found, _ = problem.problems_of(reader.read_functions(given), machine_of(machine), "f.c")
+                self.assertEqual([it for it in text.problem_lines(found[0]) if it.startswith(("op", "read"))], wanted)
+
     def test_index_at_the_issue(self):
         """An index that is a part of a load's term is read at the issue, when the load looks at memory, whatever the offsets say."""
         machine = MACHINE.replace("affine = true", "affine = false") + '[kinds.indexed]\nof = ["load:i32(getelementptr(a,b))"]\nlatency = 4\nalternatives = [["m"]]\noffsets = { b = 2 }\n'
