@@ -65,6 +65,9 @@ def kernel_lines(machine: dict[str, Any], problem: dict[str, Any], solution: dic
 def shown(document: dict[str, Any], solutions: dict[str, Any], texts: dict[str, list[str]]) -> list[str]:
     """The lines of all kernels that there are of loops of these sources, each after an empty line but the first."""
     found, lines = {it["name"]: it for it in solutions["solutions"]}, []
+    name = document["machine"]["name"]
+    if solutions.get("machine", name) != name:
+        raise ValueError(f"its machine is {solutions['machine']}, and not {name}")
     for problem in document["problems"]:
         if problem["name"] in found and _text(texts, problem["source"]["file"]):
             lines += ["", *kernel_lines(document["machine"], problem, found[problem["name"]], texts)]

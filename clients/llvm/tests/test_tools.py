@@ -223,6 +223,12 @@ class Shown(unittest.TestCase):
                 done = run("show.py", "p.json", written("s.json", json.dumps(told)), "small.c")
                 self.assertEqual((done.returncode, done.stdout, done.stderr), (2, "", f"show.py: {said}\n"))
 
+    def test_other_machine(self):
+        """Solutions of the same loop on another machine: its alternatives are not those of this one."""
+        document, other = (json.loads(run("problems.py", "--machine", os.path.join(common.CLIENT, "machines", f"{it}.toml"), written("small.c", SMALL)).stdout) for it in common.MACHINES)
+        written("p.json", json.dumps(document))
+        done = run("show.py", "p.json", written("s.json", json.dumps(plain.solved(other))), "small.c")
+        self.assertEqual((done.returncode, done.stdout, done.stderr), (2, "", "show.py: s.json does not fit p.json: its machine is eight, and not four\n"))
 
     def test_what_is_wrong_in_problems(self):
         """A kind or a unit that is not there, no operations, and lists too deep in one another."""
