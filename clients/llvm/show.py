@@ -55,9 +55,10 @@ def kernel_lines(machine: dict[str, Any], problem: dict[str, Any], solution: dic
         unit = _unit(machine, it["kind"], solution["alternatives"][it["name"]])
         rows[row].append((units.index(unit), unit, f"{it['name']} ?{stage}", _line(texts, it)))
     wide = max((len(name) for row in rows for _, _, name, _ in row), default=0)
+    room = max([4, *(len(unit) + 1 for row in rows for _, unit, _, _ in row)])
     for number, row in enumerate(rows):
         for place, (_, unit, name, line) in enumerate(sorted(row)):
-            yield f"{f'{number}:' if place == 0 else '':5}{unit:4}{name:{wide}}  {line}".rstrip()
+            yield f"{f'{number}:' if place == 0 else '':5}{unit:{room}}{name:{wide}}  {line}".rstrip()
         if not row:
             yield f"{number}:"
 

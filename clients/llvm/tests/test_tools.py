@@ -189,6 +189,9 @@ class Shown(unittest.TestCase):
             "     x   f:copy ?1",
             "1:   x   a.c:2:add ?2   s += x[i];",
         ])
+        # (a blank stands after the longest name of a unit too)
+        shifts = json.loads(json.dumps(machine).replace('"x"', '"shift"'))
+        self.assertEqual(list(show.kernel_lines(shifts, problem, solution, {}))[1:], ["0:   m     a.c:2:load ?0", "     shift f:copy ?1", "1:   shift a.c:2:add ?2"])
         # (where two files have the name, neither is its source)
         others = {"one/a.c": ["", "1"], "other/a.c": ["", "2"]}
         self.assertEqual(list(show.kernel_lines(machine, problem, solution, others))[1], "0:   m   a.c:2:load ?0")
