@@ -48,14 +48,20 @@ def _cells(given: dict[str, Any] | None, solution: dict[str, Any] | None) -> lis
     return [str(len(given["operations"])), str(mii), str(solution["interval"]), str(solution["stages"])]
 
 
+def _place(it: dict[str, Any]) -> tuple[str, ...]:
+    """Where the loop of a problem stands. Its name is another one on a machine that leaves out a loop of the function before it."""
+    return tuple(it["source"][key] for key in ("file", "function", "header"))
+
+
 def rows(documents: list[dict[str, Any]], solutions: list[dict[str, Any]]) -> Iterator[str]:
     """The rows of the loops, of documents and solutions for one file on several machines."""
-    by_name = [{it["name"]: it for it in its["problems"]} for its in documents]
+    by_place = [{_place(it): it for it in its["problems"]} for its in documents]
     solved = [{it["name"]: it for it in its["solutions"]} for its in solutions]
-    for name in dict.fromkeys(name for its in by_name for name in its):
-        source = next(its[name] for its in by_name if name in its)["source"]
-        cells = [cell for its, of in zip(by_name, solved) for cell in _cells(its.get(name), of.get(name))]
-        yield f"| `{os.path.basename(source['file'])}:{source['line']}` | `{name}` | {' | '.join(cells)} |"
+    for at in dict.fromkeys(at for its in by_place for at in its):
+        found = [its.get(at) for its in by_place]
+        one = next(it for it in found if it)
+        cells = [cell for it, of in zip(found, solved) for cell in _cells(it, it and of.get(it["name"]))]
+        yield f"| `{os.path.basename(one['source']['file'])}:{one['source']['line']}` | `{one['name']}` | {' | '.join(cells)} |"
 
 
 def reasons(documents: list[dict[str, Any]], names: list[str]) -> Iterator[str]:

@@ -3,6 +3,7 @@ from __future__ import annotations
 
 import json
 import os
+import re
 import subprocess
 import sys
 import unittest
@@ -24,6 +25,15 @@ int g(const char *x) {
     while (x[n])
         n++;
     return n;
+}
+"""
+TWO = """int two(int *restrict a, int *restrict b, int n) {
+    int s = 0;
+    for (int i = 0; i < n; i++)
+        a[i] = a[i] / b[i];
+    for (int i = 0; i < n; i++)
+        s += b[i];
+    return s;
 }
 """
 
@@ -301,6 +311,24 @@ class Tables(unittest.TestCase):
         print(f"llvm: clang took {times.clang:.2f} s for the corpus, {'the library' if common.HAS_LIBRARY else 'plain Python'} {times.solver:.2f} s to solve it")
         if common.HAS_LIBRARY:
             self.assertLess(times.solver, times.clang)
+
+    def machine(self, name: str, **lines: str) -> str:
+        """The path of a machine as four, with other lines."""
+        with open(os.path.join(common.CLIENT, "machines", "four.toml"), encoding="utf-8") as it:
+            text = it.read()
+        for key, its in {"name": f'"{name}"', **lines}.items():
+            text = re.sub(rf"(?m)^{key} = .*$", f"{key} = {its}", text, count=1)
+        return os.path.join(common.ROOM, written(f"{name}.toml", text))
+
+    def test_one_place(self):
+        """Of two loops of a function, one machine leaves out the first: a row has the same loop on both machines all the same."""
+        path = os.path.join(common.ROOM, written("two.c", TWO))
+        lines, _ = table.table([path], [self.machine("four"), self.machine("divides", lacks="[]")], plain.solved)
+        self.assertEqual(lines[2:5], [
+            "| `two.c:5` | `two` | 2 | 1 | 1 | 4 | 2 | 1 | 1 | 4 |",
+            "| `two.c:3` | `two` |  |  |  |  | 4 | 2 | 2 | 3 |",
+            "",
+        ])
 
 
 if __name__ == "__main__":
