@@ -108,16 +108,19 @@ def table(files: list[str], machines: list[str], solve: Solver) -> tuple[list[st
     names = [it.name for it in targets]
     lines = list(heads(names))
     left_out: list[list[dict[str, Any]]] = [[] for _ in targets]
-    read = 0
+    read, unread = 0, 0
     for path in files:
         text = times.compile(path)
-        documents = [problem.document(it, *problem.problems_of(reader.read_functions(text), it, path, given)) for it, given in zip(targets, names_of)]
+        functions = [reader.read_functions(text) for _ in targets]
+        documents = [problem.document(it, *problem.problems_of(its, it, path, given)) for it, its, given in zip(targets, functions, names_of)]
         lines += rows(documents, [times.solve(solve, it) for it in documents])
         read += len(documents[0]["problems"]) + len(documents[0]["left_out"])
+        # (what is left out as a function is no loop)
+        unread += sum(isinstance(it, Exception) for _, it in functions[0])
         for its, document in zip(left_out, documents):
             its += document["left_out"]
     given = " and ".join(f"{read - len(its)} on {name}" for name, its in zip(names, left_out))
-    return [*lines, "", *reasons(left_out, names), "", f"Of {read} innermost loops, {given} give a problem."], times
+    return [*lines, "", *reasons(left_out, names), "", f"Of {read - unread} innermost loops, {given} give a problem."], times
 
 
 def main() -> int:

@@ -330,6 +330,15 @@ class Tables(unittest.TestCase):
             "",
         ])
 
+    def test_no_loop(self):
+        """A function that is not read is left out, and is no loop; a loop without a line is one."""
+        jump = "void jump(int n, int *o) {\n    static void *to[] = { &&a, &&b };\n    goto *to[n];\na:\n    o[0] = 1;\n    return;\nb:\n    o[0] = 2;\n}\n"
+        path = os.path.join(common.ROOM, written("jump.c", SMALL.replace("int g(", "__attribute__((nodebug)) int g(") + jump))
+        lines, _ = table.table([path], table.MACHINES, plain.solved)
+        self.assertEqual(lines[-4:], [
+            "| it has indirectbr | 1 | 1 |", "| its trip count is not known before it starts | 1 | 1 |", "", "Of 2 innermost loops, 1 on four and 1 on eight give a problem.",
+        ])
+
 
 if __name__ == "__main__":
     unittest.main()
