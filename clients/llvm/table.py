@@ -128,6 +128,10 @@ def main() -> int:
     given = arguments()
     try:
         library = solving.modsched.Library(given.library)
+    except (AttributeError, OSError) as bad:  # (some other library has none of the functions)
+        print(f"table.py: {bad}", file=sys.stderr)
+        return 2
+    try:
         lines, times = table(given.files, given.machine or MACHINES, lambda it: solving.solved(library, it))
     except (OSError, clang.NoClang, BadMachine, reader.Unread) as bad:
         print(f"table.py: {bad}", file=sys.stderr)

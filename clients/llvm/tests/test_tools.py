@@ -312,6 +312,13 @@ class Tables(unittest.TestCase):
         if common.HAS_LIBRARY:
             self.assertLess(times.solver, times.clang)
 
+    def test_no_library(self):
+        """No library, and one that has none of the functions."""
+        for library in ("nothing.so", "libc.so.6"):
+            done = run("table.py", "--library", library, written("small.c", SMALL))
+            self.assertEqual((done.returncode, done.stdout, len(done.stderr.splitlines())), (2, "", 1), done.stderr)
+            self.assertRegex(done.stderr, f"^table.py: .*{re.escape(library)}")
+
     def machine(self, name: str, **lines: str) -> str:
         """The path of a machine as four, with other lines."""
         with open(os.path.join(common.CLIENT, "machines", "four.toml"), encoding="utf-8") as it:
