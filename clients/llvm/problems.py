@@ -8,7 +8,7 @@ import sys
 
 HERE = os.path.dirname(os.path.realpath(__file__))
 sys.path.insert(0, HERE)
-from frontend import what_lacks  # noqa: E402
+from frontend import is_written, what_lacks  # noqa: E402
 
 
 def arguments() -> argparse.Namespace:
@@ -46,8 +46,7 @@ def main() -> int:
     for it in left_out:
         print(f"{it['file']}:{it['line']}: {it['function']} is left out: {it['reason']}", file=sys.stderr)
     document = problem.document(target, problems, left_out)
-    print(text.text_of(document) if given.text else json.dumps(document, indent=1), end="" if given.text else "\n")
-    return 0
+    return 0 if is_written(text.text_of(document) if given.text else f"{json.dumps(document, indent=1)}\n", "problems.py") else 2
 
 
 if __name__ == "__main__":

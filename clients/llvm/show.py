@@ -7,6 +7,10 @@ import os
 import sys
 from typing import Any, Iterator
 
+HERE = os.path.dirname(os.path.realpath(__file__))
+sys.path.insert(0, HERE)
+from frontend import is_written  # noqa: E402
+
 MOST_INTERVAL = 1 << 16  # more rows than any kernel has
 
 
@@ -97,8 +101,7 @@ def main() -> int:
     if not lines:
         print(f"show.py: no loop of these files has a solution in {given.solutions}", file=sys.stderr)
         return 2
-    print("\n".join(lines))
-    return 0
+    return 0 if is_written("\n".join(lines) + "\n", "show.py") else 2
 
 
 if __name__ == "__main__":

@@ -8,7 +8,7 @@ import sys
 
 HERE = os.path.dirname(os.path.realpath(__file__))
 sys.path.insert(0, HERE)
-from frontend import solving  # noqa: E402
+from frontend import is_written, solving  # noqa: E402
 
 
 def arguments() -> argparse.Namespace:
@@ -25,9 +25,8 @@ def arguments() -> argparse.Namespace:
     return parser.parse_args()
 
 
-def main() -> int:
-    """Runs the command."""
-    given = arguments()
+def run(given: argparse.Namespace) -> int:
+    """Solves the problems: the status."""
     try:
         library = solving.modsched.Library(given.library)
         with open(given.problems, encoding="utf-8") as it:
@@ -45,8 +44,18 @@ def main() -> int:
         return 2
     for it in found["unsolved"]:
         print(f"{it['name']} has no solution: {it['reason']}", file=sys.stderr)
-    print(json.dumps(found, indent=1))
+    if not is_written(f"{json.dumps(found, indent=1)}\n", "solve.py"):
+        return 2
     return 1 if found["unsolved"] else 0
+
+
+def main() -> int:
+    """Runs the command."""
+    try:
+        return run(arguments())
+    except MemoryError:
+        print("solve.py: memory ran out", file=sys.stderr)
+        return 2
 
 
 if __name__ == "__main__":

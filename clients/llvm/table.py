@@ -12,7 +12,7 @@ from typing import Any, Callable, Iterator
 
 HERE = os.path.dirname(os.path.realpath(__file__))
 sys.path.insert(0, HERE)
-from frontend import what_lacks  # noqa: E402
+from frontend import is_written, what_lacks  # noqa: E402
 
 try:
     from frontend import clang, problem, reader, solving
@@ -123,9 +123,8 @@ def table(files: list[str], machines: list[str], solve: Solver) -> tuple[list[st
     return [*lines, "", *reasons(left_out, names), "", f"Of {read - unread} innermost loops, {given} give a problem."], times
 
 
-def main() -> int:
-    """Runs the command."""
-    given = arguments()
+def run(given: argparse.Namespace) -> int:
+    """Prints the tables: the status."""
     try:
         library = solving.modsched.Library(given.library)
     except (AttributeError, OSError) as bad:  # (some other library has none of the functions)
@@ -136,9 +135,19 @@ def main() -> int:
     except (OSError, clang.NoClang, BadMachine, reader.Unread) as bad:
         print(f"table.py: {bad}", file=sys.stderr)
         return 2
-    print("\n".join(lines))
+    if not is_written("\n".join(lines) + "\n", "table.py"):
+        return 2
     print(f"clang took {times.clang:.2f} s, the library {times.solver:.2f} s", file=sys.stderr)
     return 0
+
+
+def main() -> int:
+    """Runs the command."""
+    try:
+        return run(arguments())
+    except MemoryError:
+        print("table.py: memory ran out", file=sys.stderr)
+        return 2
 
 
 if __name__ == "__main__":

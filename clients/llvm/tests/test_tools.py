@@ -272,6 +272,48 @@ class Shown(unittest.TestCase):
         self.assertIn("s += x[i];", run("show.py", "p.json", "s.json", path).stdout)
 
 
+# a library that answers each call as it does where memory is refused
+REFUSING = "".join(f"unsigned modsched_{it}(void) {{ return 7; }}\n" for it in "solve check schedule json explain run plain bounds edges dot".split())
+
+
+class Written(unittest.TestCase):
+    """Where there is no room for what a command writes, or in memory."""
+
+    @classmethod
+    def setUpClass(cls):
+        cls.library = os.path.join(common.ROOM, "refusing.so")
+        common.clang.to_library(os.path.join(common.ROOM, written("refusing.c", REFUSING)), cls.library)
+        # (a loop that gives a problem, and one that gives none)
+        taken, left_out, _ = re.split(r"(?m)(?<=^}\n)", SMALL)
+        written("left_out.c", left_out)
+        document = json.loads(run("problems.py", written("taken.c", taken)).stdout)
+        for name, its in [("p.json", document), ("none.json", {**document, "problems": []}), ("s.json", plain.solved(document))]:
+            written(name, json.dumps(its))
+
+    def test_output(self):
+        """Standard output that is full, a pipe that nobody reads any more, and none at all."""
+        full, (read, broken) = os.open("/dev/full", os.O_WRONLY), os.pipe()
+        os.close(read)
+        for words in [
+            ("problems.py", "taken.c"), ("problems.py", "--text", "taken.c"), ("solve.py", "--library", self.library, "none.json"),
+            ("show.py", "p.json", "s.json", "taken.c"), ("table.py", "--library", self.library, "left_out.c"),
+        ]:
+            for to, closed, said in [(full, "", "No space left on device"), (broken, "", "Broken pipe"), (full, ">&-", "Bad file descriptor")]:
+                with self.subTest(words, said=said):
+                    shell = ["sh", "-c", f'exec "$@" {closed}', "sh", sys.executable, os.path.join(common.CLIENT, words[0]), *words[1:]]
+                    done = subprocess.run(shell, stdin=subprocess.DEVNULL, stdout=to, stderr=subprocess.PIPE, text=True, cwd=common.ROOM)
+                    self.assertEqual((done.returncode, done.stderr), (2, f"{words[0]}: cannot write: {said}\n"))
+        os.close(full)
+        os.close(broken)
+
+    def test_memory(self):
+        """The library answers that memory is refused."""
+        for words in [("solve.py", "--library", self.library, "p.json"), ("table.py", "--library", self.library, "taken.c")]:
+            with self.subTest(words):
+                done = run(*words)
+                self.assertEqual((done.returncode, done.stdout, done.stderr), (2, "", f"{words[0]}: memory ran out\n"))
+
+
 class Readme(unittest.TestCase):
     def test_session(self):
         """README's session prints what stands there. Without the library, plain Python solves in place of solve.py."""
