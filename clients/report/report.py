@@ -30,10 +30,8 @@ class Refused(Exception):
 def program_beside() -> str:
     """The program: what MODSCHED names, else ./modsched or bin/modsched above this folder, else that of the path."""
     root = os.path.dirname(os.path.dirname(HERE))
-    for path in (os.environ.get("MODSCHED"), f"{root}/bin/modsched", f"{root}/modsched"):
-        if path and os.path.isfile(path):
-            return path
-    return "modsched"
+    beside = (path for path in (f"{root}/bin/modsched", f"{root}/modsched") if os.path.isfile(path))
+    return os.environ.get("MODSCHED") or next(beside, "modsched")
 
 
 def printed(program: str, words: list[str]) -> str:

@@ -5,6 +5,7 @@ from __future__ import annotations
 import json
 import os
 import re
+import shutil
 import subprocess
 import sys
 import tempfile
@@ -383,13 +384,16 @@ class Document(unittest.TestCase):
 class Command(unittest.TestCase):
     """The command line, with a stand-in for the program."""
 
+    def stand_in(self, path: str, answers: dict[str, str], status: int = 0, said: str = "") -> None:
+        with open(path, "w", encoding="utf-8") as it:
+            it.write(f"#!{sys.executable}\nimport sys\nsys.stdout.buffer.write({answers!r}[sys.argv[1]].encode('latin-1'))\n")
+            it.write(f"sys.stderr.write({said!r})\nsys.exit({status})\n")
+        os.chmod(path, 0o755)
+
     def run_with(self, answers: dict[str, str], *words: str, status: int = 0, said: str = "") -> subprocess.CompletedProcess:
         with tempfile.TemporaryDirectory() as room:
             path = f"{room}/stand_in"
-            with open(path, "w", encoding="utf-8") as it:
-                it.write(f"#!{sys.executable}\nimport sys\nsys.stdout.buffer.write({answers!r}[sys.argv[1]].encode('latin-1'))\n")
-                it.write(f"sys.stderr.write({said!r})\nsys.exit({status})\n")
-            os.chmod(path, 0o755)
+            self.stand_in(path, answers, status, said)
             script = [sys.executable, f"{CLIENT}/report.py", "--modsched", path, *words, "m.toml", "l.txt"]
             return subprocess.run(script, capture_output=True, text=True)
 
@@ -404,6 +408,22 @@ class Command(unittest.TestCase):
             head, tail = it.read(), other.read()
         self.assertEqual(page.stdout, head + alone.stdout + tail)
         self.assertTrue(head.endswith('<script type="application/json" id="document">\n') and tail.startswith("</script>\n"))
+
+    def test_program(self):
+        """MODSCHED names the program, by its path or as one on the path. Where it can't be run, no other one is; where it is empty, the one of the folder is."""
+        with tempfile.TemporaryDirectory() as room:
+            shutil.copytree(CLIENT, f"{room}/clients/report", ignore=shutil.ignore_patterns("tests", "__pycache__"))
+            self.stand_in(f"{room}/other", self.answers())
+            self.stand_in(f"{room}/modsched", self.answers(), said="beside\n")
+            script = [sys.executable, "-B", f"{room}/clients/report/report.py", "--json", "m.toml", "l.txt"]
+            for named, status, said in [
+                (f"{room}/other", 0, ""), ("other", 0, ""), ("", 0, "beside\n" * 3),
+                (f"{room}/none", 2, f"report: {room}/none does not run: No such file or directory\n"), ("none", 2, "report: none does not run: No such file or directory\n"),
+            ]:
+                with self.subTest(named):
+                    environment = {**os.environ, "MODSCHED": named, "PATH": f"{room}:{os.environ['PATH']}"}
+                    ran = subprocess.run(script, capture_output=True, text=True, env=environment)
+                    self.assertEqual((ran.returncode, ran.stderr), (status, said))
 
     def test_status(self):
         self.assertEqual(self.run_with(self.answers(), status=1).returncode, 0)
