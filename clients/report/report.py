@@ -40,8 +40,11 @@ def printed(program: str, words: list[str]) -> str:
         ran = subprocess.run([program, *words], stdin=subprocess.DEVNULL, stdout=subprocess.PIPE)
     except OSError as fault:
         raise Refused(2, f"report: {program} does not run: {fault.strerror}") from fault
+    if ran.returncode < 0:
+        # (the status is as a shell tells it)
+        raise Refused(128 - ran.returncode, f"report: {program} is ended by signal {-ran.returncode}")
     if ran.returncode not in (0, 1):
-        raise Refused(ran.returncode, f"report: {program} is ended by signal {-ran.returncode}" if ran.returncode < 0 else "")
+        raise Refused(ran.returncode)
     return ran.stdout.decode("ascii", "replace")
 
 
@@ -112,7 +115,7 @@ def main(words: list[str] | None = None) -> int:
     """Writes the page, or one line to standard error. The status is the program's where that refuses a file, and 8 where its output
     is not as the documents say."""
     given = parsed(words)
-    options = [word for name in ("ratio", "ceiling") if getattr(given, name) for word in (f"--{name}", getattr(given, name))]
+    options = [word for name in ("ratio", "ceiling") if getattr(given, name) is not None for word in (f"--{name}", getattr(given, name))]
     try:
         if given.problems is not None:
             text = text_of(document_of_problems(given.modsched, given.problems, options))

@@ -6,6 +6,7 @@ import json
 import os
 import re
 import shutil
+import signal
 import subprocess
 import sys
 import tempfile
@@ -387,7 +388,8 @@ class Command(unittest.TestCase):
     def stand_in(self, path: str, answers: dict[str, str], status: int = 0, said: str = "") -> None:
         with open(path, "w", encoding="utf-8") as it:
             it.write(f"#!{sys.executable}\nimport sys\nsys.stdout.buffer.write({answers!r}[sys.argv[1]].encode('latin-1'))\n")
-            it.write(f"sys.stderr.write({said!r})\nsys.exit({status})\n")
+            it.write(f"sys.stderr.write({said!r}.replace('WORDS', str(sys.argv[1:])))\n")
+            it.write(f"sys.exit({status})\n" if status >= 0 else f"import os\nos.kill(os.getpid(), {-status})\n")
         os.chmod(path, 0o755)
 
     def run_with(self, answers: dict[str, str], *words: str, status: int = 0, said: str = "") -> subprocess.CompletedProcess:
@@ -429,11 +431,20 @@ class Command(unittest.TestCase):
         self.assertEqual(self.run_with(self.answers(), status=1).returncode, 0)
         refused = self.run_with(self.answers(), status=4, said="modsched: machine: not TOML\n")
         self.assertEqual((refused.returncode, refused.stdout, refused.stderr), (4, "", "modsched: machine: not TOML\n"))
+        ended = self.run_with(self.answers(), status=-signal.SIGKILL)
+        self.assertEqual((ended.returncode, ended.stdout), (128 + signal.SIGKILL, ""))
+        self.assertRegex(ended.stderr, r"^report: .*/stand_in is ended by signal 9\n$")
         misfit = self.run_with(self.answers(explain=SUM_EXPLAIN.replace("held by units", "held by unity")))
         self.assertEqual((misfit.returncode, misfit.stdout), (8, ""))
         self.assertRegex(misfit.stderr, r"^report: explain, line 8: not .*: held by unity\n$")
         for broken in ("{", '{"version":1}', "[]", "[" * 100_000, f'{{"version":{"1" * 5000}}}', '{"version":\xff}'):
             self.assertEqual(self.run_with(self.answers(json=broken)).returncode, 8)
+
+    def test_options(self):
+        """Options are passed on as they are given, also where they are empty: it is the program that refuses them."""
+        for given in (["--ratio", "3"], ["--ratio", "", "--ceiling", "x y"], ["--ceiling", ""]):
+            told = self.run_with(self.answers(), *given, said="WORDS\n").stderr.splitlines()
+            self.assertEqual(told, [str(["edges", "m.toml", "l.txt"]), *(str([it, "m.toml", "l.txt", *given]) for it in ("explain", "json"))])
 
     def test_lines_of_no_form(self):
         for command, text in (("edges", SUM_EDGES), ("explain", SUM_EXPLAIN)):
