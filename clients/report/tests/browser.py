@@ -2,6 +2,7 @@
 from __future__ import annotations
 
 import base64
+import contextlib
 import json
 import os
 import select
@@ -37,6 +38,14 @@ class Browser:
         self.rest, self.number, self.console, self.asked = b"", 0, [], []
         self.loaded = False
         self.session: str | None = None
+        try:
+            self._begin()
+        except BaseException:
+            # (nobody has it to close it)
+            self._end()
+            raise
+
+    def _begin(self) -> None:
         target = self.call("Target.createTarget", url="about:blank")["targetId"]
         self.session = self.call("Target.attachToTarget", targetId=target, flatten=True)["sessionId"]
         for domain in ("Page", "Runtime", "Log", "Network"):
@@ -44,13 +53,16 @@ class Browser:
 
     def close(self) -> None:
         """Ends the browser."""
-        try:
+        with contextlib.suppress(OSError, RuntimeError, TimeoutError, subprocess.TimeoutExpired):
             self.session = None
             self.call("Browser.close")
             self.process.wait(10)
-        except (OSError, TimeoutError, subprocess.TimeoutExpired):
-            self.process.kill()
-            self.process.wait()
+        self._end()
+
+    def _end(self) -> None:
+        """Kills the process, if it has not ended by itself, and lets go of its files."""
+        self.process.kill()
+        self.process.wait()
         self.log.close()
         os.close(self.to)
         os.close(self.of)
