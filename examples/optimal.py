@@ -275,6 +275,8 @@ def main() -> None:
     words.add_argument("--interval", type=int)
     words.add_argument("--table", action="store_true")
     given = words.parse_args()
+    if given.interval is not None and given.interval < 1:
+        words.error(f"the interval {given.interval} is below 1")
     for path in given.paths:
         told = solve(path)
         with open(path, encoding="ascii", errors="replace", newline="\n") as file:
