@@ -238,9 +238,10 @@ class Shown(unittest.TestCase):
 
     def test_other_machine(self):
         """Solutions of the same loop on another machine: its alternatives are not those of this one."""
-        document, other = (json.loads(run("problems.py", "--machine", os.path.join(common.CLIENT, "machines", f"{it}.toml"), written("small.c", SMALL)).stdout) for it in common.MACHINES)
+        small, machines = written("small.c", SMALL), [os.path.join(common.CLIENT, "machines", f"{it}.toml") for it in common.MACHINES]
+        document, other = (json.loads(run("problems.py", "--machine", it, small).stdout) for it in machines)
         written("p.json", json.dumps(document))
-        done = run("show.py", "p.json", written("s.json", json.dumps(plain.solved(other))), "small.c")
+        done = run("show.py", "p.json", written("s.json", json.dumps(plain.solved(other))), small)
         self.assertEqual((done.returncode, done.stdout, done.stderr), (2, "", "show.py: s.json does not fit p.json: its machine is eight, and not four\n"))
 
     def test_what_is_wrong_in_problems(self):
@@ -361,18 +362,12 @@ class Tables(unittest.TestCase):
             self.assertEqual((done.returncode, done.stdout, len(done.stderr.splitlines())), (2, "", 1), done.stderr)
             self.assertRegex(done.stderr, f"^table.py: .*{re.escape(library)}")
 
-    def machine(self, name: str, **lines: str) -> str:
-        """The path of a machine as four, with other lines."""
-        with open(os.path.join(common.CLIENT, "machines", "four.toml"), encoding="utf-8") as it:
-            text = it.read()
-        for key, its in {"name": f'"{name}"', **lines}.items():
-            text = re.sub(rf"(?m)^{key} = .*$", f"{key} = {its}", text, count=1)
-        return os.path.join(common.ROOM, written(f"{name}.toml", text))
-
     def test_one_place(self):
         """Of two loops of a function, one machine leaves out the first: a row has the same loop on both machines all the same."""
-        path = os.path.join(common.ROOM, written("two.c", TWO))
-        lines, _ = table.table([path], [self.machine("four"), self.machine("divides", lacks="[]")], plain.solved)
+        with open(table.MACHINES[0], encoding="utf-8") as it:
+            divides = re.sub(r"(?m)^lacks = .*$", "lacks = []", it.read().replace('name = "four"', 'name = "divides"'))
+        path, other = (os.path.join(common.ROOM, it) for it in (written("two.c", TWO), written("divides.toml", divides)))
+        lines, _ = table.table([path], [table.MACHINES[0], other], plain.solved)
         self.assertEqual(lines[2:5], [
             "| `two.c:5` | `two` | 2 | 1 | 1 | 4 | 2 | 1 | 1 | 4 |",
             "| `two.c:3` | `two` |  |  |  |  | 4 | 2 | 2 | 3 |",
@@ -385,7 +380,8 @@ class Tables(unittest.TestCase):
         path = os.path.join(common.ROOM, written("jump.c", SMALL.replace("int g(", "__attribute__((nodebug)) int g(") + jump))
         lines, _ = table.table([path], table.MACHINES, plain.solved)
         self.assertEqual(lines[-4:], [
-            "| it has indirectbr | 1 | 1 |", "| its trip count is not known before it starts | 1 | 1 |", "", "Of 2 innermost loops, 1 on four and 1 on eight give a problem.",
+            "| it has indirectbr | 1 | 1 |", "| its trip count is not known before it starts | 1 | 1 |", "",
+            "Of 2 innermost loops, 1 on four and 1 on eight give a problem.",
         ])
 
 

@@ -420,7 +420,7 @@ class Command(unittest.TestCase):
             script = [sys.executable, "-B", f"{room}/clients/report/report.py", "--json", "m.toml", "l.txt"]
             for named, status, said in [
                 (f"{room}/other", 0, ""), ("other", 0, ""), ("", 0, "beside\n" * 3),
-                (f"{room}/none", 2, f"report: {room}/none does not run: No such file or directory\n"), ("none", 2, "report: none does not run: No such file or directory\n"),
+                *((it, 2, f"report: {it} does not run: No such file or directory\n") for it in (f"{room}/none", "none")),
             ]:
                 with self.subTest(named):
                     environment = {**os.environ, "MODSCHED": named, "PATH": f"{room}:{os.environ['PATH']}"}
