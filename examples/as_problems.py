@@ -77,6 +77,8 @@ def main(machine: str, loops: str) -> None:
         ran = subprocess.run([PROGRAM, "edges", machine, loops], stdout=subprocess.PIPE, text=True)
     except OSError as fault:
         sys.exit(f"as_problems.py: {PROGRAM} does not run: {fault.strerror}")
+    if ran.returncode < 0:
+        sys.exit(f"as_problems.py: {PROGRAM} is ended by signal {-ran.returncode}")
     if ran.returncode:
         sys.exit(ran.returncode)
     outs = outs_of(loops)

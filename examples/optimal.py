@@ -238,6 +238,8 @@ def solve(path: str) -> dict[str, Told]:
         ran = subprocess.run([PROGRAM, "solve", path], stdout=subprocess.PIPE, text=True)
     except OSError as fault:
         sys.exit(f"optimal.py: {PROGRAM} does not run: {fault.strerror}")
+    if ran.returncode < 0:
+        sys.exit(f"optimal.py: {PROGRAM} is ended by signal {-ran.returncode}")
     if ran.returncode not in (0, 1):
         sys.exit(ran.returncode)
     told = {}
