@@ -184,9 +184,18 @@ class Library:
         return all(os.path.isdir(self.rlib(it)) for it in self.below(name))
 
     def words(self, name, functions, kept):
+        """Those that check a copy of a crate, or only these functions of it. It takes from the folder `kept` what earlier checks of the crate left there."""
+        words = [*self.words_of("check", name), "--jobs", "1", *(["--incremental", kept] if kept else [])]
+        return words + [it for function in functions for it in ("--only", function)]
+
+    def build_words(self, name, archive):
+        """Those that prove a crate which is a library for C, and make its archive."""
+        return [*self.words_of("build", name), "--jobs", "2", "--toolchain", f"{self.kit}/toolchain", "--backend", "llvm", "-o", archive]
+
+    def words_of(self, verb, name):
         head, _, deps = self.lines[name].partition(":")
         root = "src/main.rt" if os.path.isfile(f"crates/{name}/src/main.rt") else "src/lib.rt"
-        words = [f"{self.kit}/bin/rattle", "check", "--crate-name", name, root]
+        words = [f"{self.kit}/bin/rattle", verb, "--crate-name", name, root]
         for it in ["std", *(it for it in deps.split() if it not in self.uses)]:
             words += ["--extern", f"{it}={self.kit}/rlibs/{it}.rlib"]
         words += ["-L", f"dependency={self.kit}/rlibs"]
@@ -194,10 +203,8 @@ class Library:
             words += ["--extern", f"{it}={self.rlib(it)}"]
         for it in self.below(name):
             words += ["-L", f"dependency={os.path.dirname(self.rlib(it))}"]
-        words += ["--antt-project", f"{self.kit}/rattle/logic/antt-project.json", "--logic-built", f"{self.kit}/logic_built", "--jobs", "1", "--links", f"{name}="]
-        words += ["--incremental", kept] if kept else []
-        words += ["--crate-type", "staticlib"] if "staticlib" in head.split() else []
-        return words + [it for function in functions for it in ("--only", function)]
+        words += ["--antt-project", f"{self.kit}/rattle/logic/antt-project.json", "--logic-built", f"{self.kit}/logic_built", "--links", f"{name}="]
+        return words + (["--crate-type", "staticlib"] if "staticlib" in head.split() else [])
 
 
 def kit_folder():
