@@ -1,6 +1,6 @@
 /* Calls with texts: `texts COMMAND [TRIP] MACHINE LOOPS` writes what a call hands over, and ends with its status; `plain` has no MACHINE, and `run` and
  * `plain` have a TRIP. `texts rooms MACHINE LOOPS` tries rooms of each length round that of the listing, numbers out of their ranges, texts that are
- * refused and loops without a kernel; `texts threads MACHINE LOOPS` calls from two threads at once. Compiled with REFUSES, where the library's malloc, realloc and free are those below,
+ * refused and loops without a kernel; `texts threads MACHINE LOOPS` calls from two threads at once, with small stacks. Compiled with REFUSES, where the library's malloc, realloc and free are those below,
  * `texts memory MACHINE LOOPS` refuses each growth of memory in turn. Those three end with 0 where all is well. */
 #include "modsched.h"
 
@@ -228,15 +228,51 @@ static void *often(void *given) {
     return bad;
 }
 
-static void threads(struct given *it) {
+/* Two threads at once, each with a stack of 64 KiB, which docs/LIBRARY.md says is enough. */
+static void two(void *(*work)(void *), struct given *it, const char *what) {
     pthread_t made[2];
+    pthread_attr_t small;
     void *bad = NULL;
     int i;
-    for (i = 0; i < 2; i++) expect(pthread_create(&made[i], NULL, often, it) == 0, "a thread");
+    expect(pthread_attr_init(&small) == 0 && pthread_attr_setstacksize(&small, 64 << 10) == 0, "a small stack");
+    for (i = 0; i < 2; i++) expect(pthread_create(&made[i], &small, work, it) == 0, "a thread");
     for (i = 0; i < 2; i++) {
         pthread_join(made[i], &bad);
-        expect(bad == NULL, "two threads at once");
+        expect(bad == NULL, what);
     }
+}
+
+/* Whether each call that reads a machine refuses this one: what it is given, or NULL. */
+static void *all_refuse(void *given) {
+    int command;
+    for (command = 0; command < COMMANDS; command++) {
+        uint8_t out[64];
+        struct modsched_told told;
+        if (command != PLAIN && call((enum command)command, (struct given *)given, out, sizeof out, &told) != MODSCHED_MACHINE_REFUSED) return given;
+    }
+    return NULL;
+}
+
+/* Machines of which the reader may go deep: so many brackets, tables and keys within one another. */
+static void deep(const struct given *it) {
+    static const char *const forms[3][2] = {{"a = ", "["}, {"a = ", "{a="}, {"a", ".a"}};
+    struct given other = *it;
+    int form;
+    size_t at, head, part;
+    uint8_t *bytes = (uint8_t *)malloc(1 << 19);
+    for (form = 0; form < 3; form++) {
+        head = strlen(forms[form][0]), part = strlen(forms[form][1]);
+        memcpy(bytes, forms[form][0], head);
+        for (at = head; at + part <= 1 << 19; at += part) memcpy(bytes + at, forms[form][1], part);
+        other.machine.bytes = bytes, other.machine.length = at;
+        two(all_refuse, &other, "a machine that is deep");
+    }
+    free(bytes);
+}
+
+static void threads(struct given *it) {
+    two(often, it, "two threads at once");
+    deep(it);
 }
 
 /* With each growth refused, alone or with all after it, a call ends with 7 and nothing handed over, and gives back what it took. */
