@@ -242,7 +242,7 @@ static void two(void *(*work)(void *), struct given *it, const char *what) {
     }
 }
 
-/* Whether each call that reads a machine refuses this one: what it is given, or NULL. */
+/* NULL where each call that reads a machine refuses this one, else what was given. */
 static void *all_refuse(void *given) {
     int command;
     for (command = 0; command < COMMANDS; command++) {
@@ -260,6 +260,7 @@ static void deep(const struct given *it) {
     int form;
     size_t at, head, part;
     uint8_t *bytes = (uint8_t *)malloc(1 << 19);
+    if (bytes == NULL) exit(99);
     for (form = 0; form < 3; form++) {
         head = strlen(forms[form][0]), part = strlen(forms[form][1]);
         memcpy(bytes, forms[form][0], head);

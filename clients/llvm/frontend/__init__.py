@@ -9,7 +9,7 @@ def what_lacks(fault: ImportError) -> str:
 
 
 def is_written(text: str, command: str) -> bool:
-    """Whether a text is written to standard output. Where it is not, standard error tells why."""
+    """Writes a text to standard output, and answers whether that went well. Where it did not, standard error tells why."""
     try:
         # (not by print, which says nothing where the output is closed; a path may have other bytes than UTF-8)
         with open(1, "w", encoding="utf-8", errors="surrogateescape", closefd=False) as to:
