@@ -220,7 +220,7 @@ class Sources:
         found = [it for it in self.clauses if it.crate == crate and it.name == name and it.kind == "fn" and not it.owner]
         for it in found:
             lines = read(it.path).split("\n")
-            start = next(at for at, line in enumerate(lines) if re.match(rf"(?:pub )?fn {name}\b", line))
+            start = next(at for at, line in enumerate(lines) if re.match(rf"(?:pub(?:\([^)]*\))? )?fn {name}\b", line))
             first = start
             while lines[first - 1].startswith("///"):
                 first -= 1

@@ -29,7 +29,7 @@ use Rattle.modsched.specs.Naming.{chosen_of, unknown_in}
 use Rattle.loops.specs.Loops.{LoopData}
 use Rattle.loops.specs.Meaning.{loops_in}
 use Rattle.modsched.specs.inner.Refusals.{IsRefusal}
-use Rattle.modsched.proofs.Lengths.{loops_in-take, machine_of-take}
+use Rattle.exit_status.proofs.Lengths.{loops_in-take, machine_of-take}
 use Rattle.modsched.proofs.Linting.{lint-take}
 use Rattle.exit_status.specs.Statuses.{status_number}
 use Rattle.exit_status.specs.declared.status.Status.{Status}

@@ -28,7 +28,7 @@ use Rattle.modsched.specs.Engine.{AreFine, Ending, IsLintAs, IsNamed, LintBrings
 use Rattle.settings.specs.declared.format.Format.{Format}
 use Rattle.settings.specs.declared.format.Format.TheVariants as format
 use Rattle.exit_status.specs.declared.verdict.Verdict.TheVariants.{Fine, LoopsFaulty, MachineFaulty}
-use Rattle.modsched.proofs.Lengths.{loops_in-take, machine_of-take, taken_too_long}
+use Rattle.exit_status.proofs.Lengths.{loops_in-take, machine_of-take, taken_too_long}
 
 told-long : (text : List ℕ) → 1048576 < length text → machines.told_of text ≡ machines.Just (nowhere (Limit (codes "text")) ∷ [])
 unfolding machines.told_of

@@ -7,7 +7,7 @@ use Rattle.machine.specs.declared.fault.MachineFault.TheVariants as machine_faul
 use Rattle.machine.specs.MachineText.{machine_of}
 use Rattle.loops.specs.LoopFaultKind.TheVariants as kinds
 use Rattle.loops.specs.Meaning.{loops_in}
-use Rattle.modsched.specs.Devices.{most_read}
+use Rattle.devices.specs.Devices.{most_read}
 
 machine_too_long : (text : List ℕ) → 1048576 < length text → machine_of text ≡ Err (machine_fault.Limit (codes "text"))
 unfolding machine_of

@@ -1,0 +1,3 @@
+pub use Rattle.command_line.specs.Lines
+pub mod Endings
+pub mod Paths

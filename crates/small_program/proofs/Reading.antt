@@ -1,0 +1,24 @@
+-- What was read of texts tells what the whole texts do.
+use Rattle.std.proofs.Common.{◌≡◌, ◌∙◌, ap, subst, ℕ, List, take}
+use Rattle.std.specs.Prelude.{Result}
+use Rattle.devices.specs.Devices.{most_read}
+use Rattle.exit_status.proofs.Lengths.{loops_in-take, machine_of-take}
+use Rattle.loops.specs.LoopFault.{LoopFault}
+use Rattle.loops.specs.Loops.{LoopData}
+use Rattle.loops.specs.Meaning.{loops_in}
+use Rattle.machine.specs.MachineText.{machine_of}
+use Rattle.machine.specs.Machines.{MachineData}
+use Rattle.machine.specs.declared.fault.MachineFault.{MachineFault}
+use Rattle.printouts.specs.Outcomes.{Outcome}
+use Rattle.small_program.specs.Answers.{TellsOf}
+use Rattle.small_program.specs.declared.answers.Wanted.{Wanted}
+
+pub tells-read : (wanted : Wanted) (machine loops machine_read loops_read : List ℕ) (outcome : Outcome)
+    → machine_read ≡ take most_read machine → loops_read ≡ take most_read loops
+    → TellsOf wanted (machine_of machine_read) (loops_in loops_read) outcome → TellsOf wanted (machine_of machine) (loops_in loops) outcome
+tells-read wanted machine loops machine_read loops_read outcome m l h =
+    let on : machine_of machine_read ≡ machine_of machine = ap machine_of m ∙ machine_of-take machine in
+    let of : loops_in loops_read ≡ loops_in loops = ap loops_in l ∙ loops_in-take loops in
+    let first : TellsOf wanted (machine_of machine_read) (loops_in loops) outcome =
+    subst (λ (r : Result (List LoopData) LoopFault). TellsOf wanted (machine_of machine_read) r outcome) of h in
+    subst (λ (r : Result MachineData MachineFault). TellsOf wanted r (loops_in loops) outcome) on first
