@@ -4,9 +4,10 @@ mod agreement;
 mod tables;
 
 ghost use Rattle.std.specs.Prelude.{◌≤◌};
-ghost use Rattle.ims.specs.Problems.{mii_of};
+ghost use Rattle.loop_schedules.specs.Problems.{mii_of};
 
-use ims::{Failure, Prepared, Schedule, Try, attempt};
+use ims::{Failure, Try, attempt};
+use loop_schedules::{Prepared, Schedule};
 use loops::{Loop, read_loops};
 use machine::{Machine, read_machine};
 use mrt::{MaskTable, ModuloTable, OwnerTable, TimelineTable};

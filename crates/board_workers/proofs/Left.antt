@@ -13,7 +13,7 @@ use Rattle.candidates.specs.declared.choices.Choice.TheVariants.{Met, Failed}
 use Rattle.reports.specs.declared.entry.Entry.{Entry}
 use Rattle.reports.specs.declared.entry.Found.{Found}
 use Rattle.reports.specs.declared.entry.Found.TheVariants as found
-use Rattle.ims.specs.Problems.{ProblemData, IsProblem, mii_of}
+use Rattle.loop_schedules.specs.Problems.{ProblemData, IsProblem, mii_of}
 use Rattle.candidates.specs.Outcomes.{GivesKernel, FailsBy, OneOutcome}
 use Rattle.candidates.specs.Choices.{IsChoice}
 use Rattle.reports.specs.Entries.{In, ReportData, IsEntry, IsTrueAt, HasNoRefusal, mii_at}

@@ -12,7 +12,7 @@ use Rattle.std.proofs.Common.{add-zero, zero-add}
 use Rattle.std.proofs.lemmas.Option.{slice_get_within}
 use Rattle.std.proofs.Math.Numerals.{add-one}
 use Rattle.candidates.specs.Pieces.{PiecesData, piece_count}
-use Rattle.ims.specs.Problems.{ProblemData}
+use Rattle.loop_schedules.specs.Problems.{ProblemData}
 use Rattle.reports.specs.declared.entry.Entry.{Entry}
 use Rattle.reports.specs.declared.entry.Found.{Found}
 use Rattle.reports.specs.declared.entry.Found.TheVariants.{Won, Failed, Beaten, Unsettled}

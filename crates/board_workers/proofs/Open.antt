@@ -7,7 +7,7 @@ use Rattle.board.specs.declared.view.Terms.{Terms}
 use Rattle.board.specs.Rule.{Rule}
 use Rattle.board.specs.Views.{is_dry}
 use Rattle.candidates.specs.Pieces.{PiecesData, piece_count, IsCutting}
-use Rattle.ims.specs.Problems.{ProblemData}
+use Rattle.loop_schedules.specs.Problems.{ProblemData}
 use Rattle.reports.specs.declared.entry.Entry.{Entry}
 use Rattle.reports.specs.declared.entry.Found.{Found}
 use Rattle.reports.specs.declared.entry.Found.TheVariants.{Won, Failed, Unsettled}

@@ -11,7 +11,7 @@ use Rattle.board.specs.declared.word.WordPass.{WordPass}
 use Rattle.board.specs.Boards.{IsPassOf, view_of}
 use Rattle.board.specs.Names.{terms_of}
 use Rattle.board.specs.Views.{is_dry}
-use Rattle.ims.specs.Problems.{ProblemData, IsProblem}
+use Rattle.loop_schedules.specs.Problems.{ProblemData, IsProblem}
 use Rattle.candidates.specs.Outcomes.{OneOutcome}
 use Rattle.candidates.specs.Pieces.{PiecesData, IsCutting, piece_count}
 use Rattle.reports.specs.Entries.{ReportData}

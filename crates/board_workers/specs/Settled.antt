@@ -6,7 +6,7 @@ use Rattle.board.specs.declared.view.Terms.{Terms}
 use Rattle.board.specs.Names.{terms_of}
 use Rattle.board.specs.Rule.{Rule, least_of}
 use Rattle.board.specs.Views.{is_dry}
-use Rattle.ims.specs.Problems.{ProblemData, IsProblem}
+use Rattle.loop_schedules.specs.Problems.{ProblemData, IsProblem}
 use Rattle.candidates.specs.declared.choices.Choice.{Choice}
 use Rattle.candidates.specs.declared.choices.Choice.TheVariants.{Met, Failed}
 use Rattle.candidates.specs.Pieces.{PiecesData, IsCutting, piece_count}

@@ -9,11 +9,11 @@ use crate::gate::Gate;
 use crate::works::work;
 use board::{WordBoard, WordPass};
 use candidates::Pieces;
-use ims::Prepared;
+use loop_schedules::Prepared;
 use reports::Report;
-use shared_jobs::change_in_threads;
 use std::alloc::Global;
 use std::thread::Threads;
+use thread_calls::change_in_threads;
 
 /// Where a worker's pass lies before it works, and its pass and report afterwards.
 #[derive(Drop)]

@@ -3,7 +3,7 @@ ghost use Rattle.std.specs.Prelude.{◌≡◌, ◌≤◌, ◌+◌, [], IfOk, IsT
 ghost use Rattle.std.specs.List.{All, AllZip};
 ghost use Rattle.board.specs.Boards.{IsNewPassOf, sizes_of};
 ghost use Rattle.board.specs.Names.{terms_of};
-ghost use Rattle.ims.specs.Problems.{IsProblem};
+ghost use Rattle.loop_schedules.specs.Problems.{IsProblem};
 ghost use Rattle.candidates.specs.Pieces.{piece_count};
 ghost use Rattle.board_workers.specs.inner.Places.{IsDonePlace, IsReadyPlace, IsReportOn};
 ghost use Rattle.board_workers.specs.Settled.{AreOfOneBoard, LeaveNothing};
@@ -13,7 +13,7 @@ use crate::gate::Gate;
 use crate::places::{Place, run_all};
 use board::{WordBoard, WordPass};
 use candidates::Pieces;
-use ims::Prepared;
+use loop_schedules::Prepared;
 use machine_data::OutOfMemory;
 use reports::Report;
 use std::alloc::Global;

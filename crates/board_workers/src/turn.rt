@@ -1,7 +1,7 @@
 //! One piece, and one interval of it.
 ghost use Rattle.std.specs.Prelude.{◌≡◌, ◌<◌, ◌≤◌, ◌+◌, ◌-◌, IsTrue, length};
 ghost use Rattle.std.specs.List.{HoldsAt};
-ghost use Rattle.ims.specs.Problems.{mii_of};
+ghost use Rattle.loop_schedules.specs.Problems.{mii_of};
 ghost use Rattle.board.specs.Views.{with_posted};
 ghost use Rattle.candidates.specs.Choices.{last_of};
 ghost use Rattle.reports.specs.Entries.{IsTrueAt};

@@ -8,7 +8,7 @@ use crate::gate::Gate;
 use crate::turn::turn;
 use board::Board;
 use candidates::Pieces;
-use ims::Prepared;
+use loop_schedules::Prepared;
 use reports::{Report, go_dry, report_of};
 use std::alloc::Global;
 

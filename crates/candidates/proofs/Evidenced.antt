@@ -7,7 +7,7 @@ use Rattle.modulo.specs.Culprits.{failure_of}
 use Rattle.ims.specs.declared.outcome.attempts.Try.TheVariants as try
 use Rattle.ims.specs.Attempts.{AnswersAttempt}
 use Rattle.ims.specs.Culprits.{AnswersCulprit}
-use Rattle.ims.specs.Problems.{ProblemData, budget_of}
+use Rattle.loop_schedules.specs.Problems.{ProblemData, budget_of}
 use Rattle.ims.proofs.answers.Promised.{culprits-are_failures}
 use Rattle.candidates.specs.declared.evidence.Reason.TheVariants.{Attempt}
 use Rattle.candidates.specs.declared.evidence.Tried.TheVariants.{Met, Failed}

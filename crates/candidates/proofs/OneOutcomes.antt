@@ -2,8 +2,8 @@
 use Rattle.std.proofs.Common.{◌≡◌, ℕ, refl, sym, ap, ◌∙◌, subst}
 use Rattle.modulo.specs.declared.outcome.attempts.Failure.TheVariants as failure
 use Rattle.ims.specs.declared.outcome.attempts.Try.TheVariants as try
-use Rattle.ims.specs.Problems.{ProblemData, IsProblem, budget_of}
-use Rattle.ims.specs.Schedules.{ScheduleData}
+use Rattle.loop_schedules.specs.Problems.{ProblemData, IsProblem, budget_of}
+use Rattle.loop_schedules.specs.Schedules.{ScheduleData}
 use Rattle.ims.proofs.answers.OneAnswers.{one-answer}
 use Rattle.kernel.specs.declared.kernels.parts.Parts.{Parts}
 use Rattle.overlap.specs.Allotments.{AreLeast, HaveNone, NoneFor}

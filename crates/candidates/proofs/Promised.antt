@@ -10,10 +10,10 @@ use Rattle.loop_data.specs.Loops.{LoopData}
 use Rattle.graph.specs.Dependences.{latency_in}
 use Rattle.graph.specs.Schedules.{IsLawfulSchedule}
 use Rattle.graph.specs.Units.{opcodes_of}
-use Rattle.ims.specs.Problems.{ProblemData, IsProblemOf}
-use Rattle.ims.specs.Schedules.{ScheduleData, IsSchedule}
-use Rattle.ims.proofs.problems.OneProblems.{one-problem}
-use Rattle.ims.proofs.answers.Promised.{problems-have}
+use Rattle.loop_schedules.specs.Problems.{ProblemData, IsProblemOf}
+use Rattle.loop_schedules.specs.Schedules.{ScheduleData, IsSchedule}
+use Rattle.loop_schedules.proofs.problems.OneProblems.{one-problem}
+use Rattle.loop_schedules.proofs.Promised.{problems-have}
 use Rattle.kernel.specs.declared.kernels.operation.Operation.{Operation}
 use Rattle.kernel.specs.declared.kernels.parts.Parts.{Parts}
 use Rattle.kernel.specs.Overlapped.{overlapped}

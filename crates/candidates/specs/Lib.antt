@@ -1,4 +1,4 @@
-pub use Rattle.ims.specs.Problems
+pub use Rattle.loop_schedules.specs.Problems
 pub use Rattle.overlap.specs.Overlap
 pub use Rattle.settings.specs.Settings
 pub mod Choices

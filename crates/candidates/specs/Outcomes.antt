@@ -6,8 +6,8 @@ use Rattle.modulo.specs.declared.outcome.attempts.Failure.TheVariants as failure
 use Rattle.modulo.specs.Culprits.{failure_of}
 use Rattle.ims.specs.declared.outcome.attempts.Try.TheVariants as try
 use Rattle.ims.specs.Attempts.{AnswersAttempt}
-use Rattle.ims.specs.Problems.{ProblemData, IsProblem, mii_of, budget_of}
-use Rattle.ims.specs.Schedules.{ScheduleData}
+use Rattle.loop_schedules.specs.Problems.{ProblemData, IsProblem, mii_of, budget_of}
+use Rattle.loop_schedules.specs.Schedules.{ScheduleData}
 use Rattle.kernel.specs.declared.kernels.parts.Parts.{Parts}
 use Rattle.overlap.specs.Allotments.{AllotmentData, LeastFor, NoneFor}
 use Rattle.overlap.specs.Emission.{emitted}

@@ -7,7 +7,7 @@ use Rattle.graph.specs.Dependences.{latency_in}
 use Rattle.graph.specs.Graphs.{GraphData, IsGraphOf}
 use Rattle.graph.specs.Schedules.{IsLawfulSchedule}
 use Rattle.graph.specs.Units.{opcodes_of, operations_of}
-use Rattle.ims.specs.Problems.{ProblemData, IsProblemOf}
+use Rattle.loop_schedules.specs.Problems.{ProblemData, IsProblemOf}
 use Rattle.kernel.specs.declared.kernels.operation.Operation.{Operation}
 use Rattle.kernel.specs.declared.kernels.parts.Parts.{Parts}
 use Rattle.overlap.specs.Overlap.{times_of, choices_of, opcodes_in, RunsAsLoop}

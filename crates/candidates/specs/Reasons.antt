@@ -1,8 +1,8 @@
 -- Why an interval failed, and what it gives with the evidence of it.
 use Rattle.std.specs.Prelude.{◌≡◌, ℕ, Some}
 use Rattle.ims.specs.Culprits.{AnswersCulprit}
-use Rattle.ims.specs.Problems.{ProblemData, budget_of}
-use Rattle.ims.specs.Schedules.{ScheduleData}
+use Rattle.loop_schedules.specs.Problems.{ProblemData, budget_of}
+use Rattle.loop_schedules.specs.Schedules.{ScheduleData}
 use Rattle.registers.specs.declared.lifetime.Lifetime.{Lifetime}
 use Rattle.registers.specs.Numberless.{HasNone}
 use Rattle.overlap.specs.Allotments.{LeastFor}

@@ -6,8 +6,8 @@ ghost use Rattle.candidates.specs.Listings.{is_failed, is_met};
 
 use crate::outcomes::{Cause, Outcome};
 use crate::trials::Trials;
-use ims::Prepared;
 use kernel::Kernel;
+use loop_schedules::Prepared;
 use machine_data::OutOfMemory;
 use std::alloc::Global;
 

@@ -1,13 +1,14 @@
 //! Intervals with their evidence: what makes an interval's kernel, and what keeps it from one.
 
 ghost use Rattle.std.specs.Prelude.{◌≡◌, ◌≤◌, length, replicate, None, IfOk};
-ghost use Rattle.ims.specs.Problems.{mii_of};
+ghost use Rattle.loop_schedules.specs.Problems.{mii_of};
 ghost use Rattle.candidates.specs.Choices.{last_of};
 ghost use Rattle.candidates.specs.Reasons.{IsTried, reason_cause};
 
 use crate::outcomes::{Cause, budget};
-use ims::{Answer, Culprit, Prepared, Schedule, answer_on};
+use ims::{Answer, Culprit, answer_on};
 use kernel::Kernel;
+use loop_schedules::{Prepared, Schedule};
 use machine_data::OutOfMemory;
 use mrt::DefaultTable;
 use rotating::{Allotment, Allotted, Lifetime, allot_or_lack, emit};

@@ -5,7 +5,7 @@ ghost use Rattle.std.specs.List.{All};
 ghost use Rattle.candidates.specs.Listings.{IsListing, IsRow, listing_of, listing_row, listing_rows};
 
 use crate::choices::Choice;
-use ims::Prepared;
+use loop_schedules::Prepared;
 use machine_data::{Name, OutOfMemory};
 use std::alloc::Global;
 use std::marker::Model;

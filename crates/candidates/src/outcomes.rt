@@ -1,15 +1,16 @@
 //! What an interval gives.
 
 ghost use Rattle.std.specs.Prelude.{◌≡◌, ◌≤◌, length, replicate, None, IfOk, MatchOption};
-ghost use Rattle.ims.specs.Problems.{IsProblem, budget_of, mii_of};
+ghost use Rattle.loop_schedules.specs.Problems.{IsProblem, budget_of, mii_of};
 ghost use Rattle.overlap.specs.Allotments.{NoneFor};
 ghost use Rattle.candidates.specs.Choices.{last_of};
 ghost use Rattle.candidates.specs.Outcomes.{Gives, HasKernel, cause_of, culprit_cause};
 ghost use Rattle.candidates.specs.Texts.{cause_word};
 
 use crate::trials::Trials;
-use ims::{Culprit, Failure, Prepared, Schedule, Try, attempt_on};
+use ims::{Culprit, Failure, Try, attempt_on};
 use kernel::Kernel;
+use loop_schedules::{Prepared, Schedule};
 use machine_data::OutOfMemory;
 use mrt::DefaultTable;
 use rotating::{allot, emit};

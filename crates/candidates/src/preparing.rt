@@ -2,11 +2,11 @@
 
 ghost use Rattle.graph.specs.TablesAnswer.{TablesAnswer};
 ghost use Rattle.graph.specs.Units.{first_without_table};
-ghost use Rattle.ims.specs.Problems.{IsProblemOf};
+ghost use Rattle.loop_schedules.specs.Problems.{IsProblemOf};
 
 use graph::GraphFault;
-use ims::Prepared;
 use loop_data::Loop;
+use loop_schedules::Prepared;
 use machine_data::Machine;
 use settings::Settings;
 use std::alloc::Global;

@@ -1,14 +1,14 @@
 //! Intervals of one loop, tried one after another.
 
 ghost use Rattle.std.specs.Prelude.{◌≡◌, ◌≤◌, length, replicate, None, IfOk};
-ghost use Rattle.ims.specs.Problems.{mii_of};
+ghost use Rattle.loop_schedules.specs.Problems.{mii_of};
 ghost use Rattle.candidates.specs.Choices.{last_of};
 ghost use Rattle.candidates.specs.Outcomes.{Gives};
 ghost use Rattle.candidates.specs.Reasons.{IsTried};
 
 use crate::evidence::{Tried, tried_on};
 use crate::outcomes::{Outcome, outcome_on};
-use ims::Prepared;
+use loop_schedules::Prepared;
 use machine_data::OutOfMemory;
 use mrt::{DefaultTable, ModuloTable};
 use std::alloc::Global;
@@ -25,7 +25,7 @@ pub struct Trials<'a> {
 
 impl<'a> Model for Trials<'a> {
     ghost use Rattle.std.specs.Prelude.{◌≡◌, IfSome};
-    ghost use Rattle.ims.specs.Problems.{ProblemData};
+    ghost use Rattle.loop_schedules.specs.Problems.{ProblemData};
 
     ghost Value = { ProblemData };
 

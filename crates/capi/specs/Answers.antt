@@ -1,7 +1,7 @@
 -- What is told in numbers.
 use Rattle.std.specs.Prelude.{ℕ}
-use Rattle.modulo.specs.Problems.{mii_of}
-use Rattle.modulo.specs.Schedules.{stages_of}
+use Rattle.schedules.specs.Problems.{mii_of}
+use Rattle.schedules.specs.Schedules.{stages_of}
 use Rattle.problems.specs.declared.fault.Part.{Part}
 use Rattle.problems.specs.declared.fault.Part.TheVariants.{Units, Files, Kinds, Operations, Values, Reads, Orders}
 use Rattle.problems.specs.declared.fault.Fault.{Fault}

@@ -1,8 +1,8 @@
 -- What a check tells in numbers.
 use Rattle.std.specs.Prelude.{pos}
-use Rattle.modulo.specs.declared.schedules.breach.Breach.{Breach}
-use Rattle.modulo.specs.declared.schedules.breach.Breach.TheVariants.{Count, Time, Alternative, Slot, Edge, Stage}
-use Rattle.modulo.specs.Schedules.{stages_of}
+use Rattle.schedules.specs.declared.breach.Breach.{Breach}
+use Rattle.schedules.specs.declared.breach.Breach.TheVariants.{Count, Time, Alternative, Slot, Edge, Stage}
+use Rattle.schedules.specs.Schedules.{stages_of}
 use Rattle.problems.specs.declared.fault.Fault.{Fault}
 use Rattle.solutions.specs.declared.judging.broken.Broken.{Broken}
 use Rattle.solutions.specs.declared.judging.broken.Broken.TheVariants.{Interval, Numbers, Number, Schedule, Registers}

@@ -1,7 +1,7 @@
 //! What callers in C are told.
 
 ghost use Rattle.std.specs.Prelude.{◌≡◌, ◌≤◌};
-ghost use Rattle.modulo.specs.Schedules.{stages_of};
+ghost use Rattle.schedules.specs.Schedules.{stages_of};
 ghost use Rattle.solutions.specs.Outcomes.{last_of};
 ghost use Rattle.solutions.specs.Solutions.{schedule_of};
 ghost use Rattle.capi.specs.Answers.{cause_numbers, failed_answer, fault_answer, fault_numbers, met_answer, misfit_answer, nothing, part_number, without_fault};

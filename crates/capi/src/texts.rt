@@ -10,13 +10,16 @@ ghost use Rattle.explain_printouts.specs.Explain.{IsExplainText};
 ghost use Rattle.printouts.specs.Graphs.{IsDotText, IsEdgesText};
 ghost use Rattle.printouts.specs.Plain.{IsPlainText};
 ghost use Rattle.printouts.specs.Run.{IsRunText};
-ghost use Rattle.printouts.specs.Schedule.{IsListingDocument, IsListingText};
+ghost use Rattle.json_printouts.specs.Documents.{IsListingDocument};
+ghost use Rattle.printouts.specs.Schedule.{IsListingText};
 ghost use Rattle.capi.specs.Texts.{AnswersTexts, HandsBrought, run_misfit, search_misfit, trip_misfit};
 
 use crate::settings_of;
-use crate::tasks::{bounded, documented, drawn, edged, explained, plain, run, scheduled};
+use crate::tasks::{drawn, edged, explained};
 use crate::telling::{Told, tell, tell_misfit};
+use json_printouts::json_alone;
 use machine_data::limits::{MAX_CEILING, MAX_RATIO};
+use printouts::{bounds_alone, plain_alone, run_alone, schedule_alone};
 use settings::{TRIP_LIMIT, Trip};
 use std::alloc::Global;
 
@@ -43,7 +46,7 @@ pub extern "C" fn modsched_schedule(
     if misfit != 0 {
         return tell_misfit(misfit, told);
     }
-    let printed = scheduled(alloc, machine, loops, &settings_of(ratio, ceiling));
+    let printed = schedule_alone(alloc, machine, loops, &settings_of(ratio, ceiling));
     tell(alloc, printed, room, told)
 }
 
@@ -64,7 +67,7 @@ pub extern "C" fn modsched_json(
     if misfit != 0 {
         return tell_misfit(misfit, told);
     }
-    let printed = documented(alloc, machine, loops, &settings_of(ratio, ceiling));
+    let printed = json_alone(alloc, machine, loops, &settings_of(ratio, ceiling));
     tell(alloc, printed, room, told)
 }
 
@@ -109,7 +112,7 @@ pub extern "C" fn modsched_run(
         return tell_misfit(misfit, told);
     }
     let settings = settings_of(ratio, ceiling);
-    let printed = run(alloc, machine, loops, trip_of(trip), &settings);
+    let printed = run_alone(alloc, machine, loops, trip_of(trip), &settings);
     tell(alloc, printed, room, told)
 }
 
@@ -129,7 +132,7 @@ pub extern "C" fn modsched_plain(
     if misfit != 0 {
         return tell_misfit(misfit, told);
     }
-    tell(alloc, plain(alloc, loops, trip_of(trip)), room, told)
+    tell(alloc, plain_alone(alloc, loops, trip_of(trip)), room, told)
 }
 
 /// Writes the lower bounds of the interval of each loop, as `modsched bounds` prints them. It searches for no kernel; 0, 4, 5 and 7 as
@@ -144,7 +147,7 @@ pub extern "C" fn modsched_bounds(
 ) -> u32
     ensures { HandsBrought (AnswersFile IsBoundsText (machine_of machine.now) (loops_in loops.now)) room.old room.new told.new result }
 {
-    tell(alloc, bounded(alloc, machine, loops), room, told)
+    tell(alloc, bounds_alone(alloc, machine, loops), room, told)
 }
 
 /// Writes the dependences of each loop, as `modsched edges` prints them; else as [`modsched_bounds`].

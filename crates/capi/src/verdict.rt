@@ -4,8 +4,8 @@ ghost use Rattle.std.specs.Prelude.{◌≡◌};
 ghost use Rattle.capi.specs.Verdicts.{breach_verdict, broken_verdict, faulty_verdict, lawful_verdict, misfit_verdict, silence};
 
 use crate::answer::{FaultNumbers, fault_answer, without_fault};
-use modulo::Breach;
 use problems::Fault;
+use schedules::Breach;
 use solutions::{Broken, Solution};
 
 /// What a check tells, in numbers that count from 0. What does not belong to its status and kind is 0.

@@ -5,7 +5,7 @@ use Rattle.std.specs.List.{AllZip}
 use Rattle.collecting.specs.declared.cells.Settled.{Settled}
 use Rattle.collecting.specs.declared.cells.LoopCells.{LoopCells}
 use Rattle.candidates.specs.declared.choices.Choice.{Choice}
-use Rattle.ims.specs.Problems.{ProblemData, mii_of}
+use Rattle.loop_schedules.specs.Problems.{ProblemData, mii_of}
 use Rattle.candidates.specs.Choices.{IsChoice}
 use Rattle.reports.specs.Entries.{ReportData, is_settled_in, mii_at}
 use Rattle.reports.specs.Gathered.{tried, missing_in, retried_from}

@@ -8,7 +8,7 @@ use Rattle.kernel.specs.declared.kernels.parts.Parts.{Parts}
 use Rattle.candidates.specs.declared.outcomes.Cause.{Cause}
 use Rattle.candidates.specs.declared.outcomes.Outcome.{Outcome}
 use Rattle.candidates.specs.declared.outcomes.Outcome.TheVariants.{Met, Failed}
-use Rattle.ims.specs.Problems.{ProblemData, IsProblem, mii_of}
+use Rattle.loop_schedules.specs.Problems.{ProblemData, IsProblem, mii_of}
 use Rattle.candidates.specs.Outcomes.{GivesKernel, FailsBy}
 use Rattle.candidates.specs.Choices.{IsLeastMet, IsUnmet, NoneBefore}
 use Rattle.collecting.specs.inner.Cells.{known_at, empty_from, is_full}

@@ -9,7 +9,7 @@ use Rattle.collecting.specs.declared.cells.LoopCells.{LoopCells}
 use Rattle.reports.specs.declared.entry.Entry.{Entry}
 use Rattle.reports.specs.declared.entry.Found.{Found}
 use Rattle.reports.specs.declared.entry.Found.TheVariants.{Won, Failed, Beaten, Unsettled}
-use Rattle.ims.specs.Problems.{ProblemData, mii_of}
+use Rattle.loop_schedules.specs.Problems.{ProblemData, mii_of}
 use Rattle.reports.specs.Entries.{IsTrueAt, settles, is_settled, mii_at}
 use Rattle.collecting.specs.inner.Cells.{AreCellsOf, IsTrueCell, known_at, known_in, is_full, kept_of}
 

@@ -5,8 +5,8 @@ ghost use Rattle.reports.specs.Entries.{IsEntry, is_settled_in, settles, mii_at}
 ghost use Rattle.collecting.specs.inner.Cells.{AddsEmpty, AreEmptyCells, AreCellsOf, known_at, known_in, is_full, kept_of};
 
 use candidates::Cause;
-use ims::Prepared;
 use kernel::Kernel;
+use loop_schedules::Prepared;
 use machine_data::OutOfMemory;
 use reports::{Entry, Found, Report};
 use std::alloc::Global;

@@ -1,7 +1,7 @@
 //! A loop's choice, from what is known of its intervals.
 ghost use Rattle.std.specs.Prelude.{◌≡◌, ◌<◌, ◌≤◌, ◌+◌, length, None, IfOk, if◌then◌else◌};
 ghost use Rattle.std.specs.List.{slice_set};
-ghost use Rattle.ims.specs.Problems.{mii_of};
+ghost use Rattle.loop_schedules.specs.Problems.{mii_of};
 ghost use Rattle.candidates.specs.Outcomes.{Gives};
 ghost use Rattle.candidates.specs.Choices.{IsChoice};
 ghost use Rattle.reports.specs.Gathered.{tried};
@@ -9,7 +9,7 @@ ghost use Rattle.collecting.specs.inner.Cells.{AreCellsOf, IsTrueCell, known_at,
 
 use crate::cells::{LoopCells, Settled};
 use candidates::{Cause, Choice, Outcome, Trials};
-use ims::Prepared;
+use loop_schedules::Prepared;
 use machine_data::OutOfMemory;
 use std::alloc::Global;
 

@@ -9,7 +9,7 @@ ghost use Rattle.machine_data.specs.declared.limits.TheConstants.{MAX_LOOPS};
 use crate::cells::{LoopCells, empty_cells, fill};
 use crate::climbs::climb;
 use candidates::Choice;
-use ims::Prepared;
+use loop_schedules::Prepared;
 use machine_data::OutOfMemory;
 use reports::Report;
 use std::alloc::Global;

@@ -10,14 +10,14 @@ use Rattle.machine.specs.declared.fault.MachineFault.TheVariants as fault
 use Rattle.machine.specs.Opcodes.{word_of}
 use Rattle.file_faults.specs.declared.fault.FileFault.{FileFault}
 use Rattle.file_faults.specs.declared.fault.FileFault.TheVariants as file
-use Rattle.problem_reader.specs.Texts.{fault_text as problems_fault_text}
-use Rattle.problem_reader.specs.declared.fault.TextFault.{TextFault}
-use Rattle.problem_tables.specs.declared.fault.Wrong.{Wrong as ProblemsWrong}
-use Rattle.problem_tables.specs.declared.fault.Wrong.TheVariants as problems_wrong
-use Rattle.solution_reader.specs.Texts.{fault_text as solutions_fault_text}
-use Rattle.solution_reader.specs.declared.fault.SolutionFault.{SolutionFault}
-use Rattle.solution_reader.specs.declared.fault.Wrong.{Wrong as SolutionsWrong}
-use Rattle.solution_reader.specs.declared.fault.Wrong.TheVariants as solutions_wrong
+use Rattle.problem_faults.specs.ProblemTexts.{fault_text as problems_fault_text}
+use Rattle.problem_faults.specs.declared.refused_problems.TextFault.{TextFault}
+use Rattle.problem_faults.specs.declared.refused_problems.Wrong.{Wrong as ProblemsWrong}
+use Rattle.problem_faults.specs.declared.refused_problems.Wrong.TheVariants as problems_wrong
+use Rattle.problem_faults.specs.SolutionTexts.{fault_text as solutions_fault_text}
+use Rattle.problem_faults.specs.declared.refused_solutions.SolutionFault.{SolutionFault}
+use Rattle.problem_faults.specs.declared.refused_solutions.Wrong.{Wrong as SolutionsWrong}
+use Rattle.problem_faults.specs.declared.refused_solutions.Wrong.TheVariants as solutions_wrong
 use Rattle.problem_faults.specs.declared.fault.ProblemsFault.{ProblemsFault}
 use Rattle.problem_faults.specs.declared.fault.ProblemsFault.TheVariants as problems
 use Rattle.exit_status.specs.declared.status.Status.{Status}

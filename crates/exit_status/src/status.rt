@@ -8,8 +8,8 @@ use file_faults::FileFault;
 use loops::{LoopFault, LoopFaultKind};
 use machine::{MachineFault, Name, Opcode};
 use problem_faults::ProblemsFault;
-use problem_reader::{TextFault, Wrong as ProblemsWrong};
-use solution_reader::{SolutionFault, Wrong as SolutionsWrong};
+use problem_faults::refused_problems::{TextFault, Wrong as ProblemsWrong};
+use problem_faults::refused_solutions::{SolutionFault, Wrong as SolutionsWrong};
 use std::fmt;
 use std::marker::Model;
 

@@ -13,7 +13,7 @@ use Rattle.graph_text.specs.Kinds.{IsOfKind, IsTimed}
 use Rattle.graph_text.specs.Texts.{AreTexts}
 use Rattle.writing.proofs.Beginnings.{two_pushed}
 use Rattle.loop_data.specs.Loops.{LoopData}
-use Rattle.ims.specs.Problems.{ProblemData, IsProblem}
+use Rattle.loop_schedules.specs.Problems.{ProblemData, IsProblem}
 use Rattle.explain.specs.CircuitTexts.{IsCircuitText}
 
 -- the edges of a walk

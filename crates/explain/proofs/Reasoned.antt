@@ -8,8 +8,8 @@ use Rattle.std.proofs.lemmas.List.FromFn.{get_or-range_with_len, length-range_wi
 use Rattle.std.proofs.lemmas.Option.{slice_get-get_or, slice_get-map, slice_get_within}
 use Rattle.mrt.specs.Placements.{placement_of}
 use Rattle.modulo.specs.Culprits.{EndsWithout}
-use Rattle.ims.specs.Problems.{ProblemData, IsProblem, budget_of, without_loop}
-use Rattle.ims.specs.Schedules.{ScheduleData}
+use Rattle.loop_schedules.specs.Problems.{ProblemData, IsProblem, budget_of, without_loop}
+use Rattle.loop_schedules.specs.Schedules.{ScheduleData}
 use Rattle.registers.specs.declared.lifetime.Lifetime.{Lifetime}
 use Rattle.overlap.specs.Lifetimes.{lifetime_of, lifetimes_of, values_of}
 use Rattle.overlap.proofs.in_registers.Preloaded.{value-back}

@@ -1,7 +1,7 @@
 -- The schedule and the registers of a loop's kernel.
 use Rattle.std.proofs.Common.{ℕ, refl}
 use Rattle.machine_data.specs.Machines.{MachineData}
-use Rattle.ims.specs.Problems.{ProblemData}
+use Rattle.loop_schedules.specs.Problems.{ProblemData}
 use Rattle.overlap.specs.Allotments.{Suits}
 use Rattle.overlap.specs.Lifetimes.{lifetimes_of}
 use Rattle.registers.proofs.allotted.Least.{least-is_lawful}

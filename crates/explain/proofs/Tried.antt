@@ -2,7 +2,7 @@
 use Rattle.std.proofs.Common.{◌≡◌, ℕ, ◌+◌, ◌-◌, ◌≤◌, Bool, List, ◌++◌, get_or, sym, ap, ◌∙◌, subst}
 use Rattle.std.specs.List.{All, AllZip, range_with_len}
 use Rattle.std.proofs.lemmas.Option.{slice_get-get_or}
-use Rattle.ims.specs.Problems.{ProblemData, mii_of}
+use Rattle.loop_schedules.specs.Problems.{ProblemData, mii_of}
 use Rattle.candidates.specs.declared.choices.Choice.{Choice}
 use Rattle.candidates.specs.declared.choices.Choice.TheVariants.{Met}
 use Rattle.told_choices.specs.declared.why.Why.{Why}

@@ -7,7 +7,7 @@ use Rattle.graph_text.specs.Drawings.{IsCritical}
 use Rattle.graph_text.specs.Edges.{edge_line}
 use Rattle.graph_text.specs.Kinds.{IsOfKind}
 use Rattle.graph_text.specs.Texts.{AreTexts}
-use Rattle.ims.specs.Problems.{ProblemData}
+use Rattle.loop_schedules.specs.Problems.{ProblemData}
 
 -- a circuit that needs the recurrence-constrained lower bound: the line of its sums, and a line for each of its edges, in its
 -- order, with its kind

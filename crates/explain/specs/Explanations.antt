@@ -8,7 +8,7 @@ use Rattle.graph_text.specs.Texts.{AreTexts}
 use Rattle.graph.specs.Units.{operations_of}
 use Rattle.resource_bound.specs.Choices.{AreUnitChoices}
 use Rattle.resource_bound.specs.UnitLines.{unit_lines_of}
-use Rattle.ims.specs.Problems.{ProblemData, IsProblemOf}
+use Rattle.loop_schedules.specs.Problems.{ProblemData, IsProblemOf}
 use Rattle.candidates.specs.declared.choices.Choice.{Choice}
 use Rattle.candidates.specs.Listings.{is_met, is_failed}
 use Rattle.unit_sets.specs.declared.fullest.UnitSet.{UnitSet}

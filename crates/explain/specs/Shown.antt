@@ -1,8 +1,8 @@
 -- The schedule and the registers of a loop's kernel, as text.
 use Rattle.std.specs.Prelude.{◌≡◌, ℕ, List, []}
 use Rattle.machine_data.specs.Machines.{MachineData}
-use Rattle.ims.specs.Problems.{ProblemData}
-use Rattle.ims.specs.Schedules.{ScheduleData}
+use Rattle.loop_schedules.specs.Problems.{ProblemData}
+use Rattle.loop_schedules.specs.Schedules.{ScheduleData}
 use Rattle.overlap.specs.Allotments.{AllotmentData, LeastFor}
 use Rattle.figures.specs.declared.figures.Figures.{Figures}
 use Rattle.figures.specs.Figures.{AreFigures}

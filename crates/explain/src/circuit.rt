@@ -10,8 +10,8 @@ ghost use Rattle.explain.specs.CircuitTexts.{IsCircuitText};
 
 use graph::{Edge, Edges};
 use graph_text::{critical_circuit, kind_of, push_circuit_line, push_edge};
-use ims::Prepared;
 use loop_data::Loop;
+use loop_schedules::Prepared;
 use machine_data::OutOfMemory;
 use std::alloc::Global;
 

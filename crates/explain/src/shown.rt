@@ -4,7 +4,7 @@ ghost use Rattle.std.specs.Prelude.{◌≡◌, ◌++◌, ℕ, List, OnOk};
 ghost use Rattle.told_choices.specs.Told.{HasEvidence, choice_of};
 ghost use Rattle.explain.specs.Shown.{IsShown};
 
-use ims::Prepared;
+use loop_schedules::Prepared;
 use machine_data::{Machine, OutOfMemory};
 use schedule_lines::push_schedule;
 use std::alloc::Global;

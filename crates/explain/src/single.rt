@@ -8,7 +8,7 @@ use crate::circuit::push_circuit;
 use crate::intervals::tries::push_tries;
 use candidates::Choice;
 use graph_text::{LowerBounds, push_bounds_line};
-use ims::Prepared;
+use loop_schedules::Prepared;
 use machine_data::OutOfMemory;
 use std::alloc::Global;
 use told_choices::{Told, choose_told};

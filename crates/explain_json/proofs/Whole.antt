@@ -9,8 +9,8 @@ use Rattle.machine_data.specs.Machines.{MachineData}
 use Rattle.loop_data.specs.Loops.{LoopData}
 use Rattle.graph.specs.Dependences.{EdgeData}
 use Rattle.graph.specs.Walks.{delay_of}
-use Rattle.ims.specs.Problems.{ProblemData, mii_of}
-use Rattle.ims.specs.Schedules.{ScheduleData}
+use Rattle.loop_schedules.specs.Problems.{ProblemData, mii_of}
+use Rattle.loop_schedules.specs.Schedules.{ScheduleData}
 use Rattle.modulo.specs.declared.outcome.attempts.Culprit.TheVariants.{Blocked, Unplaced, Late}
 use Rattle.registers.specs.declared.lifetime.Lifetime.{Lifetime}
 use Rattle.registers.specs.Crowds.{nobody}

@@ -2,8 +2,8 @@
 use Rattle.std.specs.Prelude.{ℕ, codes, List, slice_index}
 use Rattle.serde_json.specs.Data.{Data, string, object, member, no_members}
 use Rattle.graph_text.specs.Names.{op_name, opcode_word}
-use Rattle.ims.specs.Problems.{ProblemData}
-use Rattle.ims.specs.Schedules.{ScheduleData, row_of, stage_of}
+use Rattle.loop_schedules.specs.Problems.{ProblemData}
+use Rattle.loop_schedules.specs.Schedules.{ScheduleData, row_of, stage_of}
 use Rattle.told_choices.specs.declared.chosen.Chosen.{Chosen}
 use Rattle.told_choices.specs.declared.chosen.Chosen.TheVariants.{Met, Failed}
 use Rattle.explain_json.specs.Parts.{array_of, count_value}

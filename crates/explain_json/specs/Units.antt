@@ -5,7 +5,7 @@ use Rattle.serde_json.specs.Data.{Data, boolean, string, array, object, member, 
 use Rattle.serde_json.specs.View.{items_of}
 use Rattle.machine_data.specs.Machines.{MachineData}
 use Rattle.graph.specs.Units.{use_of}
-use Rattle.ims.specs.Problems.{ProblemData}
+use Rattle.loop_schedules.specs.Problems.{ProblemData}
 use Rattle.resource_bound.specs.Choices.{rows_at}
 use Rattle.unit_sets.specs.declared.fullest.UnitSet.{UnitSet}
 use Rattle.unit_sets.specs.Fullest.{units_in}

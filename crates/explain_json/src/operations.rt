@@ -10,8 +10,8 @@ ghost use Rattle.explain_json.specs.inner.Objects.{operation_members};
 ghost use Rattle.explain_json.specs.Units.{operations_in};
 
 use crate::names::told_name;
-use ims::{Prepared, Schedule};
 use json_objects::{object_of, with, with_value};
+use loop_schedules::{Prepared, Schedule};
 use machine_data::OutOfMemory;
 use serde_json::{Map, ToValue, Value};
 use std::alloc::Global;

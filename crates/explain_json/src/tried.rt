@@ -10,8 +10,9 @@ ghost use Rattle.explain_json.specs.inner.Objects.{failure_members, life_members
 ghost use Rattle.explain_json.specs.Tries.{chosen_try, failure_object, failures_from, kernel_try, tried_value};
 
 use crate::values::told_need;
-use ims::{Culprit, Prepared};
+use ims::Culprit;
 use json_objects::{object_of, with, with_value};
+use loop_schedules::Prepared;
 use machine_data::OutOfMemory;
 use rotating::Lifetime;
 use serde_json::{Map, ToValue, Value};

@@ -11,8 +11,8 @@ ghost use Rattle.explain_json.specs.inner.Objects.{unit_object, user_object};
 ghost use Rattle.explain_json.specs.Units.{set_object, unit_name, unit_objects, units_of, units_value, use_by, user_objects, users_of, uses_of};
 
 use crate::names::{told_unit_name, told_unit_names};
-use ims::Prepared;
 use json_objects::{object_of, with, with_value};
+use loop_schedules::Prepared;
 use machine_data::{Machine, OutOfMemory, Row};
 use resource_bound::rows_by;
 use serde_json::{Map, Value};

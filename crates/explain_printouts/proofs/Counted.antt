@@ -9,7 +9,7 @@ use Rattle.graph_text.proofs.Lacking.{complete}
 use Rattle.resource_bound.specs.Choices.{AreUnitChoices}
 use Rattle.unit_sets.specs.declared.fullest.UnitSet.{UnitSet}
 use Rattle.unit_sets.specs.Fullest.{IsFullest}
-use Rattle.ims.specs.Problems.{ProblemData}
+use Rattle.loop_schedules.specs.Problems.{ProblemData}
 use Rattle.candidates.specs.declared.choices.Choice.{Choice}
 use Rattle.explain_printouts.specs.Objects.{IsObject, IsObjectOn}
 

@@ -7,7 +7,7 @@ use Rattle.graph_text.specs.Drawings.{IsCritical}
 use Rattle.resource_bound.specs.Choices.{AreUnitChoices}
 use Rattle.unit_sets.specs.declared.fullest.UnitSet.{UnitSet}
 use Rattle.unit_sets.specs.Fullest.{IsFullest}
-use Rattle.ims.specs.Problems.{ProblemData}
+use Rattle.loop_schedules.specs.Problems.{ProblemData}
 use Rattle.candidates.specs.declared.choices.Choice.{Choice}
 use Rattle.told_choices.specs.declared.told.Told.{Told}
 use Rattle.told_choices.specs.Told as chosen

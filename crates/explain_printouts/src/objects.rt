@@ -8,8 +8,8 @@ ghost use Rattle.explain_printouts.specs.declared.objects.Object.{Object};
 ghost use Rattle.explain_printouts.specs.ExplainDocuments.{IsObjectOf, document_text, number_failed, number_met};
 
 use crate::object::push_prepared_json;
-use ims::Prepared;
 use json_objects::{push_head, push_tail};
+use loop_schedules::Prepared;
 use machine::{Machine, OutOfMemory};
 use report_page::push_page;
 use std::alloc::Global;

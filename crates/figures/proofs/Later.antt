@@ -8,7 +8,7 @@ use Rattle.std.proofs.lemmas.List.Elements.{All-nil, All-cons, All-head, All-tai
 use Rattle.graph.specs.Dependences.{EdgeData}
 use Rattle.graph.specs.Schedules.{KeepsEdge}
 use Rattle.graph.specs.Units.{greatest_of}
-use Rattle.ims.specs.Schedules.{ScheduleData, IsSchedule}
+use Rattle.loop_schedules.specs.Schedules.{ScheduleData, IsSchedule}
 use Rattle.overlap.specs.Lifetimes.{last_landing}
 use Rattle.figures.specs.Slacks.{MayBeLater, IsSlack}
 

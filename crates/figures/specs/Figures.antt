@@ -1,6 +1,6 @@
 -- Figures of a schedule.
 use Rattle.std.specs.Prelude.{◌≡◌}
-use Rattle.ims.specs.Schedules.{ScheduleData}
+use Rattle.loop_schedules.specs.Schedules.{ScheduleData}
 use Rattle.overlap.specs.Lifetimes.{last_landing}
 use Rattle.rotating.specs.Needs.{IsNeed}
 use Rattle.figures.specs.declared.figures.Figures.{Figures}

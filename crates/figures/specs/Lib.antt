@@ -1,4 +1,4 @@
-pub use Rattle.ims.specs.Schedules
+pub use Rattle.loop_schedules.specs.Schedules
 pub use Rattle.overlap.specs.Lifetimes
 pub use Rattle.rotating.specs.Needs
 pub mod Slacks

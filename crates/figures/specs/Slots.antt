@@ -5,7 +5,7 @@ use Rattle.machine_data.specs.declared.alternative.Row.{Row}
 use Rattle.machine_data.specs.Machines.{MachineData}
 use Rattle.mrt.specs.Placements.{rows_of}
 use Rattle.mrt.specs.Taken.{takes}
-use Rattle.ims.specs.Schedules.{IsSchedule, ScheduleData}
+use Rattle.loop_schedules.specs.Schedules.{IsSchedule, ScheduleData}
 
 -- the numbers of the operations, and of the rows
 abbrev pub operations_in : ScheduleData → List ℕ

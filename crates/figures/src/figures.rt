@@ -4,7 +4,7 @@ ghost use Rattle.std.specs.Prelude.{IfOk};
 ghost use Rattle.figures.specs.Figures.{AreFigures};
 
 use crate::slacks::slacks_of;
-use ims::Schedule;
+use loop_schedules::Schedule;
 use machine_data::OutOfMemory;
 use rotating::{last_landing, least_registers};
 use std::alloc::Global;

@@ -5,7 +5,7 @@ ghost use Rattle.graph.specs.Units.{greatest_of};
 ghost use Rattle.overlap.specs.Lifetimes.{lifetimes_of};
 ghost use Rattle.figures.specs.LiveCounts.{live_counts};
 
-use ims::Schedule;
+use loop_schedules::Schedule;
 use machine_data::OutOfMemory;
 use rotating::{Lifetime, live_in};
 use std::alloc::Global;

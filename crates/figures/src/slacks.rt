@@ -6,7 +6,7 @@ ghost use Rattle.graph.specs.Schedules.{KeepsEdge};
 ghost use Rattle.overlap.specs.Lifetimes.{last_landing};
 
 use graph::Edge;
-use ims::Schedule;
+use loop_schedules::Schedule;
 use machine_data::OutOfMemory;
 use std::alloc::Global;
 

@@ -7,7 +7,7 @@ ghost use Rattle.figures.specs.Slots.{busy_count, is_used, percent_of, rows_at, 
 ghost use Rattle.figures.specs.inner.Tables.{AreTakersFrom, taker_in};
 ghost use Rattle.machine_data.specs.declared.limits.TheConstants.{MAX_INTERVAL, MAX_UNITS};
 
-use ims::Schedule;
+use loop_schedules::Schedule;
 use machine_data::limits::MAX_UNITS;
 use machine_data::{Machine, OutOfMemory, Row};
 use std::alloc::Global;
@@ -23,7 +23,7 @@ pub struct Takers<'s, 'a> {
 
 impl<'s, 'a> Model for Takers<'s, 'a> {
     ghost use Rattle.std.specs.Prelude.{◌≡◌, ◌*◌, length};
-    ghost use Rattle.ims.specs.Schedules.{ScheduleData};
+    ghost use Rattle.loop_schedules.specs.Schedules.{ScheduleData};
     ghost use Rattle.figures.specs.inner.Tables.{AreTakersFrom};
 
     ghost Value = { ScheduleData };

@@ -4,8 +4,8 @@ use Rattle.ims.specs.declared.outcome.answers.Answer.{Answer}
 use Rattle.ims.specs.declared.outcome.answers.Answer.TheVariants.{Placed, Failed}
 use Rattle.ims.specs.declared.outcome.attempts.Try.TheVariants as try
 use Rattle.ims.specs.Attempts.{AnswersAttempt}
-use Rattle.ims.specs.Problems.{ProblemData, without_loop}
-use Rattle.ims.specs.Schedules.{ScheduleData}
+use Rattle.loop_schedules.specs.Problems.{ProblemData, without_loop}
+use Rattle.loop_schedules.specs.Schedules.{ScheduleData}
 use Rattle.modulo.specs.declared.outcome.attempts.Culprit.{Culprit}
 use Rattle.modulo.specs.Culprits as modulo
 

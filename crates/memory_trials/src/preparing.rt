@@ -2,7 +2,7 @@
 
 use crate::answers::{Answer, tell};
 use candidates::Settings;
-use ims::Prepared;
+use loop_schedules::Prepared;
 use loops::read_loops;
 use machine::{OutOfMemory, read_machine};
 use std::alloc::Global;

@@ -8,7 +8,7 @@ ghost use Rattle.board.specs.Names.{terms_of};
 use crate::answers::NotBegun;
 use board::{WordBoard, WordPass};
 use candidates::Settings;
-use ims::Prepared;
+use loop_schedules::Prepared;
 use std::alloc::Global;
 use std::thread::Threads;
 use worked_texts::{THREE, TWO_REGISTERS};

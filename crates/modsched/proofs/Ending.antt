@@ -10,10 +10,10 @@ use Rattle.command_line.specs.declared.command.Report.{Report}
 use Rattle.command_line.specs.declared.command.Report.TheVariants as report
 use Rattle.command_line.specs.declared.command.Work.{Work}
 use Rattle.command_line.specs.declared.command.Work.TheVariants.{Plain, OnMachine}
-use Rattle.problem_tables.specs.declared.fault.Wrong.TheVariants as problems_wrong
+use Rattle.problem_faults.specs.declared.refused_problems.Wrong.TheVariants as problems_wrong
 use Rattle.problem_reader.specs.Files.{file_in_text, data_or}
 use Rattle.problem_reader.specs.Meaning.{forms_in}
-use Rattle.solution_reader.specs.declared.fault.SolutionFault.{SolutionFault}
+use Rattle.problem_faults.specs.declared.refused_solutions.SolutionFault.{SolutionFault}
 use Rattle.solution_reader.specs.Data.{SolutionData as TextSolution}
 use Rattle.solution_reader.specs.Meaning.{size_fault, solutions_in_text}
 use Rattle.problem_printouts.specs.Solving.{AnswersSolve}

@@ -4,7 +4,7 @@ use Rattle.std.specs.Prelude.{Option, Result, Ok, Err, Vec}
 use Rattle.std.specs.Global.{Global}
 use Rattle.machine.specs.Opcode.{Opcode}
 use Rattle.loops.specs.Loops.{LoopData}
-use Rattle.ims.specs.Problems.{ProblemData}
+use Rattle.loop_schedules.specs.Problems.{ProblemData}
 use Rattle.candidates.specs.Listings.{ListingData}
 use Rattle.file_faults.specs.Answers.{AnswersLoops, AnswersOn}
 use Rattle.file_faults.specs.declared.fault.FileFault.{FileFault}

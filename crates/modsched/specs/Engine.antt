@@ -32,7 +32,8 @@ use Rattle.printouts.specs.Outcomes.{Outcome}
 use Rattle.written.specs.Written.{Written}
 use Rattle.printouts.specs.Plain.{IsPlainText}
 use Rattle.printouts.specs.Run.{IsRunText}
-use Rattle.printouts.specs.Schedule.{IsListingText, IsListingDocument}
+use Rattle.json_printouts.specs.Documents.{IsListingDocument}
+use Rattle.printouts.specs.Schedule.{IsListingText}
 use Rattle.scheduled_printouts.specs.Graphs.{AreScheduledGraphs}
 use Rattle.variants.specs.Texts.{IsVaryText}
 use Rattle.variants.specs.Documents.{IsVaryDocument}

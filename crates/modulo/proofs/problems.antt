@@ -1,5 +1,4 @@
--- What is scheduled, and the order in which operations are taken.
+-- The order in which operations are taken, and the alternatives that are sound.
 pub mod Apart
-pub mod OneProblems
 pub mod Ranking
 pub mod Sorting

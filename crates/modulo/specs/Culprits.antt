@@ -12,8 +12,8 @@ use Rattle.modulo.specs.declared.outcome.attempts.Try.TheVariants as try
 use Rattle.modulo.specs.declared.outcome.attempts.Culprit.{Culprit}
 use Rattle.modulo.specs.declared.outcome.attempts.Culprit.TheVariants.{Blocked, Unplaced, Late}
 use Rattle.modulo.specs.Attempts.{IsBlocked, EndsPlaced, AnswersAttempt}
-use Rattle.modulo.specs.Problems.{ProblemData}
-use Rattle.modulo.specs.Schedules.{ScheduleData}
+use Rattle.schedules.specs.Problems.{ProblemData}
+use Rattle.schedules.specs.Schedules.{ScheduleData}
 use Rattle.modulo.specs.Scheduling.{State, Stops}
 
 -- the first operation that has only alternatives that collide with themselves

@@ -7,7 +7,7 @@ use Rattle.machine_data.specs.Alternative.{collides}
 use Rattle.graph.specs.Dependences.{EdgeData}
 use Rattle.graph.specs.Walks.{AreHeights}
 use Rattle.mrt.specs.Placements.{Placements, Placement, placement_of, alternatives_of, rows_of, IsMetBy, IsFirstSlot}
-use Rattle.modulo.specs.Problems.{ProblemData}
+use Rattle.schedules.specs.Problems.{ProblemData}
 
 -- each operation's placement, where it has one, and the time of its last placement, where it ever had one
 pub record State : Type 0 where

@@ -5,16 +5,9 @@
 mod laws;
 mod outcome;
 mod problem;
-mod schedules;
 mod stepping;
 
-pub use laws::{
-    attempts_are_lawful, breaches_break, culprits_are_failures, one_answer, one_breach,
-    one_problem, stages_are_few,
-};
+pub use laws::{attempts_are_lawful, culprits_are_failures, one_answer};
 pub use outcome::answers::{Answer, answer_on};
 pub use outcome::attempts::{Culprit, Failure, Try, attempt, attempt_on};
 pub use outcome::culprits::culprit;
-pub use problem::problems::Problem;
-pub use schedules::breach::Breach;
-pub use schedules::schedule::Schedule;

@@ -1,5 +1,4 @@
-//! What is scheduled, and in which order.
+//! In which order operations are taken, and which of their alternatives are sound.
 
 pub(crate) mod order;
-pub(crate) mod problems;
 pub(crate) mod sound;

@@ -7,7 +7,7 @@ use Rattle.loops.specs.Loops.{LoopData}
 use Rattle.graph.specs.TablesAnswer.{TablesAnswer}
 use Rattle.graph.specs.declared.fault.GraphFault.TheVariants as graph_fault
 use Rattle.graph.specs.Units.{first_without_table, first_lacking, lacking_or}
-use Rattle.ims.specs.Problems.{ProblemData, IsProblemOf}
+use Rattle.loop_schedules.specs.Problems.{ProblemData, IsProblemOf}
 use Rattle.file_faults.specs.declared.fault.FileFault.TheVariants.{NoTable}
 use Rattle.one_thread.specs.Files.{AnswersOn, ArePrepared}
 

@@ -1,4 +1,4 @@
 pub use Rattle.candidates.specs.Choices
 pub use Rattle.candidates.specs.Promises
-pub use Rattle.ims.specs.Problems
+pub use Rattle.loop_schedules.specs.Problems
 pub mod Files

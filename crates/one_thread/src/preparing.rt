@@ -2,13 +2,13 @@
 
 ghost use Rattle.std.specs.Prelude.{◌≡◌, ◌≤◌, [], None, vec_capacity, vec_len};
 ghost use Rattle.graph.specs.Units.{first_without_table, first_lacking, lacking_or};
-ghost use Rattle.ims.specs.Problems.{IsProblemOf};
+ghost use Rattle.loop_schedules.specs.Problems.{IsProblemOf};
 ghost use Rattle.one_thread.specs.Files.{AnswersOn, Prepares};
 
 use candidates::{Settings, prepare};
 use file_faults::FileFault;
 use graph::GraphFault;
-use ims::Prepared;
+use loop_schedules::Prepared;
 use loops::Loop;
 use machine::Machine;
 use std::alloc::Global;

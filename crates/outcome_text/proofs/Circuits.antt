@@ -3,7 +3,7 @@ use Rattle.std.proofs.Common.{◌-◌, ◌≤◌, List, length, arith}
 use Rattle.graph.specs.Dependences.{EdgeData}
 use Rattle.circuits.specs.Circuits.{IsCircuitAbove}
 use Rattle.circuits.proofs.Rounds.{once-short}
-use Rattle.modulo.specs.Problems.{ProblemData as SchedulingData, IsProblem}
+use Rattle.schedules.specs.Problems.{ProblemData as SchedulingData, IsProblem}
 
 pub is-short : (p : SchedulingData) (walk : List EdgeData) → IsProblem p → IsCircuitAbove p.graph.edges (p.recurrences - 1) walk → length walk ≤ 128
 is-short p walk is above =

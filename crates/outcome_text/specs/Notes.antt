@@ -6,7 +6,7 @@ use Rattle.graph.specs.Dependences.{EdgeData}
 use Rattle.graph.specs.Units.{chosen_rows, use_of}
 use Rattle.graph.specs.Walks.{delay_of, distance_of}
 use Rattle.circuits.specs.Circuits.{IsCircuitAbove}
-use Rattle.modulo.specs.Problems.{ProblemData as SchedulingData}
+use Rattle.schedules.specs.Problems.{ProblemData as SchedulingData}
 use Rattle.resource_bound.specs.Choices.{AreUnitChoices}
 use Rattle.problems.specs.declared.draft.Draft.{Draft}
 use Rattle.problems.specs.Problems.{ProblemData}

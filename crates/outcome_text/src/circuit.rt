@@ -18,7 +18,7 @@ use writing::{Text, push_signed, push_told};
 ///
 /// # Errors
 /// Memory ran out.
-pub fn circuit_of(alloc: Global, scheduling: &modulo::Problem) -> Result<Vec<Edge>, OutOfMemory>
+pub fn circuit_of(alloc: Global, scheduling: &schedules::Problem) -> Result<Vec<Edge>, OutOfMemory>
     ensures exact { IfOk result (λ circuit. IsCircuitOf scheduling.now circuit.items) }
     ensures few { IfOk result (λ circuit. length circuit.items ≤ MAX_STATEMENTS) }
 {

@@ -17,7 +17,7 @@ use Rattle.kernel.specs.declared.kernels.parts.Parts.{Parts}
 use Rattle.kernel.specs.Overlapped.{InRegister, InCell, Write, physical, value_or, preloaded, last_of_all, all_writes, overlapped, turns_of, cells_after, arrays_left, out_after}
 use Rattle.overlap.specs.Allotments.{AllotmentData, allotted_number}
 use Rattle.overlap.specs.Lifetimes.{is_out, rank_of}
-use Rattle.ims.specs.Schedules.{ScheduleData, IsSchedule, stages_of}
+use Rattle.loop_schedules.specs.Schedules.{ScheduleData, IsSchedule, stages_of}
 use Rattle.overlap.specs.Emission.{out_of, emitted}
 use Rattle.overlap.specs.Sequence.{state_before, given_by, write_of_instance, sequence_before}
 use Rattle.overlap.specs.Overlap.{IsRun, IsLastStore, OverlapIsSequence}

@@ -8,7 +8,7 @@ use Rattle.kernel.specs.declared.kernels.operation.Source.TheVariants.{Register}
 use Rattle.overlap.specs.Lifetimes.{lifetimes_of}
 use Rattle.overlap.specs.Allotments.{AllotmentData}
 use Rattle.overlap.specs.Emission.{emitted}
-use Rattle.ims.specs.Schedules.{ScheduleData}
+use Rattle.loop_schedules.specs.Schedules.{ScheduleData}
 
 pub acco : LoopData
 acco = record {

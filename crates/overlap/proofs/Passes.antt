@@ -13,7 +13,7 @@ use Rattle.graph.specs.Promises.{issue_of}
 use Rattle.kernel.specs.declared.kernels.operation.Operation.{Operation}
 use Rattle.kernel.specs.Overlapped.{physical, is_issued}
 use Rattle.overlap.specs.Allotments.{AllotmentData, allotted_number}
-use Rattle.ims.specs.Schedules.{ScheduleData, stage_of}
+use Rattle.loop_schedules.specs.Schedules.{ScheduleData, stage_of}
 use Rattle.overlap.specs.Emission.{name_of, source_of, operation_of, operations_from, emitted}
 use Rattle.overlap.specs.Overlap.{IsLastStore, InstancesAreIssuedOnce, NamesAreOfInstances, RegistersHoldValues, LoadsFollowStores}
 use Rattle.instances.proofs.Issued as issued

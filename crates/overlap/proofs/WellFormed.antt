@@ -25,7 +25,7 @@ use Rattle.kernel.specs.Kernels.{HasOperationShape}
 use Rattle.kernel.specs.Check.{SourceIsThere, RegistersAreThere, ParameterIsThere, IsShaped, AddressIsThere, IsPlaced}
 use Rattle.overlap.specs.Allotments.{AllotmentData, allotted_number}
 use Rattle.overlap.specs.Lifetimes.{carried, values_from, values_of}
-use Rattle.ims.specs.Schedules.{ScheduleData, IsSchedule, stage_of, stages_of}
+use Rattle.loop_schedules.specs.Schedules.{ScheduleData, IsSchedule, stage_of, stages_of}
 use Rattle.overlap.specs.Emission.{name_of, source_of, address_of, operation_of, operations_from, preloads_from, preloads_of, out_of, emitted}
 use Rattle.overlap.specs.Overlap.{Belong, KernelsAreWellFormed}
 use Rattle.overlap.proofs.in_registers.Different.{pairs-cons, pairs-nil, pairs-head, pairs-tail, pairs-flat, different-few}

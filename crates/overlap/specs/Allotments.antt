@@ -1,7 +1,7 @@
 -- Allotments of rotating registers to the values of a scheduled loop.
 use Rattle.std.specs.Prelude.{ℕ, slice_index}
 use Rattle.loop_data.specs.Loops.{LoopData}
-use Rattle.ims.specs.Schedules.{ScheduleData}
+use Rattle.loop_schedules.specs.Schedules.{ScheduleData}
 pub use Rattle.registers.specs.Allotments.{AllotmentData, DoMeet, IsLawfulAllotment, IsLeast, AreLeast, HaveNone, IsAllotment}
 use Rattle.overlap.specs.Lifetimes.{lifetimes_of, rank_of}
 

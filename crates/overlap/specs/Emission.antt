@@ -16,7 +16,7 @@ use Rattle.kernel.specs.declared.kernels.parts.Preload.{Preload}
 use Rattle.kernel.specs.declared.kernels.parts.Out.{Out}
 use Rattle.overlap.specs.Allotments.{AllotmentData, allotted_number}
 use Rattle.overlap.specs.Lifetimes.{carried, values_of}
-use Rattle.ims.specs.Schedules.{ScheduleData, stage_of, row_of, stages_of}
+use Rattle.loop_schedules.specs.Schedules.{ScheduleData, stage_of, row_of, stages_of}
 
 -- the name, in an operation of a stage, of the register of a value as it was `distance` iterations ago
 abbrev pub name_of : ScheduleData → AllotmentData → ℕ → ℕ → ℕ → ℕ

@@ -8,7 +8,7 @@ use Rattle.loop_data.specs.Loops.{LoopData}
 use Rattle.graph.specs.Units.{greatest_of}
 use Rattle.registers.specs.declared.lifetime.Lifetime.{Lifetime}
 pub use Rattle.registers.specs.Lifetimes.{IsLiveIn}
-use Rattle.ims.specs.Schedules.{ScheduleData, stages_of}
+use Rattle.loop_schedules.specs.Schedules.{ScheduleData, stages_of}
 
 -- values and their uses
 

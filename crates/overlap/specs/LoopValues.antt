@@ -4,7 +4,7 @@ use Rattle.registers.specs.declared.value.Value.{Value}
 use Rattle.registers.specs.declared.value.Read.{Read}
 use Rattle.registers.specs.Values.{lives_of}
 use Rattle.loop_data.specs.Loops.{LoopData}
-use Rattle.ims.specs.Schedules.{ScheduleData, stages_of}
+use Rattle.loop_schedules.specs.Schedules.{ScheduleData, stages_of}
 use Rattle.overlap.specs.Lifetimes.{Use, values_of, uses_of, is_out, last_landing, lifetimes_of}
 
 -- the value of a statement, which lands when the statement's latency has passed

@@ -17,7 +17,7 @@ use Rattle.kernel.specs.Check.{IsWellFormed}
 use Rattle.kernel.specs.Overlapped.{InRegister, InCell, Write, physical, last_landed, preloaded, is_issued, turn_of, writes_before, overlapped, value_or}
 use Rattle.overlap.specs.Allotments.{AllotmentData, IsAllotment, Suits, allotted_number}
 use Rattle.overlap.specs.Emission.{emitted}
-use Rattle.ims.specs.Schedules.{ScheduleData, IsSchedule}
+use Rattle.loop_schedules.specs.Schedules.{ScheduleData, IsSchedule}
 use Rattle.overlap.specs.Sequence.{state_before, write_of_instance, sequence_before}
 
 -- a lawful schedule, a lawful allotment for its values, and a memory of its loop's shape

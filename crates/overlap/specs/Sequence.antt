@@ -11,7 +11,7 @@ use Rattle.loop_data.specs.Run.{MemoryData, writes, first_of, cell_index}
 use Rattle.graph.specs.Promises.{issue_of}
 use Rattle.kernel.specs.Overlapped.{Write, InRegister, InCell, physical}
 use Rattle.overlap.specs.Allotments.{AllotmentData, allotted_number}
-use Rattle.ims.specs.Schedules.{ScheduleData, stage_of, row_of}
+use Rattle.loop_schedules.specs.Schedules.{ScheduleData, stage_of, row_of}
 
 -- the write of an instance
 

@@ -2,8 +2,8 @@
 use Rattle.std.proofs.Common.{◌≡◌, ◌<◌, ℕ, zero, suc, List, [], ◌∷◌, length, get_or, arith, sym, ap, ◌∙◌, subst}
 use Rattle.std.specs.List.{AllZip}
 use Rattle.std.proofs.lemmas.List.{length-map}
-use Rattle.ims.specs.Problems.{ProblemData}
-use Rattle.ims.specs.Schedules.{ScheduleData}
+use Rattle.loop_schedules.specs.Problems.{ProblemData}
+use Rattle.loop_schedules.specs.Schedules.{ScheduleData}
 use Rattle.kernel.specs.declared.kernels.parts.Parts.{Parts}
 use Rattle.overlap.specs.Allotments.{AllotmentData}
 use Rattle.overlap.specs.Emission.{emitted}

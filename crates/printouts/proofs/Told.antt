@@ -3,16 +3,15 @@ use Rattle.std.proofs.Common.{◌≡◌, ◌∙◌, ℕ, List, [], ◌∷◌, �
 use Rattle.std.specs.List.{flat_map, zip}
 use Rattle.machine.specs.Machines.{MachineData}
 use Rattle.loops.specs.Loops.{LoopData}
-use Rattle.ims.specs.Problems.{ProblemData}
+use Rattle.loop_schedules.specs.Problems.{ProblemData}
 use Rattle.candidates.specs.Listings.{ListingData}
 use Rattle.candidates.specs.Texts.{counts_line, listing_text_of}
 use Rattle.candidates.specs.declared.listings.Row as row
-use Rattle.listing_json.specs.Documents.{document_text}
 use Rattle.one_thread.specs.Files.{ArePrepared, ListsProblems}
 use Rattle.one_thread.proofs.Listed.{lists_of, right_of}
 use Rattle.written.specs.Written.{Written}
 use Rattle.printouts.specs.Run.{IsRunText, choice_lines, told_lines}
-use Rattle.printouts.specs.Schedule.{IsListingDocument, IsListingText, are_met}
+use Rattle.printouts.specs.Schedule.{IsListingText, are_met}
 
 -- the loops of problems
 abbrev pub loops_of : List ProblemData → List LoopData
@@ -36,22 +35,11 @@ pub own_ceiling : (ceiling : ℕ) (problems : List ProblemData) (listing : Listi
 own_ceiling ceiling problems listing is =
     subst (λ k. ListsProblems k problems listing) (sym (ap (λ (l : ListingData). l.ceiling) is.is_listing)) is
 
--- of a listing: its text, its document, and the runs of its kernels
+-- of a listing: its text, and the runs of its kernels
 pub told_listing : (machine : MachineData) (ratio ceiling : ℕ) (loops : List LoopData) (problems : List ProblemData) (listing : ListingData) (written : Written)
     → written.text ≡ listing_text_of listing → written.all_met ≡ are_met listing.rows → ArePrepared machine ratio ceiling loops problems → ListsProblems ceiling problems listing
     → IsListingText ratio ceiling machine loops written
 told_listing machine ratio ceiling loops problems listing written text met are is = record {
-  listing = listing;
-  lists = lists_of machine ratio ceiling loops problems listing are is;
-  right = right_of machine ratio ceiling loops problems listing are is;
-  is_text = text;
-  met = met;
-}
-
-pub told_document : (machine : MachineData) (ratio ceiling : ℕ) (loops : List LoopData) (problems : List ProblemData) (listing : ListingData) (written : Written)
-    → written.text ≡ document_text listing → written.all_met ≡ are_met listing.rows → ArePrepared machine ratio ceiling loops problems → ListsProblems ceiling problems listing
-    → IsListingDocument ratio ceiling machine loops written
-told_document machine ratio ceiling loops problems listing written text met are is = record {
   listing = listing;
   lists = lists_of machine ratio ceiling loops problems listing are is;
   right = right_of machine ratio ceiling loops problems listing are is;

@@ -1,4 +1,4 @@
--- What `schedule` and `json` write.
+-- What `schedule` writes.
 use Rattle.std.specs.Prelude.{◌≡◌, ℕ, Bool, List}
 use Rattle.std.specs.List.{list_all}
 use Rattle.machine.specs.Machines.{MachineData}
@@ -7,7 +7,6 @@ use Rattle.candidates.specs.declared.listings.Row.{Row}
 use Rattle.candidates.specs.Listings.{ListingData, is_met}
 use Rattle.candidates.specs.Promises.{IsRight, Lists}
 use Rattle.candidates.specs.Texts.{listing_text_of}
-use Rattle.listing_json.specs.Documents.{document_text}
 use Rattle.written.specs.Written.{Written}
 
 -- every loop has a kernel
@@ -20,12 +19,4 @@ pub record IsListingText (ratio ceiling : ℕ) (machine : MachineData) (loops : 
   pub lists : Lists machine loops ratio ceiling listing
   pub right : IsRight machine loops listing
   pub is_text : written.text ≡ listing_text_of listing
-  pub met : written.all_met ≡ are_met listing.rows
-
--- its document
-pub record IsListingDocument (ratio ceiling : ℕ) (machine : MachineData) (loops : List LoopData) (written : Written) : Type 0 where
-  pub listing : ListingData
-  pub lists : Lists machine loops ratio ceiling listing
-  pub right : IsRight machine loops listing
-  pub is_text : written.text ≡ document_text listing
   pub met : written.all_met ≡ are_met listing.rows

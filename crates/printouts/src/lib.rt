@@ -1,15 +1,15 @@
-//! What commands print, as texts over machines and loops that were read, by the choices of one thread. The crate `explain_printouts` has what `explain`
-//! prints.
+//! What commands print of machines and loops, by the choices of one thread. The crates `json_printouts` and
+//! `explain_printouts` have what `json` and `explain` print.
 #![tactic(auto)]
 
 mod commands;
 mod laws;
 mod output;
 
-pub use commands::alone::{json_alone, run_alone, schedule_alone};
+pub use commands::alone::{bounds_alone, plain_alone, run_alone, schedule_alone};
 pub use commands::bounds::bounds_text;
 pub use commands::graphs::{dot_text, edges_text};
-pub use commands::listings::{are_met, document_printout, listing_printout};
+pub use commands::listings::{are_met, listing_printout};
 pub use commands::plain::{plain_text, push_plain};
 pub use commands::running::{push_choice, push_counts, push_runs, run_printout};
 pub use laws::kernels_tell_plain_lines;

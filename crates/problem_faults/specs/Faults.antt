@@ -1,13 +1,13 @@
 -- What the faults of texts are for a command over problems, and what is told of them.
 use Rattle.std.specs.Prelude.{ℕ, codes, List, ◌++◌}
-use Rattle.problem_reader.specs.declared.fault.TextFault.{TextFault}
-use Rattle.problem_reader.specs.Texts.{fault_text as problem_fault_text}
-use Rattle.problem_tables.specs.declared.fault.Wrong.{Wrong as ProblemWrong}
-use Rattle.problem_tables.specs.declared.fault.Wrong.TheVariants as problem_wrong
-use Rattle.solution_reader.specs.declared.fault.SolutionFault.{SolutionFault}
-use Rattle.solution_reader.specs.declared.fault.Wrong.{Wrong as SolutionWrong}
-use Rattle.solution_reader.specs.declared.fault.Wrong.TheVariants as solution_wrong
-use Rattle.solution_reader.specs.Texts.{fault_text as solution_fault_text}
+use Rattle.problem_faults.specs.declared.refused_problems.TextFault.{TextFault}
+use Rattle.problem_faults.specs.ProblemTexts.{fault_text as problem_fault_text}
+use Rattle.problem_faults.specs.declared.refused_problems.Wrong.{Wrong as ProblemWrong}
+use Rattle.problem_faults.specs.declared.refused_problems.Wrong.TheVariants as problem_wrong
+use Rattle.problem_faults.specs.declared.refused_solutions.SolutionFault.{SolutionFault}
+use Rattle.problem_faults.specs.declared.refused_solutions.Wrong.{Wrong as SolutionWrong}
+use Rattle.problem_faults.specs.declared.refused_solutions.Wrong.TheVariants as solution_wrong
+use Rattle.problem_faults.specs.SolutionTexts.{fault_text as solution_fault_text}
 use Rattle.problem_faults.specs.declared.fault.ProblemsFault.{ProblemsFault}
 use Rattle.problem_faults.specs.declared.fault.ProblemsFault.TheVariants.{Problems, Solutions, Memory}
 

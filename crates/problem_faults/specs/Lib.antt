@@ -1,1 +1,4 @@
 pub mod Faults
+pub mod ProblemTexts
+pub mod SolutionTexts
+pub mod Texts

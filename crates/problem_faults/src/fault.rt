@@ -4,9 +4,9 @@ ghost use Rattle.std.specs.Prelude.{◌≡◌};
 ghost use Rattle.problem_faults.specs.declared.fault.ProblemsFault.TheVariants.{Memory};
 ghost use Rattle.problem_faults.specs.Faults.{of_problems, of_solutions};
 
+use crate::refused_problems::{TextFault, Wrong as ProblemWrong};
+use crate::refused_solutions::{SolutionFault, Wrong as SolutionWrong};
 use machine_data::OutOfMemory;
-use problem_reader::{TextFault, Wrong as ProblemWrong};
-use solution_reader::{SolutionFault, Wrong as SolutionWrong};
 use std::fmt;
 use thiserror::Error;
 

@@ -6,7 +6,7 @@ use Rattle.graph.specs.Dependences.{EdgeData}
 use Rattle.graph.specs.Graphs.{GraphData}
 use Rattle.graph_text.specs.Drawings.{IsCritical}
 use Rattle.writing.proofs.Beginnings.{two_pushed}
-use Rattle.modulo.specs.Problems.{ProblemData as SchedulingData}
+use Rattle.schedules.specs.Problems.{ProblemData as SchedulingData}
 use Rattle.problems.specs.declared.draft.Draft.{Draft}
 use Rattle.problems.specs.Problems.{ProblemData}
 use Rattle.solutions.specs.declared.solving.outcome.Outcome.{Outcome}

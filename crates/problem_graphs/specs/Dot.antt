@@ -4,7 +4,7 @@ use Rattle.std.specs.List.{flat_map, range_with_len}
 use Rattle.graph.specs.Dependences.{EdgeData}
 use Rattle.graph_marks.specs.Labels.{nodes_plain}
 use Rattle.graph_text.specs.Drawings.{IsCritical}
-use Rattle.modulo.specs.Problems.{ProblemData as SchedulingData}
+use Rattle.schedules.specs.Problems.{ProblemData as SchedulingData}
 use Rattle.problems.specs.Problems.{ProblemData}
 use Rattle.problem_graphs.specs.declared.arrows.Look.TheVariants.{Plain}
 use Rattle.problem_graphs.specs.Arrows.{AreOrders, AreReads}

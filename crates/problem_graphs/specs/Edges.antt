@@ -4,7 +4,7 @@ use Rattle.std.specs.List.{flat_map, range_with_len}
 use Rattle.graph.specs.Dependences.{EdgeData}
 use Rattle.graph.specs.Walks.{AreHeights}
 use Rattle.graph_text.specs.Edges.{sums_told}
-use Rattle.modulo.specs.Problems.{mii_of}
+use Rattle.schedules.specs.Problems.{mii_of}
 use Rattle.registers.specs.declared.value.Read.{Read}
 use Rattle.problems.specs.declared.draft.Draft.{Draft}
 use Rattle.problems.specs.declared.draft.Order.{Order as OrderData}

@@ -1,6 +1,6 @@
 -- The line of a problem with its bounds.
 use Rattle.std.specs.Prelude.{ℕ, codes, List, ◌++◌, length}
-use Rattle.modulo.specs.Problems.{ProblemData as SchedulingData, mii_of}
+use Rattle.schedules.specs.Problems.{ProblemData as SchedulingData, mii_of}
 use Rattle.problems.specs.Problems.{ProblemData}
 use Rattle.writing.specs.Words.{told}
 

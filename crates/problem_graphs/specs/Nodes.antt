@@ -1,6 +1,6 @@
 -- The head of a graph, and the lines of operations, in the language of Graphviz.
 use Rattle.std.specs.Prelude.{ℕ, codes, List, ◌++◌}
-use Rattle.modulo.specs.Problems.{ProblemData as SchedulingData}
+use Rattle.schedules.specs.Problems.{ProblemData as SchedulingData}
 use Rattle.problems.specs.declared.draft.Draft.{Draft}
 use Rattle.writing.specs.Words.{told}
 use Rattle.problem_graphs.specs.Escapes.{escaped, escaped_in}

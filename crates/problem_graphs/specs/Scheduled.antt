@@ -5,7 +5,7 @@ use Rattle.graph.specs.Dependences.{EdgeData}
 use Rattle.graph_marks.specs.Labels.{failed_label, met_label, nodes_filled, nodes_plain}
 use Rattle.graph_marks.specs.Nodes.{place_text}
 use Rattle.graph_text.specs.Drawings.{IsCritical}
-use Rattle.modulo.specs.Schedules.{stages_of}
+use Rattle.schedules.specs.Schedules.{stages_of}
 use Rattle.problems.specs.declared.draft.Draft.{Draft}
 use Rattle.problems.specs.Problems.{ProblemData}
 use Rattle.solutions.specs.declared.solving.outcome.Outcome.{Outcome}

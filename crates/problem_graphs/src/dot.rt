@@ -17,7 +17,7 @@ use writing::Text;
 fn push_head(
     text: &mut Vec<u8>,
     name: &str,
-    scheduling: &modulo::Problem,
+    scheduling: &schedules::Problem,
 ) -> Result<(), OutOfMemory>
     ensures ok { OnOk result (text.new.items ≡ text.old.items ++ graph_head name.now scheduling.now) }
 {

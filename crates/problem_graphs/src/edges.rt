@@ -4,7 +4,7 @@ ghost use Rattle.std.specs.Prelude.{◌≡◌, ◌<◌, ◌≤◌, ◌++◌, ℕ
 ghost use Rattle.std.specs.List.{flat_map};
 ghost use Rattle.machine_data.specs.declared.limits.TheConstants.{MAX_STATEMENTS};
 ghost use Rattle.graph.specs.Walks.{AreHeights};
-ghost use Rattle.modulo.specs.Problems.{mii_of};
+ghost use Rattle.schedules.specs.Problems.{mii_of};
 ghost use Rattle.problems.specs.Drafts.{IsOrder, IsRead, IsWellFormed};
 ghost use Rattle.problem_graphs.specs.Edges.{IsEdgesText, edge_line, edge_lines, numbered, op_line, op_lines, order_line, read_line};
 

@@ -10,7 +10,7 @@ use writing::{Text, push_both, push_told};
 /// Appends the bounds, each after its word.
 pub(crate) fn push_bounds(
     text: &mut Vec<u8>,
-    scheduling: &modulo::Problem,
+    scheduling: &schedules::Problem,
 ) -> Result<(), OutOfMemory>
     ensures ok { OnOk result (text.new.items ≡ text.old.items ++ bounds_told scheduling.now) }
 {

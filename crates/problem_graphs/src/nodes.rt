@@ -15,7 +15,7 @@ use writing::{Text, push_told};
 pub(crate) fn push_title(
     text: &mut Vec<u8>,
     name: &str,
-    scheduling: &modulo::Problem,
+    scheduling: &schedules::Problem,
 ) -> Result<(), OutOfMemory>
     ensures ok { OnOk result (text.new.items ≡ text.old.items ++ title name.now scheduling.now) }
 {

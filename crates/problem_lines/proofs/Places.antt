@@ -3,7 +3,7 @@ use Rattle.std.proofs.Common.{◌≡◌, ℕ, List, ◌∷◌, Option, Some, Non
 use Rattle.problem_lines.specs.Fits.{misfit}
 use Rattle.problem_lines.specs.Lines.{places_fault}
 use Rattle.loop_lines.specs.Columns.{Placed, column_after}
-use Rattle.problem_lines.specs.declared.fault.Expected.{Expected}
+use Rattle.problem_faults.specs.declared.expected.Expected.{Expected}
 use Rattle.problem_lines.specs.declared.fault.LineFault.{LineFault}
 
 -- a word that fits its place

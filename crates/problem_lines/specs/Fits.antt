@@ -5,8 +5,8 @@ use Rattle.loop_lines.specs.Forms.{int_of, is_number}
 use Rattle.problem_lines.specs.Keywords.{keyword_named, solution_keyword_named}
 use Rattle.problem_lines.specs.Names.{is_name, is_unit_name, is_hold}
 use Rattle.loop_lines.specs.Columns.{Placed}
-use Rattle.problem_lines.specs.declared.fault.Expected.{Expected}
-use Rattle.problem_lines.specs.declared.fault.Expected.TheVariants as expected
+use Rattle.problem_faults.specs.declared.expected.Expected.{Expected}
+use Rattle.problem_faults.specs.declared.expected.Expected.TheVariants as expected
 use Rattle.problem_lines.specs.declared.fault.LineFault.{LineFault}
 
 -- a word may stand where this is expected

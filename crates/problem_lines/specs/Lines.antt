@@ -11,8 +11,8 @@ use Rattle.problem_lines.specs.Keywords.{keyword_named}
 use Rattle.problem_lines.specs.Numbers.{integer_of, number_of}
 use Rattle.loop_lines.specs.Columns.{Placed, column_after}
 use Rattle.problem_lines.specs.Words.{LeftWords, word_at}
-use Rattle.problem_lines.specs.declared.fault.Expected.{Expected}
-use Rattle.problem_lines.specs.declared.fault.Expected.TheVariants.{Keyword, Name, UnitName, Number, Integer, Hold, Latency, Storage, Bar, Of, Lands, In, Distance, Offset, Delay}
+use Rattle.problem_faults.specs.declared.expected.Expected.{Expected}
+use Rattle.problem_faults.specs.declared.expected.Expected.TheVariants.{Keyword, Name, UnitName, Number, Integer, Hold, Latency, Storage, Bar, Of, Lands, In, Distance, Offset, Delay}
 use Rattle.problem_lines.specs.declared.fault.LineFault.{LineFault}
 use Rattle.problem_lines.specs.declared.keyword.Keyword as first
 use Rattle.problem_lines.specs.declared.keyword.Keyword.TheVariants as words

@@ -7,8 +7,8 @@ use Rattle.problem_lines.specs.Numbers.{number_of}
 use Rattle.problem_lines.specs.SolutionForms.{SolutionForm, SolutionBegins, OpTime, ValueNumber, SolutionEnds}
 use Rattle.loop_lines.specs.Columns.{Placed, column_after}
 use Rattle.problem_lines.specs.Words.{LeftWords, word_at}
-use Rattle.problem_lines.specs.declared.fault.Expected.{Expected}
-use Rattle.problem_lines.specs.declared.fault.Expected.TheVariants.{Name, Number, SolutionKeyword, Ii, Time, By, NumberWord}
+use Rattle.problem_faults.specs.declared.expected.Expected.{Expected}
+use Rattle.problem_faults.specs.declared.expected.Expected.TheVariants.{Name, Number, SolutionKeyword, Ii, Time, By, NumberWord}
 use Rattle.problem_lines.specs.declared.fault.LineFault.{LineFault}
 use Rattle.problem_lines.specs.declared.keyword.SolutionKeyword as first
 use Rattle.problem_lines.specs.declared.keyword.SolutionKeyword.TheVariants as words

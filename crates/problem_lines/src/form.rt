@@ -6,13 +6,14 @@ ghost use Rattle.problem_lines.specs.Parsed.{result_seen, seen};
 ghost use Rattle.loop_lines.specs.Columns.{placed_words};
 ghost use Rattle.problem_lines.specs.declared.keyword.Keyword.TheVariants as keywords;
 
-use crate::fault::{Expected, LineFault};
+use crate::fault::LineFault;
 use crate::keyword::{Keyword, is_text, keyword_of};
 use crate::kinds::{Alternatives, take_holds};
 use crate::left::Left;
 use crate::lists::{UnitNames, take_units};
 use crate::number::{Integer, Number, Storage};
 use crate::word::Word;
+use problem_faults::Expected;
 
 /// What a line says.
 #[derive(Drop)]

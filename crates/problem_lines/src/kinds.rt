@@ -8,13 +8,14 @@ ghost use Rattle.problem_lines.specs.inner.Cursors.{are_holds, holds_fault};
 ghost use Rattle.problem_lines.specs.inner.Pieces.{fault_seen, placed};
 ghost use Rattle.problem_lines.specs.Forms.{hold_of};
 
-use crate::fault::{Expected, LineFault};
+use crate::fault::LineFault;
 use crate::keyword::is_text;
 use crate::left::Left;
 use crate::names::split_hold;
 use crate::number::{Number, number_in};
 use crate::piece::Piece;
 use crate::word::Word;
+use problem_faults::Expected;
 use std::marker::Model;
 
 /// A unit that is held.

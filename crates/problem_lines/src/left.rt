@@ -7,11 +7,11 @@ ghost use Rattle.problem_lines.specs.Seen.{word_seen};
 ghost use Rattle.problem_lines.specs.Lines.{after_out, is_word, places_fault};
 ghost use Rattle.loop_lines.specs.Columns.{Placed, column_after};
 ghost use Rattle.problem_lines.specs.Words.{left_of, word_at};
-ghost use Rattle.problem_lines.specs.declared.fault.Expected.TheVariants as expected;
+ghost use Rattle.problem_faults.specs.declared.expected.Expected.TheVariants as expected;
 ghost use Rattle.problem_lines.specs.inner.Cursors.{offset_left, offset_places, starts_bar};
 ghost use Rattle.problem_lines.specs.inner.Pieces.{fault_seen, placed};
 
-use crate::fault::{Expected, LineFault};
+use crate::fault::LineFault;
 use crate::keyword::{is_text, keyword_of, solution_keyword_of};
 use crate::names::{is_hold, is_name, is_unit_name};
 use crate::number::{Integer, Number, integer_in};
@@ -19,6 +19,7 @@ use crate::piece::Piece;
 use crate::scan::first_word;
 use crate::word::Word;
 use loop_lines::{int_of, number_of};
+use problem_faults::Expected;
 use std::marker::Model;
 
 /// What is left of a line. Contracts see its words, and the column after those before it.

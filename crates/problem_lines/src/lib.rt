@@ -18,11 +18,12 @@ mod solution_form;
 mod word;
 
 pub use eights::are_same;
-pub use fault::{Expected, LineFault};
+pub use fault::LineFault;
 pub use form::{Form, Line, line_of};
 pub use kinds::{Alternatives, HoldWord, Holds};
 pub use laws::names_are_labels;
 pub use lists::UnitNames;
 pub use number::{Integer, Number, Storage};
+pub use problem_faults::Expected;
 pub use solution_form::{SolutionForm, SolutionLine, solution_line_of};
 pub use word::Word;

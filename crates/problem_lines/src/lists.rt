@@ -8,9 +8,10 @@ ghost use Rattle.problem_lines.specs.Seen.{word_seen};
 ghost use Rattle.problem_lines.specs.inner.Cursors.{are_unit_names};
 ghost use Rattle.problem_lines.specs.inner.Pieces.{fault_seen};
 
-use crate::fault::{Expected, LineFault};
+use crate::fault::LineFault;
 use crate::left::Left;
 use crate::word::Word;
+use problem_faults::Expected;
 use std::marker::Model;
 
 /// The names of a `units` line, from left to right. Contracts see those that are left.

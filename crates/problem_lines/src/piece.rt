@@ -5,8 +5,9 @@ ghost use Rattle.std.specs.List.{list_all};
 ghost use Rattle.problem_lines.specs.Fits.{fault_on};
 ghost use Rattle.problem_lines.specs.Names.{is_name, is_printable};
 
-use crate::fault::{Expected, LineFault};
+use crate::fault::LineFault;
 use machine_data::limits::MAX_LABEL;
+use problem_faults::Expected;
 
 /// A word where it stands.
 #[derive(Clone, Copy)]

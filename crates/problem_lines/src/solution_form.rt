@@ -6,11 +6,12 @@ ghost use Rattle.problem_lines.specs.SolutionParsed.{solution_rest_seen, solutio
 ghost use Rattle.loop_lines.specs.Columns.{placed_words};
 ghost use Rattle.problem_lines.specs.declared.keyword.SolutionKeyword.TheVariants as keywords;
 
-use crate::fault::{Expected, LineFault};
+use crate::fault::LineFault;
 use crate::keyword::{SolutionKeyword, solution_keyword_of};
 use crate::left::Left;
 use crate::number::Number;
 use crate::word::Word;
+use problem_faults::Expected;
 
 /// What a line of a text of solutions says.
 #[derive(Clone, Copy, Debug)]

@@ -5,10 +5,10 @@ use Rattle.std.proofs.Common.{inl, inr}
 use Rattle.settings.specs.declared.format.Format.{Format}
 use Rattle.settings.specs.Settings.{SettingsData}
 use Rattle.problem_tables.specs.Data.{FileData}
-use Rattle.problem_tables.specs.declared.fault.Wrong.{Wrong as ProblemWrong}
-use Rattle.problem_tables.specs.declared.fault.Wrong.TheVariants as problem_wrong
+use Rattle.problem_faults.specs.declared.refused_problems.Wrong.{Wrong as ProblemWrong}
+use Rattle.problem_faults.specs.declared.refused_problems.Wrong.TheVariants as problem_wrong
 use Rattle.problem_reader.specs.Files.{file_in_text, out_of_memory}
-use Rattle.problem_reader.specs.declared.fault.TextFault.{TextFault}
+use Rattle.problem_faults.specs.declared.refused_problems.TextFault.{TextFault}
 use Rattle.solution_reader.specs.Data.{SolutionData as TextSolution}
 use Rattle.solution_reader.specs.Meaning.{solutions_in_text}
 use Rattle.problem_printouts.specs.declared.answers.Answers.{Answers}

@@ -7,9 +7,9 @@ use Rattle.problem_tables.specs.Data.{FileData}
 use Rattle.problem_reader.specs.Files.{IsDraftOf, machine_at, problem_at}
 use Rattle.solution_reader.specs.Data.{OpData, ValueData, SolutionData as TextSolution, has_name, number_of_name}
 use Rattle.solution_reader.specs.Resolved.{earlier, first_op_failing, first_value_failing, no_solution, solution_at, unknown_at, unknown_in}
-use Rattle.solution_reader.specs.declared.fault.Part.{Part}
-use Rattle.solution_reader.specs.declared.fault.SolutionFault.{SolutionFault}
-use Rattle.solution_reader.specs.declared.fault.Wrong.TheVariants as wrong
+use Rattle.problem_faults.specs.declared.refused_solutions.Part.{Part}
+use Rattle.problem_faults.specs.declared.refused_solutions.SolutionFault.{SolutionFault}
+use Rattle.problem_faults.specs.declared.refused_solutions.Wrong.TheVariants as wrong
 use Rattle.std.specs.Prelude.{nat_lt, if◌then◌else◌}
 use Rattle.problem_printouts.specs.Judging.{first_unknown, problem_names, unknown_by, unknown_of}
 

@@ -3,14 +3,14 @@ use Rattle.std.specs.Prelude.{◌≡◌, ◌≢◌, ℕ, codes, Bool, true, fals
 use Rattle.std.specs.Option.{option_or}
 use Rattle.problems.specs.Problems.{ProblemData}
 use Rattle.problem_tables.specs.Data.{FileData, ProblemData as TextProblem}
-use Rattle.problem_tables.specs.declared.fault.Wrong.TheVariants as problem_wrong
+use Rattle.problem_faults.specs.declared.refused_problems.Wrong.TheVariants as problem_wrong
 use Rattle.problem_reader.specs.Files.{file_in_text, problem_at}
 use Rattle.solution_reader.specs.Data.{SolutionData as TextSolution, has_name, number_of_name, solution_names}
 use Rattle.solution_reader.specs.Meaning.{solutions_in_text}
 use Rattle.solution_reader.specs.Resolved.{earlier, first_op_failing, first_value_failing, numbers_told, places_told, solution_at, unknown_at}
-use Rattle.solution_reader.specs.declared.fault.Part.TheVariants as part
-use Rattle.solution_reader.specs.declared.fault.SolutionFault.{SolutionFault}
-use Rattle.solution_reader.specs.declared.fault.Wrong.TheVariants as solution_wrong
+use Rattle.problem_faults.specs.declared.refused_solutions.Part.TheVariants as part
+use Rattle.problem_faults.specs.declared.refused_solutions.SolutionFault.{SolutionFault}
+use Rattle.problem_faults.specs.declared.refused_solutions.Wrong.TheVariants as solution_wrong
 use Rattle.solutions.specs.Breaks.{IsFirstBroken}
 use Rattle.solutions.specs.Solutions.{IsLawfulSolution, listed}
 use Rattle.solutions.specs.declared.judging.broken.Broken.{Broken}

@@ -3,7 +3,7 @@ use Rattle.std.specs.Prelude.{◌≡◌, ◌≢◌, ℕ, List, Result, Ok, Err}
 use Rattle.problems.specs.declared.draft.Draft.{Draft}
 use Rattle.problems.specs.Problems.{ProblemData, IsProblemOf}
 use Rattle.problem_tables.specs.Data.{FileData, ProblemData as TextProblem}
-use Rattle.problem_tables.specs.declared.fault.Wrong.TheVariants as wrong
+use Rattle.problem_faults.specs.declared.refused_problems.Wrong.TheVariants as wrong
 use Rattle.problem_reader.specs.Files.{IsDraftOf, file_in_text, machine_at}
 use Rattle.problem_printouts.specs.declared.answers.Answers.{Answers}
 use Rattle.problem_faults.specs.declared.fault.ProblemsFault.{ProblemsFault}

@@ -14,10 +14,10 @@ use Rattle.problem_tables.specs.Data.{KindData, ProblemData, hold_in, kind_of}
 use Rattle.problem_tables.specs.Faults.{alternatives_fault, alternative_room, first_of, holds_fault, known, offset_fault, on_word, room_at, same_hold, unless}
 use Rattle.problem_tables.specs.Names.{bytes_of, index_of, last_name}
 use Rattle.problem_tables.specs.Tables.{MachineParts, ProblemParts, TablesData, form_fault, has_machine, kind_faults, may_stand, named_machine, no_machine, no_problem, no_tables, order_faults, order_of, read_faults, read_of, value_faults, value_of, with_form, with_machine}
-use Rattle.problem_tables.specs.declared.fault.Part.TheVariants as part
+use Rattle.problem_faults.specs.declared.refused_problems.Part.TheVariants as part
 use Rattle.problem_tables.specs.declared.fault.Told.{Told}
-use Rattle.problem_tables.specs.declared.fault.Wrong.{Wrong}
-use Rattle.problem_tables.specs.declared.fault.Wrong.TheVariants as wrong
+use Rattle.problem_faults.specs.declared.refused_problems.Wrong.{Wrong}
+use Rattle.problem_faults.specs.declared.refused_problems.Wrong.TheVariants as wrong
 use Rattle.problem_reader.proofs.Faults.{known-low, new-absent, none-at, not-true}
 use Rattle.problem_reader.proofs.Machines.{IsHeld, IsKindOf}
 use Rattle.problem_reader.proofs.Making.{AreOnce, once-push}

@@ -12,10 +12,10 @@ use Rattle.problems.specs.Drafts.{IsFile}
 use Rattle.problem_tables.specs.Data.{file_of}
 use Rattle.problem_tables.specs.Faults.{delay_fault, delay_fits, first_of, in_range, known, new, number_or_0, offset_fault, on_number, on_word, room_at, storage_fault, unless}
 use Rattle.problem_tables.specs.Names.{has_name, index_of}
-use Rattle.problem_tables.specs.declared.fault.Part.{Part}
+use Rattle.problem_faults.specs.declared.refused_problems.Part.{Part}
 use Rattle.problem_tables.specs.declared.fault.Told.{Told}
-use Rattle.problem_tables.specs.declared.fault.Wrong.{Wrong}
-use Rattle.problem_tables.specs.declared.fault.Wrong.TheVariants as wrong
+use Rattle.problem_faults.specs.declared.refused_problems.Wrong.{Wrong}
+use Rattle.problem_faults.specs.declared.refused_problems.Wrong.TheVariants as wrong
 use Rattle.problem_tables.proofs.Naming.{place}
 
 -- the first of some faults

@@ -12,8 +12,8 @@ use Rattle.problem_lines.specs.Keywords.{keyword_named}
 use Rattle.problem_lines.specs.Lines.{LineForm, alternatives_in, end_fault, hold_places, holds_in, is_bar, kind_places, line_form, places, places_fault, says, unless_fault, with_keyword, word_line}
 use Rattle.problem_lines.specs.Names.{is_hold}
 use Rattle.loop_lines.specs.Columns.{Placed, column_after}
-use Rattle.problem_lines.specs.declared.fault.Expected.{Expected}
-use Rattle.problem_lines.specs.declared.fault.Expected.TheVariants.{Name, Number, Hold, Latency, Bar}
+use Rattle.problem_faults.specs.declared.expected.Expected.{Expected}
+use Rattle.problem_faults.specs.declared.expected.Expected.TheVariants.{Name, Number, Hold, Latency, Bar}
 use Rattle.problem_lines.specs.declared.fault.LineFault.{LineFault}
 use Rattle.problem_lines.specs.declared.keyword.Keyword as first
 use Rattle.problem_lines.specs.declared.keyword.Keyword.TheVariants as words

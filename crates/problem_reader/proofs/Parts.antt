@@ -22,10 +22,10 @@ use Rattle.problem_tables.specs.Data.{KindData, file_of, hold_in, kind_of}
 use Rattle.problem_tables.specs.Faults.{alternatives_fault, alternative_room, first_of, holds_fault, new, number_or_0, on_word, room_at, same_hold, units_fault}
 use Rattle.problem_tables.specs.Names.{bytes_of, has_name, index_of}
 use Rattle.problem_tables.specs.Tables.{MachineParts, ProblemParts, any_value, file_faults, kind_faults, made_before, no_machine, no_problem, op_faults, order_faults, order_goes, order_of, read_faults, read_goes, read_of, value_faults, value_of, with_file, with_kind, with_op, with_order, with_read, with_value}
-use Rattle.problem_tables.specs.declared.fault.Part.TheVariants as part
+use Rattle.problem_faults.specs.declared.refused_problems.Part.TheVariants as part
 use Rattle.problem_tables.specs.declared.fault.Told.{Told}
-use Rattle.problem_tables.specs.declared.fault.Wrong.{Wrong}
-use Rattle.problem_tables.specs.declared.fault.Wrong.TheVariants as wrong
+use Rattle.problem_faults.specs.declared.refused_problems.Wrong.{Wrong}
+use Rattle.problem_faults.specs.declared.refused_problems.Wrong.TheVariants as wrong
 use Rattle.problem_tables.proofs.Holding.{IsKnown, same-rows}
 use Rattle.problem_tables.proofs.Naming.{place}
 use Rattle.problem_reader.proofs.Faultless.{hold_list}

@@ -17,16 +17,16 @@ use Rattle.problem_tables.specs.Faults.{alternatives_fault, delay_fault, first_o
 use Rattle.problem_tables.specs.Names.{index_of, last_name}
 use Rattle.problem_tables.specs.Tables as tables
 use Rattle.problem_tables.specs.Tables.{MachineParts, ProblemParts, TablesData, no_machine, no_tables, with_form, with_machine_ended}
-use Rattle.problem_tables.specs.declared.fault.Part.TheVariants as part
+use Rattle.problem_faults.specs.declared.refused_problems.Part.TheVariants as part
 use Rattle.problem_tables.specs.declared.fault.Told.{Told}
-use Rattle.problem_tables.specs.declared.fault.Wrong.{Wrong}
-use Rattle.problem_tables.specs.declared.fault.Wrong.TheVariants as wrong
+use Rattle.problem_faults.specs.declared.refused_problems.Wrong.{Wrong}
+use Rattle.problem_faults.specs.declared.refused_problems.Wrong.TheVariants as wrong
 use Rattle.problem_tables.proofs.Firsts.{or-none}
 use Rattle.problem_reader.specs.Files.{AnswersText, data_or, file_data, file_in_text, last_machine, machines_from, nowhere, IsFile}
 use Rattle.problem_reader.specs.Meaning.{at_line, end_fault, forms_from, forms_in, goes_forward, judged, line_fault, lines_in, meaning_faults}
 use Rattle.problem_reader.specs.Sofar.{files_in, is_inside, is_read, kinds_in, machines_in, ops_in, problem_lines, stands, units_in, values_in}
 use Rattle.problem_reader.specs.inner.Reading.{AnswersEnd, RefusesText, text_fault, with_text}
-use Rattle.problem_reader.specs.declared.fault.TextFault.{TextFault}
+use Rattle.problem_faults.specs.declared.refused_problems.TextFault.{TextFault}
 use Rattle.problem_reader.proofs.Drafts.{draft-faultless}
 use Rattle.problem_reader.proofs.Faultless.{IsSound, no-machines, some-machine, sound-more, sound-none}
 use Rattle.problem_reader.proofs.KindLines.{HasHolds, LineHasHolds, line-held}

@@ -10,10 +10,10 @@ use Rattle.problem_tables.specs.Data.{MachineData, ProblemData, file_of, kind_of
 use Rattle.problem_tables.specs.Faults.{alternatives_fault, first_of}
 use Rattle.problem_tables.specs.Names.{bytes_of, last_name}
 use Rattle.problem_tables.specs.Tables.{MachineParts, ProblemParts, TablesData, form_fault, kind_faults, may_stand, named_machine, named_problem, no_machine, no_problem, no_tables, with_file, with_form, with_kind, with_machine}
-use Rattle.problem_tables.specs.declared.fault.Part.TheVariants as part
+use Rattle.problem_faults.specs.declared.refused_problems.Part.TheVariants as part
 use Rattle.problem_tables.specs.declared.fault.Told.{Told}
-use Rattle.problem_tables.specs.declared.fault.Wrong.{Wrong}
-use Rattle.problem_tables.specs.declared.fault.Wrong.TheVariants as wrong
+use Rattle.problem_faults.specs.declared.refused_problems.Wrong.{Wrong}
+use Rattle.problem_faults.specs.declared.refused_problems.Wrong.TheVariants as wrong
 use Rattle.problem_reader.proofs.Faultless.{IsSound, some-machine}
 use Rattle.problem_reader.proofs.Faults.{none-at, not-true, well}
 use Rattle.problem_reader.proofs.KindLines.{HasHolds}

@@ -11,10 +11,10 @@ use Rattle.registers.specs.declared.value.Read.{Read}
 use Rattle.problem_tables.specs.Data.{KindData, MachineData, ProblemData, FileData, file_of, kind_of, kind_seen}
 use Rattle.problem_tables.specs.Faults.{number_or_0}
 use Rattle.problem_tables.specs.Names.{index_of, last_name}
-use Rattle.problem_tables.specs.declared.fault.Wrong.TheVariants.{Memory}
+use Rattle.problem_faults.specs.declared.refused_problems.Wrong.TheVariants.{Memory}
 use Rattle.problem_reader.specs.Sofar.{has_machine, machine_lines, problem_lines, machines_in, problems_in, units_in, files_in, kinds_in, ops_in, values_in}
 use Rattle.problem_reader.specs.Meaning.{forms_in}
-use Rattle.problem_reader.specs.declared.fault.TextFault.{TextFault}
+use Rattle.problem_faults.specs.declared.refused_problems.TextFault.{TextFault}
 
 abbrev pub file_in : Form → Option File
 file_in (FileLine name storage) = Some (file_of storage)

@@ -11,12 +11,12 @@ use Rattle.problem_lines.specs.declared.number.Number.{Number}
 use Rattle.problems.specs.declared.limits.TheConstants.{MAX_PROBLEMS, MAX_PROBLEM_TEXT}
 use Rattle.problem_tables.specs.Faults.{first_of, unless, on_word, on_line, room_at, new, known, in_range, units_fault, storage_fault, alternatives_fault, offset_fault, delay_fault, number_or_0}
 use Rattle.problem_tables.specs.Names.{index_of}
-use Rattle.problem_tables.specs.declared.fault.Part.TheVariants as part
+use Rattle.problem_faults.specs.declared.refused_problems.Part.TheVariants as part
 use Rattle.problem_tables.specs.declared.fault.Told.{Told}
-use Rattle.problem_tables.specs.declared.fault.Wrong.{Wrong}
-use Rattle.problem_tables.specs.declared.fault.Wrong.TheVariants as wrong
+use Rattle.problem_faults.specs.declared.refused_problems.Wrong.{Wrong}
+use Rattle.problem_faults.specs.declared.refused_problems.Wrong.TheVariants as wrong
 use Rattle.problem_reader.specs.Sofar.{stands, machines_in, problems_in, units_in, files_in, kinds_in, ops_in, values_in, makers_in, is_read, is_edge, is_inside, problem_lines}
-use Rattle.problem_reader.specs.declared.fault.TextFault.{TextFault}
+use Rattle.problem_faults.specs.declared.refused_problems.TextFault.{TextFault}
 
 -- in its own iteration only an earlier operation's value is read
 abbrev pub reads_forward : List Form → Placed → Placed → Option Number → Bool

@@ -2,13 +2,11 @@
 #![tactic(auto)]
 
 mod copies;
-mod fault;
 mod file;
 mod kept;
 mod read;
 
-pub use fault::TextFault;
 pub use file::ProblemFile;
 pub use kept::KeptDrafts;
-pub use problem_tables::{Part, Wrong};
+pub use problem_faults::refused_problems::{Part, TextFault, Wrong};
 pub use read::read_problems;

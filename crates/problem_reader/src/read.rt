@@ -8,13 +8,21 @@ ghost use Rattle.problem_tables.specs.Tables.{with_machine_ended};
 ghost use Rattle.problem_reader.specs.inner.Reading.{text_fault, with_text, AnswersEnd, RefusesText};
 ghost use Rattle.problem_reader.specs.Files.{file_in_text, AnswersText, IsFile};
 
-use crate::fault::TextFault;
 use crate::file::ProblemFile;
 use loop_lines::next_line;
+use problem_faults::refused_problems::{TextFault, Wrong};
 use problem_lines::line_of;
-use problem_tables::{Refusal, Tables, Wrong};
+use problem_tables::{Refusal, Tables};
 use problems::limits::MAX_PROBLEM_TEXT;
 use std::alloc::Global;
+
+/// What is told where memory runs out.
+const OUT_OF_MEMORY: TextFault = TextFault {
+    line: 0,
+    column: 0,
+    width: 0,
+    what: Wrong::Memory,
+};
 
 /// Takes a line of this number in.
 fn take_text<'a>(tables: &mut Tables<'a>, line: usize, text: &'a [u8]) -> Result<(), TextFault>
@@ -31,7 +39,7 @@ fn take_text<'a>(tables: &mut Tables<'a>, line: usize, text: &'a [u8]) -> Result
                 width: told.width,
                 what: told.what,
             }),
-            Err(Refusal::Memory) => Err(TextFault::OUT_OF_MEMORY),
+            Err(Refusal::Memory) => Err(OUT_OF_MEMORY),
         },
         Err(fault) => Err(TextFault {
             line,
@@ -57,7 +65,7 @@ fn file_of(tables: Tables<'_>, line: usize) -> Result<ProblemFile, TextFault>
     }
     match tables.finish() {
         Ok(ended) => Ok(ProblemFile::of(ended)),
-        Err(_) => Err(TextFault::OUT_OF_MEMORY),
+        Err(_) => Err(OUT_OF_MEMORY),
     }
 }
 

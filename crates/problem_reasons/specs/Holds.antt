@@ -1,6 +1,6 @@
 -- What holds the interval of a problem.
 use Rattle.std.specs.Prelude.{◌≡◌, ◌≢◌, ℕ, ◌-◌, ◌<◌, codes, List}
-use Rattle.modulo.specs.Problems.{mii_of}
+use Rattle.schedules.specs.Problems.{mii_of}
 use Rattle.problems.specs.Problems.{ProblemData}
 use Rattle.solutions.specs.Outcomes.{FailsBy}
 use Rattle.solution_text.specs.Causes.{cause_word}

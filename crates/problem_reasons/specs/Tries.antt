@@ -2,7 +2,7 @@
 use Rattle.std.specs.Prelude.{◌≡◌, ℕ, ◌<◌, ◌≤◌, true, codes, List, [], ◌++◌, map}
 use Rattle.std.specs.List.{AllZip, range_with_len}
 use Rattle.graph.specs.Schedules.{IsLawfulSchedule}
-use Rattle.modulo.specs.Schedules.{stages_of}
+use Rattle.schedules.specs.Schedules.{stages_of}
 use Rattle.problems.specs.declared.draft.Draft.{Draft}
 use Rattle.problems.specs.Problems.{ProblemData, IsProblem}
 use Rattle.solutions.specs.declared.solving.outcome.Outcome.{Outcome}

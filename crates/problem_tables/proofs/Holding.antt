@@ -10,9 +10,9 @@ use Rattle.problems.specs.declared.draft.Hold.{Hold}
 use Rattle.problem_tables.specs.Data.{hold_in}
 use Rattle.problem_tables.specs.Faults.{unless, on_word, room_at, known, offset_fault, same_hold, holds_fault, number_or_0}
 use Rattle.problem_tables.specs.Names.{has_name}
-use Rattle.problem_tables.specs.declared.fault.Part.TheVariants as part
+use Rattle.problem_faults.specs.declared.refused_problems.Part.TheVariants as part
 use Rattle.problem_tables.specs.declared.fault.Told.{Told}
-use Rattle.problem_tables.specs.declared.fault.Wrong.TheVariants as wrong
+use Rattle.problem_faults.specs.declared.refused_problems.Wrong.TheVariants as wrong
 use Rattle.problem_tables.specs.inner.Holds.{crowd_fault, hold_fault, same_row, rest_fault, IsTaken}
 use Rattle.problem_tables.proofs.Firsts.{or-none, after-5, pass-5, fail-5, third-none}
 use Rattle.problem_tables.proofs.Naming.{index-tells}

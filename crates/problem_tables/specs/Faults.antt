@@ -12,11 +12,11 @@ use Rattle.problem_lines.specs.declared.number.Integer.{Integer}
 use Rattle.problem_lines.specs.declared.number.Storage.{Storage}
 use Rattle.problem_lines.specs.declared.number.Storage.TheVariants.{Rotating, Unallotted}
 use Rattle.problem_tables.specs.Names.{has_name}
-use Rattle.problem_tables.specs.declared.fault.Part.{Part}
-use Rattle.problem_tables.specs.declared.fault.Part.TheVariants as part
+use Rattle.problem_faults.specs.declared.refused_problems.Part.{Part}
+use Rattle.problem_faults.specs.declared.refused_problems.Part.TheVariants as part
 use Rattle.problem_tables.specs.declared.fault.Told.{Told}
-use Rattle.problem_tables.specs.declared.fault.Wrong.{Wrong}
-use Rattle.problem_tables.specs.declared.fault.Wrong.TheVariants as wrong
+use Rattle.problem_faults.specs.declared.refused_problems.Wrong.{Wrong}
+use Rattle.problem_faults.specs.declared.refused_problems.Wrong.TheVariants as wrong
 
 -- the first of some faults
 abbrev pub first_of : List (Option Told) → Option Told

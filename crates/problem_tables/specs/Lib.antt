@@ -3,5 +3,4 @@ pub mod Faults
 pub mod Names
 pub mod Seen
 pub mod Tables
-pub mod Texts
 pub mod inner

@@ -16,10 +16,10 @@ use Rattle.registers.specs.declared.value.Read.{Read}
 use Rattle.problem_tables.specs.Data.{KindData, MachineData, ProblemData, FileData, file_of, kind_of}
 use Rattle.problem_tables.specs.Faults.{first_of, unless, on_line, on_word, room_at, new, known, in_range, units_fault, storage_fault, alternatives_fault, offset_fault, delay_fault, number_or_0}
 use Rattle.problem_tables.specs.Names.{bytes_of, index_of, last_name}
-use Rattle.problem_tables.specs.declared.fault.Part.TheVariants as part
+use Rattle.problem_faults.specs.declared.refused_problems.Part.TheVariants as part
 use Rattle.problem_tables.specs.declared.fault.Told.{Told}
-use Rattle.problem_tables.specs.declared.fault.Wrong.{Wrong}
-use Rattle.problem_tables.specs.declared.fault.Wrong.TheVariants as wrong
+use Rattle.problem_faults.specs.declared.refused_problems.Wrong.{Wrong}
+use Rattle.problem_faults.specs.declared.refused_problems.Wrong.TheVariants as wrong
 
 -- of the machine under way
 pub record MachineParts : Type 0 where

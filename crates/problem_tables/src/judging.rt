@@ -6,9 +6,10 @@ ghost use Rattle.problem_tables.specs.Faults.{delay_fault, in_range, known, new,
 ghost use Rattle.problem_tables.specs.Names.{has_name, index_of};
 ghost use Rattle.problem_tables.specs.inner.Spots.{on_spot};
 
-use crate::fault::{Part, Told, Wrong};
+use crate::fault::Told;
 use crate::names::Names;
 use machine_data::limits::{MAX_DELAY, MAX_REGISTERS};
+use problem_faults::refused_problems::{Part, Wrong};
 use problem_lines::{Integer, Line, Number, Storage, Word};
 
 /// Where a fault is told.

@@ -12,5 +12,5 @@ mod room;
 mod tables;
 
 pub use ended::{Ended, TextMachine, TextProblem};
-pub use fault::{Part, Refusal, Told, Wrong};
+pub use fault::{Refusal, Told};
 pub use tables::Tables;

@@ -21,7 +21,7 @@ pub struct Problem {
     draft: Draft,
     /// The alternatives of the operations.
     tables: Tables,
-    scheduling: modulo::Problem,
+    scheduling: schedules::Problem,
 }
 
 impl Model for Problem {
@@ -104,7 +104,7 @@ impl Problem {
 
     /// What is scheduled: the operations, each with the latency and the alternatives of its kind, and the edges that the
     /// reads and the orders come to.
-    pub fn scheduling(&self) -> &modulo::Problem
+    pub fn scheduling(&self) -> &schedules::Problem
         ensures value { result.now ≡ self.now.scheduling }
         ensures well_formed { IsProblem self.now }
     {

@@ -1,6 +1,6 @@
 -- The least interval of a loop by its number.
 use Rattle.std.proofs.Common.{◌≡◌, ℕ, zero, suc, ◌<◌, List, [], ◌∷◌, length, refl, arith, slice_index_or}
-use Rattle.ims.specs.Problems.{ProblemData, mii_of}
+use Rattle.loop_schedules.specs.Problems.{ProblemData, mii_of}
 use Rattle.reports.specs.Entries.{mii_at}
 
 pub mii_there : (loops : List ProblemData) (l : ℕ) (any : ProblemData) → l < length loops → mii_of (slice_index_or loops l any) ≡ mii_at loops l

@@ -1,7 +1,7 @@
 -- What a report tells of the intervals of loops.
 use Rattle.std.specs.Prelude.{◌≡◌, ◌≢◌, ◌⊎◌, ℕ, zero, suc, ◌+◌, Bool, true, false, ◌<◌, ◌≤◌, ◌&&◌, ◌==◌, List, [], ◌∷◌, ◌++◌, length}
 use Rattle.std.specs.List.{All, list_any, slice_index_or}
-use Rattle.ims.specs.Problems.{ProblemData, mii_of}
+use Rattle.loop_schedules.specs.Problems.{ProblemData, mii_of}
 use Rattle.candidates.specs.Choices.{last_of}
 use Rattle.candidates.specs.Outcomes.{GivesKernel, FailsBy}
 use Rattle.reports.specs.declared.entry.Entry.{Entry}

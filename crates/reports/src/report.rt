@@ -4,7 +4,7 @@ ghost use Rattle.std.specs.List.{All};
 ghost use Rattle.reports.specs.Entries.{IsEntry, ReportData, HasNoRefusal, Enters};
 
 use crate::entry::Entry;
-use ims::Prepared;
+use loop_schedules::Prepared;
 use std::alloc::Global;
 use std::marker::Model;
 

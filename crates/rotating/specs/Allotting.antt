@@ -1,6 +1,6 @@
 -- What allotting comes to: registers for all values, or the first value that has none.
 use Rattle.std.specs.Prelude.{◌≡◌, ℕ}
-use Rattle.ims.specs.Schedules.{ScheduleData}
+use Rattle.loop_schedules.specs.Schedules.{ScheduleData}
 use Rattle.overlap.specs.Allotments.{LeastFor}
 use Rattle.overlap.specs.Lifetimes.{lifetimes_of}
 use Rattle.registers.specs.Numberless.{HasNone}

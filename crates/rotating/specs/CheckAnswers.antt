@@ -1,7 +1,7 @@
 -- What the check of an allotment answers.
 use Rattle.std.specs.Prelude.{◌≡◌, ℕ, List, Result, Ok, Err, Vec}
 use Rattle.std.specs.Global.{Global}
-use Rattle.ims.specs.Schedules.{ScheduleData}
+use Rattle.loop_schedules.specs.Schedules.{ScheduleData}
 use Rattle.overlap.specs.Allotments.{AllotmentData, IsLawfulAllotment}
 use Rattle.overlap.specs.Lifetimes.{lifetimes_of}
 

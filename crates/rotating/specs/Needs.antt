@@ -1,7 +1,7 @@
 -- How many registers the values of a schedule need.
 use Rattle.std.specs.Prelude.{ℕ, ◌<◌, ◌≤◌, List, Option, Some, None}
 use Rattle.machine_data.specs.declared.limits.TheConstants.{MAX_REGISTERS}
-use Rattle.ims.specs.Schedules.{ScheduleData}
+use Rattle.loop_schedules.specs.Schedules.{ScheduleData}
 use Rattle.overlap.specs.Allotments.{AreLeast, NoneFor}
 use Rattle.overlap.specs.Lifetimes.{lifetimes_of}
 

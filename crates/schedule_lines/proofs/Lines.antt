@@ -6,7 +6,7 @@ use Rattle.std.proofs.lemmas.List.Folds.{flat_map-map}
 use Rattle.std.proofs.lemmas.List.FromFn.{get_or-map-range_with_len, length-map-range_with_len, length-range_with_len}
 use Rattle.std.proofs.lemmas.List.Sums.{count_by-le-length, length-filter}
 use Rattle.machine_data.specs.Machines.{MachineData}
-use Rattle.ims.specs.Schedules.{ScheduleData}
+use Rattle.loop_schedules.specs.Schedules.{ScheduleData}
 use Rattle.figures.specs.LiveCounts.{live_count}
 use Rattle.figures.specs.Slots.{is_used, used_units}
 use Rattle.schedule_lines.specs.declared.grids.columns.Column.{Column}

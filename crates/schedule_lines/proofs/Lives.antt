@@ -5,7 +5,7 @@ use Rattle.std.specs.List.{All}
 use Rattle.std.proofs.lemmas.Bool.{cases_Bool, cond-true, cond-false}
 use Rattle.std.proofs.lemmas.List.Elements.{All-nil, All-cons, All-map}
 use Rattle.loop_data.specs.declared.language.statement.Statement.{Statement}
-use Rattle.ims.specs.Schedules.{ScheduleData}
+use Rattle.loop_schedules.specs.Schedules.{ScheduleData}
 use Rattle.registers.specs.declared.lifetime.Lifetime.{Lifetime}
 use Rattle.overlap.specs.Lifetimes.{lifetime_of, lifetimes_of, values_from, values_of}
 

@@ -5,7 +5,7 @@ use Rattle.machine_data.specs.declared.alternative.Row.{Row}
 use Rattle.machine_data.specs.Machines.{MachineData}
 use Rattle.loop_data.specs.Loops.{LoopData}
 use Rattle.graph_text.specs.Names.{op_name}
-use Rattle.ims.specs.Schedules.{ScheduleData, stages_of}
+use Rattle.loop_schedules.specs.Schedules.{ScheduleData, stages_of}
 use Rattle.registers.specs.declared.lifetime.Lifetime.{Lifetime}
 use Rattle.overlap.specs.Allotments.{AllotmentData}
 use Rattle.overlap.specs.Lifetimes.{lifetimes_of}

@@ -1,7 +1,7 @@
 -- The texts in the slots of the modulo reservation table of a schedule.
 use Rattle.std.specs.Prelude.{ℕ, List, codes, ◌++◌, Option, Some, None}
 use Rattle.graph_text.specs.Names.{op_name}
-use Rattle.ims.specs.Schedules.{ScheduleData, stage_of}
+use Rattle.loop_schedules.specs.Schedules.{ScheduleData, stage_of}
 use Rattle.figures.specs.Slots.{slot_taker}
 use Rattle.writing.specs.Words.{told}
 

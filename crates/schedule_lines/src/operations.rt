@@ -7,7 +7,7 @@ ghost use Rattle.schedule_lines.specs.ScheduleTexts.{op_line, op_lines, row_text
 
 use figures::rows_at;
 use graph_text::push_name;
-use ims::Schedule;
+use loop_schedules::Schedule;
 use machine_data::{Machine, OutOfMemory, Row};
 use writing::{Text, push_told};
 

@@ -1,7 +1,7 @@
 //! The text of a schedule.
 
 ghost use Rattle.std.specs.Prelude.{◌≡◌, ◌++◌, ◌-◌, OnOk};
-ghost use Rattle.ims.specs.Schedules.{stages_of};
+ghost use Rattle.loop_schedules.specs.Schedules.{stages_of};
 ghost use Rattle.overlap.specs.Allotments.{Suits};
 ghost use Rattle.schedule_lines.specs.ScheduleTexts.{idle_line, iteration_line, op_lines, schedule_text, turns_line};
 ghost use Rattle.schedule_lines.specs.inner.Grids.{IsGrid, table_text};
@@ -12,7 +12,7 @@ use crate::grids::uses::push_use;
 use crate::operations::push_operations;
 use crate::values::push_values;
 use figures::Figures;
-use ims::Schedule;
+use loop_schedules::Schedule;
 use machine_data::{Machine, OutOfMemory};
 use rotating::{Allotment, lifetimes};
 use std::alloc::Global;

@@ -7,7 +7,7 @@ ghost use Rattle.schedule_lines.specs.inner.Labels.{labels_of, texts_in};
 
 use figures::Takers;
 use graph_text::push_name;
-use ims::Schedule;
+use loop_schedules::Schedule;
 use machine_data::OutOfMemory;
 use std::alloc::Global;
 use std::marker::Model;
@@ -25,7 +25,7 @@ pub(crate) struct Slots<'s, 'a> {
 
 impl<'s, 'a> Model for Slots<'s, 'a> {
     ghost use Rattle.std.specs.Prelude.{◌≡◌};
-    ghost use Rattle.ims.specs.Schedules.{ScheduleData};
+    ghost use Rattle.loop_schedules.specs.Schedules.{ScheduleData};
     ghost use Rattle.schedule_lines.specs.inner.Labels.{labels_of, texts_in};
 
     ghost Value = { ScheduleData };

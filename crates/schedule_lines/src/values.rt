@@ -5,8 +5,8 @@ ghost use Rattle.overlap.specs.Lifetimes.{lifetimes_of};
 ghost use Rattle.schedule_lines.specs.ScheduleTexts.{value_line, value_lines};
 
 use graph_text::push_name;
-use ims::Schedule;
 use loop_data::Loop;
+use loop_schedules::Schedule;
 use machine_data::OutOfMemory;
 use rotating::Lifetime;
 use writing::{Text, push_told};

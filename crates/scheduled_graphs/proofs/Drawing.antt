@@ -7,8 +7,8 @@ use Rattle.graph_text.specs.Dot.{node_line}
 use Rattle.graph_text.specs.Texts.{numbers_of}
 use Rattle.loop_data.specs.Loops.{LoopData}
 use Rattle.writing.proofs.Beginnings.{two_pushed}
-use Rattle.ims.specs.Problems.{ProblemData}
-use Rattle.ims.specs.Schedules.{ScheduleData}
+use Rattle.loop_schedules.specs.Problems.{ProblemData}
+use Rattle.loop_schedules.specs.Schedules.{ScheduleData}
 use Rattle.candidates.specs.declared.outcomes.Cause.{Cause}
 use Rattle.scheduled_graphs.specs.Arrows.{AreArrows}
 use Rattle.scheduled_graphs.specs.Graphs.{IsScheduledText, IsUnscheduledText}

@@ -4,7 +4,7 @@ use Rattle.std.specs.List.{All}
 use Rattle.graph.specs.Dependences.{EdgeData, Dependence}
 use Rattle.graph_text.specs.Kinds.{IsTimed}
 use Rattle.loop_data.specs.Loops.{LoopData}
-use Rattle.ims.specs.Problems.{ProblemData, IsProblem}
+use Rattle.loop_schedules.specs.Problems.{ProblemData, IsProblem}
 
 pub edge-timed : (problem : ProblemData) (loop : LoopData) (edges : List EdgeData) → IsProblem problem → loop ≡ problem.loop → edges ≡ problem.graph.edges → (i : ℕ) (d : EdgeData)
     → i < length edges → IsTimed loop problem.graph.latencies (get_or edges i d)

@@ -5,7 +5,7 @@ use Rattle.graph_marks.specs.Arrows.{IsRed, arrow_end}
 use Rattle.graph_text.specs.Dot.{arrow_start}
 use Rattle.graph_text.specs.Kinds.{IsOfKind, kind_word}
 use Rattle.graph_text.specs.Texts.{AreTexts}
-use Rattle.ims.specs.Problems.{ProblemData}
+use Rattle.loop_schedules.specs.Problems.{ProblemData}
 use Rattle.scheduled_graphs.specs.declared.arrows.Stroke.{Stroke}
 
 -- `  P -> Q [label="KIND D @N"`, what makes the edge dashed or red, and `]`, with a line feed

@@ -2,8 +2,8 @@
 use Rattle.std.specs.Prelude.{ℕ, List}
 use Rattle.graph.specs.Dependences.{EdgeData}
 use Rattle.graph_text.specs.Drawings.{IsCritical}
-use Rattle.ims.specs.Problems.{ProblemData}
-use Rattle.ims.specs.Schedules.{ScheduleData}
+use Rattle.loop_schedules.specs.Problems.{ProblemData}
+use Rattle.loop_schedules.specs.Schedules.{ScheduleData}
 use Rattle.candidates.specs.declared.outcomes.Cause.{Cause}
 use Rattle.candidates.specs.declared.evidence.Tried.{Tried}
 use Rattle.candidates.specs.declared.evidence.Tried.TheVariants.{Met, Failed}

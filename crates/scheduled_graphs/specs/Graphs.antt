@@ -4,8 +4,8 @@ use Rattle.std.specs.List.{flat_map}
 use Rattle.graph.specs.Dependences.{EdgeData}
 use Rattle.graph_text.specs.Dot.{node_line}
 use Rattle.graph_text.specs.Texts.{numbers_of}
-use Rattle.ims.specs.Problems.{ProblemData}
-use Rattle.ims.specs.Schedules.{ScheduleData}
+use Rattle.loop_schedules.specs.Problems.{ProblemData}
+use Rattle.loop_schedules.specs.Schedules.{ScheduleData}
 use Rattle.candidates.specs.declared.outcomes.Cause.{Cause}
 use Rattle.scheduled_graphs.specs.Arrows.{AreArrows}
 use Rattle.scheduled_graphs.specs.Heads.{scheduled_head, unscheduled_head}

@@ -1,7 +1,7 @@
 -- What stands before the operations.
 use Rattle.std.specs.Prelude.{ℕ, ◌+◌, codes, List, ◌++◌}
-use Rattle.ims.specs.Problems.{ProblemData, mii_of}
-use Rattle.ims.specs.Schedules.{ScheduleData, stages_of}
+use Rattle.loop_schedules.specs.Problems.{ProblemData, mii_of}
+use Rattle.loop_schedules.specs.Schedules.{ScheduleData, stages_of}
 use Rattle.candidates.specs.declared.outcomes.Cause.{Cause}
 use Rattle.candidates.specs.Choices.{last_of}
 use Rattle.candidates.specs.Texts.{cause_word}

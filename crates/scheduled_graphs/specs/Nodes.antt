@@ -5,7 +5,7 @@ use Rattle.loop_data.specs.Loops.{LoopData}
 use Rattle.graph_marks.specs.Nodes.{place_text}
 use Rattle.graph_text.specs.Names.{op_name, opcode_word}
 use Rattle.graph_text.specs.Texts.{numbers_of}
-use Rattle.ims.specs.Schedules.{ScheduleData}
+use Rattle.loop_schedules.specs.Schedules.{ScheduleData}
 use Rattle.writing.specs.Words.{told}
 
 -- `  K [label="NAME OPCODE`

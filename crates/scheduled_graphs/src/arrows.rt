@@ -7,7 +7,7 @@ ghost use Rattle.scheduled_graphs.specs.Arrows.{AreArrows, arrow_line};
 use graph::Edge;
 use graph_marks::push_arrow_end;
 use graph_text::{Kind, kind_of, push_arrow_start};
-use ims::Prepared;
+use loop_schedules::Prepared;
 use machine_data::OutOfMemory;
 use writing::Text;
 

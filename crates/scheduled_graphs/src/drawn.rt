@@ -8,7 +8,7 @@ use crate::graphs::{push_scheduled, push_unscheduled};
 use candidates::{Cause, Tried};
 use graph::Edge;
 use graph_text::critical_circuit;
-use ims::{Prepared, Schedule};
+use loop_schedules::{Prepared, Schedule};
 use machine_data::OutOfMemory;
 use std::alloc::Global;
 

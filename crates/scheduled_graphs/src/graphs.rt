@@ -8,7 +8,7 @@ use crate::heads::{push_scheduled_head, push_unscheduled_head};
 use crate::nodes::{push_all_placed, push_nodes};
 use candidates::Cause;
 use graph::Edge;
-use ims::{Prepared, Schedule};
+use loop_schedules::{Prepared, Schedule};
 use machine_data::OutOfMemory;
 use writing::Text;
 

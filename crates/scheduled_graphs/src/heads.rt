@@ -6,7 +6,7 @@ ghost use Rattle.scheduled_graphs.specs.Heads.{bounds_told, head_of, scheduled_h
 
 use candidates::Cause;
 use graph_marks::{push_failed_label, push_met_label, push_nodes_filled, push_nodes_plain};
-use ims::{Prepared, Schedule};
+use loop_schedules::{Prepared, Schedule};
 use machine_data::OutOfMemory;
 use writing::{Text, push_both, push_told};
 

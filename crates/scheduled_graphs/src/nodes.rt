@@ -9,8 +9,8 @@ ghost use Rattle.scheduled_graphs.specs.Nodes.{node_start, placed_line, placed_l
 
 use graph_marks::push_place;
 use graph_text::push_name;
-use ims::Schedule;
 use loop_data::Loop;
+use loop_schedules::Schedule;
 use machine_data::OutOfMemory;
 use writing::{Text, push_both, push_told};
 

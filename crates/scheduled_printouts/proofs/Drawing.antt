@@ -4,7 +4,7 @@ use Rattle.std.proofs.lemmas.List.{take_more}
 use Rattle.std.specs.List.{list_all}
 use Rattle.graph_text.proofs.Texts.{all_zip-push, zipped-push}
 use Rattle.writing.proofs.Beginnings.{two_pushed}
-use Rattle.ims.specs.Problems.{ProblemData}
+use Rattle.loop_schedules.specs.Problems.{ProblemData}
 use Rattle.candidates.specs.Listings.{is_met}
 use Rattle.scheduled_printouts.specs.Graphs.{AreDrawn, DrawnData, IsDrawn}
 

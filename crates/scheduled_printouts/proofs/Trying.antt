@@ -1,6 +1,6 @@
 -- Intervals that are tried one after another.
 use Rattle.std.proofs.Common.{◌≡◌, ℕ, ◌+◌, ◌≤◌, Bool, List, ◌++◌, refl, ap, subst, arith}
-use Rattle.ims.specs.Problems.{ProblemData, IsProblem, mii_of}
+use Rattle.loop_schedules.specs.Problems.{ProblemData, IsProblem, mii_of}
 use Rattle.candidates.specs.declared.choices.Choice.TheVariants as choice
 use Rattle.candidates.specs.declared.evidence.Met as evidence
 use Rattle.candidates.specs.declared.evidence.Reason.{Reason}

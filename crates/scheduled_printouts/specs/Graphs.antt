@@ -4,8 +4,8 @@ use Rattle.std.specs.List.{list_all}
 use Rattle.machine.specs.Machines.{MachineData}
 use Rattle.loops.specs.Loops.{LoopData}
 use Rattle.graph_text.specs.Texts.{AreTexts}
-use Rattle.ims.specs.Problems.{ProblemData}
-use Rattle.ims.specs.Schedules.{ScheduleData}
+use Rattle.loop_schedules.specs.Problems.{ProblemData}
+use Rattle.loop_schedules.specs.Schedules.{ScheduleData}
 use Rattle.candidates.specs.declared.choices.Choice.{Choice}
 use Rattle.candidates.specs.declared.choices.Choice.TheVariants.{Met, Failed}
 use Rattle.candidates.specs.Choices.{IsChoice}

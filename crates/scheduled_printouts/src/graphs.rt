@@ -8,7 +8,7 @@ ghost use Rattle.scheduled_printouts.specs.Graphs.{AreDrawn, AreScheduledGraphs,
 
 use crate::tries::{is_met, last_tried};
 use file_faults::FileFault;
-use ims::Prepared;
+use loop_schedules::Prepared;
 use loops::Loop;
 use machine::{Machine, OutOfMemory};
 use one_thread::prepare_all;

@@ -4,7 +4,7 @@ ghost use Rattle.std.specs.Prelude.{◌≡◌, IfOk};
 ghost use Rattle.scheduled_printouts.specs.inner.LastTried.{IsLastTried, gives_kernel};
 
 use candidates::{Trials, Tried};
-use ims::Prepared;
+use loop_schedules::Prepared;
 use machine::OutOfMemory;
 use std::alloc::Global;
 

@@ -1,4 +1,3 @@
-pub mod Changed
 pub mod Numbers
 pub mod Works
 pub mod Zipped

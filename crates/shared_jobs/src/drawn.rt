@@ -4,12 +4,12 @@ ghost use Rattle.std.specs.Prelude.{◌≡◌, ◌<◌, ℕ, length};
 ghost use Rattle.std.specs.List.{All};
 ghost use Rattle.shared_jobs.specs.inner.Slots.{IsMadeBelow};
 
-use crate::calls::call_in_threads;
 use crate::jobs::Job;
 use machine_data::OutOfMemory;
 use std::alloc::Global;
 use std::sync::atomic::{AtomicUsize, Ordering};
 use std::thread::Threads;
+use thread_calls::call_in_threads;
 
 /// A part, and its number.
 #[derive(Drop)]

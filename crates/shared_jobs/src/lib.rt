@@ -3,11 +3,9 @@
 //! on what each of them makes, or on when.
 #![tactic(auto)]
 
-mod calls;
 mod drawn;
 mod jobs;
 mod slots;
 
-pub use calls::{both_in_threads, call_in_threads, change_in_threads};
 pub use jobs::{Job, Jobs, shared};
 pub use slots::parts_of;

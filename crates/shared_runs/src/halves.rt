@@ -9,9 +9,9 @@ ghost use Rattle.loops.specs.Run.{opening_of};
 ghost use Rattle.printouts.specs.Run.{choice_lines, kernel_lines};
 
 use candidates::{Choice, Row};
-use ims::Prepared;
 use kernel::Kernel;
 use kernel_runs::{Guess, simulate_in_halves};
+use loop_schedules::Prepared;
 use loops::{Initial, Loop, Memory, Operand, opening, run_beginning};
 use machine_data::OutOfMemory;
 use printouts::{push_choice, push_run, within_limits};

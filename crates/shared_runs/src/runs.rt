@@ -2,7 +2,7 @@
 
 ghost use Rattle.std.specs.Prelude.{◌≡◌, ◌<◌, ◌++◌, ℕ, length, IfOk, map, slice_index_or, vec_len};
 ghost use Rattle.std.specs.List.{All, flat_map};
-ghost use Rattle.ims.specs.Problems.{ProblemData};
+ghost use Rattle.loop_schedules.specs.Problems.{ProblemData};
 ghost use Rattle.candidates.specs.Texts.{counts_line};
 ghost use Rattle.candidates.specs.declared.listings.Row as row;
 ghost use Rattle.one_thread.specs.Files.{ListsProblems};
@@ -13,7 +13,7 @@ ghost use Rattle.text_parts.specs.Parts.{text_of};
 use crate::halves::push_told;
 use crate::work::{LARGE, run_work};
 use candidates::{Listing, Row};
-use ims::Prepared;
+use loop_schedules::Prepared;
 use loops::Loop;
 use machine_data::OutOfMemory;
 use printouts::{are_met, push_counts, run_printout};

@@ -7,7 +7,7 @@ use Rattle.std.proofs.lemmas.Bool.Decides.{nat_tests}
 use Rattle.std.proofs.lemmas.List.Concat.{flat_map-append}
 use Rattle.machine.specs.Machines.{MachineData}
 use Rattle.loops.specs.Loops.{LoopData}
-use Rattle.ims.specs.Problems.{ProblemData}
+use Rattle.loop_schedules.specs.Problems.{ProblemData}
 use Rattle.candidates.specs.Choices.{IsChoice}
 use Rattle.candidates.specs.Listings.{ListingData, listing_of, listing_rows}
 use Rattle.candidates.specs.Texts.{number_failed, number_met}
@@ -19,8 +19,8 @@ use Rattle.json_objects.proofs.Joined.{join-map}
 use Rattle.listing_json.proofs.Joined.{documents-joined}
 use Rattle.one_thread.specs.Files.{ArePrepared}
 use Rattle.written.specs.Written.{Written}
-use Rattle.printouts.specs.Schedule.{IsListingDocument}
-use Rattle.printouts.proofs.Told.{told_document}
+use Rattle.json_printouts.specs.Documents.{IsListingDocument}
+use Rattle.json_printouts.proofs.Told.{told_document}
 use Rattle.workers.specs.Told.{Group, choices_of, problems_of}
 use Rattle.side_by_side.specs.declared.parts.told.ToldLoops.{ToldLoops}
 use Rattle.side_by_side.specs.inner.Objects.{objects_text, without_comma}

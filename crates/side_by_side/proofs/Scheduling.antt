@@ -1,7 +1,7 @@
 -- The graphs of loops that workers draw are those of the loops.
 use Rattle.std.proofs.Common.{◌≡◌, ◌&&◌, ◌<◌, ℕ, suc, Bool, List, [], ◌∷◌, ◌++◌, length, get_or, refl, ap₂, arith}
 use Rattle.std.specs.List.{flat_map, list_all}
-use Rattle.ims.specs.Problems.{ProblemData}
+use Rattle.loop_schedules.specs.Problems.{ProblemData}
 use Rattle.scheduled_printouts.specs.Graphs.{AreDrawn}
 use Rattle.text_parts.specs.declared.part.Part.{Part}
 use Rattle.text_parts.specs.Parts.{met_of, text_of}

@@ -13,7 +13,7 @@ use Rattle.machine.specs.Machines.{MachineData}
 use Rattle.graph.specs.Units.{first_lacking}
 use Rattle.loops.specs.LoopFault.{LoopFault}
 use Rattle.loops.specs.Loops.{LoopData}
-use Rattle.ims.specs.Problems.{ProblemData}
+use Rattle.loop_schedules.specs.Problems.{ProblemData}
 use Rattle.candidates.specs.Choices.{IsChoice}
 use Rattle.candidates.specs.Listings.{ListingData, is_failed, is_met, listing_of, listing_row, listing_rows}
 use Rattle.candidates.specs.Texts.{counts_line, has_outs, number_failed, number_met, row_text, version_text}

@@ -12,9 +12,7 @@ use command_line::{Command, Search, Task, Work};
 use devices::{Input, Output, ReadTextError, read_text};
 use exit_status::{Status, Verdict, finish};
 use file_faults::FileFault;
-use loops::read_loops;
-use machine::read_machine;
-use printouts::{bounds_text, plain_text, run_alone, schedule_alone};
+use printouts::{bounds_alone, plain_alone, run_alone, schedule_alone};
 use settings::{Settings, Trip};
 use std::alloc::Global;
 use written::Printout;
@@ -144,24 +142,9 @@ fn printout_of(
     ensures { TellsOf wanted.now (machine_of machine.now) (loops_in loops.now) result }
 {
     match wanted {
-        Wanted::Plain(trip) => {
-            let loops = read_loops(alloc, loops)?;
-            plain_text(alloc, loops.as_slice(), *trip)
-        }
-        Wanted::Bounds => {
-            let machine = read_machine(alloc, machine)?;
-            let loops = read_loops(alloc, loops)?;
-            bounds_text(alloc, &machine, loops.as_slice())
-        }
-        Wanted::Schedule(settings) => {
-            let machine = read_machine(alloc, machine)?;
-            let loops = read_loops(alloc, loops)?;
-            schedule_alone(alloc, &machine, loops, settings)
-        }
-        Wanted::Run(settings, trip) => {
-            let machine = read_machine(alloc, machine)?;
-            let loops = read_loops(alloc, loops)?;
-            run_alone(alloc, &machine, loops, *trip, settings)
-        }
+        Wanted::Plain(trip) => plain_alone(alloc, loops, *trip),
+        Wanted::Bounds => bounds_alone(alloc, machine, loops),
+        Wanted::Schedule(settings) => schedule_alone(alloc, machine, loops, settings),
+        Wanted::Run(settings, trip) => run_alone(alloc, machine, loops, *trip, settings),
     }
 }

@@ -4,7 +4,7 @@ use Rattle.std.specs.List.{filter_map, range_with_len}
 use Rattle.serde_json.specs.Data.{Data, string, object, member, no_members}
 use Rattle.machine_data.specs.declared.alternative.Row.{Row}
 use Rattle.mrt.specs.Placements.{rows_of}
-use Rattle.modulo.specs.Schedules.{stage_of}
+use Rattle.schedules.specs.Schedules.{stage_of}
 use Rattle.registers.specs.declared.value.Read.{Read}
 use Rattle.instances.specs.Runs.{value_of}
 use Rattle.problems.specs.declared.draft.Draft.{Draft}

@@ -4,7 +4,7 @@ use Rattle.serde_json.specs.Data.{Data, Members, string, object, member, no_memb
 use Rattle.serde_json.specs.Written.{compact_text}
 use Rattle.graph.specs.Dependences.{EdgeData}
 use Rattle.modulo.specs.declared.outcome.attempts.Culprit.{Culprit}
-use Rattle.modulo.specs.Problems.{mii_of}
+use Rattle.schedules.specs.Problems.{mii_of}
 use Rattle.problems.specs.Problems.{ProblemData}
 use Rattle.solutions.specs.declared.solving.outcome.Cause.{Cause}
 use Rattle.solutions.specs.declared.solving.outcome.Outcome.{Outcome}

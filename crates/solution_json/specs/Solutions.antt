@@ -3,7 +3,7 @@ use Rattle.std.specs.Prelude.{if◌then◌else◌, codes, length}
 use Rattle.std.specs.List.{list_any, range_with_len}
 use Rattle.serde_json.specs.Data.{Data, null, array, object, member, no_members}
 use Rattle.serde_json.specs.View.{items_of}
-use Rattle.modulo.specs.Schedules.{stages_of}
+use Rattle.schedules.specs.Schedules.{stages_of}
 use Rattle.solutions.specs.Copies.{unroll_of}
 use Rattle.solutions.specs.Solutions.{SolutionData, schedule_of}
 use Rattle.solution_text.specs.Files.{is_free}

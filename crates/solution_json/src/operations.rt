@@ -4,7 +4,7 @@ ghost use Rattle.std.specs.Prelude.{◌≡◌, [], ◌++◌, ◌<◌, ◌≤◌,
 ghost use Rattle.std.specs.List.{cons_option, range_with_len};
 ghost use Rattle.machine_data.specs.declared.limits.TheConstants.{MAX_DISTANCE, MAX_STAGES};
 ghost use Rattle.serde_json.specs.View.{view};
-ghost use Rattle.modulo.specs.Schedules.{stage_of};
+ghost use Rattle.schedules.specs.Schedules.{stage_of};
 ghost use Rattle.solutions.specs.Solutions.{schedule_of};
 ghost use Rattle.solution_json.specs.Operations.{hold_object, holds_array, operation_object, read_register, registers_read, registers_written, write_register};
 ghost use Rattle.solution_json.specs.Parts.{array_of, register_object};

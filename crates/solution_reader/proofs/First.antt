@@ -6,7 +6,7 @@ use Rattle.std.specs.Option.{option_map}
 use Rattle.std.specs.Prelude.{find}
 use Rattle.solution_reader.specs.Data.{OpData, ValueData}
 use Rattle.solution_reader.specs.Resolved.{first_op_failing, first_value_failing, unknown_at}
-use Rattle.solution_reader.specs.declared.fault.Part.TheVariants as part
+use Rattle.problem_faults.specs.declared.refused_solutions.Part.TheVariants as part
 
 pub find_same : {A : Type 0} (p q : A → Bool) → ((x : A) → p x ≡ q x) → (xs : List A) → find p xs ≡ find q xs
 find_same p q h [] = refl

@@ -11,12 +11,12 @@ use Rattle.solution_reader.specs.Data.{has_name, op_names, value_names, solution
 use Rattle.solution_reader.specs.Faults.{first_of, unless, on_line, on_word, one_more, stands, meaning_fault, line_fault}
 use Rattle.solution_reader.specs.Meaning.{at_line, size_fault, judged, text_line, lines_from, forms_of, solutions_or, solutions_in_text, AnswersFault}
 use Rattle.solution_reader.specs.Sofar.{TextLine, ops_in, values_in, solutions_in}
-use Rattle.solution_reader.specs.declared.fault.Part.{Part}
-use Rattle.solution_reader.specs.declared.fault.Part.TheVariants as part
-use Rattle.solution_reader.specs.declared.fault.SolutionFault.{SolutionFault}
+use Rattle.problem_faults.specs.declared.refused_solutions.Part.{Part}
+use Rattle.problem_faults.specs.declared.refused_solutions.Part.TheVariants as part
+use Rattle.problem_faults.specs.declared.refused_solutions.SolutionFault.{SolutionFault}
 use Rattle.solution_reader.specs.declared.fault.Told.{Told}
-use Rattle.solution_reader.specs.declared.fault.Wrong.{Wrong}
-use Rattle.solution_reader.specs.declared.fault.Wrong.TheVariants as wrong
+use Rattle.problem_faults.specs.declared.refused_solutions.Wrong.{Wrong}
+use Rattle.problem_faults.specs.declared.refused_solutions.Wrong.TheVariants as wrong
 use Rattle.solution_reader.specs.inner.Reading.{GoesOn, AnswersLine}
 use Rattle.solution_reader.specs.inner.Steps.{SofarData, IsSofar, may_stand, say_fault, step_fault, with_form}
 use Rattle.solution_reader.proofs.Steps.{next_step, same_fault}

@@ -9,10 +9,10 @@ use Rattle.problem_lines.specs.SolutionLines.{SolutionLineForm}
 use Rattle.solution_reader.specs.Data.{HeadData, OpData, ValueData, op_names, value_names, solution_names}
 use Rattle.solution_reader.specs.Faults.{first_of, unless, on_line, one_more, stands, meaning_fault, line_fault}
 use Rattle.solution_reader.specs.Sofar.{TextLine, begins, since, head_after, head_from, head_in, op_told, value_told, ops_in, values_in, solution_with, ended_by, solutions_from, solutions_in}
-use Rattle.solution_reader.specs.declared.fault.Part.TheVariants as part
+use Rattle.problem_faults.specs.declared.refused_solutions.Part.TheVariants as part
 use Rattle.solution_reader.specs.declared.fault.Told.{Told}
-use Rattle.solution_reader.specs.declared.fault.Wrong.{Wrong}
-use Rattle.solution_reader.specs.declared.fault.Wrong.TheVariants as wrong
+use Rattle.problem_faults.specs.declared.refused_solutions.Wrong.{Wrong}
+use Rattle.problem_faults.specs.declared.refused_solutions.Wrong.TheVariants as wrong
 use Rattle.solution_reader.specs.inner.Steps.{SofarData, with_form, step_fault, say_fault, may_stand, IsSofar}
 
 -- look-ups over one more line

@@ -8,11 +8,11 @@ use Rattle.loop_lines.specs.Columns.{Placed}
 use Rattle.problems.specs.declared.limits.TheConstants.{MAX_PROBLEMS}
 use Rattle.solution_reader.specs.Data.{has_name, op_names, value_names, solution_names}
 use Rattle.solution_reader.specs.Sofar.{TextLine, head_in, ops_in, values_in, solutions_in}
-use Rattle.solution_reader.specs.declared.fault.Part.{Part}
-use Rattle.solution_reader.specs.declared.fault.Part.TheVariants as part
+use Rattle.problem_faults.specs.declared.refused_solutions.Part.{Part}
+use Rattle.problem_faults.specs.declared.refused_solutions.Part.TheVariants as part
 use Rattle.solution_reader.specs.declared.fault.Told.{Told}
-use Rattle.solution_reader.specs.declared.fault.Wrong.{Wrong}
-use Rattle.solution_reader.specs.declared.fault.Wrong.TheVariants as wrong
+use Rattle.problem_faults.specs.declared.refused_solutions.Wrong.{Wrong}
+use Rattle.problem_faults.specs.declared.refused_solutions.Wrong.TheVariants as wrong
 
 -- the first of some faults
 abbrev pub first_of : List (Option Told) → Option Told

@@ -6,5 +6,4 @@ pub mod Faults
 pub mod Meaning
 pub mod Resolved
 pub mod Sofar
-pub mod Texts
 pub mod inner

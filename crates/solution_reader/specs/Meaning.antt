@@ -8,10 +8,10 @@ use Rattle.problems.specs.declared.limits.TheConstants.{MAX_PROBLEM_TEXT}
 use Rattle.solution_reader.specs.Data.{SolutionData}
 use Rattle.solution_reader.specs.Faults.{line_fault}
 use Rattle.solution_reader.specs.Sofar.{TextLine, head_in, solutions_in}
-use Rattle.solution_reader.specs.declared.fault.SolutionFault.{SolutionFault}
+use Rattle.problem_faults.specs.declared.refused_solutions.SolutionFault.{SolutionFault}
 use Rattle.solution_reader.specs.declared.fault.Told.{Told}
-use Rattle.solution_reader.specs.declared.fault.Wrong.{Wrong}
-use Rattle.solution_reader.specs.declared.fault.Wrong.TheVariants as wrong
+use Rattle.problem_faults.specs.declared.refused_solutions.Wrong.{Wrong}
+use Rattle.problem_faults.specs.declared.refused_solutions.Wrong.TheVariants as wrong
 
 abbrev pub at_line : ℕ → Told → SolutionFault
 at_line number told = record { line = number; column = told.column; width = told.width; what = told.what }

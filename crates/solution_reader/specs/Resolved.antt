@@ -9,10 +9,10 @@ use Rattle.problems.specs.declared.draft.File.{File}
 use Rattle.problems.specs.declared.draft.File.TheVariants as file
 use Rattle.problems.specs.declared.draft.Value.{Value}
 use Rattle.solution_reader.specs.Data.{OpData, ValueData, SolutionData, has_name}
-use Rattle.solution_reader.specs.declared.fault.Part.{Part}
-use Rattle.solution_reader.specs.declared.fault.Part.TheVariants as part
-use Rattle.solution_reader.specs.declared.fault.SolutionFault.{SolutionFault}
-use Rattle.solution_reader.specs.declared.fault.Wrong.TheVariants as wrong
+use Rattle.problem_faults.specs.declared.refused_solutions.Part.{Part}
+use Rattle.problem_faults.specs.declared.refused_solutions.Part.TheVariants as part
+use Rattle.problem_faults.specs.declared.refused_solutions.SolutionFault.{SolutionFault}
+use Rattle.problem_faults.specs.declared.refused_solutions.Wrong.TheVariants as wrong
 
 abbrev pub no_solution : SolutionData
 no_solution = record { head = record { name = record { bytes = []; column = 0 }; line = 0; ii = 0 }; ops = []; values = [] }

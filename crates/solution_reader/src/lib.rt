@@ -13,6 +13,6 @@ mod sofar;
 mod spot;
 mod values;
 
-pub use fault::{Part, SolutionFault, Wrong};
 pub use file::SolutionFile;
+pub use problem_faults::refused_solutions::{Part, SolutionFault, Wrong};
 pub use read::read_solutions;

@@ -12,10 +12,11 @@ ghost use Rattle.solution_reader.specs.inner.Reading.{AnswersLine, AnswersLines,
 ghost use Rattle.solution_reader.specs.inner.Taken.{sofar_seen};
 ghost use Rattle.solution_reader.specs.inner.Steps.{IsSofar, nothing};
 
-use crate::fault::{Refusal, SolutionFault, Wrong};
+use crate::fault::{Refusal, at_line};
 use crate::file::SolutionFile;
 use crate::sofar::Sofar;
 use loop_lines::next_line;
+use problem_faults::refused_solutions::{SolutionFault, Wrong};
 use problem_lines::{SolutionLine, solution_line_of};
 use problems::limits::MAX_PROBLEM_TEXT;
 use std::alloc::Global;
@@ -89,7 +90,7 @@ fn take_said<'a>(
     match sofar.take_line(alloc, number, said) {
         Ok(()) => Ok(()),
         Err(Refusal::Memory) => Err(whole_fault(Wrong::Memory)),
-        Err(Refusal::Fault(told)) => Err(SolutionFault::at(number, told)),
+        Err(Refusal::Fault(told)) => Err(at_line(number, told)),
     }
 }
 

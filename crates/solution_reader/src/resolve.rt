@@ -9,12 +9,12 @@ ghost use Rattle.solution_reader.specs.Resolved.{each_told, earlier, number_told
 ghost use Rattle.solution_reader.specs.inner.Found.{is_among};
 ghost use Rattle.solution_reader.specs.inner.Seen.{op_seen, value_seen};
 
-use crate::fault::{Part, SolutionFault, Wrong};
 use crate::file::SolutionFile;
 use crate::ops::Ops;
 use crate::rows::{OpTime, ValueNumber};
 use crate::values::Values;
 use machine_data::OutOfMemory;
+use problem_faults::refused_solutions::{Part, SolutionFault, Wrong};
 use problem_lines::Word;
 use problems::{Draft, File, Label, Value};
 use std::alloc::Global;

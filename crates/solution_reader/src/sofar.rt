@@ -6,18 +6,19 @@ ghost use Rattle.problem_lines.specs.SolutionForms.{SolutionBegins, OpTime as Op
 ghost use Rattle.problem_lines.specs.SolutionParsed.{solution_form_seen, solution_line_seen};
 ghost use Rattle.solution_reader.specs.Data.{has_name, op_names, value_names, solution_names};
 ghost use Rattle.solution_reader.specs.Faults.{one_more};
-ghost use Rattle.solution_reader.specs.declared.fault.Part.TheVariants as part;
+ghost use Rattle.problem_faults.specs.declared.refused_solutions.Part.TheVariants as part;
 ghost use Rattle.solution_reader.specs.inner.Taken.{on_spot, sofar_seen, Refuses};
 ghost use Rattle.solution_reader.specs.inner.Steps.{may_stand, nothing, say_fault, step_fault, with_form};
 
 use crate::begun::Begun;
-use crate::fault::{Part, Refusal, Told, Wrong};
+use crate::fault::{Refusal, Told};
 use crate::file::SolutionFile;
 use crate::ops::Ops;
 use crate::rows::{Head, OpTime, ValueNumber};
 use crate::spot::Spot;
 use crate::values::Values;
 use machine_data::limits::{MAX_STATEMENTS, MAX_VALUES};
+use problem_faults::refused_solutions::{Part, Wrong};
 use problem_lines::{Number, SolutionForm, SolutionLine, Word};
 use problems::limits::MAX_PROBLEMS;
 use std::alloc::Global;

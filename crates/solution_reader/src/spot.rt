@@ -6,7 +6,8 @@ ghost use Rattle.problem_lines.specs.SolutionParsed.{solution_line_seen};
 ghost use Rattle.solution_reader.specs.Faults.{on_line, on_word, room_at, unless};
 ghost use Rattle.solution_reader.specs.inner.Taken.{on_spot};
 
-use crate::fault::{Part, Told, Wrong};
+use crate::fault::Told;
+use problem_faults::refused_solutions::{Part, Wrong};
 use problem_lines::{SolutionLine, Word};
 
 /// The word that a fault is told on.

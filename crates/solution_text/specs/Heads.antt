@@ -1,6 +1,6 @@
 -- The lines that the text of a problem begins with.
 use Rattle.std.specs.Prelude.{ℕ, codes, List, ◌++◌, length}
-use Rattle.modulo.specs.Problems.{mii_of}
+use Rattle.schedules.specs.Problems.{mii_of}
 use Rattle.problems.specs.Problems.{ProblemData}
 use Rattle.writing.specs.Words.{told}
 

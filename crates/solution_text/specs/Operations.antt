@@ -3,7 +3,7 @@ use Rattle.std.specs.Prelude.{ℕ, ◌%◌, ◌==◌, if◌then◌else◌, codes
 use Rattle.std.specs.List.{flat_map, range_with_len}
 use Rattle.machine_data.specs.declared.alternative.Row.{Row}
 use Rattle.mrt.specs.Placements.{rows_of}
-use Rattle.modulo.specs.Schedules.{stage_of}
+use Rattle.schedules.specs.Schedules.{stage_of}
 use Rattle.registers.specs.declared.value.Read.{Read}
 use Rattle.instances.specs.Runs.{value_of}
 use Rattle.problems.specs.declared.draft.Draft.{Draft}

@@ -1,9 +1,9 @@
 -- What a check says of a problem: that a solution is one, what it breaks first, or what it lacks.
 use Rattle.std.specs.Prelude.{ℕ, ◌==◌, if◌then◌else◌, codes, List, ◌++◌}
 use Rattle.graph.specs.Dependences.{EdgeData}
-use Rattle.modulo.specs.declared.schedules.breach.Breach.{Breach}
-use Rattle.modulo.specs.declared.schedules.breach.Breach.TheVariants.{Count, Time, Alternative, Slot, Edge, Stage}
-use Rattle.modulo.specs.Schedules.{stages_of}
+use Rattle.schedules.specs.declared.breach.Breach.{Breach}
+use Rattle.schedules.specs.declared.breach.Breach.TheVariants.{Count, Time, Alternative, Slot, Edge, Stage}
+use Rattle.schedules.specs.Schedules.{stages_of}
 use Rattle.problems.specs.declared.draft.Draft.{Draft}
 use Rattle.solutions.specs.declared.judging.broken.Broken.{Broken}
 use Rattle.solutions.specs.declared.judging.broken.Broken.TheVariants.{Interval, Numbers, Number, Schedule, Registers}

@@ -3,7 +3,7 @@
 ghost use Rattle.std.specs.Prelude.{◌≡◌, ◌<◌, length, slice_index};
 ghost use Rattle.machine_data.specs.declared.limits.TheConstants.{MAX_STAGES};
 ghost use Rattle.mrt.specs.Placements.{rows_of};
-ghost use Rattle.modulo.specs.Schedules.{stage_of};
+ghost use Rattle.schedules.specs.Schedules.{stage_of};
 ghost use Rattle.solutions.specs.Solutions.{schedule_of};
 
 use machine_data::Row;

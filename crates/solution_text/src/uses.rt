@@ -2,7 +2,7 @@
 
 ghost use Rattle.std.specs.Prelude.{◌≡◌, ◌++◌, ◌==◌, ◌<◌, ◌≤◌, codes, length, take, if◌then◌else◌, OnOk};
 ghost use Rattle.machine_data.specs.declared.limits.TheConstants.{MAX_DISTANCE, MAX_STAGES};
-ghost use Rattle.modulo.specs.Schedules.{stage_of};
+ghost use Rattle.schedules.specs.Schedules.{stage_of};
 ghost use Rattle.solutions.specs.Solutions.{schedule_of};
 ghost use Rattle.solution_text.specs.Operations.{headed, reads_text, uses_text, writes_head, writes_text};
 ghost use Rattle.solution_text.specs.Registers.{source_of, spaced_register};

@@ -9,8 +9,8 @@ use crate::named::Register;
 use crate::parts::{Part, push_parts};
 use graph::Edge;
 use machine_data::OutOfMemory;
-use modulo::Breach;
 use problems::Draft;
+use schedules::Breach;
 use solutions::{Broken, Solution};
 use writing::{Text, push_both, push_told};
 

@@ -3,7 +3,7 @@ use Rattle.std.proofs.Common.{◌≡◌, ℕ, Option, Some, refl, sym, subst}
 use Rattle.modulo.specs.declared.outcome.attempts.Culprit.{Culprit}
 use Rattle.modulo.specs.declared.outcome.attempts.Culprit.TheVariants.{Blocked, Unplaced, Late}
 use Rattle.modulo.specs.Culprits.{AnswersCulprit, failure_of}
-use Rattle.modulo.specs.Problems.{ProblemData as SchedulingData, budget_of}
+use Rattle.schedules.specs.Problems.{ProblemData as SchedulingData, budget_of}
 use Rattle.modulo.proofs.answers.Blaming.{culprits-are_failures}
 use Rattle.problems.specs.Problems.{ProblemData}
 use Rattle.solutions.specs.declared.solving.outcome.Cause.{Cause}

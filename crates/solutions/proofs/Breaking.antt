@@ -1,5 +1,5 @@
 -- Whatever is named, the lists are no solution.
-use Rattle.modulo.proofs.lawfulness.Breaking.{breaches-break}
+use Rattle.schedules.proofs.lawfulness.Breaking.{breaches-break}
 use Rattle.registers.proofs.allotted.First.{meetings-are_unlawful}
 use Rattle.solutions.specs.declared.judging.broken.Broken.TheVariants.{Interval, Numbers, Number, Schedule, Registers}
 use Rattle.solutions.specs.Files.{in_file, place_in}

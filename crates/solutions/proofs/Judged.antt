@@ -1,7 +1,7 @@
 -- What is broken, file by file, is what is broken first.
 use Rattle.std.proofs.Common.{◌≡◌, ℕ, List, Result, Ok, Err, Some, sym, ap, ◌∙◌, subst, arith}
 use Rattle.std.specs.Prelude.{IfOk, MatchResult, slice_get}
-use Rattle.modulo.specs.Schedules.{ScheduleData, IsSchedule, as_listed}
+use Rattle.schedules.specs.Schedules.{ScheduleData, IsSchedule, as_listed}
 use Rattle.problems.specs.declared.draft.File.{File}
 use Rattle.problems.specs.declared.draft.File.TheVariants.{Rotating, Unallotted}
 use Rattle.problems.specs.Problems.{ProblemData}

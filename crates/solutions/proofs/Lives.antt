@@ -5,9 +5,9 @@ use Rattle.std.specs.Prelude.{slice_index}
 use Rattle.std.proofs.lemmas.List.{length-map}
 use Rattle.std.proofs.Math.Nat.{mul-le-mul_left, div-add-mod', mod-lt}
 use Rattle.graph.specs.Schedules.{KeepsEdge}
-use Rattle.modulo.specs.Problems.{ProblemData as SchedulingData}
-use Rattle.modulo.specs.Schedules.{ScheduleData, IsSchedule, stages_of}
-use Rattle.modulo.proofs.lawfulness.Stages.{stages-are_few}
+use Rattle.schedules.specs.Problems.{ProblemData as SchedulingData}
+use Rattle.schedules.specs.Schedules.{ScheduleData, IsSchedule, stages_of}
+use Rattle.schedules.proofs.lawfulness.Stages.{stages-are_few}
 use Rattle.problems.specs.declared.draft.Draft.{Draft}
 use Rattle.problems.specs.Drafts.{plain_values}
 use Rattle.problems.specs.Problems.{ProblemData, IsProblem}

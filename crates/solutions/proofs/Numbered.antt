@@ -1,7 +1,7 @@
 -- The numbers that are written give a solution, or a cause.
 use Rattle.std.proofs.Common.{◌≡◌, ℕ, List, length, Option, Some, refl, sym, ap, subst, arith}
 use Rattle.std.specs.Prelude.{slice_get, slice_index}
-use Rattle.modulo.specs.Schedules.{ScheduleData, IsSchedule}
+use Rattle.schedules.specs.Schedules.{ScheduleData, IsSchedule}
 use Rattle.problems.specs.declared.draft.File.{File}
 use Rattle.problems.specs.declared.draft.File.TheVariants.{Rotating, Unallotted}
 use Rattle.problems.specs.Problems.{ProblemData, IsProblem}

@@ -6,8 +6,8 @@ use Rattle.modulo.specs.declared.outcome.attempts.Failure.TheVariants as failure
 use Rattle.modulo.specs.declared.outcome.attempts.Try.{Try}
 use Rattle.modulo.specs.declared.outcome.attempts.Try.TheVariants as try
 use Rattle.modulo.specs.Attempts.{AnswersAttempt}
-use Rattle.modulo.specs.Problems.{budget_of}
-use Rattle.modulo.specs.Schedules.{ScheduleData}
+use Rattle.schedules.specs.Problems.{budget_of}
+use Rattle.schedules.specs.Schedules.{ScheduleData}
 use Rattle.modulo.proofs.answers.OneAnswers.{one-answer}
 use Rattle.problems.specs.declared.draft.Draft.{Draft}
 use Rattle.problems.specs.declared.draft.File.{File}

@@ -4,7 +4,7 @@ use Rattle.modulo.specs.declared.outcome.attempts.Failure.{Failure as Failed_by}
 use Rattle.modulo.specs.declared.outcome.attempts.Failure.TheVariants as failure
 use Rattle.modulo.specs.declared.outcome.attempts.Try.TheVariants as try
 use Rattle.modulo.specs.Attempts.{AnswersAttempt}
-use Rattle.modulo.specs.Problems.{ProblemData as SchedulingData, budget_of}
+use Rattle.schedules.specs.Problems.{ProblemData as SchedulingData, budget_of}
 use Rattle.problems.specs.Problems.{ProblemData, IsProblem}
 use Rattle.solutions.specs.declared.solving.outcome.Cause.{Cause}
 use Rattle.solutions.specs.declared.solving.outcome.Cause.TheVariants.{Table, Budget, Stages}

@@ -1,9 +1,9 @@
 -- What lists of places and numbers break first, where they are no solution.
 use Rattle.std.specs.Prelude.{◌≡◌, ◌≢◌, ℕ, ◌<◌, ◌≤◌, List, length, Some, slice_get, slice_index}
 use Rattle.machine_data.specs.declared.limits.TheConstants.{MAX_INTERVAL}
-use Rattle.modulo.specs.declared.schedules.breach.Breach.{Breach}
-use Rattle.modulo.specs.Breaches.{IsFirstBreach}
-use Rattle.modulo.specs.Schedules.{IsSchedule, as_listed}
+use Rattle.schedules.specs.declared.breach.Breach.{Breach}
+use Rattle.schedules.specs.Breaches.{IsFirstBreach}
+use Rattle.schedules.specs.Schedules.{IsSchedule, as_listed}
 use Rattle.problems.specs.declared.draft.Draft.{Draft}
 use Rattle.problems.specs.declared.draft.File.TheVariants.{Rotating}
 use Rattle.problems.specs.Problems.{ProblemData}

@@ -1,5 +1,5 @@
 pub use Rattle.problems.specs.Problems
-pub use Rattle.modulo.specs.Schedules
+pub use Rattle.schedules.specs.Schedules
 pub use Rattle.settings.specs.Searches
 pub mod Files
 pub mod Solutions

@@ -4,8 +4,8 @@ use Rattle.modulo.specs.declared.outcome.attempts.Failure.{Failure}
 use Rattle.modulo.specs.declared.outcome.attempts.Failure.TheVariants as failure
 use Rattle.modulo.specs.declared.outcome.attempts.Try.TheVariants as try
 use Rattle.modulo.specs.Attempts.{AnswersAttempt}
-use Rattle.modulo.specs.Problems.{mii_of, budget_of}
-use Rattle.modulo.specs.Schedules.{ScheduleData}
+use Rattle.schedules.specs.Problems.{mii_of, budget_of}
+use Rattle.schedules.specs.Schedules.{ScheduleData}
 use Rattle.problems.specs.declared.draft.Draft.{Draft}
 use Rattle.problems.specs.declared.draft.File.TheVariants.{Rotating}
 use Rattle.problems.specs.Problems.{ProblemData}

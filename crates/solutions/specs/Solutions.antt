@@ -1,7 +1,7 @@
 -- Solutions of scheduling problems.
 use Rattle.std.specs.Prelude.{◌≡◌, ℕ, ◌+◌, ◌*◌, ◌<◌, max, List, length, map, Option, Some, None, slice_get, slice_index}
 use Rattle.std.specs.List.{zip}
-use Rattle.modulo.specs.Schedules.{ScheduleData, IsSchedule, stages_of}
+use Rattle.schedules.specs.Schedules.{ScheduleData, IsSchedule, stages_of}
 use Rattle.problems.specs.declared.draft.Draft.{Draft}
 use Rattle.problems.specs.declared.draft.File.{File}
 use Rattle.problems.specs.declared.draft.File.TheVariants.{Rotating, Unallotted}

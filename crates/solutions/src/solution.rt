@@ -3,12 +3,12 @@
 ghost use Rattle.std.specs.Prelude.{◌≡◌, ◌*◌, ◌<◌, ◌≤◌, [], length, slice_get, slice_index, Some};
 ghost use Rattle.std.specs.List.{slice_index_or};
 ghost use Rattle.machine_data.specs.declared.limits.TheConstants.{MAX_STAGES};
-ghost use Rattle.modulo.specs.Schedules.{stages_of};
+ghost use Rattle.schedules.specs.Schedules.{stages_of};
 ghost use Rattle.solutions.specs.Solutions.{IsLawfulSolution, lives_at, lives_of_solution, schedule_of};
 
-use modulo::Schedule;
 use problems::Problem;
 use registers::Lifetime;
+use schedules::Schedule;
 use std::marker::Model;
 
 /// A lawful solution of a scheduling problem: a modulo schedule, and for each value of a rotating file the number of the

@@ -1,7 +1,7 @@
 -- Intervals tried in turn, with why each gives no kernel.
 use Rattle.std.proofs.Common.{◌≡◌, ℕ, ◌+◌, ◌-◌, ◌≤◌, false, List, length, Vec, Global, sym, ap, ◌∙◌, subst, arith}
 use Rattle.std.specs.List.{AllZip, range_with_len}
-use Rattle.ims.specs.Problems.{ProblemData, IsProblem, mii_of}
+use Rattle.loop_schedules.specs.Problems.{ProblemData, IsProblem, mii_of}
 use Rattle.figures.specs.declared.figures.Figures.{Figures}
 use Rattle.figures.specs.Figures.{AreFigures}
 use Rattle.candidates.specs.declared.evidence.Met.{Met}

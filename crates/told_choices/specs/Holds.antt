@@ -1,6 +1,6 @@
 -- What holds the interval of a loop.
 use Rattle.std.specs.Prelude.{◌≡◌, ℕ, ◌-◌, ◌<◌, nat_lt, codes, List, length, Bool, true, false, if◌then◌else◌, Option, Some, None, slice_get}
-use Rattle.ims.specs.Problems.{ProblemData, mii_of}
+use Rattle.loop_schedules.specs.Problems.{ProblemData, mii_of}
 use Rattle.candidates.specs.Outcomes.{FailsBy}
 use Rattle.candidates.specs.Texts.{cause_word}
 use Rattle.told_choices.specs.declared.hold.Hold.{Hold}

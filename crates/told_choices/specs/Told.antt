@@ -1,7 +1,7 @@
 -- What is told of a loop: what is chosen for it, with the evidence, and why the intervals before give no kernel.
 use Rattle.std.specs.Prelude.{ℕ, ◌+◌, ◌-◌, false}
 use Rattle.std.specs.List.{AllZip, range_with_len}
-use Rattle.ims.specs.Problems.{ProblemData, mii_of}
+use Rattle.loop_schedules.specs.Problems.{ProblemData, mii_of}
 use Rattle.figures.specs.declared.figures.Figures.{Figures}
 use Rattle.figures.specs.Figures.{AreFigures}
 use Rattle.candidates.specs.declared.evidence.Met as evidence

@@ -2,13 +2,13 @@
 
 ghost use Rattle.std.specs.Prelude.{◌≡◌, ◌≤◌, ◌-◌, ℕ};
 ghost use Rattle.std.specs.List.{AllZip, range_with_len};
-ghost use Rattle.ims.specs.Problems.{mii_of};
+ghost use Rattle.loop_schedules.specs.Problems.{mii_of};
 ghost use Rattle.told_choices.specs.Holds.{IsHold, bound_hold, hold_by, hold_word};
 ghost use Rattle.told_choices.specs.Whys.{FailsAs};
 
 use crate::why::Why;
 use candidates::Cause;
-use ims::Prepared;
+use loop_schedules::Prepared;
 
 /// Why a loop has no kernel at a shorter interval than its own.
 #[derive(Clone, Copy, Debug, PartialEq, Eq)]

@@ -3,7 +3,7 @@
 ghost use Rattle.std.specs.Prelude.{◌≡◌};
 ghost use Rattle.told_choices.specs.Least.{is_least_possible};
 
-use ims::Prepared;
+use loop_schedules::Prepared;
 
 /// Whether an interval, in cycles, is what the fullest set of units, which needs `need` cycles, or the recurrences need.
 pub fn is_least_possible(prepared: &Prepared, need: u16, interval: u64) -> bool

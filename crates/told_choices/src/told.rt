@@ -8,7 +8,7 @@ use crate::failures::Failures;
 use crate::why::Why;
 use candidates::{Cause, Trials, Tried};
 use figures::figures_of;
-use ims::Prepared;
+use loop_schedules::Prepared;
 use machine_data::OutOfMemory;
 use std::alloc::Global;
 

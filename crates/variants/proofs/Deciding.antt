@@ -3,7 +3,7 @@ use Rattle.std.proofs.Common.{◌≡◌, ◌≤◌, ◌<◌, ◌+◌, ◌-◌, �
 use Rattle.std.proofs.lemmas.Bool.{cases_lt}
 use Rattle.std.specs.Prelude.{Some, None, MatchBool, not}
 use Rattle.machine_data.specs.Machines.{MachineData}
-use Rattle.ims.specs.Problems.{IsProblem, ProblemData, mii_of}
+use Rattle.loop_schedules.specs.Problems.{IsProblem, ProblemData, mii_of}
 use Rattle.candidates.specs.declared.outcomes.Cause.{Cause}
 use Rattle.candidates.specs.Outcomes.{FailsBy, GivesKernel}
 use Rattle.candidates.proofs.Rising.{Risen, met_here, none_where, risen_none, risen_on, unmet_here}

@@ -2,7 +2,7 @@
 use Rattle.std.proofs.Common.{◌≡◌, ℕ, false}
 use Rattle.std.specs.Prelude.{Option, Some, None}
 use Rattle.machine_data.specs.Machines.{MachineData}
-use Rattle.ims.specs.Problems.{ProblemData}
+use Rattle.loop_schedules.specs.Problems.{ProblemData}
 use Rattle.machine_variants.specs.declared.variant.Variant.{Variant}
 use Rattle.machine_variants.specs.Variants.{passes_limit}
 use Rattle.variants.specs.Intervals.{IsFinding, IsVariedInterval}

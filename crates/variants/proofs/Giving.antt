@@ -5,9 +5,9 @@ use Rattle.machine_data.specs.Machines.{MachineData}
 use Rattle.ims.specs.declared.outcome.attempts.Try.{Try}
 use Rattle.ims.specs.declared.outcome.attempts.Try.TheVariants as try
 use Rattle.ims.specs.Attempts.{AnswersAttempt}
-use Rattle.ims.specs.Problems.{IsProblem, IsProblemOf, ProblemData, budget_of, mii_of}
-use Rattle.ims.specs.Schedules.{ScheduleData}
-use Rattle.ims.proofs.problems.OneProblems.{one-problem}
+use Rattle.loop_schedules.specs.Problems.{IsProblem, IsProblemOf, ProblemData, budget_of, mii_of}
+use Rattle.loop_schedules.specs.Schedules.{ScheduleData}
+use Rattle.loop_schedules.proofs.problems.OneProblems.{one-problem}
 use Rattle.overlap.specs.Allotments.{AllotmentData, AreLeast, HaveNone, LeastFor, NoneFor}
 use Rattle.overlap.specs.Emission.{emitted}
 use Rattle.overlap.specs.Lifetimes.{lifetimes_of}

@@ -7,7 +7,7 @@ use Rattle.machine_data.specs.declared.opcode.Opcode.{Opcode}
 use Rattle.machine_data.specs.Machines.{MachineData}
 use Rattle.loop_data.specs.Loops.{LoopData}
 use Rattle.graph.specs.Units.{first_lacking, first_without_table, lacking_or}
-use Rattle.ims.specs.Problems.{IsProblemOf, ProblemData}
+use Rattle.loop_schedules.specs.Problems.{IsProblemOf, ProblemData}
 use Rattle.variants.specs.Findings.{IsOn}
 
 lacking-first : (machine : MachineData) (loop : LoopData) (loops : List LoopData) → lacking_or loop.name (first_without_table machine loop) (first_lacking machine loops) ≡ None

@@ -11,8 +11,8 @@ use Rattle.loop_data.specs.declared.language.statement.Statement.{Statement}
 use Rattle.loop_data.specs.Loops.{LoopData}
 use Rattle.graph.specs.Dependences.{latencies_of, latency_in}
 use Rattle.graph.specs.Units.{alternatives_in, first_without_table, opcodes_of, operations_of}
-use Rattle.ims.specs.Problems.{IsProblem, ProblemData}
-use Rattle.ims.proofs.problems.OneProblems.{one-problem}
+use Rattle.loop_schedules.specs.Problems.{IsProblem, ProblemData}
+use Rattle.loop_schedules.proofs.problems.OneProblems.{one-problem}
 use Rattle.candidates.specs.declared.choices.Choice.{Choice}
 use Rattle.candidates.specs.declared.choices.Choice.TheVariants as choice
 use Rattle.candidates.proofs.OneChoices.{one_choice}

@@ -11,7 +11,7 @@ use Rattle.machine_data.specs.Machines.{MachineData}
 use Rattle.machine_data.specs.declared.limits.TheConstants.{MAX_INTERVAL, MAX_LOOPS}
 use Rattle.graph_text.specs.Texts.{AreTexts}
 use Rattle.writing.specs.Words.{last_line, told}
-use Rattle.ims.specs.Problems.{IsProblemOf, ProblemData}
+use Rattle.loop_schedules.specs.Problems.{IsProblemOf, ProblemData}
 use Rattle.written.specs.Written.{Written}
 use Rattle.machine_variants.specs.declared.variant.Variant.{Variant}
 use Rattle.machine_variants.specs.Variants.{concerns, passes_limit, variants_of}

@@ -8,7 +8,7 @@ use Rattle.machine_data.specs.Machines.{MachineData, table_of}
 use Rattle.machine_data.specs.Opcodes.{word_of}
 use Rattle.loop_data.specs.Loops.{LoopData}
 use Rattle.graph.specs.Dependences.{latency_in}
-use Rattle.ims.specs.Problems.{ProblemData, IsProblemOf, mii_of}
+use Rattle.loop_schedules.specs.Problems.{ProblemData, IsProblemOf, mii_of}
 use Rattle.written.specs.Written.{Written}
 use Rattle.machine_variants.specs.declared.variant.Variant.{Variant}
 use Rattle.machine_variants.specs.declared.variant.Variant.TheVariants.{Doubled, Shortened, Registers}

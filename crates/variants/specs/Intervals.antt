@@ -2,7 +2,7 @@
 use Rattle.std.specs.Prelude.{◌≡◌, ℕ, ◌<◌, ◌≤◌, true, false, Option, Some, None}
 use Rattle.machine_data.specs.Machines.{MachineData}
 use Rattle.loop_data.specs.Loops.{LoopData}
-use Rattle.ims.specs.Problems.{ProblemData, IsProblemOf}
+use Rattle.loop_schedules.specs.Problems.{ProblemData, IsProblemOf}
 use Rattle.kernel.specs.declared.kernels.parts.Parts.{Parts}
 use Rattle.candidates.specs.declared.outcomes.Cause.{Cause}
 use Rattle.candidates.specs.declared.choices.Choice.TheVariants as choice

@@ -7,7 +7,7 @@ use Rattle.loop_data.specs.Loops.{LoopData}
 use Rattle.graph.specs.Dependences.{latency_in}
 use Rattle.graph_text.specs.Texts.{AreTexts}
 use Rattle.writing.specs.Words.{last_line, told}
-use Rattle.ims.specs.Problems.{ProblemData, IsProblemOf, mii_of}
+use Rattle.loop_schedules.specs.Problems.{ProblemData, IsProblemOf, mii_of}
 use Rattle.written.specs.Written.{Written}
 use Rattle.machine_variants.specs.declared.variant.Variant.{Variant}
 use Rattle.machine_variants.specs.declared.variant.Variant.TheVariants.{Doubled, Shortened, Registers}

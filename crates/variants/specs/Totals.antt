@@ -5,7 +5,7 @@ use Rattle.machine_data.specs.Machines.{MachineData}
 use Rattle.loop_data.specs.Loops.{LoopData}
 use Rattle.graph_text.specs.Texts.{AreTexts}
 use Rattle.writing.specs.Words.{last_line, told}
-use Rattle.ims.specs.Problems.{ProblemData, IsProblemOf}
+use Rattle.loop_schedules.specs.Problems.{ProblemData, IsProblemOf}
 use Rattle.written.specs.Written.{Written}
 use Rattle.machine_variants.specs.declared.variant.Variant.{Variant}
 use Rattle.machine_variants.specs.Variants.{concerns, passes_limit, variants_of}

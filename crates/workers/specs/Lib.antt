@@ -3,7 +3,7 @@ pub use Rattle.board.specs.Views
 pub use Rattle.candidates.specs.Choices
 pub use Rattle.candidates.specs.Pieces
 pub use Rattle.candidates.specs.Promises
-pub use Rattle.ims.specs.Problems
+pub use Rattle.loop_schedules.specs.Problems
 pub use Rattle.loops.specs.Meaning
 pub use Rattle.machine.specs.MachineText
 pub use Rattle.one_thread.specs.Files

@@ -15,7 +15,7 @@ use board_workers::{Gate, run_workers};
 use candidates::{Listing, Pieces, Settings};
 use collecting::{Chosen, gather};
 use file_faults::FileFault;
-use ims::Prepared;
+use loop_schedules::Prepared;
 use loops::Loop;
 use machine::{Machine, OutOfMemory, read_machine};
 use one_thread::{list_choices, pipeline_alone};

@@ -4,7 +4,7 @@ ghost use Rattle.std.specs.Prelude.{◌≡◌, ◌<◌, ◌≤◌, ◌++◌, ◌
 ghost use Rattle.std.specs.Borrow.{Bor};
 ghost use Rattle.std.specs.List.{All, AllZip};
 ghost use Rattle.machine_data.specs.declared.limits.TheConstants.{MAX_LOOPS};
-ghost use Rattle.ims.specs.Problems.{ProblemData};
+ghost use Rattle.loop_schedules.specs.Problems.{ProblemData};
 ghost use Rattle.one_thread.specs.Files.{HaveCeiling};
 ghost use Rattle.file_faults.specs.Answers.{AnswersIn};
 ghost use Rattle.loops.specs.Meaning.{loops_in};
@@ -19,7 +19,7 @@ use crate::reading::names::names_differ;
 use board_workers::OpenGate;
 use candidates::{Listing, Settings};
 use file_faults::FileFault;
-use ims::Prepared;
+use loop_schedules::Prepared;
 use loops::read_loops;
 use machine::{Machine, Name, OutOfMemory};
 use machine_data::limits::{MAX_LOOPS, MAX_TEXT};

@@ -4,17 +4,18 @@ ghost use Rattle.std.specs.Prelude.{◌≡◌, ◌<◌, ◌≤◌, [], None, IfO
 ghost use Rattle.std.specs.List.{All, AllZip};
 ghost use Rattle.loops.specs.Loops.{LoopData};
 ghost use Rattle.graph.specs.Units.{first_without_table, first_lacking, lacking_or};
-ghost use Rattle.ims.specs.Problems.{IsProblemOf};
+ghost use Rattle.loop_schedules.specs.Problems.{IsProblemOf};
 ghost use Rattle.one_thread.specs.Files.{AnswersOn, Prepares};
 ghost use Rattle.workers.specs.inner.Found.{IsFound};
 
 use candidates::Settings;
 use file_faults::FileFault;
 use graph::GraphFault;
-use ims::{Prepared, Problem, loop_problem};
+use loop_schedules::{Prepared, loop_problem};
 use loops::Loop;
 use machine::{Machine, Opcode, OutOfMemory};
 use one_thread::prepare_all;
+use schedules::Problem;
 use shared_jobs::{Jobs, parts_of, shared};
 use std::alloc::{AllocError, Global};
 use std::thread::Threads;

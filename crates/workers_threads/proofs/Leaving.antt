@@ -3,7 +3,7 @@ use Rattle.std.proofs.Common.{◌≡◌, ℕ, ◌<◌, ◌≤◌, Bool, true, Li
 use Rattle.std.specs.Prelude.{All, Any, IsTrue, ◌||◌}
 use Rattle.std.specs.List.{AllZip, list_any}
 use Rattle.std.proofs.lemmas.List.Folds.{Any-from_list_any}
-use Rattle.ims.specs.Problems.{ProblemData}
+use Rattle.loop_schedules.specs.Problems.{ProblemData}
 use Rattle.candidates.specs.Choices.{IsChoice}
 use Rattle.candidates.specs.declared.choices.Choice.{Choice}
 use Rattle.workers.specs.Entries.{HasNoRefusal, ReportData}

@@ -3,8 +3,8 @@
 ghost use Rattle.rotating.specs.Allotments.{Suits};
 
 use figures::{Figures, figures_of};
-use ims::{Prepared, Schedule};
 use kernel::{Kernel, kernel_text};
+use loop_schedules::{Prepared, Schedule};
 use loops::{Loop, read_loops};
 use machine::{Machine, read_machine};
 use rotating::{Allotment, emit, first_without_number, last_landing, least_registers};

@@ -12,9 +12,9 @@
 ghost use Rattle.std.specs.Prelude.{◌<◌, length};
 
 use super::drafts::{Parts, draft, problem};
-use modulo::Breach;
 use problems::{File, Hold, Problem, Value};
 use registers::Read;
+use schedules::Breach;
 use solutions::{Broken, Outcome, Solution, solve};
 use std::alloc::Global;
 use std::process::Abort;

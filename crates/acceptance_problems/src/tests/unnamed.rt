@@ -6,11 +6,12 @@
 use super::drafts::{no_names, problem};
 use graph::Edge;
 use machine_data::OutOfMemory;
-use modulo::{Breach, Culprit};
+use modulo::Culprit;
 use outcome_text::push_outcome;
 use problem_graphs::push_edges;
 use problem_reader::read_problems;
 use problems::{Draft, Problem};
+use schedules::Breach;
 use solution_text::{Missing, push_broken, push_failed, push_missing};
 use solutions::{Broken, Cause, solve_with_culprit};
 use std::alloc::Global;

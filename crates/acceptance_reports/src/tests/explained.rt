@@ -3,7 +3,7 @@
 use super::{is_printed, loops_of, machine_of, settings};
 use explain::push_explanation;
 use explain_printouts::{explain_document, explain_page};
-use ims::Prepared;
+use loop_schedules::Prepared;
 use std::alloc::Global;
 use std::process::Abort;
 use worked_texts::{ACC, M1};

@@ -1,10 +1,11 @@
 //! Schedules over each of the three reservation tables: the same times.
 
 ghost use Rattle.std.specs.Prelude.{◌≤◌, ◌<◌};
-ghost use Rattle.ims.specs.Problems.{mii_of};
+ghost use Rattle.loop_schedules.specs.Problems.{mii_of};
 
 use super::prepared_for;
-use ims::{Prepared, Schedule, Try, attempt};
+use ims::{Try, attempt};
+use loop_schedules::{Prepared, Schedule};
 use machine::{Machine, read_machine};
 use machine_data::OutOfMemory;
 use mrt::{MaskTable, ModuloTable, OwnerTable, TimelineTable};

@@ -3,7 +3,7 @@ use Rattle.std.specs.Prelude.{◌≡◌, Bool, List, Option, None, Some, IsSome,
 use Rattle.board.specs.declared.word.WordBoard.{WordBoard}
 use Rattle.board.specs.declared.word.WordPass.{WordPass}
 use Rattle.board.specs.Boards.{IsPassOf, IsNewPassOf, view_of}
-use Rattle.ims.specs.Problems.{ProblemData}
+use Rattle.loop_schedules.specs.Problems.{ProblemData}
 use Rattle.candidates.specs.Pieces.{PiecesData}
 use Rattle.board_workers.specs.declared.places.Place.{Place}
 use Rattle.reports.specs.Entries.{ReportData}

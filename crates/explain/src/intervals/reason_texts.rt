@@ -3,13 +3,14 @@
 ghost use Rattle.std.specs.Prelude.{◌≡◌, ◌<◌, ◌++◌, ℕ, length, Some, OnOk};
 ghost use Rattle.std.specs.List.{All, flat_map};
 ghost use Rattle.ims.specs.Culprits.{AnswersCulprit};
-ghost use Rattle.ims.specs.Problems.{budget_of};
+ghost use Rattle.loop_schedules.specs.Problems.{budget_of};
 ghost use Rattle.told_choices.specs.Whys.{IsWhy};
 ghost use Rattle.explain.specs.Reasons.{culprit_text, life_text, named, need_text, reason_text};
 
 use graph_text::push_name;
-use ims::{Culprit, Prepared};
+use ims::Culprit;
 use loop_data::Loop;
+use loop_schedules::Prepared;
 use machine_data::OutOfMemory;
 use machine_data::limits::MAX_STATEMENTS;
 use rotating::Lifetime;

@@ -3,7 +3,7 @@
 ghost use Rattle.std.specs.Prelude.{◌≡◌, ◌++◌, ℕ, List, Vec, map, IfOk, OnOk};
 ghost use Rattle.std.specs.Global.{Global};
 ghost use Rattle.std.specs.List.{All};
-ghost use Rattle.ims.specs.Problems.{mii_of};
+ghost use Rattle.loop_schedules.specs.Problems.{mii_of};
 ghost use Rattle.told_choices.specs.Told.{IsTold, choice_of};
 ghost use Rattle.told_choices.specs.Whys.{IsWhy};
 ghost use Rattle.told_choices.specs.declared.why.Why.{Why};
@@ -12,7 +12,7 @@ ghost use Rattle.reason_lines.specs.Runs.{runs_text};
 ghost use Rattle.explain.specs.Tries.{AreTries, IsEnd, hold_line, kernel_line, why_text};
 
 use crate::intervals::reason_texts::push_reason;
-use ims::Prepared;
+use loop_schedules::Prepared;
 use machine_data::OutOfMemory;
 use reason_lines::{push_least, push_runs};
 use std::alloc::Global;

@@ -6,8 +6,8 @@ use Rattle.machine_data.specs.Machines.{MachineData}
 use Rattle.graph.specs.Dependences.{EdgeData}
 use Rattle.graph.specs.Walks.{delay_of, distance_of}
 use Rattle.graph_text.specs.Names.{op_name, opcode_word}
-use Rattle.ims.specs.Problems.{ProblemData}
-use Rattle.ims.specs.Schedules.{ScheduleData}
+use Rattle.loop_schedules.specs.Problems.{ProblemData}
+use Rattle.loop_schedules.specs.Schedules.{ScheduleData}
 use Rattle.registers.specs.declared.lifetime.Lifetime.{Lifetime}
 use Rattle.overlap.specs.Lifetimes.{lifetimes_of}
 use Rattle.figures.specs.declared.figures.Figures.{Figures}

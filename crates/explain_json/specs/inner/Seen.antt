@@ -1,7 +1,7 @@
 -- The members of a loop's object, as their values.
 use Rattle.std.specs.Prelude.{codes}
 use Rattle.serde_json.specs.Data.{Members, member, no_members, string}
-use Rattle.ims.specs.Problems.{ProblemData, mii_of}
+use Rattle.loop_schedules.specs.Problems.{ProblemData, mii_of}
 use Rattle.explain_json.specs.Loops.{MembersData}
 use Rattle.explain_json.specs.Parts.{count_value}
 

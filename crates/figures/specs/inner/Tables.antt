@@ -2,7 +2,7 @@
 use Rattle.std.specs.Prelude.{◌≡◌, ℕ, ◌+◌, ◌*◌, ◌-◌, ◌<◌, suc, List, length, filter, Option, Some, None, slice_get, slice_index}
 use Rattle.machine_data.specs.declared.limits.TheConstants.{MAX_UNITS}
 use Rattle.std.specs.List.{range_with_len}
-use Rattle.ims.specs.Schedules.{ScheduleData}
+use Rattle.loop_schedules.specs.Schedules.{ScheduleData}
 use Rattle.figures.specs.Slots.{takes_slot}
 
 -- the place of a slot in a table that has 64 units in each row

@@ -3,15 +3,16 @@ use Rattle.std.proofs.Common.{◌≡◌, ℕ, sym, ap, ◌∙◌}
 use Rattle.ims.specs.declared.outcome.attempts.Try.{Try}
 use Rattle.ims.specs.declared.outcome.attempts.Try.TheVariants.{Placed, Failed}
 use Rattle.ims.specs.Attempts.{AnswersAttempt}
-use Rattle.ims.specs.Problems.{ProblemData, without_loop}
-use Rattle.ims.specs.Schedules.{ScheduleData}
+use Rattle.loop_schedules.specs.Problems.{ProblemData, without_loop}
+use Rattle.loop_schedules.specs.Schedules.{ScheduleData}
 use Rattle.ims.specs.Promises.{OneAnswer}
-use Rattle.ims.proofs.answers.OfLoops.{answer-bare, bare, bare_answer}
+use Rattle.ims.proofs.answers.OfLoops.{answer-bare, bare_answer}
+use Rattle.loop_schedules.proofs.Bare.{bare}
 use Rattle.modulo.specs.declared.outcome.attempts.Failure.{Failure}
 use Rattle.modulo.specs.declared.outcome.attempts.Failure.TheVariants as failure
 use Rattle.modulo.specs.declared.outcome.attempts.Try as answer
 use Rattle.modulo.specs.declared.outcome.attempts.Try.TheVariants as try
-use Rattle.modulo.specs.Schedules as schedules
+use Rattle.schedules.specs.Schedules as schedules
 use Rattle.modulo.proofs.answers.OneAnswers as answers
 
 -- the failure and the schedule of an answer, and something where there is none

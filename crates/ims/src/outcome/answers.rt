@@ -2,11 +2,10 @@
 
 ghost use Rattle.std.specs.Prelude.{◌≡◌, ◌≤◌, length, replicate, None, IfOk};
 ghost use Rattle.ims.specs.Culprits.{IsAnswer};
-ghost use Rattle.ims.specs.Problems.{mii_of};
+ghost use Rattle.loop_schedules.specs.Problems.{mii_of};
 ghost use Rattle.machine_data.specs.declared.limits.TheConstants.{MAX_BUDGET, MAX_INTERVAL};
 
-use crate::problem::prepared::Prepared;
-use crate::schedules::schedule::Schedule;
+use loop_schedules::{Prepared, Schedule};
 use machine_data::OutOfMemory;
 use modulo::Culprit;
 use mrt::ModuloTable;

@@ -2,12 +2,11 @@
 
 ghost use Rattle.std.specs.Prelude.{◌≡◌, ◌≤◌, ℕ, length, replicate, None, IfOk};
 ghost use Rattle.ims.specs.Attempts.{AnswersAttempt};
-ghost use Rattle.ims.specs.Problems.{mii_of, without_loop};
+ghost use Rattle.loop_schedules.specs.Problems.{mii_of, without_loop};
 ghost use Rattle.modulo.specs.Attempts as attempts;
 ghost use Rattle.machine_data.specs.declared.limits.TheConstants.{MAX_BUDGET, MAX_INTERVAL};
 
-use crate::problem::prepared::Prepared;
-use crate::schedules::schedule::Schedule;
+use loop_schedules::{Prepared, Schedule};
 use machine_data::OutOfMemory;
 use modulo::Failure;
 use mrt::ModuloTable;

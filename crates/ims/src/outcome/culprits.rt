@@ -2,11 +2,11 @@
 
 ghost use Rattle.std.specs.Prelude.{◌≤◌, IfOk};
 ghost use Rattle.ims.specs.Culprits.{AnswersCulprit};
-ghost use Rattle.ims.specs.Problems.{mii_of};
+ghost use Rattle.loop_schedules.specs.Problems.{mii_of};
 ghost use Rattle.machine_data.specs.declared.limits.TheConstants.{MAX_BUDGET, MAX_INTERVAL};
 
 use crate::outcome::answers::{Answer, answer_on};
-use crate::problem::prepared::Prepared;
+use loop_schedules::Prepared;
 use machine_data::OutOfMemory;
 use modulo::Culprit;
 use mrt::ModuloTable;

@@ -7,13 +7,14 @@ ghost use Rattle.loops.specs.Loops.{LoopData};
 ghost use Rattle.machine.specs.Machines.{MachineData};
 ghost use Rattle.one_thread.specs.Files.{ListsProblems, PreparesAndLists};
 ghost use Rattle.printouts.specs.Run.{IsRunText};
-ghost use Rattle.printouts.specs.Schedule.{IsListingDocument, IsListingText};
+ghost use Rattle.json_printouts.specs.Documents.{IsListingDocument};
+ghost use Rattle.printouts.specs.Schedule.{IsListingText};
 
 use candidates::Listing;
 use command_line::Trip;
 use file_faults::FileFault;
-use ims::Prepared;
-use printouts::document_printout;
+use json_printouts::document_printout;
+use loop_schedules::Prepared;
 use shared_runs::run_text_on;
 use side_by_side::listing_printout_on;
 use std::alloc::Global;

@@ -14,8 +14,8 @@ use Rattle.mrt.specs.Placements.{OperationAlternatives, Placements, Placement, p
 use Rattle.modulo.specs.declared.outcome.attempts.Try.{Try}
 use Rattle.modulo.specs.declared.outcome.attempts.Try.TheVariants.{Placed, Failed}
 use Rattle.modulo.specs.declared.outcome.attempts.Failure.TheVariants.{Table, Budget, Stages}
-use Rattle.modulo.specs.Problems.{ProblemData, IsProblem}
-use Rattle.modulo.specs.Schedules.{ScheduleData, IsSchedule}
+use Rattle.schedules.specs.Problems.{ProblemData, IsProblem}
+use Rattle.schedules.specs.Schedules.{ScheduleData, IsSchedule}
 use Rattle.modulo.specs.Scheduling.{State, IsUnplaced, IsNext, IsEarliest, IsFirstSound, IsForced, IsPlacement, IsEvicted, IsStep, LeadsTo, Stops}
 use Rattle.modulo.specs.Attempts.{IsAllPlaced, EndsUnplaced, EndsPlaced, EndsLate, AnswersAttempt}
 use Rattle.modulo.specs.Promises.{OneAnswer}

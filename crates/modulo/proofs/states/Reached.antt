@@ -18,11 +18,11 @@ use Rattle.mrt.specs.Placements.{Placement, placement_of, alternatives_of, rows_
 use Rattle.mrt.specs.Taken.{Takes, AreApart, takes}
 use Rattle.mrt.proofs.searching.Taking.{takes_place, met_from_takes, unplaced_at_first}
 use Rattle.mrt.proofs.searching.Scheduling.{AreApart-none}
-use Rattle.modulo.specs.Problems.{ProblemData, IsProblem, mii_of}
+use Rattle.schedules.specs.Problems.{ProblemData, IsProblem, mii_of}
 use Rattle.modulo.specs.Scheduling.{State, empty, ComesFrom, forced_time, IsForced, IsEvicted, IsStep, LeadsTo}
 use Rattle.modulo.specs.Attempts.{IsAllPlaced}
 use Rattle.modulo.specs.Promises.{AttemptsAreLawful}
-use Rattle.modulo.proofs.lawfulness.Slots.{KeepsUnits-apart}
+use Rattle.schedules.proofs.lawfulness.Slots.{KeepsUnits-apart}
 
 -- ---- what each state keeps
 -- the operation has this alternative, which does not collide

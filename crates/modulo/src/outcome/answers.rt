@@ -6,16 +6,15 @@ ghost use Rattle.graph.specs.Schedules.{IsLawfulSchedule};
 ghost use Rattle.mrt.specs.Placements.{placement_of};
 ghost use Rattle.modulo.specs.Attempts.{IsBlocked, EndsPlaced};
 ghost use Rattle.modulo.specs.Culprits.{IsAnswer};
-ghost use Rattle.modulo.specs.Problems.{IsProblem, mii_of};
+ghost use Rattle.schedules.specs.Problems.{IsProblem, mii_of};
 ghost use Rattle.machine_data.specs.declared.limits.TheConstants.{MAX_BUDGET, MAX_INTERVAL};
 
 use crate::outcome::attempts::Culprit;
 use crate::outcome::ending::{End, end_on, first_late};
-use crate::problem::problems::Problem;
-use crate::schedules::schedule::Schedule;
 use crate::stepping::progress::Progress;
 use machine_data::OutOfMemory;
 use mrt::ModuloTable;
+use schedules::{Problem, Schedule};
 use std::alloc::Global;
 
 /// What an attempt answers, with what keeps it from a schedule where it finds none.

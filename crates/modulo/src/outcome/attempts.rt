@@ -2,15 +2,14 @@
 
 ghost use Rattle.std.specs.Prelude.{◌≡◌, ◌≤◌, ℕ, length, replicate, None, IfOk};
 ghost use Rattle.graph.specs.Schedules.{IsLawfulSchedule};
-ghost use Rattle.modulo.specs.Problems.{IsProblem, mii_of};
+ghost use Rattle.schedules.specs.Problems.{IsProblem, mii_of};
 ghost use Rattle.modulo.specs.Attempts.{IsBlocked, EndsPlaced, AnswersAttempt};
 ghost use Rattle.machine_data.specs.declared.limits.TheConstants.{MAX_BUDGET, MAX_INTERVAL};
 
 use crate::outcome::ending::{End, end_on, first_late};
-use crate::problem::problems::Problem;
-use crate::schedules::schedule::Schedule;
 use machine_data::OutOfMemory;
 use mrt::ModuloTable;
+use schedules::{Problem, Schedule};
 use std::alloc::Global;
 
 /// Why an attempt at an interval found no schedule: the first of these causes that holds.

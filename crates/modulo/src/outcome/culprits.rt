@@ -2,14 +2,14 @@
 
 ghost use Rattle.std.specs.Prelude.{◌≤◌, IfOk};
 ghost use Rattle.modulo.specs.Culprits.{AnswersCulprit};
-ghost use Rattle.modulo.specs.Problems.{mii_of};
+ghost use Rattle.schedules.specs.Problems.{mii_of};
 ghost use Rattle.machine_data.specs.declared.limits.TheConstants.{MAX_BUDGET, MAX_INTERVAL};
 
 use crate::outcome::answers::{Answer, answer_on};
 use crate::outcome::attempts::Culprit;
-use crate::problem::problems::Problem;
 use machine_data::OutOfMemory;
 use mrt::ModuloTable;
+use schedules::Problem;
 use std::alloc::Global;
 
 /// What keeps an attempt at an interval from a schedule, `None` where it finds one. The attempt is that of

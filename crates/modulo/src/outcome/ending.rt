@@ -1,23 +1,22 @@
 //! The end of an attempt.
 
-ghost use Rattle.std.specs.Prelude.{◌≡◌, ◌+◌, ◌/◌, ℕ, ◌<◌, ◌≤◌, length, map, replicate, None, Some, IfOk, MatchOption, slice_index};
+ghost use Rattle.std.specs.Prelude.{◌≡◌, ◌/◌, ℕ, ◌<◌, ◌≤◌, length, replicate, None, Some, IfOk, MatchOption, slice_index};
 ghost use Rattle.std.specs.Bool.{OnTrue, OnFalse};
 ghost use Rattle.std.specs.List.{All};
-ghost use Rattle.graph.specs.Units.{greatest_of};
 ghost use Rattle.mrt.specs.Placements.{placement_of};
 ghost use Rattle.modulo.specs.Attempts.{IsBlocked};
 ghost use Rattle.modulo.specs.inner.Endings.{EndsAs};
-ghost use Rattle.modulo.specs.Problems.{ProblemData, mii_of};
+ghost use Rattle.schedules.specs.Problems.{ProblemData, mii_of};
 ghost use Rattle.modulo.specs.Scheduling.{Stops};
 ghost use Rattle.machine_data.specs.declared.limits.TheConstants.{MAX_BUDGET, MAX_INTERVAL};
 
-use crate::problem::problems::Problem;
 use crate::problem::sound::find_sound;
 use crate::stepping::progress::Progress;
 use crate::stepping::steps::{run, start};
 use machine_data::OutOfMemory;
 use machine_data::limits::MAX_STAGES;
 use mrt::ModuloTable;
+use schedules::Problem;
 use std::alloc::Global;
 
 /// How an attempt ends.
@@ -105,17 +104,4 @@ pub(crate) fn first_late(times: &[u64], ii: u64) -> Option<usize>
         }
     }
     None
-}
-
-/// One more than the greatest stage of these times.
-pub(crate) fn count_stages(times: &[u64], ii: u64) -> u64
-    requires some { 0 < ii }
-    requires few { All (λ time. time / ii < MAX_STAGES) times.now }
-    ensures { result ≡ greatest_of (map (λ time. time / ii) times.now) + 1 }
-{
-    let mut greatest = 0;
-    for time in times {
-        greatest = greatest.max(*time / ii);
-    }
-    greatest + 1
 }

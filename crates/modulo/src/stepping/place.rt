@@ -3,27 +3,14 @@
 ghost use Rattle.std.specs.Prelude.{◌≡◌, ℕ, ◌+◌, ◌<◌, ◌≤◌, ◌^◌, length, IfSome};
 ghost use Rattle.std.specs.List.{All};
 ghost use Rattle.graph.specs.declared.dependence.edge.Edge.{Edge};
-ghost use Rattle.modulo.specs.Problems.{IsProblem};
-ghost use Rattle.modulo.specs.inner.Progress.{IsDemand, IsEarliestBy, AreBelow};
+ghost use Rattle.schedules.specs.Problems.{IsProblem};
+ghost use Rattle.modulo.specs.inner.Progress.{IsEarliestBy, AreBelow};
 ghost use Rattle.modulo.specs.Scheduling.{IsEarliest, forced_time};
 ghost use Rattle.machine_data.specs.declared.limits.TheConstants.{MAX_INTERVAL};
 
-use crate::problem::problems::Problem;
 use crate::stepping::progress::Progress;
 use graph::Edge;
-
-/// The least time, from 0 on, that an edge allows when the operation that it comes from is issued at
-/// `time`.
-pub(crate) fn demand(time: u64, edge: Edge, ii: u64) -> u64
-    requires time { time < 2 ^ 32 }
-    requires ii { ii ≤ MAX_INTERVAL }
-    ensures exact { IsDemand ii time edge result }
-    ensures below { result < time + 128 }
-{
-    let after = (ii * u64::from(edge.distance)) as i64;
-    let least = time as i64 + i64::from(edge.delay) - after;
-    if least < 0 { 0 } else { least as u64 }
-}
+use schedules::{Problem, demand};
 
 /// The earliest time at which the edges from placed operations allow an operation.
 pub(crate) fn earliest(problem: &Problem, progress: &Progress, op: usize, ii: u64) -> u64

@@ -7,11 +7,11 @@ ghost use Rattle.modulo.specs.inner.Progress.{AreBelow};
 ghost use Rattle.modulo.specs.Scheduling.{IsFirstSound, IsPlacement};
 ghost use Rattle.machine_data.specs.declared.limits.TheConstants.{MAX_INTERVAL};
 
-use crate::problem::problems::Problem;
 use crate::stepping::evict::clear;
 use crate::stepping::place::{earliest, forced};
 use crate::stepping::progress::Progress;
 use mrt::ModuloTable;
+use schedules::Problem;
 
 /// When and by which alternative an operation is issued; what holds a slot of its rows then, where
 /// that is by force, is taken out.

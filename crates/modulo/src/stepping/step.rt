@@ -7,11 +7,11 @@ ghost use Rattle.modulo.specs.inner.Progress.{AreBelow};
 ghost use Rattle.modulo.specs.Scheduling.{IsFirstSound};
 ghost use Rattle.machine_data.specs.declared.limits.TheConstants.{MAX_INTERVAL};
 
-use crate::problem::problems::Problem;
 use crate::stepping::evict::cut;
 use crate::stepping::progress::Progress;
 use crate::stepping::settle::settle;
 use mrt::ModuloTable;
+use schedules::Problem;
 
 /// Places an operation that is not placed; `sound` is its first alternative that does not collide with
 /// itself.

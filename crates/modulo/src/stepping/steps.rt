@@ -3,17 +3,17 @@
 ghost use Rattle.std.specs.Prelude.{◌≡◌, ℕ, ◌<◌, ◌≤◌, List, length, replicate, None, slice_index, IfOk};
 ghost use Rattle.graph.specs.Walks.{AreHeights};
 ghost use Rattle.mrt.specs.Placements.{alternatives_of};
-ghost use Rattle.modulo.specs.Problems.{mii_of};
+ghost use Rattle.schedules.specs.Problems.{mii_of};
 ghost use Rattle.modulo.specs.Scheduling.{IsFirstSound, Stops, empty};
 ghost use Rattle.modulo.specs.inner.Waiting.{IsByHeight};
 ghost use Rattle.machine_data.specs.declared.limits.TheConstants.{MAX_BUDGET, MAX_INTERVAL};
 
 use crate::problem::order::by_height;
-use crate::problem::problems::Problem;
 use crate::stepping::progress::Progress;
 use crate::stepping::step::step;
 use machine_data::OutOfMemory;
 use mrt::ModuloTable;
+use schedules::Problem;
 use std::alloc::Global;
 
 /// Nothing is placed, and operations are taken by their heights at an interval.

@@ -8,7 +8,7 @@ use Rattle.loop_data.specs.Run.{MemoryData}
 use Rattle.graph.specs.Dependences.{ComesFirst}
 use Rattle.kernel.specs.Overlapped.{InCell, Write, same_target}
 use Rattle.overlap.specs.Allotments.{AllotmentData}
-use Rattle.ims.specs.Schedules.{ScheduleData}
+use Rattle.loop_schedules.specs.Schedules.{ScheduleData}
 use Rattle.overlap.specs.Sequence.{state_before, write_of_instance}
 use Rattle.overlap.specs.Overlap.{IsLastStore}
 use Rattle.overlap.proofs.in_flight.Landing.{target-from_same, same-self}

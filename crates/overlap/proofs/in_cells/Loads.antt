@@ -17,7 +17,7 @@ use Rattle.graph.specs.Promises.{issue_of, InOrder}
 use Rattle.graph.proofs.finding.Promised.{stores-in_time, loads-in_time, stores-in_order}
 use Rattle.kernel.specs.Overlapped.{InCell, Write, last_landed}
 use Rattle.overlap.specs.Allotments.{AllotmentData}
-use Rattle.ims.specs.Schedules.{ScheduleData, IsSchedule}
+use Rattle.loop_schedules.specs.Schedules.{ScheduleData, IsSchedule}
 use Rattle.overlap.specs.Sequence.{write_of_instance, sequence_before}
 use Rattle.overlap.specs.Overlap.{IsRun, IsLastStore}
 use Rattle.overlap.proofs.in_flight.Issued.{IsIssued, issued-from_sequence, sequence-from_issued}

@@ -10,7 +10,7 @@ use Rattle.loop_data.specs.Run.{MemoryData}
 use Rattle.graph.specs.Promises.{issue_of}
 use Rattle.kernel.specs.Overlapped.{Write}
 use Rattle.overlap.specs.Allotments.{AllotmentData}
-use Rattle.ims.specs.Schedules.{ScheduleData, stage_of}
+use Rattle.loop_schedules.specs.Schedules.{ScheduleData, stage_of}
 use Rattle.overlap.specs.Sequence.{write_of_instance, write_now, sequence_in, sequence_before}
 use Rattle.overlap.proofs.in_flight.Landing.{contains-cases, contains-head, contains-tail}
 

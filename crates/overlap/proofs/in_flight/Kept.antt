@@ -5,7 +5,7 @@ use Rattle.std.proofs.Math.Nat.{div-add-mod'}
 use Rattle.loop_data.specs.declared.language.statement.Statement.{Statement}
 use Rattle.kernel.specs.declared.kernels.operation.Operation.{Operation}
 use Rattle.overlap.specs.Allotments.{AllotmentData}
-use Rattle.ims.specs.Schedules.{ScheduleData}
+use Rattle.loop_schedules.specs.Schedules.{ScheduleData}
 use Rattle.overlap.specs.Emission.{operations_from, emitted}
 use Rattle.overlap.specs.Overlap.{KernelsKeepSchedules}
 

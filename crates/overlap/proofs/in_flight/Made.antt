@@ -16,7 +16,7 @@ use Rattle.kernel.specs.declared.kernels.operation.Operation.{Operation}
 use Rattle.kernel.specs.declared.kernels.parts.Parts.{Parts}
 use Rattle.kernel.specs.Overlapped.{InRegister, InCell, Write, physical, addressed, cell_landed, load_landed, write_of, write_given, to_register, to_cell, is_issued, writes_in}
 use Rattle.overlap.specs.Allotments.{AllotmentData, allotted_number}
-use Rattle.ims.specs.Schedules.{ScheduleData, stage_of}
+use Rattle.loop_schedules.specs.Schedules.{ScheduleData, stage_of}
 use Rattle.overlap.specs.Emission.{name_of, address_of, operation_of, operations_from, emitted}
 use Rattle.overlap.specs.Sequence.{state_before, read_by, stored_by, made_by, write_by_opcode, write_of_instance, write_now, sequence_in, sequence_before}
 use Rattle.overlap.specs.Overlap.{IsRun, WritesAreOfValues}

@@ -17,7 +17,7 @@ use Rattle.graph.specs.Promises.{issue_of}
 use Rattle.kernel.specs.declared.kernels.operation.Source.{Source}
 use Rattle.kernel.specs.Overlapped.{InRegister, physical, last_landed, value_or, preloaded, cell_landed, register_at, source_at}
 use Rattle.overlap.specs.Allotments.{AllotmentData, allotted_number}
-use Rattle.ims.specs.Schedules.{ScheduleData, stage_of}
+use Rattle.loop_schedules.specs.Schedules.{ScheduleData, stage_of}
 use Rattle.overlap.specs.Emission.{name_of, source_of, emitted}
 use Rattle.overlap.specs.Sequence.{state_before, read_by, sequence_before}
 use Rattle.overlap.specs.Overlap.{IsRun}

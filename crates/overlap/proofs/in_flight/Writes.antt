@@ -13,7 +13,7 @@ use Rattle.graph.specs.Schedules.{KeepsEdge}
 use Rattle.graph.specs.Promises.{KeepsDependences, issue_of}
 use Rattle.kernel.specs.Overlapped.{Target, InRegister, InCell, Write, physical}
 use Rattle.overlap.specs.Allotments.{AllotmentData, allotted_number}
-use Rattle.ims.specs.Schedules.{ScheduleData, IsSchedule}
+use Rattle.loop_schedules.specs.Schedules.{ScheduleData, IsSchedule}
 use Rattle.overlap.specs.Sequence.{read_by, given_by, stored_by, made_by, write_by_opcode, write_of_instance}
 use Rattle.loop_data.proofs.Instances.{slice_get-within}
 

@@ -17,7 +17,7 @@ use Rattle.registers.specs.declared.value.Read.{Read}
 use Rattle.registers.specs.Physical.{physical}
 use Rattle.registers.specs.Values as list
 use Rattle.registers.specs.Values.{IsValue, IsRead, landing_of, read_at}
-use Rattle.ims.specs.Schedules.{ScheduleData}
+use Rattle.loop_schedules.specs.Schedules.{ScheduleData}
 use Rattle.instances.specs.Runs.{InRegister, Rotates, Unallotted, RunData, AreHomes, IsRun, carried_by, place_in, place_of, value_of}
 use Rattle.overlap.specs.Allotments.{AllotmentData, allotted_number}
 use Rattle.overlap.specs.Lifetimes.{Use, carried, lifetime_of, lifetimes_of, rank_of, uses_of, values_of}

@@ -11,7 +11,7 @@ use Rattle.kernel.specs.declared.kernels.parts.Preload.{Preload}
 use Rattle.kernel.specs.Overlapped.{physical, preloaded}
 use Rattle.overlap.specs.Allotments.{AllotmentData, allotted_number}
 use Rattle.overlap.specs.Lifetimes.{carried, values_of, rank_of}
-use Rattle.ims.specs.Schedules.{ScheduleData}
+use Rattle.loop_schedules.specs.Schedules.{ScheduleData}
 use Rattle.overlap.specs.Emission.{name_of, preloads_from, preloads_of, emitted}
 use Rattle.overlap.specs.Overlap.{Belong}
 use Rattle.overlap.proofs.in_flight.Landing.{contains-cases, contains-head, contains-tail}

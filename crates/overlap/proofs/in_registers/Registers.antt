@@ -19,7 +19,7 @@ use Rattle.instances.proofs.Standing.{read-lands, read-opens}
 use Rattle.overlap.specs.Allotments.{AllotmentData, allotted_number}
 use Rattle.overlap.specs.Emission.{emitted}
 use Rattle.overlap.specs.Lifetimes.{rank_of}
-use Rattle.ims.specs.Schedules.{ScheduleData}
+use Rattle.loop_schedules.specs.Schedules.{ScheduleData}
 use Rattle.overlap.specs.Sequence.{write_of_instance, given_by, sequence_before}
 use Rattle.overlap.specs.Overlap.{IsRun}
 use Rattle.overlap.proofs.in_flight.Issued.{IsIssued, issued-from_sequence, sequence-from_issued}

@@ -1,27 +1,89 @@
-//! What the searches for kernels write, where the calling thread alone searches.
+//! What commands write of the texts of a machine and of loops, where the calling thread alone does all work.
 
 ghost use Rattle.std.specs.Prelude.{◌≤◌, vec_len};
 ghost use Rattle.machine_data.specs.declared.limits.TheConstants.{MAX_LOOPS};
 ghost use Rattle.graph.specs.Units.{first_lacking};
-ghost use Rattle.file_faults.specs.Answers.{AnswersOn};
+ghost use Rattle.file_faults.specs.Answers.{AnswersAlone, AnswersFile, AnswersOn};
+ghost use Rattle.loops.specs.Meaning.{loops_in};
+ghost use Rattle.machine.specs.MachineText.{machine_of};
+ghost use Rattle.printouts.specs.Bounds.{IsBoundsText};
+ghost use Rattle.printouts.specs.Plain.{IsPlainText};
 ghost use Rattle.printouts.specs.Run.{IsRunText};
-ghost use Rattle.printouts.specs.Schedule.{IsListingDocument, IsListingText};
+ghost use Rattle.printouts.specs.Schedule.{IsListingText};
 
-use crate::commands::listings::{document_printout, listing_printout};
+use crate::commands::bounds::bounds_text;
+use crate::commands::listings::listing_printout;
+use crate::commands::plain::plain_text;
 use crate::commands::running::run_printout;
 use file_faults::FileFault;
-use loops::Loop;
-use machine::Machine;
+use loops::{Loop, read_loops};
+use machine::{Machine, read_machine};
 use one_thread::pipeline_alone;
 use settings::{Settings, Trip};
 use std::alloc::Global;
 use written::Printout;
 
-/// What `schedule` writes. There are at most 1,024 loops, which is the most that a text has.
+/// What `schedule` writes of the texts of a machine and of loops.
 ///
 /// # Errors
-/// The first loop with an opcode that the machine has no table for; and [`FileFault::Memory`], where memory was refused.
+/// The fault of the machine's text, else that of the loops' text, else the first loop with an opcode that the machine has no table
+/// for; and [`FileFault::Memory`], where memory was refused.
 pub fn schedule_alone(
+    alloc: Global,
+    machine: &[u8],
+    loops: &[u8],
+    settings: &Settings,
+) -> Result<Printout, FileFault>
+    ensures { AnswersFile (IsListingText settings.now.ratio settings.now.ceiling) (machine_of machine.now) (loops_in loops.now) result }
+{
+    let machine = read_machine(alloc, machine)?;
+    let loops = read_loops(alloc, loops)?;
+    scheduled(alloc, &machine, loops, settings)
+}
+
+/// What `run` writes of these texts.
+///
+/// # Errors
+/// As those of [`schedule_alone`].
+pub fn run_alone(
+    alloc: Global,
+    machine: &[u8],
+    loops: &[u8],
+    trip: Trip,
+    settings: &Settings,
+) -> Result<Printout, FileFault>
+    ensures { AnswersFile (IsRunText trip settings.now.ratio settings.now.ceiling) (machine_of machine.now) (loops_in loops.now) result }
+{
+    let machine = read_machine(alloc, machine)?;
+    let loops = read_loops(alloc, loops)?;
+    run(alloc, &machine, loops, trip, settings)
+}
+
+/// What `bounds` writes of these texts.
+///
+/// # Errors
+/// As those of [`schedule_alone`].
+pub fn bounds_alone(alloc: Global, machine: &[u8], loops: &[u8]) -> Result<Printout, FileFault>
+    ensures { AnswersFile IsBoundsText (machine_of machine.now) (loops_in loops.now) result }
+{
+    let machine = read_machine(alloc, machine)?;
+    let loops = read_loops(alloc, loops)?;
+    bounds_text(alloc, &machine, loops.as_slice())
+}
+
+/// What `plain` writes of the text of loops.
+///
+/// # Errors
+/// The fault of the text; and [`FileFault::Memory`], where memory was refused.
+pub fn plain_alone(alloc: Global, loops: &[u8], trip: Trip) -> Result<Printout, FileFault>
+    ensures { AnswersAlone (IsPlainText trip) (loops_in loops.now) result }
+{
+    let loops = read_loops(alloc, loops)?;
+    plain_text(alloc, loops.as_slice(), trip)
+}
+
+/// What `schedule` writes of loops that were read.
+fn scheduled(
     alloc: Global,
     machine: &Machine,
     loops: Vec<Loop>,
@@ -34,28 +96,8 @@ pub fn schedule_alone(
     Ok(listing_printout(alloc, &listing)?)
 }
 
-/// What `json` writes, as [`schedule_alone`] takes it.
-///
-/// # Errors
-/// As those of [`schedule_alone`].
-pub fn json_alone(
-    alloc: Global,
-    machine: &Machine,
-    loops: Vec<Loop>,
-    settings: &Settings,
-) -> Result<Printout, FileFault>
-    requires few { vec_len loops ≤ MAX_LOOPS }
-    ensures { AnswersOn (IsListingDocument settings.now.ratio settings.now.ceiling machine.now loops.items) (first_lacking machine.now loops.items) result }
-{
-    let (_, listing) = pipeline_alone(alloc, machine, loops, settings)?;
-    Ok(document_printout(alloc, &listing)?)
-}
-
-/// What `run` writes, as [`schedule_alone`] takes it.
-///
-/// # Errors
-/// As those of [`schedule_alone`].
-pub fn run_alone(
+/// What `run` writes of loops that were read.
+fn run(
     alloc: Global,
     machine: &Machine,
     loops: Vec<Loop>,

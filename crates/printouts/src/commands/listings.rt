@@ -1,12 +1,10 @@
-//! What `schedule` and `json` write of a listing.
+//! What `schedule` writes of a listing.
 
 ghost use Rattle.std.specs.Prelude.{◌≡◌, IfOk};
 ghost use Rattle.candidates.specs.Texts.{listing_text_of};
-ghost use Rattle.listing_json.specs.Documents.{document_text};
 ghost use Rattle.printouts.specs.Schedule.{are_met};
 
 use candidates::{Listing, Row, listing_text};
-use listing_json::document_text;
 use machine::OutOfMemory;
 use std::alloc::Global;
 use written::Printout;
@@ -20,18 +18,6 @@ pub fn listing_printout(alloc: Global, listing: &Listing) -> Result<Printout, Ou
     ensures met { IfOk result (λ w. w.all_met ≡ are_met listing.now.rows) }
 {
     let text = listing_text(alloc, listing)?.into_bytes();
-    Ok(Printout::new(text, are_met(listing.rows())))
-}
-
-/// What `json` writes of a listing.
-///
-/// # Errors
-/// Memory was refused.
-pub fn document_printout(alloc: Global, listing: &Listing) -> Result<Printout, OutOfMemory>
-    ensures text { IfOk result (λ w. w.text ≡ document_text listing.now) }
-    ensures met { IfOk result (λ w. w.all_met ≡ are_met listing.now.rows) }
-{
-    let text = document_text(alloc, listing)?.into_bytes();
     Ok(Printout::new(text, are_met(listing.rows())))
 }
 

@@ -2,7 +2,7 @@
 
 ghost use Rattle.std.specs.Prelude.{◌≡◌, ◌≤◌, ◌++◌, IfOk, OnOk, map};
 ghost use Rattle.machine_data.specs.declared.limits.TheConstants.{MAX_CEILING};
-ghost use Rattle.ims.specs.Problems.{ProblemData};
+ghost use Rattle.loop_schedules.specs.Problems.{ProblemData};
 ghost use Rattle.candidates.specs.declared.listings.Row as row;
 ghost use Rattle.candidates.specs.Choices.{IsChoice};
 ghost use Rattle.candidates.specs.Listings.{IsRow};
@@ -17,9 +17,9 @@ ghost use Rattle.printouts.specs.Schedule.{are_met};
 use crate::commands::listings::are_met;
 use crate::output::run_lines::{push_run, within_limits};
 use candidates::{Choice, Listing, Row, write_last, write_row};
-use ims::Prepared;
 use kernel::Kernel;
 use kernel_runs::simulate_from;
+use loop_schedules::Prepared;
 use loops::{Loop, Memory, opening};
 use machine::OutOfMemory;
 use settings::Trip;

@@ -7,8 +7,8 @@ use Rattle.problem_lines.specs.Names.{is_hold, is_unit_name}
 use Rattle.problem_lines.specs.Numbers.{number_of}
 use Rattle.loop_lines.specs.Columns.{Placed}
 use Rattle.problem_lines.specs.Words.{LeftWords, word_at}
-use Rattle.problem_lines.specs.declared.fault.Expected.{Expected}
-use Rattle.problem_lines.specs.declared.fault.Expected.TheVariants.{Number, Offset}
+use Rattle.problem_faults.specs.declared.expected.Expected.{Expected}
+use Rattle.problem_faults.specs.declared.expected.Expected.TheVariants.{Number, Offset}
 use Rattle.problem_lines.specs.declared.fault.LineFault.{LineFault}
 use Rattle.problem_lines.specs.declared.number.Number as numbers
 

@@ -6,7 +6,7 @@ use Rattle.problem_tables.specs.Data.{FileData}
 use Rattle.problem_tables.specs.Tables.{TablesData, line_fault, with_form, with_machine_ended}
 use Rattle.problem_reader.specs.Files.{out_of_memory}
 use Rattle.problem_reader.specs.Meaning.{at_line, end_fault, form_fault}
-use Rattle.problem_reader.specs.declared.fault.TextFault.{TextFault}
+use Rattle.problem_faults.specs.declared.refused_problems.TextFault.{TextFault}
 
 -- the fault of a line of this number
 abbrev pub text_fault : TablesData → ℕ → Result (Option LineForm) LineFault → Option TextFault

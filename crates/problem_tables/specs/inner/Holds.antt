@@ -7,9 +7,9 @@ use Rattle.problems.specs.declared.draft.Hold.{Hold}
 use Rattle.problem_tables.specs.Data.{hold_in}
 use Rattle.problem_tables.specs.Faults.{first_of, unless, on_word, room_at, known, offset_fault, holds_fault, alternative_room}
 use Rattle.problem_tables.specs.Names.{has_name}
-use Rattle.problem_tables.specs.declared.fault.Part.TheVariants as part
+use Rattle.problem_faults.specs.declared.refused_problems.Part.TheVariants as part
 use Rattle.problem_tables.specs.declared.fault.Told.{Told}
-use Rattle.problem_tables.specs.declared.fault.Wrong.TheVariants as wrong
+use Rattle.problem_faults.specs.declared.refused_problems.Wrong.TheVariants as wrong
 
 -- the first hold of an alternative tells that this alternative, after `count` others, is too many
 abbrev pub crowd_fault : ℕ → List Hold → HoldForm → Option Told

@@ -1,6 +1,6 @@
 -- Where faults are told.
 use Rattle.problem_tables.specs.declared.fault.Told.{Told}
-use Rattle.problem_tables.specs.declared.fault.Wrong.{Wrong}
+use Rattle.problem_faults.specs.declared.refused_problems.Wrong.{Wrong}
 use Rattle.problem_tables.specs.declared.judging.Spot.{Spot}
 
 abbrev pub on_spot : Spot → Wrong → Told

@@ -11,10 +11,11 @@ ghost use Rattle.problem_tables.specs.Names.{index_of};
 ghost use Rattle.problem_tables.specs.Seen.{Refuses};
 ghost use Rattle.problem_tables.specs.inner.Holds.{crowd_fault, hold_fault, rest_fault, same_row};
 
-use crate::fault::{Part, Refusal, Told, Wrong};
+use crate::fault::{Refusal, Told};
 use crate::judging::{known_fault, number_or_0, offset_fault, word_fault, word_room};
 use crate::names::Names;
 use machine_data::limits::{MAX_OFFSET, MAX_OPERATION_ALTERNATIVES, MAX_ROWS};
+use problem_faults::refused_problems::{Part, Wrong};
 use problem_lines::{Alternatives, HoldWord, Holds, Number};
 use problems::{Hold, Kind};
 use smallvec::SmallVec;

@@ -7,15 +7,16 @@ ghost use Rattle.problem_tables.specs.Faults.{alternatives_fault, first_of, new,
 ghost use Rattle.problem_tables.specs.Names.{bytes_of, has_name};
 ghost use Rattle.problem_tables.specs.Seen.{machine_parts, machine_seen, Refuses};
 ghost use Rattle.problem_tables.specs.Tables.{file_faults, kind_faults, named_machine, no_machine, with_file, with_kind};
-ghost use Rattle.problem_tables.specs.declared.fault.Part.TheVariants as part;
+ghost use Rattle.problem_faults.specs.declared.refused_problems.Part.TheVariants as part;
 ghost use Rattle.problem_tables.specs.inner.Spots.{on_spot};
 
 use crate::ended::TextMachine;
-use crate::fault::{Part, Refusal, Told};
+use crate::fault::{Refusal, Told};
 use crate::judging::{Spot, new_fault, range_fault, storage_fault, word_room};
 use crate::lines::kinds::add_kind;
 use crate::names::Names;
 use machine_data::limits::{MAX_FILES, MAX_KINDS, MAX_LATENCY, MAX_UNITS};
+use problem_faults::refused_problems::Part;
 use problem_lines::{Alternatives, Number, Storage, UnitNames, Word};
 use problems::{File, Kind, Label};
 use std::alloc::Global;

@@ -7,13 +7,14 @@ ghost use Rattle.problem_tables.specs.Seen.{problem_parts, Refuses};
 ghost use Rattle.problem_tables.specs.Tables.{made_before, order_faults, order_goes, order_of, read_faults, read_goes, read_of, with_order, with_read};
 ghost use Rattle.problem_tables.specs.inner.Spots.{on_spot};
 
-use crate::fault::{Part, Refusal, Told, Wrong};
+use crate::fault::{Refusal, Told};
 use crate::judging::{
     Spot, delay_fault, known_fault, number_or_0, offset_fault, range_fault, word_fault,
 };
 use crate::lines::problem::ProblemTables;
 use crate::room::push_with_room;
 use machine_data::limits::{MAX_DISTANCE, MAX_OFFSET, MAX_ORDER_DISTANCE, MAX_ORDERS, MAX_READS};
+use problem_faults::refused_problems::{Part, Wrong};
 use problem_lines::{Integer, Number, Word};
 use problems::{Order, Value};
 use registers::Read;

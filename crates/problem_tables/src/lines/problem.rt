@@ -9,12 +9,13 @@ ghost use Rattle.problem_tables.specs.Tables.{named_problem, no_problem, op_faul
 ghost use Rattle.problem_tables.specs.inner.Spots.{on_spot};
 
 use crate::ended::TextProblem;
-use crate::fault::{Part, Refusal, Told};
+use crate::fault::{Refusal, Told};
 use crate::judging::{Spot, known_fault, new_fault, range_fault};
 use crate::lines::machine::MachineTables;
 use crate::names::Names;
 use crate::room::push_with_room;
 use machine_data::limits::{MAX_LATENCY, MAX_STATEMENTS, MAX_VALUES};
+use problem_faults::refused_problems::Part;
 use problem_lines::{Number, Word};
 use problems::{Label, Order, Value};
 use registers::Read;

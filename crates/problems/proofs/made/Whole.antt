@@ -1,7 +1,7 @@
 -- A draft without a fault, and what is scheduled of it.
 use Rattle.std.proofs.Common.{◌≡◌, ℕ, refl}
 use Rattle.std.specs.Prelude.{None}
-use Rattle.modulo.specs.Problems.{ProblemData as SchedulingData}
+use Rattle.schedules.specs.Problems.{ProblemData as SchedulingData}
 use Rattle.problems.specs.declared.draft.Draft.{Draft}
 use Rattle.problems.specs.Drafts.{IsWellFormed}
 use Rattle.problems.specs.Faults.{first_fault_of}

@@ -34,7 +34,7 @@ pub(crate) fn scheduling_of(
     tables: &Tables,
     ratio: u64,
     ceiling: u64,
-) -> Result<modulo::Problem, OutOfMemory>
+) -> Result<schedules::Problem, OutOfMemory>
     requires well_formed { IsWellFormed draft.now }
     requires tables { AreListed tables.now.lists.items tables.now.numbers.items (operations_of draft.now) }
     requires ratio { (1 ≤ ratio) × (ratio ≤ MAX_RATIO) }
@@ -43,5 +43,5 @@ pub(crate) fn scheduling_of(
 {
     let operations = operations_of(alloc, tables)?;
     let graph = graph_of(alloc, draft)?;
-    modulo::Problem::new(alloc, graph, operations, ratio, ceiling)
+    schedules::Problem::new(alloc, graph, operations, ratio, ceiling)
 }

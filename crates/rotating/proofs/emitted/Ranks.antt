@@ -9,7 +9,7 @@ use Rattle.loop_data.specs.declared.language.statement.Operand.TheVariants.{Valu
 use Rattle.loop_data.specs.Loops.{LoopData, IsLoop, MayRead}
 use Rattle.loop_data.specs.Run.{initial_of}
 use Rattle.graph.specs.Units.{greatest_of}
-use Rattle.ims.specs.Schedules.{ScheduleData}
+use Rattle.loop_schedules.specs.Schedules.{ScheduleData}
 use Rattle.overlap.specs.Lifetimes.{Use, carried, is_out, uses_of, values_from, lifetime_of, lifetimes_of}
 use Rattle.overlap.specs.Allotments.{AllotmentData, IsAllotment}
 use Rattle.overlap.specs.Emission.{name_of, preloads_from}

@@ -11,7 +11,7 @@ use Rattle.graph.specs.Dependences.{Uses}
 use Rattle.graph.specs.Units.{greatest_of}
 use Rattle.graph.proofs.finding.Promised.{values-in_time}
 use Rattle.overlap.specs.Lifetimes.{uses_of, is_out, landing_of, read_at, last_read, last_landing, lifetime_of, lifetimes_of, values_of}
-use Rattle.ims.specs.Schedules.{ScheduleData, IsSchedule, stages_of}
+use Rattle.loop_schedules.specs.Schedules.{ScheduleData, IsSchedule, stages_of}
 use Rattle.registers.specs.Residues.{IsLifeSpan}
 use Rattle.overlap.proofs.in_registers.Lives.{contains-map_back, use-back, begins-by_landing, lasts-to_landing}
 use Rattle.overlap.proofs.in_flight.Landing.{contains-head, contains-tail}

@@ -1,7 +1,7 @@
 //! The kernel of a scheduled loop.
 
 ghost use Rattle.std.specs.Prelude.{◌≡◌, IfOk};
-ghost use Rattle.ims.specs.Schedules.{IsSchedule};
+ghost use Rattle.loop_schedules.specs.Schedules.{IsSchedule};
 ghost use Rattle.overlap.specs.Allotments.{IsAllotment, Suits};
 ghost use Rattle.overlap.specs.Emission.{emitted};
 ghost use Rattle.overlap.specs.Overlap.{RunsAsLoop};
@@ -11,9 +11,9 @@ use crate::kernels::naming::fill_numbers;
 use crate::kernels::operations::operations;
 use crate::kernels::preloads::preloads;
 use crate::numbers::allotment::Allotment;
-use ims::Schedule;
 use kernel::{Kernel, Parts};
 use loop_data::Loop;
+use loop_schedules::Schedule;
 use machine_data::OutOfMemory;
 use machine_data::limits::MAX_STATEMENTS;
 use std::alloc::Global;

@@ -8,9 +8,9 @@ ghost use Rattle.rotating.specs.inner.Naming.{AreNumbers};
 
 use crate::kernels::naming::register_name;
 use crate::numbers::allotment::Allotment;
-use ims::Schedule;
 use kernel::{ArrayNames, Out, Outs, Params};
 use loop_data::{Loop, Param};
+use loop_schedules::Schedule;
 use machine_data::{Name, OutOfMemory};
 use std::alloc::Global;
 

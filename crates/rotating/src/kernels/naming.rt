@@ -8,9 +8,9 @@ ghost use Rattle.rotating.specs.inner.Naming.{AreNumbers};
 ghost use Rattle.machine_data.specs.declared.limits.TheConstants.{MAX_REGISTERS};
 
 use crate::numbers::allotment::Allotment;
-use ims::Schedule;
 use kernel::{Address, Source, Sources};
 use loop_data::{Operand, Place};
+use loop_schedules::Schedule;
 use smallvec::SmallVec;
 use std::alloc::Global;
 

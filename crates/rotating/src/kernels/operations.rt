@@ -1,16 +1,16 @@
 //! The operations of a kernel.
 
 ghost use Rattle.std.specs.Prelude.{◌≡◌, ◌<◌, ◌≤◌, ◌+◌, ◌%◌, [], length, slice_index, slice_get, option_map, Some, IfOk, vec_len, vec_capacity};
-ghost use Rattle.ims.specs.Schedules.{row_of, stage_of};
+ghost use Rattle.loop_schedules.specs.Schedules.{row_of, stage_of};
 ghost use Rattle.overlap.specs.Emission.{address_of, operation_of, operations_from};
 ghost use Rattle.rotating.specs.inner.Naming.{AreNumbers};
 ghost use Rattle.machine_data.specs.declared.limits.TheConstants.{MAX_REGISTERS};
 
 use crate::kernels::naming::{address_of, register_name, sources_of};
 use crate::numbers::allotment::Allotment;
-use ims::Schedule;
 use kernel::{Address, Operation, Operations};
 use loop_data::Statement;
+use loop_schedules::Schedule;
 use machine_data::OutOfMemory;
 use std::alloc::Global;
 

@@ -10,9 +10,9 @@ ghost use Rattle.rotating.specs.inner.Naming.{AreCarried, AreNumbers, preload_co
 use crate::kernels::naming::register_name;
 use crate::numbers::allotment::Allotment;
 use crate::values::uses::fill_carried;
-use ims::Schedule;
 use kernel::{Preload, Preloads};
 use loop_data::Loop;
+use loop_schedules::Schedule;
 use machine_data::OutOfMemory;
 use std::alloc::Global;
 

@@ -9,7 +9,7 @@ ghost use Rattle.rotating.specs.CheckAnswers.{CheckAnswers};
 ghost use Rattle.machine_data.specs.declared.limits.TheConstants.{MAX_REGISTERS};
 
 use crate::values::lifetime::{fill_lifetimes, lifetimes};
-use ims::Schedule;
+use loop_schedules::Schedule;
 use machine_data::OutOfMemory;
 use machine_data::limits::MAX_STATEMENTS;
 use overlap::Lifetime;

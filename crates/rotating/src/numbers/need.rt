@@ -9,7 +9,7 @@ ghost use Rattle.rotating.specs.Needs.{IsNeed};
 
 use crate::numbers::allotment::zeros;
 use crate::values::lifetime::lifetimes;
-use ims::Schedule;
+use loop_schedules::Schedule;
 use machine_data::OutOfMemory;
 use machine_data::limits::MAX_REGISTERS;
 use overlap::Lifetime;

@@ -4,7 +4,7 @@ ghost use Rattle.std.specs.Prelude.{◌≡◌, ◌<◌, length};
 ghost use Rattle.overlap.specs.Lifetimes.{lifetimes_of};
 ghost use Rattle.registers.specs.Crowds.{crowd_in};
 
-use ims::Schedule;
+use loop_schedules::Schedule;
 use overlap::Lifetime;
 use registers::crowd_in;
 

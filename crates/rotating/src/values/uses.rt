@@ -9,8 +9,8 @@ ghost use Rattle.rotating.specs.inner.Naming.{AreCarried};
 ghost use Rattle.rotating.specs.inner.Uses.{greatest_in};
 ghost use Rattle.machine_data.specs.declared.limits.TheConstants.{MAX_INTERVAL};
 
-use ims::Schedule;
 use loop_data::{Loop, Operand};
+use loop_schedules::Schedule;
 
 /// Raises the entry of each value that these operands read to the read: `base`, and `step` more for
 /// each iteration that the value is old.

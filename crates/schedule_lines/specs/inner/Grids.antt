@@ -3,7 +3,7 @@ use Rattle.std.specs.Prelude.{◌≡◌, ℕ, ◌-◌, ◌<◌, codes, decimal, 
 use Rattle.std.specs.List.{All, flat_map}
 use Rattle.machine_data.specs.declared.limits.TheConstants.{MAX_UNITS}
 use Rattle.machine_data.specs.Machines.{MachineData}
-use Rattle.ims.specs.Schedules.{ScheduleData}
+use Rattle.loop_schedules.specs.Schedules.{ScheduleData}
 use Rattle.figures.specs.LiveCounts.{greatest_live, live_counts}
 use Rattle.figures.specs.Slots.{used_units}
 use Rattle.schedule_lines.specs.declared.grids.columns.Column.{Column}

@@ -1,7 +1,7 @@
 -- The labels of a schedule's operations.
 use Rattle.std.specs.Prelude.{ℕ, List, map, Vec}
 use Rattle.std.specs.Global.{Global}
-use Rattle.ims.specs.Schedules.{ScheduleData}
+use Rattle.loop_schedules.specs.Schedules.{ScheduleData}
 use Rattle.figures.specs.Slots.{operations_in}
 use Rattle.schedule_lines.specs.SlotTexts.{label_of}
 

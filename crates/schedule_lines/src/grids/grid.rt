@@ -14,7 +14,7 @@ use crate::grids::widths::{live_width, row_width};
 use crate::operations::unit_name;
 use crate::slots::Slots;
 use figures::{counts_of, greatest_of};
-use ims::Schedule;
+use loop_schedules::Schedule;
 use machine_data::{Machine, OutOfMemory};
 use rotating::Lifetime;
 use std::alloc::Global;

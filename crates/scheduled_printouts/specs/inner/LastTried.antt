@@ -1,6 +1,6 @@
 -- What the last interval that is tried comes to.
 use Rattle.std.specs.Prelude.{ℕ, Bool, true, false}
-use Rattle.ims.specs.Problems.{ProblemData}
+use Rattle.loop_schedules.specs.Problems.{ProblemData}
 use Rattle.candidates.specs.declared.evidence.Tried.{Tried}
 use Rattle.candidates.specs.declared.evidence.Tried.TheVariants.{Met, Failed}
 use Rattle.candidates.specs.Choices.{IsLeastMet, IsUnmet}

@@ -3,7 +3,7 @@
 ghost use Rattle.std.specs.Prelude.{◌≡◌, ◌<◌, ◌≤◌, length, IfOk, slice_index_or, vec_len};
 ghost use Rattle.std.specs.List.{All, AllZip};
 ghost use Rattle.graph.specs.Units.{first_lacking};
-ghost use Rattle.ims.specs.Problems.{ProblemData};
+ghost use Rattle.loop_schedules.specs.Problems.{ProblemData};
 ghost use Rattle.file_faults.specs.Answers.{AnswersOn};
 ghost use Rattle.explain_printouts.specs.ExplainDocuments.{AreObjects, IsExplainDocument, IsExplainPage, IsObjectOf};
 
@@ -11,7 +11,7 @@ use crate::commands::explaining::EXPLAINED;
 use crate::parts::jobs::loop_jobs;
 use explain_printouts::{Object, explain_objects, object_of, objects_document, objects_page};
 use file_faults::FileFault;
-use ims::Prepared;
+use loop_schedules::Prepared;
 use loops::Loop;
 use machine::{Machine, OutOfMemory};
 use settings::Settings;

@@ -3,7 +3,7 @@
 ghost use Rattle.std.specs.Prelude.{◌≡◌, ◌<◌, ◌≤◌, length, IfOk, slice_index_or, vec_len};
 ghost use Rattle.std.specs.List.{All, list_all};
 ghost use Rattle.graph.specs.Units.{first_lacking};
-ghost use Rattle.ims.specs.Problems.{ProblemData};
+ghost use Rattle.loop_schedules.specs.Problems.{ProblemData};
 ghost use Rattle.file_faults.specs.Answers.{AnswersOn};
 ghost use Rattle.scheduled_printouts.specs.Graphs.{AreScheduledGraphs};
 ghost use Rattle.text_parts.specs.Parts.{met_of};
@@ -11,7 +11,7 @@ ghost use Rattle.side_by_side.specs.inner.Scheduled.{DrawsPrepared, IsDrawnPart}
 
 use crate::parts::jobs::loop_jobs;
 use file_faults::FileFault;
-use ims::Prepared;
+use loop_schedules::Prepared;
 use loops::Loop;
 use machine::{Machine, OutOfMemory};
 use scheduled_printouts::{push_graph, scheduled_text};

@@ -3,7 +3,7 @@
 ghost use Rattle.std.specs.Prelude.{◌≡◌, ◌<◌, ◌≤◌, length, IfOk, IfSome, slice_index_or, vec_len};
 ghost use Rattle.std.specs.List.{All, AllZip};
 ghost use Rattle.graph.specs.Units.{first_lacking};
-ghost use Rattle.ims.specs.Problems.{ProblemData};
+ghost use Rattle.loop_schedules.specs.Problems.{ProblemData};
 ghost use Rattle.file_faults.specs.Answers.{AnswersOn};
 ghost use Rattle.variants.specs.Documents.{IsVaryDocument};
 ghost use Rattle.variants.specs.Findings.{AreFindings, AreFound, IsOn};
@@ -12,7 +12,7 @@ ghost use Rattle.variants.specs.Totals.{IsVaryTotal};
 ghost use Rattle.machine_data.specs.declared.limits.TheConstants.{MAX_LOOPS};
 
 use file_faults::FileFault;
-use ims::Prepared;
+use loop_schedules::Prepared;
 use loops::Loop;
 use machine::{Machine, OutOfMemory};
 use settings::Settings;

@@ -4,7 +4,7 @@ use Rattle.problem_lines.specs.SolutionLines.{SolutionLineForm}
 use Rattle.problem_lines.specs.declared.fault.LineFault.{LineFault}
 use Rattle.solution_reader.specs.Meaning.{lines_from, AnswersFault}
 use Rattle.solution_reader.specs.Sofar.{TextLine}
-use Rattle.solution_reader.specs.declared.fault.SolutionFault.{SolutionFault}
+use Rattle.problem_faults.specs.declared.refused_solutions.SolutionFault.{SolutionFault}
 use Rattle.solution_reader.specs.inner.Steps.{SofarData, IsSofar}
 
 -- lines from a number on after others come to what these lines from this number on do, where so much has been said

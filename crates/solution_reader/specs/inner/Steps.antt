@@ -7,10 +7,10 @@ use Rattle.problems.specs.declared.limits.TheConstants.{MAX_PROBLEMS}
 use Rattle.solution_reader.specs.Data.{HeadData, OpData, ValueData, SolutionData, op_names, value_names, solution_names}
 use Rattle.solution_reader.specs.Faults.{first_of, unless, on_line, one_more}
 use Rattle.solution_reader.specs.Sofar.{TextLine, head_in, ops_in, values_in, solutions_in, solution_with}
-use Rattle.solution_reader.specs.declared.fault.Part.TheVariants as part
+use Rattle.problem_faults.specs.declared.refused_solutions.Part.TheVariants as part
 use Rattle.solution_reader.specs.declared.fault.Told.{Told}
-use Rattle.solution_reader.specs.declared.fault.Wrong.{Wrong}
-use Rattle.solution_reader.specs.declared.fault.Wrong.TheVariants as wrong
+use Rattle.problem_faults.specs.declared.refused_solutions.Wrong.{Wrong}
+use Rattle.problem_faults.specs.declared.refused_solutions.Wrong.TheVariants as wrong
 
 -- the solutions that have ended, and how the one under way begins
 pub record BegunData : Type 0 where

@@ -3,7 +3,7 @@ use Rattle.std.specs.Prelude.{◌≡◌, Option, None, Some, Result, Ok, Err}
 use Rattle.solution_reader.specs.declared.fault.Refusal.{Refusal}
 use Rattle.solution_reader.specs.declared.fault.Refusal.TheVariants.{Fault, Memory}
 use Rattle.solution_reader.specs.declared.fault.Told.{Told}
-use Rattle.solution_reader.specs.declared.fault.Wrong.{Wrong}
+use Rattle.problem_faults.specs.declared.refused_solutions.Wrong.{Wrong}
 use Rattle.solution_reader.specs.declared.sofar.Sofar.{Sofar}
 use Rattle.solution_reader.specs.declared.spot.Spot.{Spot}
 use Rattle.solution_reader.specs.inner.Steps.{SofarData}

@@ -1,6 +1,6 @@
 //! What solutions that are given break.
 
-use modulo::Breach;
+use schedules::Breach;
 
 /// What lists of places and numbers break first, where they are no solution. Numbers count from 0.
 #[derive(Clone, Copy, Debug, PartialEq, Eq)]

@@ -14,9 +14,9 @@ use crate::values::files::{gather, value_at};
 use crate::values::lives::{files, lives_at, plain};
 use machine_data::OutOfMemory;
 use machine_data::limits::{MAX_INTERVAL, MAX_VALUES};
-use modulo::Schedule;
 use problems::{Draft, File, Problem};
 use registers::{Lifetime, first_meeting};
+use schedules::Schedule;
 use std::alloc::Global;
 
 impl<'a> Solution<'a> {

@@ -2,7 +2,7 @@
 
 ghost use Rattle.std.specs.Prelude.{◌≡◌, ◌<◌, ◌≤◌, length, replicate, None, IfOk};
 ghost use Rattle.machine_data.specs.declared.limits.TheConstants.{MAX_BUDGET, MAX_INTERVAL};
-ghost use Rattle.modulo.specs.Problems.{budget_of};
+ghost use Rattle.schedules.specs.Problems.{budget_of};
 ghost use Rattle.problems.specs.Drafts.{plain_values};
 ghost use Rattle.solutions.specs.Trying.{IsMet, IsTried};
 ghost use Rattle.solutions.specs.Outcomes.{IsPlacedAs, first_of, last_of};
@@ -16,9 +16,10 @@ use crate::values::lives::{files, lives_at, plain};
 use crate::values::numbers::fill_numbers;
 use machine_data::OutOfMemory;
 use machine_data::limits::MAX_STATEMENTS;
-use modulo::{Answer, Schedule, Try, answer_on, attempt_on};
+use modulo::{Answer, Try, answer_on, attempt_on};
 use mrt::{DefaultTable, ModuloTable};
 use problems::Problem;
+use schedules::Schedule;
 use std::alloc::Global;
 use std::marker::Model;
 
@@ -217,7 +218,7 @@ fn met_by<'a>(
 }
 
 /// How many placements an attempt may make.
-fn budget(scheduling: &modulo::Problem) -> u64
+fn budget(scheduling: &schedules::Problem) -> u64
     ensures value { result ≡ budget_of scheduling.now }
     ensures few { result ≤ MAX_BUDGET }
 {

@@ -3,7 +3,7 @@
 ghost use Rattle.std.specs.Prelude.{◌≡◌, ◌*◌, ◌<◌, ◌≤◌, length, map, max, IfOk};
 ghost use Rattle.std.specs.List.{All};
 ghost use Rattle.machine_data.specs.declared.limits.TheConstants.{MAX_LATENCY};
-ghost use Rattle.modulo.specs.Schedules.{stages_of};
+ghost use Rattle.schedules.specs.Schedules.{stages_of};
 ghost use Rattle.problems.specs.declared.draft.Value.{Value};
 ghost use Rattle.problems.specs.Drafts.{plain_values};
 ghost use Rattle.registers.specs.declared.value.Value.{Value as PlainValue};
@@ -11,9 +11,9 @@ ghost use Rattle.registers.specs.Values.{greatest_of, landing_of};
 ghost use Rattle.solutions.specs.Solutions.{last_operation, lives_at};
 
 use machine_data::OutOfMemory;
-use modulo::Schedule;
 use problems::{Problem, Value};
 use registers::{Lifetime, fill_lives};
+use schedules::Schedule;
 use std::alloc::Global;
 
 /// The values as registers take them.

@@ -1,8 +1,8 @@
 -- Why intervals that are tried one after another give no kernel, while they are tried.
 use Rattle.std.specs.Prelude.{◌≡◌, ℕ, ◌+◌, Bool, true, false, not, ◌&&◌, ◌||◌, List, [], ◌∷◌, ◌++◌, length}
 use Rattle.std.specs.List.{AllZip, list_any, range_with_len}
-use Rattle.ims.specs.Problems.{ProblemData, mii_of}
-use Rattle.ims.specs.Schedules.{ScheduleData}
+use Rattle.loop_schedules.specs.Problems.{ProblemData, mii_of}
+use Rattle.loop_schedules.specs.Schedules.{ScheduleData}
 use Rattle.registers.specs.declared.lifetime.Lifetime.{Lifetime}
 use Rattle.candidates.specs.declared.evidence.Reason.TheVariants as reason
 use Rattle.candidates.specs.Reasons.{FailsFor}

@@ -4,7 +4,7 @@ use Rattle.std.specs.List.{flat_map, zip}
 use Rattle.serde_json.specs.Data.{Data, string, array, object, member, no_members}
 use Rattle.serde_json.specs.View.{items_of}
 use Rattle.machine_data.specs.Machines.{MachineData}
-use Rattle.ims.specs.Problems.{ProblemData, mii_of}
+use Rattle.loop_schedules.specs.Problems.{ProblemData, mii_of}
 use Rattle.machine_variants.specs.declared.variant.Variant.{Variant}
 use Rattle.variants.specs.declared.found.finding.Standing.{Standing}
 use Rattle.variants.specs.declared.found.finding.Finding.{Finding}

@@ -9,7 +9,8 @@ ghost use Rattle.variants.specs.inner.Tries.{AreTries};
 
 use crate::found::finding::{Finding, LoopFindings};
 use crate::search::varied::{finding_of, standing_of};
-use ims::{Prepared, Try};
+use ims::Try;
+use loop_schedules::Prepared;
 use machine_data::{Machine, OutOfMemory};
 use machine_variants::{Variant, concerns, variants_of};
 use std::alloc::Global;

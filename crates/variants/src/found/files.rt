@@ -10,7 +10,7 @@ ghost use Rattle.variants.specs.Findings.{AreFindings, AreFound, IsOn};
 use crate::found::each::findings_of;
 use crate::found::finding::LoopFindings;
 use file_faults::FileFault;
-use ims::Prepared;
+use loop_schedules::Prepared;
 use loops::Loop;
 use machine::Machine;
 use machine_data::OutOfMemory;

@@ -1,13 +1,14 @@
 //! The interval of a loop with any number of registers.
 
 ghost use Rattle.std.specs.Prelude.{◌≤◌, ◌<◌, ◌+◌, vec_len, IfOk, MatchBool};
-ghost use Rattle.ims.specs.Problems.{mii_of};
+ghost use Rattle.loop_schedules.specs.Problems.{mii_of};
 ghost use Rattle.variants.specs.Intervals.{IsIntervalOf};
 ghost use Rattle.variants.specs.inner.Tries.{AreTries, IsCovered, IsFailing, IsGiving, with_registers};
 ghost use Rattle.machine_data.specs.declared.limits.TheConstants.{MAX_REGISTERS};
 
 use crate::search::tries::{add_try, gives};
-use ims::{Prepared, Try};
+use ims::Try;
+use loop_schedules::Prepared;
 use machine_data::OutOfMemory;
 use std::alloc::Global;
 

@@ -1,14 +1,15 @@
 //! The least number of registers with which a loop has its interval.
 
 ghost use Rattle.std.specs.Prelude.{◌≤◌, ◌<◌, ◌+◌, ℕ, length, Some, IfOk, MatchBool};
-ghost use Rattle.ims.specs.Problems.{mii_of};
+ghost use Rattle.loop_schedules.specs.Problems.{mii_of};
 ghost use Rattle.variants.specs.Intervals.{IsIntervalOf, IsLeastNumber};
 ghost use Rattle.variants.specs.Findings.{IsOn};
 ghost use Rattle.variants.specs.inner.Tries.{AreFailing, AreTries, IsGiving, with_registers};
 ghost use Rattle.machine_data.specs.declared.limits.TheConstants.{MAX_REGISTERS};
 
 use crate::search::tries::gives;
-use ims::{Prepared, Try};
+use ims::Try;
+use loop_schedules::Prepared;
 use machine_data::{Machine, OutOfMemory};
 use std::alloc::Global;
 

@@ -2,11 +2,12 @@
 
 ghost use Rattle.std.specs.Prelude.{◌≡◌, ◌≤◌, ◌<◌, ℕ, vec_len, IfOk, OnOk, MatchBool};
 ghost use Rattle.ims.specs.Attempts.{AnswersAttempt};
-ghost use Rattle.ims.specs.Problems.{ProblemData, IsProblem, budget_of};
+ghost use Rattle.loop_schedules.specs.Problems.{ProblemData, IsProblem, budget_of};
 ghost use Rattle.variants.specs.inner.Tries.{AreTries, IsFailing, IsGiving, with_registers};
 ghost use Rattle.machine_data.specs.declared.limits.TheConstants.{MAX_REGISTERS};
 
-use ims::{Prepared, Try, attempt};
+use ims::{Try, attempt};
+use loop_schedules::Prepared;
 use machine_data::OutOfMemory;
 use mrt::DefaultTable;
 use rotating::allot;

@@ -15,7 +15,7 @@ use crate::found::files::FileFindings;
 use crate::found::finding::LoopFindings;
 use crate::told::parts::{number_failed, number_met};
 use crate::told::values::{told_least, told_own, told_variants};
-use ims::Prepared;
+use loop_schedules::Prepared;
 use machine_data::{Machine, OutOfMemory};
 use machine_variants::{Variant, variants_of};
 use serde_json::{Value, json};

@@ -6,7 +6,7 @@ ghost use Rattle.variants.specs.declared.found.finding.Standing.{Standing};
 ghost use Rattle.variants.specs.Texts.{change_word, finding_text, loop_line, standing_text, variant_line, variant_text};
 
 use crate::found::finding::{Finding, Standing};
-use ims::Prepared;
+use loop_schedules::Prepared;
 use machine_data::{Machine, OutOfMemory};
 use machine_variants::{Variant, latency_of};
 use writing::{Text, push_both, push_told};

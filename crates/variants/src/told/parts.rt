@@ -11,7 +11,7 @@ ghost use Rattle.variants.specs.inner.Told.{found_line, found_lines, part_text};
 use crate::found::files::FileFindings;
 use crate::found::finding::{Finding, LoopFindings, Standing};
 use crate::told::lines::{push_line, push_loop};
-use ims::Prepared;
+use loop_schedules::Prepared;
 use machine_data::{Machine, OutOfMemory};
 use machine_variants::{Variant, variants_of};
 use std::alloc::Global;

@@ -5,7 +5,7 @@ use Rattle.machine.specs.Machines.{MachineData}
 use Rattle.loops.specs.Loops.{LoopData}
 use Rattle.loops.specs.Meaning.{loops_in}
 use Rattle.graph.specs.Units.{first_lacking}
-use Rattle.ims.specs.Problems.{ProblemData}
+use Rattle.loop_schedules.specs.Problems.{ProblemData}
 use Rattle.candidates.specs.declared.choices.Choice.{Choice}
 use Rattle.one_thread.specs.Files.{ArePrepared}
 use Rattle.workers.specs.Told.{AreToldApart, IsPart, Teller}

@@ -2,7 +2,7 @@
 
 use super::given::{MACHINE, SUM, named};
 use candidates::{Listing, Settings, listing_text, write_row};
-use ims::Prepared;
+use loop_schedules::Prepared;
 use loops::{Loop, LoopFault, LoopFaultKind, read_loops};
 use machine::{Machine, OutOfMemory, read_machine};
 use std::alloc::Global;

@@ -11,7 +11,7 @@ use super::gates::{Limited, Roll, came, once};
 use super::given::{LISTING, LOOPS, MACHINE};
 use board::{Board, WordBoard, WordPass};
 use candidates::{Choice, Listing, Pieces, Settings, listing_text};
-use ims::Prepared;
+use loop_schedules::Prepared;
 use std::alloc::{AllocError, Global};
 use std::fmt::Debug;
 use std::process::Abort;

@@ -1,5 +1,5 @@
 use Rattle.std.proofs.Common.{arith}
-use Rattle.ims.specs.Problems.{IsProblem}
+use Rattle.loop_schedules.specs.Problems.{IsProblem}
 use Rattle.board_workers.proofs.Sharing.{one_more}
 use Rattle.board_workers.proofs.run.know_problems.Goals as goal
 

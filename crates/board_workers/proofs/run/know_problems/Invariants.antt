@@ -1,4 +1,4 @@
-use Rattle.ims.specs.Problems.{IsProblem}
+use Rattle.loop_schedules.specs.Problems.{IsProblem}
 use Rattle.board_workers.proofs.Sharing.{FirstAre}
 use Rattle.board_workers.proofs.run.know_problems.Given as goal
 

@@ -1,6 +1,6 @@
 use Rattle.std.proofs.Common.{sym, ap, subst, arith, ◌+◌, ◌-◌, ◌≤◌, ◌≡◌, ◌∙◌, ℕ, suc, List, slice_index_or}
 use Rattle.std.proofs.lemmas.List.{get_or_read}
-use Rattle.ims.specs.Problems.{ProblemData, mii_of}
+use Rattle.loop_schedules.specs.Problems.{ProblemData, mii_of}
 use Rattle.reports.specs.Entries.{mii_at}
 use Rattle.board_workers.specs.inner.Turns.{EntersOne}
 use Rattle.reports.proofs.Least.{mii_there}

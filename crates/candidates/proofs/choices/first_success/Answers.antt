@@ -1,5 +1,5 @@
 use Rattle.std.proofs.Common.{◌+◌, ◌≤◌, ◌∙◌, subst, arith}
-use Rattle.ims.specs.Problems.{ProblemData}
+use Rattle.loop_schedules.specs.Problems.{ProblemData}
 use Rattle.candidates.specs.Outcomes.{FailsBy, Gives}
 use Rattle.candidates.proofs.Rising.{met_here, risen_on, unmet_here}
 use Rattle.candidates.proofs.choices.first_success.Goals as goal

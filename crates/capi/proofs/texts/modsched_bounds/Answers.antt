@@ -8,4 +8,4 @@ use Rattle.capi.proofs.texts.modsched_bounds.Goals as goal
 pub returns : goal.returns
 returns c =
     brought (AnswersFile IsBoundsText (machine_of c.args.machine.now) (loops_in c.args.loops.now))
-    c.bounded.result c.args.room.now c.tell.new.room c.tell.new.told c.tell.result c.bounded.ensures tt c.tell.ensures
+    c.bounds_alone.result c.args.room.now c.tell.new.room c.tell.new.told c.tell.result c.bounds_alone.ensures tt c.tell.ensures

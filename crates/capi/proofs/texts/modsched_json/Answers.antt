@@ -2,7 +2,7 @@ use Rattle.std.proofs.Common.{sym, ◌∙◌, inr}
 use Rattle.machine.specs.MachineText.{machine_of}
 use Rattle.loops.specs.Meaning.{loops_in}
 use Rattle.file_faults.specs.Answers.{AnswersFile}
-use Rattle.printouts.specs.Schedule.{IsListingDocument}
+use Rattle.json_printouts.specs.Documents.{IsListingDocument}
 use Rattle.capi.proofs.Texting.{brought}
 use Rattle.capi.proofs.texts.modsched_json.Goals as goal
 
@@ -10,6 +10,6 @@ pub returns : goal.returns
 returns c = inr (
   sym c.search_misfit-misfit.ensures ∙ c.if-misfit-ne0.false,
   brought (AnswersFile (IsListingDocument c.args.ratio c.args.ceiling) (machine_of c.args.machine.now) (loops_in c.args.loops.now))
-      c.documented-printed.result c.args.room.now c.tell.new.room c.tell.new.told c.tell.result
-      (rw (c.settings_of.ensures.ratio, c.settings_of.ensures.ceiling) at c.documented-printed.ensures) tt c.tell.ensures,
+      c.json_alone-printed.result c.args.room.now c.tell.new.room c.tell.new.told c.tell.result
+      (rw (c.settings_of.ensures.ratio, c.settings_of.ensures.ceiling) at c.json_alone-printed.ensures) tt c.tell.ensures,
 )

@@ -9,6 +9,6 @@ pub returns : goal.returns
 returns c = inr (
   sym c.trip_misfit-misfit.ensures ∙ c.if-misfit-ne0.false,
   brought (AnswersAlone (IsPlainText c.args.trip) (loops_in c.args.loops.now))
-      c.plain.result c.args.room.now c.tell.new.room c.tell.new.told c.tell.result
-      (rw c.trip_of.ensures at c.plain.ensures) tt c.tell.ensures,
+      c.plain_alone.result c.args.room.now c.tell.new.room c.tell.new.told c.tell.result
+      (rw c.trip_of.ensures at c.plain_alone.ensures) tt c.tell.ensures,
 )

@@ -10,6 +10,6 @@ pub returns : goal.returns
 returns c = inr (
   sym c.run_misfit-misfit.ensures ∙ c.if-misfit-ne0.false,
   brought (AnswersFile (IsRunText c.args.trip c.args.ratio c.args.ceiling) (machine_of c.args.machine.now) (loops_in c.args.loops.now))
-      c.run-printed.result c.args.room.now c.tell.new.room c.tell.new.told c.tell.result
-      (rw (c.trip_of.ensures, c.settings_of-settings.ensures.ratio, c.settings_of-settings.ensures.ceiling) at c.run-printed.ensures) tt c.tell.ensures,
+      c.run_alone-printed.result c.args.room.now c.tell.new.room c.tell.new.told c.tell.result
+      (rw (c.trip_of.ensures, c.settings_of-settings.ensures.ratio, c.settings_of-settings.ensures.ceiling) at c.run_alone-printed.ensures) tt c.tell.ensures,
 )

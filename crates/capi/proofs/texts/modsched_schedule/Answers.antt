@@ -10,6 +10,6 @@ pub returns : goal.returns
 returns c = inr (
   sym c.search_misfit-misfit.ensures ∙ c.if-misfit-ne0.false,
   brought (AnswersFile (IsListingText c.args.ratio c.args.ceiling) (machine_of c.args.machine.now) (loops_in c.args.loops.now))
-      c.scheduled-printed.result c.args.room.now c.tell.new.room c.tell.new.told c.tell.result
-      (rw (c.settings_of.ensures.ratio, c.settings_of.ensures.ceiling) at c.scheduled-printed.ensures) tt c.tell.ensures,
+      c.schedule_alone-printed.result c.args.room.now c.tell.new.room c.tell.new.told c.tell.result
+      (rw (c.settings_of.ensures.ratio, c.settings_of.ensures.ceiling) at c.schedule_alone-printed.ensures) tt c.tell.ensures,
 )

@@ -1,5 +1,5 @@
 use Rattle.std.proofs.Common.{ap, sym, subst, ◌+◌, ◌-◌, ◌≡◌, ◌<◌, ◌∙◌, ℕ, slice_index_or}
-use Rattle.ims.specs.Problems.{ProblemData, mii_of}
+use Rattle.loop_schedules.specs.Problems.{ProblemData, mii_of}
 use Rattle.reports.specs.Entries.{mii_at}
 use Rattle.collecting.proofs.Filling.{row_there, row_of, rows_set, row_put, put_fills, inside_row, split_at}
 use Rattle.reports.proofs.Least.{mii_there}

@@ -1,5 +1,5 @@
 use Rattle.std.proofs.Common.{subst, arith, ◌+◌, ◌≤◌, ◌∙◌}
-use Rattle.ims.specs.Problems.{mii_of}
+use Rattle.loop_schedules.specs.Problems.{mii_of}
 use Rattle.candidates.specs.Outcomes.{Gives}
 use Rattle.collecting.proofs.Climbing.{climbed_on, met_here, count_met, unmet_here}
 use Rattle.collecting.proofs.climbs.climb.Goals as goal

@@ -1,5 +1,5 @@
 use Rattle.graph.specs.Units.{first_without_table}
-use Rattle.ims.specs.Problems.{IsProblemOf}
+use Rattle.loop_schedules.specs.Problems.{IsProblemOf}
 use Rattle.explain.proofs.Parts.{part-answer, prepared-ok}
 use Rattle.explain.proofs.file.push_loop.Goals as goal
 

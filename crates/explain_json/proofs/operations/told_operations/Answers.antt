@@ -1,5 +1,5 @@
 use Rattle.std.proofs.Common.{length, ap, ◌∙◌, subst}
-use Rattle.ims.specs.Problems.{ProblemData}
+use Rattle.loop_schedules.specs.Problems.{ProblemData}
 use Rattle.told_choices.specs.Told.{HasEvidence}
 use Rattle.told_choices.specs.declared.chosen.Chosen.{Chosen}
 use Rattle.explain_json.proofs.operations.told_operations.Goals as goal

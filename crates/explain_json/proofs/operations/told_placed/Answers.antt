@@ -1,7 +1,7 @@
 use Rattle.std.proofs.Common.{rules, ◌≡◌, ◌∙◌, ap}
 use Rattle.std.specs.Prelude.{slice_index}
 use Rattle.serde_json.specs.View.{view}
-use Rattle.ims.specs.Schedules.{row_of, stage_of}
+use Rattle.loop_schedules.specs.Schedules.{row_of, stage_of}
 use Rattle.explain_json.specs.Parts.{count_value}
 use Rattle.explain_json.specs.inner.Objects.{operation_members}
 use Rattle.explain_json.proofs.operations.told_placed.Goals as goal

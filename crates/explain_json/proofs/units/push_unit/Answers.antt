@@ -2,7 +2,7 @@ use Rattle.std.proofs.Common.{◌≡◌, ◌∙◌, ℕ, zero, suc, List, [], �
 use Rattle.serde_json.specs.Data.{Data}
 use Rattle.serde_json.specs.View.{view}
 use Rattle.machine_data.specs.Machines.{MachineData}
-use Rattle.ims.specs.Problems.{ProblemData}
+use Rattle.loop_schedules.specs.Problems.{ProblemData}
 use Rattle.explain_json.specs.Units.{unit_objects}
 use Rattle.explain_json.specs.inner.Objects.{unit_object}
 use Rattle.explain_json.proofs.Lists.{pushed}

@@ -3,7 +3,7 @@ use Rattle.std.specs.Prelude.{slice_index}
 use Rattle.std.proofs.lemmas.List.{take_all, take_more}
 use Rattle.graph.specs.Dependences.{EdgeData}
 use Rattle.graph.specs.Graphs.{GraphData}
-use Rattle.ims.specs.Problems.{ProblemData}
+use Rattle.loop_schedules.specs.Problems.{ProblemData}
 use Rattle.overlap.specs.Lifetimes.{last_landing}
 use Rattle.figures.proofs.Later.{IsSlackBy, all-out, is-latent, is-timed, landing-at, slack-end, slack-init, slack-kept, slack-lowered}
 use Rattle.figures.proofs.slacks.slack_of.Goals as goal

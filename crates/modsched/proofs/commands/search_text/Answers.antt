@@ -5,7 +5,8 @@ use Rattle.command_line.specs.declared.command.Search as search
 use Rattle.file_faults.specs.Answers.{AnswersOn}
 use Rattle.one_thread.specs.Files.{PreparesAndLists}
 use Rattle.printouts.specs.Run.{IsRunText}
-use Rattle.printouts.specs.Schedule.{IsListingDocument, IsListingText}
+use Rattle.json_printouts.specs.Documents.{IsListingDocument}
+use Rattle.printouts.specs.Schedule.{IsListingText}
 use Rattle.modsched.specs.Engine.{IsSearchText}
 use Rattle.modsched.proofs.Searched.{of_loops, on_loops}
 use Rattle.modsched.proofs.commands.search_text.Goals as goal

@@ -3,7 +3,7 @@ use Rattle.std.specs.Prelude.{codes, slice_index}
 use Rattle.std.proofs.lemmas.Result.{on_ok_weaker}
 use Rattle.graph.specs.Graphs.{GraphData}
 use Rattle.writing.proofs.Beginnings.{two_pushed}
-use Rattle.modulo.specs.Problems.{ProblemData as SchedulingData}
+use Rattle.schedules.specs.Problems.{ProblemData as SchedulingData}
 use Rattle.problems.specs.declared.draft.Draft.{Draft}
 use Rattle.writing.specs.Words.{told}
 use Rattle.problem_graphs.specs.Edges.{numbered}

@@ -2,7 +2,7 @@ use Rattle.std.proofs.Common.{◌≡◌, true, length, map}
 use Rattle.problem_lines.specs.Fits.{surplus}
 use Rattle.problem_lines.specs.Lines.{places_fault, unit_places}
 use Rattle.loop_lines.specs.Columns.{Placed}
-use Rattle.problem_lines.specs.declared.fault.Expected.TheVariants.{UnitName}
+use Rattle.problem_faults.specs.declared.expected.Expected.TheVariants.{UnitName}
 use Rattle.problem_lines.specs.inner.Cursors.{are_unit_names}
 use Rattle.problem_lines.proofs.lists.take_units.Given as goal
 

@@ -2,7 +2,7 @@ use Rattle.std.proofs.Common.{◌≡◌, ◌∙◌, ap, sym, subst, Option, Some
 use Rattle.loop_lines.specs.Columns.{Placed}
 use Rattle.solution_reader.specs.Data.{number_of_name}
 use Rattle.solution_reader.specs.Resolved.{solution_at}
-use Rattle.solution_reader.specs.declared.fault.SolutionFault.{SolutionFault}
+use Rattle.problem_faults.specs.declared.refused_solutions.SolutionFault.{SolutionFault}
 use Rattle.problem_printouts.specs.Judging.{problem_names}
 use Rattle.problem_printouts.proofs.Named.{known-below}
 use Rattle.problem_printouts.proofs.Strangers.{unknown-by-draft}

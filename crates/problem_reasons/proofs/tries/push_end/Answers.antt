@@ -2,8 +2,8 @@ use Rattle.std.proofs.Common.{◌≡◌, ℕ, ◌-◌, ◌++◌, List, [], refl,
 use Rattle.std.specs.List.{AllZip, range_with_len}
 use Rattle.std.proofs.lemmas.List.{append-nil}
 use Rattle.std.proofs.lemmas.Result.{on_ok_weaker}
-use Rattle.modulo.specs.Problems.{ProblemData as SchedulingData}
-use Rattle.modulo.specs.Schedules.{stages_of}
+use Rattle.schedules.specs.Problems.{ProblemData as SchedulingData}
+use Rattle.schedules.specs.Schedules.{stages_of}
 use Rattle.reason_lines.specs.Least.{is_least_possible, least_line}
 use Rattle.solutions.specs.declared.solving.outcome.Outcome.{Outcome}
 use Rattle.solutions.specs.declared.solving.tried.Failure.{Failure}

@@ -3,7 +3,7 @@ use Rattle.std.specs.Prelude.{nat_lt}
 use Rattle.problem_lines.specs.Seen.{word_seen}
 use Rattle.problem_tables.specs.Faults.{on_word, unless}
 use Rattle.problem_tables.specs.Names.{index_of}
-use Rattle.problem_tables.specs.declared.fault.Wrong.TheVariants.{Unknown}
+use Rattle.problem_faults.specs.declared.refused_problems.Wrong.TheVariants.{Unknown}
 use Rattle.problem_tables.proofs.Naming.{below-has}
 use Rattle.problem_tables.proofs.judging.known_fault.Goals as goal
 

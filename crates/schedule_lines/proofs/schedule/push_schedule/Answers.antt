@@ -1,7 +1,7 @@
 use Rattle.std.proofs.Common.{◌≡◌, ◌-◌, ℕ, List, ◌++◌, ap, ◌∙◌}
 use Rattle.loop_data.specs.Loops.{LoopData}
 use Rattle.machine_data.specs.Machines.{MachineData}
-use Rattle.ims.specs.Schedules.{ScheduleData, stages_of}
+use Rattle.loop_schedules.specs.Schedules.{ScheduleData, stages_of}
 use Rattle.registers.specs.declared.lifetime.Lifetime.{Lifetime}
 use Rattle.overlap.specs.Allotments.{AllotmentData}
 use Rattle.overlap.specs.Lifetimes.{lifetimes_of}

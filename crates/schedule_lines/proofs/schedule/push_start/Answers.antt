@@ -1,6 +1,6 @@
 use Rattle.std.proofs.Common.{◌-◌, ℕ, List, ◌++◌, ap, ◌∙◌}
 use Rattle.std.proofs.lemmas.Result.{on_ok_weaker}
-use Rattle.ims.specs.Schedules.{stages_of}
+use Rattle.loop_schedules.specs.Schedules.{stages_of}
 use Rattle.schedule_lines.specs.ScheduleTexts.{iteration_line, op_lines, turns_line}
 use Rattle.schedule_lines.proofs.Joined.{joined}
 use Rattle.schedule_lines.proofs.schedule.push_start.Goals as goal

@@ -2,7 +2,7 @@ use Rattle.std.proofs.Common.{◌≡◌, ◌++◌, ℕ, List, ap, ap₂, ◌∙�
 use Rattle.std.specs.Prelude.{slice_index}
 use Rattle.graph_text.proofs.Texts.{numbered-more}
 use Rattle.loop_data.specs.Loops.{LoopData}
-use Rattle.ims.specs.Problems.{ProblemData}
+use Rattle.loop_schedules.specs.Problems.{ProblemData}
 use Rattle.scheduled_graphs.specs.Nodes.{placed_line}
 use Rattle.scheduled_graphs.proofs.nodes.push_all_placed.Goals as goal
 

@@ -1,6 +1,6 @@
 use Rattle.std.proofs.Common.{[], sym, subst}
 use Rattle.std.proofs.lemmas.List.{append-nil}
-use Rattle.ims.specs.Problems.{ProblemData}
+use Rattle.loop_schedules.specs.Problems.{ProblemData}
 use Rattle.scheduled_printouts.specs.Graphs.{IsDrawn}
 use Rattle.scheduled_printouts.proofs.Drawing.{drawn-next, drawn-none}
 use Rattle.scheduled_printouts.proofs.graphs.push_all.Goals as goal

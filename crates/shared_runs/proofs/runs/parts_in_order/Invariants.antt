@@ -1,5 +1,5 @@
 use Rattle.std.proofs.Common.{◌≡◌, ◌<◌, ℕ, length, get_or}
-use Rattle.ims.specs.Problems.{ProblemData}
+use Rattle.loop_schedules.specs.Problems.{ProblemData}
 use Rattle.candidates.specs.declared.listings.Row as row
 use Rattle.printouts.specs.Run.{choice_lines}
 use Rattle.text_parts.specs.declared.part.Part.{Part}

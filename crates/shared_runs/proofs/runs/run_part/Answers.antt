@@ -1,5 +1,5 @@
 use Rattle.std.proofs.Common.{◌≡◌, ◌∙◌, ◌++◌, ℕ, List, length, get_or, sym, subst, ap, ap₂, arith}
-use Rattle.ims.specs.Problems.{ProblemData}
+use Rattle.loop_schedules.specs.Problems.{ProblemData}
 use Rattle.candidates.specs.declared.listings.Row as row
 use Rattle.candidates.specs.Choices.{IsChoice}
 use Rattle.candidates.specs.Listings.{IsRow}

@@ -2,7 +2,7 @@ use Rattle.std.proofs.Common.{◌≡◌, ◌%◌, ◌∙◌, ℕ, List, ap, refl
 use Rattle.std.specs.Prelude.{codes, IfOk, slice_index}
 use Rattle.serde_json.specs.Data.{Data, no_members, object, put, string}
 use Rattle.serde_json.specs.View.{members_view, view}
-use Rattle.modulo.specs.Schedules.{stage_of}
+use Rattle.schedules.specs.Schedules.{stage_of}
 use Rattle.problems.specs.declared.draft.Draft.{Draft}
 use Rattle.problems.specs.Problems.{ProblemData}
 use Rattle.solutions.specs.Solutions.{SolutionData, schedule_of}

@@ -3,7 +3,7 @@ use Rattle.std.specs.Prelude.{codes, IfOk}
 use Rattle.serde_json.specs.Data.{Members, no_members, put, string}
 use Rattle.serde_json.specs.View.{members_view, view}
 use Rattle.graph.specs.Dependences.{EdgeData}
-use Rattle.modulo.specs.Problems.{ProblemData as SchedulingData, mii_of}
+use Rattle.schedules.specs.Problems.{ProblemData as SchedulingData, mii_of}
 use Rattle.problems.specs.declared.draft.Draft.{Draft}
 use Rattle.problems.specs.Problems.{ProblemData}
 use Rattle.solution_text.specs.Names.{name_in}

@@ -2,7 +2,7 @@ use Rattle.std.proofs.Common.{refl, sym, subst}
 use Rattle.std.proofs.lemmas.Result.{on_ok_weaker}
 use Rattle.serde_json.specs.View.{view}
 use Rattle.serde_json.specs.Written.{compact_text}
-use Rattle.modulo.specs.Problems.{ProblemData as SchedulingData}
+use Rattle.schedules.specs.Problems.{ProblemData as SchedulingData}
 use Rattle.outcome_text.specs.Notes.{AreFullest, IsCircuitOf}
 use Rattle.solution_json.proofs.Whole.{object-whole}
 use Rattle.solution_json.proofs.outcome.push_told.Goals as goal

@@ -3,7 +3,7 @@ use Rattle.std.specs.Prelude.{codes, IfOk}
 use Rattle.std.specs.Option.{option_copied}
 use Rattle.serde_json.specs.Data.{object, put, string}
 use Rattle.serde_json.specs.View.{view}
-use Rattle.modulo.specs.Problems.{ProblemData as SchedulingData, mii_of}
+use Rattle.schedules.specs.Problems.{ProblemData as SchedulingData, mii_of}
 use Rattle.problems.specs.declared.draft.Draft.{Draft}
 use Rattle.solutions.specs.Outcomes.{last_of}
 use Rattle.solution_json.specs.Failures.{culprit_value}

@@ -1,6 +1,6 @@
 use Rattle.std.proofs.Common.{subst, sym}
 use Rattle.solution_reader.specs.Meaning.{solutions_in_text, AnswersFault, AnswersText}
-use Rattle.solution_reader.specs.declared.fault.SolutionFault.{SolutionFault}
+use Rattle.problem_faults.specs.declared.refused_solutions.SolutionFault.{SolutionFault}
 use Rattle.solution_reader.proofs.Lines.{too_long, not_long}
 use Rattle.solution_reader.proofs.read.read_solutions.Goals as goal
 

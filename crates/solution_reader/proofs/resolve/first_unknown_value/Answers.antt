@@ -3,7 +3,7 @@ use Rattle.std.specs.Option.{option_map}
 use Rattle.problem_lines.specs.Seen.{word_seen}
 use Rattle.solution_reader.specs.Data.{ValueData}
 use Rattle.solution_reader.specs.Resolved.{unknown_at}
-use Rattle.solution_reader.specs.declared.fault.Part.TheVariants as part
+use Rattle.problem_faults.specs.declared.refused_solutions.Part.TheVariants as part
 use Rattle.solution_reader.specs.declared.rows.ValueNumber.{ValueNumber}
 use Rattle.solution_reader.specs.inner.Found.{is_among}
 use Rattle.solution_reader.specs.inner.Seen.{value_seen}

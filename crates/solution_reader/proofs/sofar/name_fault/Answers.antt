@@ -2,8 +2,8 @@ use Rattle.std.proofs.Common.{◌≡◌, ◌∙◌, sym, ap, true, length, Some,
 use Rattle.solution_reader.specs.Data.{has_name}
 use Rattle.solution_reader.specs.Faults.{room_at}
 use Rattle.solution_reader.specs.declared.fault.Told.{Told}
-use Rattle.solution_reader.specs.declared.fault.Wrong.{Wrong}
-use Rattle.solution_reader.specs.declared.fault.Wrong.TheVariants as wrong
+use Rattle.problem_faults.specs.declared.refused_solutions.Wrong.{Wrong}
+use Rattle.problem_faults.specs.declared.refused_solutions.Wrong.TheVariants as wrong
 use Rattle.solution_reader.specs.inner.Taken.{on_spot}
 use Rattle.solution_reader.proofs.sofar.name_fault.Goals as goal
 

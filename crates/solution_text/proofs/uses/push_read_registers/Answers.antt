@@ -1,6 +1,6 @@
 use Rattle.std.proofs.Common.{◌≡◌, ℕ, ◌+◌, ◌<◌, ◌≤◌, List, ap, sym, ◌∙◌, arith, length, slice_index, subst}
 use Rattle.std.proofs.lemmas.List.{get_or-map, length-map}
-use Rattle.modulo.specs.Schedules.{stage_of}
+use Rattle.schedules.specs.Schedules.{stage_of}
 use Rattle.solutions.specs.Solutions.{schedule_of}
 use Rattle.problems.specs.declared.draft.Draft.{Draft}
 use Rattle.problems.specs.Problems.{ProblemData}

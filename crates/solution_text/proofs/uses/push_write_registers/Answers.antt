@@ -1,7 +1,7 @@
 use Rattle.std.proofs.Common.{◌≡◌, ℕ, ◌+◌, ◌++◌, ◌<◌, ◌≤◌, Option, ap, sym, ◌∙◌, arith, length, slice_index, subst}
 use Rattle.std.proofs.lemmas.List.{length-map}
 use Rattle.instances.specs.Runs.{home_of}
-use Rattle.modulo.specs.Schedules.{stage_of}
+use Rattle.schedules.specs.Schedules.{stage_of}
 use Rattle.problems.specs.declared.draft.Draft.{Draft}
 use Rattle.problems.specs.declared.draft.Value.{Value}
 use Rattle.problems.specs.Problems.{ProblemData}

@@ -1,5 +1,5 @@
 use Rattle.std.proofs.Common.{◌≡◌, map, take}
-use Rattle.ims.specs.Problems.{ProblemData}
+use Rattle.loop_schedules.specs.Problems.{ProblemData}
 use Rattle.workers.proofs.pieces.names_of.Given as goal
 
 abbrev pub invariant-loop-one : goal.invariant-loop-one

@@ -3,7 +3,7 @@ use Rattle.std.specs.List.{All}
 use Rattle.loop_data.specs.Loops.{LoopData}
 use Rattle.modulo.specs.declared.outcome.attempts.Culprit.{Culprit}
 use Rattle.ims.specs.Culprits.{AnswersCulprit}
-use Rattle.ims.specs.Problems.{budget_of}
+use Rattle.loop_schedules.specs.Problems.{budget_of}
 use Rattle.explain.proofs.Reasoned.{op-there, ops-there}
 use Rattle.explain.proofs.intervals.reason_texts.push_culprit.Goals as goal
 

@@ -1,7 +1,7 @@
 use Rattle.std.proofs.Common.{◌-◌, ◌≤◌, ◌++◌, ℕ, List, ap, subst}
 use Rattle.std.specs.List.{AllZip, range_with_len}
 use Rattle.std.proofs.lemmas.Result.{on_ok_weaker}
-use Rattle.ims.specs.Problems.{mii_of}
+use Rattle.loop_schedules.specs.Problems.{mii_of}
 use Rattle.told_choices.specs.declared.why.Why.{Why}
 use Rattle.told_choices.specs.Whys.{FailsAs}
 use Rattle.told_choices.specs.Holds.{IsHold}

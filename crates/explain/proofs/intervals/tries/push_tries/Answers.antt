@@ -1,7 +1,7 @@
 use Rattle.std.proofs.Common.{◌++◌, map, refl}
 use Rattle.std.proofs.lemmas.Result.{on_ok_weaker}
 use Rattle.writing.proofs.Beginnings.{two_pushed}
-use Rattle.ims.specs.Problems.{mii_of}
+use Rattle.loop_schedules.specs.Problems.{mii_of}
 use Rattle.reason_lines.specs.Runs.{runs_text}
 use Rattle.explain.specs.Tries.{why_text}
 use Rattle.explain.proofs.intervals.tries.push_tries.Goals as goal

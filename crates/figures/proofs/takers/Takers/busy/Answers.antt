@@ -2,7 +2,7 @@ use Rattle.std.proofs.Common.{◌≡◌, ℕ, Bool, ap, ◌∙◌, arith}
 use Rattle.std.specs.Prelude.{count_by, is_some}
 use Rattle.std.specs.Int.{from_bool}
 use Rattle.std.specs.List.{range_with_len}
-use Rattle.ims.specs.Schedules.{ScheduleData}
+use Rattle.loop_schedules.specs.Schedules.{ScheduleData}
 use Rattle.figures.specs.Slots.{busy_count, slot_taker}
 use Rattle.figures.proofs.Busy.{bit-few, count-more}
 use Rattle.figures.proofs.takers.Takers.busy.Goals as goal

@@ -1,6 +1,6 @@
 use Rattle.std.proofs.Common.{◌≤◌, sym, subst}
 use Rattle.modulo.specs.Attempts as attempts
-use Rattle.modulo.specs.Problems as problems
+use Rattle.schedules.specs.Problems as problems
 use Rattle.ims.proofs.outcome.attempts.attempt.Goals as goal
 
 pub attempt-requires-clause-from_mii : goal.attempt-requires-clause-from_mii

@@ -1,6 +1,6 @@
 use Rattle.std.proofs.Common.{◌≤◌, sym, subst}
 use Rattle.modulo.specs.Attempts as attempts
-use Rattle.modulo.specs.Problems as problems
+use Rattle.schedules.specs.Problems as problems
 use Rattle.ims.proofs.outcome.attempts.attempt_on.Goals as goal
 
 pub attempt_on-requires-clause-from_mii : goal.attempt_on-requires-clause-from_mii

@@ -1,7 +1,7 @@
 use Rattle.std.proofs.Common.{subst}
 use Rattle.modulo.specs.declared.outcome.attempts.Try as answer
 use Rattle.modulo.specs.Attempts as attempts
-use Rattle.ims.specs.Problems.{without_loop}
+use Rattle.loop_schedules.specs.Problems.{without_loop}
 use Rattle.ims.proofs.outcome.attempts.of_loop.Goals as goal
 
 pub of_loop-requires : goal.of_loop-requires

@@ -2,8 +2,8 @@ use Rattle.std.proofs.Common.{subst}
 use Rattle.graph.specs.Units.{first_lacking}
 use Rattle.file_faults.specs.Answers.{AnswersIn}
 use Rattle.one_thread.specs.Files.{PreparesAndLists}
-use Rattle.printouts.specs.Schedule.{IsListingDocument}
-use Rattle.printouts.proofs.Told.{told_document}
+use Rattle.json_printouts.specs.Documents.{IsListingDocument}
+use Rattle.json_printouts.proofs.Told.{told_document}
 use Rattle.side_by_side.proofs.Answered.{right_more}
 use Rattle.modsched.proofs.commands.searches.json_text.Goals as goal
 

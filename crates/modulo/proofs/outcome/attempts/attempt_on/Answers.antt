@@ -1,7 +1,7 @@
 use Rattle.std.proofs.Common.{ℕ, ◌≤◌, sym, subst, arith}
 use Rattle.graph.specs.Schedules.{IsLawfulSchedule}
 use Rattle.modulo.specs.inner.Endings.{EndsAs}
-use Rattle.modulo.specs.Problems.{mii_of}
+use Rattle.schedules.specs.Problems.{mii_of}
 use Rattle.modulo.proofs.answers.Blaming.{mii-some}
 use Rattle.modulo.proofs.states.Reached.{attempts-are_lawful}
 use Rattle.modulo.proofs.outcome.attempts.attempt_on.Goals as goal

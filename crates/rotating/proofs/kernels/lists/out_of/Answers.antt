@@ -1,7 +1,7 @@
 use Rattle.std.proofs.Common.{◌≡◌, ◌<◌, ◌+◌, ◌-◌, ◌%◌, ap, ◌∙◌, arith}
 use Rattle.loop_data.specs.Loops.{LoopData}
-use Rattle.ims.specs.Problems.{ProblemData}
-use Rattle.ims.specs.Schedules.{stages_of}
+use Rattle.loop_schedules.specs.Problems.{ProblemData}
+use Rattle.loop_schedules.specs.Schedules.{stages_of}
 use Rattle.overlap.specs.Allotments.{allotted_number}
 use Rattle.overlap.specs.Emission.{name_of, name_of_value}
 use Rattle.loop_data.proofs.Instances.{slice_get-within}

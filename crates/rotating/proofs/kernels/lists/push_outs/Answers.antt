@@ -2,7 +2,7 @@ use Rattle.std.proofs.Common.{◌≡◌, ◌<◌, ℕ, List, length, sym, ap, �
 use Rattle.std.specs.List.{slice_index_or}
 use Rattle.std.proofs.lemmas.List.Elements.{All-get_or}
 use Rattle.loop_data.specs.Loops.{LoopData, GivesValue, HasInitial}
-use Rattle.ims.specs.Problems.{ProblemData}
+use Rattle.loop_schedules.specs.Problems.{ProblemData}
 use Rattle.rotating.proofs.kernels.lists.push_outs.Goals as goal
 
 pub out_of-requires-clause-value : goal.out_of-requires-clause-value

@@ -4,7 +4,7 @@ use Rattle.loop_data.specs.declared.language.statement.Statement.{Statement}
 use Rattle.overlap.specs.Allotments.{allotted_number}
 use Rattle.overlap.specs.Lifetimes.{rank_of}
 use Rattle.loop_data.specs.Loops.{LoopData}
-use Rattle.ims.specs.Problems.{ProblemData}
+use Rattle.loop_schedules.specs.Problems.{ProblemData}
 use Rattle.rotating.proofs.emitted.Ranks.{rank-yes, rank-no, past-zero, table-more}
 use Rattle.rotating.proofs.kernels.naming.fill_numbers.Goals as goal
 use Rattle.rotating.proofs.kernels.naming.fill_numbers.Goals.{then-rank-numbers, else-rank-numbers, then-is_some, else-is_some}

@@ -2,7 +2,7 @@ use Rattle.std.proofs.Common.{◌≡◌, ◌+◌, ◌<◌, ℕ, List, ◌++◌, 
 use Rattle.std.specs.Prelude.{is_some, flat_map}
 use Rattle.loop_data.specs.declared.language.statement.Statement.{Statement}
 use Rattle.loop_data.specs.Loops.{LoopData}
-use Rattle.ims.specs.Problems.{ProblemData}
+use Rattle.loop_schedules.specs.Problems.{ProblemData}
 use Rattle.kernel.specs.declared.kernels.parts.Preload.{Preload}
 use Rattle.overlap.specs.Emission.{preloads_from}
 use Rattle.overlap.specs.Lifetimes.{carried, values_from}

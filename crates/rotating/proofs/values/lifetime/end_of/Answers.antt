@@ -1,5 +1,5 @@
 use Rattle.std.proofs.Common.{rules, ◌≡◌, ◌≤◌, ◌*◌, ap, ◌∙◌, arith}
-use Rattle.ims.specs.Schedules.{stages_of}
+use Rattle.loop_schedules.specs.Schedules.{stages_of}
 use Rattle.rotating.proofs.lives.Spans.{end-few, landing-few}
 use Rattle.rotating.proofs.values.lifetime.end_of.Goals as goal
 

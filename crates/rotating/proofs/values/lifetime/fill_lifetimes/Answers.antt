@@ -1,6 +1,6 @@
 use Rattle.std.proofs.Common.{◌≡◌, ◌<◌, max, subst, ◌++◌, [], length, map, take, drop, sym, ap, ◌∙◌, arith, append-nil}
 use Rattle.loop_data.specs.Loops.{LoopData}
-use Rattle.ims.specs.Problems.{ProblemData}
+use Rattle.loop_schedules.specs.Problems.{ProblemData}
 use Rattle.std.specs.Prelude.{if◌then◌else◌}
 use Rattle.graph.specs.Units.{greatest_of}
 use Rattle.rotating.proofs.emitted.Ranks.{zero-at}

@@ -1,6 +1,6 @@
 use Rattle.std.proofs.Common.{◌≡◌, ℕ, ◌*◌, max, ap, ◌∙◌, arith}
 use Rattle.std.specs.Prelude.{if◌then◌else◌}
-use Rattle.ims.specs.Schedules.{stages_of}
+use Rattle.loop_schedules.specs.Schedules.{stages_of}
 use Rattle.overlap.specs.Lifetimes.{is_out, first_cycle, last_cycle, last_landing}
 use Rattle.rotating.proofs.lives.Spans.{read-last}
 use Rattle.rotating.proofs.values.lifetime.lifetime_of.Goals as goal

@@ -1,7 +1,7 @@
 use Rattle.std.proofs.Common.{◌≡◌, ◌<◌, ◌+◌, ℕ, max, subst, ◌++◌, ◌∷◌, [], List, length, get_or, map, drop, true, false, sym, ap, ◌∙◌, arith, append-nil, append_assoc}
 use Rattle.loop_data.specs.Loops.{LoopData}
 use Rattle.loop_data.specs.declared.language.statement.Statement.{Statement}
-use Rattle.ims.specs.Problems.{ProblemData}
+use Rattle.loop_schedules.specs.Problems.{ProblemData}
 use Rattle.std.specs.Prelude.{is_some, if◌then◌else◌}
 use Rattle.graph.specs.Units.{greatest_of}
 use Rattle.rotating.proofs.emitted.Ranks.{zero-at, values-yes, values-no}

@@ -3,7 +3,7 @@ use Rattle.std.specs.Prelude.{slice_index}
 use Rattle.graph.specs.Units.{greatest_of}
 use Rattle.loop_data.specs.declared.language.statement.Statement.{Statement}
 use Rattle.loop_data.specs.Loops.{LoopData}
-use Rattle.ims.specs.Problems.{ProblemData}
+use Rattle.loop_schedules.specs.Problems.{ProblemData}
 use Rattle.overlap.specs.Lifetimes.{Use, read_at, uses_from}
 use Rattle.rotating.specs.inner.Uses.{greatest_in}
 use Rattle.rotating.proofs.lives.Greatest.{drop-at, uses-more}

@@ -1,7 +1,7 @@
 use Rattle.std.proofs.Common.{of_calls, rules}
 use Rattle.loops.specs.Meaning.{loops_in}
-use Rattle.printouts.specs.Schedule.{IsListingDocument}
-use Rattle.printouts.proofs.Told.{told_document}
+use Rattle.json_printouts.specs.Documents.{IsListingDocument}
+use Rattle.json_printouts.proofs.Told.{told_document}
 use Rattle.side_by_side.proofs.Documents.{JoinsObjects, document_is, shown_objects}
 use Rattle.side_by_side.proofs.Texts.{few_told, written_apart, written_whole}
 use Rattle.side_by_side.proofs.commands.documents.document_text_of.Goals as goal

@@ -1,6 +1,6 @@
 use Rattle.std.proofs.Common.{◌∙◌, subst}
 use Rattle.std.proofs.lemmas.List.{get_or_default}
-use Rattle.ims.specs.Problems.{ProblemData}
+use Rattle.loop_schedules.specs.Problems.{ProblemData}
 use Rattle.explain_printouts.specs.ExplainDocuments.{IsObjectOf}
 use Rattle.side_by_side.proofs.commands.objects.object_part.Goals as goal
 

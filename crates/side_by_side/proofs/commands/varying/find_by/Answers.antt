@@ -2,7 +2,7 @@ use Rattle.std.proofs.Common.{◌≡◌, List, length, sym, subst, ap, arith}
 use Rattle.std.specs.List.{All, AllZip}
 use Rattle.graph.specs.Units.{first_lacking}
 use Rattle.file_faults.proofs.Answering.{on_none, on_ok}
-use Rattle.ims.specs.Problems.{ProblemData}
+use Rattle.loop_schedules.specs.Problems.{ProblemData}
 use Rattle.one_thread.specs.Files.{Prepares}
 use Rattle.one_thread.proofs.Listed.{prepared_long}
 use Rattle.variants.specs.Findings.{AreFindings, AreFound, IsOn}

@@ -1,8 +1,8 @@
 use Rattle.std.proofs.Common.{◌≡◌, ◌∙◌, ap, sym, false, rules, Some}
 use Rattle.problem_lines.specs.SolutionParsed.{solution_form_seen}
 use Rattle.solution_reader.specs.declared.fault.Told.{Told}
-use Rattle.solution_reader.specs.declared.fault.Wrong.{Wrong}
-use Rattle.solution_reader.specs.declared.fault.Wrong.TheVariants as wrong
+use Rattle.problem_faults.specs.declared.refused_solutions.Wrong.{Wrong}
+use Rattle.problem_faults.specs.declared.refused_solutions.Wrong.TheVariants as wrong
 use Rattle.solution_reader.specs.inner.Steps.{may_stand}
 use Rattle.solution_reader.specs.inner.Taken.{sofar_seen}
 use Rattle.solution_reader.proofs.sofar.Sofar.take_line.Goals as goal

@@ -1,6 +1,6 @@
 use Rattle.std.proofs.Common.{ap, ◌∙◌, subst}
-use Rattle.modulo.specs.Problems.{ProblemData as SchedulingData}
-use Rattle.modulo.specs.Schedules.{as_listed}
+use Rattle.schedules.specs.Problems.{ProblemData as SchedulingData}
+use Rattle.schedules.specs.Schedules.{as_listed}
 use Rattle.problems.specs.declared.draft.Draft.{Draft}
 use Rattle.solutions.specs.Breaks.{AreRight}
 use Rattle.solutions.proofs.Judged.{judged}

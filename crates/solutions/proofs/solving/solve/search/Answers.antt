@@ -1,5 +1,5 @@
 use Rattle.std.proofs.Common.{◌≡◌, ◌+◌, ◌≤◌, sym, ap, ◌∙◌, subst, arith}
-use Rattle.modulo.specs.Problems.{ProblemData as SchedulingData, mii_of}
+use Rattle.schedules.specs.Problems.{ProblemData as SchedulingData, mii_of}
 use Rattle.problems.specs.Problems.{ProblemData}
 use Rattle.solutions.specs.Failures.{FailsFor}
 use Rattle.solutions.specs.Outcomes.{Gives, first_of}

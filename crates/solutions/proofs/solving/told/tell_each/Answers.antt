@@ -1,5 +1,5 @@
 use Rattle.std.proofs.Common.{◌≡◌, ◌+◌, ◌≤◌, List, sym, ap, ◌∙◌, subst, arith}
-use Rattle.modulo.specs.Problems.{ProblemData as SchedulingData, mii_of}
+use Rattle.schedules.specs.Problems.{ProblemData as SchedulingData, mii_of}
 use Rattle.problems.specs.Problems.{ProblemData}
 use Rattle.solutions.specs.declared.solving.outcome.Cause.TheVariants.{Table}
 use Rattle.solutions.specs.declared.solving.tried.Failure.{Failure}

@@ -1,5 +1,5 @@
 use Rattle.std.proofs.Common.{◌+◌, List, length, sym, subst}
-use Rattle.ims.specs.Problems.{mii_of}
+use Rattle.loop_schedules.specs.Problems.{mii_of}
 use Rattle.candidates.specs.Reasons.{FailsFor}
 use Rattle.told_choices.specs.declared.why.Why.{Why}
 use Rattle.told_choices.specs.inner.Collected.{AreFailures}

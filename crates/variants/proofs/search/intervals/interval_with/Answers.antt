@@ -1,6 +1,6 @@
 use Rattle.std.proofs.Common.{◌+◌, ◌≤◌, arith}
 use Rattle.std.proofs.lemmas.Bool.{MatchBool-at_false, MatchBool-at_true}
-use Rattle.ims.specs.Problems.{mii_of}
+use Rattle.loop_schedules.specs.Problems.{mii_of}
 use Rattle.variants.specs.inner.Tries.{IsFailing, IsGiving, with_registers}
 use Rattle.variants.proofs.Deciding.{met-interval, no-interval, risen-more, risen-none}
 use Rattle.variants.proofs.Giving.{with-problem}

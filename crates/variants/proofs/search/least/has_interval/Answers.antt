@@ -1,6 +1,6 @@
 use Rattle.std.proofs.Common.{◌+◌}
 use Rattle.std.proofs.lemmas.Bool.{MatchBool-at_false, MatchBool-at_true}
-use Rattle.ims.specs.Problems.{mii_of}
+use Rattle.loop_schedules.specs.Problems.{mii_of}
 use Rattle.variants.specs.inner.Tries.{IsFailing, IsGiving, with_registers}
 use Rattle.variants.proofs.Deciding.{decided, fails-itself}
 use Rattle.variants.proofs.Giving.{item-tried, with-problem}

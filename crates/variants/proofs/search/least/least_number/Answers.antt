@@ -1,7 +1,7 @@
 use Rattle.std.proofs.Common.{◌+◌, sym, subst, arith}
 use Rattle.std.specs.Prelude.{Some}
 use Rattle.std.proofs.lemmas.Bool.{MatchBool-at_false, MatchBool-at_true}
-use Rattle.ims.specs.Problems.{mii_of}
+use Rattle.loop_schedules.specs.Problems.{mii_of}
 use Rattle.variants.specs.Intervals.{IsIntervalOf, IsLeastNumber}
 use Rattle.variants.specs.inner.Tries.{with_registers}
 use Rattle.variants.proofs.Deciding.{least-of, more-without}

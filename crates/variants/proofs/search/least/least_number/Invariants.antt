@@ -1,6 +1,6 @@
 use Rattle.std.proofs.Common.{ℕ, ◌+◌, ◌≤◌, ◌<◌}
 use Rattle.std.specs.Prelude.{Some}
-use Rattle.ims.specs.Problems.{mii_of}
+use Rattle.loop_schedules.specs.Problems.{mii_of}
 use Rattle.variants.specs.Intervals.{IsIntervalOf}
 use Rattle.variants.specs.inner.Tries.{with_registers}
 use Rattle.variants.proofs.search.least.least_number.Given as goal

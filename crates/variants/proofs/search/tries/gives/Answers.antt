@@ -1,7 +1,7 @@
 use Rattle.std.proofs.Common.{◌≡◌, sym, subst}
 use Rattle.std.specs.Prelude.{MatchBool, MatchOption}
 use Rattle.ims.specs.Attempts.{AnswersAttempt}
-use Rattle.ims.specs.Problems.{budget_of}
+use Rattle.loop_schedules.specs.Problems.{budget_of}
 use Rattle.ims.specs.declared.outcome.attempts.Try.{Try}
 use Rattle.overlap.specs.Allotments.{LeastFor, NoneFor}
 use Rattle.variants.specs.inner.Tries.{IsFailing, IsGiving, with_registers}

@@ -1,6 +1,6 @@
 use Rattle.std.proofs.Common.{◌≡◌, ◌+◌, ◌-◌, ℕ, vec_len, subst, arith}
 use Rattle.std.specs.Prelude.{Option, Some}
-use Rattle.ims.specs.Problems.{mii_of}
+use Rattle.loop_schedules.specs.Problems.{mii_of}
 use Rattle.variants.specs.Intervals.{IsIntervalOf, IsLeastNumber}
 use Rattle.variants.specs.inner.Tries.{IsCovered, with_registers}
 use Rattle.variants.proofs.search.varied.standing_of.Goals as goal

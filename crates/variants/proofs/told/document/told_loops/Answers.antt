@@ -4,7 +4,7 @@ use Rattle.std.proofs.lemmas.List.Concat.{flat_map_single}
 use Rattle.serde_json.specs.Data.{Data, array}
 use Rattle.serde_json.specs.View.{items_of, view}
 use Rattle.serde_json.proofs.Views.{view-Array}
-use Rattle.ims.specs.Problems.{ProblemData}
+use Rattle.loop_schedules.specs.Problems.{ProblemData}
 use Rattle.variants.specs.declared.found.finding.LoopFindings.{LoopFindings}
 use Rattle.variants.specs.inner.Told.{part_object}
 use Rattle.variants.proofs.Zipped.{zipped-all, zipped-more}

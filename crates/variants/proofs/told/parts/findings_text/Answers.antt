@@ -3,7 +3,7 @@ use Rattle.std.specs.Prelude.{codes, not, count_by}
 use Rattle.std.specs.List.{All}
 use Rattle.std.proofs.lemmas.Slice.Zip.{AllZip-long}
 use Rattle.writing.specs.Words.{last_line}
-use Rattle.ims.specs.Problems.{ProblemData}
+use Rattle.loop_schedules.specs.Problems.{ProblemData}
 use Rattle.machine_variants.specs.declared.variant.Variant.{Variant}
 use Rattle.machine_variants.specs.Variants.{variants_of}
 use Rattle.variants.specs.declared.found.finding.LoopFindings.{LoopFindings}

@@ -1,6 +1,6 @@
 use Rattle.std.proofs.Common.{◌≡◌, ◌∙◌, ◌++◌, ◌<◌, ◌^◌, List, length, sym, ap, subst}
 use Rattle.std.specs.Prelude.{codes, count_by, is_some}
-use Rattle.ims.specs.Problems.{ProblemData}
+use Rattle.loop_schedules.specs.Problems.{ProblemData}
 use Rattle.variants.specs.declared.found.finding.LoopFindings.{LoopFindings}
 use Rattle.writing.specs.Words.{told}
 use Rattle.variants.specs.inner.Columns.{own_failed, own_interval, own_sum, sum_at, sums_text, total_lines}

@@ -1,7 +1,7 @@
 use Rattle.std.proofs.Common.{◌≡◌, ℕ, Some, ap, ◌∙◌, sym, subst}
 use Rattle.std.specs.Prelude.{IfOk}
 use Rattle.modulo.specs.Culprits.{AnswersCulprit, IsAnswer}
-use Rattle.modulo.specs.Problems.{ProblemData as SchedulingData}
+use Rattle.schedules.specs.Problems.{ProblemData as SchedulingData}
 use Rattle.problems.specs.Problems.{ProblemData}
 use Rattle.solutions.specs.Trying.{IsTried}
 use Rattle.solutions.proofs.Blamed.{blamed-by, culprit-of}

@@ -1,0 +1,50 @@
+//! What `json` writes of the texts of a machine and of loops, where the calling thread alone does all work.
+
+ghost use Rattle.std.specs.Prelude.{◌≤◌, vec_len};
+ghost use Rattle.machine_data.specs.declared.limits.TheConstants.{MAX_LOOPS};
+ghost use Rattle.graph.specs.Units.{first_lacking};
+ghost use Rattle.file_faults.specs.Answers.{AnswersFile, AnswersOn};
+ghost use Rattle.loops.specs.Meaning.{loops_in};
+ghost use Rattle.machine.specs.MachineText.{machine_of};
+ghost use Rattle.json_printouts.specs.Documents.{IsListingDocument};
+
+use crate::listings::document_printout;
+use file_faults::FileFault;
+use loops::{Loop, read_loops};
+use machine::{Machine, read_machine};
+use one_thread::pipeline_alone;
+use settings::Settings;
+use std::alloc::Global;
+use written::Printout;
+
+/// What `json` writes of the texts of a machine and of loops.
+///
+/// # Errors
+/// The fault of the machine's text, else that of the loops' text, else the first loop with an opcode that the machine has no table
+/// for; and [`FileFault::Memory`], where memory was refused.
+pub fn json_alone(
+    alloc: Global,
+    machine: &[u8],
+    loops: &[u8],
+    settings: &Settings,
+) -> Result<Printout, FileFault>
+    ensures { AnswersFile (IsListingDocument settings.now.ratio settings.now.ceiling) (machine_of machine.now) (loops_in loops.now) result }
+{
+    let machine = read_machine(alloc, machine)?;
+    let loops = read_loops(alloc, loops)?;
+    documented(alloc, &machine, loops, settings)
+}
+
+/// What `json` writes of loops that were read.
+fn documented(
+    alloc: Global,
+    machine: &Machine,
+    loops: Vec<Loop>,
+    settings: &Settings,
+) -> Result<Printout, FileFault>
+    requires few { vec_len loops ≤ MAX_LOOPS }
+    ensures { AnswersOn (IsListingDocument settings.now.ratio settings.now.ceiling machine.now loops.items) (first_lacking machine.now loops.items) result }
+{
+    let (_, listing) = pipeline_alone(alloc, machine, loops, settings)?;
+    Ok(document_printout(alloc, &listing)?)
+}

@@ -1,0 +1,3 @@
+pub mod Bare
+pub mod Promised
+pub mod problems

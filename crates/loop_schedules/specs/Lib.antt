@@ -1,0 +1,6 @@
+pub use Rattle.graph.specs.Graphs
+pub use Rattle.mrt.specs.Placements
+pub mod Problems
+pub mod Promises
+pub mod Schedules
+pub mod inner

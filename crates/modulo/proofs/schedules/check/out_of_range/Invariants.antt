@@ -1,6 +1,0 @@
-use Rattle.std.proofs.Common.{ℕ, ◌<◌}
-use Rattle.modulo.specs.Breaches.{IsInRange}
-use Rattle.modulo.proofs.schedules.check.out_of_range.Given as goal
-
-abbrev pub invariant-loop-op : goal.invariant-loop-op
-invariant-loop-op l = (k : ℕ) → k < l.op → IsInRange l.operations l.places k
