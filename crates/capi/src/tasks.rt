@@ -1,16 +1,16 @@
 //! What `explain`, `edges` and `dot` print of texts, by the calling thread. (`printouts` and `json_printouts` have this of the other commands.)
 
 ghost use Rattle.machine.specs.MachineText.{machine_of};
-ghost use Rattle.loops.specs.Meaning.{loops_in};
+ghost use Rattle.loop_reader.specs.Meaning.{loops_in};
 ghost use Rattle.file_faults.specs.Answers.{AnswersFile};
 ghost use Rattle.explain_printouts.specs.Explain.{IsExplainText};
-ghost use Rattle.printouts.specs.Graphs.{IsDotText, IsEdgesText};
+ghost use Rattle.graph_printouts.specs.Graphs.{IsDotText, IsEdgesText};
 
 use explain_printouts::explain_text;
 use file_faults::FileFault;
-use loops::read_loops;
+use graph_printouts::{dot_text, edges_text};
+use loop_reader::read_loops;
 use machine::read_machine;
-use printouts::{dot_text, edges_text};
 use settings::Settings;
 use std::alloc::Global;
 use written::Printout;

@@ -3,12 +3,12 @@
 ghost use Rattle.std.specs.Prelude.{◌≡◌, ◌≤◌};
 ghost use Rattle.machine_data.specs.declared.limits.TheConstants.{MAX_TRIP};
 ghost use Rattle.machine.specs.MachineText.{machine_of};
-ghost use Rattle.loops.specs.Meaning.{loops_in};
+ghost use Rattle.loop_reader.specs.Meaning.{loops_in};
 ghost use Rattle.file_faults.specs.Answers.{AnswersAlone, AnswersFile};
 ghost use Rattle.printouts.specs.Bounds.{IsBoundsText};
 ghost use Rattle.explain_printouts.specs.Explain.{IsExplainText};
-ghost use Rattle.printouts.specs.Graphs.{IsDotText, IsEdgesText};
-ghost use Rattle.printouts.specs.Plain.{IsPlainText};
+ghost use Rattle.graph_printouts.specs.Graphs.{IsDotText, IsEdgesText};
+ghost use Rattle.lines_of_runs.specs.Plain.{IsPlainText};
 ghost use Rattle.printouts.specs.Run.{IsRunText};
 ghost use Rattle.json_printouts.specs.Documents.{IsListingDocument};
 ghost use Rattle.printouts.specs.Schedule.{IsListingText};

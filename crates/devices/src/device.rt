@@ -3,12 +3,8 @@
 ghost use Rattle.std.specs.Prelude.{◌≡◌, ◌+◌, ◌-◌, ◌^◌, ◌<◌, ◌≤◌, ℕ, List, length, Option, IfOk, OnOk, OnErr};
 ghost use Rattle.devices.specs.Devices.{Reads, Writes};
 
-mod faulty;
-mod memory;
 mod system;
 
-pub use faulty::{FaultyInput, FaultyOutput};
-pub use memory::{Bytes, TakenBytes};
 pub use system::{FileInput, StandardOutput};
 
 /// A call of an input or an output failed.

@@ -5,8 +5,8 @@ use Rattle.std.proofs.lemmas.List.{take_all, length-take-le}
 use Rattle.std.proofs.lemmas.Bool.{cases_lt, lt-ltb}
 use Rattle.machine.specs.declared.fault.MachineFault.TheVariants as machine_fault
 use Rattle.machine.specs.MachineText.{machine_of}
-use Rattle.loops.specs.LoopFaultKind.TheVariants as kinds
-use Rattle.loops.specs.Meaning.{loops_in}
+use Rattle.loop_reader.specs.declared.fault.LoopFaultKind.TheVariants as kinds
+use Rattle.loop_reader.specs.Meaning.{loops_in}
 use Rattle.devices.specs.Devices.{most_read}
 
 machine_too_long : (text : List ℕ) → 1048576 < length text → machine_of text ≡ Err (machine_fault.Limit (codes "text"))

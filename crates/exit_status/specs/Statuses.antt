@@ -1,9 +1,9 @@
 -- The numbers by which a run of the program exits, and the lines that tell of a fault.
 use Rattle.std.specs.Prelude.{ℕ, Bool, true, false, codes, string_bytes, List, [], ◌++◌}
-use Rattle.loops.specs.Faults.{loop_fault_text}
-use Rattle.loops.specs.LoopFault.{LoopFault}
-use Rattle.loops.specs.LoopFaultKind.{LoopFaultKind}
-use Rattle.loops.specs.LoopFaultKind.TheVariants as kind
+use Rattle.loop_reader.specs.Faults.{loop_fault_text}
+use Rattle.loop_reader.specs.declared.fault.LoopFault.{LoopFault}
+use Rattle.loop_reader.specs.declared.fault.LoopFaultKind.{LoopFaultKind}
+use Rattle.loop_reader.specs.declared.fault.LoopFaultKind.TheVariants as kind
 use Rattle.machine.specs.Faults.{machine_fault_text}
 use Rattle.machine.specs.declared.fault.MachineFault.{MachineFault}
 use Rattle.machine.specs.declared.fault.MachineFault.TheVariants as fault

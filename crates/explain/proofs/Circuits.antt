@@ -10,7 +10,7 @@ use Rattle.graph_text.specs.CircuitLines.{circuit_line}
 use Rattle.graph_text.specs.Drawings.{IsCritical}
 use Rattle.graph_text.specs.Edges.{edge_line}
 use Rattle.graph_text.specs.Kinds.{IsOfKind, IsTimed}
-use Rattle.graph_text.specs.Texts.{AreTexts}
+use Rattle.lower_bounds.specs.Texts.{AreTexts}
 use Rattle.writing.proofs.Beginnings.{two_pushed}
 use Rattle.loop_data.specs.Loops.{LoopData}
 use Rattle.loop_schedules.specs.Problems.{ProblemData, IsProblem}

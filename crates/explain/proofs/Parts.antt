@@ -8,13 +8,13 @@ use Rattle.machine_data.specs.declared.opcode.Opcode.{Opcode}
 use Rattle.loop_data.specs.Loops.{LoopData}
 use Rattle.graph.specs.TablesAnswer.{TablesAnswer}
 use Rattle.graph.specs.Units.{first_lacking, first_without_table, lacking_or, operations_of}
-use Rattle.graph_text.specs.declared.fault.TextFault.{TextFault}
-use Rattle.graph_text.specs.declared.fault.TextFault.TheVariants.{NoTable, Memory}
-use Rattle.graph_text.specs.declared.measuring.LowerBounds.{LowerBounds}
-use Rattle.graph_text.specs.Bounds.{bounds_line}
-use Rattle.graph_text.specs.Faults.{TextAnswers, lacking_in}
-use Rattle.graph_text.proofs.Lacking.{complete, first_lacking-append, refused_or}
-use Rattle.graph_text.proofs.Texts.{all_zip-push, zipped-push}
+use Rattle.lower_bounds.specs.declared.fault.TextFault.{TextFault}
+use Rattle.lower_bounds.specs.declared.fault.TextFault.TheVariants.{NoTable, Memory}
+use Rattle.lower_bounds.specs.declared.measuring.LowerBounds.{LowerBounds}
+use Rattle.lower_bounds.specs.Bounds.{bounds_line}
+use Rattle.lower_bounds.specs.Faults.{TextAnswers, lacking_in}
+use Rattle.lower_bounds.proofs.Lacking.{complete, first_lacking-append, refused_or}
+use Rattle.lower_bounds.proofs.Texts.{all_zip-push, zipped-push}
 use Rattle.writing.proofs.Beginnings.{two_pushed}
 use Rattle.resource_bound.specs.Choices.{AreUnitChoices}
 use Rattle.resource_bound.specs.UnitLines.{unit_lines_of}

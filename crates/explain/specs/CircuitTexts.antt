@@ -6,7 +6,7 @@ use Rattle.graph_text.specs.CircuitLines.{circuit_line}
 use Rattle.graph_text.specs.Drawings.{IsCritical}
 use Rattle.graph_text.specs.Edges.{edge_line}
 use Rattle.graph_text.specs.Kinds.{IsOfKind}
-use Rattle.graph_text.specs.Texts.{AreTexts}
+use Rattle.lower_bounds.specs.Texts.{AreTexts}
 use Rattle.loop_schedules.specs.Problems.{ProblemData}
 
 -- a circuit that needs the recurrence-constrained lower bound: the line of its sums, and a line for each of its edges, in its

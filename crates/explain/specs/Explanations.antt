@@ -2,9 +2,9 @@
 use Rattle.std.specs.Prelude.{◌≡◌, ℕ, ◌==◌, codes, List, ◌++◌, length, count_by}
 use Rattle.machine_data.specs.Machines.{MachineData}
 use Rattle.loop_data.specs.Loops.{LoopData}
-use Rattle.graph_text.specs.declared.measuring.LowerBounds.{LowerBounds}
-use Rattle.graph_text.specs.Bounds.{bounds_line}
-use Rattle.graph_text.specs.Texts.{AreTexts}
+use Rattle.lower_bounds.specs.declared.measuring.LowerBounds.{LowerBounds}
+use Rattle.lower_bounds.specs.Bounds.{bounds_line}
+use Rattle.lower_bounds.specs.Texts.{AreTexts}
 use Rattle.graph.specs.Units.{operations_of}
 use Rattle.resource_bound.specs.Choices.{AreUnitChoices}
 use Rattle.resource_bound.specs.UnitLines.{unit_lines_of}

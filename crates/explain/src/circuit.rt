@@ -5,7 +5,7 @@ ghost use Rattle.std.specs.List.{All};
 ghost use Rattle.loop_data.specs.Loops.{IsLoop};
 ghost use Rattle.graph_text.specs.Edges.{edge_line};
 ghost use Rattle.graph_text.specs.Kinds.{IsOfKind, IsTimed};
-ghost use Rattle.graph_text.specs.Texts.{AreTexts};
+ghost use Rattle.lower_bounds.specs.Texts.{AreTexts};
 ghost use Rattle.explain.specs.CircuitTexts.{IsCircuitText};
 
 use graph::{Edge, Edges};

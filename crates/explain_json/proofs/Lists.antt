@@ -7,7 +7,7 @@ use Rattle.std.proofs.lemmas.Slice.Zip.{all_zipped_more}
 use Rattle.serde_json.specs.Data.{Data}
 use Rattle.serde_json.specs.View.{view}
 use Rattle.serde_json.specs.declared.value.Value.{Value}
-use Rattle.graph_text.proofs.Texts.{numbers-push}
+use Rattle.lower_bounds.proofs.Texts.{numbers-push}
 use Rattle.told_choices.specs.declared.why.Why.{Why}
 use Rattle.explain_json.specs.Tries.{failure_object, failures_from}
 

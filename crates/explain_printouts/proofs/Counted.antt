@@ -4,8 +4,8 @@ use Rattle.std.specs.Prelude.{Ok}
 use Rattle.machine_data.specs.Machines.{MachineData}
 use Rattle.loop_data.specs.Loops.{LoopData}
 use Rattle.graph.specs.Units.{operations_of}
-use Rattle.graph_text.specs.Faults.{TextAnswers, lacking_in}
-use Rattle.graph_text.proofs.Lacking.{complete}
+use Rattle.lower_bounds.specs.Faults.{TextAnswers, lacking_in}
+use Rattle.lower_bounds.proofs.Lacking.{complete}
 use Rattle.resource_bound.specs.Choices.{AreUnitChoices}
 use Rattle.unit_sets.specs.declared.fullest.UnitSet.{UnitSet}
 use Rattle.unit_sets.specs.Fullest.{IsFullest}

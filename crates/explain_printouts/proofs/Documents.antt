@@ -3,7 +3,7 @@ use Rattle.std.proofs.Common.{◌≡◌, ℕ, ◌+◌, ◌<◌, List, [], ◌∷
 use Rattle.std.specs.Prelude.{codes}
 use Rattle.std.specs.List.{AllZip, join_by}
 use Rattle.std.proofs.lemmas.List.{take_more}
-use Rattle.graph_text.proofs.Texts.{all_zip-push}
+use Rattle.lower_bounds.proofs.Texts.{all_zip-push}
 use Rattle.json_objects.specs.Documents.{document_of, head_text, tail_text}
 use Rattle.json_objects.proofs.Joined.{join-map}
 use Rattle.explain_printouts.specs.declared.objects.Object.{Object}

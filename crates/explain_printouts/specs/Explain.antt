@@ -1,7 +1,7 @@
 -- What `explain` writes.
 use Rattle.std.specs.Prelude.{◌≡◌, ℕ, List}
 use Rattle.machine.specs.Machines.{MachineData}
-use Rattle.loops.specs.Loops.{LoopData}
+use Rattle.loop_data.specs.Loops.{LoopData}
 use Rattle.explain.specs.declared.file.Explained.{Explained}
 use Rattle.explain.specs.Explanations.{IsExplanationOf}
 use Rattle.written.specs.Written.{Written}

@@ -11,8 +11,8 @@ ghost use Rattle.explain_printouts.specs.ExplainDocuments.{AreObjects, IsExplain
 use crate::objects::{Object, object_of, objects_document, objects_page};
 use explain::explain_lines;
 use file_faults::FileFault;
+use loop_data::Loop;
 use loop_schedules::Prepared;
-use loops::Loop;
 use machine::{Machine, OutOfMemory};
 use one_thread::prepare_all;
 use settings::Settings;

@@ -2,7 +2,7 @@
 
 ghost use Rattle.std.specs.Prelude.{◌≡◌, ◌++◌, ℕ, List, length, IfOk};
 ghost use Rattle.graph.specs.Units.{operations_of};
-ghost use Rattle.graph_text.specs.Faults.{TextAnswers, lacking_in};
+ghost use Rattle.lower_bounds.specs.Faults.{TextAnswers, lacking_in};
 ghost use Rattle.resource_bound.specs.Choices.{AreUnitChoices};
 ghost use Rattle.unit_sets.specs.Fullest.{IsFullest};
 ghost use Rattle.candidates.specs.declared.choices.Choice.{Choice};
@@ -12,9 +12,10 @@ ghost use Rattle.explain_printouts.specs.declared.object.Counted.{Counted};
 use candidates::Choice;
 use explain_json::push_loop_json;
 use graph::{GraphFault, OfLoop};
-use graph_text::{TextFault, critical_circuit};
+use graph_text::critical_circuit;
 use loop_data::Loop;
 use loop_schedules::Prepared;
+use lower_bounds::TextFault;
 use machine_data::limits::MAX_STATEMENTS;
 use machine_data::{Machine, OutOfMemory};
 use resource_bound::unit_choices;

@@ -6,15 +6,15 @@ use Rattle.machine.specs.declared.fault.MachineFault.TheVariants as machine_faul
 use Rattle.machine.specs.Opcode.{Opcode}
 use Rattle.machine.specs.MachineAnswer.{MachineAnswer}
 use Rattle.machine.specs.Machines.{MachineData}
-use Rattle.loops.specs.LoopFault.{LoopFault}
-use Rattle.loops.specs.LoopFaultKind.{LoopFaultKind}
-use Rattle.loops.specs.LoopFaultKind.TheVariants as kind
-use Rattle.loops.specs.Loops.{LoopData}
-use Rattle.loops.specs.Meaning as loops_answers
+use Rattle.loop_reader.specs.declared.fault.LoopFault.{LoopFault}
+use Rattle.loop_reader.specs.declared.fault.LoopFaultKind.{LoopFaultKind}
+use Rattle.loop_reader.specs.declared.fault.LoopFaultKind.TheVariants as kind
+use Rattle.loop_data.specs.Loops.{LoopData}
+use Rattle.loop_reader.specs.Meaning as loops_answers
 use Rattle.graph.specs.Units.{first_lacking}
-use Rattle.graph_text.specs.Faults.{TextAnswers}
-use Rattle.graph_text.specs.declared.fault.TextFault.{TextFault}
-use Rattle.graph_text.specs.declared.fault.TextFault.TheVariants as text
+use Rattle.lower_bounds.specs.Faults.{TextAnswers}
+use Rattle.lower_bounds.specs.declared.fault.TextFault.{TextFault}
+use Rattle.lower_bounds.specs.declared.fault.TextFault.TheVariants as text
 use Rattle.file_faults.specs.declared.fault.FileFault.{FileFault}
 use Rattle.file_faults.specs.declared.fault.FileFault.TheVariants.{Machine, Loops, NoTable, Memory}
 use Rattle.file_faults.specs.Answers.{AnswersFile, AnswersIn, AnswersLoops, AnswersOn}

@@ -4,12 +4,12 @@ use Rattle.machine.specs.declared.fault.MachineFault.{MachineFault}
 use Rattle.machine.specs.declared.fault.MachineFault.TheVariants as machine_fault
 use Rattle.machine.specs.Faults.{machine_fault_text}
 use Rattle.machine.specs.Opcodes.{word_of}
-use Rattle.loops.specs.LoopFault.{LoopFault}
-use Rattle.loops.specs.LoopFaultKind.{LoopFaultKind}
-use Rattle.loops.specs.LoopFaultKind.TheVariants as kind
-use Rattle.loops.specs.Faults.{loop_fault_text}
-use Rattle.graph_text.specs.declared.fault.TextFault.{TextFault}
-use Rattle.graph_text.specs.declared.fault.TextFault.TheVariants as text
+use Rattle.loop_reader.specs.declared.fault.LoopFault.{LoopFault}
+use Rattle.loop_reader.specs.declared.fault.LoopFaultKind.{LoopFaultKind}
+use Rattle.loop_reader.specs.declared.fault.LoopFaultKind.TheVariants as kind
+use Rattle.loop_reader.specs.Faults.{loop_fault_text}
+use Rattle.lower_bounds.specs.declared.fault.TextFault.{TextFault}
+use Rattle.lower_bounds.specs.declared.fault.TextFault.TheVariants as text
 use Rattle.file_faults.specs.declared.fault.FileFault.{FileFault}
 use Rattle.file_faults.specs.declared.fault.FileFault.TheVariants.{Machine, Loops, NoTable, Memory}
 

@@ -4,8 +4,8 @@ ghost use Rattle.std.specs.Prelude.{◌≡◌};
 ghost use Rattle.file_faults.specs.declared.fault.FileFault.TheVariants.{Memory};
 ghost use Rattle.file_faults.specs.Faults.{of_loops, of_machine, of_text};
 
-use graph_text::TextFault;
-use loops::{LoopFault, LoopFaultKind};
+use loop_reader::{LoopFault, LoopFaultKind};
+use lower_bounds::TextFault;
 use machine::{MachineFault, Name, Opcode, OutOfMemory};
 use std::alloc::AllocFailed;
 use std::fmt;

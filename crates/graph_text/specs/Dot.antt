@@ -5,11 +5,11 @@ use Rattle.loop_data.specs.Loops.{LoopData}
 use Rattle.graph.specs.Dependences.{EdgeData}
 use Rattle.graph.specs.Graphs.{GraphData}
 use Rattle.graph_text.specs.declared.drawing.dot.Stroke.{Stroke}
-use Rattle.graph_text.specs.declared.measuring.LowerBounds.{LowerBounds}
-use Rattle.graph_text.specs.Bounds.{bounds_told}
+use Rattle.lower_bounds.specs.declared.measuring.LowerBounds.{LowerBounds}
+use Rattle.lower_bounds.specs.Bounds.{bounds_told}
 use Rattle.graph_text.specs.Kinds.{IsOfKind, kind_word}
 use Rattle.graph_text.specs.Names.{op_name, opcode_word}
-use Rattle.graph_text.specs.Texts.{AreTexts, numbers_of}
+use Rattle.lower_bounds.specs.Texts.{AreTexts, numbers_of}
 use Rattle.writing.specs.Words.{told, told_signed}
 
 -- `digraph "NAME" {`, the label `NAME res R rec C mii M`, and the shape of all operations, a line each

@@ -6,10 +6,10 @@ use Rattle.graph.specs.Dependences.{EdgeData}
 use Rattle.graph.specs.Graphs.{GraphData}
 use Rattle.graph.specs.Walks.{FitsCircuits}
 use Rattle.circuits.specs.Circuits.{IsCircuitAbove}
-use Rattle.graph_text.specs.declared.measuring.LowerBounds.{LowerBounds}
-use Rattle.graph_text.specs.Bounds.{IsMeasured}
+use Rattle.lower_bounds.specs.declared.measuring.LowerBounds.{LowerBounds}
+use Rattle.lower_bounds.specs.Bounds.{IsMeasured}
 use Rattle.graph_text.specs.Dot.{IsDotText}
-use Rattle.graph_text.specs.Texts.{AreTexts}
+use Rattle.lower_bounds.specs.Texts.{AreTexts}
 
 -- a circuit that needs a bound: it does not fit an interval that is one cycle shorter. It is empty where all circuits fit that
 abbrev pub IsCritical : List EdgeData → ℕ → List EdgeData → Type 0

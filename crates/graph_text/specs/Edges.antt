@@ -6,11 +6,11 @@ use Rattle.graph.specs.Dependences.{EdgeData}
 use Rattle.graph.specs.Graphs.{GraphData}
 use Rattle.graph.specs.Walks.{IsHeight}
 use Rattle.graph_text.specs.declared.kind.Kind.{Kind}
-use Rattle.graph_text.specs.declared.measuring.LowerBounds.{LowerBounds}
-use Rattle.graph_text.specs.Bounds.{IsMeasured, bounds_line, mii_of}
+use Rattle.lower_bounds.specs.declared.measuring.LowerBounds.{LowerBounds}
+use Rattle.lower_bounds.specs.Bounds.{IsMeasured, bounds_line, mii_of}
 use Rattle.graph_text.specs.Kinds.{IsOfKind, kind_word}
 use Rattle.graph_text.specs.Names.{op_name, opcode_word}
-use Rattle.graph_text.specs.Texts.{AreTexts, numbers_of}
+use Rattle.lower_bounds.specs.Texts.{AreTexts, numbers_of}
 use Rattle.writing.specs.Words.{told, told_signed}
 
 -- the number of an operation, and its name after a blank

@@ -1,9 +1,6 @@
-pub mod Bounds
 pub mod CircuitLines
 pub mod Dot
 pub mod Drawings
 pub mod Edges
-pub mod Faults
 pub mod Kinds
 pub mod Names
-pub mod Texts

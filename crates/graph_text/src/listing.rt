@@ -1,6 +1,5 @@
-//! The bounds and the dependences of loops, line by line.
+//! The dependences of loops, line by line.
 
-pub(crate) mod bounds;
 pub(crate) mod circuit;
 pub(crate) mod edges;
 pub(crate) mod sums;

@@ -1,7 +1,7 @@
 -- What is written of prepared loops with their listing.
 use Rattle.std.proofs.Common.{◌≡◌, ℕ, List}
 use Rattle.machine.specs.Machines.{MachineData}
-use Rattle.loops.specs.Loops.{LoopData}
+use Rattle.loop_data.specs.Loops.{LoopData}
 use Rattle.loop_schedules.specs.Problems.{ProblemData}
 use Rattle.candidates.specs.Listings.{ListingData}
 use Rattle.listing_json.specs.Documents.{document_text}

@@ -4,13 +4,14 @@ ghost use Rattle.std.specs.Prelude.{◌≤◌, vec_len};
 ghost use Rattle.machine_data.specs.declared.limits.TheConstants.{MAX_LOOPS};
 ghost use Rattle.graph.specs.Units.{first_lacking};
 ghost use Rattle.file_faults.specs.Answers.{AnswersFile, AnswersOn};
-ghost use Rattle.loops.specs.Meaning.{loops_in};
+ghost use Rattle.loop_reader.specs.Meaning.{loops_in};
 ghost use Rattle.machine.specs.MachineText.{machine_of};
 ghost use Rattle.json_printouts.specs.Documents.{IsListingDocument};
 
 use crate::listings::document_printout;
 use file_faults::FileFault;
-use loops::{Loop, read_loops};
+use loop_data::Loop;
+use loop_reader::read_loops;
 use machine::{Machine, read_machine};
 use one_thread::pipeline_alone;
 use settings::Settings;

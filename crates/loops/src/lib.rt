@@ -10,4 +10,4 @@ pub use loop_data::{
 };
 pub use loop_reader::{LoopFault, LoopFaultKind, read_loops};
 pub use plain_runs::{run_beginning, run_from, run_plain};
-pub use write::{value_name, write_loop};
+pub use write::write_loop;

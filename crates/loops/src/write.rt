@@ -139,24 +139,10 @@ fn write_init(text: &mut String, innermost: &Loop, init: &Initial) -> Result<(),
     ensures { IfOk result (λ _. string_bytes text.new ≡ string_bytes text.old ++ line_text (init_words innermost.now init.now)) }
 {
     text.push_str("init ")?;
-    let name = value_name(innermost, init.statement);
+    let name = innermost.value_name(init.statement);
     push_at(text, name, u64::from(init.number))?;
     push_signed(text, " = ", init.value)?;
     text.push_str("\n")
-}
-
-/// The name of the value that a statement gives, by the statement's number in the loop. It is empty for a
-/// store and for a number that no statement has.
-pub fn value_name(innermost: &Loop, statement: u8) -> &str
-    ensures name { result.now ≡ value_name innermost.now statement }
-{
-    let Some(statement) = innermost.statements().get(usize::from(statement)) else {
-        return "";
-    };
-    match &statement.name {
-        Some(name) => name.as_str(),
-        None => "",
-    }
 }
 
 /// The name of an array.
@@ -292,7 +278,7 @@ fn write_operand(text: &mut String, innermost: &Loop, operand: Operand) -> Resul
             distance,
         } => {
             text.push_str(" ")?;
-            push_at(text, value_name(innermost, statement), u64::from(distance))
+            push_at(text, innermost.value_name(statement), u64::from(distance))
         }
     }
 }
@@ -311,6 +297,6 @@ fn write_outs(text: &mut String, innermost: &Loop) -> Result<(), OutOfMemory>
 fn write_out(text: &mut String, innermost: &Loop, statement: u8) -> Result<(), OutOfMemory>
     ensures { IfOk result (λ _. string_bytes text.new ≡ string_bytes text.old ++ line_text (out_words innermost.now statement)) }
 {
-    push_both(text, "out ", value_name(innermost, statement))?;
+    push_both(text, "out ", innermost.value_name(statement))?;
     text.push_str("\n")
 }

@@ -2,7 +2,7 @@
 use Rattle.std.proofs.Common.{◌≡◌, String, List, [], ◌∷◌, length, true, false, refl}
 use Rattle.std.specs.Prelude.{◌==◌}
 use Rattle.std.specs.List.{filter}
-use Rattle.loops.specs.Loops.{LoopData}
+use Rattle.loop_data.specs.Loops.{LoopData}
 use Rattle.modsched.specs.Naming.{chosen, has_one_of}
 
 -- where names are given, the loops that have one are chosen

@@ -3,7 +3,7 @@ use Rattle.std.proofs.Common.{◌≡◌, ℕ, ◌<◌, List, String, string_byte
 use Rattle.std.specs.Prelude.{Result, Ok, Err}
 use Rattle.std.proofs.lemmas.List.{take_all, length-take-le}
 use Rattle.std.proofs.lemmas.Bool.{cases_lt, lt-ltb}
-use Rattle.loops.specs.LoopFault.{LoopFault}
+use Rattle.loop_reader.specs.declared.fault.LoopFault.{LoopFault}
 use Rattle.command_line.specs.declared.command.Command.{Command}
 use Rattle.command_line.specs.declared.command.Command.TheVariants as command
 use Rattle.command_line.specs.declared.command.Report.{Report}
@@ -26,8 +26,8 @@ use Rattle.settings.specs.Settings.{SettingsData}
 use Rattle.modsched.specs.Devices.{most_read}
 use Rattle.modsched.specs.Engine.{AnswersReport, Brings, ChosenBring, Ending, LacksLoop, LoopsBring, most_problems_read, most_read_by}
 use Rattle.modsched.specs.Naming.{chosen_of, unknown_in}
-use Rattle.loops.specs.Loops.{LoopData}
-use Rattle.loops.specs.Meaning.{loops_in}
+use Rattle.loop_data.specs.Loops.{LoopData}
+use Rattle.loop_reader.specs.Meaning.{loops_in}
 use Rattle.modsched.specs.inner.Refusals.{IsRefusal}
 use Rattle.exit_status.proofs.Lengths.{loops_in-take, machine_of-take}
 use Rattle.modsched.proofs.Linting.{lint-take}

@@ -9,7 +9,7 @@ use Rattle.machine_lint.specs.Hints.{declared_units}
 use Rattle.machine_lint.specs.Lints as machines
 use Rattle.machine_lint.specs.Places.{nowhere}
 use Rattle.machine_lint.specs.declared.place.MachineLint.{MachineLint}
-use Rattle.loops.specs.LoopFaultKind.TheVariants as kinds
+use Rattle.loop_reader.specs.declared.fault.LoopFaultKind.TheVariants as kinds
 use Rattle.loop_lint.specs.Lints.{AreFaults, faults_in, lints_in, too_long}
 use Rattle.loop_lint.specs.Lacks.{AreToldOn, MeansLoops, faults_among, lacks_for, lacks_in, merged}
 use Rattle.loop_lint.specs.declared.fault.LintFault.{LintFault}

@@ -21,16 +21,16 @@ use Rattle.file_faults.specs.Answers.{AnswersAlone, AnswersFile}
 use Rattle.machine.specs.MachineText.{machine_of}
 use Rattle.machine.specs.declared.fault.MachineFault.{MachineFault}
 use Rattle.machine.specs.Machines.{MachineData}
-use Rattle.loops.specs.Loops.{LoopData}
-use Rattle.loops.specs.LoopFault.{LoopFault}
-use Rattle.loops.specs.Meaning.{loops_in}
+use Rattle.loop_data.specs.Loops.{LoopData}
+use Rattle.loop_reader.specs.declared.fault.LoopFault.{LoopFault}
+use Rattle.loop_reader.specs.Meaning.{loops_in}
 use Rattle.printouts.specs.Bounds.{IsBoundsText}
 use Rattle.explain_printouts.specs.Explain.{IsExplainText}
 use Rattle.explain_printouts.specs.ExplainDocuments.{IsExplainDocument, IsExplainPage}
-use Rattle.printouts.specs.Graphs.{IsDotText, IsEdgesText}
+use Rattle.graph_printouts.specs.Graphs.{IsDotText, IsEdgesText}
 use Rattle.printouts.specs.Outcomes.{Outcome}
 use Rattle.written.specs.Written.{Written}
-use Rattle.printouts.specs.Plain.{IsPlainText}
+use Rattle.lines_of_runs.specs.Plain.{IsPlainText}
 use Rattle.printouts.specs.Run.{IsRunText}
 use Rattle.json_printouts.specs.Documents.{IsListingDocument}
 use Rattle.printouts.specs.Schedule.{IsListingText}

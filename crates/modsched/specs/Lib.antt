@@ -5,9 +5,10 @@ pub use Rattle.exit_status.specs.Statuses
 pub use Rattle.exit_status.specs.Writing
 pub use Rattle.printouts.specs.Bounds
 pub use Rattle.explain_printouts.specs.Explain
-pub use Rattle.printouts.specs.Graphs
+pub use Rattle.graph_printouts.specs.Graphs
+pub use Rattle.memory_devices.specs.Faulty
 pub use Rattle.printouts.specs.Outcomes
-pub use Rattle.printouts.specs.Plain
+pub use Rattle.lines_of_runs.specs.Plain
 pub use Rattle.printouts.specs.Run
 pub use Rattle.printouts.specs.Schedule
 pub use Rattle.lint_text.specs.Printout

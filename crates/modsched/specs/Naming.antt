@@ -1,8 +1,8 @@
 -- The loops of a text that have the names that were given.
 use Rattle.std.specs.Prelude.{Bool, not, bytes_eq, string_bytes, String, List, [], ◌∷◌, Option, None, Result, Ok, Err}
 use Rattle.std.specs.List.{filter, find, list_any}
-use Rattle.loops.specs.LoopFault.{LoopFault}
-use Rattle.loops.specs.Loops.{LoopData}
+use Rattle.loop_reader.specs.declared.fault.LoopFault.{LoopFault}
+use Rattle.loop_data.specs.Loops.{LoopData}
 
 -- a loop has this name
 abbrev pub is_named : {Z : Type 0} → String Z → LoopData → Bool

@@ -8,10 +8,11 @@ pub use command_line::{
     Command, Format, LintTexts, Report, Search, TRIP_LIMIT, Task, Trip, Usage, Work, parse_line,
 };
 pub use devices::{
-    Bytes, Fault, FaultyInput, FaultyOutput, FileInput, Input, Output, ReadTextError,
-    StandardOutput, TEXT_LIMIT, TakenBytes, read_text, write_text,
+    Fault, FileInput, Input, Output, ReadTextError, StandardOutput, TEXT_LIMIT, read_text,
+    write_text,
 };
 pub use exit_status::{Line, Status, Told, Verdict, exit_number, finish, show};
+pub use memory_devices::{Bytes, FaultyInput, FaultyOutput, TakenBytes};
 pub use printouts::kernels_tell_plain_lines;
 pub use settings::{OutOfRange, Settings};
 pub use subcommand::engine;

@@ -3,7 +3,7 @@ use Rattle.std.proofs.Common.{◌≡◌, ℕ, List, [], ◌∷◌, ◌++◌, len
 use Rattle.std.specs.List.{All, AllZip}
 use Rattle.std.proofs.lemmas.List.Elements.{All-nil, All-cons}
 use Rattle.machine.specs.Machines.{MachineData}
-use Rattle.loops.specs.Loops.{LoopData}
+use Rattle.loop_data.specs.Loops.{LoopData}
 use Rattle.loop_schedules.specs.Problems.{ProblemData}
 use Rattle.candidates.specs.Choices.{IsChoice}
 use Rattle.candidates.specs.Listings.{ListingData}

@@ -3,7 +3,7 @@ use Rattle.std.specs.Prelude.{◌≡◌, ℕ, List, Vec}
 use Rattle.std.specs.declared.alloc.Global.{Global}
 use Rattle.std.specs.List.{All, AllZip}
 use Rattle.machine.specs.Machines.{MachineData}
-use Rattle.loops.specs.Loops.{LoopData}
+use Rattle.loop_data.specs.Loops.{LoopData}
 use Rattle.loop_schedules.specs.Problems.{ProblemData, IsProblemOf}
 use Rattle.candidates.specs.Choices.{IsChoice}
 use Rattle.candidates.specs.Listings.{ListingData, listing_of}

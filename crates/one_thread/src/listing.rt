@@ -9,8 +9,8 @@ ghost use Rattle.one_thread.specs.Files.{AnswersOn, HaveCeiling, ListsProblems, 
 use crate::preparing::prepare_all;
 use candidates::{Choice, Listing, Settings, first_success};
 use file_faults::FileFault;
+use loop_data::Loop;
 use loop_schedules::Prepared;
-use loops::Loop;
 use machine::{Machine, OutOfMemory};
 use std::alloc::Global;
 

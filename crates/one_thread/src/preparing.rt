@@ -8,8 +8,8 @@ ghost use Rattle.one_thread.specs.Files.{AnswersOn, Prepares};
 use candidates::{Settings, prepare};
 use file_faults::FileFault;
 use graph::GraphFault;
+use loop_data::Loop;
 use loop_schedules::Prepared;
-use loops::Loop;
 use machine::Machine;
 use std::alloc::Global;
 

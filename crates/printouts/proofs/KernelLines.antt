@@ -3,13 +3,13 @@ use Rattle.std.proofs.Common.{◌≡◌, ◌∙◌, ℕ, sym, ap}
 use Rattle.kernel.specs.declared.kernels.parts.Parts.{Parts}
 use Rattle.kernel.specs.Overlapped.{FitsKernel, overlapped}
 use Rattle.kernel.proofs.cycles.Promised.{runs-keep_shapes}
-use Rattle.loops.specs.Loops.{LoopData}
-use Rattle.loops.specs.Run.{HasShapeOf, MemoryData, opening_of}
-use Rattle.loops.proofs.Openings.{opening_shape}
-use Rattle.printouts.specs.Plain.{plain_lines, run_lines}
+use Rattle.loop_data.specs.Loops.{LoopData}
+use Rattle.loop_data.specs.Run.{HasShapeOf, MemoryData, opening_of}
+use Rattle.loop_data.proofs.Openings.{opening_shape}
+use Rattle.lines_of_runs.specs.Plain.{plain_lines, run_lines}
 use Rattle.printouts.specs.Run.{KernelsTellPlainLines, kernel_lines}
 use Rattle.printouts.specs.inner.Runnable.{HasSizesOf}
-use Rattle.printouts.proofs.Shapes.{opening_memory, opening_trip}
+use Rattle.lines_of_runs.proofs.Shapes.{opening_memory, opening_trip}
 
 -- the memory before a loop's first iteration has the shape of its kernel
 pub opening_fits : (trip : ℕ) (loop : LoopData) (kernel : Parts) → HasSizesOf loop kernel → FitsKernel kernel (opening_of loop trip)

@@ -1,9 +1,9 @@
 -- What `bounds` writes.
 use Rattle.std.specs.Prelude.{◌≡◌, ℕ, true, List, ◌++◌, length}
 use Rattle.machine.specs.Machines.{MachineData}
-use Rattle.loops.specs.Loops.{LoopData}
-pub use Rattle.graph_text.specs.Bounds.{AreBounds, IsLines, bounds_line}
-use Rattle.printouts.specs.Outcomes.{last_line}
+use Rattle.loop_data.specs.Loops.{LoopData}
+pub use Rattle.lower_bounds.specs.Bounds.{AreBounds, IsLines, bounds_line}
+use Rattle.lines_of_runs.specs.Plain.{last_line}
 use Rattle.written.specs.Written.{Written}
 
 -- a line for each loop, and then `loops A`. No loop is unmet, since none is scheduled

@@ -3,8 +3,8 @@ use Rattle.std.specs.Prelude.{◌≡◌, ◌≤◌, ℕ, List, ◌++◌}
 use Rattle.std.specs.List.{flat_map, zip}
 use Rattle.machine.specs.Machines.{MachineData}
 use Rattle.machine_data.specs.declared.limits.TheConstants.{MAX_TRIP}
-use Rattle.loops.specs.Loops.{LoopData}
-use Rattle.loops.specs.Run.{opening_of}
+use Rattle.loop_data.specs.Loops.{LoopData}
+use Rattle.loop_data.specs.Run.{opening_of}
 use Rattle.kernel.specs.declared.kernels.parts.Parts.{Parts}
 use Rattle.kernel.specs.Overlapped.{overlapped}
 use Rattle.overlap.specs.Overlap.{RunsAsLoop}
@@ -15,7 +15,7 @@ use Rattle.candidates.specs.Listings.{ListingData}
 use Rattle.candidates.specs.Promises.{IsRight, Lists}
 use Rattle.candidates.specs.Texts.{row_text, counts_line}
 use Rattle.written.specs.Written.{Written}
-use Rattle.printouts.specs.Plain.{plain_lines, run_lines}
+use Rattle.lines_of_runs.specs.Plain.{plain_lines, run_lines}
 use Rattle.printouts.specs.Schedule.{are_met}
 
 -- the lines of the run of a loop's kernel, its iterations overlapped

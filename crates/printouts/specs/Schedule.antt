@@ -2,7 +2,7 @@
 use Rattle.std.specs.Prelude.{◌≡◌, ℕ, Bool, List}
 use Rattle.std.specs.List.{list_all}
 use Rattle.machine.specs.Machines.{MachineData}
-use Rattle.loops.specs.Loops.{LoopData}
+use Rattle.loop_data.specs.Loops.{LoopData}
 use Rattle.candidates.specs.declared.listings.Row.{Row}
 use Rattle.candidates.specs.Listings.{ListingData, is_met}
 use Rattle.candidates.specs.Promises.{IsRight, Lists}

@@ -4,7 +4,7 @@ use Rattle.std.specs.List.{Contains}
 use Rattle.graph.specs.Dependences.{EdgeData}
 use Rattle.graph_marks.specs.Arrows as marks
 use Rattle.graph_text.specs.Dot.{arrow_end, arrow_start}
-use Rattle.graph_text.specs.Texts.{AreTexts}
+use Rattle.lower_bounds.specs.Texts.{AreTexts}
 use Rattle.registers.specs.declared.value.Read.{Read}
 use Rattle.problems.specs.declared.draft.Draft.{Draft}
 use Rattle.problems.specs.declared.draft.Order.{Order as OrderData}

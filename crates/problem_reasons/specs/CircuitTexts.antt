@@ -3,7 +3,7 @@ use Rattle.std.specs.Prelude.{◌≡◌, ◌≢◌, ℕ, List, ◌++◌, take, S
 use Rattle.std.specs.List.{All}
 use Rattle.graph.specs.Dependences.{EdgeData}
 use Rattle.graph_text.specs.CircuitLines.{circuit_line}
-use Rattle.graph_text.specs.Texts.{AreTexts}
+use Rattle.lower_bounds.specs.Texts.{AreTexts}
 use Rattle.registers.specs.declared.value.Read.{Read}
 use Rattle.problems.specs.declared.draft.Draft.{Draft}
 use Rattle.problems.specs.Drafts.{read_edge}

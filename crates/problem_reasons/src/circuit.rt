@@ -1,7 +1,7 @@
 //! The lines of a circuit that the recurrence-constrained bound is due to.
 
 ghost use Rattle.std.specs.Prelude.{◌≡◌, ◌↔◌, ◌++◌, ℕ, IsTrue, List, OnOk};
-ghost use Rattle.graph_text.specs.Texts.{AreTexts};
+ghost use Rattle.lower_bounds.specs.Texts.{AreTexts};
 ghost use Rattle.problems.specs.Drafts.{IsRead, IsWellFormed, read_edge};
 ghost use Rattle.problem_graphs.specs.Edges.{edge_line};
 ghost use Rattle.problem_reasons.specs.CircuitTexts.{IsCircuitText, IsWhy};

@@ -5,7 +5,7 @@ use Rattle.machine_data.specs.Machines.{MachineData}
 use Rattle.loop_data.specs.Loops.{LoopData}
 use Rattle.graph.specs.Units.{chosen_rows, greatest_use, operations_of, use_of}
 use Rattle.graph_text.specs.Names.{op_name}
-use Rattle.graph_text.specs.Texts.{numbers_of}
+use Rattle.lower_bounds.specs.Texts.{numbers_of}
 use Rattle.writing.specs.Words.{told}
 use Rattle.resource_bound.specs.Choices.{rows_at}
 

@@ -4,7 +4,7 @@ use Rattle.std.specs.Prelude.{codes}
 use Rattle.std.specs.List.{flat_map}
 use Rattle.graph.specs.Dependences.{EdgeData}
 use Rattle.graph_text.specs.Dot.{node_line}
-use Rattle.graph_text.specs.Texts.{numbers_of}
+use Rattle.lower_bounds.specs.Texts.{numbers_of}
 use Rattle.loop_data.specs.Loops.{LoopData}
 use Rattle.writing.proofs.Beginnings.{two_pushed}
 use Rattle.loop_schedules.specs.Problems.{ProblemData}

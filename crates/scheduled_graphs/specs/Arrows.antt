@@ -4,7 +4,7 @@ use Rattle.graph.specs.Dependences.{EdgeData}
 use Rattle.graph_marks.specs.Arrows.{IsRed, arrow_end}
 use Rattle.graph_text.specs.Dot.{arrow_start}
 use Rattle.graph_text.specs.Kinds.{IsOfKind, kind_word}
-use Rattle.graph_text.specs.Texts.{AreTexts}
+use Rattle.lower_bounds.specs.Texts.{AreTexts}
 use Rattle.loop_schedules.specs.Problems.{ProblemData}
 use Rattle.scheduled_graphs.specs.declared.arrows.Stroke.{Stroke}
 

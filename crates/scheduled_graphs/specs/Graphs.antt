@@ -3,7 +3,7 @@ use Rattle.std.specs.Prelude.{◌≡◌, ℕ, codes, List, ◌++◌}
 use Rattle.std.specs.List.{flat_map}
 use Rattle.graph.specs.Dependences.{EdgeData}
 use Rattle.graph_text.specs.Dot.{node_line}
-use Rattle.graph_text.specs.Texts.{numbers_of}
+use Rattle.lower_bounds.specs.Texts.{numbers_of}
 use Rattle.loop_schedules.specs.Problems.{ProblemData}
 use Rattle.loop_schedules.specs.Schedules.{ScheduleData}
 use Rattle.candidates.specs.declared.outcomes.Cause.{Cause}

@@ -4,7 +4,7 @@ use Rattle.std.specs.List.{flat_map}
 use Rattle.loop_data.specs.Loops.{LoopData}
 use Rattle.graph_marks.specs.Nodes.{place_text}
 use Rattle.graph_text.specs.Names.{op_name, opcode_word}
-use Rattle.graph_text.specs.Texts.{numbers_of}
+use Rattle.lower_bounds.specs.Texts.{numbers_of}
 use Rattle.loop_schedules.specs.Schedules.{ScheduleData}
 use Rattle.writing.specs.Words.{told}
 

@@ -4,7 +4,7 @@ ghost use Rattle.std.specs.Prelude.{◌≡◌, ◌<◌, ◌≤◌, ◌++◌, len
 ghost use Rattle.std.specs.List.{flat_map};
 ghost use Rattle.graph_text.specs.Dot.{node_line};
 ghost use Rattle.graph_text.specs.Names.{opcode_word};
-ghost use Rattle.graph_text.specs.Texts.{numbers_of};
+ghost use Rattle.lower_bounds.specs.Texts.{numbers_of};
 ghost use Rattle.scheduled_graphs.specs.Nodes.{node_start, placed_line, placed_lines};
 
 use graph_marks::push_place;

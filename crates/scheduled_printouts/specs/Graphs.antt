@@ -2,8 +2,8 @@
 use Rattle.std.specs.Prelude.{◌≡◌, ℕ, Bool, List}
 use Rattle.std.specs.List.{list_all}
 use Rattle.machine.specs.Machines.{MachineData}
-use Rattle.loops.specs.Loops.{LoopData}
-use Rattle.graph_text.specs.Texts.{AreTexts}
+use Rattle.loop_data.specs.Loops.{LoopData}
+use Rattle.lower_bounds.specs.Texts.{AreTexts}
 use Rattle.loop_schedules.specs.Problems.{ProblemData}
 use Rattle.loop_schedules.specs.Schedules.{ScheduleData}
 use Rattle.candidates.specs.declared.choices.Choice.{Choice}

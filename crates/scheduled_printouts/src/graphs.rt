@@ -8,8 +8,8 @@ ghost use Rattle.scheduled_printouts.specs.Graphs.{AreDrawn, AreScheduledGraphs,
 
 use crate::tries::{is_met, last_tried};
 use file_faults::FileFault;
+use loop_data::Loop;
 use loop_schedules::Prepared;
-use loops::Loop;
 use machine::{Machine, OutOfMemory};
 use one_thread::prepare_all;
 use scheduled_graphs::push_drawn;

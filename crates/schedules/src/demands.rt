@@ -7,7 +7,8 @@ ghost use Rattle.schedules.specs.Demands.{IsDemand};
 use graph::Edge;
 
 /// The earliest cycle, from 0 on, at which an edge allows its target to be issued, where the operation that it comes from is issued
-/// in cycle `time`, below 2^32, and each iteration begins `ii` cycles, at most 16,384, after the one before it.
+/// in cycle `time`, below 2^32, and each iteration begins `ii` cycles, at most 16,384, after the one before it. That is less than 128
+/// cycles after `time`.
 pub fn demand(time: u64, edge: Edge, ii: u64) -> u64
     requires time { time < 2 ^ 32 }
     requires ii { ii ≤ MAX_INTERVAL }

@@ -5,7 +5,7 @@ use Rattle.std.specs.Prelude.{Vec}
 use Rattle.std.specs.Global.{Global}
 use Rattle.std.proofs.lemmas.Grind.{flat_map-append}
 use Rattle.std.proofs.lemmas.List.Elements.{All-append, All-cons, All-nil}
-use Rattle.loops.specs.Array.{Array}
+use Rattle.loop_data.specs.declared.language.lists.Array.{Array}
 use Rattle.shared_runs.specs.declared.lines.Lines.{Lines}
 use Rattle.shared_runs.specs.inner.Lines.{AreWritten, IsPiece, bytes_in, bytes_left}
 use Rattle.shared_runs.proofs.PieceLines.{range_parts}

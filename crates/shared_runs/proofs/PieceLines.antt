@@ -4,11 +4,11 @@ use Rattle.std.specs.List.{enumerate_from, flat_map, range_with_len}
 use Rattle.std.proofs.lemmas.Grind.{flat_map-append}
 use Rattle.std.proofs.lemmas.List.{append-nil, get_or_default, map-append}
 use Rattle.std.proofs.lemmas.List.FromFn.{length-range_with_len, get_or-range_with_len, length-enumerate_from, get_or-enumerate_from}
-use Rattle.loops.specs.Array.{Array}
-use Rattle.loops.specs.Loops.{LoopData}
-use Rattle.loops.specs.Run.{MemoryData, opening_of}
-use Rattle.printouts.specs.Plain.{array_lines, cell_lines, cells_between, changed_line, stretch_lines}
-use Rattle.printouts.proofs.PlainLines.{cells_between-none, stretch_all}
+use Rattle.loop_data.specs.declared.language.lists.Array.{Array}
+use Rattle.loop_data.specs.Loops.{LoopData}
+use Rattle.loop_data.specs.Run.{MemoryData, opening_of}
+use Rattle.lines_of_runs.specs.Plain.{array_lines, cell_lines, cells_between, changed_line, stretch_lines}
+use Rattle.lines_of_runs.proofs.PlainLines.{cells_between-none, stretch_all}
 use Rattle.text_parts.proofs.Pieces.{flat_same}
 use Rattle.std.specs.Prelude.{Vec}
 use Rattle.std.specs.Global.{Global}

@@ -2,10 +2,10 @@
 
 ghost use Rattle.std.specs.Prelude.{◌≡◌, ◌-◌, ◌*◌, ◌<◌, ◌≤◌, ◌++◌, IfOk, OnOk, length, slice_index_or};
 ghost use Rattle.std.specs.List.{All, flat_map, range_with_len};
-ghost use Rattle.loops.specs.Array.{Array};
-ghost use Rattle.loops.specs.Loops.{LoopData};
-ghost use Rattle.loops.specs.Run.{HasShapeOf, opening_of};
-ghost use Rattle.printouts.specs.Plain.{run_lines};
+ghost use Rattle.loop_data.specs.declared.language.lists.Array.{Array};
+ghost use Rattle.loop_data.specs.Loops.{LoopData};
+ghost use Rattle.loop_data.specs.Run.{HasShapeOf, opening_of};
+ghost use Rattle.lines_of_runs.specs.Plain.{run_lines};
 ghost use Rattle.shared_runs.specs.inner.Lines.{AreWritten, IsPiece, bytes_in, bytes_left};
 ghost use Rattle.shared_runs.specs.inner.Made.{Fits, bytes_of};
 ghost use Rattle.shared_runs.specs.inner.Pieces.{ArePieces, piece_lines};
@@ -13,9 +13,9 @@ ghost use Rattle.text_parts.specs.Parted.{joined_text};
 
 use crate::made::Made;
 use crate::pieces::{count_of, piece_text};
-use loops::{Loop, Memory};
+use lines_of_runs::{push_head, push_outs};
+use loop_data::{Loop, Memory};
 use machine_data::OutOfMemory;
-use printouts::{push_head, push_outs};
 use shared_jobs::{parts_of, shared};
 use std::alloc::Global;
 use std::sync::Arc;

@@ -1,16 +1,17 @@
 //! What workers make of loops for `plain`.
 
 ghost use Rattle.std.specs.Prelude.{◌≡◌, ◌<◌, IfOk, length};
-ghost use Rattle.loops.specs.Run.{HasShapeOf, opening_of, plain};
+ghost use Rattle.loop_data.specs.Run.{HasShapeOf, opening_of, plain};
 ghost use Rattle.shared_runs.specs.inner.Made.{AreMadeOf, IsMadeOf};
 ghost use Rattle.shared_runs.specs.inner.Pieces.{ArePieces};
 
 use crate::pieces::first_pieces;
 use crate::pool::Pool;
 use crate::work::run_work;
-use loops::{Loop, Memory, run_plain};
+use lines_of_runs::{push_plain, within_limits};
+use loop_data::{Loop, Memory};
 use machine_data::OutOfMemory;
-use printouts::{push_plain, within_limits};
+use plain_runs::run_plain;
 use settings::Trip;
 use std::alloc::Global;
 

@@ -1,14 +1,14 @@
 //! The lines of the arrays of a run, in pieces.
 
 ghost use Rattle.std.specs.Prelude.{◌≡◌, ◌*◌, ◌<◌, IfOk, length};
-ghost use Rattle.loops.specs.Array.{Array};
-ghost use Rattle.loops.specs.Run.{HasShapeOf};
+ghost use Rattle.loop_data.specs.declared.language.lists.Array.{Array};
+ghost use Rattle.loop_data.specs.Run.{HasShapeOf};
 ghost use Rattle.shared_runs.specs.inner.Pieces.{ArePieces, piece_lines};
 
 use crate::pool::Pool;
-use loops::{Loop, Memory};
+use lines_of_runs::push_stretch;
+use loop_data::{Loop, Memory};
 use machine_data::OutOfMemory;
-use printouts::push_stretch;
 use std::alloc::Global;
 
 /// In how many pieces the lines of each array are written.

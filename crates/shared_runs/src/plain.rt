@@ -2,7 +2,7 @@
 
 ghost use Rattle.std.specs.Prelude.{None, IfOk, IfSome};
 ghost use Rattle.file_faults.specs.Answers.{AnswersOn};
-ghost use Rattle.printouts.specs.Plain.{IsPlainText};
+ghost use Rattle.lines_of_runs.specs.Plain.{IsPlainText};
 ghost use Rattle.shared_runs.specs.inner.Made.{AreMadeOf};
 
 use crate::lines::lines_of_all;
@@ -10,9 +10,9 @@ use crate::made::{Made, made_in_order, made_of};
 use crate::pool::Pool;
 use crate::work::{has_more, most_alone, run_work};
 use file_faults::FileFault;
-use loops::Loop;
+use lines_of_runs::{plain_text, push_last};
+use loop_data::Loop;
 use machine_data::OutOfMemory;
-use printouts::{plain_text, push_last};
 use settings::Trip;
 use shared_jobs::{parts_of, shared};
 use std::alloc::Global;

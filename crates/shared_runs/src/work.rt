@@ -1,6 +1,6 @@
 //! How much work runs are.
 
-use loops::Loop;
+use loop_data::Loop;
 use settings::Trip;
 
 /// The least work of a run that workers share, in statements that are executed once: of a kernel that is run in halves, and of a

@@ -11,8 +11,8 @@ use Rattle.std.proofs.lemmas.List.Folds.{list_any-append}
 use Rattle.std.proofs.lemmas.List.Sums.{sum_by-append, sum_by-cons}
 use Rattle.machine.specs.Machines.{MachineData}
 use Rattle.graph.specs.Units.{first_lacking}
-use Rattle.loops.specs.LoopFault.{LoopFault}
-use Rattle.loops.specs.Loops.{LoopData}
+use Rattle.loop_reader.specs.declared.fault.LoopFault.{LoopFault}
+use Rattle.loop_data.specs.Loops.{LoopData}
 use Rattle.loop_schedules.specs.Problems.{ProblemData}
 use Rattle.candidates.specs.Choices.{IsChoice}
 use Rattle.candidates.specs.Listings.{ListingData, is_failed, is_met, listing_of, listing_row, listing_rows}

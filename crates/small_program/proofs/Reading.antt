@@ -3,9 +3,9 @@ use Rattle.std.proofs.Common.{◌≡◌, ◌∙◌, ap, subst, ℕ, List, take}
 use Rattle.std.specs.Prelude.{Result}
 use Rattle.devices.specs.Devices.{most_read}
 use Rattle.exit_status.proofs.Lengths.{loops_in-take, machine_of-take}
-use Rattle.loops.specs.LoopFault.{LoopFault}
-use Rattle.loops.specs.Loops.{LoopData}
-use Rattle.loops.specs.Meaning.{loops_in}
+use Rattle.loop_reader.specs.declared.fault.LoopFault.{LoopFault}
+use Rattle.loop_data.specs.Loops.{LoopData}
+use Rattle.loop_reader.specs.Meaning.{loops_in}
 use Rattle.machine.specs.MachineText.{machine_of}
 use Rattle.machine.specs.Machines.{MachineData}
 use Rattle.machine.specs.declared.fault.MachineFault.{MachineFault}

@@ -12,16 +12,16 @@ use Rattle.settings.specs.Settings.{SettingsData}
 use Rattle.machine.specs.declared.fault.MachineFault.{MachineFault}
 use Rattle.machine.specs.Machines.{MachineData}
 use Rattle.machine.specs.MachineText.{machine_of}
-use Rattle.loops.specs.Loops.{LoopData}
-use Rattle.loops.specs.LoopFault.{LoopFault}
-use Rattle.loops.specs.Meaning.{loops_in}
+use Rattle.loop_data.specs.Loops.{LoopData}
+use Rattle.loop_reader.specs.declared.fault.LoopFault.{LoopFault}
+use Rattle.loop_reader.specs.Meaning.{loops_in}
 use Rattle.exit_status.specs.Statuses.{refusal_of_file}
 use Rattle.exit_status.specs.Writing.{EndsWritten, verdict_of_met}
 use Rattle.exit_status.specs.declared.status.Status.{Status}
 use Rattle.file_faults.specs.Answers.{AnswersAlone, AnswersFile}
 use Rattle.printouts.specs.Bounds.{IsBoundsText}
 use Rattle.printouts.specs.Outcomes.{Outcome}
-use Rattle.printouts.specs.Plain.{IsPlainText}
+use Rattle.lines_of_runs.specs.Plain.{IsPlainText}
 use Rattle.printouts.specs.Run.{IsRunText}
 use Rattle.printouts.specs.Schedule.{IsListingText}
 use Rattle.small_program.specs.declared.answers.Wanted.{Wanted}

@@ -4,7 +4,7 @@ ghost use Rattle.std.specs.Prelude.{◌≡◌, ◌+◌, ◌-◌, ◌^◌, ◌<�
 ghost use Rattle.devices.specs.Devices.{most_read};
 ghost use Rattle.exit_status.specs.Statuses.{HasAnswered, HasWritten, IsComplete, status_number};
 ghost use Rattle.exit_status.specs.Writing.{CountsFault};
-ghost use Rattle.loops.specs.Meaning.{loops_in};
+ghost use Rattle.loop_reader.specs.Meaning.{loops_in};
 ghost use Rattle.machine.specs.MachineText.{machine_of};
 ghost use Rattle.small_program.specs.Answers.{DoesWanted, EndsAs, TellsOf, machine_for, reads_machine, wanted_of, wanted_of_task};
 

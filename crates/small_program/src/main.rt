@@ -1,4 +1,4 @@
-//! The small program: `schedule`, `run`, `plain` and `bounds` of all loops of a text, by one thread. It stands on about half of the crates of the whole program, and so
+//! The small program: `schedule`, `run`, `plain` and `bounds` of all loops of a text, by one thread. It stands on fewer than half of the crates of the whole program, and so
 //! is compiled and proved in about half of the time. Unless memory runs out, it prints the same and ends the same way.
 #![tactic(auto)]
 

@@ -9,7 +9,7 @@ use Rattle.std.proofs.lemmas.Option.{slice_get-get_or}
 use Rattle.std.proofs.lemmas.Slice.Zip.{AllZip-long}
 use Rattle.machine_data.specs.Machines.{MachineData}
 use Rattle.machine_data.specs.declared.limits.TheConstants.{MAX_INTERVAL, MAX_LOOPS}
-use Rattle.graph_text.specs.Texts.{AreTexts}
+use Rattle.lower_bounds.specs.Texts.{AreTexts}
 use Rattle.writing.specs.Words.{last_line, told}
 use Rattle.loop_schedules.specs.Problems.{IsProblemOf, ProblemData}
 use Rattle.written.specs.Written.{Written}

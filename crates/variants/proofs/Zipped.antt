@@ -4,7 +4,7 @@ use Rattle.std.specs.List.{AllZip, flat_map, range_with_len, zip}
 use Rattle.std.proofs.lemmas.List.{flat_map_more, get_or_default, take_all, take_more}
 use Rattle.std.proofs.lemmas.List.FromFn.{get_or-range_with_len, length-range_with_len}
 use Rattle.std.proofs.lemmas.Slice.Zip.{get_or-zip, length-zip}
-use Rattle.graph_text.proofs.Texts.{all_zip-push}
+use Rattle.lower_bounds.proofs.Texts.{all_zip-push}
 
 abbrev pub zipped : {A B X : Type 0} → (A → B → List X) → List A → List B → List X
 zipped f xs ys = flat_map (λ both. f both.0 both.1) (zip xs ys)

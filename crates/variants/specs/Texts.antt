@@ -5,7 +5,7 @@ use Rattle.machine_data.specs.Machines.{MachineData, table_of}
 use Rattle.machine_data.specs.Opcodes.{word_of}
 use Rattle.loop_data.specs.Loops.{LoopData}
 use Rattle.graph.specs.Dependences.{latency_in}
-use Rattle.graph_text.specs.Texts.{AreTexts}
+use Rattle.lower_bounds.specs.Texts.{AreTexts}
 use Rattle.writing.specs.Words.{last_line, told}
 use Rattle.loop_schedules.specs.Problems.{ProblemData, IsProblemOf, mii_of}
 use Rattle.written.specs.Written.{Written}

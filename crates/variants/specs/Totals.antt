@@ -3,7 +3,7 @@ use Rattle.std.specs.Prelude.{◌≡◌, ℕ, ◌==◌, nat_lt, Bool, true, fals
 use Rattle.std.specs.List.{AllZip, list_any, sum_by, zip}
 use Rattle.machine_data.specs.Machines.{MachineData}
 use Rattle.loop_data.specs.Loops.{LoopData}
-use Rattle.graph_text.specs.Texts.{AreTexts}
+use Rattle.lower_bounds.specs.Texts.{AreTexts}
 use Rattle.writing.specs.Words.{last_line, told}
 use Rattle.loop_schedules.specs.Problems.{ProblemData, IsProblemOf}
 use Rattle.written.specs.Written.{Written}

@@ -13,7 +13,7 @@ use crate::told::document::findings_document;
 use crate::told::parts::findings_text;
 use crate::told::totals::findings_total;
 use file_faults::FileFault;
-use loops::Loop;
+use loop_data::Loop;
 use machine::Machine;
 use settings::Settings;
 use std::alloc::Global;

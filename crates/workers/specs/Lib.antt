@@ -4,7 +4,7 @@ pub use Rattle.candidates.specs.Choices
 pub use Rattle.candidates.specs.Pieces
 pub use Rattle.candidates.specs.Promises
 pub use Rattle.loop_schedules.specs.Problems
-pub use Rattle.loops.specs.Meaning
+pub use Rattle.loop_reader.specs.Meaning
 pub use Rattle.machine.specs.MachineText
 pub use Rattle.one_thread.specs.Files
 pub use Rattle.reports.specs.Entries

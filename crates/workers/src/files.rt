@@ -3,7 +3,7 @@
 ghost use Rattle.std.specs.Prelude.{◌≡◌, ◌≤◌, length, vec_len, IfOk};
 ghost use Rattle.std.specs.List.{All, AllZip};
 ghost use Rattle.machine.specs.MachineText.{machine_of};
-ghost use Rattle.loops.specs.Meaning.{loops_in};
+ghost use Rattle.loop_reader.specs.Meaning.{loops_in};
 ghost use Rattle.graph.specs.Units.{first_lacking};
 ghost use Rattle.candidates.specs.Choices.{IsChoice};
 ghost use Rattle.candidates.specs.Promises.{IsRight};
@@ -15,8 +15,8 @@ use board_workers::{Gate, run_workers};
 use candidates::{Listing, Pieces, Settings};
 use collecting::{Chosen, gather};
 use file_faults::FileFault;
+use loop_data::Loop;
 use loop_schedules::Prepared;
-use loops::Loop;
 use machine::{Machine, OutOfMemory, read_machine};
 use one_thread::{list_choices, pipeline_alone};
 use std::alloc::Global;

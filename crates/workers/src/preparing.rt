@@ -2,7 +2,7 @@
 
 ghost use Rattle.std.specs.Prelude.{◌≡◌, ◌<◌, ◌≤◌, [], None, IfOk, IfSome, length, slice_index_or, vec_capacity, vec_len};
 ghost use Rattle.std.specs.List.{All, AllZip};
-ghost use Rattle.loops.specs.Loops.{LoopData};
+ghost use Rattle.loop_data.specs.Loops.{LoopData};
 ghost use Rattle.graph.specs.Units.{first_without_table, first_lacking, lacking_or};
 ghost use Rattle.loop_schedules.specs.Problems.{IsProblemOf};
 ghost use Rattle.one_thread.specs.Files.{AnswersOn, Prepares};
@@ -11,8 +11,8 @@ ghost use Rattle.workers.specs.inner.Found.{IsFound};
 use candidates::Settings;
 use file_faults::FileFault;
 use graph::GraphFault;
+use loop_data::Loop;
 use loop_schedules::{Prepared, loop_problem};
-use loops::Loop;
 use machine::{Machine, Opcode, OutOfMemory};
 use one_thread::prepare_all;
 use schedules::Problem;

@@ -2,11 +2,9 @@
 
 ghost use Rattle.std.specs.Prelude.{◌≡◌};
 
-use devices::{
-    Bytes, FaultyInput, FaultyOutput, FileInput, Input, Output, ReadTextError, TakenBytes,
-    read_text, read_text_of, write_text,
-};
+use devices::{FileInput, Input, Output, ReadTextError, read_text, read_text_of, write_text};
 use machine::OutOfMemory;
+use memory_devices::{Bytes, FaultyInput, FaultyOutput, TakenBytes};
 use std::alloc::Global;
 use std::process::Abort;
 

@@ -5,14 +5,13 @@ ghost use Rattle.std.specs.List.{Contains, flat_map};
 ghost use Rattle.machine_data.specs.Machines.{MachineData};
 ghost use Rattle.graph.specs.Graphs.{IsGraphOf};
 ghost use Rattle.graph_text.specs.Dot.{IsDotText, IsStroke, arrow_end, arrow_line, arrow_start, at_text, graph_head, node_line, style_text};
-ghost use Rattle.graph_text.specs.Texts.{AreTexts, numbers_of};
+ghost use Rattle.lower_bounds.specs.Texts.{AreTexts, numbers_of};
 
 use crate::kind::{Kind, kind_of};
-use crate::listing::bounds::push_bounds_told;
-use crate::measuring::{LowerBounds, Measured};
 use crate::names::{opcode_word, push_name};
 use graph::{Edge, Edges};
 use loop_data::Loop;
+use lower_bounds::{LowerBounds, Measured, push_bounds_told};
 use machine_data::OutOfMemory;
 use writing::{Text, push_both, push_signed, push_told};
 

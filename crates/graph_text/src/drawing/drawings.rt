@@ -5,14 +5,13 @@ ghost use Rattle.std.specs.Global.{Global};
 ghost use Rattle.graph.specs.Units.{first_lacking};
 ghost use Rattle.graph.specs.Walks.{IsRecurrenceBound};
 ghost use Rattle.graph_text.specs.Drawings.{AreDotParts, IsCritical, IsDotPart};
-ghost use Rattle.graph_text.specs.Faults.{TextAnswers, lacking_in};
+ghost use Rattle.lower_bounds.specs.Faults.{TextAnswers, lacking_in};
 
 use crate::drawing::dot::push_dot;
-use crate::fault::TextFault;
-use crate::measuring::measure;
 use circuits::circuit_above;
 use graph::{Edge, Edges};
 use loop_data::Loop;
+use lower_bounds::{TextFault, measure};
 use machine_data::{Machine, OutOfMemory};
 use std::alloc::Global;
 

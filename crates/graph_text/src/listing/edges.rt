@@ -7,19 +7,17 @@ ghost use Rattle.graph.specs.Graphs.{IsGraphOf};
 ghost use Rattle.graph.specs.Units.{first_lacking};
 ghost use Rattle.graph.specs.Walks.{FitsCircuits, IsHeight};
 ghost use Rattle.graph_text.specs.Edges.{AreEdgesParts, IsEdgesPart, edge_line, numbered, op_line};
-ghost use Rattle.graph_text.specs.Faults.{TextAnswers, lacking_in};
+ghost use Rattle.lower_bounds.specs.Faults.{TextAnswers, lacking_in};
 ghost use Rattle.graph_text.specs.Kinds.{IsOfKind};
-ghost use Rattle.graph_text.specs.Texts.{AreTexts, numbers_of};
+ghost use Rattle.lower_bounds.specs.Texts.{AreTexts, numbers_of};
 ghost use Rattle.machine_data.specs.declared.limits.TheConstants.{MAX_INTERVAL};
 
-use crate::fault::TextFault;
 use crate::kind::{Kind, kind_of};
-use crate::listing::bounds::push_bounds_line;
 use crate::listing::sums::push_sums;
-use crate::measuring::measure;
 use crate::names::{opcode_word, push_name};
 use graph::{Edge, Edges, heights, longer_intervals_fit, mii};
 use loop_data::Loop;
+use lower_bounds::{TextFault, measure, push_bounds_line};
 use machine_data::{Machine, OutOfMemory};
 use std::alloc::Global;
 use writing::{Text, push_both, push_told};
@@ -137,7 +135,7 @@ fn push_part(
 }
 
 /// The dependences of loops. Each loop, in order, has its line of bounds, as
-/// [`bounds_lines`](crate::bounds_lines) writes it; a line for each operation,
+/// [`bounds_lines`](lower_bounds::bounds_lines) writes it; a line for each operation,
 /// `op K NAME OPCODE latency L height H`, with its number, latency and height at the lower bound of the
 /// interval, in cycles; and a line for each dependence, `edge P NAME Q NAME KIND delay D distance N`, with the
 /// operation that comes first, the one that depends on it, the [kind](crate::Kind), the delay in cycles

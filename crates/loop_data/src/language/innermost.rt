@@ -2,6 +2,7 @@
 
 ghost use Rattle.std.specs.Prelude.{◌≡◌};
 ghost use Rattle.loop_data.specs.Loops.{LoopData, IsLoop};
+ghost use Rattle.loop_data.specs.NamedParts.{value_name};
 ghost use Rattle.loop_data.specs.Run.{initial_of};
 
 use crate::language::lists::{Array, Initial, Param};
@@ -106,6 +107,20 @@ impl Loop {
         ) {
             Ok(place) => inits[place].value,
             Err(_) => 0,
+        }
+    }
+
+    /// The name of the value that a statement gives, by the statement's number. It is empty for a store and
+    /// for a number that no statement has.
+    pub fn value_name(&self, statement: u8) -> &str
+        ensures name { result.now ≡ value_name self.now statement }
+    {
+        let Some(statement) = self.statements.get(usize::from(statement)) else {
+            return "";
+        };
+        match &statement.name {
+            Some(name) => name.as_str(),
+            None => "",
         }
     }
 

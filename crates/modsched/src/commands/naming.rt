@@ -3,13 +3,13 @@
 ghost use Rattle.std.specs.Prelude.{◌≡◌, ◌≤◌, length, option_map, None, Ok, IfErr, IfOk};
 ghost use Rattle.std.specs.List.{list_any};
 ghost use Rattle.machine_data.specs.declared.limits.TheConstants.{MAX_LOOPS};
-ghost use Rattle.loops.specs.Meaning.{loops_in};
+ghost use Rattle.loop_reader.specs.Meaning.{loops_in};
 ghost use Rattle.modsched.specs.Engine.{IsNoLoop};
 ghost use Rattle.modsched.specs.Naming.{chosen, chosen_of, first_unknown, has_one_of, is_named, unknown_in};
 ghost use Rattle.modsched.specs.inner.Refusals.{IsRefusal, IsUnnamed};
 
 use exit_status::Status;
-use loops::Loop;
+use loop_data::Loop;
 use std::alloc::Global;
 use std::thread::Threads;
 use workers::read_by_workers;

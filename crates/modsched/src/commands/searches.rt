@@ -2,8 +2,8 @@
 
 ghost use Rattle.std.specs.Prelude.{◌≡◌, ℕ, List, Result, IfOk};
 ghost use Rattle.file_faults.specs.Answers.{AnswersIn};
-ghost use Rattle.loops.specs.LoopFault.{LoopFault};
-ghost use Rattle.loops.specs.Loops.{LoopData};
+ghost use Rattle.loop_reader.specs.declared.fault.LoopFault.{LoopFault};
+ghost use Rattle.loop_data.specs.Loops.{LoopData};
 ghost use Rattle.machine.specs.Machines.{MachineData};
 ghost use Rattle.one_thread.specs.Files.{ListsProblems, PreparesAndLists};
 ghost use Rattle.printouts.specs.Run.{IsRunText};

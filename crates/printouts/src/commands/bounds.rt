@@ -4,10 +4,10 @@ ghost use Rattle.graph.specs.Units.{first_lacking};
 ghost use Rattle.file_faults.specs.Answers.{AnswersOn};
 ghost use Rattle.printouts.specs.Bounds.{IsBoundsText};
 
-use crate::output::lines::push_last;
 use file_faults::FileFault;
-use graph_text::bounds_lines;
-use loops::Loop;
+use lines_of_runs::push_last;
+use loop_data::Loop;
+use lower_bounds::bounds_lines;
 use machine::Machine;
 use std::alloc::Global;
 use written::Printout;

@@ -3,8 +3,8 @@ use Rattle.std.specs.Prelude.{◌≡◌, ℕ, ◌*◌, ◌<◌, List, [], Vec, l
 use Rattle.std.specs.Arc.{arc_value}
 use Rattle.std.specs.Global.{Global}
 use Rattle.std.specs.List.{slice_index_or}
-use Rattle.loops.specs.Array.{Array}
-use Rattle.loops.specs.Run.{HasShapeOf}
+use Rattle.loop_data.specs.declared.language.lists.Array.{Array}
+use Rattle.loop_data.specs.Run.{HasShapeOf}
 use Rattle.shared_runs.specs.declared.lines.Lines.{Lines}
 use Rattle.shared_runs.specs.declared.lines.Lines.TheVariants.{Written, Left}
 use Rattle.shared_runs.specs.inner.Pieces.{piece_lines}

@@ -1,9 +1,9 @@
 -- What workers make of loops for `plain`.
 use Rattle.std.specs.Prelude.{◌≡◌, ◌<◌, ℕ, List, length}
 use Rattle.std.specs.List.{slice_index_or}
-use Rattle.loops.specs.Loops.{LoopData}
-use Rattle.loops.specs.Run.{HasShapeOf, opening_of}
-use Rattle.printouts.specs.Plain.{plain_lines, run_lines}
+use Rattle.loop_data.specs.Loops.{LoopData}
+use Rattle.loop_data.specs.Run.{HasShapeOf, opening_of}
+use Rattle.lines_of_runs.specs.Plain.{plain_lines, run_lines}
 use Rattle.shared_runs.specs.inner.Pieces.{ArePieces}
 use Rattle.shared_runs.specs.declared.made.Made.{Made}
 use Rattle.shared_runs.specs.declared.made.Made.TheVariants.{After, Text}

@@ -2,10 +2,10 @@
 use Rattle.std.specs.Prelude.{◌≡◌, ℕ, ◌+◌, ◌*◌, ◌/◌, ◌%◌, ◌<◌, ◌≤◌, List, Vec, length, min}
 use Rattle.std.specs.Global.{Global}
 use Rattle.std.specs.List.{slice_index_or}
-use Rattle.loops.specs.Array.{Array}
-use Rattle.loops.specs.Loops.{LoopData}
-use Rattle.loops.specs.Run.{MemoryData, opening_of}
-use Rattle.printouts.specs.Plain.{stretch_lines}
+use Rattle.loop_data.specs.declared.language.lists.Array.{Array}
+use Rattle.loop_data.specs.Loops.{LoopData}
+use Rattle.loop_data.specs.Run.{MemoryData, opening_of}
+use Rattle.lines_of_runs.specs.Plain.{stretch_lines}
 
 -- at which place in the list of an array's cells a piece begins
 abbrev pub place_of : ℕ → ℕ → ℕ

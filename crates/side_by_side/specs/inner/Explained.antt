@@ -1,7 +1,7 @@
 -- What workers tell of why loops have their intervals.
 use Rattle.std.specs.Prelude.{◌≡◌, ℕ, List}
 use Rattle.machine.specs.Machines.{MachineData}
-use Rattle.loops.specs.Loops.{LoopData}
+use Rattle.loop_data.specs.Loops.{LoopData}
 use Rattle.loop_schedules.specs.Problems.{ProblemData}
 use Rattle.candidates.specs.declared.choices.Choice.{Choice}
 use Rattle.candidates.specs.Listings.{is_met}

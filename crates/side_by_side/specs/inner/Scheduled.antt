@@ -1,7 +1,7 @@
 -- What workers draw of loops with their schedules.
 use Rattle.std.specs.Prelude.{◌≡◌, ℕ, List}
 use Rattle.machine.specs.Machines.{MachineData}
-use Rattle.loops.specs.Loops.{LoopData}
+use Rattle.loop_data.specs.Loops.{LoopData}
 use Rattle.loop_schedules.specs.Problems.{ProblemData}
 use Rattle.candidates.specs.Listings.{is_met}
 use Rattle.one_thread.specs.Files.{ArePrepared}

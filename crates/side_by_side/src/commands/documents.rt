@@ -3,7 +3,7 @@
 ghost use Rattle.std.specs.Prelude.{◌≡◌, ◌++◌, ◌≤◌, ◌==◌, IfOk, OnOk, codes};
 ghost use Rattle.std.specs.List.{flat_map};
 ghost use Rattle.machine_data.specs.declared.limits.TheConstants.{MAX_LOOPS};
-ghost use Rattle.loops.specs.Meaning.{loops_in};
+ghost use Rattle.loop_reader.specs.Meaning.{loops_in};
 ghost use Rattle.file_faults.specs.Answers.{AnswersIn};
 ghost use Rattle.json_objects.specs.Documents.{head_text, tail_text};
 ghost use Rattle.json_printouts.specs.Documents.{IsListingDocument};

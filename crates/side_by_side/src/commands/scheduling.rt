@@ -11,8 +11,8 @@ ghost use Rattle.side_by_side.specs.inner.Scheduled.{DrawsPrepared, IsDrawnPart}
 
 use crate::parts::jobs::loop_jobs;
 use file_faults::FileFault;
+use loop_data::Loop;
 use loop_schedules::Prepared;
-use loops::Loop;
 use machine::{Machine, OutOfMemory};
 use scheduled_printouts::{push_graph, scheduled_text};
 use settings::Settings;

@@ -3,7 +3,7 @@
 ghost use Rattle.std.specs.Prelude.{◌≡◌, ◌++◌, ◌≤◌, ◌==◌, IfOk, map, string_bytes};
 ghost use Rattle.std.specs.List.{flat_map, list_any};
 ghost use Rattle.machine_data.specs.declared.limits.TheConstants.{MAX_LOOPS};
-ghost use Rattle.loops.specs.Meaning.{loops_in};
+ghost use Rattle.loop_reader.specs.Meaning.{loops_in};
 ghost use Rattle.file_faults.specs.Answers.{AnswersIn};
 ghost use Rattle.loop_schedules.specs.Problems.{ProblemData};
 ghost use Rattle.candidates.specs.Texts.{row_text};

@@ -12,8 +12,8 @@ ghost use Rattle.variants.specs.Totals.{IsVaryTotal};
 ghost use Rattle.machine_data.specs.declared.limits.TheConstants.{MAX_LOOPS};
 
 use file_faults::FileFault;
+use loop_data::Loop;
 use loop_schedules::Prepared;
-use loops::Loop;
 use machine::{Machine, OutOfMemory};
 use settings::Settings;
 use shared_jobs::{Jobs, parts_of, shared};

@@ -3,7 +3,7 @@
 ghost use Rattle.std.specs.Prelude.{◌≡◌, ◌<◌, IfSome, length, vec_len};
 ghost use Rattle.std.specs.List.{All};
 
-use loops::Loop;
+use loop_data::Loop;
 use shared_jobs::{Jobs, shared};
 use std::alloc::Global;
 

@@ -2,7 +2,7 @@
 use Rattle.std.specs.Prelude.{◌≡◌, ℕ, MatchResult, Result, Some, None}
 use Rattle.machine.specs.Machines.{MachineData}
 use Rattle.machine.specs.Opcode.{Opcode}
-use Rattle.loops.specs.Loops.{LoopData}
+use Rattle.loop_data.specs.Loops.{LoopData}
 use Rattle.graph.specs.Units.{first_without_table}
 use Rattle.schedules.specs.Problems as schedules
 use Rattle.loop_schedules.specs.Problems.{IsProblemOf, with_loop}

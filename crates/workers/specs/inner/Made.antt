@@ -2,8 +2,8 @@
 use Rattle.std.specs.Prelude.{◌≡◌, ℕ, List, Option, Some, None, Ok, map}
 use Rattle.std.specs.List.{flat_map}
 use Rattle.machine.specs.Machines.{MachineData}
-use Rattle.loops.specs.Loops.{LoopData}
-use Rattle.loops.specs.Meaning.{loops_in}
+use Rattle.loop_data.specs.Loops.{LoopData}
+use Rattle.loop_reader.specs.Meaning.{loops_in}
 use Rattle.graph.specs.Units.{first_lacking}
 use Rattle.loop_schedules.specs.Problems.{ProblemData}
 use Rattle.candidates.specs.declared.choices.Choice.{Choice}

@@ -1,5 +1,5 @@
 use Rattle.machine.specs.MachineText.{machine_of}
-use Rattle.loops.specs.Meaning.{loops_in}
+use Rattle.loop_reader.specs.Meaning.{loops_in}
 use Rattle.file_faults.specs.Answers.{AnswersFile}
 use Rattle.printouts.specs.Bounds.{IsBoundsText}
 use Rattle.capi.proofs.Texting.{brought}

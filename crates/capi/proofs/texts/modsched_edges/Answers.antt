@@ -1,7 +1,7 @@
 use Rattle.machine.specs.MachineText.{machine_of}
-use Rattle.loops.specs.Meaning.{loops_in}
+use Rattle.loop_reader.specs.Meaning.{loops_in}
 use Rattle.file_faults.specs.Answers.{AnswersFile}
-use Rattle.printouts.specs.Graphs.{IsEdgesText}
+use Rattle.graph_printouts.specs.Graphs.{IsEdgesText}
 use Rattle.capi.proofs.Texting.{brought}
 use Rattle.capi.proofs.texts.modsched_edges.Goals as goal
 

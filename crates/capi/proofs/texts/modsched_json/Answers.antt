@@ -1,6 +1,6 @@
 use Rattle.std.proofs.Common.{sym, ◌∙◌, inr}
 use Rattle.machine.specs.MachineText.{machine_of}
-use Rattle.loops.specs.Meaning.{loops_in}
+use Rattle.loop_reader.specs.Meaning.{loops_in}
 use Rattle.file_faults.specs.Answers.{AnswersFile}
 use Rattle.json_printouts.specs.Documents.{IsListingDocument}
 use Rattle.capi.proofs.Texting.{brought}

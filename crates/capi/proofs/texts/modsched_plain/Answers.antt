@@ -1,7 +1,7 @@
 use Rattle.std.proofs.Common.{sym, ◌∙◌, inr}
-use Rattle.loops.specs.Meaning.{loops_in}
+use Rattle.loop_reader.specs.Meaning.{loops_in}
 use Rattle.file_faults.specs.Answers.{AnswersAlone}
-use Rattle.printouts.specs.Plain.{IsPlainText}
+use Rattle.lines_of_runs.specs.Plain.{IsPlainText}
 use Rattle.capi.proofs.Texting.{brought}
 use Rattle.capi.proofs.texts.modsched_plain.Goals as goal
 

@@ -4,8 +4,8 @@ use Rattle.std.specs.Vec.Iter.{into_iter_items}
 use Rattle.std.proofs.lemmas.Result.{err_from_is_err_and}
 use Rattle.loop_data.specs.Loops.{LoopData}
 use Rattle.graph.specs.Units.{first_lacking}
-use Rattle.graph_text.specs.Faults.{TextAnswers}
-use Rattle.graph_text.proofs.Lacking.{answered, complete}
+use Rattle.lower_bounds.specs.Faults.{TextAnswers}
+use Rattle.lower_bounds.proofs.Lacking.{answered, complete}
 use Rattle.candidates.specs.declared.choices.Choice.{Choice}
 use Rattle.explain.specs.Explanations.{ArePartsOf, IsPartOf}
 use Rattle.explain.specs.declared.file.Tally.{Tally}

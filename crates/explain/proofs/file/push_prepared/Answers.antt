@@ -1,7 +1,7 @@
 use Rattle.std.proofs.Common.{◌≡◌, ◌++◌, ℕ, List}
 use Rattle.graph.specs.Units.{operations_of}
-use Rattle.graph_text.specs.Faults.{lacking_in}
-use Rattle.graph_text.proofs.Lacking.{answered}
+use Rattle.lower_bounds.specs.Faults.{lacking_in}
+use Rattle.lower_bounds.proofs.Lacking.{answered}
 use Rattle.resource_bound.specs.Choices.{AreUnitChoices}
 use Rattle.resource_bound.specs.UnitLines.{unit_lines_of}
 use Rattle.explain.proofs.Parts.{told-on}

@@ -1,7 +1,7 @@
 use Rattle.std.proofs.Common.{[], ◌∷◌, ◌++◌, filter, sym, ap, ◌∙◌}
 use Rattle.std.specs.List.{range_with_len}
 use Rattle.std.proofs.lemmas.List.Elements.{filter-append}
-use Rattle.graph_text.proofs.Texts.{numbers-push}
+use Rattle.lower_bounds.proofs.Texts.{numbers-push}
 use Rattle.unit_sets.specs.Fullest.{units_in}
 use Rattle.unit_sets.specs.Sets.{is_in}
 use Rattle.explain_json.proofs.units.members_of.Goals as goal

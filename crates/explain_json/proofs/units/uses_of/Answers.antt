@@ -1,7 +1,7 @@
 use Rattle.std.proofs.Common.{◌≡◌, ℕ, ◌+◌, [], ◌∷◌, ap, ◌∙◌, arith}
 use Rattle.std.specs.List.{range_with_len, sum_by}
 use Rattle.std.proofs.lemmas.List.Sums.{sum_by-append, sum_by-cons}
-use Rattle.graph_text.proofs.Texts.{numbers-push}
+use Rattle.lower_bounds.proofs.Texts.{numbers-push}
 use Rattle.explain_json.specs.Units.{use_by}
 use Rattle.explain_json.proofs.units.uses_of.Goals as goal
 

@@ -1,7 +1,7 @@
 use Rattle.std.proofs.Common.{◌≡◌, ◌++◌, List, ℕ, sym, ap, ◌∙◌, subst}
 use Rattle.candidates.specs.declared.choices.Choice.{Choice}
-use Rattle.graph_text.specs.Faults.{lacking_in}
-use Rattle.graph_text.proofs.Lacking.{answered}
+use Rattle.lower_bounds.specs.Faults.{lacking_in}
+use Rattle.lower_bounds.proofs.Lacking.{answered}
 use Rattle.explain_printouts.specs.Objects.{IsObjectOn}
 use Rattle.explain_printouts.proofs.objects.object_of.Goals as goal
 

@@ -1,7 +1,7 @@
 use Rattle.std.proofs.Common.{subst, sym}
 use Rattle.command_line.specs.declared.command.Search as search
 use Rattle.file_faults.specs.Answers.{AnswersIn}
-use Rattle.loops.specs.Meaning.{loops_in}
+use Rattle.loop_reader.specs.Meaning.{loops_in}
 use Rattle.modsched.specs.Engine.{IsSearchText}
 use Rattle.modsched.proofs.commands.search_of.Goals as goal
 

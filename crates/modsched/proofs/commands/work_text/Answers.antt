@@ -1,7 +1,7 @@
 use Rattle.std.proofs.Common.{subst, sym}
 use Rattle.std.specs.Prelude.{Err}
 use Rattle.command_line.specs.declared.command.Work.{Work}
-use Rattle.loops.specs.Meaning.{loops_in}
+use Rattle.loop_reader.specs.Meaning.{loops_in}
 use Rattle.modsched.specs.Engine.{LoopsBring}
 use Rattle.modsched.specs.Naming.{unknown_in}
 use Rattle.modsched.proofs.Refused.{machine-refused, machine-unnamed, plain-unnamed}

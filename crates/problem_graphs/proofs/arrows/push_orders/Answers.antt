@@ -4,7 +4,7 @@ use Rattle.problems.specs.declared.draft.Order.{Order}
 use Rattle.problems.specs.Drafts.{order_edge}
 use Rattle.problem_graphs.specs.declared.whys.Why.TheVariants as why
 use Rattle.problem_graphs.specs.Arrows.{IsOfCircuit, arrow_line}
-use Rattle.graph_text.proofs.Texts.{text-next}
+use Rattle.lower_bounds.proofs.Texts.{text-next}
 use Rattle.problem_graphs.proofs.arrows.push_orders.Goals as goal
 
 pub loop-order-preserved : goal.loop-order-preserved

@@ -4,7 +4,7 @@ use Rattle.registers.specs.declared.value.Read.{Read}
 use Rattle.problems.specs.Drafts.{read_edge}
 use Rattle.problem_graphs.specs.declared.whys.Why.TheVariants.{Value}
 use Rattle.problem_graphs.specs.Arrows.{IsOfCircuit, arrow_line}
-use Rattle.graph_text.proofs.Texts.{text-next}
+use Rattle.lower_bounds.proofs.Texts.{text-next}
 use Rattle.problem_graphs.proofs.arrows.push_reads.Goals as goal
 
 pub loop-read-preserved : goal.loop-read-preserved

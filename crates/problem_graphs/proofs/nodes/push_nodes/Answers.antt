@@ -1,5 +1,5 @@
 use Rattle.problem_graphs.specs.Nodes.{node_line}
-use Rattle.graph_text.proofs.Texts.{numbered-more}
+use Rattle.lower_bounds.proofs.Texts.{numbered-more}
 use Rattle.problem_graphs.proofs.nodes.push_nodes.Goals as goal
 
 pub loop-op-preserved : goal.loop-op-preserved

@@ -1,6 +1,6 @@
 use Rattle.std.proofs.Common.{◌++◌, ℕ, List, ap₂, ◌∙◌}
 use Rattle.std.specs.Prelude.{slice_index}
-use Rattle.graph_text.proofs.Texts.{numbered-more}
+use Rattle.lower_bounds.proofs.Texts.{numbered-more}
 use Rattle.problem_graphs.specs.Scheduled.{placed_line}
 use Rattle.problem_graphs.proofs.scheduled.push_all_placed.Goals as goal
 

@@ -1,7 +1,7 @@
 use Rattle.std.proofs.Common.{pos, refl}
 use Rattle.graph.specs.Dependences.{EdgeData}
 use Rattle.problem_graphs.specs.Edges.{edge_line}
-use Rattle.graph_text.proofs.Texts.{text-next}
+use Rattle.lower_bounds.proofs.Texts.{text-next}
 use Rattle.problem_reasons.specs.CircuitTexts.{IsWhy}
 use Rattle.problem_reasons.proofs.circuit.push_edges.Goals as goal
 

@@ -1,5 +1,5 @@
 use Rattle.std.proofs.Common.{◌≡◌, ℕ, List, ◌++◌, take}
-use Rattle.graph_text.specs.Texts.{AreTexts}
+use Rattle.lower_bounds.specs.Texts.{AreTexts}
 use Rattle.problem_graphs.specs.Edges.{edge_line}
 use Rattle.problem_reasons.specs.CircuitTexts.{IsWhy}
 use Rattle.problem_reasons.proofs.circuit.push_edges.Given as goal

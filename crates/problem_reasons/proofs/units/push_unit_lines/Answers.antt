@@ -2,7 +2,7 @@ use Rattle.std.proofs.Common.{◌≡◌, ℕ, List, ◌++◌, ap, ◌∙◌}
 use Rattle.machine_data.specs.declared.alternative.Row.{Row}
 use Rattle.graph.specs.Units.{chosen_rows, use_of}
 use Rattle.schedules.specs.Problems.{ProblemData as SchedulingData}
-use Rattle.graph_text.proofs.Texts.{numbered-more}
+use Rattle.lower_bounds.proofs.Texts.{numbered-more}
 use Rattle.problem_reasons.specs.Units.{line_with, unit_line}
 use Rattle.problem_reasons.proofs.units.push_unit_lines.Goals as goal
 

@@ -4,7 +4,7 @@ use Rattle.graph.specs.Units.{use_of}
 use Rattle.schedules.specs.Problems.{ProblemData as SchedulingData}
 use Rattle.resource_bound.specs.Choices.{rows_at}
 use Rattle.problems.specs.declared.draft.Draft.{Draft}
-use Rattle.graph_text.proofs.Texts.{numbered-more}
+use Rattle.lower_bounds.proofs.Texts.{numbered-more}
 use Rattle.problem_reasons.specs.Units.{user_text}
 use Rattle.problem_reasons.proofs.units.push_users.Goals as goal
 

@@ -1,7 +1,7 @@
 use Rattle.std.proofs.Common.{◌≡◌, ◌++◌, ◌≤◌, ℕ, List, Vec, map, true, false, sym, ap, ◌∙◌, arith}
 use Rattle.std.proofs.lemmas.List.{append-nil}
 use Rattle.std.specs.Global.{Global}
-use Rattle.graph_text.proofs.Texts.{numbered-more}
+use Rattle.lower_bounds.proofs.Texts.{numbered-more}
 use Rattle.reason_lines.specs.Runs.{ends_run, run_at}
 use Rattle.reason_lines.proofs.Running.{run-ended, run-goes_on, start-ended, start-goes_on, why-at}
 use Rattle.reason_lines.proofs.runs.push_runs.Goals as goal

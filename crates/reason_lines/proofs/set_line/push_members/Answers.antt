@@ -1,4 +1,4 @@
-use Rattle.graph_text.proofs.Texts.{numbered-more}
+use Rattle.lower_bounds.proofs.Texts.{numbered-more}
 use Rattle.reason_lines.specs.SetLines.{member_text}
 use Rattle.reason_lines.proofs.set_line.push_members.Goals as goal
 

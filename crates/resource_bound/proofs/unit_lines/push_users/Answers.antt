@@ -1,6 +1,6 @@
 use Rattle.std.proofs.Common.{◌++◌, ap, ◌∙◌}
 use Rattle.graph.specs.Units.{operations_of, use_of}
-use Rattle.graph_text.proofs.Texts.{numbered-more}
+use Rattle.lower_bounds.proofs.Texts.{numbered-more}
 use Rattle.resource_bound.specs.Choices.{rows_at}
 use Rattle.resource_bound.specs.UnitLines.{user_text}
 use Rattle.resource_bound.proofs.unit_lines.push_users.Goals as goal

@@ -1,7 +1,7 @@
 use Rattle.std.proofs.Common.{◌≡◌, ℕ, ◌++◌, length, Option, ap, ◌∙◌, arith}
 use Rattle.std.specs.Prelude.{slice_index, unwrap_or}
 use Rattle.std.specs.List.{flat_map, range_with_len}
-use Rattle.graph_text.proofs.Texts.{numbered-more}
+use Rattle.lower_bounds.proofs.Texts.{numbered-more}
 use Rattle.loop_schedules.specs.Problems.{ProblemData}
 use Rattle.schedule_lines.specs.ScheduleTexts.{op_line}
 use Rattle.schedule_lines.proofs.operations.push_operations.Goals as goal

@@ -1,7 +1,7 @@
 use Rattle.std.proofs.Common.{◌≡◌, ◌<◌, length, get_or, sym, ap, ◌∙◌, subst}
 use Rattle.std.specs.List.{All}
 use Rattle.loop_data.specs.Loops.{LoopData}
-use Rattle.graph_text.proofs.Texts.{numbered-more}
+use Rattle.lower_bounds.proofs.Texts.{numbered-more}
 use Rattle.loop_schedules.specs.Problems.{ProblemData}
 use Rattle.registers.specs.declared.lifetime.Lifetime.{Lifetime}
 use Rattle.rotating.specs.Crowds.{nobody}

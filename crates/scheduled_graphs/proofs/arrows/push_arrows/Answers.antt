@@ -2,7 +2,7 @@ use Rattle.std.proofs.Common.{◌≡◌, List, pos, get_or, ap, ◌∙◌, subst
 use Rattle.graph.specs.Dependences.{EdgeData}
 use Rattle.graph.specs.Graphs.{GraphData}
 use Rattle.graph_text.specs.Kinds.{IsOfKind}
-use Rattle.graph_text.proofs.Texts.{text-next}
+use Rattle.lower_bounds.proofs.Texts.{text-next}
 use Rattle.loop_data.specs.Loops.{LoopData}
 use Rattle.scheduled_graphs.specs.Arrows.{IsStroke, arrow_line}
 use Rattle.scheduled_graphs.specs.declared.arrows.Stroke.{Stroke}

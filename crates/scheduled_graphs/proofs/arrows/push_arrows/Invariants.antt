@@ -1,5 +1,5 @@
 use Rattle.std.proofs.Common.{◌≡◌, ℕ, List, ◌++◌, take}
-use Rattle.graph_text.specs.Texts.{AreTexts}
+use Rattle.lower_bounds.specs.Texts.{AreTexts}
 use Rattle.scheduled_graphs.specs.Arrows.{IsStroke, arrow_line}
 use Rattle.scheduled_graphs.proofs.arrows.push_arrows.Given as goal
 

@@ -1,7 +1,7 @@
 use Rattle.std.proofs.Common.{◌≡◌, ◌∙◌, length, sym, ap}
-use Rattle.loops.specs.Run.{MemoryData, opening_of}
+use Rattle.loop_data.specs.Run.{MemoryData, opening_of}
 use Rattle.printouts.proofs.KernelLines.{opening_fits}
-use Rattle.printouts.proofs.Shapes.{opening_trip}
+use Rattle.lines_of_runs.proofs.Shapes.{opening_trip}
 use Rattle.shared_runs.proofs.halves.left_by_halves.Goals as goal
 
 pub within_limits-requires-2-clause-shape : goal.within_limits-requires-2-clause-shape

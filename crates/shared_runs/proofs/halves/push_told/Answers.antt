@@ -1,5 +1,5 @@
 use Rattle.std.proofs.Common.{◌∙◌, length, sym, subst, ap}
-use Rattle.loops.specs.Loops.{LoopData}
+use Rattle.loop_data.specs.Loops.{LoopData}
 use Rattle.candidates.specs.declared.choices.Choice.TheVariants.{Met}
 use Rattle.candidates.specs.Choices.{IsChoice}
 use Rattle.printouts.proofs.Runnable.{runnable}

@@ -1,7 +1,7 @@
 use Rattle.std.proofs.Common.{◌≡◌, ◌++◌, length}
 use Rattle.std.specs.List.{All, flat_map}
 use Rattle.std.specs.Vec.Iter.{into_iter_items, into_iter_len}
-use Rattle.loops.specs.Array.{Array}
+use Rattle.loop_data.specs.declared.language.lists.Array.{Array}
 use Rattle.text_parts.specs.Parted.{joined_text}
 use Rattle.shared_runs.specs.inner.Lines.{IsPiece, bytes_in}
 use Rattle.shared_runs.proofs.lines.add_begun.Given as goal

@@ -1,7 +1,7 @@
 use Rattle.std.proofs.Common.{◌≡◌, ◌∙◌, ℕ, ◌<◌, ◌≤◌, ◌-◌, ◌*◌, ◌++◌, List, length, sym, subst, ap, ap₂, arith, append_assoc}
 use Rattle.std.specs.Arc.{arc_value}
 use Rattle.std.specs.List.{flat_map, range_with_len}
-use Rattle.loops.specs.Run.{HasShapeOf, MemoryData}
+use Rattle.loop_data.specs.Run.{HasShapeOf, MemoryData}
 use Rattle.shared_runs.specs.declared.lines.Lines.{Lines}
 use Rattle.shared_runs.specs.declared.lines.Lines.TheVariants.{Left}
 use Rattle.shared_runs.specs.inner.Lines.{bytes_in}

@@ -1,6 +1,6 @@
 use Rattle.std.proofs.Common.{◌≡◌, ◌-◌, ◌++◌}
 use Rattle.std.specs.List.{All, flat_map, range_with_len}
-use Rattle.loops.specs.Array.{Array}
+use Rattle.loop_data.specs.declared.language.lists.Array.{Array}
 use Rattle.std.specs.Arc.{arc_value}
 use Rattle.shared_runs.specs.inner.Lines.{IsPiece, bytes_in}
 use Rattle.shared_runs.specs.inner.Pieces.{piece_lines}

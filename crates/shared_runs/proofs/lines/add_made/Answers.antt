@@ -1,9 +1,9 @@
 use Rattle.std.proofs.Common.{◌≡◌, ◌∙◌, ◌++◌, List, ℕ, sym, subst, ap, slice_index_or}
 use Rattle.std.specs.List.{flat_map}
 use Rattle.std.proofs.lemmas.List.{get_or_default}
-use Rattle.loops.specs.Loops.{LoopData}
-use Rattle.loops.specs.Run.{MemoryData, opening_of}
-use Rattle.printouts.specs.Plain.{run_lines}
+use Rattle.loop_data.specs.Loops.{LoopData}
+use Rattle.loop_data.specs.Run.{MemoryData, opening_of}
+use Rattle.lines_of_runs.specs.Plain.{run_lines}
 use Rattle.shared_runs.specs.declared.made.Made.TheVariants.{After}
 use Rattle.shared_runs.specs.inner.Lines.{bytes_in}
 use Rattle.shared_runs.specs.inner.Made.{Fits, bytes_of}

@@ -2,8 +2,8 @@ use Rattle.std.proofs.Common.{◌≡◌, ◌∙◌, ℕ, ◌-◌, ◌*◌, ◌++
 use Rattle.std.specs.List.{flat_map, range_with_len}
 use Rattle.std.specs.Prelude.{Vec}
 use Rattle.std.specs.Global.{Global}
-use Rattle.loops.specs.Run.{MemoryData, opening_of}
-use Rattle.printouts.specs.Plain.{array_lines, out_lines, run_line}
+use Rattle.loop_data.specs.Run.{MemoryData, opening_of}
+use Rattle.lines_of_runs.specs.Plain.{array_lines, out_lines, run_line}
 use Rattle.text_parts.specs.Parted.{joined_text}
 use Rattle.shared_runs.specs.declared.lines.Lines.{Lines}
 use Rattle.shared_runs.specs.declared.lines.Lines.TheVariants.{Written}

@@ -1,8 +1,8 @@
 use Rattle.std.proofs.Common.{◌≡◌, ◌++◌, length}
 use Rattle.std.specs.List.{All, flat_map}
 use Rattle.std.specs.Vec.Iter.{into_iter_items, into_iter_len}
-use Rattle.loops.specs.Array.{Array}
-use Rattle.loops.specs.Loops.{LoopData}
+use Rattle.loop_data.specs.declared.language.lists.Array.{Array}
+use Rattle.loop_data.specs.Loops.{LoopData}
 use Rattle.shared_runs.specs.inner.Lines.{IsPiece, bytes_in}
 use Rattle.shared_runs.specs.inner.Made.{Fits, bytes_of}
 use Rattle.shared_runs.proofs.lines.all_lines.Given as goal

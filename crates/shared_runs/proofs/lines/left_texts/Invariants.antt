@@ -1,7 +1,7 @@
 use Rattle.std.proofs.Common.{◌≡◌, ◌<◌, ℕ, length, get_or}
 use Rattle.std.specs.Prelude.{Vec}
 use Rattle.std.specs.Global.{Global}
-use Rattle.loops.specs.Array.{Array}
+use Rattle.loop_data.specs.declared.language.lists.Array.{Array}
 use Rattle.shared_runs.specs.declared.lines.Lines.{Lines}
 use Rattle.shared_runs.specs.inner.Lines.{bytes_left}
 use Rattle.shared_runs.proofs.lines.left_texts.Given as goal

@@ -2,8 +2,8 @@ use Rattle.std.proofs.Common.{◌≡◌, ◌∙◌, ℕ, [], List}
 use Rattle.std.specs.List.{flat_map}
 use Rattle.std.specs.Prelude.{Vec}
 use Rattle.std.specs.Global.{Global}
-use Rattle.loops.specs.Array.{Array}
-use Rattle.loops.specs.Loops.{LoopData}
+use Rattle.loop_data.specs.declared.language.lists.Array.{Array}
+use Rattle.loop_data.specs.Loops.{LoopData}
 use Rattle.text_parts.specs.Parted.{joined_text}
 use Rattle.shared_runs.specs.declared.lines.Lines.{Lines}
 use Rattle.shared_runs.specs.inner.Lines.{bytes_in}

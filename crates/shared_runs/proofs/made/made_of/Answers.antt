@@ -1,9 +1,9 @@
 use Rattle.std.proofs.Common.{◌≡◌, ◌∙◌, ℕ, sym, ap, ap₂, subst}
 use Rattle.std.proofs.lemmas.List.{get_or_default}
-use Rattle.loops.specs.Loops.{LoopData}
-use Rattle.loops.specs.Run.{HasShapeOf, MemoryData, opening_of, plain}
-use Rattle.printouts.specs.Plain.{plain_lines, run_lines}
-use Rattle.printouts.proofs.Shapes.{opening_trip, plain_shape, plain_trip}
+use Rattle.loop_data.specs.Loops.{LoopData}
+use Rattle.loop_data.specs.Run.{HasShapeOf, MemoryData, opening_of, plain}
+use Rattle.lines_of_runs.specs.Plain.{plain_lines, run_lines}
+use Rattle.lines_of_runs.proofs.Shapes.{opening_trip, plain_shape, plain_trip}
 use Rattle.shared_runs.specs.inner.Pieces.{ArePieces}
 use Rattle.shared_runs.proofs.made.made_of.Goals as goal
 

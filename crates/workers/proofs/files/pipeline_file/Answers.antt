@@ -1,5 +1,5 @@
 use Rattle.machine.specs.MachineText.{machine_of}
-use Rattle.loops.specs.Meaning.{loops_in}
+use Rattle.loop_reader.specs.Meaning.{loops_in}
 use Rattle.candidates.specs.Promises.{IsRight}
 use Rattle.one_thread.specs.Files.{PreparesAndLists}
 use Rattle.file_faults.proofs.Answering.{file_ok}

@@ -1,7 +1,7 @@
 use Rattle.std.proofs.Common.{◌≡◌, List, length, sym, ap, ◌∙◌, subst, arith}
 use Rattle.std.specs.Prelude.{Ok}
 use Rattle.std.specs.Vec.Iter.{into_iter_items}
-use Rattle.loops.specs.Loops.{LoopData}
+use Rattle.loop_data.specs.Loops.{LoopData}
 use Rattle.graph.specs.Units.{first_lacking}
 use Rattle.file_faults.proofs.Answering.{on_none}
 use Rattle.one_thread.specs.Files.{AnswersOn, Prepares}

@@ -3,7 +3,7 @@ use Rattle.graph.specs.Dependences.{EdgeData}
 use Rattle.graph_text.specs.Dot.{IsStroke, arrow_line}
 use Rattle.graph_text.specs.declared.drawing.dot.Stroke.{Stroke}
 use Rattle.graph_text.proofs.Drawn.{edge-timed}
-use Rattle.graph_text.proofs.Texts.{texts-more}
+use Rattle.lower_bounds.proofs.Texts.{texts-more}
 use Rattle.writing.proofs.Beginnings.{two_pushed}
 use Rattle.graph_text.proofs.drawing.dot.push_arrows.Goals as goal
 

@@ -1,6 +1,6 @@
 use Rattle.std.proofs.Common.{◌≡◌, ℕ, List, ◌++◌, take}
 use Rattle.graph_text.specs.Dot.{IsStroke, arrow_line}
-use Rattle.graph_text.specs.Texts.{AreTexts}
+use Rattle.lower_bounds.specs.Texts.{AreTexts}
 use Rattle.graph_text.proofs.drawing.dot.push_arrows.Given as goal
 
 abbrev pub invariant-loop-edge : goal.invariant-loop-edge

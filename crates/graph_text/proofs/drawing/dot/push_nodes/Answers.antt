@@ -1,5 +1,5 @@
 use Rattle.graph_text.specs.Dot.{node_line}
-use Rattle.graph_text.proofs.Texts.{numbered-more}
+use Rattle.lower_bounds.proofs.Texts.{numbered-more}
 use Rattle.graph_text.proofs.drawing.dot.push_nodes.Goals as goal
 
 pub loop-number-preserved : goal.loop-number-preserved

@@ -1,6 +1,6 @@
 use Rattle.std.proofs.lemmas.Result.{err_from_is_err_and}
-use Rattle.graph_text.proofs.Lacking.{answered, lacking-here, lacking-more}
-use Rattle.graph_text.proofs.Texts.{texts-item}
+use Rattle.lower_bounds.proofs.Lacking.{answered, lacking-here, lacking-more}
+use Rattle.lower_bounds.proofs.Texts.{texts-item}
 use Rattle.graph_text.proofs.drawing.drawings.dot_graphs.Goals as goal
 
 pub returns-in_err-push_drawing : goal.returns-in_err-push_drawing

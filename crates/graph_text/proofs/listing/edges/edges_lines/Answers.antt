@@ -1,6 +1,6 @@
 use Rattle.std.proofs.lemmas.Result.{err_from_is_err_and}
-use Rattle.graph_text.proofs.Lacking.{answered, lacking-here, lacking-more}
-use Rattle.graph_text.proofs.Texts.{texts-item}
+use Rattle.lower_bounds.proofs.Lacking.{answered, lacking-here, lacking-more}
+use Rattle.lower_bounds.proofs.Texts.{texts-item}
 use Rattle.graph_text.proofs.listing.edges.edges_lines.Goals as goal
 
 pub returns-in_err-push_part : goal.returns-in_err-push_part

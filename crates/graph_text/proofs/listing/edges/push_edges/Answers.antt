@@ -2,7 +2,7 @@ use Rattle.std.proofs.Common.{◌++◌, pos, get_or}
 use Rattle.graph.specs.Dependences.{EdgeData}
 use Rattle.graph_text.specs.Edges.{edge_line}
 use Rattle.graph_text.proofs.Drawn.{edge-timed}
-use Rattle.graph_text.proofs.Texts.{texts-more}
+use Rattle.lower_bounds.proofs.Texts.{texts-more}
 use Rattle.writing.proofs.Beginnings.{two_pushed}
 use Rattle.graph_text.proofs.listing.edges.push_edges.Goals as goal
 

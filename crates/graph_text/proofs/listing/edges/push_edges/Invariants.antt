@@ -1,7 +1,7 @@
 use Rattle.std.proofs.Common.{◌≡◌, ℕ, List, ◌++◌, take}
 use Rattle.graph_text.specs.Edges.{edge_line}
 use Rattle.graph_text.specs.Kinds.{IsOfKind}
-use Rattle.graph_text.specs.Texts.{AreTexts}
+use Rattle.lower_bounds.specs.Texts.{AreTexts}
 use Rattle.graph_text.proofs.listing.edges.push_edges.Given as goal
 
 abbrev pub invariant-loop-edge : goal.invariant-loop-edge

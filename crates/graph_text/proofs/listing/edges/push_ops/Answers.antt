@@ -2,7 +2,7 @@ use Rattle.std.proofs.Common.{◌≡◌, ◌<◌, ◌++◌, length, get_or, sym,
 use Rattle.std.proofs.lemmas.List.{get_or_read}
 use Rattle.graph.specs.Walks.{IsHeight}
 use Rattle.graph_text.specs.Edges.{op_line}
-use Rattle.graph_text.proofs.Texts.{texts-next}
+use Rattle.lower_bounds.proofs.Texts.{texts-next}
 use Rattle.writing.proofs.Beginnings.{two_pushed}
 use Rattle.graph_text.proofs.listing.edges.push_ops.Goals as goal
 

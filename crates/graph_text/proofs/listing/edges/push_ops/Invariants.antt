@@ -2,7 +2,7 @@ use Rattle.std.proofs.Common.{◌≡◌, ℕ, List, ◌++◌}
 use Rattle.std.specs.List.{range_with_len}
 use Rattle.graph.specs.Walks.{IsHeight}
 use Rattle.graph_text.specs.Edges.{op_line}
-use Rattle.graph_text.specs.Texts.{AreTexts}
+use Rattle.lower_bounds.specs.Texts.{AreTexts}
 use Rattle.graph_text.proofs.listing.edges.push_ops.Given as goal
 
 abbrev pub invariant-loop-number : goal.invariant-loop-number

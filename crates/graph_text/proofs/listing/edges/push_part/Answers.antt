@@ -1,11 +1,11 @@
 use Rattle.std.proofs.Common.{◌≡◌, ℕ, List, ◌++◌, ◌≤◌, None, refl, subst, arith}
 use Rattle.graph.specs.Walks.{IsHeight}
-use Rattle.graph_text.specs.Bounds.{IsMeasured, bounds_line}
+use Rattle.lower_bounds.specs.Bounds.{IsMeasured, bounds_line}
 use Rattle.graph_text.specs.Edges.{IsEdgesPart, op_line}
-use Rattle.graph_text.specs.Faults.{lacking_in}
-use Rattle.graph_text.specs.Texts.{AreTexts, numbers_of}
-use Rattle.graph_text.specs.declared.measuring.Measured.{Measured}
-use Rattle.graph_text.proofs.Lacking.{answered, complete}
+use Rattle.lower_bounds.specs.Faults.{lacking_in}
+use Rattle.lower_bounds.specs.Texts.{AreTexts, numbers_of}
+use Rattle.lower_bounds.specs.declared.measuring.Measured.{Measured}
+use Rattle.lower_bounds.proofs.Lacking.{answered, complete}
 use Rattle.writing.proofs.Beginnings.{two_pushed}
 use Rattle.graph_text.proofs.listing.edges.push_part.Goals as goal
 

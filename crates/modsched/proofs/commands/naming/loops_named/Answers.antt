@@ -1,5 +1,5 @@
 use Rattle.std.proofs.Common.{◌≡◌, ◌∙◌, ap, Some}
-use Rattle.loops.specs.Meaning.{loops_in}
+use Rattle.loop_reader.specs.Meaning.{loops_in}
 use Rattle.modsched.specs.Naming.{first_unknown}
 use Rattle.modsched.proofs.Refused.{unnamed-by}
 use Rattle.modsched.proofs.commands.naming.loops_named.Goals as goal

@@ -1,5 +1,5 @@
 use Rattle.std.proofs.Common.{sym, subst}
-use Rattle.loops.specs.Loops.{LoopData}
+use Rattle.loop_data.specs.Loops.{LoopData}
 use Rattle.printouts.specs.inner.Runnable.{IsRunnable}
 use Rattle.printouts.proofs.Runnable.{runnable}
 use Rattle.printouts.proofs.commands.running.push_choice.Goals as goal

@@ -2,10 +2,10 @@ use Rattle.std.proofs.Common.{◌≡◌, ◌∙◌, ◌++◌, ℕ, List, length,
 use Rattle.std.proofs.lemmas.Slice.Zip.{AllZip-long}
 use Rattle.loop_schedules.specs.Problems.{ProblemData}
 use Rattle.candidates.specs.declared.listings.Row as row
-use Rattle.loops.specs.Loops.{LoopData}
+use Rattle.loop_data.specs.Loops.{LoopData}
 use Rattle.printouts.specs.Run.{choice_lines}
 use Rattle.printouts.specs.inner.Runnable.{IsRunnable}
-use Rattle.printouts.proofs.PlainLines.{pair_more, pair_all}
+use Rattle.lines_of_runs.proofs.PlainLines.{pair_more, pair_all}
 use Rattle.printouts.proofs.Runnable.{all_zip_at, listed_runnable}
 use Rattle.printouts.proofs.Told.{told_problems}
 use Rattle.printouts.proofs.commands.running.push_runs.Goals as goal

@@ -1,6 +1,6 @@
 use Rattle.std.proofs.Common.{◌≡◌, ◌<◌, ◌++◌, ℕ, List, ap, ◌∙◌, append_assoc, arith}
 use Rattle.std.specs.List.{flat_map, range_with_len}
-use Rattle.graph_text.proofs.Texts.{numbered-more}
+use Rattle.lower_bounds.proofs.Texts.{numbered-more}
 use Rattle.schedule_lines.specs.Columns.{head_line, row_line}
 use Rattle.figures.specs.Slots.{rows_in}
 use Rattle.schedule_lines.proofs.Lines.{head-is, row-is, rows-counted}

@@ -1,5 +1,5 @@
 use Rattle.std.proofs.Common.{of_calls, rules}
-use Rattle.loops.specs.Meaning.{loops_in}
+use Rattle.loop_reader.specs.Meaning.{loops_in}
 use Rattle.json_printouts.specs.Documents.{IsListingDocument}
 use Rattle.json_printouts.proofs.Told.{told_document}
 use Rattle.side_by_side.proofs.Documents.{JoinsObjects, document_is, shown_objects}

@@ -1,5 +1,5 @@
 use Rattle.std.proofs.Common.{◌++◌, ◌∙◌, ap, of_calls, rules}
-use Rattle.loops.specs.Meaning.{loops_in}
+use Rattle.loop_reader.specs.Meaning.{loops_in}
 use Rattle.candidates.specs.Texts.{counts_line}
 use Rattle.printouts.specs.Run.{IsRunText, told_lines}
 use Rattle.printouts.proofs.Told.{loops_of, told_run}

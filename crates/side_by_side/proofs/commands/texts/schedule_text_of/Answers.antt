@@ -1,5 +1,5 @@
 use Rattle.std.proofs.Common.{of_calls, rules}
-use Rattle.loops.specs.Meaning.{loops_in}
+use Rattle.loop_reader.specs.Meaning.{loops_in}
 use Rattle.printouts.specs.Schedule.{IsListingText}
 use Rattle.printouts.proofs.Told.{told_listing}
 use Rattle.side_by_side.proofs.Texts.{JoinsRows, few_told, schedule_is, shown_rows, written_apart, written_whole}

@@ -1,0 +1,3 @@
+pub mod Bounds
+pub mod Faults
+pub mod Texts

@@ -1,7 +1,0 @@
-use Rattle.std.proofs.Common.{◌≡◌, ◌++◌, take}
-use Rattle.std.specs.List.{flat_map}
-use Rattle.printouts.specs.Plain.{plain_lines}
-use Rattle.printouts.proofs.commands.plain.push_loops.Given as goal
-
-abbrev pub invariant-loop-innermost : goal.invariant-loop-innermost
-invariant-loop-innermost l = l.text.items ≡ l.initial.text.items ++ flat_map (plain_lines l.trip) (take l.innermost-index l.loops)
