@@ -1,6 +1,7 @@
 pub mod ColumnPlaces
 pub mod Copying
 pub mod Earlier
+pub mod GoingByTwo
 pub mod Grouping
 pub mod Holding
 pub mod HoldingBlocks

@@ -4,3 +4,4 @@ pub mod Orders
 pub mod Steps
 pub mod Together
 pub mod Turns
+pub mod TwoIterations

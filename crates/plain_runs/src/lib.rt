@@ -5,8 +5,10 @@
 #![tactic(auto)]
 
 mod act;
+mod act_twice;
 mod alone;
 mod block;
+mod by_two;
 mod choosing;
 mod columns;
 mod combining;
@@ -17,6 +19,7 @@ mod groups;
 mod iterate;
 mod live;
 mod order;
+mod passing;
 mod ranks;
 mod resolve;
 mod run;
