@@ -8,6 +8,7 @@ mod made;
 mod pieces;
 mod plain;
 mod pool;
+mod room;
 mod runs;
 mod work;
 

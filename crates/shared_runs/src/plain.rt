@@ -8,6 +8,7 @@ ghost use Rattle.shared_runs.specs.inner.Made.{AreMadeOf};
 use crate::lines::lines_of_all;
 use crate::made::{Made, made_in_order, made_of};
 use crate::pool::Pool;
+use crate::room::part_memory;
 use crate::work::{has_more, most_alone, run_work};
 use file_faults::FileFault;
 use lines_of_runs::{plain_text, push_last};
@@ -83,6 +84,7 @@ fn made_by<R: Threads + Sync>(
     );
     match jobs {
         Some(jobs) => {
+            part_memory(alloc, trip);
             let pool = Pool::new(workers, loops.len());
             let made = parts_of(
                 rt,

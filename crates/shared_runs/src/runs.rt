@@ -11,6 +11,7 @@ ghost use Rattle.printouts.specs.Schedule.{are_met};
 ghost use Rattle.text_parts.specs.Parts.{text_of};
 
 use crate::halves::push_told;
+use crate::room::part_memory;
 use crate::work::{LARGE, run_work};
 use candidates::{Listing, Row};
 use loop_data::Loop;
@@ -162,6 +163,7 @@ fn run_by<R: Threads + Sync>(
     ensures text { IfOk result (λ w. w.text ≡ told_lines trip listing.now.ceiling (map (λ (p : ProblemData). p.loop) prepared.now) listing.now.rows ++ counts_line listing.now.rows) }
     ensures met { IfOk result (λ w. w.all_met ≡ are_met listing.now.rows) }
 {
+    part_memory(alloc, trip);
     let parts = parts_of(
         rt,
         alloc,
