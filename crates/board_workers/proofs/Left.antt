@@ -5,11 +5,11 @@ use Rattle.std.specs.List.{AllZip}
 use Rattle.std.specs.Option.{option_map}
 use Rattle.std.proofs.lemmas.Bool.{false≢true}
 use Rattle.kernel.specs.declared.kernels.parts.Parts.{Parts}
-use Rattle.candidates.specs.declared.outcomes.Cause.{Cause}
+use Rattle.loop_listings.specs.declared.causes.Cause.{Cause}
 use Rattle.candidates.specs.declared.outcomes.Outcome.{Outcome}
 use Rattle.candidates.specs.declared.outcomes.Outcome.TheVariants as given
-use Rattle.candidates.specs.declared.choices.Choice.{Choice}
-use Rattle.candidates.specs.declared.choices.Choice.TheVariants.{Met, Failed}
+use Rattle.loop_listings.specs.declared.choices.Choice.{Choice}
+use Rattle.loop_listings.specs.declared.choices.Choice.TheVariants.{Met, Failed}
 use Rattle.reports.specs.declared.entry.Entry.{Entry}
 use Rattle.reports.specs.declared.entry.Found.{Found}
 use Rattle.reports.specs.declared.entry.Found.TheVariants as found
@@ -22,7 +22,7 @@ use Rattle.board_workers.specs.Settled.{IsWorkedOut, met_at}
 use Rattle.board_workers.proofs.Open.{IsTrueFound, IsOpenEntry, IsChosen, tried_up, retried_up, IsWholeReport, IsSettled}
 use Rattle.board_workers.proofs.Nothing.{open_law, all_in}
 use Rattle.reports.proofs.Least.{mii_there}
-use Rattle.candidates.specs.Pieces.{PiecesData}
+use Rattle.loop_listings.specs.Pieces.{PiecesData}
 use Rattle.board.specs.declared.view.View.{View}
 use Rattle.board.specs.declared.view.Terms.{Terms}
 use Rattle.board.specs.Rule.{least_of}

@@ -4,7 +4,7 @@ use Rattle.std.specs.List.{flat_map}
 use Rattle.std.proofs.lemmas.Bool.Decides.{nat_tests}
 use Rattle.board.specs.Rule.{occurrences}
 use Rattle.std.proofs.lemmas.Bool.{cases_lt}
-use Rattle.candidates.specs.Pieces.{PiecesData, IsIn, start_of_piece, end_of_piece, loop_of_piece}
+use Rattle.loop_listings.specs.Pieces.{PiecesData, IsIn, start_of_piece, end_of_piece, loop_of_piece}
 use Rattle.loop_schedules.specs.Problems.{ProblemData}
 use Rattle.reports.specs.Entries.{mii_at, In}
 use Rattle.board_workers.specs.Worked.{from_on, places_of}

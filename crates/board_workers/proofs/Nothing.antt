@@ -11,7 +11,7 @@ use Rattle.std.proofs.lemmas.Bool.{cases_lt, false≢true}
 use Rattle.std.proofs.Common.{add-zero, zero-add}
 use Rattle.std.proofs.lemmas.Option.{slice_get_within}
 use Rattle.std.proofs.Math.Numerals.{add-one}
-use Rattle.candidates.specs.Pieces.{PiecesData, piece_count}
+use Rattle.loop_listings.specs.Pieces.{PiecesData, piece_count}
 use Rattle.loop_schedules.specs.Problems.{ProblemData}
 use Rattle.reports.specs.declared.entry.Entry.{Entry}
 use Rattle.reports.specs.declared.entry.Found.{Found}
@@ -20,7 +20,7 @@ use Rattle.reports.specs.Entries.{In, ReportData, won_of, with_won, entry_place,
 use Rattle.board_workers.specs.Worked.{WorkedAs, Covers, HasLowerAnswer, HasLowerWin, places_of}
 use Rattle.reports.specs.Gathered.{missing_in}
 use Rattle.board_workers.proofs.Members.{in_flat, map_in, times_in, in_places}
-use Rattle.candidates.proofs.Covering.{some_piece}
+use Rattle.loop_listings.proofs.Covering.{some_piece}
 use Rattle.board_workers.proofs.Open.{IsTrueFound, IsLeastWin, IsChosen, tried_up, retried_up, IsSettled}
 
 -- a report whose view is in the list, and one whose report is

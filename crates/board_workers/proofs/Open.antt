@@ -6,7 +6,7 @@ use Rattle.board.specs.declared.view.View.{View}
 use Rattle.board.specs.declared.view.Terms.{Terms}
 use Rattle.board.specs.Rule.{Rule}
 use Rattle.board.specs.Views.{is_dry}
-use Rattle.candidates.specs.Pieces.{PiecesData, piece_count, IsCutting}
+use Rattle.loop_listings.specs.Pieces.{PiecesData, piece_count, IsCutting}
 use Rattle.loop_schedules.specs.Problems.{ProblemData}
 use Rattle.reports.specs.declared.entry.Entry.{Entry}
 use Rattle.reports.specs.declared.entry.Found.{Found}

@@ -13,7 +13,7 @@ use Rattle.board.specs.Names.{terms_of}
 use Rattle.board.specs.Views.{is_dry}
 use Rattle.loop_schedules.specs.Problems.{ProblemData, IsProblem}
 use Rattle.candidates.specs.Outcomes.{OneOutcome}
-use Rattle.candidates.specs.Pieces.{PiecesData, IsCutting, piece_count}
+use Rattle.loop_listings.specs.Pieces.{PiecesData, IsCutting, piece_count}
 use Rattle.reports.specs.Entries.{ReportData}
 use Rattle.board_workers.specs.inner.Places.{IsReportOn}
 use Rattle.board_workers.specs.Settled.{AreOfOneBoard, LeaveNothing}

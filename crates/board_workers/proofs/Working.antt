@@ -10,7 +10,7 @@ use Rattle.board.specs.Rule.{occurrences}
 use Rattle.board.specs.Drawing.{DrewPieces}
 use Rattle.board.proofs.Drawing.{wet, draws_count, draws_ascend, draws_end}
 use Rattle.board.proofs.Totals.{beyond-append, occurrences-append}
-use Rattle.candidates.specs.Pieces.{PiecesData, piece_count, loop_of_piece, start_of_piece, end_of_piece}
+use Rattle.loop_listings.specs.Pieces.{PiecesData, piece_count, loop_of_piece, start_of_piece, end_of_piece}
 use Rattle.reports.specs.declared.entry.Entry.{Entry}
 use Rattle.reports.specs.Entries.{ReportData, In, entry_place, won_of}
 use Rattle.board_workers.specs.Worked.{IsBeatenRightly, Covers, WorkedAs, IsUnused, places_of, drawn_pieces}

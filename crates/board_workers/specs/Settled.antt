@@ -7,9 +7,9 @@ use Rattle.board.specs.Names.{terms_of}
 use Rattle.board.specs.Rule.{Rule, least_of}
 use Rattle.board.specs.Views.{is_dry}
 use Rattle.loop_schedules.specs.Problems.{ProblemData, IsProblem}
-use Rattle.candidates.specs.declared.choices.Choice.{Choice}
-use Rattle.candidates.specs.declared.choices.Choice.TheVariants.{Met, Failed}
-use Rattle.candidates.specs.Pieces.{PiecesData, IsCutting, piece_count}
+use Rattle.loop_listings.specs.declared.choices.Choice.{Choice}
+use Rattle.loop_listings.specs.declared.choices.Choice.TheVariants.{Met, Failed}
+use Rattle.loop_listings.specs.Pieces.{PiecesData, IsCutting, piece_count}
 use Rattle.candidates.specs.Choices.{IsChoice}
 use Rattle.reports.specs.Entries.{ReportData, HasNoRefusal}
 use Rattle.reports.specs.Gathered.{retried_from}

@@ -5,7 +5,7 @@ use Rattle.board.specs.declared.view.View.{View}
 use Rattle.board.specs.Rule.{occurrences}
 use Rattle.board.specs.Views.{is_dry}
 use Rattle.loop_schedules.specs.Problems.{ProblemData}
-use Rattle.candidates.specs.Pieces.{PiecesData, piece_count, loop_of_piece, start_of_piece, end_of_piece}
+use Rattle.loop_listings.specs.Pieces.{PiecesData, piece_count, loop_of_piece, start_of_piece, end_of_piece}
 use Rattle.reports.specs.declared.entry.Entry.{Entry}
 use Rattle.reports.specs.declared.entry.Found.TheVariants.{Beaten}
 use Rattle.reports.specs.Entries.{ReportData, In, entry_place, won_of, mii_at}

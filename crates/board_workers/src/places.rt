@@ -2,7 +2,7 @@
 ghost use Rattle.std.specs.Prelude.{◌≡◌, ◌<◌, length};
 ghost use Rattle.std.specs.List.{All};
 ghost use Rattle.board.specs.Boards.{sizes_of};
-ghost use Rattle.candidates.specs.Pieces.{piece_count};
+ghost use Rattle.loop_listings.specs.Pieces.{piece_count};
 ghost use Rattle.board_workers.specs.inner.Places.{IsDonePlace, IsReadyPlace};
 
 use crate::gate::Gate;

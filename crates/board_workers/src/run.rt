@@ -4,7 +4,7 @@ ghost use Rattle.std.specs.List.{All, AllZip};
 ghost use Rattle.board.specs.Boards.{IsNewPassOf, sizes_of};
 ghost use Rattle.board.specs.Names.{terms_of};
 ghost use Rattle.loop_schedules.specs.Problems.{IsProblem};
-ghost use Rattle.candidates.specs.Pieces.{piece_count};
+ghost use Rattle.loop_listings.specs.Pieces.{piece_count};
 ghost use Rattle.board_workers.specs.inner.Places.{IsDonePlace, IsReadyPlace, IsReportOn};
 ghost use Rattle.board_workers.specs.Settled.{AreOfOneBoard, LeaveNothing};
 ghost use Rattle.machine_data.specs.declared.limits.TheConstants.{MAX_WORKERS};

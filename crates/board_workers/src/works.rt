@@ -1,7 +1,7 @@
 //! One worker over a shared board.
 ghost use Rattle.std.specs.Prelude.{◌≡◌, IsTrue, false, length};
 ghost use Rattle.std.specs.List.{All};
-ghost use Rattle.candidates.specs.Pieces.{piece_count};
+ghost use Rattle.loop_listings.specs.Pieces.{piece_count};
 ghost use Rattle.board_workers.specs.Worked.{IsUnused, WorkedAs};
 
 use crate::gate::Gate;

@@ -11,7 +11,8 @@ use Rattle.loop_schedules.specs.Problems.{ProblemData, budget_of}
 use Rattle.ims.proofs.answers.Promised.{culprits-are_failures}
 use Rattle.candidates.specs.declared.evidence.Reason.TheVariants.{Attempt}
 use Rattle.candidates.specs.declared.evidence.Tried.TheVariants.{Met, Failed}
-use Rattle.candidates.specs.Outcomes.{FailsBy, cause_of}
+use Rattle.loop_listings.specs.Causes.{cause_of}
+use Rattle.candidates.specs.Outcomes.{FailsBy}
 use Rattle.candidates.specs.Reasons.{FailsFor, TriedIsGiven}
 
 -- an attempt that fails is the cause of its interval

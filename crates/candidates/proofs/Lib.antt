@@ -1,7 +1,7 @@
-pub mod Covering
 pub mod Evidenced
+pub mod Listed
 pub mod OneChoices
 pub mod OneOutcomes
 pub mod Promised
+pub mod Readied
 pub mod Rising
-mod Rowing

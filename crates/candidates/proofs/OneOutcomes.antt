@@ -10,8 +10,8 @@ use Rattle.overlap.specs.Allotments.{AreLeast, HaveNone, NoneFor}
 use Rattle.overlap.specs.Emission.{emitted}
 use Rattle.overlap.specs.Lifetimes.{lifetimes_of}
 use Rattle.registers.proofs.allotted.Least.{least-is_one, least-or_none}
-use Rattle.candidates.specs.declared.outcomes.Cause.{Cause}
-use Rattle.candidates.specs.declared.outcomes.Cause.TheVariants.{Table, Budget, Stages, Registers}
+use Rattle.loop_listings.specs.declared.causes.Cause.{Cause}
+use Rattle.loop_listings.specs.declared.causes.Cause.TheVariants.{Table, Budget, Stages, Registers}
 use Rattle.candidates.specs.declared.outcomes.Outcome.TheVariants.{Met, Failed}
 use Rattle.candidates.specs.Outcomes.{IsPlacedAs, HasKernel, GivesKernel, FailsBy, OneOutcome}
 

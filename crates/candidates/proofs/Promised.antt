@@ -24,12 +24,12 @@ use Rattle.overlap.specs.Overlap.{times_of, choices_of, opcodes_in, KeepsSchedul
 use Rattle.overlap.proofs.End.{overlap-is_sequence}
 use Rattle.overlap.proofs.in_flight.Kept.{kernels-keep_schedules}
 use Rattle.registers.proofs.allotted.Least.{least-is_lawful}
-use Rattle.candidates.specs.declared.choices.Choice.{Choice}
-use Rattle.candidates.specs.declared.choices.Choice.TheVariants.{Met, Failed}
-use Rattle.candidates.specs.declared.listings.Row as row
+use Rattle.loop_listings.specs.declared.choices.Choice.{Choice}
+use Rattle.loop_listings.specs.declared.choices.Choice.TheVariants.{Met, Failed}
+use Rattle.loop_listings.specs.declared.listings.Row as row
 use Rattle.candidates.specs.Outcomes.{HasKernel}
 use Rattle.candidates.specs.Choices.{IsChoice}
-use Rattle.candidates.specs.Listings.{listing_rows}
+use Rattle.loop_listings.specs.Listings.{listing_rows}
 use Rattle.candidates.specs.Promises.{IsRightChoice, KernelsKeepLoops, KernelsRunAsLoops, ListingsAreRight, OneListing}
 use Rattle.candidates.proofs.OneChoices.{one_choice}
 

@@ -4,7 +4,7 @@ use Rattle.std.proofs.lemmas.Bool.{false≢true}
 use Rattle.settings.proofs.Searches as search
 use Rattle.loop_schedules.specs.Problems.{ProblemData, IsProblem, mii_of}
 use Rattle.kernel.specs.declared.kernels.parts.Parts.{Parts}
-use Rattle.candidates.specs.declared.outcomes.Cause.{Cause}
+use Rattle.loop_listings.specs.declared.causes.Cause.{Cause}
 use Rattle.candidates.specs.declared.outcomes.Outcome.{Outcome}
 use Rattle.candidates.specs.declared.outcomes.Outcome.TheVariants.{Met, Failed}
 use Rattle.candidates.specs.Outcomes.{GivesKernel, FailsBy}

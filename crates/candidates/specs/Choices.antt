@@ -3,9 +3,9 @@ use Rattle.std.specs.Prelude.{◌≡◌, ℕ, ◌+◌}
 use Rattle.settings.specs.Searches.{IsLeastGiven, IsNoneGiven, NoneGiven}
 use Rattle.loop_schedules.specs.Problems.{ProblemData, IsProblem, mii_of}
 use Rattle.kernel.specs.declared.kernels.parts.Parts.{Parts}
-use Rattle.candidates.specs.declared.outcomes.Cause.{Cause}
-use Rattle.candidates.specs.declared.choices.Choice.{Choice}
-use Rattle.candidates.specs.declared.choices.Choice.TheVariants.{Met, Failed}
+use Rattle.loop_listings.specs.declared.causes.Cause.{Cause}
+use Rattle.loop_listings.specs.declared.choices.Choice.{Choice}
+use Rattle.loop_listings.specs.declared.choices.Choice.TheVariants.{Met, Failed}
 use Rattle.candidates.specs.Outcomes.{GivesKernel, FailsBy}
 
 -- the last interval that is tried

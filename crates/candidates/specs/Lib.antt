@@ -1,10 +1,9 @@
+pub use Rattle.loop_listings.specs.Listings
 pub use Rattle.loop_schedules.specs.Problems
 pub use Rattle.overlap.specs.Overlap
 pub use Rattle.settings.specs.Settings
 pub mod Choices
-pub mod Listings
+pub mod Files
 pub mod Outcomes
-pub mod Pieces
 pub mod Promises
 pub mod Reasons
-pub mod Texts

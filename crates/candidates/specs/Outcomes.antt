@@ -1,9 +1,6 @@
 -- What a loop gives at an interval: a kernel, or the cause for which it gives none.
 use Rattle.std.specs.Prelude.{◌≡◌, ℕ, ◌≤◌}
-use Rattle.modulo.specs.declared.outcome.attempts.Culprit.{Culprit}
-use Rattle.modulo.specs.declared.outcome.attempts.Failure.{Failure}
 use Rattle.modulo.specs.declared.outcome.attempts.Failure.TheVariants as failure
-use Rattle.modulo.specs.Culprits.{failure_of}
 use Rattle.ims.specs.declared.outcome.attempts.Try.TheVariants as try
 use Rattle.ims.specs.Attempts.{AnswersAttempt}
 use Rattle.loop_schedules.specs.Problems.{ProblemData, IsProblem, mii_of, budget_of}
@@ -11,8 +8,8 @@ use Rattle.loop_schedules.specs.Schedules.{ScheduleData}
 use Rattle.kernel.specs.declared.kernels.parts.Parts.{Parts}
 use Rattle.overlap.specs.Allotments.{AllotmentData, LeastFor, NoneFor}
 use Rattle.overlap.specs.Emission.{emitted}
-use Rattle.candidates.specs.declared.outcomes.Cause.{Cause}
-use Rattle.candidates.specs.declared.outcomes.Cause.TheVariants.{Table, Budget, Stages, Registers}
+use Rattle.loop_listings.specs.declared.causes.Cause.{Cause}
+use Rattle.loop_listings.specs.declared.causes.Cause.TheVariants.{Table, Budget, Stages, Registers}
 use Rattle.candidates.specs.declared.outcomes.Outcome.{Outcome}
 use Rattle.candidates.specs.declared.outcomes.Outcome.TheVariants.{Met, Failed}
 
@@ -38,16 +35,6 @@ pub record LacksRegisters (problem : ProblemData) (ii : ℕ) : Type 0 where
   pub schedule : ScheduleData
   pub is_schedule : IsPlacedAs problem ii schedule
   pub none : NoneFor schedule schedule.problem.registers
-
--- the cause that a failed attempt is
-abbrev pub cause_of : Failure → Cause
-cause_of failure.Table = Table
-cause_of failure.Budget = Budget
-cause_of failure.Stages = Stages
-
--- .. and that of an attempt that this keeps from a schedule
-abbrev pub culprit_cause : Culprit → Cause
-culprit_cause culprit = cause_of (failure_of culprit)
 
 -- why an interval gives no kernel
 abbrev pub FailsBy : ProblemData → ℕ → Cause → Type 0

@@ -11,12 +11,12 @@ use Rattle.loop_schedules.specs.Problems.{ProblemData, IsProblemOf}
 use Rattle.kernel.specs.declared.kernels.operation.Operation.{Operation}
 use Rattle.kernel.specs.declared.kernels.parts.Parts.{Parts}
 use Rattle.overlap.specs.Overlap.{times_of, choices_of, opcodes_in, RunsAsLoop}
-use Rattle.candidates.specs.declared.choices.Choice.{Choice}
-use Rattle.candidates.specs.declared.choices.Choice.TheVariants.{Met, Failed}
-use Rattle.candidates.specs.declared.listings.Row.{Row}
+use Rattle.loop_listings.specs.declared.choices.Choice.{Choice}
+use Rattle.loop_listings.specs.declared.choices.Choice.TheVariants.{Met, Failed}
+use Rattle.loop_listings.specs.declared.listings.Row.{Row}
 use Rattle.candidates.specs.Outcomes.{GivesKernel}
 use Rattle.candidates.specs.Choices.{IsChoice}
-use Rattle.candidates.specs.Listings.{ListingData, listing_of}
+use Rattle.loop_listings.specs.Listings.{ListingData, listing_of}
 
 -- the listing of one thread: each loop's problem on the machine, and its choice
 pub record Lists (machine : MachineData) (loops : List LoopData) (ratio ceiling : ℕ) (listing : ListingData) : Type 0 where

@@ -13,11 +13,12 @@ use Rattle.candidates.specs.declared.evidence.Reason.{Reason}
 use Rattle.candidates.specs.declared.evidence.Reason.TheVariants.{Attempt, Register}
 use Rattle.candidates.specs.declared.evidence.Tried.{Tried}
 use Rattle.candidates.specs.declared.evidence.Tried.TheVariants.{Met, Failed}
-use Rattle.candidates.specs.declared.outcomes.Cause.{Cause}
-use Rattle.candidates.specs.declared.outcomes.Cause.TheVariants.{Registers}
+use Rattle.loop_listings.specs.declared.causes.Cause.{Cause}
+use Rattle.loop_listings.specs.declared.causes.Cause.TheVariants.{Registers}
 use Rattle.candidates.specs.declared.outcomes.Outcome.{Outcome}
 use Rattle.candidates.specs.declared.outcomes.Outcome.TheVariants as outcome
-use Rattle.candidates.specs.Outcomes.{FailsBy, Gives, IsPlacedAs, culprit_cause}
+use Rattle.loop_listings.specs.Causes.{culprit_cause}
+use Rattle.candidates.specs.Outcomes.{FailsBy, Gives, IsPlacedAs}
 
 -- the cause that a reason is after
 abbrev pub reason_cause : Reason → Cause

@@ -5,9 +5,10 @@ ghost use Rattle.loop_schedules.specs.Problems.{mii_of};
 ghost use Rattle.candidates.specs.Choices.{last_of};
 ghost use Rattle.candidates.specs.Reasons.{IsTried, reason_cause};
 
-use crate::outcomes::{Cause, budget};
+use crate::outcomes::budget;
 use ims::{Answer, Culprit, answer_on};
 use kernel::Kernel;
+use loop_listings::Cause;
 use loop_schedules::{Prepared, Schedule};
 use machine_data::OutOfMemory;
 use mrt::DefaultTable;

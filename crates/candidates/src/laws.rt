@@ -1,16 +1,9 @@
-//! Laws of pieces, intervals, choices and listings, stated by the contracts of functions that do nothing.
+//! Laws of intervals, choices and listings, stated by the contracts of functions that do nothing.
 
-ghost use Rattle.candidates.specs.Pieces.{PiecesData, IsCutting, EachInOnePiece, NoneIsEmpty};
 ghost use Rattle.candidates.specs.Outcomes.{OneOutcome};
 ghost use Rattle.candidates.specs.Choices.{OneChoice};
 ghost use Rattle.candidates.specs.Promises.{KernelsKeepLoops, KernelsRunAsLoops, ListingsAreRight, OneListing};
 ghost use Rattle.candidates.specs.Reasons.{TriedIsGiven};
-
-/// Every interval of every loop is in exactly one piece, and no piece is empty.
-pub fn pieces_cover()
-    ensures each { (pieces : PiecesData) → IsCutting pieces → EachInOnePiece pieces }
-    ensures some { (pieces : PiecesData) → IsCutting pieces → NoneIsEmpty pieces }
-{}
 
 /// An interval gives one thing.
 pub fn interval_laws()

@@ -1,26 +1,27 @@
-//! From one interval of one loop to the listing of a file, on one thread.
+//! From one interval of one loop to the listing of a file, on one thread: none is started, and no lock is taken.
 #![tactic(auto)]
 
 mod choices;
 mod evidence;
 mod laws;
-mod listings;
+mod listing;
 mod outcomes;
-mod pieces;
 mod preparing;
-mod texts;
 mod trials;
 
-pub use choices::{Choice, first_success};
+pub use choices::first_success;
 pub use evidence::{Met, Reason, Tried};
+pub use file_faults::FileFault;
 pub use laws::{
     choice_laws, interval_laws, kernels_keep_loops, kernels_run_as_loops, listings_are_right,
-    one_listing, pieces_cover, tried_is_given,
+    one_listing, tried_is_given,
 };
-pub use listings::{Listing, Row};
-pub use outcomes::{Cause, Outcome, try_interval};
-pub use pieces::{Piece, Pieces};
-pub use preparing::prepare;
+pub use listing::{choices_of, list_choices, pipeline_alone};
+pub use loop_listings::{
+    Cause, Choice, Listing, Piece, Pieces, Row, listing_text, number_failed, number_met,
+    pieces_cover, write_last, write_row, write_version,
+};
+pub use outcomes::{Outcome, try_interval};
+pub use preparing::{prepare, prepare_all};
 pub use settings::{OutOfRange, Settings};
-pub use texts::{listing_text, number_failed, number_met, write_last, write_row, write_version};
 pub use trials::Trials;

@@ -4,55 +4,18 @@ ghost use Rattle.std.specs.Prelude.{◌≡◌, ◌≤◌, length, replicate, Non
 ghost use Rattle.loop_schedules.specs.Problems.{IsProblem, budget_of, mii_of};
 ghost use Rattle.overlap.specs.Allotments.{NoneFor};
 ghost use Rattle.candidates.specs.Choices.{last_of};
-ghost use Rattle.candidates.specs.Outcomes.{Gives, HasKernel, cause_of, culprit_cause};
-ghost use Rattle.candidates.specs.Texts.{cause_word};
+ghost use Rattle.candidates.specs.Outcomes.{Gives, HasKernel};
+ghost use Rattle.loop_listings.specs.Causes.{cause_of};
 
 use crate::trials::Trials;
-use ims::{Culprit, Failure, Try, attempt_on};
+use ims::{Failure, Try, attempt_on};
 use kernel::Kernel;
+use loop_listings::Cause;
 use loop_schedules::{Prepared, Schedule};
 use machine_data::OutOfMemory;
 use mrt::DefaultTable;
 use rotating::{allot, emit};
 use std::alloc::Global;
-
-/// Why an interval gives no kernel, in the order in which the causes are tested.
-#[derive(Clone, Copy, Debug, PartialEq, Eq)]
-pub enum Cause {
-    /// All alternatives of some operation collide with themselves.
-    Table,
-    /// The placements that the budget allows are used up.
-    Budget,
-    /// An operation is in stage 64 or later.
-    Stages,
-    /// Some value has no register.
-    Registers,
-}
-
-impl Cause {
-    /// The cause of an interval whose attempt this keeps from a schedule.
-    pub fn of(culprit: &Culprit) -> Cause
-        ensures value { result ≡ culprit_cause culprit.now }
-    {
-        match culprit {
-            Culprit::Blocked(_) => Cause::Table,
-            Culprit::Unplaced(_) => Cause::Budget,
-            Culprit::Late(_, _) => Cause::Stages,
-        }
-    }
-
-    /// The word that tells it in a listing.
-    pub fn word(self) -> &'static str
-        ensures value { result.now ≡ cause_word self }
-    {
-        match self {
-            Cause::Table => "table",
-            Cause::Budget => "budget",
-            Cause::Stages => "stages",
-            Cause::Registers => "registers",
-        }
-    }
-}
 
 /// What an interval gives.
 #[derive(Debug, Drop)]

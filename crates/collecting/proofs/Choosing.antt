@@ -4,7 +4,7 @@ use Rattle.std.specs.Prelude.{Option, None, Result, Ok, Err, IfOk, replicate}
 use Rattle.std.specs.List.{AllZip}
 use Rattle.collecting.specs.declared.cells.Settled.{Settled}
 use Rattle.collecting.specs.declared.cells.LoopCells.{LoopCells}
-use Rattle.candidates.specs.declared.choices.Choice.{Choice}
+use Rattle.loop_listings.specs.declared.choices.Choice.{Choice}
 use Rattle.loop_schedules.specs.Problems.{ProblemData, mii_of}
 use Rattle.candidates.specs.Choices.{IsChoice}
 use Rattle.reports.specs.Entries.{ReportData, is_settled_in, mii_at}

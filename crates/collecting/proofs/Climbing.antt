@@ -5,7 +5,7 @@ use Rattle.std.proofs.lemmas.Bool.{false≢true, cases_lt}
 use Rattle.collecting.specs.declared.cells.Settled.{Settled}
 use Rattle.collecting.specs.declared.cells.LoopCells.{LoopCells}
 use Rattle.kernel.specs.declared.kernels.parts.Parts.{Parts}
-use Rattle.candidates.specs.declared.outcomes.Cause.{Cause}
+use Rattle.loop_listings.specs.declared.causes.Cause.{Cause}
 use Rattle.candidates.specs.declared.outcomes.Outcome.{Outcome}
 use Rattle.candidates.specs.declared.outcomes.Outcome.TheVariants.{Met, Failed}
 use Rattle.loop_schedules.specs.Problems.{ProblemData, IsProblem, mii_of}

@@ -21,8 +21,8 @@ use Rattle.resource_bound.specs.UnitLines.{unit_lines_of}
 use Rattle.unit_sets.specs.declared.fullest.UnitSet.{UnitSet}
 use Rattle.unit_sets.specs.Fullest.{IsFullest}
 use Rattle.loop_schedules.specs.Problems.{ProblemData, IsProblemOf}
-use Rattle.candidates.specs.declared.choices.Choice.{Choice}
-use Rattle.candidates.specs.Listings.{is_met, is_failed}
+use Rattle.loop_listings.specs.declared.choices.Choice.{Choice}
+use Rattle.loop_listings.specs.Listings.{is_met, is_failed}
 use Rattle.explain.specs.CircuitTexts.{IsCircuitText}
 use Rattle.explain.specs.Explanations.{ArePartsOf, IsExplained, IsPartOf, IsTold, IsToldOn, PartData, bounds_of}
 use Rattle.explain.specs.SetLines.{set_line}

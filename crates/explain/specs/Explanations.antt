@@ -9,8 +9,8 @@ use Rattle.graph.specs.Units.{operations_of}
 use Rattle.resource_bound.specs.Choices.{AreUnitChoices}
 use Rattle.resource_bound.specs.UnitLines.{unit_lines_of}
 use Rattle.loop_schedules.specs.Problems.{ProblemData, IsProblemOf}
-use Rattle.candidates.specs.declared.choices.Choice.{Choice}
-use Rattle.candidates.specs.Listings.{is_met, is_failed}
+use Rattle.loop_listings.specs.declared.choices.Choice.{Choice}
+use Rattle.loop_listings.specs.Listings.{is_met, is_failed}
 use Rattle.unit_sets.specs.declared.fullest.UnitSet.{UnitSet}
 use Rattle.unit_sets.specs.Fullest.{IsFullest}
 use Rattle.writing.specs.Words as words

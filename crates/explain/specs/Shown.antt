@@ -6,8 +6,8 @@ use Rattle.loop_schedules.specs.Schedules.{ScheduleData}
 use Rattle.overlap.specs.Allotments.{AllotmentData, LeastFor}
 use Rattle.figures.specs.declared.figures.Figures.{Figures}
 use Rattle.figures.specs.Figures.{AreFigures}
-use Rattle.candidates.specs.declared.choices.Choice.{Choice}
-use Rattle.candidates.specs.declared.choices.Choice.TheVariants.{Met, Failed}
+use Rattle.loop_listings.specs.declared.choices.Choice.{Choice}
+use Rattle.loop_listings.specs.declared.choices.Choice.TheVariants.{Met, Failed}
 use Rattle.candidates.specs.Outcomes.{IsPlacedAs}
 use Rattle.schedule_lines.specs.ScheduleTexts.{schedule_text}
 

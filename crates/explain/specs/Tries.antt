@@ -6,10 +6,10 @@ use Rattle.graph.specs.Schedules.{IsLawfulSchedule}
 use Rattle.loop_schedules.specs.Problems.{ProblemData, IsProblem, mii_of}
 use Rattle.unit_sets.specs.declared.fullest.UnitSet.{UnitSet}
 use Rattle.unit_sets.specs.Fullest.{IsFullest}
-use Rattle.candidates.specs.declared.choices.Choice.{Choice}
-use Rattle.candidates.specs.declared.choices.Choice.TheVariants.{Met, Failed}
+use Rattle.loop_listings.specs.declared.choices.Choice.{Choice}
+use Rattle.loop_listings.specs.declared.choices.Choice.TheVariants.{Met, Failed}
 use Rattle.candidates.specs.Choices.{IsChoice}
-use Rattle.candidates.specs.Texts.{cause_word}
+use Rattle.loop_listings.specs.Texts.{cause_word}
 use Rattle.writing.specs.Words.{told}
 use Rattle.told_choices.specs.declared.hold.Hold.{Hold}
 use Rattle.told_choices.specs.declared.why.Why.{Why}

@@ -4,8 +4,8 @@ ghost use Rattle.std.specs.Prelude.{◌≡◌, ◌<◌, ◌+◌, ◌++◌, ℕ, 
 ghost use Rattle.std.specs.Global.{Global};
 ghost use Rattle.graph.specs.Units.{first_lacking, first_without_table, operations_of};
 ghost use Rattle.lower_bounds.specs.Faults.{TextAnswers, lacking_in};
-ghost use Rattle.candidates.specs.Listings.{is_failed, is_met};
-ghost use Rattle.candidates.specs.declared.choices.Choice.{Choice};
+ghost use Rattle.loop_listings.specs.Listings.{is_failed, is_met};
+ghost use Rattle.loop_listings.specs.declared.choices.Choice.{Choice};
 ghost use Rattle.explain.specs.Explanations.{ArePartsOf, IsExplanationOf, IsPartOf, IsTold, IsToldOn, last_line};
 ghost use Rattle.resource_bound.specs.Choices.{AreUnitChoices};
 ghost use Rattle.resource_bound.specs.UnitLines.{unit_lines_of};

@@ -8,9 +8,9 @@ use Rattle.machine_data.specs.Machines.{MachineData}
 use Rattle.graph.specs.Dependences.{EdgeData}
 use Rattle.graph.specs.Walks.{AreHeights}
 use Rattle.loop_schedules.specs.Problems.{ProblemData, mii_of}
-use Rattle.candidates.specs.declared.outcomes.Cause.{Cause}
+use Rattle.loop_listings.specs.declared.causes.Cause.{Cause}
 use Rattle.candidates.specs.Choices.{last_of}
-use Rattle.candidates.specs.Texts.{cause_word}
+use Rattle.loop_listings.specs.Texts.{cause_word}
 use Rattle.unit_sets.specs.declared.fullest.UnitSet.{UnitSet}
 use Rattle.told_choices.specs.declared.chosen.Chosen.{Chosen}
 use Rattle.told_choices.specs.declared.chosen.Chosen.TheVariants.{Met, Failed}

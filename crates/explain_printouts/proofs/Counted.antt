@@ -10,7 +10,7 @@ use Rattle.resource_bound.specs.Choices.{AreUnitChoices}
 use Rattle.unit_sets.specs.declared.fullest.UnitSet.{UnitSet}
 use Rattle.unit_sets.specs.Fullest.{IsFullest}
 use Rattle.loop_schedules.specs.Problems.{ProblemData}
-use Rattle.candidates.specs.declared.choices.Choice.{Choice}
+use Rattle.loop_listings.specs.declared.choices.Choice.{Choice}
 use Rattle.explain_printouts.specs.Objects.{IsObject, IsObjectOn}
 
 -- the object of a problem, with the choices of its bound and its fullest set of units

@@ -5,8 +5,8 @@ use Rattle.std.specs.List.{AllZip}
 use Rattle.machine.specs.Machines.{MachineData}
 use Rattle.loop_data.specs.Loops.{LoopData}
 use Rattle.loop_schedules.specs.Problems.{ProblemData, IsProblemOf}
-use Rattle.candidates.specs.declared.choices.Choice.{Choice}
-use Rattle.candidates.specs.Listings.{is_met}
+use Rattle.loop_listings.specs.declared.choices.Choice.{Choice}
+use Rattle.loop_listings.specs.Listings.{is_met}
 use Rattle.explain_printouts.specs.Objects.{IsObjectOn}
 use Rattle.json_objects.specs.Documents.{document_of}
 use Rattle.report_page.specs.Pages.{page_of}

@@ -8,7 +8,7 @@ use Rattle.resource_bound.specs.Choices.{AreUnitChoices}
 use Rattle.unit_sets.specs.declared.fullest.UnitSet.{UnitSet}
 use Rattle.unit_sets.specs.Fullest.{IsFullest}
 use Rattle.loop_schedules.specs.Problems.{ProblemData}
-use Rattle.candidates.specs.declared.choices.Choice.{Choice}
+use Rattle.loop_listings.specs.declared.choices.Choice.{Choice}
 use Rattle.told_choices.specs.declared.told.Told.{Told}
 use Rattle.told_choices.specs.Told as chosen
 use Rattle.explain_json.specs.Loops.{IsLoopJson}

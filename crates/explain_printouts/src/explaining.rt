@@ -9,12 +9,12 @@ ghost use Rattle.explain_printouts.specs.Explain.{IsExplainText};
 ghost use Rattle.explain_printouts.specs.ExplainDocuments.{AreObjects, IsExplainDocument, IsExplainPage, IsObjectOf};
 
 use crate::objects::{Object, object_of, objects_document, objects_page};
+use candidates::prepare_all;
 use explain::explain_lines;
 use file_faults::FileFault;
 use loop_data::Loop;
 use loop_schedules::Prepared;
 use machine::{Machine, OutOfMemory};
-use one_thread::prepare_all;
 use settings::Settings;
 use std::alloc::Global;
 use written::Printout;

@@ -5,7 +5,7 @@ ghost use Rattle.graph.specs.Units.{operations_of};
 ghost use Rattle.lower_bounds.specs.Faults.{TextAnswers, lacking_in};
 ghost use Rattle.resource_bound.specs.Choices.{AreUnitChoices};
 ghost use Rattle.unit_sets.specs.Fullest.{IsFullest};
-ghost use Rattle.candidates.specs.declared.choices.Choice.{Choice};
+ghost use Rattle.loop_listings.specs.declared.choices.Choice.{Choice};
 ghost use Rattle.explain_printouts.specs.Objects.{IsObject, IsObjectOn};
 ghost use Rattle.explain_printouts.specs.declared.object.Counted.{Counted};
 

@@ -3,10 +3,10 @@ use Rattle.std.proofs.Common.{◌≡◌, ℕ, List}
 use Rattle.machine.specs.Machines.{MachineData}
 use Rattle.loop_data.specs.Loops.{LoopData}
 use Rattle.loop_schedules.specs.Problems.{ProblemData}
-use Rattle.candidates.specs.Listings.{ListingData}
+use Rattle.loop_listings.specs.Listings.{ListingData}
 use Rattle.listing_json.specs.Documents.{document_text}
-use Rattle.one_thread.specs.Files.{ArePrepared, ListsProblems}
-use Rattle.one_thread.proofs.Listed.{lists_of, right_of}
+use Rattle.candidates.specs.Files.{ArePrepared, ListsProblems}
+use Rattle.candidates.proofs.Listed.{lists_of, right_of}
 use Rattle.written.specs.Written.{Written}
 use Rattle.printouts.specs.Schedule.{are_met}
 use Rattle.json_printouts.specs.Documents.{IsListingDocument}

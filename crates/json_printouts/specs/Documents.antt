@@ -2,7 +2,7 @@
 use Rattle.std.specs.Prelude.{◌≡◌, ℕ, List}
 use Rattle.machine.specs.Machines.{MachineData}
 use Rattle.loop_data.specs.Loops.{LoopData}
-use Rattle.candidates.specs.Listings.{ListingData}
+use Rattle.loop_listings.specs.Listings.{ListingData}
 use Rattle.candidates.specs.Promises.{IsRight, Lists}
 use Rattle.listing_json.specs.Documents.{document_text}
 use Rattle.written.specs.Written.{Written}

@@ -9,11 +9,11 @@ ghost use Rattle.machine.specs.MachineText.{machine_of};
 ghost use Rattle.json_printouts.specs.Documents.{IsListingDocument};
 
 use crate::listings::document_printout;
+use candidates::pipeline_alone;
 use file_faults::FileFault;
 use loop_data::Loop;
 use loop_reader::read_loops;
 use machine::{Machine, read_machine};
-use one_thread::pipeline_alone;
 use settings::Settings;
 use std::alloc::Global;
 use written::Printout;

@@ -6,9 +6,9 @@ use Rattle.std.specs.List.{flat_map, join_by}
 use Rattle.serde_json.proofs.OnLiterals.{serde_json_on_literals}
 use Rattle.serde_json.specs.View.{items_of}
 use Rattle.serde_json.specs.Written.{items_text}
-use Rattle.candidates.specs.declared.listings.Row.{Row}
-use Rattle.candidates.specs.Listings.{ListingData}
-use Rattle.candidates.specs.Texts.{number_failed, number_met}
+use Rattle.loop_listings.specs.declared.listings.Row.{Row}
+use Rattle.loop_listings.specs.Listings.{ListingData}
+use Rattle.loop_listings.specs.Texts.{number_failed, number_met}
 use Rattle.json_objects.specs.Documents as json
 use Rattle.json_objects.proofs.Joined.{join-map}
 use Rattle.listing_json.specs.Documents.{document_of, document_text, row_object, row_value}

@@ -9,9 +9,9 @@ use Rattle.kernel.specs.declared.kernels.operation.Address.{Address}
 use Rattle.kernel.specs.declared.kernels.operation.Source.{Source}
 use Rattle.kernel.specs.declared.kernels.operation.Source.TheVariants.{Register, Parameter, Constant}
 use Rattle.kernel.specs.declared.kernels.parts.Parts.{Parts}
-use Rattle.candidates.specs.declared.choices.Choice.{Choice}
-use Rattle.candidates.specs.declared.choices.Choice.TheVariants.{Met, Failed}
-use Rattle.candidates.specs.declared.listings.Row.{Row}
+use Rattle.loop_listings.specs.declared.choices.Choice.{Choice}
+use Rattle.loop_listings.specs.declared.choices.Choice.TheVariants.{Met, Failed}
+use Rattle.loop_listings.specs.declared.listings.Row.{Row}
 use Rattle.listing_json.specs.Documents.{address_value, choice_value, count_value, kernel_value, list_value, operation_value, option_value, out_value, param_value, preload_value, row_value, source_value, string_value}
 
 -- a value has whole numbers alone

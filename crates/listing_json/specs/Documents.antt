@@ -14,11 +14,11 @@ use Rattle.kernel.specs.declared.kernels.operation.Source.TheVariants.{Register,
 use Rattle.kernel.specs.declared.kernels.parts.Parts.{Parts}
 use Rattle.kernel.specs.declared.kernels.parts.Preload.{Preload}
 use Rattle.kernel.specs.declared.kernels.parts.Out.{Out}
-use Rattle.candidates.specs.declared.choices.Choice.{Choice}
-use Rattle.candidates.specs.declared.choices.Choice.TheVariants.{Met, Failed}
-use Rattle.candidates.specs.declared.listings.Row.{Row}
-use Rattle.candidates.specs.Listings.{ListingData}
-use Rattle.candidates.specs.Texts.{cause_word, mii_in, number_met, number_failed}
+use Rattle.loop_listings.specs.declared.choices.Choice.{Choice}
+use Rattle.loop_listings.specs.declared.choices.Choice.TheVariants.{Met, Failed}
+use Rattle.loop_listings.specs.declared.listings.Row.{Row}
+use Rattle.loop_listings.specs.Listings.{ListingData}
+use Rattle.loop_listings.specs.Texts.{cause_word, mii_in, number_met, number_failed}
 
 -- the members of each object stand in the order of their keys
 

@@ -1,7 +1,7 @@
 -- The document of a listing, by the objects of its loops.
 use Rattle.std.specs.Prelude.{◌≡◌, map}
-use Rattle.candidates.specs.Listings.{ListingData}
-use Rattle.candidates.specs.Texts.{number_failed, number_met}
+use Rattle.loop_listings.specs.Listings.{ListingData}
+use Rattle.loop_listings.specs.Texts.{number_failed, number_met}
 use Rattle.json_objects.specs.Documents.{document_of}
 use Rattle.listing_json.specs.Documents.{document_text, row_object}
 

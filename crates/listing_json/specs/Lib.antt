@@ -1,4 +1,4 @@
-pub use Rattle.candidates.specs.Listings
+pub use Rattle.loop_listings.specs.Listings
 pub mod Documents
 pub mod Joined
 pub mod inner

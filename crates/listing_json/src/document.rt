@@ -2,8 +2,8 @@
 
 ghost use Rattle.std.specs.Prelude.{◌≡◌, ◌≤◌, ◌++◌, codes, IfOk, OnOk, string_bytes};
 ghost use Rattle.std.specs.List.{All, flat_map, join_by};
-ghost use Rattle.candidates.specs.Listings.{IsRow};
-ghost use Rattle.candidates.specs.declared.listings.Row.{Row};
+ghost use Rattle.loop_listings.specs.Listings.{IsRow};
+ghost use Rattle.loop_listings.specs.declared.listings.Row.{Row};
 ghost use Rattle.listing_json.specs.Documents.{document_text, row_object};
 ghost use Rattle.machine_data.specs.declared.limits.TheConstants.{MAX_CEILING};
 

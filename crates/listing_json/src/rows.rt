@@ -2,8 +2,8 @@
 
 ghost use Rattle.std.specs.Prelude.{◌≡◌, ◌≤◌, ◌+◌, ◌++◌, IfOk, OnOk, string_bytes};
 ghost use Rattle.serde_json.specs.View.{members_view, view};
-ghost use Rattle.candidates.specs.Listings.{IsRow};
-ghost use Rattle.candidates.specs.Texts.{mii_in};
+ghost use Rattle.loop_listings.specs.Listings.{IsRow};
+ghost use Rattle.loop_listings.specs.Texts.{mii_in};
 ghost use Rattle.listing_json.specs.Documents.{row_object, row_value};
 ghost use Rattle.listing_json.specs.inner.Members.{row_members};
 ghost use Rattle.machine_data.specs.declared.limits.TheConstants.{MAX_CEILING};

@@ -5,7 +5,7 @@ use Rattle.std.specs.Global.{Global}
 use Rattle.machine.specs.Opcode.{Opcode}
 use Rattle.loop_data.specs.Loops.{LoopData}
 use Rattle.loop_schedules.specs.Problems.{ProblemData}
-use Rattle.candidates.specs.Listings.{ListingData}
+use Rattle.loop_listings.specs.Listings.{ListingData}
 use Rattle.file_faults.specs.Answers.{AnswersLoops, AnswersOn}
 use Rattle.file_faults.specs.declared.fault.FileFault.{FileFault}
 use Rattle.file_faults.specs.declared.fault.FileFault.TheVariants.{Machine, Loops, NoTable, Memory}

@@ -7,13 +7,13 @@ use Rattle.loop_schedules.specs.Schedules.{ScheduleData}
 use Rattle.kernel.specs.declared.kernels.parts.Parts.{Parts}
 use Rattle.overlap.specs.Allotments.{AllotmentData}
 use Rattle.overlap.specs.Emission.{emitted}
-use Rattle.candidates.specs.declared.choices.Choice.{Choice}
-use Rattle.candidates.specs.declared.choices.Choice.TheVariants.{Met, Failed}
-use Rattle.candidates.specs.declared.listings.Row as row
+use Rattle.loop_listings.specs.declared.choices.Choice.{Choice}
+use Rattle.loop_listings.specs.declared.choices.Choice.TheVariants.{Met, Failed}
+use Rattle.loop_listings.specs.declared.listings.Row as row
 use Rattle.candidates.specs.Choices.{IsChoice}
-use Rattle.candidates.specs.Listings.{ListingData, listing_rows}
+use Rattle.loop_listings.specs.Listings.{ListingData, listing_rows}
 use Rattle.candidates.specs.Outcomes.{GivesKernel}
-use Rattle.one_thread.specs.Files.{ListsProblems}
+use Rattle.candidates.specs.Files.{ListsProblems}
 use Rattle.printouts.specs.inner.Runnable.{HasSizesOf, IsRunnable}
 
 emitted-arrays : (s : ScheduleData) (a : AllotmentData) → length (emitted s a).arrays ≡ length s.problem.loop.arrays

@@ -4,11 +4,11 @@ use Rattle.std.specs.List.{flat_map, zip}
 use Rattle.machine.specs.Machines.{MachineData}
 use Rattle.loop_data.specs.Loops.{LoopData}
 use Rattle.loop_schedules.specs.Problems.{ProblemData}
-use Rattle.candidates.specs.Listings.{ListingData}
-use Rattle.candidates.specs.Texts.{counts_line, listing_text_of}
-use Rattle.candidates.specs.declared.listings.Row as row
-use Rattle.one_thread.specs.Files.{ArePrepared, ListsProblems}
-use Rattle.one_thread.proofs.Listed.{lists_of, right_of}
+use Rattle.loop_listings.specs.Listings.{ListingData}
+use Rattle.loop_listings.specs.Texts.{counts_line, listing_text_of}
+use Rattle.loop_listings.specs.declared.listings.Row as row
+use Rattle.candidates.specs.Files.{ArePrepared, ListsProblems}
+use Rattle.candidates.proofs.Listed.{lists_of, right_of}
 use Rattle.written.specs.Written.{Written}
 use Rattle.printouts.specs.Run.{IsRunText, choice_lines, told_lines}
 use Rattle.printouts.specs.Schedule.{IsListingText, are_met}

@@ -8,12 +8,12 @@ use Rattle.loop_data.specs.Run.{opening_of}
 use Rattle.kernel.specs.declared.kernels.parts.Parts.{Parts}
 use Rattle.kernel.specs.Overlapped.{overlapped}
 use Rattle.overlap.specs.Overlap.{RunsAsLoop}
-use Rattle.candidates.specs.declared.choices.Choice.{Choice}
-use Rattle.candidates.specs.declared.choices.Choice.TheVariants.{Met, Failed}
-use Rattle.candidates.specs.declared.listings.Row.{Row}
-use Rattle.candidates.specs.Listings.{ListingData}
+use Rattle.loop_listings.specs.declared.choices.Choice.{Choice}
+use Rattle.loop_listings.specs.declared.choices.Choice.TheVariants.{Met, Failed}
+use Rattle.loop_listings.specs.declared.listings.Row.{Row}
+use Rattle.loop_listings.specs.Listings.{ListingData}
 use Rattle.candidates.specs.Promises.{IsRight, Lists}
-use Rattle.candidates.specs.Texts.{row_text, counts_line}
+use Rattle.loop_listings.specs.Texts.{row_text, counts_line}
 use Rattle.written.specs.Written.{Written}
 use Rattle.lines_of_runs.specs.Plain.{plain_lines, run_lines}
 use Rattle.printouts.specs.Schedule.{are_met}

@@ -3,10 +3,10 @@ use Rattle.std.specs.Prelude.{◌≡◌, ℕ, Bool, List}
 use Rattle.std.specs.List.{list_all}
 use Rattle.machine.specs.Machines.{MachineData}
 use Rattle.loop_data.specs.Loops.{LoopData}
-use Rattle.candidates.specs.declared.listings.Row.{Row}
-use Rattle.candidates.specs.Listings.{ListingData, is_met}
+use Rattle.loop_listings.specs.declared.listings.Row.{Row}
+use Rattle.loop_listings.specs.Listings.{ListingData, is_met}
 use Rattle.candidates.specs.Promises.{IsRight, Lists}
-use Rattle.candidates.specs.Texts.{listing_text_of}
+use Rattle.loop_listings.specs.Texts.{listing_text_of}
 use Rattle.written.specs.Written.{Written}
 
 -- every loop has a kernel

@@ -1,8 +1,8 @@
 -- What is left to try after reports.
 use Rattle.std.specs.Prelude.{ℕ, zero, suc, ◌+◌, ◌-◌, if◌then◌else◌, List, [], ◌∷◌}
 use Rattle.loop_schedules.specs.Problems.{ProblemData, mii_of}
-use Rattle.candidates.specs.declared.choices.Choice.{Choice}
-use Rattle.candidates.specs.declared.choices.Choice.TheVariants.{Met, Failed}
+use Rattle.loop_listings.specs.declared.choices.Choice.{Choice}
+use Rattle.loop_listings.specs.declared.choices.Choice.TheVariants.{Met, Failed}
 use Rattle.reports.specs.Entries.{ReportData, is_settled_in}
 
 -- how many of a loop's intervals are tried in turn up to its choice

@@ -9,7 +9,7 @@ use Rattle.loop_data.specs.Loops.{LoopData}
 use Rattle.writing.proofs.Beginnings.{two_pushed}
 use Rattle.loop_schedules.specs.Problems.{ProblemData}
 use Rattle.loop_schedules.specs.Schedules.{ScheduleData}
-use Rattle.candidates.specs.declared.outcomes.Cause.{Cause}
+use Rattle.loop_listings.specs.declared.causes.Cause.{Cause}
 use Rattle.scheduled_graphs.specs.Arrows.{AreArrows}
 use Rattle.scheduled_graphs.specs.Graphs.{IsScheduledText, IsUnscheduledText}
 use Rattle.scheduled_graphs.specs.Heads.{scheduled_head, unscheduled_head}

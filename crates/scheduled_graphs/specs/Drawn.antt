@@ -4,7 +4,7 @@ use Rattle.graph.specs.Dependences.{EdgeData}
 use Rattle.graph_text.specs.Drawings.{IsCritical}
 use Rattle.loop_schedules.specs.Problems.{ProblemData}
 use Rattle.loop_schedules.specs.Schedules.{ScheduleData}
-use Rattle.candidates.specs.declared.outcomes.Cause.{Cause}
+use Rattle.loop_listings.specs.declared.causes.Cause.{Cause}
 use Rattle.candidates.specs.declared.evidence.Tried.{Tried}
 use Rattle.candidates.specs.declared.evidence.Tried.TheVariants.{Met, Failed}
 use Rattle.candidates.specs.Reasons.{reason_cause}

@@ -6,7 +6,7 @@ use Rattle.graph_text.specs.Dot.{node_line}
 use Rattle.lower_bounds.specs.Texts.{numbers_of}
 use Rattle.loop_schedules.specs.Problems.{ProblemData}
 use Rattle.loop_schedules.specs.Schedules.{ScheduleData}
-use Rattle.candidates.specs.declared.outcomes.Cause.{Cause}
+use Rattle.loop_listings.specs.declared.causes.Cause.{Cause}
 use Rattle.scheduled_graphs.specs.Arrows.{AreArrows}
 use Rattle.scheduled_graphs.specs.Heads.{scheduled_head, unscheduled_head}
 use Rattle.scheduled_graphs.specs.Nodes.{placed_lines}

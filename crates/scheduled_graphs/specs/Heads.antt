@@ -2,9 +2,9 @@
 use Rattle.std.specs.Prelude.{ℕ, ◌+◌, codes, List, ◌++◌}
 use Rattle.loop_schedules.specs.Problems.{ProblemData, mii_of}
 use Rattle.loop_schedules.specs.Schedules.{ScheduleData, stages_of}
-use Rattle.candidates.specs.declared.outcomes.Cause.{Cause}
+use Rattle.loop_listings.specs.declared.causes.Cause.{Cause}
 use Rattle.candidates.specs.Choices.{last_of}
-use Rattle.candidates.specs.Texts.{cause_word}
+use Rattle.loop_listings.specs.Texts.{cause_word}
 use Rattle.graph_marks.specs.Labels.{failed_label, met_label, nodes_filled, nodes_plain}
 use Rattle.writing.specs.Words.{told}
 

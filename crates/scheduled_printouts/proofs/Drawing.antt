@@ -5,7 +5,7 @@ use Rattle.std.specs.List.{list_all}
 use Rattle.lower_bounds.proofs.Texts.{all_zip-push, zipped-push}
 use Rattle.writing.proofs.Beginnings.{two_pushed}
 use Rattle.loop_schedules.specs.Problems.{ProblemData}
-use Rattle.candidates.specs.Listings.{is_met}
+use Rattle.loop_listings.specs.Listings.{is_met}
 use Rattle.scheduled_printouts.specs.Graphs.{AreDrawn, DrawnData, IsDrawn}
 
 and-true : (b : Bool) → b && true ≡ b

@@ -1,13 +1,13 @@
 -- Intervals that are tried one after another.
 use Rattle.std.proofs.Common.{◌≡◌, ℕ, ◌+◌, ◌≤◌, Bool, List, ◌++◌, refl, ap, subst, arith}
 use Rattle.loop_schedules.specs.Problems.{ProblemData, IsProblem, mii_of}
-use Rattle.candidates.specs.declared.choices.Choice.TheVariants as choice
+use Rattle.loop_listings.specs.declared.choices.Choice.TheVariants as choice
 use Rattle.candidates.specs.declared.evidence.Met as evidence
 use Rattle.candidates.specs.declared.evidence.Reason.{Reason}
 use Rattle.candidates.specs.declared.evidence.Tried.{Tried}
 use Rattle.candidates.specs.declared.evidence.Tried.TheVariants.{Met, Failed}
-use Rattle.candidates.specs.declared.outcomes.Cause.{Cause}
-use Rattle.candidates.specs.Listings.{is_met}
+use Rattle.loop_listings.specs.declared.causes.Cause.{Cause}
+use Rattle.loop_listings.specs.Listings.{is_met}
 use Rattle.candidates.specs.Reasons.{FailsFor, IsMet, IsTried, reason_cause}
 use Rattle.candidates.proofs.Evidenced.{tried-is_given}
 use Rattle.candidates.proofs.Rising.{Risen, met_here, risen_on, unmet_here}

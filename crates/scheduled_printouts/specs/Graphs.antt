@@ -6,12 +6,12 @@ use Rattle.loop_data.specs.Loops.{LoopData}
 use Rattle.lower_bounds.specs.Texts.{AreTexts}
 use Rattle.loop_schedules.specs.Problems.{ProblemData}
 use Rattle.loop_schedules.specs.Schedules.{ScheduleData}
-use Rattle.candidates.specs.declared.choices.Choice.{Choice}
-use Rattle.candidates.specs.declared.choices.Choice.TheVariants.{Met, Failed}
+use Rattle.loop_listings.specs.declared.choices.Choice.{Choice}
+use Rattle.loop_listings.specs.declared.choices.Choice.TheVariants.{Met, Failed}
 use Rattle.candidates.specs.Choices.{IsChoice}
-use Rattle.candidates.specs.Listings.{is_met}
+use Rattle.loop_listings.specs.Listings.{is_met}
 use Rattle.candidates.specs.Outcomes.{IsPlacedAs}
-use Rattle.one_thread.specs.Files.{ArePrepared}
+use Rattle.candidates.specs.Files.{ArePrepared}
 use Rattle.scheduled_graphs.specs.Drawn.{IsScheduledGraph, IsUnscheduledGraph}
 use Rattle.written.specs.Written.{Written}
 

@@ -2,16 +2,16 @@
 
 ghost use Rattle.std.specs.Prelude.{◌≡◌, ◌&&◌, ◌++◌, ℕ, List, IfOk};
 ghost use Rattle.graph.specs.Units.{first_lacking};
-ghost use Rattle.candidates.specs.Listings.{is_met};
+ghost use Rattle.loop_listings.specs.Listings.{is_met};
 ghost use Rattle.file_faults.specs.Answers.{AnswersOn};
 ghost use Rattle.scheduled_printouts.specs.Graphs.{AreDrawn, AreScheduledGraphs, DrawnData, IsDrawn};
 
 use crate::tries::{is_met, last_tried};
+use candidates::prepare_all;
 use file_faults::FileFault;
 use loop_data::Loop;
 use loop_schedules::Prepared;
 use machine::{Machine, OutOfMemory};
-use one_thread::prepare_all;
 use scheduled_graphs::push_drawn;
 use settings::Settings;
 use std::alloc::Global;

@@ -4,11 +4,11 @@ use Rattle.std.specs.List.{AllZip, flat_map, zip}
 use Rattle.std.proofs.lemmas.List.{get_or_default}
 use Rattle.std.proofs.lemmas.Slice.Zip.{get_or-zip, length-zip}
 use Rattle.loop_schedules.specs.Problems.{ProblemData}
-use Rattle.candidates.specs.declared.listings.Row as row
-use Rattle.candidates.specs.declared.choices.Choice.{Choice}
+use Rattle.loop_listings.specs.declared.listings.Row as row
+use Rattle.loop_listings.specs.declared.choices.Choice.{Choice}
 use Rattle.candidates.specs.Choices.{IsChoice}
-use Rattle.candidates.specs.Listings.{ListingData, listing_rows}
-use Rattle.one_thread.specs.Files.{ListsProblems}
+use Rattle.loop_listings.specs.Listings.{ListingData, listing_rows}
+use Rattle.candidates.specs.Files.{ListsProblems}
 use Rattle.printouts.specs.Run.{choice_lines, told_lines}
 use Rattle.printouts.proofs.Told.{loops_of, told_problems}
 use Rattle.text_parts.specs.declared.part.Part.{Part}

@@ -3,7 +3,7 @@
 ghost use Rattle.std.specs.Prelude.{◌≡◌, ◌≤◌, ◌++◌, length, IfOk, OnOk};
 ghost use Rattle.machine_data.specs.declared.limits.TheConstants.{MAX_CEILING};
 ghost use Rattle.candidates.specs.Choices.{IsChoice};
-ghost use Rattle.candidates.specs.Listings.{IsRow};
+ghost use Rattle.loop_listings.specs.Listings.{IsRow};
 ghost use Rattle.kernel.specs.Overlapped.{overlapped};
 ghost use Rattle.loop_data.specs.Run.{opening_of};
 ghost use Rattle.printouts.specs.Run.{choice_lines, kernel_lines};

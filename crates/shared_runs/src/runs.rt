@@ -3,9 +3,9 @@
 ghost use Rattle.std.specs.Prelude.{◌≡◌, ◌<◌, ◌++◌, ℕ, length, IfOk, map, slice_index_or, vec_len};
 ghost use Rattle.std.specs.List.{All, flat_map};
 ghost use Rattle.loop_schedules.specs.Problems.{ProblemData};
-ghost use Rattle.candidates.specs.Texts.{counts_line};
-ghost use Rattle.candidates.specs.declared.listings.Row as row;
-ghost use Rattle.one_thread.specs.Files.{ListsProblems};
+ghost use Rattle.loop_listings.specs.Texts.{counts_line};
+ghost use Rattle.loop_listings.specs.declared.listings.Row as row;
+ghost use Rattle.candidates.specs.Files.{ListsProblems};
 ghost use Rattle.printouts.specs.Run.{choice_lines, told_lines};
 ghost use Rattle.printouts.specs.Schedule.{are_met};
 ghost use Rattle.text_parts.specs.Parts.{text_of};

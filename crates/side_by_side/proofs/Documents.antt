@@ -9,15 +9,15 @@ use Rattle.machine.specs.Machines.{MachineData}
 use Rattle.loop_data.specs.Loops.{LoopData}
 use Rattle.loop_schedules.specs.Problems.{ProblemData}
 use Rattle.candidates.specs.Choices.{IsChoice}
-use Rattle.candidates.specs.Listings.{ListingData, listing_of, listing_rows}
-use Rattle.candidates.specs.Texts.{number_failed, number_met}
-use Rattle.candidates.specs.declared.choices.Choice.{Choice}
-use Rattle.candidates.specs.declared.listings.Row.{Row}
+use Rattle.loop_listings.specs.Listings.{ListingData, listing_of, listing_rows}
+use Rattle.loop_listings.specs.Texts.{number_failed, number_met}
+use Rattle.loop_listings.specs.declared.choices.Choice.{Choice}
+use Rattle.loop_listings.specs.declared.listings.Row.{Row}
 use Rattle.json_objects.specs.Documents.{document_of, head_text, tail_text}
 use Rattle.listing_json.specs.Documents.{row_object}
 use Rattle.json_objects.proofs.Joined.{join-map}
 use Rattle.listing_json.proofs.Joined.{documents-joined}
-use Rattle.one_thread.specs.Files.{ArePrepared}
+use Rattle.candidates.specs.Files.{ArePrepared}
 use Rattle.written.specs.Written.{Written}
 use Rattle.json_printouts.specs.Documents.{IsListingDocument}
 use Rattle.json_printouts.proofs.Told.{told_document}

@@ -6,14 +6,14 @@ use Rattle.std.proofs.lemmas.List.Sums.{sum_by-cons}
 use Rattle.machine.specs.Machines.{MachineData}
 use Rattle.loop_data.specs.Loops.{LoopData}
 use Rattle.loop_schedules.specs.Problems.{ProblemData}
-use Rattle.candidates.specs.declared.choices.Choice.{Choice}
-use Rattle.candidates.specs.declared.choices.Choice.TheVariants.{Met, Failed}
-use Rattle.candidates.specs.Listings.{is_met, is_failed}
+use Rattle.loop_listings.specs.declared.choices.Choice.{Choice}
+use Rattle.loop_listings.specs.declared.choices.Choice.TheVariants.{Met, Failed}
+use Rattle.loop_listings.specs.Listings.{is_met, is_failed}
 use Rattle.explain.specs.declared.file.Explained.{Explained}
 use Rattle.explain.specs.Explanations.{ArePartsOf, IsExplanationOf, PartData, last_line}
 use Rattle.explain.proofs.Parts.{part_of}
-use Rattle.one_thread.specs.Files.{ArePrepared}
-use Rattle.one_thread.proofs.Listed.{prepared_long}
+use Rattle.candidates.specs.Files.{ArePrepared}
+use Rattle.candidates.proofs.Listed.{prepared_long}
 use Rattle.text_parts.specs.declared.part.Part.{Part}
 use Rattle.side_by_side.specs.inner.Explained.{IsExplainedPart}
 use Rattle.text_parts.specs.Parts.{met_of, text_of}

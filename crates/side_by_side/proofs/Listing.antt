@@ -1,9 +1,9 @@
 -- What workers write of the rows of a listing is its text.
 use Rattle.std.proofs.Common.{◌≡◌, ◌<◌, ℕ, List, ◌++◌, length, get_or}
 use Rattle.std.specs.List.{flat_map}
-use Rattle.candidates.specs.Listings.{ListingData}
-use Rattle.candidates.specs.Texts.{counts_line, listing_text_of, row_text, version_text}
-use Rattle.candidates.specs.declared.listings.Row as row
+use Rattle.loop_listings.specs.Listings.{ListingData}
+use Rattle.loop_listings.specs.Texts.{counts_line, listing_text_of, row_text, version_text}
+use Rattle.loop_listings.specs.declared.listings.Row as row
 use Rattle.text_parts.specs.declared.part.Part.{Part}
 use Rattle.text_parts.specs.Parts.{text_of}
 use Rattle.text_parts.proofs.Pieces.{flat_same}

@@ -15,14 +15,14 @@ use Rattle.loop_reader.specs.declared.fault.LoopFault.{LoopFault}
 use Rattle.loop_data.specs.Loops.{LoopData}
 use Rattle.loop_schedules.specs.Problems.{ProblemData}
 use Rattle.candidates.specs.Choices.{IsChoice}
-use Rattle.candidates.specs.Listings.{ListingData, is_failed, is_met, listing_of, listing_row, listing_rows}
-use Rattle.candidates.specs.Texts.{counts_line, has_outs, number_failed, number_met, row_text, version_text}
-use Rattle.candidates.specs.declared.choices.Choice.{Choice}
-use Rattle.candidates.specs.declared.choices.Choice.TheVariants.{Failed, Met}
-use Rattle.candidates.specs.declared.listings.Row.{Row}
+use Rattle.loop_listings.specs.Listings.{ListingData, is_failed, is_met, listing_of, listing_row, listing_rows}
+use Rattle.loop_listings.specs.Texts.{counts_line, has_outs, number_failed, number_met, row_text, version_text}
+use Rattle.loop_listings.specs.declared.choices.Choice.{Choice}
+use Rattle.loop_listings.specs.declared.choices.Choice.TheVariants.{Failed, Met}
+use Rattle.loop_listings.specs.declared.listings.Row.{Row}
 use Rattle.file_faults.specs.Answers.{AnswersIn}
-use Rattle.one_thread.specs.Files.{ArePrepared, ListsProblems}
-use Rattle.one_thread.proofs.Listed.{prepared_long}
+use Rattle.candidates.specs.Files.{ArePrepared, ListsProblems}
+use Rattle.candidates.proofs.Listed.{prepared_long}
 use Rattle.written.specs.Written.{Written}
 use Rattle.writing.specs.Words.{last_line}
 use Rattle.printouts.specs.Run.{IsRunText, choice_lines, told_lines}

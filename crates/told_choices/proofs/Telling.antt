@@ -7,7 +7,7 @@ use Rattle.figures.specs.Figures.{AreFigures}
 use Rattle.candidates.specs.declared.evidence.Met.{Met}
 use Rattle.candidates.specs.declared.evidence.Reason.{Reason}
 use Rattle.candidates.specs.declared.evidence.Tried.TheVariants as tried
-use Rattle.candidates.specs.declared.outcomes.Cause.{Cause}
+use Rattle.loop_listings.specs.declared.causes.Cause.{Cause}
 use Rattle.candidates.specs.Outcomes.{FailsBy}
 use Rattle.candidates.specs.Reasons.{FailsFor, IsMet, reason_cause}
 use Rattle.candidates.proofs.Evidenced.{tried-is_given}

@@ -2,7 +2,7 @@
 use Rattle.std.specs.Prelude.{◌≡◌, ℕ, ◌-◌, ◌<◌, nat_lt, codes, List, length, Bool, true, false, if◌then◌else◌, Option, Some, None, slice_get}
 use Rattle.loop_schedules.specs.Problems.{ProblemData, mii_of}
 use Rattle.candidates.specs.Outcomes.{FailsBy}
-use Rattle.candidates.specs.Texts.{cause_word}
+use Rattle.loop_listings.specs.Texts.{cause_word}
 use Rattle.told_choices.specs.declared.hold.Hold.{Hold}
 use Rattle.told_choices.specs.declared.hold.Hold.TheVariants.{Units, Recurrences, Both, Cycle, Failure}
 use Rattle.told_choices.specs.declared.why.Why.{Why}

@@ -5,8 +5,8 @@ use Rattle.loop_schedules.specs.Problems.{ProblemData, mii_of}
 use Rattle.figures.specs.declared.figures.Figures.{Figures}
 use Rattle.figures.specs.Figures.{AreFigures}
 use Rattle.candidates.specs.declared.evidence.Met as evidence
-use Rattle.candidates.specs.declared.choices.Choice.{Choice}
-use Rattle.candidates.specs.declared.choices.Choice.TheVariants as choice
+use Rattle.loop_listings.specs.declared.choices.Choice.{Choice}
+use Rattle.loop_listings.specs.declared.choices.Choice.TheVariants as choice
 use Rattle.candidates.specs.Choices.{IsChoice, IsUnmet}
 use Rattle.candidates.specs.Reasons.{IsMet}
 use Rattle.told_choices.specs.declared.chosen.Chosen.{Chosen}

@@ -6,9 +6,10 @@ use Rattle.loop_schedules.specs.Problems.{ProblemData, budget_of}
 use Rattle.loop_schedules.specs.Schedules.{ScheduleData}
 use Rattle.registers.specs.declared.lifetime.Lifetime.{Lifetime}
 use Rattle.rotating.specs.Needs.{IsNeed}
-use Rattle.candidates.specs.declared.outcomes.Cause.{Cause}
-use Rattle.candidates.specs.declared.outcomes.Cause.TheVariants.{Registers}
-use Rattle.candidates.specs.Outcomes.{FailsBy, culprit_cause}
+use Rattle.loop_listings.specs.declared.causes.Cause.{Cause}
+use Rattle.loop_listings.specs.declared.causes.Cause.TheVariants.{Registers}
+use Rattle.candidates.specs.Outcomes.{FailsBy}
+use Rattle.loop_listings.specs.Causes.{culprit_cause}
 use Rattle.candidates.specs.Reasons.{LacksFor}
 use Rattle.told_choices.specs.declared.why.Why.{Why}
 use Rattle.told_choices.specs.declared.why.Why.TheVariants.{Attempt, Register, Need}

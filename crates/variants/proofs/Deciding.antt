@@ -4,10 +4,10 @@ use Rattle.std.proofs.lemmas.Bool.{cases_lt}
 use Rattle.std.specs.Prelude.{Some, None, MatchBool, not}
 use Rattle.machine_data.specs.Machines.{MachineData}
 use Rattle.loop_schedules.specs.Problems.{IsProblem, ProblemData, mii_of}
-use Rattle.candidates.specs.declared.outcomes.Cause.{Cause}
+use Rattle.loop_listings.specs.declared.causes.Cause.{Cause}
 use Rattle.candidates.specs.Outcomes.{FailsBy, GivesKernel}
 use Rattle.candidates.proofs.Rising.{Risen, met_here, none_where, risen_none, risen_on, unmet_here}
-use Rattle.candidates.specs.declared.outcomes.Cause.TheVariants.{Table}
+use Rattle.loop_listings.specs.declared.causes.Cause.TheVariants.{Table}
 use Rattle.variants.specs.Intervals.{IsIntervalOf, IsLeastNumber}
 use Rattle.variants.specs.Findings.{IsOn}
 use Rattle.variants.specs.inner.Tries.{AreFailing, IsFailing, IsGiving, with_registers}

@@ -11,7 +11,7 @@ use Rattle.loop_schedules.proofs.problems.OneProblems.{one-problem}
 use Rattle.overlap.specs.Allotments.{AllotmentData, AreLeast, HaveNone, LeastFor, NoneFor}
 use Rattle.overlap.specs.Emission.{emitted}
 use Rattle.overlap.specs.Lifetimes.{lifetimes_of}
-use Rattle.candidates.specs.declared.outcomes.Cause.TheVariants.{Registers}
+use Rattle.loop_listings.specs.declared.causes.Cause.TheVariants.{Registers}
 use Rattle.candidates.specs.Outcomes.{IsPlacedAs}
 use Rattle.machine_variants.specs.declared.variant.Variant.TheVariants as variant
 use Rattle.machine_variants.specs.Variants.{varied}

@@ -13,8 +13,8 @@ use Rattle.graph.specs.Dependences.{latencies_of, latency_in}
 use Rattle.graph.specs.Units.{alternatives_in, first_without_table, opcodes_of, operations_of}
 use Rattle.loop_schedules.specs.Problems.{IsProblem, ProblemData}
 use Rattle.loop_schedules.proofs.problems.OneProblems.{one-problem}
-use Rattle.candidates.specs.declared.choices.Choice.{Choice}
-use Rattle.candidates.specs.declared.choices.Choice.TheVariants as choice
+use Rattle.loop_listings.specs.declared.choices.Choice.{Choice}
+use Rattle.loop_listings.specs.declared.choices.Choice.TheVariants as choice
 use Rattle.candidates.proofs.OneChoices.{one_choice}
 use Rattle.machine_variants.specs.declared.variant.Variant.{Variant}
 use Rattle.machine_variants.specs.declared.variant.Variant.TheVariants.{Doubled, Shortened, Registers}

@@ -11,8 +11,8 @@ use Rattle.loop_reader.specs.Meaning.{loops_in}
 use Rattle.loop_reader.proofs.blocks.OpeningLines.{accepted}
 use Rattle.graph.specs.Units.{first_lacking, first_without_table, lacking_or}
 use Rattle.loop_schedules.specs.Problems.{IsProblemOf, ProblemData}
-use Rattle.one_thread.specs.Files.{ArePrepared}
-use Rattle.one_thread.proofs.Listed.{prepared_long}
+use Rattle.candidates.specs.Files.{ArePrepared}
+use Rattle.candidates.proofs.Listed.{prepared_long}
 use Rattle.workers.specs.Told.{Group, IsPart, Teller, problems_of}
 use Rattle.workers.specs.declared.pieces.Piece.{Piece}
 use Rattle.workers.specs.inner.Made.{AreTogether, IsMadeOf, Tells, ToldOfText, names_in}

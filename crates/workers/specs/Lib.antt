@@ -1,12 +1,12 @@
 pub use Rattle.board.specs.Rule
 pub use Rattle.board.specs.Views
 pub use Rattle.candidates.specs.Choices
-pub use Rattle.candidates.specs.Pieces
+pub use Rattle.loop_listings.specs.Pieces
 pub use Rattle.candidates.specs.Promises
 pub use Rattle.loop_schedules.specs.Problems
 pub use Rattle.loop_reader.specs.Meaning
 pub use Rattle.machine.specs.MachineText
-pub use Rattle.one_thread.specs.Files
+pub use Rattle.candidates.specs.Files
 pub use Rattle.reports.specs.Entries
 pub use Rattle.reports.specs.Gathered
 pub use Rattle.reports.specs.declared.entry.Entry

@@ -8,10 +8,10 @@ use Rattle.machine.specs.Machines.{MachineData}
 use Rattle.loop_data.specs.Loops.{LoopData}
 use Rattle.loop_schedules.specs.Problems.{ProblemData}
 use Rattle.candidates.specs.Choices.{IsChoice}
-use Rattle.candidates.specs.Listings.{ListingData, listing_of}
-use Rattle.candidates.specs.declared.choices.Choice.{Choice}
+use Rattle.loop_listings.specs.Listings.{ListingData, listing_of}
+use Rattle.loop_listings.specs.declared.choices.Choice.{Choice}
 use Rattle.machine_data.specs.declared.limits.TheConstants.{MAX_LOOPS}
-use Rattle.one_thread.specs.Files.{ArePrepared, HaveCeiling, ListsProblems, PreparesAndLists}
+use Rattle.candidates.specs.Files.{ArePrepared, HaveCeiling, ListsProblems, PreparesAndLists}
 use Rattle.workers.specs.declared.pieces.Told.{Told}
 use Rattle.workers.specs.declared.pieces.Told.TheVariants.{Apart, Whole}
 

@@ -7,18 +7,17 @@ ghost use Rattle.loop_reader.specs.Meaning.{loops_in};
 ghost use Rattle.graph.specs.Units.{first_lacking};
 ghost use Rattle.candidates.specs.Choices.{IsChoice};
 ghost use Rattle.candidates.specs.Promises.{IsRight};
-ghost use Rattle.one_thread.specs.Files.{AnswersFile, AnswersIn, AnswersOn, HaveCeiling, ListsFile, ListsProblems, PreparesAndLists};
+ghost use Rattle.candidates.specs.Files.{AnswersFile, AnswersIn, AnswersOn, HaveCeiling, ListsFile, ListsProblems, PreparesAndLists};
 
 use crate::preparing::prepare_by_workers;
 use crate::reading::apart::read_by_workers;
 use board_workers::{Gate, run_workers};
-use candidates::{Listing, Pieces, Settings};
+use candidates::{Listing, Pieces, Settings, list_choices, pipeline_alone};
 use collecting::{Chosen, gather};
 use file_faults::FileFault;
 use loop_data::Loop;
 use loop_schedules::Prepared;
 use machine::{Machine, OutOfMemory, read_machine};
-use one_thread::{list_choices, pipeline_alone};
 use std::alloc::Global;
 use std::thread::Threads;
 

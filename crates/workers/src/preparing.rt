@@ -5,16 +5,15 @@ ghost use Rattle.std.specs.List.{All, AllZip};
 ghost use Rattle.loop_data.specs.Loops.{LoopData};
 ghost use Rattle.graph.specs.Units.{first_without_table, first_lacking, lacking_or};
 ghost use Rattle.loop_schedules.specs.Problems.{IsProblemOf};
-ghost use Rattle.one_thread.specs.Files.{AnswersOn, Prepares};
+ghost use Rattle.candidates.specs.Files.{AnswersOn, Prepares};
 ghost use Rattle.workers.specs.inner.Found.{IsFound};
 
-use candidates::Settings;
+use candidates::{Settings, prepare_all};
 use file_faults::FileFault;
 use graph::GraphFault;
 use loop_data::Loop;
 use loop_schedules::{Prepared, loop_problem};
 use machine::{Machine, Opcode, OutOfMemory};
-use one_thread::prepare_all;
 use schedules::Problem;
 use shared_jobs::{Jobs, parts_of, shared};
 use std::alloc::{AllocError, Global};

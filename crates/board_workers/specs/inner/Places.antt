@@ -4,7 +4,7 @@ use Rattle.board.specs.declared.word.WordBoard.{WordBoard}
 use Rattle.board.specs.declared.word.WordPass.{WordPass}
 use Rattle.board.specs.Boards.{IsPassOf, IsNewPassOf, view_of}
 use Rattle.loop_schedules.specs.Problems.{ProblemData}
-use Rattle.candidates.specs.Pieces.{PiecesData}
+use Rattle.loop_listings.specs.Pieces.{PiecesData}
 use Rattle.board_workers.specs.declared.places.Place.{Place}
 use Rattle.reports.specs.Entries.{ReportData}
 use Rattle.board_workers.specs.Worked.{WorkedAs}

@@ -4,7 +4,7 @@ use Rattle.loop_schedules.specs.Problems.{ProblemData, mii_of}
 use Rattle.candidates.specs.Outcomes.{GivesKernel, FailsBy}
 use Rattle.candidates.specs.Choices.{IsChoice}
 use Rattle.reports.specs.Gathered.{tried}
-use Rattle.candidates.specs.declared.choices.Choice.{Choice}
+use Rattle.loop_listings.specs.declared.choices.Choice.{Choice}
 use Rattle.collecting.specs.declared.cells.Settled.{Settled}
 use Rattle.collecting.specs.declared.cells.Settled.TheVariants.{Won, Failed}
 use Rattle.collecting.specs.declared.cells.LoopCells.{LoopCells}

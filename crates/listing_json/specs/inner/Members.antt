@@ -1,8 +1,8 @@
 -- Members that objects of loops have.
 use Rattle.std.specs.Prelude.{codes}
 use Rattle.serde_json.specs.Data.{Members, member, no_members, string}
-use Rattle.candidates.specs.declared.listings.Row.{Row}
-use Rattle.candidates.specs.Texts.{mii_in}
+use Rattle.loop_listings.specs.declared.listings.Row.{Row}
+use Rattle.loop_listings.specs.Texts.{mii_in}
 use Rattle.listing_json.specs.Documents.{count_value}
 
 -- those of a loop, whether it has a kernel or not

@@ -5,7 +5,7 @@ ghost use Rattle.file_faults.specs.Answers.{AnswersIn};
 ghost use Rattle.loop_reader.specs.declared.fault.LoopFault.{LoopFault};
 ghost use Rattle.loop_data.specs.Loops.{LoopData};
 ghost use Rattle.machine.specs.Machines.{MachineData};
-ghost use Rattle.one_thread.specs.Files.{ListsProblems, PreparesAndLists};
+ghost use Rattle.candidates.specs.Files.{ListsProblems, PreparesAndLists};
 ghost use Rattle.printouts.specs.Run.{IsRunText};
 ghost use Rattle.json_printouts.specs.Documents.{IsListingDocument};
 ghost use Rattle.printouts.specs.Schedule.{IsListingText};

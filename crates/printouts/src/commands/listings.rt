@@ -1,7 +1,7 @@
 //! What `schedule` writes of a listing.
 
 ghost use Rattle.std.specs.Prelude.{◌≡◌, IfOk};
-ghost use Rattle.candidates.specs.Texts.{listing_text_of};
+ghost use Rattle.loop_listings.specs.Texts.{listing_text_of};
 ghost use Rattle.printouts.specs.Schedule.{are_met};
 
 use candidates::{Listing, Row, listing_text};

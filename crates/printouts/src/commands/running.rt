@@ -3,13 +3,13 @@
 ghost use Rattle.std.specs.Prelude.{◌≡◌, ◌≤◌, ◌++◌, IfOk, OnOk, map};
 ghost use Rattle.machine_data.specs.declared.limits.TheConstants.{MAX_CEILING};
 ghost use Rattle.loop_schedules.specs.Problems.{ProblemData};
-ghost use Rattle.candidates.specs.declared.listings.Row as row;
+ghost use Rattle.loop_listings.specs.declared.listings.Row as row;
 ghost use Rattle.candidates.specs.Choices.{IsChoice};
-ghost use Rattle.candidates.specs.Listings.{IsRow};
-ghost use Rattle.candidates.specs.Texts.{counts_line, row_text};
+ghost use Rattle.loop_listings.specs.Listings.{IsRow};
+ghost use Rattle.loop_listings.specs.Texts.{counts_line, row_text};
 ghost use Rattle.kernel.specs.Overlapped.{overlapped};
 ghost use Rattle.loop_data.specs.Run.{opening_of};
-ghost use Rattle.one_thread.specs.Files.{ListsProblems};
+ghost use Rattle.candidates.specs.Files.{ListsProblems};
 ghost use Rattle.printouts.specs.inner.Runnable.{HasSizesOf, IsRunnable};
 ghost use Rattle.printouts.specs.Run.{choice_lines, kernel_lines, told_lines};
 ghost use Rattle.printouts.specs.Schedule.{are_met};

@@ -3,11 +3,11 @@ use Rattle.std.specs.Prelude.{◌≡◌, ℕ, List}
 use Rattle.machine.specs.Machines.{MachineData}
 use Rattle.loop_data.specs.Loops.{LoopData}
 use Rattle.loop_schedules.specs.Problems.{ProblemData}
-use Rattle.candidates.specs.declared.choices.Choice.{Choice}
-use Rattle.candidates.specs.Listings.{is_met}
+use Rattle.loop_listings.specs.declared.choices.Choice.{Choice}
+use Rattle.loop_listings.specs.Listings.{is_met}
 use Rattle.explain.specs.declared.file.Explained.{Explained}
 use Rattle.explain.specs.Explanations.{IsExplanationOf, IsToldOn}
-use Rattle.one_thread.specs.Files.{ArePrepared}
+use Rattle.candidates.specs.Files.{ArePrepared}
 use Rattle.text_parts.specs.declared.part.Part.{Part}
 
 -- what is told of a problem, with whether its choice is a kernel

@@ -1,7 +1,7 @@
 -- What is told of loops as JSON objects.
 use Rattle.std.specs.Prelude.{ℕ, ◌==◌, ◌-◌, codes, if◌then◌else◌, List, ◌++◌, length, take}
 use Rattle.std.specs.List.{flat_map}
-use Rattle.candidates.specs.declared.listings.Row.{Row}
+use Rattle.loop_listings.specs.declared.listings.Row.{Row}
 use Rattle.listing_json.specs.Documents.{row_object}
 
 -- the objects of rows, each before a comma

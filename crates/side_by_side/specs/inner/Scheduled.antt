@@ -3,8 +3,8 @@ use Rattle.std.specs.Prelude.{◌≡◌, ℕ, List}
 use Rattle.machine.specs.Machines.{MachineData}
 use Rattle.loop_data.specs.Loops.{LoopData}
 use Rattle.loop_schedules.specs.Problems.{ProblemData}
-use Rattle.candidates.specs.Listings.{is_met}
-use Rattle.one_thread.specs.Files.{ArePrepared}
+use Rattle.loop_listings.specs.Listings.{is_met}
+use Rattle.candidates.specs.Files.{ArePrepared}
 use Rattle.written.specs.Written.{Written}
 use Rattle.scheduled_printouts.specs.Graphs.{AreScheduledGraphs, DrawnData, IsDrawn}
 use Rattle.text_parts.specs.declared.part.Part.{Part}

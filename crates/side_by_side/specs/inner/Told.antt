@@ -2,8 +2,8 @@
 use Rattle.std.specs.Prelude.{◌≡◌, ◌+◌, ℕ, codes, Bool, if◌then◌else◌, List, []}
 use Rattle.std.specs.List.{sum_by}
 use Rattle.writing.specs.Words.{last_line}
-use Rattle.candidates.specs.Texts.{has_outs, number_failed, number_met}
-use Rattle.candidates.specs.declared.listings.Row.{Row}
+use Rattle.loop_listings.specs.Texts.{has_outs, number_failed, number_met}
+use Rattle.loop_listings.specs.declared.listings.Row.{Row}
 use Rattle.side_by_side.specs.declared.parts.told.ToldLoops.{ToldLoops}
 
 -- how many of the loops of these rows have a kernel and how many have none, and whether one has a value that is live at the end

@@ -3,9 +3,9 @@
 ghost use Rattle.std.specs.Prelude.{◌≡◌, ◌<◌, ◌≤◌, length, IfOk, IfSome, slice_index_or, vec_len};
 ghost use Rattle.std.specs.List.{All};
 ghost use Rattle.machine_data.specs.declared.limits.TheConstants.{MAX_CEILING};
-ghost use Rattle.candidates.specs.Listings.{IsRow};
-ghost use Rattle.candidates.specs.Texts.{listing_text_of, row_text};
-ghost use Rattle.candidates.specs.declared.listings.Row as row;
+ghost use Rattle.loop_listings.specs.Listings.{IsRow};
+ghost use Rattle.loop_listings.specs.Texts.{listing_text_of, row_text};
+ghost use Rattle.loop_listings.specs.declared.listings.Row as row;
 ghost use Rattle.printouts.specs.Schedule.{are_met};
 
 use candidates::{Listing, Row, write_row, write_version};

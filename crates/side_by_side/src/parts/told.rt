@@ -3,7 +3,7 @@
 ghost use Rattle.std.specs.Prelude.{◌≡◌, ◌++◌, ◌^◌, ◌<◌, ◌≤◌, ◌==◌, IfOk};
 ghost use Rattle.std.specs.List.{flat_map, list_any};
 ghost use Rattle.machine_data.specs.declared.limits.TheConstants.{MAX_LOOPS};
-ghost use Rattle.candidates.specs.Texts.{has_outs};
+ghost use Rattle.loop_listings.specs.Texts.{has_outs};
 ghost use Rattle.side_by_side.specs.inner.Told.{IsCounted, last_told, number_failed_told, number_met_told, number_told, outs_of, text_of_told};
 
 use candidates::{Row, number_failed, number_met};

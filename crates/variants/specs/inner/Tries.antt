@@ -5,7 +5,7 @@ use Rattle.ims.specs.declared.outcome.attempts.Try.{Try}
 use Rattle.ims.specs.Attempts.{AnswersAttempt}
 use Rattle.loop_schedules.specs.Problems.{ProblemData, budget_of, mii_of}
 use Rattle.kernel.specs.declared.kernels.parts.Parts.{Parts}
-use Rattle.candidates.specs.declared.outcomes.Cause.{Cause}
+use Rattle.loop_listings.specs.declared.causes.Cause.{Cause}
 use Rattle.candidates.specs.Outcomes.{FailsBy, GivesKernel}
 use Rattle.variants.specs.declared.found.finding.Finding.{Finding}
 use Rattle.variants.specs.declared.found.finding.Finding.TheVariants as finding

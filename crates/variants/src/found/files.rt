@@ -9,12 +9,12 @@ ghost use Rattle.variants.specs.Findings.{AreFindings, AreFound, IsOn};
 
 use crate::found::each::findings_of;
 use crate::found::finding::LoopFindings;
+use candidates::prepare_all;
 use file_faults::FileFault;
 use loop_data::Loop;
 use loop_schedules::Prepared;
 use machine::Machine;
 use machine_data::OutOfMemory;
-use one_thread::prepare_all;
 use settings::Settings;
 use std::alloc::Global;
 

@@ -6,8 +6,8 @@ use Rattle.loop_data.specs.Loops.{LoopData}
 use Rattle.loop_reader.specs.Meaning.{loops_in}
 use Rattle.graph.specs.Units.{first_lacking}
 use Rattle.loop_schedules.specs.Problems.{ProblemData}
-use Rattle.candidates.specs.declared.choices.Choice.{Choice}
-use Rattle.one_thread.specs.Files.{ArePrepared}
+use Rattle.loop_listings.specs.declared.choices.Choice.{Choice}
+use Rattle.candidates.specs.Files.{ArePrepared}
 use Rattle.workers.specs.Told.{AreToldApart, IsPart, Teller}
 use Rattle.workers.specs.declared.pieces.Piece.{Piece}
 

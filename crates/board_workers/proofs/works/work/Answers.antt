@@ -3,7 +3,7 @@ use Rattle.std.specs.Prelude.{IsTrue, Some, None}
 use Rattle.board.specs.Views.{DrawsUnlessDry}
 use Rattle.reports.specs.Entries.{ReportData}
 use Rattle.board.specs.declared.view.View.{View}
-use Rattle.candidates.specs.Pieces.{PiecesData, piece_count, loop_of_piece, start_of_piece, end_of_piece}
+use Rattle.loop_listings.specs.Pieces.{PiecesData, piece_count, loop_of_piece, start_of_piece, end_of_piece}
 use Rattle.board_workers.specs.inner.Turns.{Turned}
 use Rattle.board_workers.specs.Worked.{WorkedAs}
 use Rattle.board_workers.proofs.Working.{worked_none, worked_on, worked_dry, count_drawn, count_turned, lost_turned, turned_at}

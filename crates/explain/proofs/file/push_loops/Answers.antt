@@ -6,7 +6,7 @@ use Rattle.loop_data.specs.Loops.{LoopData}
 use Rattle.graph.specs.Units.{first_lacking}
 use Rattle.lower_bounds.specs.Faults.{TextAnswers}
 use Rattle.lower_bounds.proofs.Lacking.{answered, complete}
-use Rattle.candidates.specs.declared.choices.Choice.{Choice}
+use Rattle.loop_listings.specs.declared.choices.Choice.{Choice}
 use Rattle.explain.specs.Explanations.{ArePartsOf, IsPartOf}
 use Rattle.explain.specs.declared.file.Tally.{Tally}
 use Rattle.explain.proofs.Parts.{all-done, done-more, done-none, refused-here}

@@ -1,5 +1,5 @@
 use Rattle.std.proofs.Common.{◌≡◌, ◌++◌, ℕ, List, sym, subst}
-use Rattle.candidates.specs.declared.choices.Choice.{Choice}
+use Rattle.loop_listings.specs.declared.choices.Choice.{Choice}
 use Rattle.explain.specs.Explanations.{IsExplained}
 use Rattle.explain.proofs.single.push_explanation.Goals as goal
 

@@ -3,7 +3,7 @@ use Rattle.std.specs.List.{AllZip}
 use Rattle.graph.specs.Units.{first_lacking}
 use Rattle.loop_schedules.specs.Problems.{ProblemData}
 use Rattle.file_faults.proofs.Answering.{on_none, on_ok}
-use Rattle.one_thread.specs.Files.{Prepares}
+use Rattle.candidates.specs.Files.{Prepares}
 use Rattle.explain_printouts.specs.ExplainDocuments.{AreObjects, IsObjectOf}
 use Rattle.explain_printouts.proofs.explaining.explain_objects.Goals as goal
 

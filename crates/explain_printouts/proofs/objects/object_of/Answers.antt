@@ -1,5 +1,5 @@
 use Rattle.std.proofs.Common.{◌≡◌, ◌++◌, List, ℕ, sym, ap, ◌∙◌, subst}
-use Rattle.candidates.specs.declared.choices.Choice.{Choice}
+use Rattle.loop_listings.specs.declared.choices.Choice.{Choice}
 use Rattle.lower_bounds.specs.Faults.{lacking_in}
 use Rattle.lower_bounds.proofs.Lacking.{answered}
 use Rattle.explain_printouts.specs.Objects.{IsObjectOn}

@@ -1,6 +1,6 @@
 use Rattle.graph.specs.Units.{first_lacking}
 use Rattle.file_faults.proofs.Answering.{on_more}
-use Rattle.one_thread.specs.Files.{PreparesAndLists}
+use Rattle.candidates.specs.Files.{PreparesAndLists}
 use Rattle.json_printouts.specs.Documents.{IsListingDocument}
 use Rattle.json_printouts.proofs.Told.{told_document}
 use Rattle.json_printouts.proofs.alone.documented.Goals as goal

@@ -1,7 +1,7 @@
 use Rattle.std.proofs.Common.{◌≡◌, ◌++◌, take}
 use Rattle.std.specs.Prelude.{codes, string_bytes}
 use Rattle.std.specs.List.{flat_map}
-use Rattle.candidates.specs.declared.listings.Row.{Row}
+use Rattle.loop_listings.specs.declared.listings.Row.{Row}
 use Rattle.listing_json.specs.Documents.{row_object}
 use Rattle.listing_json.proofs.document.push_others.Given as goal
 

@@ -2,7 +2,7 @@ use Rattle.std.proofs.Common.{List, subst}
 use Rattle.graph.specs.Units.{first_lacking}
 use Rattle.file_faults.proofs.Answering.{on_more}
 use Rattle.loop_schedules.specs.Problems.{ProblemData}
-use Rattle.one_thread.specs.Files.{Prepares}
+use Rattle.candidates.specs.Files.{Prepares}
 use Rattle.scheduled_printouts.specs.Graphs.{AreDrawn, AreScheduledGraphs}
 use Rattle.scheduled_printouts.proofs.graphs.scheduled_text.Goals as goal
 

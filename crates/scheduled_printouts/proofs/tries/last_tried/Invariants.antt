@@ -1,5 +1,5 @@
 use Rattle.std.proofs.Common.{◌≡◌}
-use Rattle.candidates.specs.declared.outcomes.Cause.{Cause}
+use Rattle.loop_listings.specs.declared.causes.Cause.{Cause}
 use Rattle.candidates.proofs.Rising.{Risen}
 use Rattle.scheduled_printouts.proofs.tries.last_tried.Given as goal
 

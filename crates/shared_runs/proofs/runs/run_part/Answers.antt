@@ -1,8 +1,8 @@
 use Rattle.std.proofs.Common.{◌≡◌, ◌∙◌, ◌++◌, ℕ, List, length, get_or, sym, subst, ap, ap₂, arith}
 use Rattle.loop_schedules.specs.Problems.{ProblemData}
-use Rattle.candidates.specs.declared.listings.Row as row
+use Rattle.loop_listings.specs.declared.listings.Row as row
 use Rattle.candidates.specs.Choices.{IsChoice}
-use Rattle.candidates.specs.Listings.{IsRow}
+use Rattle.loop_listings.specs.Listings.{IsRow}
 use Rattle.printouts.specs.Run.{choice_lines}
 use Rattle.shared_runs.proofs.Joining.{listed_choice, listed_long, told_at}
 use Rattle.shared_runs.proofs.runs.run_part.Goals as goal

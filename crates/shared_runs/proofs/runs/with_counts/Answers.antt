@@ -1,7 +1,7 @@
 use Rattle.std.proofs.Common.{◌≡◌, ◌∙◌, ◌++◌, ℕ, List, ap, ap₂}
 use Rattle.std.specs.List.{flat_map}
-use Rattle.candidates.specs.Texts.{counts_line}
-use Rattle.candidates.specs.declared.listings.Row as row
+use Rattle.loop_listings.specs.Texts.{counts_line}
+use Rattle.loop_listings.specs.declared.listings.Row as row
 use Rattle.text_parts.specs.Parts.{text_of}
 use Rattle.shared_runs.proofs.runs.with_counts.Goals as goal
 

@@ -1,7 +1,7 @@
 use Rattle.std.proofs.Common.{arith}
 use Rattle.graph.specs.Units.{first_lacking}
 use Rattle.file_faults.proofs.Answering.{on_none, on_ok}
-use Rattle.one_thread.proofs.Listed.{prepared_long}
+use Rattle.candidates.proofs.Listed.{prepared_long}
 use Rattle.variants.specs.Totals.{IsVaryTotal}
 use Rattle.variants.specs.Findings.{AreFound}
 use Rattle.variants.proofs.varying.vary_total.Goals as goal

@@ -1,9 +1,9 @@
 use Rattle.machine.specs.MachineText.{machine_of}
 use Rattle.loop_reader.specs.Meaning.{loops_in}
 use Rattle.candidates.specs.Promises.{IsRight}
-use Rattle.one_thread.specs.Files.{PreparesAndLists}
+use Rattle.candidates.specs.Files.{PreparesAndLists}
 use Rattle.file_faults.proofs.Answering.{file_ok}
-use Rattle.one_thread.proofs.Listed.{right_of}
+use Rattle.candidates.proofs.Listed.{right_of}
 use Rattle.workers.proofs.files.pipeline_file.Goals as goal
 
 pub returns-in-Ok-clause-right : goal.returns-in-Ok-clause-right

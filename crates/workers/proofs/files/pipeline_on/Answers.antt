@@ -1,8 +1,8 @@
 use Rattle.std.proofs.Common.{length, ap, sym, subst, arith}
 use Rattle.graph.specs.Units.{first_lacking}
-use Rattle.one_thread.specs.Files.{HaveCeiling, Prepares}
+use Rattle.candidates.specs.Files.{HaveCeiling, Prepares}
 use Rattle.file_faults.proofs.Answering.{on_ok}
-use Rattle.one_thread.proofs.Listed.{prepared_ceilings, prepared_long}
+use Rattle.candidates.proofs.Listed.{prepared_ceilings, prepared_long}
 use Rattle.workers.proofs.files.pipeline_on.Goals as goal
 
 pub list-requires-clause-few : goal.list-requires-clause-few

@@ -1,8 +1,8 @@
 use Rattle.std.proofs.Common.{sym, subst}
 use Rattle.graph.specs.Units.{first_lacking}
 use Rattle.file_faults.proofs.Answering.{on_ok}
-use Rattle.one_thread.specs.Files.{HaveCeiling, Prepares}
-use Rattle.one_thread.proofs.Listed.{prepared_ceilings}
+use Rattle.candidates.specs.Files.{HaveCeiling, Prepares}
+use Rattle.candidates.proofs.Listed.{prepared_ceilings}
 use Rattle.workers.proofs.pieces.made_of.Goals as goal
 
 pub piece_of-requires-clause-ceilings : goal.piece_of-requires-clause-ceilings

@@ -4,8 +4,8 @@ use Rattle.std.specs.Vec.Iter.{into_iter_items}
 use Rattle.loop_data.specs.Loops.{LoopData}
 use Rattle.graph.specs.Units.{first_lacking}
 use Rattle.file_faults.proofs.Answering.{on_none}
-use Rattle.one_thread.specs.Files.{AnswersOn, Prepares}
-use Rattle.one_thread.proofs.Readied.{readied_all, readied_on}
+use Rattle.candidates.specs.Files.{AnswersOn, Prepares}
+use Rattle.candidates.proofs.Readied.{readied_all, readied_on}
 use Rattle.workers.specs.inner.Found.{IsFound}
 use Rattle.workers.proofs.Joined.{zipped_after, zipped_long}
 use Rattle.workers.proofs.preparing.join_into.Goals as goal

@@ -1,7 +1,7 @@
 use Rattle.std.proofs.Common.{◌≡◌, ◌+◌, ◌≤◌, length, vec_capacity, vec_len}
 use Rattle.std.specs.List.{AllZip}
 use Rattle.std.specs.Vec.Iter.{into_iter_items, into_iter_len}
-use Rattle.one_thread.proofs.Readied.{Readied}
+use Rattle.candidates.proofs.Readied.{Readied}
 use Rattle.workers.specs.inner.Found.{IsFound}
 use Rattle.workers.proofs.preparing.join_into.Given as goal
 

@@ -1,8 +1,8 @@
 use Rattle.std.proofs.Common.{◌++◌, ◌∙◌, ap, subst}
 use Rattle.graph.specs.Units.{first_lacking}
-use Rattle.candidates.specs.Texts.{counts_line}
+use Rattle.loop_listings.specs.Texts.{counts_line}
 use Rattle.file_faults.specs.Answers.{AnswersIn}
-use Rattle.one_thread.specs.Files.{PreparesAndLists}
+use Rattle.candidates.specs.Files.{PreparesAndLists}
 use Rattle.printouts.specs.Run.{IsRunText, told_lines}
 use Rattle.printouts.proofs.Told.{loops_of, told_run}
 use Rattle.side_by_side.proofs.Answered.{right_more}

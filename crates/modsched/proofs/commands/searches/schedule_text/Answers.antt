@@ -1,7 +1,7 @@
 use Rattle.std.proofs.Common.{subst}
 use Rattle.graph.specs.Units.{first_lacking}
 use Rattle.file_faults.specs.Answers.{AnswersIn}
-use Rattle.one_thread.specs.Files.{PreparesAndLists}
+use Rattle.candidates.specs.Files.{PreparesAndLists}
 use Rattle.printouts.specs.Schedule.{IsListingText}
 use Rattle.printouts.proofs.Told.{told_listing}
 use Rattle.side_by_side.proofs.Answered.{right_more}

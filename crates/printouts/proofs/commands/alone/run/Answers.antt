@@ -1,9 +1,9 @@
 use Rattle.std.proofs.Common.{◌++◌, ◌∙◌, List, ap, sym, subst}
 use Rattle.graph.specs.Units.{first_lacking}
 use Rattle.loop_schedules.specs.Problems.{ProblemData}
-use Rattle.candidates.specs.Texts.{counts_line}
+use Rattle.loop_listings.specs.Texts.{counts_line}
 use Rattle.file_faults.proofs.Answering.{on_more, on_ok}
-use Rattle.one_thread.specs.Files.{ListsProblems, PreparesAndLists}
+use Rattle.candidates.specs.Files.{ListsProblems, PreparesAndLists}
 use Rattle.printouts.specs.Run.{IsRunText, told_lines}
 use Rattle.printouts.proofs.Told.{loops_of, own_ceiling, told_run}
 use Rattle.printouts.proofs.commands.alone.run.Goals as goal

@@ -1,6 +1,6 @@
 use Rattle.graph.specs.Units.{first_lacking}
 use Rattle.file_faults.proofs.Answering.{on_more}
-use Rattle.one_thread.specs.Files.{PreparesAndLists}
+use Rattle.candidates.specs.Files.{PreparesAndLists}
 use Rattle.printouts.specs.Schedule.{IsListingText}
 use Rattle.printouts.proofs.Told.{told_listing}
 use Rattle.printouts.proofs.commands.alone.scheduled.Goals as goal

@@ -1,7 +1,7 @@
 use Rattle.std.proofs.Common.{◌≡◌, ◌∙◌, ◌++◌, ℕ, List, length, get_or, sym, subst, ap, ap₂, arith}
 use Rattle.std.proofs.lemmas.Slice.Zip.{AllZip-long}
 use Rattle.loop_schedules.specs.Problems.{ProblemData}
-use Rattle.candidates.specs.declared.listings.Row as row
+use Rattle.loop_listings.specs.declared.listings.Row as row
 use Rattle.loop_data.specs.Loops.{LoopData}
 use Rattle.printouts.specs.Run.{choice_lines}
 use Rattle.printouts.specs.inner.Runnable.{IsRunnable}

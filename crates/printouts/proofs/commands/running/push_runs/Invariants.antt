@@ -1,7 +1,7 @@
 use Rattle.std.proofs.Common.{◌≡◌, ◌++◌, take}
 use Rattle.std.specs.List.{flat_map, zip}
 use Rattle.loop_schedules.specs.Problems.{ProblemData}
-use Rattle.candidates.specs.declared.listings.Row as row
+use Rattle.loop_listings.specs.declared.listings.Row as row
 use Rattle.printouts.specs.Run.{choice_lines}
 use Rattle.printouts.proofs.commands.running.push_runs.Given as goal
 

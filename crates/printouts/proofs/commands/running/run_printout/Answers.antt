@@ -1,6 +1,6 @@
 use Rattle.std.proofs.Common.{◌≡◌, ◌++◌, ◌∙◌, List, ℕ, ap}
-use Rattle.candidates.specs.Texts.{counts_line}
-use Rattle.candidates.specs.declared.listings.Row as row
+use Rattle.loop_listings.specs.Texts.{counts_line}
+use Rattle.loop_listings.specs.declared.listings.Row as row
 use Rattle.printouts.specs.Run.{told_lines}
 use Rattle.printouts.specs.Schedule.{are_met}
 use Rattle.printouts.proofs.Told.{loops_of}

@@ -1,7 +1,7 @@
 use Rattle.std.proofs.Common.{◌≡◌, ◌∙◌, ◌++◌, ℕ, List, Vec, Global, length, sym, subst, ap, ap₂, arith, of_calls, rules}
 use Rattle.std.specs.List.{flat_map}
-use Rattle.candidates.specs.Texts.{counts_line, row_text, version_text}
-use Rattle.candidates.specs.declared.listings.Row as row
+use Rattle.loop_listings.specs.Texts.{counts_line, row_text, version_text}
+use Rattle.loop_listings.specs.declared.listings.Row as row
 use Rattle.text_parts.specs.Parts.{text_of}
 use Rattle.side_by_side.proofs.Listing.{listed, rows_joined}
 use Rattle.side_by_side.proofs.commands.listings.listing_by.Goals as goal

@@ -3,8 +3,8 @@ use Rattle.std.specs.List.{AllZip}
 use Rattle.graph.specs.Units.{first_lacking}
 use Rattle.file_faults.proofs.Answering.{on_none, on_ok}
 use Rattle.loop_schedules.specs.Problems.{ProblemData}
-use Rattle.one_thread.specs.Files.{Prepares}
-use Rattle.one_thread.proofs.Listed.{prepared_long}
+use Rattle.candidates.specs.Files.{Prepares}
+use Rattle.candidates.proofs.Listed.{prepared_long}
 use Rattle.explain_printouts.specs.ExplainDocuments.{AreObjects, IsObjectOf}
 use Rattle.side_by_side.proofs.commands.objects.objects_by.Goals as goal
 

@@ -2,8 +2,8 @@ use Rattle.std.proofs.Common.{◌≡◌, List, length, sym, subst, ap, arith}
 use Rattle.graph.specs.Units.{first_lacking}
 use Rattle.file_faults.proofs.Answering.{on_more, on_ok}
 use Rattle.loop_schedules.specs.Problems.{ProblemData}
-use Rattle.one_thread.specs.Files.{ArePrepared, Prepares}
-use Rattle.one_thread.proofs.Listed.{prepared_long}
+use Rattle.candidates.specs.Files.{ArePrepared, Prepares}
+use Rattle.candidates.proofs.Listed.{prepared_long}
 use Rattle.scheduled_printouts.specs.Graphs.{AreScheduledGraphs}
 use Rattle.side_by_side.proofs.commands.scheduling.scheduled_by.Goals as goal
 

@@ -1,6 +1,6 @@
 use Rattle.std.proofs.Common.{◌≡◌, ◌++◌, take, string_bytes}
 use Rattle.std.specs.List.{flat_map}
-use Rattle.candidates.specs.Texts.{row_text}
+use Rattle.loop_listings.specs.Texts.{row_text}
 use Rattle.side_by_side.proofs.commands.texts.write_rows.Given as goal
 
 abbrev pub invariant-loop-row : goal.invariant-loop-row

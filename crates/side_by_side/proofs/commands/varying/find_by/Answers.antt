@@ -3,8 +3,8 @@ use Rattle.std.specs.List.{All, AllZip}
 use Rattle.graph.specs.Units.{first_lacking}
 use Rattle.file_faults.proofs.Answering.{on_none, on_ok}
 use Rattle.loop_schedules.specs.Problems.{ProblemData}
-use Rattle.one_thread.specs.Files.{Prepares}
-use Rattle.one_thread.proofs.Listed.{prepared_long}
+use Rattle.candidates.specs.Files.{Prepares}
+use Rattle.candidates.proofs.Listed.{prepared_long}
 use Rattle.variants.specs.Findings.{AreFindings, AreFound, IsOn}
 use Rattle.variants.proofs.On.{all-on}
 use Rattle.side_by_side.proofs.commands.varying.find_by.Goals as goal

@@ -3,7 +3,7 @@ use Rattle.std.specs.List.{All, AllZip}
 use Rattle.graph.specs.Units.{first_lacking}
 use Rattle.loop_schedules.specs.Problems.{ProblemData}
 use Rattle.file_faults.proofs.Answering.{on_none, on_ok}
-use Rattle.one_thread.specs.Files.{Prepares}
+use Rattle.candidates.specs.Files.{Prepares}
 use Rattle.variants.specs.Findings.{AreFindings, AreFound, IsOn}
 use Rattle.variants.proofs.On.{all-on}
 use Rattle.variants.proofs.found.files.find_all.Goals as goal

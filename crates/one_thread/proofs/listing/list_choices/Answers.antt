@@ -1,9 +1,0 @@
-use Rattle.std.proofs.Common.{arith}
-use Rattle.one_thread.proofs.Listed.{choices_long}
-use Rattle.one_thread.proofs.listing.list_choices.Goals as goal
-
-pub of-requires-clause-each : goal.of-requires-clause-each
-of-requires-clause-each c =
-    let whole = c.args.choices.ok.0 in
-    let long = choices_long c.args.loops.now c.args.choices.items c.requires.choices in
-    omega arith
