@@ -1,4 +1,3 @@
-pub mod Evidenced
 pub mod Listed
 pub mod OneChoices
 pub mod OneOutcomes

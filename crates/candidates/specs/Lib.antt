@@ -6,4 +6,3 @@ pub mod Choices
 pub mod Files
 pub mod Outcomes
 pub mod Promises
-pub mod Reasons

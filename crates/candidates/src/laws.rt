@@ -3,17 +3,10 @@
 ghost use Rattle.candidates.specs.Outcomes.{OneOutcome};
 ghost use Rattle.candidates.specs.Choices.{OneChoice};
 ghost use Rattle.candidates.specs.Promises.{KernelsKeepLoops, KernelsRunAsLoops, ListingsAreRight, OneListing};
-ghost use Rattle.candidates.specs.Reasons.{TriedIsGiven};
 
 /// An interval gives one thing.
 pub fn interval_laws()
     ensures one { OneOutcome }
-{}
-
-/// What is told of an interval with its evidence is what the interval gives: its kernel, or the cause of the reason for
-/// which there is none.
-pub fn tried_is_given()
-    ensures { TriedIsGiven }
 {}
 
 /// A loop has one choice.

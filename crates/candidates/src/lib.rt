@@ -2,7 +2,6 @@
 #![tactic(auto)]
 
 mod choices;
-mod evidence;
 mod laws;
 mod listing;
 mod outcomes;
@@ -10,18 +9,17 @@ mod preparing;
 mod trials;
 
 pub use choices::first_success;
-pub use evidence::{Met, Reason, Tried};
 pub use file_faults::FileFault;
 pub use laws::{
     choice_laws, interval_laws, kernels_keep_loops, kernels_run_as_loops, listings_are_right,
-    one_listing, tried_is_given,
+    one_listing,
 };
 pub use listing::{choices_of, list_choices, pipeline_alone};
 pub use loop_listings::{
     Cause, Choice, Listing, Piece, Pieces, Row, listing_text, number_failed, number_met,
     pieces_cover, write_last, write_row, write_version,
 };
-pub use outcomes::{Outcome, try_interval};
+pub use outcomes::{Outcome, budget, try_interval};
 pub use preparing::{prepare, prepare_all};
 pub use settings::{OutOfRange, Settings};
-pub use trials::Trials;
+pub use trials::{Trials, table_at};

@@ -62,8 +62,8 @@ pub(crate) fn outcome_on(
     }
 }
 
-/// How many placements an attempt may make.
-pub(crate) fn budget(prepared: &Prepared) -> u64
+/// The budget of an attempt at an interval of a loop, in placements, 1 to 8,192: the loop's ratio times the number of its operations.
+pub fn budget(prepared: &Prepared) -> u64
     ensures value { result ≡ budget_of prepared.now }
     ensures few { result ≤ 8192 }
     ensures well_formed { IsProblem prepared.now }

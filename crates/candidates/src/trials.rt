@@ -1,12 +1,10 @@
 //! Intervals of one loop, tried one after another.
 
-ghost use Rattle.std.specs.Prelude.{◌≡◌, ◌≤◌, length, replicate, None, IfOk};
+ghost use Rattle.std.specs.Prelude.{◌≡◌, ◌≤◌, length, replicate, None, IfOk, IfSome};
 ghost use Rattle.loop_schedules.specs.Problems.{mii_of};
 ghost use Rattle.candidates.specs.Choices.{last_of};
 ghost use Rattle.candidates.specs.Outcomes.{Gives};
-ghost use Rattle.candidates.specs.Reasons.{IsTried};
 
-use crate::evidence::{Tried, tried_on};
 use crate::outcomes::{Outcome, outcome_on};
 use loop_schedules::Prepared;
 use machine_data::OutOfMemory;
@@ -55,42 +53,34 @@ impl<'a> Trials<'a> {
         ensures same { self.new ≡ self.old }
         ensures exact { IfOk result (Gives self.old ii) }
     {
-        let mut table = self.table_at(alloc, ii)?;
+        let mut table = table_at(alloc, self.prepared, self.table.take(), ii)?;
         let outcome = outcome_on(alloc, self.prepared, &mut table);
         self.table = Some(table);
         outcome
     }
+}
 
-    /// What the loop gives at an interval, with the evidence of it: the schedule and the registers of its kernel, or what
-    /// keeps it from one. The limits are those of [`Trials::try_interval`], and so is what it gives.
-    ///
-    /// # Errors
-    /// Memory ran out.
-    pub fn try_told(&mut self, alloc: Global, ii: u64) -> Result<Tried<'a>, OutOfMemory>
-        requires from_mii { mii_of self.old ≤ ii }
-        requires to_last { ii ≤ last_of self.old }
-        ensures same { self.new ≡ self.old }
-        ensures exact { IfOk result (IsTried self.old ii) }
-    {
-        let mut table = self.table_at(alloc, ii)?;
-        let tried = tried_on(alloc, self.prepared, &mut table);
-        self.table = Some(table);
-        tried
-    }
-
-    /// The loop's table at an interval, with nothing placed, made from the last one where there is one.
-    fn table_at(&mut self, alloc: Global, ii: u64) -> Result<DefaultTable, OutOfMemory>
-        requires from_mii { mii_of self.old ≤ ii }
-        requires to_last { ii ≤ last_of self.old }
-        ensures same { self.new ≡ self.old }
-        ensures operations { IfOk result (λ table. table.operations ≡ self.old.operations) }
-        ensures empty { IfOk result (λ table. table.placed ≡ replicate (length self.old.operations) None) }
-        ensures interval { IfOk result (λ table. table.interval ≡ ii) }
-    {
-        prove!(self.prepared.mii() >= 1);
-        match self.table.take() {
-            Some(table) => table.at(ii),
-            None => self.prepared.table(alloc, ii),
-        }
+/// The table of a loop's operations at an interval, in cycles, with nothing placed: made over `last`, the loop's table at another
+/// interval, where there is one, so that alternatives are prepared once.
+///
+/// # Errors
+/// Memory ran out.
+pub fn table_at(
+    alloc: Global,
+    prepared: &Prepared,
+    last: Option<DefaultTable>,
+    ii: u64,
+) -> Result<DefaultTable, OutOfMemory>
+    requires from_mii { mii_of prepared.now ≤ ii }
+    requires to_last { ii ≤ last_of prepared.now }
+    requires same_loop { IfSome last (λ table. table.operations ≡ prepared.now.operations) }
+    ensures operations { IfOk result (λ table. table.operations ≡ prepared.now.operations) }
+    ensures empty { IfOk result (λ table. table.placed ≡ replicate (length prepared.now.operations) None) }
+    ensures interval { IfOk result (λ table. table.interval ≡ ii) }
+{
+    prove!(prepared.mii() >= 1);
+    match last {
+        Some(table) => table.at(ii),
+        None => prepared.table(alloc, ii),
     }
 }

@@ -5,7 +5,7 @@ ghost use Rattle.machine_data.specs.declared.limits.TheConstants.{MAX_TRIP};
 ghost use Rattle.machine.specs.MachineText.{machine_of};
 ghost use Rattle.loop_reader.specs.Meaning.{loops_in};
 ghost use Rattle.file_faults.specs.Answers.{AnswersAlone, AnswersFile};
-ghost use Rattle.printouts.specs.Bounds.{IsBoundsText};
+ghost use Rattle.listing_printouts.specs.Bounds.{IsBoundsText};
 ghost use Rattle.explain_printouts.specs.Explain.{IsExplainText};
 ghost use Rattle.graph_printouts.specs.Graphs.{IsDotText, IsEdgesText};
 ghost use Rattle.lines_of_runs.specs.Plain.{IsPlainText};

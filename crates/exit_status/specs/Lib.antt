@@ -1,4 +1,3 @@
-pub mod Exits
 pub mod Statuses
 pub mod Writing
 pub mod inner

@@ -1,13 +1,13 @@
 -- The numbers by which a run of the program exits, and the lines that tell of a fault.
 use Rattle.std.specs.Prelude.{ℕ, Bool, true, false, codes, string_bytes, List, [], ◌++◌}
-use Rattle.loop_reader.specs.Faults.{loop_fault_text}
-use Rattle.loop_reader.specs.declared.fault.LoopFault.{LoopFault}
-use Rattle.loop_reader.specs.declared.fault.LoopFaultKind.{LoopFaultKind}
-use Rattle.loop_reader.specs.declared.fault.LoopFaultKind.TheVariants as kind
-use Rattle.machine.specs.Faults.{machine_fault_text}
-use Rattle.machine.specs.declared.fault.MachineFault.{MachineFault}
-use Rattle.machine.specs.declared.fault.MachineFault.TheVariants as fault
-use Rattle.machine.specs.Opcodes.{word_of}
+use Rattle.reader_faults.specs.LoopFaults.{loop_fault_text}
+use Rattle.reader_faults.specs.declared.loops.LoopFault.{LoopFault}
+use Rattle.reader_faults.specs.declared.loops.LoopFaultKind.{LoopFaultKind}
+use Rattle.reader_faults.specs.declared.loops.LoopFaultKind.TheVariants as kind
+use Rattle.reader_faults.specs.MachineFaults.{machine_fault_text}
+use Rattle.reader_faults.specs.declared.machine.MachineFault.{MachineFault}
+use Rattle.reader_faults.specs.declared.machine.MachineFault.TheVariants as fault
+use Rattle.machine_data.specs.Opcodes.{word_of}
 use Rattle.file_faults.specs.declared.fault.FileFault.{FileFault}
 use Rattle.file_faults.specs.declared.fault.FileFault.TheVariants as file
 use Rattle.problem_faults.specs.ProblemTexts.{fault_text as problems_fault_text}

@@ -5,11 +5,11 @@ ghost use Rattle.exit_status.specs.Statuses.{has_line, status_number, problems_n
 ghost use Rattle.exit_status.specs.Statuses.{refusal_of_problems, refusal_of_problem_text, refusal_of_solution_text};
 
 use file_faults::FileFault;
-use loop_reader::{LoopFault, LoopFaultKind};
-use machine::{MachineFault, Name, Opcode};
+use machine_data::{Name, Opcode};
 use problem_faults::ProblemsFault;
 use problem_faults::refused_problems::{TextFault, Wrong as ProblemsWrong};
 use problem_faults::refused_solutions::{SolutionFault, Wrong as SolutionsWrong};
+use reader_faults::{LoopFault, LoopFaultKind, MachineFault};
 use std::fmt;
 use std::marker::Model;
 

@@ -13,7 +13,7 @@ use Rattle.loop_schedules.specs.Schedules.{ScheduleData}
 use Rattle.registers.specs.declared.lifetime.Lifetime.{Lifetime}
 use Rattle.overlap.specs.Lifetimes.{lifetime_of, lifetimes_of, values_of}
 use Rattle.overlap.proofs.in_registers.Preloaded.{value-back}
-use Rattle.candidates.specs.Reasons.{LacksFor}
+use Rattle.told_intervals.specs.Reasons.{LacksFor}
 
 -- ---- the value that has no register
 life-there : (s : ScheduleData) (place : ℕ) (life : Lifetime) → slice_get (lifetimes_of s) place ≡ Some life → life.operation < length s.problem.loop.statements

@@ -6,8 +6,8 @@ use Rattle.overlap.specs.Allotments.{Suits}
 use Rattle.overlap.specs.Lifetimes.{lifetimes_of}
 use Rattle.registers.proofs.allotted.Least.{least-is_lawful}
 use Rattle.figures.specs.declared.figures.Figures.{Figures}
-use Rattle.candidates.specs.declared.evidence.Met.{Met}
-use Rattle.candidates.specs.Reasons.{IsMet}
+use Rattle.told_intervals.specs.declared.evidence.Met.{Met}
+use Rattle.told_intervals.specs.Reasons.{IsMet}
 use Rattle.schedule_lines.specs.ScheduleTexts.{schedule_text}
 use Rattle.told_choices.specs.Told.{IsMetWith}
 use Rattle.explain.specs.Shown.{IsShownAt}

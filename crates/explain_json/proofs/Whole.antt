@@ -16,7 +16,7 @@ use Rattle.registers.specs.declared.lifetime.Lifetime.{Lifetime}
 use Rattle.registers.specs.Crowds.{nobody}
 use Rattle.overlap.specs.Lifetimes.{lifetimes_of}
 use Rattle.figures.specs.declared.figures.Figures.{Figures}
-use Rattle.candidates.specs.declared.evidence.Met as evidence
+use Rattle.told_intervals.specs.declared.evidence.Met as evidence
 use Rattle.told_choices.specs.declared.why.Why.{Why}
 use Rattle.told_choices.specs.declared.why.Why.TheVariants.{Attempt, Register, Need}
 use Rattle.figures.specs.LiveCounts.{live_counts}

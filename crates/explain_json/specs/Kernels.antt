@@ -10,7 +10,7 @@ use Rattle.registers.specs.declared.lifetime.Lifetime.{Lifetime}
 use Rattle.registers.specs.Crowds.{nobody}
 use Rattle.overlap.specs.Lifetimes.{lifetimes_of}
 use Rattle.figures.specs.declared.figures.Figures.{Figures}
-use Rattle.candidates.specs.declared.evidence.Met.{Met}
+use Rattle.told_intervals.specs.declared.evidence.Met.{Met}
 use Rattle.figures.specs.LiveCounts.{greatest_live, live_counts}
 use Rattle.figures.specs.Slots.{percent_of, rows_in, slot_taker, used_units}
 use Rattle.told_choices.specs.declared.why.Why.{Why}

@@ -5,7 +5,7 @@ ghost use Rattle.std.specs.List.{All};
 ghost use Rattle.serde_json.specs.Data.{Data, Members};
 ghost use Rattle.serde_json.specs.View.{members_view, view};
 ghost use Rattle.machine_data.specs.declared.limits.TheConstants.{MAX_UNITS};
-ghost use Rattle.candidates.specs.Reasons.{IsMet};
+ghost use Rattle.told_intervals.specs.Reasons.{IsMet};
 ghost use Rattle.figures.specs.Slots.{used_units};
 ghost use Rattle.explain_json.specs.inner.Objects.{unit_members, with_values};
 ghost use Rattle.explain_json.specs.Kernels.{figures_object, kernel_object};
@@ -13,7 +13,6 @@ ghost use Rattle.explain_json.specs.Kernels.{figures_object, kernel_object};
 use crate::names::told_unit_names;
 use crate::slots::told_slots;
 use crate::values::{told_counts, told_need, told_percents, told_values};
-use candidates::Met;
 use figures::{Figures, Takers, counts_of, greatest_of};
 use json_objects::{object_of, with, with_value};
 use loop_schedules::Prepared;
@@ -22,6 +21,7 @@ use rotating::lifetimes;
 use serde_json::{Map, ToValue, Value};
 use std::alloc::Global;
 use told_choices::{Why, hold_of, is_least_possible};
+use told_intervals::Met;
 use unit_sets::UnitSet;
 
 /// The figures of a schedule that has so many stages, with in how many hundredths of the interval each unit is taken.

@@ -1,16 +1,16 @@
 -- Answers for texts from those of their parts.
 use Rattle.std.proofs.Common.{◌≡◌, ℕ, List, refl, sym, subst}
 use Rattle.std.specs.Prelude.{Option, Some, None, Result, Ok, Err}
-use Rattle.machine.specs.declared.fault.MachineFault.{MachineFault}
-use Rattle.machine.specs.declared.fault.MachineFault.TheVariants as machine_fault
-use Rattle.machine.specs.Opcode.{Opcode}
-use Rattle.machine.specs.MachineAnswer.{MachineAnswer}
-use Rattle.machine.specs.Machines.{MachineData}
-use Rattle.loop_reader.specs.declared.fault.LoopFault.{LoopFault}
-use Rattle.loop_reader.specs.declared.fault.LoopFaultKind.{LoopFaultKind}
-use Rattle.loop_reader.specs.declared.fault.LoopFaultKind.TheVariants as kind
+use Rattle.reader_faults.specs.declared.machine.MachineFault.{MachineFault}
+use Rattle.reader_faults.specs.declared.machine.MachineFault.TheVariants as machine_fault
+use Rattle.machine_data.specs.declared.opcode.Opcode.{Opcode}
+use Rattle.reader_faults.specs.MachineFaults.{MachineAnswer}
+use Rattle.machine_data.specs.Machines.{MachineData}
+use Rattle.reader_faults.specs.declared.loops.LoopFault.{LoopFault}
+use Rattle.reader_faults.specs.declared.loops.LoopFaultKind.{LoopFaultKind}
+use Rattle.reader_faults.specs.declared.loops.LoopFaultKind.TheVariants as kind
 use Rattle.loop_data.specs.Loops.{LoopData}
-use Rattle.loop_reader.specs.Meaning as loops_answers
+use Rattle.reader_faults.specs.LoopFaults.{AnswersFault, LoopsAnswer}
 use Rattle.graph.specs.Units.{first_lacking}
 use Rattle.lower_bounds.specs.Faults.{TextAnswers}
 use Rattle.lower_bounds.specs.declared.fault.TextFault.{TextFault}
@@ -54,12 +54,12 @@ module _ {A : Type 0} where
       go (Err Memory) a = tt
 
   loops_refused_at : (F : List LoopData → A → Type 0) (lacking : List LoopData → Lacking) (fault : LoopFault) (kind : LoopFaultKind) (meaning : Result (List LoopData) LoopFault)
-      → loops_answers.AnswersFault {A = List LoopData} kind fault meaning → AnswersLoops F lacking meaning (Err (of_kind kind fault))
+      → AnswersFault {A = List LoopData} kind fault meaning → AnswersLoops F lacking meaning (Err (of_kind kind fault))
   loops_refused_at F lacking fault kind.Memory meaning a = tt
   loops_refused_at F lacking fault kind meaning a = subst (λ ls. AnswersLoops F lacking ls (Err (Loops fault))) a refl
 
   pub loops_refused : (F : List LoopData → A → Type 0) (lacking : List LoopData → Lacking) (fault : LoopFault) (meaning : Result (List LoopData) LoopFault)
-      → loops_answers.LoopsAnswer {A = List LoopData} (Err fault) meaning → AnswersLoops F lacking meaning (Err (of_loops fault))
+      → LoopsAnswer {A = List LoopData} (Err fault) meaning → AnswersLoops F lacking meaning (Err (of_loops fault))
   loops_refused F lacking fault meaning a = loops_refused_at F lacking fault fault.kind meaning a
 
   -- what is answered is right, and nothing is lacking

@@ -1,9 +1,9 @@
 -- What is answered for the texts of a machine and of loops: the refusal that comes first, and else what is right.
 use Rattle.std.specs.Prelude.{◌≡◌, ℕ, List, Option, Some, None, Result, Ok, Err}
-use Rattle.machine.specs.declared.fault.MachineFault.{MachineFault}
-use Rattle.machine.specs.Opcode.{Opcode}
-use Rattle.machine.specs.Machines.{MachineData}
-use Rattle.loop_reader.specs.declared.fault.LoopFault.{LoopFault}
+use Rattle.reader_faults.specs.declared.machine.MachineFault.{MachineFault}
+use Rattle.machine_data.specs.declared.opcode.Opcode.{Opcode}
+use Rattle.machine_data.specs.Machines.{MachineData}
+use Rattle.reader_faults.specs.declared.loops.LoopFault.{LoopFault}
 use Rattle.loop_data.specs.Loops.{LoopData}
 use Rattle.graph.specs.Units.{first_lacking}
 use Rattle.file_faults.specs.declared.fault.FileFault.{FileFault}

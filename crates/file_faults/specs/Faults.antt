@@ -1,13 +1,13 @@
 -- What the faults of two texts are for a file, and what is told of them.
 use Rattle.std.specs.Prelude.{ℕ, codes, List, ◌++◌}
-use Rattle.machine.specs.declared.fault.MachineFault.{MachineFault}
-use Rattle.machine.specs.declared.fault.MachineFault.TheVariants as machine_fault
-use Rattle.machine.specs.Faults.{machine_fault_text}
-use Rattle.machine.specs.Opcodes.{word_of}
-use Rattle.loop_reader.specs.declared.fault.LoopFault.{LoopFault}
-use Rattle.loop_reader.specs.declared.fault.LoopFaultKind.{LoopFaultKind}
-use Rattle.loop_reader.specs.declared.fault.LoopFaultKind.TheVariants as kind
-use Rattle.loop_reader.specs.Faults.{loop_fault_text}
+use Rattle.reader_faults.specs.declared.machine.MachineFault.{MachineFault}
+use Rattle.reader_faults.specs.declared.machine.MachineFault.TheVariants as machine_fault
+use Rattle.reader_faults.specs.MachineFaults.{machine_fault_text}
+use Rattle.machine_data.specs.Opcodes.{word_of}
+use Rattle.reader_faults.specs.declared.loops.LoopFault.{LoopFault}
+use Rattle.reader_faults.specs.declared.loops.LoopFaultKind.{LoopFaultKind}
+use Rattle.reader_faults.specs.declared.loops.LoopFaultKind.TheVariants as kind
+use Rattle.reader_faults.specs.LoopFaults.{loop_fault_text}
 use Rattle.lower_bounds.specs.declared.fault.TextFault.{TextFault}
 use Rattle.lower_bounds.specs.declared.fault.TextFault.TheVariants as text
 use Rattle.file_faults.specs.declared.fault.FileFault.{FileFault}

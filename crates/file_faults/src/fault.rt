@@ -4,9 +4,9 @@ ghost use Rattle.std.specs.Prelude.{◌≡◌};
 ghost use Rattle.file_faults.specs.declared.fault.FileFault.TheVariants.{Memory};
 ghost use Rattle.file_faults.specs.Faults.{of_loops, of_machine, of_text};
 
-use loop_reader::{LoopFault, LoopFaultKind};
 use lower_bounds::TextFault;
-use machine::{MachineFault, Name, Opcode, OutOfMemory};
+use machine_data::{Name, Opcode, OutOfMemory};
+use reader_faults::{LoopFault, LoopFaultKind, MachineFault};
 use std::alloc::AllocFailed;
 use std::fmt;
 use thiserror::Error;

@@ -1,3 +1,4 @@
 pub use Rattle.command_line.specs.Lines
 pub mod Endings
+pub mod Exits
 pub mod Paths

@@ -1,4 +1,4 @@
-//! What a program was invoked for: a command to carry out over the files that it names, or help, which ends the run.
+//! What a program was invoked for: a command to carry out over the files that it names, or help, which ends the run. And what the process tells when it exits.
 #![tactic(auto)]
 
 ghost use Rattle.std.specs.Prelude.{◌≡◌, List, map, IfErr, OnOk};
@@ -7,8 +7,11 @@ ghost use Rattle.command_line.specs.Lines.{last_path, program_line};
 ghost use Rattle.invocation.specs.Endings.{IsInvocation, IsNoRequest};
 ghost use Rattle.invocation.specs.Paths.{first_file};
 
+mod exit;
+
 use command_line::{Command, Usage, parse_line};
 use devices::{FileInput, StandardOutput};
+pub use exit::{Told, exit_number};
 use exit_status::{Status, show};
 use std::env;
 use std::io::ErrorKind;

@@ -8,7 +8,7 @@ use Rattle.listing_json.specs.Documents.{document_text}
 use Rattle.candidates.specs.Files.{ArePrepared, ListsProblems}
 use Rattle.candidates.proofs.Listed.{lists_of, right_of}
 use Rattle.written.specs.Written.{Written}
-use Rattle.printouts.specs.Schedule.{are_met}
+use Rattle.listing_printouts.specs.Met.{are_met}
 use Rattle.json_printouts.specs.Documents.{IsListingDocument}
 
 pub told_document : (machine : MachineData) (ratio ceiling : ℕ) (loops : List LoopData) (problems : List ProblemData) (listing : ListingData) (written : Written)

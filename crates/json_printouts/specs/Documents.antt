@@ -6,7 +6,7 @@ use Rattle.loop_listings.specs.Listings.{ListingData}
 use Rattle.candidates.specs.Promises.{IsRight, Lists}
 use Rattle.listing_json.specs.Documents.{document_text}
 use Rattle.written.specs.Written.{Written}
-use Rattle.printouts.specs.Schedule.{are_met}
+use Rattle.listing_printouts.specs.Met.{are_met}
 
 -- the document of the listing of one thread, each kernel of which is right, with whether every loop has a kernel
 pub record IsListingDocument (ratio ceiling : ℕ) (machine : MachineData) (loops : List LoopData) (written : Written) : Type 0 where

@@ -2,12 +2,12 @@
 
 ghost use Rattle.std.specs.Prelude.{◌≡◌, IfOk};
 ghost use Rattle.listing_json.specs.Documents.{document_text};
-ghost use Rattle.printouts.specs.Schedule.{are_met};
+ghost use Rattle.listing_printouts.specs.Met.{are_met};
 
 use candidates::Listing;
 use listing_json::document_text;
+use listing_printouts::are_met;
 use machine::OutOfMemory;
-use printouts::are_met;
 use std::alloc::Global;
 use written::Printout;
 

@@ -2,7 +2,7 @@
 use Rattle.std.proofs.Common.{◌≡◌, ◌↔◌, ℕ, ◌<◌, true, false, List, [], ◌∷◌, length, map, Option, Some, None, Result, Ok, Err, refl, sym, ◌∙◌, ap, subst, arith, ltb}
 use Rattle.std.proofs.lemmas.Bool.{true≢false}
 use Rattle.machine.specs.MachineText.{machine_of}
-use Rattle.machine.specs.declared.fault.MachineFault.{MachineFault}
+use Rattle.reader_faults.specs.declared.machine.MachineFault.{MachineFault}
 use Rattle.machine_data.specs.Machines.{MachineData}
 use Rattle.machine_lint.specs.Lints as machines
 use Rattle.machine_lint.specs.declared.place.MachineLint.{MachineLint}

@@ -1,9 +1,9 @@
 -- A fault of a machine text in words: where it is, what stands there, and what is expected.
 use Rattle.std.specs.Prelude.{ℕ, codes, decimal, List, [], ◌++◌, Option, Some, None}
 use Rattle.std.specs.Fmt.{signed_decimal}
-use Rattle.machine.specs.Faults.{key_text}
-use Rattle.machine.specs.declared.fault.MachineFault.{MachineFault}
-use Rattle.machine.specs.declared.fault.MachineFault.TheVariants as fault
+use Rattle.reader_faults.specs.MachineFaults.{key_text}
+use Rattle.reader_faults.specs.declared.machine.MachineFault.{MachineFault}
+use Rattle.reader_faults.specs.declared.machine.MachineFault.TheVariants as fault
 use Rattle.machine_lint.specs.Hints.{near_name}
 use Rattle.machine_lint.specs.declared.place.MachineLint.{MachineLint}
 use Rattle.machine_lint.specs.declared.spots.Found.{Found}

@@ -3,7 +3,7 @@ use Rattle.std.specs.Prelude.{◌≡◌, ◌↔◌, ℕ, nat_lt, false, List, []
 use Rattle.machine_data.specs.Machines.{MachineData}
 use Rattle.loop_lint.specs.Lacks.{AreToldOn, HasTables, MeansLoops, SilentWith}
 use Rattle.loop_lint.specs.declared.lacks.LoopLint.{LoopLint}
-use Rattle.machine.specs.declared.fault.MachineFault.{MachineFault}
+use Rattle.reader_faults.specs.declared.machine.MachineFault.{MachineFault}
 use Rattle.machine.specs.MachineText.{machine_of}
 use Rattle.machine_lint.specs.Lints as machines
 use Rattle.machine_lint.specs.declared.place.MachineLint.{MachineLint}

@@ -5,8 +5,8 @@ use Rattle.std.specs.List.{list_any}
 use Rattle.machine_data.specs.Opcodes.{same_word}
 use Rattle.loop_lines.specs.Forms.{Form, Malformed, line_form}
 use Rattle.loop_lines.specs.Words.{words_of}
-use Rattle.loop_reader.specs.declared.fault.LoopFaultKind.{LoopFaultKind}
-use Rattle.loop_reader.specs.declared.fault.LoopFaultKind.TheVariants as kind
+use Rattle.reader_faults.specs.declared.loops.LoopFaultKind.{LoopFaultKind}
+use Rattle.reader_faults.specs.declared.loops.LoopFaultKind.TheVariants as kind
 use Rattle.loop_lint.specs.Hints.{name_in}
 use Rattle.loop_lint.specs.declared.fault.Hint.{Hint}
 use Rattle.loop_lint.specs.declared.fault.Hint.TheVariants as hint

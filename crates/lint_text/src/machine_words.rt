@@ -2,7 +2,7 @@
 
 ghost use Rattle.std.specs.Prelude.{◌≡◌, ◌++◌, IfOk, OnOk, codes, decimal, string_bytes};
 ghost use Rattle.std.specs.Fmt.{signed_decimal};
-ghost use Rattle.machine.specs.Faults.{key_text};
+ghost use Rattle.reader_faults.specs.MachineFaults.{key_text};
 ghost use Rattle.machine_lint.specs.Hints.{near_name};
 ghost use Rattle.lint_text.specs.Machines.{found_text, index_text, limits_text, machine_message, machine_what, machine_word, near_text, spot_text, table_text, wanted_text};
 

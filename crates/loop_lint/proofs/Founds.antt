@@ -10,8 +10,8 @@ use Rattle.loop_lines.specs.declared.form.Use as code
 use Rattle.loop_lines.specs.declared.form.Uses.{Uses}
 use Rattle.machine_data.specs.declared.opcode.Opcode.{Opcode}
 use Rattle.loop_reader.specs.Meaning.{Kinds, any_name, when}
-use Rattle.loop_reader.specs.declared.fault.LoopFaultKind.{LoopFaultKind}
-use Rattle.loop_reader.specs.declared.fault.LoopFaultKind.TheVariants.{Limit, RepeatedName, UnknownName, UseBeforeDefinition, MissingInit}
+use Rattle.reader_faults.specs.declared.loops.LoopFaultKind.{LoopFaultKind}
+use Rattle.reader_faults.specs.declared.loops.LoopFaultKind.TheVariants.{Limit, RepeatedName, UnknownName, UseBeforeDefinition, MissingInit}
 use Rattle.loop_lint.specs.Lints.{fault_at, told}
 use Rattle.loop_lint.specs.Parts.{AName, APlace, AUse, Part, PartAt, first_part, name_part, place_part, use_parts, use_word}
 use Rattle.loop_lines.specs.Columns.{Placed}

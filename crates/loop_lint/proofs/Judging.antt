@@ -5,7 +5,7 @@ use Rattle.std.specs.Option.{option_or}
 use Rattle.loop_lines.specs.Forms.{Form, ArrayLine, InitLine, StatementLine, OutLine, EndLine, Subscript, Use, StatementForm}
 use Rattle.loop_reader.specs.Meaning.{any_name, declared, has_init, has_statement, how_many, is_array, is_early, is_init, is_long, is_out_of, is_outside, is_statement, is_uncovered, is_unknown, is_unknown_place, is_value, is_wide, is_wide_place, when}
 use Rattle.loop_lines.specs.Near.{IsNear}
-use Rattle.loop_reader.specs.declared.fault.LoopFaultKind.TheVariants.{Limit}
+use Rattle.reader_faults.specs.declared.loops.LoopFaultKind.TheVariants.{Limit}
 use Rattle.loop_reader.proofs.lookups.Declared.{option_or-none}
 use Rattle.loop_lint.specs.Parts.{AName, APlace, AUse, Part, first_part, is_early_part, is_over, is_repeated, is_uncovered_part, is_unknown_part, name_part, parts_of, place_part, place_word, use_parts, use_word, word_of_fault}
 use Rattle.machine_data.specs.declared.opcode.Opcode.{Opcode}

@@ -10,8 +10,8 @@ use Rattle.loop_lines.specs.Words.{words_of}
 use Rattle.loop_data.specs.Loops.{LoopData}
 use Rattle.loop_data.specs.declared.language.statement.Statement.{Statement}
 use Rattle.loop_reader.specs.Meaning.{at_line, blocks_from, blocks_of, faults_of, first_fault, forms_of, inside_faults, line_faults, loop_of, loops_in, outside_faults, stands, statement_in, statement_of, whole, with_line}
-use Rattle.loop_reader.specs.declared.fault.LoopFault.{LoopFault}
-use Rattle.loop_reader.specs.declared.fault.LoopFaultKind.TheVariants.{Limit, Syntax}
+use Rattle.reader_faults.specs.declared.loops.LoopFault.{LoopFault}
+use Rattle.reader_faults.specs.declared.loops.LoopFaultKind.TheVariants.{Limit, Syntax}
 use Rattle.loop_lint.specs.Lacks.{AreToldOn, HasTables, MeansLoops, SilentWith, count_before, faults_among, has_tables, inside_after, lack, lacks_for, lacks_from, lacks_in, merged}
 use Rattle.loop_lint.specs.Lints.{AreFaults, BeginsAs, TextLine, Blank, Words, faults_in, forms_in, line_with, plain, text_lines}
 use Rattle.loop_lines.specs.Columns.{Placed, placed_words}

@@ -15,9 +15,9 @@ use Rattle.loop_lines.specs.declared.form.Form.TheVariants as variants
 use Rattle.loop_lines.specs.Words.{lines_of, words_of}
 use Rattle.loop_data.specs.Loops.{LoopData}
 use Rattle.loop_reader.specs.Meaning.{Kinds, at_line, blocks_of, faults_of, first_fault, forms_of, inside_faults, line_faults, loop_of, loops_in, opening_faults, outside_faults, when, whole, with_line}
-use Rattle.loop_reader.specs.declared.fault.LoopFault.{LoopFault}
-use Rattle.loop_reader.specs.declared.fault.LoopFaultKind.{LoopFaultKind}
-use Rattle.loop_reader.specs.declared.fault.LoopFaultKind.TheVariants.{Limit, RepeatedName, Syntax}
+use Rattle.reader_faults.specs.declared.loops.LoopFault.{LoopFault}
+use Rattle.reader_faults.specs.declared.loops.LoopFaultKind.{LoopFaultKind}
+use Rattle.reader_faults.specs.declared.loops.LoopFaultKind.TheVariants.{Limit, RepeatedName, Syntax}
 use Rattle.loop_reader.proofs.faults.Checking.{or-none}
 use Rattle.loop_lint.specs.Lints.{AreFaults, BeginsAs, TextLine, Blank, Words, bytes_in, fault_at, faults_in, forms_in, inside_lints, line_with, lints_in, outside_lints, plain, text_lines, told, too_long}
 use Rattle.loop_lint.specs.Parts.{syntax_word, word_of_fault, word_of_opening}

@@ -4,7 +4,7 @@ use Rattle.std.proofs.lemmas.Bool.{true≢false}
 use Rattle.loop_lines.specs.Forms.{Form, LoopLine, ArrayLine, ParamLine, InitLine, StatementLine, OutLine, EndLine, Malformed, line_form}
 use Rattle.loop_lines.specs.Words.{lines_of, words_of}
 use Rattle.loop_reader.specs.Meaning.{faults_of, forms_of, line_faults, stands, whole, with_line}
-use Rattle.loop_reader.specs.declared.fault.LoopFaultKind.TheVariants.{Syntax}
+use Rattle.reader_faults.specs.declared.loops.LoopFaultKind.TheVariants.{Syntax}
 use Rattle.loop_lines.specs.Near.{IsNearForm}
 use Rattle.loop_reader.proofs.blocks.BlockStanding.{Holds, near-words}
 use Rattle.loop_lint.specs.Lints.{TextLine, Words, bytes_in, fault_at, form_in, forms_in, inside_lints, line_read, line_with, outside_lints, text_lines, told}

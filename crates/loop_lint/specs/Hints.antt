@@ -7,8 +7,8 @@ use Rattle.machine_data.specs.declared.limits.TheConstants.{MAX_ARRAYS, MAX_PARA
 use Rattle.near_names.specs.Nearest.{nearest}
 use Rattle.loop_lines.specs.Forms.{Form, LoopLine, ArrayLine, ParamLine, InitLine, StatementLine, OutLine, EndLine, Malformed, is_number}
 use Rattle.loop_reader.specs.Meaning.{Declared, declared, has_init, is_array_name, is_readable, is_value}
-use Rattle.loop_reader.specs.declared.fault.LoopFaultKind.{LoopFaultKind}
-use Rattle.loop_reader.specs.declared.fault.LoopFaultKind.TheVariants as kind
+use Rattle.reader_faults.specs.declared.loops.LoopFaultKind.{LoopFaultKind}
+use Rattle.reader_faults.specs.declared.loops.LoopFaultKind.TheVariants as kind
 use Rattle.loop_lint.specs.declared.fault.Hint.{Hint}
 use Rattle.loop_lint.specs.declared.fault.Hint.TheVariants as hint
 use Rattle.loop_lint.specs.declared.hints.Wanted.{Wanted}

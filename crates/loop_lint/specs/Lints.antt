@@ -7,9 +7,9 @@ use Rattle.loop_lines.specs.Forms.{Form, LoopLine, EndLine, line_form}
 use Rattle.loop_lines.specs.Words.{lines_of, words_of}
 use Rattle.loop_data.specs.Loops.{LoopData}
 use Rattle.loop_reader.specs.Meaning.{Kinds, faults_of, forms_of, line_faults, opening_faults, outside_faults, whole, with_line}
-use Rattle.loop_reader.specs.declared.fault.LoopFault.{LoopFault}
-use Rattle.loop_reader.specs.declared.fault.LoopFaultKind.{LoopFaultKind}
-use Rattle.loop_reader.specs.declared.fault.LoopFaultKind.TheVariants.{Limit, NoEnd, Syntax}
+use Rattle.reader_faults.specs.declared.loops.LoopFault.{LoopFault}
+use Rattle.reader_faults.specs.declared.loops.LoopFaultKind.{LoopFaultKind}
+use Rattle.reader_faults.specs.declared.loops.LoopFaultKind.TheVariants.{Limit, NoEnd, Syntax}
 use Rattle.loop_lint.specs.Hints.{hint_of, no_hint}
 use Rattle.loop_lint.specs.Parts.{syntax_word, word_of_fault, word_of_opening}
 use Rattle.loop_lines.specs.Columns.{Placed, placed_words}

@@ -9,8 +9,8 @@ use Rattle.machine_data.specs.declared.opcode.Opcode.{Opcode}
 use Rattle.machine_data.specs.declared.opcode.Opcode.TheVariants.{Store}
 use Rattle.loop_lines.specs.Forms.{Form, ArrayLine, ParamLine, InitLine, StatementLine, OutLine, Malformed, Subscript, Use, int_of}
 use Rattle.loop_reader.specs.Meaning.{declared, has_init, how_many, is_early, is_init, is_long, is_out_of, is_outside, is_statement, is_uncovered, is_unknown, is_unknown_place, is_value, is_wide, is_wide_place}
-use Rattle.loop_reader.specs.declared.fault.LoopFaultKind.{LoopFaultKind}
-use Rattle.loop_reader.specs.declared.fault.LoopFaultKind.TheVariants.{Syntax, Limit, RepeatedName, UnknownName, UseBeforeDefinition, MissingInit}
+use Rattle.reader_faults.specs.declared.loops.LoopFaultKind.{LoopFaultKind}
+use Rattle.reader_faults.specs.declared.loops.LoopFaultKind.TheVariants.{Syntax, Limit, RepeatedName, UnknownName, UseBeforeDefinition, MissingInit}
 use Rattle.loop_lint.specs.Misfits.{misfit}
 
 pub data Part : Type 0 where

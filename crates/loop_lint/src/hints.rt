@@ -5,7 +5,7 @@ ghost use Rattle.machine_data.specs.Opcodes.{same_word};
 ghost use Rattle.std.specs.List.{range_with_len};
 ghost use Rattle.loop_lines.specs.Forms as spec;
 ghost use Rattle.loop_lines.specs.Words.{words_of};
-ghost use Rattle.loop_reader.specs.declared.fault.LoopFaultKind.TheVariants.{MissingInit, UnknownName};
+ghost use Rattle.reader_faults.specs.declared.loops.LoopFaultKind.TheVariants.{MissingInit, UnknownName};
 ghost use Rattle.loop_lint.specs.Hints.{hint_for, may_be, name_hint, name_in, reach, wanted_at};
 ghost use Rattle.near_names.specs.Nearest as near;
 ghost use Rattle.loop_reader.specs.Declarations.{declared_seen};

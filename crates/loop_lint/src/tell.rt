@@ -3,7 +3,7 @@
 ghost use Rattle.std.specs.Prelude.{◌≡◌, ◌+◌, ◌<◌, ◌^◌, ◌++◌, [], ◌∷◌, List, length, OnOk};
 ghost use Rattle.loop_lines.specs.Forms as spec;
 ghost use Rattle.loop_lines.specs.Words.{words_of};
-ghost use Rattle.loop_reader.specs.declared.fault.LoopFaultKind.TheVariants.{MissingInit, UnknownName};
+ghost use Rattle.reader_faults.specs.declared.loops.LoopFaultKind.TheVariants.{MissingInit, UnknownName};
 ghost use Rattle.loop_lint.specs.Hints.{hint_of, no_hint};
 ghost use Rattle.loop_lint.specs.Lints.{fault_at};
 ghost use Rattle.loop_lines.specs.Columns.{placed_words};

@@ -1,3 +1,4 @@
+pub mod Lengths
 pub mod blocks
 pub mod faults
 pub mod lookups

@@ -8,9 +8,9 @@ use Rattle.std.specs.Global.{Global}
 use Rattle.std.specs.Option.{option_or}
 use Rattle.std.specs.List.{list_any, filter_map, count_by}
 use Rattle.machine_data.specs.Opcodes.{same_word}
-use Rattle.loop_reader.specs.declared.fault.LoopFault.{LoopFault}
-use Rattle.loop_reader.specs.declared.fault.LoopFaultKind.{LoopFaultKind}
-use Rattle.loop_reader.specs.declared.fault.LoopFaultKind.TheVariants.{Syntax, Limit, RepeatedName, UnknownName, UseBeforeDefinition, MissingInit, NoEnd, Memory}
+use Rattle.reader_faults.specs.declared.loops.LoopFault.{LoopFault}
+use Rattle.reader_faults.specs.declared.loops.LoopFaultKind.{LoopFaultKind}
+use Rattle.reader_faults.specs.declared.loops.LoopFaultKind.TheVariants.{Syntax, Limit, RepeatedName, UnknownName, UseBeforeDefinition, MissingInit, NoEnd}
 use Rattle.loop_data.specs.declared.language.lists.Array.{Array}
 use Rattle.loop_data.specs.declared.language.lists.Param.{Param}
 use Rattle.loop_data.specs.declared.language.lists.Initial.{Initial}
@@ -365,13 +365,3 @@ loops_in text =
 abbrev pub seen : Result (Vec LoopData Global) LoopFault → Result (List LoopData) LoopFault
 seen (Ok loops) = Ok loops.items
 seen (Err fault) = Err fault
-
--- a fault is the meaning, unless it is lack of memory, which is said of line 0
-abbrev pub AnswersFault : {A : Type 0} → LoopFaultKind → LoopFault → Result A LoopFault → Type 0
-AnswersFault Memory fault meaning = fault.line ≡ 0
-AnswersFault kind fault meaning = Err fault ≡ meaning
-
--- the result is the meaning, unless memory ran out
-abbrev pub LoopsAnswer : {A : Type 0} → Result A LoopFault → Result A LoopFault → Type 0
-LoopsAnswer (Ok value) meaning = Ok value ≡ meaning
-LoopsAnswer (Err fault) meaning = AnswersFault fault.kind fault meaning

@@ -3,13 +3,12 @@
 
 mod build;
 mod checks;
-mod fault;
 mod lines;
 mod names;
 mod read;
 
 pub use checks::check::{is_long, is_readable, is_value, is_value_from};
-pub use fault::{LoopFault, LoopFaultKind};
 pub use lines::collect::may_stand;
 pub use names::index::Declared;
 pub use read::read_loops;
+pub use reader_faults::{LoopFault, LoopFaultKind};

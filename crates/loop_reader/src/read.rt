@@ -4,14 +4,14 @@ ghost use Rattle.std.specs.Prelude.{◌≡◌, ◌+◌, ◌≤◌, ◌<◌, ◌^
 ghost use Rattle.std.specs.List.{All};
 ghost use Rattle.loop_data.specs.Names.{is_name};
 ghost use Rattle.loop_data.specs.Loops.{IsLoop};
-ghost use Rattle.loop_reader.specs.Meaning.{loops_in, seen, LoopsAnswer};
+ghost use Rattle.loop_reader.specs.Meaning.{loops_in, seen};
+ghost use Rattle.reader_faults.specs.LoopFaults.{LoopsAnswer};
 ghost use Rattle.loop_reader.specs.inner.Known.{known_as};
 ghost use Rattle.loop_reader.specs.inner.Texts.{AnswersBlock, AnswersEnd, AnswersOpening, AnswersText};
 
 use crate::build::build;
 use crate::checks::check::{first_fault, is_long};
 use crate::checks::given::Given;
-use crate::fault::{LoopFault, LoopFaultKind};
 use crate::lines::collect::{Stop, collect_block};
 use crate::lines::entry::LineEntry;
 use crate::names::found::Targets;
@@ -21,6 +21,7 @@ use loop_data::Loop;
 use loop_lines::{Form, form_of, next_line};
 use machine_data::OutOfMemory;
 use machine_data::limits::{MAX_LOOPS, MAX_TEXT};
+use reader_faults::{LoopFault, LoopFaultKind};
 use std::alloc::Global;
 
 /// What is kept from block to block.

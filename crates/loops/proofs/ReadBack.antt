@@ -2,8 +2,8 @@
 use Rattle.std.proofs.Common.{◌≡◌, false, ltb, List, [], ◌∷◌, length, map, Some, ap, ◌∙◌}
 use Rattle.std.specs.Prelude.{Result, Ok, Err}
 use Rattle.std.proofs.lemmas.Bool.{le-ltb, cond-false}
-use Rattle.loop_reader.specs.declared.fault.LoopFault.{LoopFault}
-use Rattle.loop_reader.specs.declared.fault.LoopFaultKind.TheVariants.{Limit}
+use Rattle.reader_faults.specs.declared.loops.LoopFault.{LoopFault}
+use Rattle.reader_faults.specs.declared.loops.LoopFaultKind.TheVariants.{Limit}
 use Rattle.loop_data.specs.Loops.{LoopData, IsLoop}
 use Rattle.loop_reader.specs.Meaning.{forms_of, outside_faults, blocks_of, loop_of, first_fault, loops_in}
 use Rattle.loops.specs.Text.{text_of}

@@ -14,9 +14,9 @@ pub use Rattle.loop_data.specs.declared.language.statement.Statement
 pub use Rattle.loop_data.specs.declared.running.run.RunFault
 pub use Rattle.loop_lines.specs.Forms
 pub use Rattle.loop_lines.specs.Words
-pub use Rattle.loop_reader.specs.Faults
+pub use Rattle.reader_faults.specs.LoopFaults
 pub use Rattle.loop_reader.specs.Meaning
-pub use Rattle.loop_reader.specs.declared.fault.LoopFault
-pub use Rattle.loop_reader.specs.declared.fault.LoopFaultKind
+pub use Rattle.reader_faults.specs.declared.loops.LoopFault
+pub use Rattle.reader_faults.specs.declared.loops.LoopFaultKind
 pub use Rattle.machine_data.specs.Opcodes
 pub mod Text

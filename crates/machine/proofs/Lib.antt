@@ -1,4 +1,5 @@
 pub mod Laws
+pub mod Lengths
 pub mod Slots
 pub mod Whole
 pub mod checks

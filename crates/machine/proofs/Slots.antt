@@ -15,8 +15,8 @@ use Rattle.toml.specs.Data.{Data, Members, member, get_member}
 use Rattle.toml.specs.View.{view, members_view}
 use Rattle.toml.specs.declared.value.Value.{Value}
 use Rattle.toml.proofs.Views.{Entry}
-use Rattle.machine.specs.declared.fault.MachineFault.{MachineFault}
-use Rattle.machine.specs.declared.fault.MachineFault.TheVariants.{UnknownOpcode}
+use Rattle.reader_faults.specs.declared.machine.MachineFault.{MachineFault}
+use Rattle.reader_faults.specs.declared.machine.MachineFault.TheVariants.{UnknownOpcode}
 use Rattle.machine_data.specs.declared.opcode.Opcode.{Opcode}
 use Rattle.machine_data.specs.declared.opcode.Opcode.TheVariants.{Load, Store, Add, Sub, Mul, And, Or, Xor, Min, Max, Lt, Sel, Mov}
 use Rattle.machine_data.specs.Machines.{OperationData}

@@ -5,9 +5,9 @@ use Rattle.std.proofs.lemmas.Str.{utf8_valid_len-IsUtf8, utf8_valid_len-IsValidU
 use Rattle.std.specs.Str.{IsUtf8, IsValidUpTo}
 use Rattle.toml.specs.Data.{Members}
 use Rattle.toml.specs.Parse.{parse_document}
-use Rattle.machine.specs.declared.fault.MachineFault.{MachineFault}
-use Rattle.machine.specs.declared.fault.MachineFault.TheVariants.{NotUtf8, NotToml, MissingKey, WrongType, UnknownKey, UnknownUnit, UnknownOpcode, RepeatedUnit, RepeatedRow, Limit, Memory}
-use Rattle.machine.specs.MachineAnswer.{MachineAnswer}
+use Rattle.reader_faults.specs.declared.machine.MachineFault.{MachineFault}
+use Rattle.reader_faults.specs.declared.machine.MachineFault.TheVariants.{NotUtf8, NotToml, MissingKey, WrongType, UnknownKey, UnknownUnit, UnknownOpcode, RepeatedUnit, RepeatedRow, Limit, Memory}
+use Rattle.reader_faults.specs.MachineFaults.{MachineAnswer}
 use Rattle.machine.specs.inner.Reads.{ReadsPart, first_fault}
 use Rattle.machine.specs.MachineText.{Faults, answer, tree_faults, tree_machine, machine_of}
 

@@ -1,4 +1,3 @@
 -- Texts in a machine text.
-pub mod Printed
 pub mod Texts
 pub mod Words

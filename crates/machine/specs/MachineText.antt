@@ -12,8 +12,8 @@ use Rattle.std.specs.Str.Lossy.{utf8_valid_len}
 use Rattle.toml.specs.Data.{Data, string, integer, array, table, Items, no_items, item, Members, no_members, member, get_member}
 use Rattle.toml.specs.Parse.{parse_document}
 use Rattle.machine_data.specs.declared.alternative.Row.{Row}
-use Rattle.machine.specs.declared.fault.MachineFault.{MachineFault}
-use Rattle.machine.specs.declared.fault.MachineFault.TheVariants.{NotUtf8, NotToml, MissingKey, WrongType, UnknownKey, UnknownUnit, UnknownOpcode, RepeatedUnit, RepeatedRow, Limit}
+use Rattle.reader_faults.specs.declared.machine.MachineFault.{MachineFault}
+use Rattle.reader_faults.specs.declared.machine.MachineFault.TheVariants.{NotUtf8, NotToml, MissingKey, WrongType, UnknownKey, UnknownUnit, UnknownOpcode, RepeatedUnit, RepeatedRow, Limit}
 use Rattle.machine_data.specs.Machines.{MachineData, OperationData, is_unit_word}
 use Rattle.machine_data.specs.Opcodes.{word_of, all_opcodes, opcode_named, same_word}
 

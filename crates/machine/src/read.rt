@@ -4,14 +4,14 @@ ghost use Rattle.std.specs.Prelude.{◌≡◌, map, option_map};
 ghost use Rattle.std.specs.List.{list_any};
 ghost use Rattle.machine_data.specs.Opcodes.{same_word};
 ghost use Rattle.toml.specs.View.{view, table_view};
-ghost use Rattle.machine.specs.MachineAnswer.{MachineAnswer};
+ghost use Rattle.reader_faults.specs.MachineFaults.{MachineAnswer};
 ghost use Rattle.machine.specs.inner.Reads.{ReadsPart, faults_of_list, list_in, faults_of_table};
 ghost use Rattle.machine.specs.MachineText.{within, unknown_keys, faults_of_number, number_in, keys_in, tree_faults, tree_machine, machine_of};
 
-use crate::fault::{Key, MachineFault};
 use machine_data::Machine;
 use machine_data::limits::{MAX_REGISTERS, MAX_TEXT};
 use path::Path;
+use reader_faults::{Key, MachineFault};
 use std::alloc::Global;
 use tables::read_tables;
 use toml::{Table, Value};

@@ -5,7 +5,7 @@ use Rattle.std.specs.List.{Contains, flat_map, list_any}
 use Rattle.toml.specs.Data.{Data, array, table, Members, get_member}
 use Rattle.machine_data.specs.Opcodes.{same_word}
 use Rattle.machine.specs.MachineText.{data_of, entries_of, keys_in}
-use Rattle.machine.specs.declared.fault.MachineFault.TheVariants.{Limit, UnknownKey, WrongType}
+use Rattle.reader_faults.specs.declared.machine.MachineFault.TheVariants.{Limit, UnknownKey, WrongType}
 use Rattle.machine_lint.specs.Spots.{key_of, limit_of}
 use Rattle.machine_lint.specs.HasFault.{HasAlternative, HasMachineFault, HasRow, HasTable, HasUnit, IsThere, limit, missing_key, repeated_row, repeated_unit, unknown_key, unknown_opcode, unknown_table_key, unknown_unit, wrong_type}
 use Rattle.machine_lint.specs.Tree as tree

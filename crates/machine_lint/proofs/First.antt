@@ -5,8 +5,8 @@ use Rattle.std.proofs.lemmas.List.{append-nil, take_all, map-append}
 use Rattle.std.specs.List.{flat_map, list_any}
 use Rattle.toml.specs.Data.{Data, string, integer, float, boolean, datetime, array, table, Members}
 use Rattle.machine_data.specs.Opcodes.{same_word}
-use Rattle.machine.specs.declared.fault.MachineFault.{MachineFault}
-use Rattle.machine.specs.declared.fault.MachineFault.TheVariants.{Limit, RepeatedUnit, UnknownKey}
+use Rattle.reader_faults.specs.declared.machine.MachineFault.{MachineFault}
+use Rattle.reader_faults.specs.declared.machine.MachineFault.TheVariants.{Limit, RepeatedUnit, UnknownKey}
 use Rattle.machine.specs.MachineText.{Faults, data_of, entries_of, faults_in_turn, faults_of_number, faults_of_units, is_unit_name, path_in, path_of, text_of, unit_faults, unknown_keys, unless, within}
 use Rattle.machine.proofs.texts.Texts.{list_any-map}
 use Rattle.machine_lint.specs.Tree.{Lints, in_turn, key_told, keys_told, known_keys, repeated_unit, told, told_unless, unit_told, units_told, value_told}

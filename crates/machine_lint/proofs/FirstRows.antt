@@ -8,7 +8,7 @@ use Rattle.std.specs.List.{AllZip, list_any}
 use Rattle.toml.specs.Data.{Data}
 use Rattle.machine_data.specs.Opcodes.{same_word}
 use Rattle.machine_data.specs.declared.alternative.Row.{Row}
-use Rattle.machine.specs.declared.fault.MachineFault.TheVariants.{Limit, RepeatedRow, UnknownUnit}
+use Rattle.reader_faults.specs.declared.machine.MachineFault.TheVariants.{Limit, RepeatedRow, UnknownUnit}
 use Rattle.machine.specs.MachineText.{Faults, faults_in_turn, faults_of_words, row_faults, row_in, row_of, same_row, path_in, unless, within, words_in}
 use Rattle.machine.proofs.checks.RowFaults.{any-from_None}
 use Rattle.machine_lint.specs.Tree.{in_turn, repeated_row, row_told, unknown_unit, value_told}

@@ -6,8 +6,8 @@ use Rattle.std.specs.Prelude.{is_some}
 use Rattle.toml.specs.Data.{Data, string, integer, float, boolean, datetime, array, table, Members, get_member}
 use Rattle.machine_data.specs.Machines.{MachineData}
 use Rattle.machine_data.specs.Opcodes.{opcode_named, same_word}
-use Rattle.machine.specs.declared.fault.MachineFault.{MachineFault}
-use Rattle.machine.specs.declared.fault.MachineFault.TheVariants.{Limit, UnknownOpcode}
+use Rattle.reader_faults.specs.declared.machine.MachineFault.{MachineFault}
+use Rattle.reader_faults.specs.declared.machine.MachineFault.TheVariants.{Limit, UnknownOpcode}
 use Rattle.machine.specs.MachineText.{Faults, alternative_faults, answer, data_of, entries_of, entry_faults, faults_in_turn, faults_of_alternatives, faults_of_number, faults_of_tables, faults_of_units, names_of, path_in, row_faults, row_in, table_faults, text_of, tree_faults, tree_machine, unit_faults, unknown_keys, unless, within}
 use Rattle.machine.proofs.texts.Texts.{list_any-map}
 use Rattle.machine_lint.specs.Lints.{BeginsAs}

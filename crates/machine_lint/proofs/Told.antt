@@ -6,7 +6,7 @@ use Rattle.std.proofs.lemmas.Str.{utf8_valid_len-IsUtf8, utf8_valid_len-IsValidU
 use Rattle.std.specs.Str.{IsUtf8, IsValidUpTo}
 use Rattle.toml.specs.Data.{Members}
 use Rattle.toml.specs.Parse.{parse_document}
-use Rattle.machine.specs.declared.fault.MachineFault.TheVariants.{NotUtf8, NotToml, Limit}
+use Rattle.reader_faults.specs.declared.machine.MachineFault.TheVariants.{NotUtf8, NotToml, Limit}
 use Rattle.machine.specs.MachineText.{machine_of}
 use Rattle.machine_lint.specs.Lints.{AreItsFaults, BeginsAs, Tells, told_of}
 use Rattle.machine_lint.specs.Places.{lint_at, nowhere}

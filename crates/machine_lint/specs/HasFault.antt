@@ -5,7 +5,7 @@ use Rattle.toml.specs.Data.{Data, array, table, Items, Members, get_member}
 use Rattle.machine_data.specs.Opcodes.{opcode_named, same_word}
 use Rattle.machine_data.specs.declared.limits.TheConstants.{MAX_ALTERNATIVES, MAX_ROWS, MAX_UNITS}
 use Rattle.machine.specs.MachineText.{data_of, entries_of, text_of, words_in}
-use Rattle.machine.specs.declared.fault.MachineFault.TheVariants.{Limit, RepeatedRow, RepeatedUnit, UnknownKey, UnknownOpcode, UnknownUnit, WrongType}
+use Rattle.reader_faults.specs.declared.machine.MachineFault.TheVariants.{Limit, RepeatedRow, RepeatedUnit, UnknownKey, UnknownOpcode, UnknownUnit, WrongType}
 use Rattle.machine_lint.specs.Spots.{key_of, limit_of}
 use Rattle.machine_lint.specs.Tree.{missed, told}
 use Rattle.machine_lint.specs.Values.{is_wanted, is_within, knows, row_words_in, same_text, same_words, unit_named}

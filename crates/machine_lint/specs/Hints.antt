@@ -7,8 +7,8 @@ use Rattle.near_names.specs.Nearest.{nearest}
 use Rattle.machine_data.specs.Opcodes.{all_opcodes, word_of}
 use Rattle.machine_data.specs.declared.limits.TheConstants.{MAX_TEXT, MAX_UNITS}
 use Rattle.machine.specs.MachineText.{text_of}
-use Rattle.machine.specs.declared.fault.MachineFault.{MachineFault}
-use Rattle.machine.specs.declared.fault.MachineFault.TheVariants.{UnknownKey, UnknownOpcode, UnknownUnit}
+use Rattle.reader_faults.specs.declared.machine.MachineFault.{MachineFault}
+use Rattle.reader_faults.specs.declared.machine.MachineFault.TheVariants.{UnknownKey, UnknownOpcode, UnknownUnit}
 use Rattle.machine_lint.specs.Tree.{known_keys}
 use Rattle.machine_lint.specs.Values.{items_of}
 use Rattle.machine_lint.specs.declared.place.MachineLint.{MachineLint}

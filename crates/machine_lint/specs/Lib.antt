@@ -1,4 +1,4 @@
-pub use Rattle.machine.specs.Faults
+pub use Rattle.reader_faults.specs.MachineFaults
 pub use Rattle.machine.specs.MachineText
 pub mod Words
 pub mod Spots

@@ -4,8 +4,8 @@ use Rattle.std.specs.Str.Lossy.{utf8_valid_len}
 use Rattle.toml.specs.Data.{Members}
 use Rattle.toml.specs.Parse.{parse_document}
 use Rattle.machine_data.specs.Machines.{MachineData}
-use Rattle.machine.specs.declared.fault.MachineFault.{MachineFault}
-use Rattle.machine.specs.declared.fault.MachineFault.TheVariants.{Limit, NotToml, NotUtf8}
+use Rattle.reader_faults.specs.declared.machine.MachineFault.{MachineFault}
+use Rattle.reader_faults.specs.declared.machine.MachineFault.TheVariants.{Limit, NotToml, NotUtf8}
 use Rattle.machine_data.specs.declared.limits.TheConstants.{MAX_TEXT}
 use Rattle.machine_lint.specs.HasFault.{HasMachineFault}
 use Rattle.machine_lint.specs.Places.{lint_at, nowhere}

@@ -1,7 +1,7 @@
 -- Where a byte of a text stands, and where the words of its keys do.
 use Rattle.std.specs.Prelude.{ℕ, ◌+◌, ◌==◌, Bool, codes, List, length, Option, Some, None, take, reverse, count_by}
 use Rattle.std.specs.List.{before_first}
-use Rattle.machine.specs.declared.fault.MachineFault.{MachineFault}
+use Rattle.reader_faults.specs.declared.machine.MachineFault.{MachineFault}
 use Rattle.machine_lint.specs.Words.{inside_from, key_from, table_from}
 use Rattle.machine_lint.specs.declared.place.Place.{Place}
 use Rattle.machine_lint.specs.declared.place.MachineLint.{MachineLint}

@@ -5,8 +5,8 @@ use Rattle.toml.specs.Data.{Data, table, Members, get_member}
 use Rattle.machine_data.specs.Opcodes.{opcode_named, same_word}
 use Rattle.machine_data.specs.declared.limits.TheConstants.{MAX_ALTERNATIVES, MAX_ROWS, MAX_UNITS}
 use Rattle.machine.specs.MachineText.{entries_of, keys_in, text_of, words_in}
-use Rattle.machine.specs.declared.fault.MachineFault.{MachineFault}
-use Rattle.machine.specs.declared.fault.MachineFault.TheVariants.{Limit, MissingKey, RepeatedRow, RepeatedUnit, UnknownKey, UnknownOpcode, UnknownUnit, WrongType}
+use Rattle.reader_faults.specs.declared.machine.MachineFault.{MachineFault}
+use Rattle.reader_faults.specs.declared.machine.MachineFault.TheVariants.{Limit, MissingKey, RepeatedRow, RepeatedUnit, UnknownKey, UnknownOpcode, UnknownUnit, WrongType}
 use Rattle.machine_lint.specs.Places.{place_of}
 use Rattle.machine_lint.specs.Spots.{key_of, limit_of, shown}
 use Rattle.machine_lint.specs.Values.{is_wanted, is_within, items_in, items_of, knows, row_words_in, same_text, same_words, unit_named}

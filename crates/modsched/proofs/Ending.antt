@@ -3,7 +3,7 @@ use Rattle.std.proofs.Common.{◌≡◌, ℕ, ◌<◌, List, String, string_byte
 use Rattle.std.specs.Prelude.{Result, Ok, Err}
 use Rattle.std.proofs.lemmas.List.{take_all, length-take-le}
 use Rattle.std.proofs.lemmas.Bool.{cases_lt, lt-ltb}
-use Rattle.loop_reader.specs.declared.fault.LoopFault.{LoopFault}
+use Rattle.reader_faults.specs.declared.loops.LoopFault.{LoopFault}
 use Rattle.command_line.specs.declared.command.Command.{Command}
 use Rattle.command_line.specs.declared.command.Command.TheVariants as command
 use Rattle.command_line.specs.declared.command.Report.{Report}
@@ -29,7 +29,7 @@ use Rattle.modsched.specs.Naming.{chosen_of, unknown_in}
 use Rattle.loop_data.specs.Loops.{LoopData}
 use Rattle.loop_reader.specs.Meaning.{loops_in}
 use Rattle.modsched.specs.inner.Refusals.{IsRefusal}
-use Rattle.exit_status.proofs.Lengths.{loops_in-take, machine_of-take}
+use Rattle.modsched.proofs.Lengths.{loops_in-take, machine_of-take}
 use Rattle.modsched.proofs.Linting.{lint-take}
 use Rattle.exit_status.specs.Statuses.{status_number}
 use Rattle.exit_status.specs.declared.status.Status.{Status}

@@ -4,12 +4,12 @@ use Rattle.std.specs.Prelude.{[], ◌∷◌, Ok, Err}
 use Rattle.std.proofs.lemmas.List.{take_all}
 use Rattle.std.proofs.lemmas.Bool.{cases_lt, lt-ltb}
 use Rattle.machine.specs.MachineText.{machine_of}
-use Rattle.machine.specs.declared.fault.MachineFault.TheVariants.{Limit}
+use Rattle.reader_faults.specs.declared.machine.MachineFault.TheVariants.{Limit}
 use Rattle.machine_lint.specs.Hints.{declared_units}
 use Rattle.machine_lint.specs.Lints as machines
 use Rattle.machine_lint.specs.Places.{nowhere}
 use Rattle.machine_lint.specs.declared.place.MachineLint.{MachineLint}
-use Rattle.loop_reader.specs.declared.fault.LoopFaultKind.TheVariants as kinds
+use Rattle.reader_faults.specs.declared.loops.LoopFaultKind.TheVariants as kinds
 use Rattle.loop_lint.specs.Lints.{AreFaults, faults_in, lints_in, too_long}
 use Rattle.loop_lint.specs.Lacks.{AreToldOn, MeansLoops, faults_among, lacks_for, lacks_in, merged}
 use Rattle.loop_lint.specs.declared.fault.LintFault.{LintFault}
@@ -28,7 +28,8 @@ use Rattle.modsched.specs.Engine.{AreFine, Ending, IsLintAs, IsNamed, LintBrings
 use Rattle.settings.specs.declared.format.Format.{Format}
 use Rattle.settings.specs.declared.format.Format.TheVariants as format
 use Rattle.exit_status.specs.declared.verdict.Verdict.TheVariants.{Fine, LoopsFaulty, MachineFaulty}
-use Rattle.exit_status.proofs.Lengths.{loops_in-take, machine_of-take, taken_too_long}
+use Rattle.devices.proofs.Lengths.{taken_too_long}
+use Rattle.modsched.proofs.Lengths.{loops_in-take, machine_of-take}
 
 told-long : (text : List ℕ) → 1048576 < length text → machines.told_of text ≡ machines.Just (nowhere (Limit (codes "text")) ∷ [])
 unfolding machines.told_of

@@ -7,11 +7,11 @@ use Rattle.exit_status.specs.Statuses.{refusal_of_machine}
 use Rattle.exit_status.specs.declared.status.Status.{Status}
 use Rattle.exit_status.specs.declared.status.Status.TheVariants.{NoLoop, OutOfMemory}
 use Rattle.file_faults.specs.declared.fault.FileFault.TheVariants as file
-use Rattle.loop_reader.specs.declared.fault.LoopFault.{LoopFault}
+use Rattle.reader_faults.specs.declared.loops.LoopFault.{LoopFault}
 use Rattle.loop_data.specs.Loops.{LoopData}
 use Rattle.machine.specs.MachineText.{machine_of}
 use Rattle.machine.specs.Machines.{MachineData}
-use Rattle.machine.specs.declared.fault.MachineFault.{MachineFault}
+use Rattle.reader_faults.specs.declared.machine.MachineFault.{MachineFault}
 use Rattle.modsched.specs.Engine.{IsNoLoop, LacksOn, LoopsBring}
 use Rattle.modsched.specs.Naming.{first_unknown, unknown_in}
 use Rattle.modsched.specs.inner.Refusals.{IsUnnamed, NamesNone}

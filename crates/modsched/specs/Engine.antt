@@ -19,12 +19,12 @@ use Rattle.command_line.specs.Lines.{first_path}
 use Rattle.devices.specs.Devices.{most_read}
 use Rattle.file_faults.specs.Answers.{AnswersAlone, AnswersFile}
 use Rattle.machine.specs.MachineText.{machine_of}
-use Rattle.machine.specs.declared.fault.MachineFault.{MachineFault}
+use Rattle.reader_faults.specs.declared.machine.MachineFault.{MachineFault}
 use Rattle.machine.specs.Machines.{MachineData}
 use Rattle.loop_data.specs.Loops.{LoopData}
-use Rattle.loop_reader.specs.declared.fault.LoopFault.{LoopFault}
+use Rattle.reader_faults.specs.declared.loops.LoopFault.{LoopFault}
 use Rattle.loop_reader.specs.Meaning.{loops_in}
-use Rattle.printouts.specs.Bounds.{IsBoundsText}
+use Rattle.listing_printouts.specs.Bounds.{IsBoundsText}
 use Rattle.explain_printouts.specs.Explain.{IsExplainText}
 use Rattle.explain_printouts.specs.ExplainDocuments.{IsExplainDocument, IsExplainPage}
 use Rattle.graph_printouts.specs.Graphs.{IsDotText, IsEdgesText}

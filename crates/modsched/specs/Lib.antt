@@ -1,9 +1,8 @@
 pub use Rattle.command_line.specs.Lines
 pub use Rattle.devices.specs.Devices
-pub use Rattle.exit_status.specs.Exits
 pub use Rattle.exit_status.specs.Statuses
 pub use Rattle.exit_status.specs.Writing
-pub use Rattle.printouts.specs.Bounds
+pub use Rattle.listing_printouts.specs.Bounds
 pub use Rattle.explain_printouts.specs.Explain
 pub use Rattle.graph_printouts.specs.Graphs
 pub use Rattle.memory_devices.specs.Faulty

@@ -1,7 +1,7 @@
 -- The loops of a text that have the names that were given.
 use Rattle.std.specs.Prelude.{Bool, not, bytes_eq, string_bytes, String, List, [], ◌∷◌, Option, None, Result, Ok, Err}
 use Rattle.std.specs.List.{filter, find, list_any}
-use Rattle.loop_reader.specs.declared.fault.LoopFault.{LoopFault}
+use Rattle.reader_faults.specs.declared.loops.LoopFault.{LoopFault}
 use Rattle.loop_data.specs.Loops.{LoopData}
 
 -- a loop has this name

@@ -8,7 +8,7 @@ ghost use Rattle.modsched.specs.Engine.{Brings, IsSearchText, IsTaskText, LoopsB
 ghost use Rattle.modsched.specs.Naming.{unknown_in};
 ghost use Rattle.loop_reader.specs.Meaning.{loops_in};
 ghost use Rattle.machine.specs.MachineText.{machine_of};
-ghost use Rattle.machine.specs.declared.fault.MachineFault.{MachineFault};
+ghost use Rattle.reader_faults.specs.declared.machine.MachineFault.{MachineFault};
 ghost use Rattle.exit_status.specs.Statuses.{refusal_of_machine};
 ghost use Rattle.exit_status.specs.declared.status.Status.TheVariants.{OutOfMemory};
 ghost use Rattle.modsched.specs.inner.Answers.{ending_of};

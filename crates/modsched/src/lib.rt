@@ -11,7 +11,7 @@ pub use devices::{
     Fault, FileInput, Input, Output, ReadTextError, StandardOutput, TEXT_LIMIT, read_text,
     write_text,
 };
-pub use exit_status::{Line, Status, Told, Verdict, exit_number, finish, show};
+pub use exit_status::{Line, Status, Verdict, finish, show};
 pub use memory_devices::{Bytes, FaultyInput, FaultyOutput, TakenBytes};
 pub use printouts::kernels_tell_plain_lines;
 pub use settings::{OutOfRange, Settings};

@@ -1,3 +1,2 @@
-pub mod KernelLines
 pub mod Runnable
 pub mod Told

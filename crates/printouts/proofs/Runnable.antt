@@ -1,5 +1,5 @@
 -- The kernels of a listing are run in the place of their loops.
-use Rattle.std.proofs.Common.{◌≡◌, ◌<◌, ℕ, zero, suc, List, [], ◌∷◌, length, get_or, arith, sym, ap, ◌∙◌, subst}
+use Rattle.std.proofs.Common.{◌≡◌, ℕ, List, [], ◌∷◌, length, sym, ap, ◌∙◌, subst}
 use Rattle.std.specs.List.{AllZip}
 use Rattle.std.proofs.lemmas.List.{length-map}
 use Rattle.loop_schedules.specs.Problems.{ProblemData}
@@ -9,12 +9,11 @@ use Rattle.overlap.specs.Allotments.{AllotmentData}
 use Rattle.overlap.specs.Emission.{emitted}
 use Rattle.loop_listings.specs.declared.choices.Choice.{Choice}
 use Rattle.loop_listings.specs.declared.choices.Choice.TheVariants.{Met, Failed}
-use Rattle.loop_listings.specs.declared.listings.Row as row
 use Rattle.candidates.specs.Choices.{IsChoice}
 use Rattle.loop_listings.specs.Listings.{ListingData, listing_rows}
 use Rattle.candidates.specs.Outcomes.{GivesKernel}
 use Rattle.candidates.specs.Files.{ListsProblems}
-use Rattle.printouts.specs.inner.Runnable.{HasSizesOf, IsRunnable}
+use Rattle.listing_printouts.specs.Runnable.{AreRunnable, HasSizesOf, IsRunnable}
 
 emitted-arrays : (s : ScheduleData) (a : AllotmentData) → length (emitted s a).arrays ≡ length s.problem.loop.arrays
 unfolding emitted
@@ -38,22 +37,13 @@ runnable problem (Failed cause) c = tt
 
 -- each loop with its row
 all_runnable : (problems : List ProblemData) (choices : List Choice) → AllZip IsChoice problems choices
-    → AllZip (λ (p : ProblemData) (r : row.Row). IsRunnable p.loop r.choice) problems (listing_rows problems choices)
+    → AreRunnable problems (listing_rows problems choices)
 all_runnable [] [] cs = tt
 all_runnable [] (c ∷ choices) cs = absurd cs
 all_runnable (p ∷ problems) [] cs = absurd cs
 all_runnable (p ∷ problems) (c ∷ choices) cs = (runnable p c cs.0, all_runnable problems choices cs.1)
 
-pub listed_runnable : (ceiling : ℕ) (problems : List ProblemData) (listing : ListingData) → ListsProblems ceiling problems listing
-    → AllZip (λ (p : ProblemData) (r : row.Row). IsRunnable p.loop r.choice) problems listing.rows
+pub listed_runnable : (ceiling : ℕ) (problems : List ProblemData) (listing : ListingData) → ListsProblems ceiling problems listing → AreRunnable problems listing.rows
 listed_runnable ceiling problems listing is =
-    subst (λ (l : ListingData). AllZip (λ (p : ProblemData) (r : row.Row). IsRunnable p.loop r.choice) problems l.rows) (sym is.is_listing)
+    subst (λ (l : ListingData). AreRunnable problems l.rows) (sym is.is_listing)
     (all_runnable problems is.choices is.each_choice)
-
--- what is so of each pair is so of the two at an index
-pub all_zip_at : {A B : Type 0} (R : A → B → Type 0) (xs : List A) (ys : List B) (i : ℕ) (d : A) (e : B) → AllZip R xs ys → i < length ys → R (get_or xs i d) (get_or ys i e)
-all_zip_at R [] [] i d e h few = absurd (omega (arith, few))
-all_zip_at R [] (y ∷ ys) i d e h few = absurd h
-all_zip_at R (x ∷ xs) [] i d e h few = absurd h
-all_zip_at R (x ∷ xs) (y ∷ ys) zero d e h few = h.0
-all_zip_at R (x ∷ xs) (y ∷ ys) (suc i) d e h few = all_zip_at R xs ys i d e h.1 (omega (arith, few))

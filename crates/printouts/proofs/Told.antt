@@ -1,39 +1,22 @@
 -- What is written of prepared loops with their listing.
-use Rattle.std.proofs.Common.{◌≡◌, ◌∙◌, ℕ, List, [], ◌∷◌, ◌++◌, map, refl, sym, ap, ap₂, subst}
-use Rattle.std.specs.List.{flat_map, zip}
+use Rattle.std.proofs.Common.{◌≡◌, ◌∙◌, ℕ, List, [], ◌∷◌, ◌++◌, refl, sym, ap, ap₂, subst}
 use Rattle.machine.specs.Machines.{MachineData}
 use Rattle.loop_data.specs.Loops.{LoopData}
 use Rattle.loop_schedules.specs.Problems.{ProblemData}
 use Rattle.loop_listings.specs.Listings.{ListingData}
 use Rattle.loop_listings.specs.Texts.{counts_line, listing_text_of}
-use Rattle.loop_listings.specs.declared.listings.Row as row
 use Rattle.candidates.specs.Files.{ArePrepared, ListsProblems}
 use Rattle.candidates.proofs.Listed.{lists_of, right_of}
 use Rattle.written.specs.Written.{Written}
-use Rattle.printouts.specs.Run.{IsRunText, choice_lines, told_lines}
+use Rattle.listing_printouts.proofs.Problems.{loops_of}
+use Rattle.printouts.specs.Run.{IsRunText, told_lines}
 use Rattle.printouts.specs.Schedule.{IsListingText, are_met}
-
--- the loops of problems
-abbrev pub loops_of : List ProblemData → List LoopData
-loops_of problems = map (λ (p : ProblemData). p.loop) problems
 
 pub loops_of-prepared : (machine : MachineData) (ratio ceiling : ℕ) (loops : List LoopData) (problems : List ProblemData) → ArePrepared machine ratio ceiling loops problems → loops_of problems ≡ loops
 loops_of-prepared machine ratio ceiling [] [] ps = refl
 loops_of-prepared machine ratio ceiling [] (p ∷ problems) ps = absurd ps
 loops_of-prepared machine ratio ceiling (l ∷ loops) [] ps = absurd ps
 loops_of-prepared machine ratio ceiling (l ∷ loops) (p ∷ problems) ps = ap₂ (λ (x : LoopData) (xs : List LoopData). x ∷ xs) ps.0.same_loop (loops_of-prepared machine ratio ceiling loops problems ps.1)
-
--- the lines of problems are those of their loops
-pub told_problems : (trip high : ℕ) (problems : List ProblemData) (rows : List row.Row)
-    → flat_map (λ (pair : ProblemData × row.Row). choice_lines trip high pair.0.loop pair.1 pair.1.choice) (zip problems rows) ≡ told_lines trip high (loops_of problems) rows
-told_problems trip high [] rows = refl
-told_problems trip high (p ∷ problems) [] = refl
-told_problems trip high (p ∷ problems) (r ∷ rows) = ap (λ (t : List ℕ). choice_lines trip high p.loop r r.choice ++ t) (told_problems trip high problems rows)
-
--- a listing has the ceiling of its problems
-pub own_ceiling : (ceiling : ℕ) (problems : List ProblemData) (listing : ListingData) → ListsProblems ceiling problems listing → ListsProblems listing.ceiling problems listing
-own_ceiling ceiling problems listing is =
-    subst (λ k. ListsProblems k problems listing) (sym (ap (λ (l : ListingData). l.ceiling) is.is_listing)) is
 
 -- of a listing: its text, and the runs of its kernels
 pub told_listing : (machine : MachineData) (ratio ceiling : ℕ) (loops : List LoopData) (problems : List ProblemData) (listing : ListingData) (written : Written)

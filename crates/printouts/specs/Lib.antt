@@ -1,5 +1,3 @@
-pub mod Bounds
 pub mod Outcomes
 pub mod Run
 pub mod Schedule
-pub mod inner

@@ -1,12 +1,12 @@
-//! What `schedule`, `run` and `bounds` print of machines and loops, and these and `plain` of their texts, by the choices of one
-//! thread. `lines_of_runs`, `graph_printouts`, `json_printouts` and `explain_printouts` have what the other commands print of loops.
+//! What `schedule`, `run`, `bounds` and `plain` print of the texts of machines and loops, by the choices of one thread. `listing_printouts` has what
+//! the first three print of what was read and found, and this crate goes on exporting it. `lines_of_runs`, `graph_printouts`, `json_printouts` and
+//! `explain_printouts` have what the other commands print of loops.
 #![tactic(auto)]
 
-mod commands;
-mod laws;
+mod alone;
 
-pub use commands::alone::{bounds_alone, plain_alone, run_alone, schedule_alone};
-pub use commands::bounds::bounds_text;
-pub use commands::listings::{are_met, listing_printout};
-pub use commands::running::{push_choice, push_counts, push_runs, run_printout};
-pub use laws::kernels_tell_plain_lines;
+pub use alone::{bounds_alone, plain_alone, run_alone, schedule_alone};
+pub use listing_printouts::{
+    are_met, bounds_text, kernels_tell_plain_lines, listing_printout, push_choice, push_counts,
+    push_runs, run_printout,
+};

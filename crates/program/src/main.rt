@@ -4,8 +4,7 @@
 ghost use Rattle.std.specs.Prelude.{IfErr};
 ghost use Rattle.invocation.specs.Endings.{IsNoRequest};
 
-use exit_status::{Told, exit_number};
-use invocation::{Invocation, files, invoked};
+use invocation::{Invocation, Told, exit_number, files, invoked};
 use modsched::{Command, StandardOutput, Status, Usage, engine};
 use std::process::ExitCode;
 use std::rt::{Env, Files};

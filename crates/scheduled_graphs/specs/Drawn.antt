@@ -5,9 +5,9 @@ use Rattle.graph_text.specs.Drawings.{IsCritical}
 use Rattle.loop_schedules.specs.Problems.{ProblemData}
 use Rattle.loop_schedules.specs.Schedules.{ScheduleData}
 use Rattle.loop_listings.specs.declared.causes.Cause.{Cause}
-use Rattle.candidates.specs.declared.evidence.Tried.{Tried}
-use Rattle.candidates.specs.declared.evidence.Tried.TheVariants.{Met, Failed}
-use Rattle.candidates.specs.Reasons.{reason_cause}
+use Rattle.told_intervals.specs.declared.evidence.Tried.{Tried}
+use Rattle.told_intervals.specs.declared.evidence.Tried.TheVariants.{Met, Failed}
+use Rattle.told_intervals.specs.Reasons.{reason_cause}
 use Rattle.scheduled_graphs.specs.Graphs.{IsScheduledText, IsUnscheduledText}
 
 -- the graph of a loop with a schedule, where such a circuit is red

@@ -5,12 +5,13 @@ ghost use Rattle.graph_text.specs.Drawings.{IsCritical};
 ghost use Rattle.scheduled_graphs.specs.Drawn.{IsDrawnBy, IsScheduledGraph, IsUnscheduledGraph};
 
 use crate::graphs::{push_scheduled, push_unscheduled};
-use candidates::{Cause, Tried};
+use candidates::Cause;
 use graph::Edge;
 use graph_text::critical_circuit;
 use loop_schedules::{Prepared, Schedule};
 use machine_data::OutOfMemory;
 use std::alloc::Global;
+use told_intervals::Tried;
 
 /// A circuit of a loop that needs its recurrence-constrained lower bound.
 fn circuit_of(alloc: Global, prepared: &Prepared) -> Result<Vec<Edge>, OutOfMemory>

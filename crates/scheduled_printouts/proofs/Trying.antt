@@ -2,15 +2,15 @@
 use Rattle.std.proofs.Common.{◌≡◌, ℕ, ◌+◌, ◌≤◌, Bool, List, ◌++◌, refl, ap, subst, arith}
 use Rattle.loop_schedules.specs.Problems.{ProblemData, IsProblem, mii_of}
 use Rattle.loop_listings.specs.declared.choices.Choice.TheVariants as choice
-use Rattle.candidates.specs.declared.evidence.Met as evidence
-use Rattle.candidates.specs.declared.evidence.Reason.{Reason}
-use Rattle.candidates.specs.declared.evidence.Tried.{Tried}
-use Rattle.candidates.specs.declared.evidence.Tried.TheVariants.{Met, Failed}
 use Rattle.loop_listings.specs.declared.causes.Cause.{Cause}
 use Rattle.loop_listings.specs.Listings.{is_met}
-use Rattle.candidates.specs.Reasons.{FailsFor, IsMet, IsTried, reason_cause}
-use Rattle.candidates.proofs.Evidenced.{tried-is_given}
 use Rattle.candidates.proofs.Rising.{Risen, met_here, risen_on, unmet_here}
+use Rattle.told_intervals.specs.declared.evidence.Met as evidence
+use Rattle.told_intervals.specs.declared.evidence.Reason.{Reason}
+use Rattle.told_intervals.specs.declared.evidence.Tried.{Tried}
+use Rattle.told_intervals.specs.declared.evidence.Tried.TheVariants.{Met, Failed}
+use Rattle.told_intervals.specs.Reasons.{FailsFor, IsMet, IsTried, reason_cause}
+use Rattle.told_intervals.proofs.Evidenced.{tried-is_given}
 use Rattle.scheduled_graphs.specs.Drawn.{IsDrawnBy}
 use Rattle.scheduled_printouts.specs.Graphs.{DrawnData, IsDrawn}
 use Rattle.scheduled_printouts.specs.inner.LastTried.{IsLastTried, gives_kernel}

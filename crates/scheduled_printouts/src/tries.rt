@@ -3,10 +3,10 @@
 ghost use Rattle.std.specs.Prelude.{◌≡◌, IfOk};
 ghost use Rattle.scheduled_printouts.specs.inner.LastTried.{IsLastTried, gives_kernel};
 
-use candidates::{Trials, Tried};
 use loop_schedules::Prepared;
 use machine::OutOfMemory;
 use std::alloc::Global;
+use told_intervals::{ToldTrials, Tried};
 
 /// Tries a loop's intervals one after another until one gives a kernel: what that one comes to, or where none gives one the last one.
 pub(crate) fn last_tried<'a>(
@@ -15,7 +15,7 @@ pub(crate) fn last_tried<'a>(
 ) -> Result<Tried<'a>, OutOfMemory>
     ensures { IfOk result (IsLastTried prepared.now) }
 {
-    let mut trials = Trials::of(prepared);
+    let mut trials = ToldTrials::of(prepared);
     for above in 0..prepared.ceiling() {
         match trials.try_told(alloc, prepared.mii() + above) {
             Err(fault) => return Err(fault),

@@ -2,7 +2,7 @@
 use Rattle.std.proofs.Common.{List}
 use Rattle.std.specs.Prelude.{Option, Result, Ok, Err, ℕ}
 use Rattle.machine.specs.Opcode.{Opcode}
-use Rattle.loop_reader.specs.declared.fault.LoopFault.{LoopFault}
+use Rattle.reader_faults.specs.declared.loops.LoopFault.{LoopFault}
 use Rattle.loop_data.specs.Loops.{LoopData}
 use Rattle.file_faults.specs.Answers.{AnswersLoops}
 use Rattle.file_faults.proofs.Answering.{on_more, on_ok}

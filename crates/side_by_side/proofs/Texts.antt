@@ -11,7 +11,7 @@ use Rattle.std.proofs.lemmas.List.Folds.{list_any-append}
 use Rattle.std.proofs.lemmas.List.Sums.{sum_by-append, sum_by-cons}
 use Rattle.machine.specs.Machines.{MachineData}
 use Rattle.graph.specs.Units.{first_lacking}
-use Rattle.loop_reader.specs.declared.fault.LoopFault.{LoopFault}
+use Rattle.reader_faults.specs.declared.loops.LoopFault.{LoopFault}
 use Rattle.loop_data.specs.Loops.{LoopData}
 use Rattle.loop_schedules.specs.Problems.{ProblemData}
 use Rattle.candidates.specs.Choices.{IsChoice}
@@ -27,7 +27,8 @@ use Rattle.written.specs.Written.{Written}
 use Rattle.writing.specs.Words.{last_line}
 use Rattle.printouts.specs.Run.{IsRunText, choice_lines, told_lines}
 use Rattle.printouts.specs.Schedule.{IsListingText, are_met}
-use Rattle.printouts.proofs.Told.{loops_of, told_listing, told_run}
+use Rattle.listing_printouts.proofs.Problems.{loops_of}
+use Rattle.printouts.proofs.Told.{told_listing, told_run}
 use Rattle.workers.specs.Told.{AreToldApart, Group, IsPart, IsTold, Teller, choices_of, problems_of}
 use Rattle.workers.specs.declared.pieces.Told.{Told}
 use Rattle.workers.specs.declared.pieces.Told.TheVariants.{Apart, Whole}

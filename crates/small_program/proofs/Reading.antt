@@ -2,13 +2,15 @@
 use Rattle.std.proofs.Common.{◌≡◌, ◌∙◌, ap, subst, ℕ, List, take}
 use Rattle.std.specs.Prelude.{Result}
 use Rattle.devices.specs.Devices.{most_read}
-use Rattle.exit_status.proofs.Lengths.{loops_in-take, machine_of-take}
-use Rattle.loop_reader.specs.declared.fault.LoopFault.{LoopFault}
+use Rattle.devices.proofs.Lengths.{past_limit}
+use Rattle.reader_faults.specs.declared.loops.LoopFault.{LoopFault}
 use Rattle.loop_data.specs.Loops.{LoopData}
 use Rattle.loop_reader.specs.Meaning.{loops_in}
+use Rattle.loop_reader.proofs.Lengths.{loops_in-take}
 use Rattle.machine.specs.MachineText.{machine_of}
+use Rattle.machine.proofs.Lengths.{machine_of-take}
 use Rattle.machine.specs.Machines.{MachineData}
-use Rattle.machine.specs.declared.fault.MachineFault.{MachineFault}
+use Rattle.reader_faults.specs.declared.machine.MachineFault.{MachineFault}
 use Rattle.printouts.specs.Outcomes.{Outcome}
 use Rattle.small_program.specs.Answers.{TellsOf}
 use Rattle.small_program.specs.declared.answers.Wanted.{Wanted}
@@ -17,8 +19,8 @@ pub tells-read : (wanted : Wanted) (machine loops machine_read loops_read : List
     → machine_read ≡ take most_read machine → loops_read ≡ take most_read loops
     → TellsOf wanted (machine_of machine_read) (loops_in loops_read) outcome → TellsOf wanted (machine_of machine) (loops_in loops) outcome
 tells-read wanted machine loops machine_read loops_read outcome m l h =
-    let on : machine_of machine_read ≡ machine_of machine = ap machine_of m ∙ machine_of-take machine in
-    let of : loops_in loops_read ≡ loops_in loops = ap loops_in l ∙ loops_in-take loops in
+    let on : machine_of machine_read ≡ machine_of machine = ap machine_of m ∙ machine_of-take most_read machine past_limit in
+    let of : loops_in loops_read ≡ loops_in loops = ap loops_in l ∙ loops_in-take most_read loops past_limit in
     let first : TellsOf wanted (machine_of machine_read) (loops_in loops) outcome =
     subst (λ (r : Result (List LoopData) LoopFault). TellsOf wanted (machine_of machine_read) r outcome) of h in
     subst (λ (r : Result MachineData MachineFault). TellsOf wanted r (loops_in loops) outcome) on first

@@ -9,17 +9,17 @@ use Rattle.command_line.specs.declared.command.Task.TheVariants as task
 use Rattle.command_line.specs.declared.command.Search.{Search}
 use Rattle.command_line.specs.declared.command.Search.TheVariants as search
 use Rattle.settings.specs.Settings.{SettingsData}
-use Rattle.machine.specs.declared.fault.MachineFault.{MachineFault}
+use Rattle.reader_faults.specs.declared.machine.MachineFault.{MachineFault}
 use Rattle.machine.specs.Machines.{MachineData}
 use Rattle.machine.specs.MachineText.{machine_of}
 use Rattle.loop_data.specs.Loops.{LoopData}
-use Rattle.loop_reader.specs.declared.fault.LoopFault.{LoopFault}
+use Rattle.reader_faults.specs.declared.loops.LoopFault.{LoopFault}
 use Rattle.loop_reader.specs.Meaning.{loops_in}
 use Rattle.exit_status.specs.Statuses.{refusal_of_file}
 use Rattle.exit_status.specs.Writing.{EndsWritten, verdict_of_met}
 use Rattle.exit_status.specs.declared.status.Status.{Status}
 use Rattle.file_faults.specs.Answers.{AnswersAlone, AnswersFile}
-use Rattle.printouts.specs.Bounds.{IsBoundsText}
+use Rattle.listing_printouts.specs.Bounds.{IsBoundsText}
 use Rattle.printouts.specs.Outcomes.{Outcome}
 use Rattle.lines_of_runs.specs.Plain.{IsPlainText}
 use Rattle.printouts.specs.Run.{IsRunText}

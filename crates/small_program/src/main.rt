@@ -11,8 +11,8 @@ mod answers;
 use answers::{answer, wanted_of};
 use command_line::{Command, Usage};
 use devices::StandardOutput;
-use exit_status::{Status, Told, exit_number};
-use invocation::{Invocation, files, invoked};
+use exit_status::Status;
+use invocation::{Invocation, Told, exit_number, files, invoked};
 use std::process::ExitCode;
 use std::rt::{Env, Files};
 

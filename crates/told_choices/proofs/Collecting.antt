@@ -9,8 +9,8 @@ use Rattle.loop_schedules.specs.Schedules.{ScheduleData}
 use Rattle.registers.specs.declared.lifetime.Lifetime.{Lifetime}
 use Rattle.rotating.specs.Needs.{IsNeed}
 use Rattle.modulo.specs.declared.outcome.attempts.Culprit.{Culprit}
-use Rattle.candidates.specs.declared.evidence.Reason.TheVariants as reason
-use Rattle.candidates.specs.Reasons.{FailsFor}
+use Rattle.told_intervals.specs.declared.evidence.Reason.TheVariants as reason
+use Rattle.told_intervals.specs.Reasons.{FailsFor}
 use Rattle.told_choices.specs.declared.failures.Lack.{Lack}
 use Rattle.told_choices.specs.declared.failures.Lack.TheVariants.{Never, Once, Again}
 use Rattle.told_choices.specs.declared.why.Why.{Why}

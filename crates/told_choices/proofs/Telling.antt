@@ -4,14 +4,14 @@ use Rattle.std.specs.List.{AllZip, range_with_len}
 use Rattle.loop_schedules.specs.Problems.{ProblemData, IsProblem, mii_of}
 use Rattle.figures.specs.declared.figures.Figures.{Figures}
 use Rattle.figures.specs.Figures.{AreFigures}
-use Rattle.candidates.specs.declared.evidence.Met.{Met}
-use Rattle.candidates.specs.declared.evidence.Reason.{Reason}
-use Rattle.candidates.specs.declared.evidence.Tried.TheVariants as tried
 use Rattle.loop_listings.specs.declared.causes.Cause.{Cause}
 use Rattle.candidates.specs.Outcomes.{FailsBy}
-use Rattle.candidates.specs.Reasons.{FailsFor, IsMet, reason_cause}
-use Rattle.candidates.proofs.Evidenced.{tried-is_given}
 use Rattle.candidates.proofs.Rising.{Risen, met_here, risen_none, risen_on, unmet_here}
+use Rattle.told_intervals.specs.declared.evidence.Met.{Met}
+use Rattle.told_intervals.specs.declared.evidence.Reason.{Reason}
+use Rattle.told_intervals.specs.declared.evidence.Tried.TheVariants as tried
+use Rattle.told_intervals.specs.Reasons.{FailsFor, IsMet, reason_cause}
+use Rattle.told_intervals.proofs.Evidenced.{tried-is_given}
 use Rattle.told_choices.specs.declared.chosen.Chosen.TheVariants as chosen
 use Rattle.told_choices.specs.declared.failures.Lack.{Lack}
 use Rattle.told_choices.specs.declared.why.Why.{Why}

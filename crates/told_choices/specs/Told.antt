@@ -4,11 +4,11 @@ use Rattle.std.specs.List.{AllZip, range_with_len}
 use Rattle.loop_schedules.specs.Problems.{ProblemData, mii_of}
 use Rattle.figures.specs.declared.figures.Figures.{Figures}
 use Rattle.figures.specs.Figures.{AreFigures}
-use Rattle.candidates.specs.declared.evidence.Met as evidence
 use Rattle.loop_listings.specs.declared.choices.Choice.{Choice}
 use Rattle.loop_listings.specs.declared.choices.Choice.TheVariants as choice
 use Rattle.candidates.specs.Choices.{IsChoice, IsUnmet}
-use Rattle.candidates.specs.Reasons.{IsMet}
+use Rattle.told_intervals.specs.declared.evidence.Met as evidence
+use Rattle.told_intervals.specs.Reasons.{IsMet}
 use Rattle.told_choices.specs.declared.chosen.Chosen.{Chosen}
 use Rattle.told_choices.specs.declared.chosen.Chosen.TheVariants.{Met, Failed}
 use Rattle.told_choices.specs.declared.told.Told.{Told}

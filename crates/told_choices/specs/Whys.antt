@@ -8,9 +8,9 @@ use Rattle.registers.specs.declared.lifetime.Lifetime.{Lifetime}
 use Rattle.rotating.specs.Needs.{IsNeed}
 use Rattle.loop_listings.specs.declared.causes.Cause.{Cause}
 use Rattle.loop_listings.specs.declared.causes.Cause.TheVariants.{Registers}
-use Rattle.candidates.specs.Outcomes.{FailsBy}
 use Rattle.loop_listings.specs.Causes.{culprit_cause}
-use Rattle.candidates.specs.Reasons.{LacksFor}
+use Rattle.candidates.specs.Outcomes.{FailsBy}
+use Rattle.told_intervals.specs.Reasons.{LacksFor}
 use Rattle.told_choices.specs.declared.why.Why.{Why}
 use Rattle.told_choices.specs.declared.why.Why.TheVariants.{Attempt, Register, Need}
 

@@ -3,8 +3,9 @@
 ghost use Rattle.std.specs.Prelude.{◌≡◌};
 ghost use Rattle.told_choices.specs.Told.{choice_of};
 
-use candidates::{Cause, Choice, Met};
+use candidates::{Cause, Choice};
 use figures::Figures;
+use told_intervals::Met;
 
 /// What is chosen for a loop, with the evidence of it.
 #[derive(Drop)]

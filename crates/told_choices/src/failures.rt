@@ -2,18 +2,18 @@
 
 ghost use Rattle.std.specs.Prelude.{◌≡◌, ◌+◌, [], IfOk, length, false};
 ghost use Rattle.std.specs.List.{AllZip, range_with_len};
-ghost use Rattle.candidates.specs.Reasons.{FailsFor};
-ghost use Rattle.candidates.specs.declared.evidence.Reason.TheVariants.{Register};
+ghost use Rattle.told_intervals.specs.Reasons.{FailsFor};
+ghost use Rattle.told_intervals.specs.declared.evidence.Reason.TheVariants.{Register};
 ghost use Rattle.loop_schedules.specs.Problems.{ProblemData, mii_of};
 ghost use Rattle.told_choices.specs.Whys.{FailsAs, TellNeeds};
 ghost use Rattle.told_choices.specs.inner.Collected.{AreFailures, is_never};
 
 use crate::why::Why;
-use candidates::Reason;
 use loop_schedules::Schedule;
 use machine_data::OutOfMemory;
 use rotating::{Lifetime, least_registers};
 use std::alloc::Global;
+use told_intervals::Reason;
 
 /// Which of the intervals failed for registers.
 #[derive(Drop)]

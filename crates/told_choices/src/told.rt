@@ -6,11 +6,12 @@ ghost use Rattle.told_choices.specs.Told.{IsTold};
 use crate::chosen::Chosen;
 use crate::failures::Failures;
 use crate::why::Why;
-use candidates::{Cause, Trials, Tried};
+use candidates::Cause;
 use figures::figures_of;
 use loop_schedules::Prepared;
 use machine_data::OutOfMemory;
 use std::alloc::Global;
+use told_intervals::{ToldTrials, Tried};
 
 /// What is chosen for a loop, and why each interval that was tried and gives no kernel gives none.
 #[derive(Drop)]
@@ -29,7 +30,7 @@ pub struct Told<'a> {
 pub fn choose_told<'a>(alloc: Global, prepared: &'a Prepared) -> Result<Told<'a>, OutOfMemory>
     ensures told { IfOk result (IsTold prepared.now) }
 {
-    let mut trials = Trials::of(prepared);
+    let mut trials = ToldTrials::of(prepared);
     let mut failures = Failures::new(alloc);
     let mut last = Cause::Table;
     for above in 0..prepared.ceiling() + 1 {

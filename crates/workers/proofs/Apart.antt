@@ -6,8 +6,8 @@ use Rattle.std.proofs.lemmas.List.{append-nil, length-map, map-append}
 use Rattle.machine_data.specs.Opcodes.{same_word}
 use Rattle.loop_data.specs.Loops.{LoopData}
 use Rattle.loop_lines.specs.Forms.{Form}
-use Rattle.loop_reader.specs.declared.fault.LoopFault.{LoopFault}
-use Rattle.loop_reader.specs.declared.fault.LoopFaultKind.TheVariants.{Limit}
+use Rattle.reader_faults.specs.declared.loops.LoopFault.{LoopFault}
+use Rattle.reader_faults.specs.declared.loops.LoopFaultKind.TheVariants.{Limit}
 use Rattle.loop_reader.specs.Meaning.{blocks_of, first_fault, forms_of, loop_of, loops_in, outside_faults}
 use Rattle.loop_reader.proofs.blocks.OpeningLines.{accepted}
 use Rattle.loop_reader.proofs.lookups.Declared.{same_word-yes}

@@ -7,8 +7,8 @@ use Rattle.std.proofs.lemmas.List.Folds.{list_any-append}
 use Rattle.machine_data.specs.Opcodes.{same_word}
 use Rattle.loop_data.specs.Loops.{LoopData}
 use Rattle.loop_lines.specs.Forms.{Form, LoopLine, EndLine}
-use Rattle.loop_reader.specs.declared.fault.LoopFault.{LoopFault}
-use Rattle.loop_reader.specs.declared.fault.LoopFaultKind.TheVariants.{Limit, RepeatedName}
+use Rattle.reader_faults.specs.declared.loops.LoopFault.{LoopFault}
+use Rattle.reader_faults.specs.declared.loops.LoopFaultKind.TheVariants.{Limit, RepeatedName}
 use Rattle.loop_reader.specs.Meaning.{Kinds, at_line, blocks_from, blocks_of, faults_of, inside_faults, is_long, line_faults, loop_of, opening_faults, outside_faults, when, whole, with_line}
 use Rattle.loop_reader.proofs.blocks.OpeningLines.{name-of-loop}
 use Rattle.loop_reader.proofs.faults.Giving.{none-front, when-false, or-false-left}

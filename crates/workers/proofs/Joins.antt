@@ -2,7 +2,7 @@
 use Rattle.std.proofs.Common.{◌≡◌, List, [], ◌∷◌, ◌++◌, length, Result, Ok, Err, Vec, Global, refl, sym, subst, arith, append_assoc}
 use Rattle.std.proofs.lemmas.List.{append-nil}
 use Rattle.loop_data.specs.Loops.{LoopData}
-use Rattle.loop_reader.specs.declared.fault.LoopFault.{LoopFault}
+use Rattle.reader_faults.specs.declared.loops.LoopFault.{LoopFault}
 use Rattle.workers.specs.inner.Pieces.{AreJoined, HasFault}
 
 abbrev Read : Type 0

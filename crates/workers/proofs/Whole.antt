@@ -5,7 +5,7 @@ use Rattle.std.specs.List.{All, AllZip}
 use Rattle.std.proofs.lemmas.List.{append-nil, get_or-append-add, get_or_append_left, get_or_default, length-map, map-append}
 use Rattle.std.proofs.lemmas.List.Elements.{All-append, All-nil}
 use Rattle.loop_data.specs.Loops.{IsLoop, LoopData}
-use Rattle.loop_reader.specs.declared.fault.LoopFault.{LoopFault}
+use Rattle.reader_faults.specs.declared.loops.LoopFault.{LoopFault}
 use Rattle.loop_reader.specs.Meaning.{loops_in}
 use Rattle.loop_reader.proofs.blocks.OpeningLines.{accepted}
 use Rattle.workers.specs.Apart.{NamesAreApart}

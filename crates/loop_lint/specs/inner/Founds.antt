@@ -4,8 +4,8 @@ use Rattle.loop_lines.specs.Forms.{Form}
 use Rattle.loop_lines.specs.Parsed.{use_seen}
 use Rattle.loop_lines.specs.declared.form.Use as code
 use Rattle.loop_reader.specs.Meaning.{faults_of}
-use Rattle.loop_reader.specs.declared.fault.LoopFaultKind.{LoopFaultKind}
-use Rattle.loop_reader.specs.declared.fault.LoopFaultKind.TheVariants.{Limit, RepeatedName, UnknownName, UseBeforeDefinition, MissingInit}
+use Rattle.reader_faults.specs.declared.loops.LoopFaultKind.{LoopFaultKind}
+use Rattle.reader_faults.specs.declared.loops.LoopFaultKind.TheVariants.{Limit, RepeatedName, UnknownName, UseBeforeDefinition, MissingInit}
 use Rattle.loop_lint.specs.Lints.{fault_at, told}
 use Rattle.loop_lint.specs.Parts.{AUse, PartAt, word_of_fault}
 use Rattle.loop_lines.specs.Columns.{Placed}

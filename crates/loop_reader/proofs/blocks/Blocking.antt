@@ -8,9 +8,9 @@ use Rattle.loop_reader.proofs.faults.Checking.{not-from}
 use Rattle.loop_reader.specs.declared.lines.collect.Stop.{Stop}
 use Rattle.loop_reader.specs.declared.lines.collect.Stop.TheVariants as stops
 use Rattle.loop_reader.specs.declared.lines.entry.LineEntry.{LineEntry}
-use Rattle.loop_reader.specs.declared.fault.LoopFault.{LoopFault}
-use Rattle.loop_reader.specs.declared.fault.LoopFaultKind.{LoopFaultKind}
-use Rattle.loop_reader.specs.declared.fault.LoopFaultKind.TheVariants.{Syntax, NoEnd, Limit}
+use Rattle.reader_faults.specs.declared.loops.LoopFault.{LoopFault}
+use Rattle.reader_faults.specs.declared.loops.LoopFaultKind.{LoopFaultKind}
+use Rattle.reader_faults.specs.declared.loops.LoopFaultKind.TheVariants.{Syntax, NoEnd, Limit}
 use Rattle.loop_lines.specs.Forms.{Form, EndLine}
 use Rattle.loop_reader.specs.Meaning.{whole, forms_of, inside_faults, outside_faults, how_many, is_statement, has_statement, at_line, when, faults_of, Kinds}
 use Rattle.loop_reader.specs.inner.Blocks.{forms_in, entry_faults, StopsAt, StopsBlock, one_if}

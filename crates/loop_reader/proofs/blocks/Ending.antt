@@ -6,8 +6,8 @@ use Rattle.loop_lines.specs.Forms.{Form, EndLine}
 use Rattle.loop_reader.specs.declared.lines.collect.Stop.{Stop}
 use Rattle.loop_reader.specs.declared.lines.collect.Stop.TheVariants as stops
 use Rattle.loop_reader.specs.declared.lines.entry.LineEntry.{LineEntry}
-use Rattle.loop_reader.specs.declared.fault.LoopFault.{LoopFault}
-use Rattle.loop_reader.specs.declared.fault.LoopFaultKind.TheVariants.{Syntax, NoEnd, Limit}
+use Rattle.reader_faults.specs.declared.loops.LoopFault.{LoopFault}
+use Rattle.reader_faults.specs.declared.loops.LoopFaultKind.TheVariants.{Syntax, NoEnd, Limit}
 use Rattle.loop_reader.specs.declared.read.BlockRead.{BlockRead}
 use Rattle.loop_reader.specs.Meaning.{forms_of, inside_faults, outside_faults, how_many, is_statement, at_line, when, faults_of}
 use Rattle.loop_reader.specs.inner.Blocks.{forms_in, entry_faults, StopsBlock}

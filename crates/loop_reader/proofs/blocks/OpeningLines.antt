@@ -5,18 +5,19 @@ use Rattle.std.specs.List.{list_any}
 use Rattle.std.proofs.lemmas.Bool.Decides.{nat_tests}
 use Rattle.std.proofs.lemmas.List.{append-nil, map-append}
 use Rattle.machine_data.specs.Opcodes.{same_word}
-use Rattle.loop_reader.specs.declared.fault.LoopFault.{LoopFault}
-use Rattle.loop_reader.specs.declared.fault.LoopFaultKind.{LoopFaultKind}
-use Rattle.loop_reader.specs.declared.fault.LoopFaultKind.TheVariants.{Syntax, Limit, RepeatedName, UnknownName, UseBeforeDefinition, MissingInit, NoEnd, Memory}
+use Rattle.reader_faults.specs.declared.loops.LoopFault.{LoopFault}
+use Rattle.reader_faults.specs.declared.loops.LoopFaultKind.{LoopFaultKind}
+use Rattle.reader_faults.specs.declared.loops.LoopFaultKind.TheVariants.{Syntax, Limit, RepeatedName, UnknownName, UseBeforeDefinition, MissingInit, NoEnd, Memory}
 use Rattle.loop_lines.specs.declared.form.Form as code
 use Rattle.loop_lines.specs.declared.form.Form.TheVariants as variants
 use Rattle.loop_lines.specs.Forms.{Form, LoopLine}
 use Rattle.loop_data.specs.Names.{is_name}
 use Rattle.loop_data.specs.Loops.{LoopData}
-use Rattle.loop_reader.specs.Meaning.{outside_faults, inside_faults, blocks_of, blocks_from, forms_of, loop_of, loops_in, first_fault, opening_faults, is_long, when, at_line, seen, LoopsAnswer, AnswersFault}
+use Rattle.loop_reader.specs.Meaning.{outside_faults, inside_faults, blocks_of, blocks_from, forms_of, loop_of, loops_in, first_fault, opening_faults, is_long, when, at_line, seen}
 use Rattle.loop_lines.specs.Parsed.{form_seen}
 use Rattle.loop_lines.specs.Near.{IsNearForm}
-use Rattle.loop_reader.specs.inner.Checks.{first_in, line_at}
+use Rattle.reader_faults.specs.LoopFaults.{AnswersFault, LoopsAnswer, line_at}
+use Rattle.loop_reader.specs.inner.Checks.{first_in}
 use Rattle.loop_reader.specs.inner.Texts.{UnlessMemory, UnlessMemoryKind, AnswersText}
 use Rattle.std.specs.Prelude.{Vec}
 use Rattle.std.specs.Global.{Global}

@@ -10,8 +10,8 @@ use Rattle.std.proofs.lemmas.List.{append-nil, map-append}
 use Rattle.loop_reader.specs.declared.lines.collect.Stop.TheVariants as stops
 use Rattle.loop_reader.specs.declared.lines.entry.LineEntry.{LineEntry}
 use Rattle.loop_lines.specs.declared.form.Form as code
-use Rattle.loop_reader.specs.declared.fault.LoopFault.{LoopFault}
-use Rattle.loop_reader.specs.declared.fault.LoopFaultKind.TheVariants.{Syntax, NoEnd}
+use Rattle.reader_faults.specs.declared.loops.LoopFault.{LoopFault}
+use Rattle.reader_faults.specs.declared.loops.LoopFaultKind.TheVariants.{Syntax, NoEnd}
 use Rattle.loop_lines.specs.Forms.{Form, LoopLine, ArrayLine, ParamLine, InitLine, StatementLine, OutLine, EndLine, Malformed, line_form}
 use Rattle.loop_lines.specs.Words.{lines_of, words_of}
 use Rattle.loop_reader.specs.Meaning.{stands, with_line, whole, faults_of, line_faults, at_line, inside_faults, outside_faults, blocks_from, forms_of}

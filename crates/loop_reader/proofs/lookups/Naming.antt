@@ -11,7 +11,7 @@ use Rattle.machine_data.specs.Opcodes.{same_word}
 use Rattle.loop_data.specs.Names.{is_name, starts_name, is_letter, is_name_byte, is_reserved}
 use Rattle.loop_data.specs.Loops.{IsName}
 use Rattle.loop_reader.specs.Meaning.{opening_faults, is_long, when}
-use Rattle.loop_reader.specs.declared.fault.LoopFaultKind.TheVariants.{Limit, RepeatedName}
+use Rattle.reader_faults.specs.declared.loops.LoopFaultKind.TheVariants.{Limit, RepeatedName}
 
 letter-ascii : (c : ℕ) → is_letter c ≡ true → c < 128
 letter-ascii c h = grind (arith, nat_tests)

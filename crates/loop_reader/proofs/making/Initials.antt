@@ -7,7 +7,7 @@ use Rattle.std.proofs.lemmas.List.Elements.{All-from_recursion}
 use Rattle.std.proofs.lemmas.List.Folds.{list_any-append}
 use Rattle.std.proofs.lemmas.Option.{none-some, same_Some, slice_get-map}
 use Rattle.machine_data.specs.Opcodes.{same_word}
-use Rattle.loop_reader.specs.declared.fault.LoopFaultKind.TheVariants.{Limit, RepeatedName, UnknownName, MissingInit}
+use Rattle.reader_faults.specs.declared.loops.LoopFaultKind.TheVariants.{Limit, RepeatedName, UnknownName, MissingInit}
 use Rattle.loop_data.specs.declared.language.lists.Initial.{Initial}
 use Rattle.loop_lines.specs.Forms.{Form, InitLine, OutLine, StatementForm}
 use Rattle.loop_data.specs.Loops.{LoopData, GivesValue, HasInitial, IsBefore, IsLong}

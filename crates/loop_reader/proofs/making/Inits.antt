@@ -3,7 +3,7 @@ use Rattle.std.proofs.Common.{◌≡◌, ℕ, zero, suc, ℤ, ◌+◌, ◌<◌, 
 use Rattle.std.specs.Prelude.{option_to_list}
 use Rattle.std.specs.List.{filter_map, cons_option}
 use Rattle.loop_reader.specs.declared.lines.entry.LineEntry.{LineEntry}
-use Rattle.loop_reader.specs.declared.fault.LoopFault.{LoopFault}
+use Rattle.reader_faults.specs.declared.loops.LoopFault.{LoopFault}
 use Rattle.loop_data.specs.declared.language.lists.Initial.{Initial}
 use Rattle.loop_reader.specs.inner.Blocks.{entry_faults, forms_in}
 use Rattle.loop_reader.specs.inner.Building.{row_of, row_if, rows_of}

@@ -10,8 +10,8 @@ use Rattle.loop_reader.specs.Declarations.{declared_seen}
 use Rattle.loop_reader.specs.declared.lines.collect.Stop.{Stop}
 use Rattle.loop_reader.specs.declared.lines.collect.Stop.TheVariants as stops
 use Rattle.loop_reader.specs.declared.lines.entry.LineEntry.{LineEntry}
-use Rattle.loop_reader.specs.declared.fault.LoopFault.{LoopFault}
-use Rattle.loop_reader.specs.declared.fault.LoopFaultKind.TheVariants.{Syntax, NoEnd}
+use Rattle.reader_faults.specs.declared.loops.LoopFault.{LoopFault}
+use Rattle.reader_faults.specs.declared.loops.LoopFaultKind.TheVariants.{Syntax, NoEnd}
 use Rattle.loop_reader.specs.declared.names.index.Counts.{Counts}
 use Rattle.loop_reader.specs.declared.names.index.Declared.{Declared}
 

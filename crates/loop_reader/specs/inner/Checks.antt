@@ -6,8 +6,8 @@ use Rattle.std.specs.List.{list_any}
 use Rattle.loop_lines.specs.Forms.{Form, LoopLine, ArrayLine, ParamLine, InitLine, StatementLine, OutLine, EndLine, Malformed, Use, At}
 use Rattle.loop_reader.specs.Meaning.{Declared, AnArray, AParam, AValue, declared, is_value, is_array, is_param, is_statement, how_many, is_long, is_outside, is_wide, is_wide_place, is_unknown, is_unknown_place, is_early, any_name, is_init, init_value, is_out_of, when, whole, forms_of, Kinds}
 use Rattle.loop_lines.specs.Parsed.{use_seen}
-use Rattle.loop_reader.specs.declared.fault.LoopFaultKind.{LoopFaultKind}
-use Rattle.loop_reader.specs.declared.fault.LoopFaultKind.TheVariants.{Limit, RepeatedName, UnknownName, UseBeforeDefinition, MissingInit, Memory}
+use Rattle.reader_faults.specs.declared.loops.LoopFaultKind.{LoopFaultKind}
+use Rattle.reader_faults.specs.declared.loops.LoopFaultKind.TheVariants.{Limit, RepeatedName, UnknownName, UseBeforeDefinition, MissingInit, Memory}
 use Rattle.loop_lines.specs.declared.form.Use as code
 use Rattle.loop_reader.specs.declared.names.index.Counts.{Counts}
 
@@ -138,8 +138,3 @@ pub record IsGiven (block before : List Form) (inits : List (Option ℤ)) (outs 
 -- the lines are those that stand in the first block of some lines
 abbrev pub IsBlock : List Form → Type 0
 IsBlock block = (text : List ℕ) × (block ≡ whole [] (forms_of text))
-
--- the line that a fault names: none, which is 0, for lack of memory
-abbrev pub line_at : LoopFaultKind → ℕ → ℕ
-line_at Memory line = 0
-line_at kind line = line

@@ -4,12 +4,13 @@ use Rattle.std.specs.Borrow.{Bor}
 use Rattle.std.specs.List.{All, list_any}
 use Rattle.machine_data.specs.Opcodes.{same_word}
 use Rattle.loop_data.specs.Loops.{IsLoop, LoopData}
-use Rattle.loop_reader.specs.Meaning.{whole, forms_of, inside_faults, outside_faults, blocks_from, blocks_of, opening_faults, loop_of, loops_in, AnswersFault}
+use Rattle.loop_reader.specs.Meaning.{whole, forms_of, inside_faults, outside_faults, blocks_from, blocks_of, opening_faults, loop_of, loops_in}
+use Rattle.reader_faults.specs.LoopFaults.{AnswersFault}
 use Rattle.loop_reader.specs.inner.Checks.{first_in}
 use Rattle.loop_reader.specs.inner.Known.{known_as}
-use Rattle.loop_reader.specs.declared.fault.LoopFault.{LoopFault}
-use Rattle.loop_reader.specs.declared.fault.LoopFaultKind.{LoopFaultKind}
-use Rattle.loop_reader.specs.declared.fault.LoopFaultKind.TheVariants.{Syntax, Limit, NoEnd, Memory}
+use Rattle.reader_faults.specs.declared.loops.LoopFault.{LoopFault}
+use Rattle.reader_faults.specs.declared.loops.LoopFaultKind.{LoopFaultKind}
+use Rattle.reader_faults.specs.declared.loops.LoopFaultKind.TheVariants.{Syntax, Limit, NoEnd, Memory}
 use Rattle.loop_reader.specs.declared.lines.collect.Stop.{Stop}
 use Rattle.loop_reader.specs.declared.lines.collect.Stop.TheVariants as stops
 use Rattle.loop_reader.specs.declared.names.known.Names.{Names}

@@ -18,12 +18,12 @@ ghost use Rattle.loop_reader.specs.inner.Checks.{any_use, covers_name, first_in,
 ghost use Rattle.machine_data.specs.declared.limits.TheConstants.{MAX_DISTANCE};
 
 use crate::checks::given::Given;
-use crate::fault::{LoopFault, LoopFaultKind};
 use crate::names::found::{Target, Targets, declared_number, target_of};
 use crate::names::index::{Counts, Declared, Index};
 use loop_lines::{CellWords, Form, StatementWords, Subscript, Use, are_wide};
 use machine_data::OutOfMemory;
 use machine_data::limits::{MAX_ARRAYS, MAX_NAME, MAX_PARAMETERS, MAX_STATEMENTS};
+use reader_faults::{LoopFault, LoopFaultKind};
 
 /// Whether a name has more than 16 bytes.
 pub fn is_long(name: &[u8]) -> bool

@@ -1,8 +1,8 @@
 -- The canonical text of a loop has no fault.
 use Rattle.std.proofs.Common.{◌≡◌, ◌||◌, false, List, [], ◌∷◌, ◌++◌, map, Some, refl, ◌∙◌, ap}
 use Rattle.std.proofs.lemmas.Bool.{or_from}
-use Rattle.loop_reader.specs.declared.fault.LoopFault.{LoopFault}
-use Rattle.loop_reader.specs.declared.fault.LoopFaultKind.TheVariants.{Limit}
+use Rattle.reader_faults.specs.declared.loops.LoopFault.{LoopFault}
+use Rattle.reader_faults.specs.declared.loops.LoopFaultKind.TheVariants.{Limit}
 use Rattle.loop_lines.specs.Forms.{Form}
 use Rattle.loop_data.specs.Loops.{LoopData, IsLoop}
 use Rattle.loop_reader.specs.Meaning.{at_line, inside_faults, is_long, opening_faults, outside_faults, when}

@@ -4,8 +4,8 @@ use Rattle.std.specs.List.{list_any}
 use Rattle.std.proofs.lemmas.Bool.{or_from, le-ltb, lt-leb}
 use Rattle.std.proofs.lemmas.List.{length-map}
 use Rattle.std.proofs.lemmas.List.Elements.{recursion_from_All}
-use Rattle.loop_reader.specs.declared.fault.LoopFaultKind.{LoopFaultKind}
-use Rattle.loop_reader.specs.declared.fault.LoopFaultKind.TheVariants.{Limit, RepeatedName}
+use Rattle.reader_faults.specs.declared.loops.LoopFaultKind.{LoopFaultKind}
+use Rattle.reader_faults.specs.declared.loops.LoopFaultKind.TheVariants.{Limit, RepeatedName}
 use Rattle.loop_data.specs.declared.language.lists.Array.{Array}
 use Rattle.loop_data.specs.declared.language.lists.Param.{Param}
 use Rattle.loop_lines.specs.Forms.{Form}

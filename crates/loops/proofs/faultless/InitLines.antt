@@ -4,7 +4,7 @@ use Rattle.std.specs.List.{AllByRecursion, list_any}
 use Rattle.std.proofs.lemmas.Bool.{and_left, and_right, false_from_ne_true, ne_eqb, or_from}
 use Rattle.std.proofs.lemmas.List.Elements.{recursion_from_All}
 use Rattle.machine_data.specs.Opcodes.{same_word}
-use Rattle.loop_reader.specs.declared.fault.LoopFaultKind.TheVariants.{Limit, RepeatedName, UnknownName}
+use Rattle.reader_faults.specs.declared.loops.LoopFaultKind.TheVariants.{Limit, RepeatedName, UnknownName}
 use Rattle.loop_data.specs.declared.language.lists.Initial.{Initial}
 use Rattle.loop_lines.specs.Forms.{Form}
 use Rattle.loop_data.specs.Loops.{LoopData, IsLoop, GivesValue, IsBefore}

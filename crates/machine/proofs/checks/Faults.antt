@@ -6,8 +6,8 @@ use Rattle.std.specs.Int.{FitsUnsignedBits}
 use Rattle.std.specs.Result.{OkIff, result_unwrap_or}
 use Rattle.std.specs.List.{list_any}
 use Rattle.toml.specs.Data.{Data, string, integer, float, boolean, datetime, array, table, Items, Members, as_str, as_integer, as_array, as_table}
-use Rattle.machine.specs.declared.fault.MachineFault.{MachineFault}
-use Rattle.machine.specs.declared.fault.MachineFault.TheVariants.{MissingKey, WrongType, RepeatedUnit, Limit, Memory}
+use Rattle.reader_faults.specs.declared.machine.MachineFault.{MachineFault}
+use Rattle.reader_faults.specs.declared.machine.MachineFault.TheVariants.{MissingKey, WrongType, RepeatedUnit, Limit, Memory}
 use Rattle.machine_data.specs.Opcodes.{same_word}
 use Rattle.machine.specs.inner.Reads.{first_fault, ReadsPart}
 use Rattle.machine.specs.MachineText.{Faults, unless, within, is_unit_name, unit_faults, text_of, faults_of_number, number_in}

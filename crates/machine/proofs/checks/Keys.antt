@@ -5,7 +5,7 @@ use Rattle.toml.specs.Data.{Members}
 use Rattle.toml.specs.View.{members_view}
 use Rattle.toml.specs.declared.value.Value.{Value}
 use Rattle.toml.proofs.Views.{Entry}
-use Rattle.machine.specs.declared.fault.MachineFault.TheVariants.{UnknownKey}
+use Rattle.reader_faults.specs.declared.machine.MachineFault.TheVariants.{UnknownKey}
 use Rattle.machine_data.specs.Opcodes.{same_word}
 use Rattle.machine.specs.inner.Reads.{first_fault}
 use Rattle.machine.specs.MachineText.{unless, unknown_keys}

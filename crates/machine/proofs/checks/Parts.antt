@@ -2,8 +2,8 @@
 use Rattle.std.proofs.Common.{◌≡◌, ℕ, true, false, List, [], ◌∷◌, ◌++◌, length, map, Option, Some, None, codes, refl}
 use Rattle.std.specs.List.{flat_map}
 use Rattle.toml.specs.Data.{Data, string, integer, float, boolean, datetime, array, table, Items, Members, as_array, as_table, get_member}
-use Rattle.machine.specs.declared.fault.MachineFault.{MachineFault}
-use Rattle.machine.specs.declared.fault.MachineFault.TheVariants.{MissingKey, WrongType, Limit}
+use Rattle.reader_faults.specs.declared.machine.MachineFault.{MachineFault}
+use Rattle.reader_faults.specs.declared.machine.MachineFault.TheVariants.{MissingKey, WrongType, Limit}
 use Rattle.machine.specs.inner.Reads.{first_fault, faults_of_list, list_in, faults_of_table}
 use Rattle.machine.specs.MachineText.{within, data_of, faults_in_turn, unit_faults, text_of, faults_of_units, names_of, row_faults, row_in, alternative_faults, rows_of, faults_of_alternatives, alternatives_of, path_of, path_in, unknown_keys, faults_of_number, number_in, table_faults, operation_of, entries_of, entry_faults, faults_of_tables, keys_in}
 use Rattle.machine.proofs.checks.Faults.{array-at, table-at}

@@ -4,7 +4,7 @@ use Rattle.std.specs.List.{list_any, position_or_len}
 use Rattle.std.proofs.lemmas.Bool.{cases_lt, and_right}
 use Rattle.toml.specs.Data.{Data}
 use Rattle.machine_data.specs.declared.alternative.Row.{Row}
-use Rattle.machine.specs.declared.fault.MachineFault.TheVariants.{WrongType, UnknownUnit, RepeatedRow, Limit}
+use Rattle.reader_faults.specs.declared.machine.MachineFault.TheVariants.{WrongType, UnknownUnit, RepeatedRow, Limit}
 use Rattle.machine_data.specs.Opcodes.{same_word}
 use Rattle.machine.specs.inner.Reads.{first_fault}
 use Rattle.machine.specs.MachineText.{within, words_in, row_in, same_row, row_faults}

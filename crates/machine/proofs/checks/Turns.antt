@@ -5,7 +5,7 @@ use Rattle.std.proofs.lemmas.List.{append-nil, append_assoc, drop_more, drop_all
 use Rattle.toml.specs.Data.{Data}
 use Rattle.toml.specs.View.{view, items_view}
 use Rattle.toml.specs.declared.value.Value.{Value}
-use Rattle.machine.specs.declared.fault.MachineFault.{MachineFault}
+use Rattle.reader_faults.specs.declared.machine.MachineFault.{MachineFault}
 use Rattle.machine.specs.inner.Reads.{first_fault}
 use Rattle.machine.specs.MachineText.{Faults, data_of, faults_in_turn}
 use Rattle.machine.proofs.checks.Faults.{first-append}

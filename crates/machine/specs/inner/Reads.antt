@@ -1,9 +1,8 @@
 -- What a reader of a part of a machine text answers, beside the faults of that part.
-use Rattle.std.specs.Prelude.{ℕ, ◌≡◌, ◌≢◌, List, [], ◌∷◌, ◌++◌, length, Option, Some, None, Result, MatchResult}
+use Rattle.std.specs.Prelude.{ℕ, ◌≡◌, ◌≢◌, List, [], ◌∷◌, length, Option, Some, None, Result, MatchResult}
 use Rattle.toml.specs.Data.{Data, array, table}
-use Rattle.machine.specs.declared.fault.MachineFault.{MachineFault}
-use Rattle.machine.specs.declared.fault.MachineFault.TheVariants.{MissingKey, WrongType, Limit, Memory}
-use Rattle.machine.specs.Faults.{key_text}
+use Rattle.reader_faults.specs.declared.machine.MachineFault.{MachineFault}
+use Rattle.reader_faults.specs.declared.machine.MachineFault.TheVariants.{MissingKey, WrongType, Limit, Memory}
 use Rattle.machine.specs.MachineText.{Faults, unless, within, data_of}
 
 abbrev pub first_fault : Faults → Option MachineFault
@@ -13,10 +12,6 @@ first_fault (fault ∷ faults) = Some fault
 -- the part has no fault and its value is right, or the error is its first fault, unless memory ran out
 abbrev pub ReadsPart : {A : Type 0} → Faults → (A → Type 0) → Result A MachineFault → Type 0
 ReadsPart faults IsRight result = MatchResult result (λ value. (faults ≡ []) × IsRight value) (λ e. e ≢ Memory → first_fault faults ≡ Some e)
-
--- the error is this fault, unless memory ran out
-abbrev pub IsFault : MachineFault → MachineFault → Type 0
-IsFault e fault = e ≢ Memory → e ≡ fault
 
 -- a list of at least one and at most so many values, at this path
 unfoldable pub faults_of_list : List ℕ → List ℕ → ℕ → Option Data → Faults
@@ -33,8 +28,3 @@ unfoldable pub faults_of_table : List ℕ → Option Data → Faults
 faults_of_table path None = MissingKey path ∷ []
 faults_of_table path (Some (table keys)) = []
 faults_of_table path (Some _) = WrongType path ∷ []
-
--- what is printed of a fault before its key or name, and that, if there is one
-abbrev pub parts_text : List ℕ → Option (List ℕ) → List ℕ
-parts_text what None = what
-parts_text what (Some key) = what ++ key_text key

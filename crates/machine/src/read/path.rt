@@ -2,11 +2,11 @@
 
 ghost use Rattle.std.specs.Prelude.{◌≡◌, ◌++◌, IfOk, OnOk, string_bytes};
 ghost use Rattle.machine.specs.MachineText.{path_of, path_in};
-ghost use Rattle.machine.specs.inner.Reads.{IsFault};
-ghost use Rattle.machine.specs.declared.fault.MachineFault.TheVariants.{MissingKey, WrongType};
+ghost use Rattle.reader_faults.specs.MachineFaults.{IsFault};
+ghost use Rattle.reader_faults.specs.declared.machine.MachineFault.TheVariants.{MissingKey, WrongType};
 
-use crate::fault::{Key, MachineFault};
 use machine_data::OutOfMemory;
+use reader_faults::{Key, MachineFault};
 use std::alloc::Global;
 use std::marker::Model;
 

@@ -9,12 +9,12 @@ ghost use Rattle.toml.specs.View.{view};
 ghost use Rattle.machine.specs.inner.Reads.{ReadsPart};
 ghost use Rattle.machine.specs.MachineText.{words_in, faults_in_turn, row_faults, row_in, alternative_faults, rows_of, faults_of_alternatives, alternatives_of};
 
-use crate::fault::{Key, MachineFault};
 use crate::read::path::Path;
 use crate::read::read_list;
 use crate::read::units::is_unit_name;
 use machine_data::limits::{MAX_ALTERNATIVES, MAX_OFFSET, MAX_ROWS};
 use machine_data::{Alternative, Alternatives, Name, Row};
+use reader_faults::{Key, MachineFault};
 use smallvec::SmallVec;
 use std::alloc::Global;
 use toml::Value;

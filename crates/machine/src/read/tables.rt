@@ -4,17 +4,17 @@ ghost use Rattle.std.specs.Prelude.{◌≡◌, ◌≤◌, Some, None, is_some, l
 ghost use Rattle.std.specs.List.{flat_map};
 ghost use Rattle.toml.specs.Data.{table};
 ghost use Rattle.toml.specs.View.{view, table_view};
-ghost use Rattle.machine.specs.declared.fault.MachineFault.TheVariants.{UnknownOpcode};
+ghost use Rattle.reader_faults.specs.declared.machine.MachineFault.TheVariants.{UnknownOpcode};
 ghost use Rattle.machine.specs.inner.Reads.{ReadsPart};
 ghost use Rattle.machine_data.specs.Opcodes.{word_of, opcode_named};
 ghost use Rattle.machine.specs.MachineText.{unless, table_faults, operation_of, entries_of, entry_faults, faults_of_tables, tables_of};
 
-use crate::fault::{Key, MachineFault};
 use crate::read::path::Path;
 use crate::read::rows::read_alternatives;
 use crate::read::{check_keys, read_number, read_table};
 use machine_data::limits::MAX_LATENCY;
 use machine_data::{Name, OPCODES, Opcode, OpcodeTable, OutOfMemory};
+use reader_faults::{Key, MachineFault};
 use std::alloc::Global;
 use toml::{Table, Value};
 

@@ -8,11 +8,11 @@ ghost use Rattle.machine.specs.inner.Reads.{ReadsPart};
 ghost use Rattle.machine_data.specs.Machines.{is_unit_word, is_unit_byte};
 ghost use Rattle.machine.specs.MachineText.{is_unit_name, unit_faults, text_of, faults_in_turn, faults_of_units, names_of};
 
-use crate::fault::{Key, MachineFault};
 use crate::read::path::Path;
 use crate::read::{is_within, read_list};
 use machine_data::Name;
 use machine_data::limits::{MAX_NAME, MAX_UNITS};
+use reader_faults::{Key, MachineFault};
 use std::alloc::Global;
 use toml::Value;
 

@@ -1,7 +1,7 @@
 -- Where something stands that has no fault yet, as the place of a fault.
 use Rattle.std.specs.Prelude.{ℕ, List}
-use Rattle.machine.specs.declared.fault.MachineFault.{MachineFault}
-use Rattle.machine.specs.declared.fault.MachineFault.TheVariants as fault
+use Rattle.reader_faults.specs.declared.machine.MachineFault.{MachineFault}
+use Rattle.reader_faults.specs.declared.machine.MachineFault.TheVariants as fault
 use Rattle.machine_lint.specs.Spots.{key_of, limit_of}
 use Rattle.machine_lint.specs.declared.judge.Wrong.{Wrong}
 use Rattle.machine_lint.specs.declared.judge.Wrong.TheVariants as wrong

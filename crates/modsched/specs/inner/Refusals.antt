@@ -2,7 +2,7 @@
 use Rattle.std.specs.Global.{Global}
 use Rattle.std.specs.Prelude.{◌≡◌, ◌⊎◌, string_bytes, String, List, Some, option_map, Result, Ok, Err}
 use Rattle.exit_status.specs.Statuses.{refusal_of_loops, status_number}
-use Rattle.loop_reader.specs.declared.fault.LoopFault.{LoopFault}
+use Rattle.reader_faults.specs.declared.loops.LoopFault.{LoopFault}
 use Rattle.loop_data.specs.Loops.{LoopData}
 use Rattle.modsched.specs.Naming.{first_unknown}
 use Rattle.exit_status.specs.declared.status.Status.{Status}

@@ -2,7 +2,7 @@
 
 ghost use Rattle.std.specs.Prelude.{◌≡◌, ℕ, List, Result, IfOk};
 ghost use Rattle.file_faults.specs.Answers.{AnswersIn};
-ghost use Rattle.loop_reader.specs.declared.fault.LoopFault.{LoopFault};
+ghost use Rattle.reader_faults.specs.declared.loops.LoopFault.{LoopFault};
 ghost use Rattle.loop_data.specs.Loops.{LoopData};
 ghost use Rattle.machine.specs.Machines.{MachineData};
 ghost use Rattle.candidates.specs.Files.{ListsProblems, PreparesAndLists};

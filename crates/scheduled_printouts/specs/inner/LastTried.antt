@@ -1,10 +1,10 @@
 -- What the last interval that is tried comes to.
 use Rattle.std.specs.Prelude.{ℕ, Bool, true, false}
 use Rattle.loop_schedules.specs.Problems.{ProblemData}
-use Rattle.candidates.specs.declared.evidence.Tried.{Tried}
-use Rattle.candidates.specs.declared.evidence.Tried.TheVariants.{Met, Failed}
 use Rattle.candidates.specs.Choices.{IsLeastMet, IsUnmet}
-use Rattle.candidates.specs.Reasons.{IsMet, reason_cause}
+use Rattle.told_intervals.specs.declared.evidence.Tried.{Tried}
+use Rattle.told_intervals.specs.declared.evidence.Tried.TheVariants.{Met, Failed}
+use Rattle.told_intervals.specs.Reasons.{IsMet, reason_cause}
 
 -- the least interval that gives a kernel gives this one, or none gives one and this is why the last one does not
 abbrev pub IsLastTried : ProblemData → Tried → Type 0

@@ -6,11 +6,11 @@ ghost use Rattle.machine_data.specs.declared.limits.TheConstants.{MAX_CEILING};
 ghost use Rattle.loop_listings.specs.Listings.{IsRow};
 ghost use Rattle.loop_listings.specs.Texts.{listing_text_of, row_text};
 ghost use Rattle.loop_listings.specs.declared.listings.Row as row;
-ghost use Rattle.printouts.specs.Schedule.{are_met};
+ghost use Rattle.listing_printouts.specs.Met.{are_met};
 
 use candidates::{Listing, Row, write_row, write_version};
+use listing_printouts::{are_met, listing_printout, push_counts};
 use machine::OutOfMemory;
-use printouts::{are_met, listing_printout, push_counts};
 use shared_jobs::{Jobs, parts_of, shared};
 use std::alloc::Global;
 use std::thread::Threads;

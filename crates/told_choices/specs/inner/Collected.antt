@@ -4,8 +4,8 @@ use Rattle.std.specs.List.{AllZip, list_any, range_with_len}
 use Rattle.loop_schedules.specs.Problems.{ProblemData, mii_of}
 use Rattle.loop_schedules.specs.Schedules.{ScheduleData}
 use Rattle.registers.specs.declared.lifetime.Lifetime.{Lifetime}
-use Rattle.candidates.specs.declared.evidence.Reason.TheVariants as reason
-use Rattle.candidates.specs.Reasons.{FailsFor}
+use Rattle.told_intervals.specs.declared.evidence.Reason.TheVariants as reason
+use Rattle.told_intervals.specs.Reasons.{FailsFor}
 use Rattle.told_choices.specs.declared.failures.Lack.{Lack}
 use Rattle.told_choices.specs.declared.failures.Lack.TheVariants.{Never, Once, Again}
 use Rattle.told_choices.specs.declared.why.Why.{Why}

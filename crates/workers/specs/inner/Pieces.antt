@@ -7,8 +7,9 @@ use Rattle.std.specs.Global.{Global}
 use Rattle.std.specs.List.{All, AllPairs}
 use Rattle.std.specs.Ordering.{nat_cmp}
 use Rattle.loop_data.specs.Loops.{IsLoop, LoopData}
-use Rattle.loop_reader.specs.declared.fault.LoopFault.{LoopFault}
-use Rattle.loop_reader.specs.Meaning.{LoopsAnswer, loops_in, seen}
+use Rattle.reader_faults.specs.declared.loops.LoopFault.{LoopFault}
+use Rattle.loop_reader.specs.Meaning.{loops_in, seen}
+use Rattle.reader_faults.specs.LoopFaults.{LoopsAnswer}
 use Rattle.workers.specs.Apart.{EndsLine}
 
 -- the pieces one after another are the text, and each of them that another follows ends its last line

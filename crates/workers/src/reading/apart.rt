@@ -4,7 +4,8 @@ ghost use Rattle.std.specs.Prelude.{◌≡◌, ◌<◌, ◌≤◌, ℕ, List, If
 ghost use Rattle.std.specs.Borrow.{Bor};
 ghost use Rattle.std.specs.List.{All, AllZip};
 ghost use Rattle.loop_data.specs.Loops.{IsLoop};
-ghost use Rattle.loop_reader.specs.Meaning.{LoopsAnswer, loops_in, seen};
+ghost use Rattle.loop_reader.specs.Meaning.{loops_in, seen};
+ghost use Rattle.reader_faults.specs.LoopFaults.{LoopsAnswer};
 ghost use Rattle.workers.specs.inner.Pieces.{IsRead, names_of};
 
 use crate::reading::cutting::{piece_count, pieces_of};

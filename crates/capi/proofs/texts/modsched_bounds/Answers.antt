@@ -1,7 +1,7 @@
 use Rattle.machine.specs.MachineText.{machine_of}
 use Rattle.loop_reader.specs.Meaning.{loops_in}
 use Rattle.file_faults.specs.Answers.{AnswersFile}
-use Rattle.printouts.specs.Bounds.{IsBoundsText}
+use Rattle.listing_printouts.specs.Bounds.{IsBoundsText}
 use Rattle.capi.proofs.Texting.{brought}
 use Rattle.capi.proofs.texts.modsched_bounds.Goals as goal
 

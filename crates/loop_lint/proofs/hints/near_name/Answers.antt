@@ -4,7 +4,7 @@ use Rattle.std.specs.Borrow.{Bor}
 use Rattle.near_names.specs.Nearest.{nearest}
 use Rattle.loop_lines.specs.Forms.{Form}
 use Rattle.loop_lines.specs.Words.{words_of}
-use Rattle.loop_reader.specs.declared.fault.LoopFaultKind.TheVariants.{UnknownName}
+use Rattle.reader_faults.specs.declared.loops.LoopFaultKind.TheVariants.{UnknownName}
 use Rattle.loop_lint.specs.Hints.{candidates, hint_for, name_hint, name_in}
 use Rattle.loop_lint.specs.declared.hints.Wanted.{Wanted}
 use Rattle.loop_lint.specs.inner.Tables.{IsTable}

@@ -1,6 +1,6 @@
 use Rattle.std.proofs.Common.{◌∙◌, ◌++◌, ap, refl}
 use Rattle.loop_lines.specs.Words.{words_of}
-use Rattle.loop_reader.specs.declared.fault.LoopFaultKind.TheVariants.{Limit, RepeatedName, UseBeforeDefinition}
+use Rattle.reader_faults.specs.declared.loops.LoopFaultKind.TheVariants.{Limit, RepeatedName, UseBeforeDefinition}
 use Rattle.loop_lint.specs.Hints.{hint_of}
 use Rattle.loop_lines.specs.Columns.{placed_words}
 use Rattle.loop_lint.proofs.Founds.{joined, told_plain}

@@ -1,6 +1,6 @@
 use Rattle.std.proofs.Common.{◌∙◌, ◌++◌, ◌∷◌, [], ap, sym}
 use Rattle.loop_lines.specs.Words.{words_of}
-use Rattle.loop_reader.specs.declared.fault.LoopFaultKind.TheVariants.{UnknownName}
+use Rattle.reader_faults.specs.declared.loops.LoopFaultKind.TheVariants.{UnknownName}
 use Rattle.loop_lint.specs.Hints.{hint_for, hint_of}
 use Rattle.loop_lint.specs.Lints.{fault_at}
 use Rattle.loop_lines.specs.Columns.{placed_words}

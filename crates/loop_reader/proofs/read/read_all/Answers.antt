@@ -3,11 +3,12 @@ use Rattle.std.proofs.lemmas.List.{length-map, length_push}
 use Rattle.std.proofs.lemmas.List.Elements.{All-nil, All-push}
 use Rattle.std.specs.List.{All}
 use Rattle.std.specs.Result.{IsErrAnd}
-use Rattle.loop_reader.specs.declared.fault.LoopFaultKind.{LoopFaultKind}
+use Rattle.reader_faults.specs.declared.loops.LoopFaultKind.{LoopFaultKind}
 use Rattle.loop_lines.specs.Words.{words_of}
 use Rattle.loop_lines.specs.Forms.{LoopLine, line_form}
 use Rattle.loop_data.specs.Loops.{LoopData, IsLoop}
-use Rattle.loop_reader.specs.Meaning.{forms_of, whole, loops_in, loop_of, AnswersFault}
+use Rattle.loop_reader.specs.Meaning.{forms_of, whole, loops_in, loop_of}
+use Rattle.reader_faults.specs.LoopFaults.{AnswersFault}
 use Rattle.loop_lines.specs.Parsed.{form_seen}
 use Rattle.loop_reader.specs.inner.Texts.{HasNames}
 use Rattle.loop_reader.proofs.blocks.Reading.{forms-next, forms-none}

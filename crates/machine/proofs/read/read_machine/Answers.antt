@@ -1,7 +1,7 @@
 use Rattle.std.proofs.Common.{[], ◌∷◌, Err, codes, sym}
 use Rattle.std.proofs.lemmas.Bool.{false≢true}
 use Rattle.toml.specs.Data.{no_members}
-use Rattle.machine.specs.declared.fault.MachineFault.TheVariants.{Limit}
+use Rattle.reader_faults.specs.declared.machine.MachineFault.TheVariants.{Limit}
 use Rattle.machine.specs.MachineText.{tree_machine}
 use Rattle.machine.proofs.Whole.{MachineAnswer-from_Reads, text-long, text-not_utf8, text-not_toml, text-tree}
 use Rattle.machine.proofs.read.read_machine.Goals as goal

@@ -1,7 +1,7 @@
 use Rattle.std.proofs.Common.{[], ◌∷◌, ap, sym, ◌∙◌, arith}
 use Rattle.std.proofs.lemmas.Bool.{false≢true}
 use Rattle.std.proofs.lemmas.Result.{IfOk-weaker}
-use Rattle.machine.specs.declared.fault.MachineFault.TheVariants.{Limit}
+use Rattle.reader_faults.specs.declared.machine.MachineFault.TheVariants.{Limit}
 use Rattle.machine_lint.specs.Places.{nowhere}
 use Rattle.machine_lint.specs.declared.place.MachineLint.{MachineLint}
 use Rattle.machine_lint.proofs.Told.{IsRight, right-long, right-not_utf8, right-not_toml, right-tree}

@@ -1,7 +1,7 @@
 use Rattle.std.proofs.Common.{◌≡◌, ◌+◌, ◌≤◌, ap, ap₂, sym, ◌∙◌, subst, arith}
 use Rattle.std.proofs.lemmas.Result.{IfOk-weaker}
 use Rattle.loop_schedules.specs.Problems.{ProblemData, mii_of}
-use Rattle.candidates.specs.Reasons.{IsTried, reason_cause}
+use Rattle.told_intervals.specs.Reasons.{IsTried, reason_cause}
 use Rattle.scheduled_printouts.proofs.Trying.{failed-of, last-of, met-of}
 use Rattle.scheduled_printouts.proofs.tries.last_tried.Goals as goal
 

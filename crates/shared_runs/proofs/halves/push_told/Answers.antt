@@ -5,6 +5,9 @@ use Rattle.candidates.specs.Choices.{IsChoice}
 use Rattle.printouts.proofs.Runnable.{runnable}
 use Rattle.shared_runs.proofs.halves.push_told.Goals as goal
 
+pub push_choice-requires-clause-runs : goal.push_choice-requires-clause-runs
+push_choice-requires-clause-runs g c = runnable c.args.prepared.now c.args.listed.now.choice c.requires.choice
+
 pub push_halves-requires-clause-arrays : goal.push_halves-requires-clause-arrays
 push_halves-requires-clause-arrays g c = λ κs outlives.
     let problem = c.args.prepared.now in

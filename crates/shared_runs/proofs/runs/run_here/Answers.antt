@@ -1,10 +1,14 @@
 use Rattle.std.proofs.Common.{◌≡◌}
 use Rattle.std.specs.List.{flat_map}
-use Rattle.printouts.specs.Run.{told_lines}
-use Rattle.printouts.proofs.Told.{loops_of}
+use Rattle.listing_printouts.specs.Runs.{told_lines}
+use Rattle.printouts.proofs.Runnable.{listed_runnable}
+use Rattle.listing_printouts.proofs.Problems.{loops_of}
 use Rattle.text_parts.specs.Parts.{text_of}
 use Rattle.shared_runs.proofs.Joining.{listed_long, told_joined}
 use Rattle.shared_runs.proofs.runs.run_here.Goals as goal
+
+pub run_printout-requires : goal.run_printout-requires
+run_printout-requires g c = listed_runnable c.args.listing.now.ceiling c.args.prepared.now c.args.listing.now c.requires
 
 pub returns-clause-text : goal.returns-clause-text
 returns-clause-text g c =

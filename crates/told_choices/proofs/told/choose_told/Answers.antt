@@ -1,6 +1,6 @@
 use Rattle.std.proofs.Common.{◌+◌, ◌≤◌, length, sym, ap, ◌∙◌, subst, arith}
 use Rattle.loop_schedules.specs.Problems.{ProblemData, mii_of}
-use Rattle.candidates.specs.Reasons.{FailsFor, IsMet, IsTried}
+use Rattle.told_intervals.specs.Reasons.{FailsFor, IsMet, IsTried}
 use Rattle.told_choices.proofs.Telling.{all-of, told-met, told-more, told-none, told-unmet}
 use Rattle.told_choices.proofs.told.choose_told.Goals as goal
 

@@ -4,7 +4,8 @@ use Rattle.loop_listings.specs.Texts.{counts_line}
 use Rattle.file_faults.specs.Answers.{AnswersIn}
 use Rattle.candidates.specs.Files.{PreparesAndLists}
 use Rattle.printouts.specs.Run.{IsRunText, told_lines}
-use Rattle.printouts.proofs.Told.{loops_of, told_run}
+use Rattle.listing_printouts.proofs.Problems.{loops_of}
+use Rattle.printouts.proofs.Told.{told_run}
 use Rattle.side_by_side.proofs.Answered.{right_more}
 use Rattle.modsched.proofs.commands.searches.run_text.Goals as goal
 

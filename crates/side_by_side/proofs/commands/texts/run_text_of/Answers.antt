@@ -2,7 +2,8 @@ use Rattle.std.proofs.Common.{◌++◌, ◌∙◌, ap, of_calls, rules}
 use Rattle.loop_reader.specs.Meaning.{loops_in}
 use Rattle.loop_listings.specs.Texts.{counts_line}
 use Rattle.printouts.specs.Run.{IsRunText, told_lines}
-use Rattle.printouts.proofs.Told.{loops_of, told_run}
+use Rattle.listing_printouts.proofs.Problems.{loops_of}
+use Rattle.printouts.proofs.Told.{told_run}
 use Rattle.side_by_side.proofs.Texts.{JoinsRuns, few_told, run_is, shown_runs, written_apart, written_whole}
 use Rattle.side_by_side.proofs.commands.texts.run_text_of.Goals as goal
 

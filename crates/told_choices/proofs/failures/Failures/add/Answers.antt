@@ -1,6 +1,6 @@
 use Rattle.std.proofs.Common.{◌+◌, List, length, sym, subst}
 use Rattle.loop_schedules.specs.Problems.{mii_of}
-use Rattle.candidates.specs.Reasons.{FailsFor}
+use Rattle.told_intervals.specs.Reasons.{FailsFor}
 use Rattle.told_choices.specs.declared.why.Why.{Why}
 use Rattle.told_choices.specs.inner.Collected.{AreFailures}
 use Rattle.told_choices.proofs.Collecting.{attempt-more}

@@ -1,0 +1,2 @@
+pub mod KernelLines
+pub mod Problems

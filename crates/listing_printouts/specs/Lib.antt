@@ -1,0 +1,4 @@
+pub mod Bounds
+pub mod Met
+pub mod Runnable
+pub mod Runs

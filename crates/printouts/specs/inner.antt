@@ -1,2 +1,0 @@
--- What the clauses of private functions cite.
-pub mod Runnable

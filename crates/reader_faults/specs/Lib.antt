@@ -1,0 +1,3 @@
+pub mod LoopFaults
+pub mod MachineFaults
+pub mod inner
