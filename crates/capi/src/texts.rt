@@ -9,7 +9,7 @@ ghost use Rattle.listing_printouts.specs.Bounds.{IsBoundsText};
 ghost use Rattle.explain_printouts.specs.Explain.{IsExplainText};
 ghost use Rattle.graph_printouts.specs.Graphs.{IsDotText, IsEdgesText};
 ghost use Rattle.lines_of_runs.specs.Plain.{IsPlainText};
-ghost use Rattle.printouts.specs.Run.{IsRunText};
+ghost use Rattle.run_printouts.specs.Run.{IsRunText};
 ghost use Rattle.json_printouts.specs.Documents.{IsListingDocument};
 ghost use Rattle.printouts.specs.Schedule.{IsListingText};
 ghost use Rattle.capi.specs.Texts.{AnswersTexts, HandsBrought, run_misfit, search_misfit, trip_misfit};
@@ -19,7 +19,8 @@ use crate::tasks::{drawn, edged, explained};
 use crate::telling::{Told, tell, tell_misfit};
 use json_printouts::json_alone;
 use machine_data::limits::{MAX_CEILING, MAX_RATIO};
-use printouts::{bounds_alone, plain_alone, run_alone, schedule_alone};
+use printouts::{bounds_alone, schedule_alone};
+use run_printouts::{plain_alone, run_alone};
 use settings::{TRIP_LIMIT, Trip};
 use std::alloc::Global;
 

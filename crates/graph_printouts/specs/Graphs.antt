@@ -4,7 +4,7 @@ use Rattle.machine.specs.Machines.{MachineData}
 use Rattle.loop_data.specs.Loops.{LoopData}
 use Rattle.graph_text.specs.Drawings.{AreDotParts}
 use Rattle.graph_text.specs.Edges.{AreEdgesParts}
-use Rattle.lines_of_runs.specs.Plain.{last_line}
+use Rattle.listing_printouts.specs.Last.{last_line}
 use Rattle.written.specs.Written.{Written}
 
 -- the dependences of each loop, and then `loops A`. No loop is unmet, since none is scheduled

@@ -7,7 +7,7 @@ ghost use Rattle.graph_printouts.specs.Graphs.{IsDotText, IsEdgesText};
 
 use file_faults::FileFault;
 use graph_text::{dot_graphs, edges_lines};
-use lines_of_runs::push_last;
+use listing_printouts::push_last;
 use loop_data::Loop;
 use machine::Machine;
 use std::alloc::Global;

@@ -7,6 +7,7 @@ use Rattle.loop_data.specs.declared.language.lists.Array.{Array}
 use Rattle.loop_data.specs.Loops.{LoopData}
 use Rattle.loop_data.specs.Run.{MemoryData, cell_of, opening_of, plain}
 use Rattle.loop_data.specs.NamedParts.{value_name}
+use Rattle.listing_printouts.specs.Last.{last_line}
 use Rattle.written.specs.Written.{Written}
 
 -- lines, each with a line feed
@@ -73,10 +74,6 @@ run_lines loop opening after = (run_line loop.name after.trip ++ array_lines loo
 -- the lines of the plain run of a loop
 unfoldable pub plain_lines : ℕ → LoopData → List ℕ
 plain_lines trip loop = run_lines loop (opening_of loop trip) (plain loop (opening_of loop trip))
-
--- `loops A`: the last line of what several commands write
-abbrev pub last_line : ℕ → List ℕ
-last_line loops = ended (told (codes "loops ") loops)
 
 -- the lines of all loops, and then `loops A`
 abbrev pub plain_text : ℕ → List LoopData → List ℕ

@@ -5,9 +5,9 @@ ghost use Rattle.std.specs.List.{flat_map};
 ghost use Rattle.file_faults.specs.Answers.{AnswersOn};
 ghost use Rattle.lines_of_runs.specs.Plain.{IsPlainText, plain_lines};
 
-use crate::last::push_last;
 use crate::runs::{push_run, within_limits};
 use file_faults::FileFault;
+use listing_printouts::push_last;
 use loop_data::Loop;
 use machine_data::OutOfMemory;
 use plain_runs::run_plain;

@@ -3,7 +3,7 @@ use Rattle.std.specs.Prelude.{◌≡◌, ℕ, true, List, ◌++◌, length}
 use Rattle.machine_data.specs.Machines.{MachineData}
 use Rattle.loop_data.specs.Loops.{LoopData}
 pub use Rattle.lower_bounds.specs.Bounds.{AreBounds, IsLines, bounds_line}
-use Rattle.lines_of_runs.specs.Plain.{last_line}
+use Rattle.listing_printouts.specs.Last.{last_line}
 use Rattle.written.specs.Written.{Written}
 
 -- a line for each loop, and then `loops A`. No loop is unmet, since none is scheduled

@@ -1,4 +1,3 @@
 pub mod Bounds
+pub mod Last
 pub mod Met
-pub mod Runnable
-pub mod Runs

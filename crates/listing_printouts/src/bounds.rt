@@ -4,8 +4,8 @@ ghost use Rattle.graph.specs.Units.{first_lacking};
 ghost use Rattle.file_faults.specs.Answers.{AnswersOn};
 ghost use Rattle.listing_printouts.specs.Bounds.{IsBoundsText};
 
+use crate::last::push_last;
 use file_faults::FileFault;
-use lines_of_runs::push_last;
 use loop_data::Loop;
 use lower_bounds::bounds_lines;
 use machine_data::Machine;

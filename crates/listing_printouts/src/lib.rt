@@ -1,13 +1,12 @@
-//! What `schedule` and `run` print of a listing, whoever made it, and what `bounds` prints of loops on a machine. It searches for nothing, allots no
-//! registers and makes no kernel. `printouts` has what these print of texts.
+//! What `schedule` prints of a listing, whoever made it, what `bounds` prints of loops on a machine, and the last lines of commands. It searches for
+//! nothing, allots no registers, makes no kernel and runs none. `printouts` has what `schedule` and `bounds` print of texts, and `lines_of_runs` what `run` prints of
+//! a listing.
 #![tactic(auto)]
 
 mod bounds;
-mod laws;
+mod last;
 mod listings;
-mod running;
 
 pub use bounds::bounds_text;
-pub use laws::kernels_tell_plain_lines;
-pub use listings::{are_met, listing_printout};
-pub use running::{push_choice, push_counts, push_runs, run_printout};
+pub use last::push_last;
+pub use listings::{are_met, listing_printout, push_counts};

@@ -31,7 +31,7 @@ use Rattle.graph_printouts.specs.Graphs.{IsDotText, IsEdgesText}
 use Rattle.printouts.specs.Outcomes.{Outcome}
 use Rattle.written.specs.Written.{Written}
 use Rattle.lines_of_runs.specs.Plain.{IsPlainText}
-use Rattle.printouts.specs.Run.{IsRunText}
+use Rattle.run_printouts.specs.Run.{IsRunText}
 use Rattle.json_printouts.specs.Documents.{IsListingDocument}
 use Rattle.printouts.specs.Schedule.{IsListingText}
 use Rattle.scheduled_printouts.specs.Graphs.{AreScheduledGraphs}

@@ -8,7 +8,7 @@ pub use Rattle.graph_printouts.specs.Graphs
 pub use Rattle.memory_devices.specs.Faulty
 pub use Rattle.printouts.specs.Outcomes
 pub use Rattle.lines_of_runs.specs.Plain
-pub use Rattle.printouts.specs.Run
+pub use Rattle.run_printouts.specs.Run
 pub use Rattle.printouts.specs.Schedule
 pub use Rattle.lint_text.specs.Printout
 pub use Rattle.variants.specs.Texts as VaryTexts

@@ -12,8 +12,8 @@ pub use devices::{
     write_text,
 };
 pub use exit_status::{Line, Status, Verdict, finish, show};
+pub use lines_of_runs::kernels_tell_plain_lines;
 pub use memory_devices::{Bytes, FaultyInput, FaultyOutput, TakenBytes};
-pub use printouts::kernels_tell_plain_lines;
 pub use settings::{OutOfRange, Settings};
 pub use subcommand::engine;
 

@@ -9,8 +9,8 @@ use Rattle.loop_listings.specs.declared.choices.Choice.{Choice}
 use Rattle.candidates.specs.Choices.{IsChoice}
 use Rattle.loop_listings.specs.Listings.{ListingData, listing_rows}
 use Rattle.candidates.specs.Files.{ListsProblems}
-use Rattle.listing_printouts.specs.Runs.{choice_lines, told_lines}
-use Rattle.listing_printouts.proofs.Problems.{loops_of, told_problems}
+use Rattle.lines_of_runs.specs.Runs.{choice_lines, told_lines}
+use Rattle.lines_of_runs.proofs.Problems.{loops_of, told_problems}
 use Rattle.text_parts.specs.declared.part.Part.{Part}
 use Rattle.text_parts.specs.Parts.{text_of}
 use Rattle.text_parts.proofs.Pieces.{flat_same}

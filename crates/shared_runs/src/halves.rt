@@ -6,13 +6,12 @@ ghost use Rattle.candidates.specs.Choices.{IsChoice};
 ghost use Rattle.loop_listings.specs.Listings.{IsRow};
 ghost use Rattle.kernel.specs.Overlapped.{overlapped};
 ghost use Rattle.loop_data.specs.Run.{opening_of};
-ghost use Rattle.listing_printouts.specs.Runs.{choice_lines, kernel_lines};
+ghost use Rattle.lines_of_runs.specs.Runs.{choice_lines, kernel_lines};
 
 use candidates::{Choice, Row};
 use kernel::Kernel;
 use kernel_runs::{Guess, simulate_in_halves};
-use lines_of_runs::{push_run, within_limits};
-use listing_printouts::push_choice;
+use lines_of_runs::{push_choice, push_run, within_limits};
 use loop_data::{Initial, Loop, Memory, Operand, opening};
 use loop_schedules::Prepared;
 use machine_data::OutOfMemory;

@@ -6,7 +6,7 @@ ghost use Rattle.loop_schedules.specs.Problems.{ProblemData};
 ghost use Rattle.loop_listings.specs.Texts.{counts_line};
 ghost use Rattle.loop_listings.specs.declared.listings.Row as row;
 ghost use Rattle.candidates.specs.Files.{ListsProblems};
-ghost use Rattle.listing_printouts.specs.Runs.{choice_lines, told_lines};
+ghost use Rattle.lines_of_runs.specs.Runs.{choice_lines, told_lines};
 ghost use Rattle.listing_printouts.specs.Met.{are_met};
 ghost use Rattle.text_parts.specs.Parts.{text_of};
 
@@ -14,7 +14,8 @@ use crate::halves::push_told;
 use crate::room::part_memory;
 use crate::work::{LARGE, run_work};
 use candidates::{Listing, Row};
-use listing_printouts::{are_met, push_counts, run_printout};
+use lines_of_runs::run_printout;
+use listing_printouts::{are_met, push_counts};
 use loop_data::Loop;
 use loop_schedules::Prepared;
 use machine_data::OutOfMemory;

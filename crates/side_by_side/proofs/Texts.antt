@@ -25,10 +25,11 @@ use Rattle.candidates.specs.Files.{ArePrepared, ListsProblems}
 use Rattle.candidates.proofs.Listed.{prepared_long}
 use Rattle.written.specs.Written.{Written}
 use Rattle.writing.specs.Words.{last_line}
-use Rattle.printouts.specs.Run.{IsRunText, choice_lines, told_lines}
+use Rattle.run_printouts.specs.Run.{IsRunText, choice_lines, told_lines}
 use Rattle.printouts.specs.Schedule.{IsListingText, are_met}
-use Rattle.listing_printouts.proofs.Problems.{loops_of}
-use Rattle.printouts.proofs.Told.{told_listing, told_run}
+use Rattle.lines_of_runs.proofs.Problems.{loops_of}
+use Rattle.printouts.proofs.Told.{told_listing}
+use Rattle.run_printouts.proofs.Told.{told_run}
 use Rattle.workers.specs.Told.{AreToldApart, Group, IsPart, IsTold, Teller, choices_of, problems_of}
 use Rattle.workers.specs.declared.pieces.Told.{Told}
 use Rattle.workers.specs.declared.pieces.Told.TheVariants.{Apart, Whole}

@@ -6,7 +6,7 @@ ghost use Rattle.reader_faults.specs.declared.loops.LoopFault.{LoopFault};
 ghost use Rattle.loop_data.specs.Loops.{LoopData};
 ghost use Rattle.machine.specs.Machines.{MachineData};
 ghost use Rattle.candidates.specs.Files.{ListsProblems, PreparesAndLists};
-ghost use Rattle.printouts.specs.Run.{IsRunText};
+ghost use Rattle.run_printouts.specs.Run.{IsRunText};
 ghost use Rattle.json_printouts.specs.Documents.{IsListingDocument};
 ghost use Rattle.printouts.specs.Schedule.{IsListingText};
 

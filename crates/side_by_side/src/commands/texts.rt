@@ -8,7 +8,7 @@ ghost use Rattle.file_faults.specs.Answers.{AnswersIn};
 ghost use Rattle.loop_schedules.specs.Problems.{ProblemData};
 ghost use Rattle.loop_listings.specs.Texts.{row_text};
 ghost use Rattle.candidates.specs.Files.{ListsProblems};
-ghost use Rattle.printouts.specs.Run.{IsRunText, told_lines};
+ghost use Rattle.run_printouts.specs.Run.{IsRunText, told_lines};
 ghost use Rattle.printouts.specs.Schedule.{IsListingText};
 ghost use Rattle.side_by_side.specs.inner.Told.{IsCounted, last_told, number_failed_told, number_told, outs_of, text_of_told, version_if};
 
@@ -16,7 +16,7 @@ use crate::commands::listings::{ROOM, listing_printout_on};
 use crate::parts::told::{ToldLoops, some_outs, told_apart, told_together};
 use candidates::{Listing, Row, write_row};
 use file_faults::FileFault;
-use listing_printouts::push_runs;
+use lines_of_runs::push_runs;
 use loop_schedules::Prepared;
 use machine::{Machine, OutOfMemory};
 use settings::{Settings, Trip};

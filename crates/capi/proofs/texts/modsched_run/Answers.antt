@@ -2,7 +2,7 @@ use Rattle.std.proofs.Common.{sym, ◌∙◌, inr}
 use Rattle.machine.specs.MachineText.{machine_of}
 use Rattle.loop_reader.specs.Meaning.{loops_in}
 use Rattle.file_faults.specs.Answers.{AnswersFile}
-use Rattle.printouts.specs.Run.{IsRunText}
+use Rattle.run_printouts.specs.Run.{IsRunText}
 use Rattle.capi.proofs.Texting.{brought}
 use Rattle.capi.proofs.texts.modsched_run.Goals as goal
 

@@ -4,7 +4,7 @@ use Rattle.graph.specs.Units.{first_lacking}
 use Rattle.command_line.specs.declared.command.Search as search
 use Rattle.file_faults.specs.Answers.{AnswersOn}
 use Rattle.candidates.specs.Files.{PreparesAndLists}
-use Rattle.printouts.specs.Run.{IsRunText}
+use Rattle.run_printouts.specs.Run.{IsRunText}
 use Rattle.json_printouts.specs.Documents.{IsListingDocument}
 use Rattle.printouts.specs.Schedule.{IsListingText}
 use Rattle.modsched.specs.Engine.{IsSearchText}

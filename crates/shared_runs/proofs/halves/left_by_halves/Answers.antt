@@ -1,6 +1,6 @@
 use Rattle.std.proofs.Common.{◌≡◌, ◌∙◌, length, sym, ap}
 use Rattle.loop_data.specs.Run.{MemoryData, opening_of}
-use Rattle.listing_printouts.proofs.KernelLines.{opening_fits}
+use Rattle.lines_of_runs.proofs.KernelLines.{opening_fits}
 use Rattle.lines_of_runs.proofs.Shapes.{opening_trip}
 use Rattle.shared_runs.proofs.halves.left_by_halves.Goals as goal
 

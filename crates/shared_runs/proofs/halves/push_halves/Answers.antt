@@ -1,8 +1,8 @@
 use Rattle.std.proofs.Common.{◌≡◌, ◌∙◌, ◌++◌, ℕ, List, OnOk, sym, subst, ap, ap₂}
 use Rattle.loop_data.specs.Run.{HasShapeOf, MemoryData, opening_of}
 use Rattle.lines_of_runs.specs.Plain.{run_lines}
-use Rattle.listing_printouts.specs.Runs.{kernel_lines}
-use Rattle.listing_printouts.proofs.KernelLines.{left_shape, left_trip}
+use Rattle.lines_of_runs.specs.Runs.{kernel_lines}
+use Rattle.lines_of_runs.proofs.KernelLines.{left_shape, left_trip}
 use Rattle.shared_runs.proofs.halves.push_halves.Goals as goal
 
 pub push_run-requires : goal.push_run-requires

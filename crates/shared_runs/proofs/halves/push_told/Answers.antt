@@ -2,7 +2,7 @@ use Rattle.std.proofs.Common.{◌∙◌, length, sym, subst, ap}
 use Rattle.loop_data.specs.Loops.{LoopData}
 use Rattle.loop_listings.specs.declared.choices.Choice.TheVariants.{Met}
 use Rattle.candidates.specs.Choices.{IsChoice}
-use Rattle.printouts.proofs.Runnable.{runnable}
+use Rattle.run_printouts.proofs.Runnable.{runnable}
 use Rattle.shared_runs.proofs.halves.push_told.Goals as goal
 
 pub push_choice-requires-clause-runs : goal.push_choice-requires-clause-runs

@@ -1,7 +1,7 @@
 use Rattle.std.proofs.Common.{◌≡◌, ◌∙◌, ◌++◌, [], List, ℕ, length, subst, ap, ap₂, IfSome}
 use Rattle.std.specs.List.{flat_map}
 use Rattle.loop_data.specs.Loops.{LoopData}
-use Rattle.lines_of_runs.specs.Plain.{last_line}
+use Rattle.listing_printouts.specs.Last.{last_line}
 use Rattle.lines_of_runs.specs.Plain.{plain_lines}
 use Rattle.text_parts.specs.Parted.{joined_text}
 use Rattle.text_parts.proofs.Pieces.{flat_same}

@@ -1,7 +1,7 @@
 use Rattle.std.proofs.Common.{◌≡◌, ◌<◌, ℕ, length, get_or}
 use Rattle.loop_schedules.specs.Problems.{ProblemData}
 use Rattle.loop_listings.specs.declared.listings.Row as row
-use Rattle.listing_printouts.specs.Runs.{choice_lines}
+use Rattle.lines_of_runs.specs.Runs.{choice_lines}
 use Rattle.text_parts.specs.declared.part.Part.{Part}
 use Rattle.shared_runs.proofs.runs.parts_in_order.Given as goal
 

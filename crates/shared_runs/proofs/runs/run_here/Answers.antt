@@ -1,8 +1,8 @@
 use Rattle.std.proofs.Common.{◌≡◌}
 use Rattle.std.specs.List.{flat_map}
-use Rattle.listing_printouts.specs.Runs.{told_lines}
-use Rattle.printouts.proofs.Runnable.{listed_runnable}
-use Rattle.listing_printouts.proofs.Problems.{loops_of}
+use Rattle.lines_of_runs.specs.Runs.{told_lines}
+use Rattle.run_printouts.proofs.Runnable.{listed_runnable}
+use Rattle.lines_of_runs.proofs.Problems.{loops_of}
 use Rattle.text_parts.specs.Parts.{text_of}
 use Rattle.shared_runs.proofs.Joining.{listed_long, told_joined}
 use Rattle.shared_runs.proofs.runs.run_here.Goals as goal

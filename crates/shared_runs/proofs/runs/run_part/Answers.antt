@@ -3,7 +3,7 @@ use Rattle.loop_schedules.specs.Problems.{ProblemData}
 use Rattle.loop_listings.specs.declared.listings.Row as row
 use Rattle.candidates.specs.Choices.{IsChoice}
 use Rattle.loop_listings.specs.Listings.{IsRow}
-use Rattle.listing_printouts.specs.Runs.{choice_lines}
+use Rattle.lines_of_runs.specs.Runs.{choice_lines}
 use Rattle.shared_runs.proofs.Joining.{listed_choice, listed_long, told_at}
 use Rattle.shared_runs.proofs.runs.run_part.Goals as goal
 

@@ -3,9 +3,9 @@ use Rattle.graph.specs.Units.{first_lacking}
 use Rattle.loop_listings.specs.Texts.{counts_line}
 use Rattle.file_faults.specs.Answers.{AnswersIn}
 use Rattle.candidates.specs.Files.{PreparesAndLists}
-use Rattle.printouts.specs.Run.{IsRunText, told_lines}
-use Rattle.listing_printouts.proofs.Problems.{loops_of}
-use Rattle.printouts.proofs.Told.{told_run}
+use Rattle.run_printouts.specs.Run.{IsRunText, told_lines}
+use Rattle.lines_of_runs.proofs.Problems.{loops_of}
+use Rattle.run_printouts.proofs.Told.{told_run}
 use Rattle.side_by_side.proofs.Answered.{right_more}
 use Rattle.modsched.proofs.commands.searches.run_text.Goals as goal
 

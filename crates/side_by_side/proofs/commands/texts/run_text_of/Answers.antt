@@ -1,9 +1,9 @@
 use Rattle.std.proofs.Common.{◌++◌, ◌∙◌, ap, of_calls, rules}
 use Rattle.loop_reader.specs.Meaning.{loops_in}
 use Rattle.loop_listings.specs.Texts.{counts_line}
-use Rattle.printouts.specs.Run.{IsRunText, told_lines}
-use Rattle.listing_printouts.proofs.Problems.{loops_of}
-use Rattle.printouts.proofs.Told.{told_run}
+use Rattle.run_printouts.specs.Run.{IsRunText, told_lines}
+use Rattle.lines_of_runs.proofs.Problems.{loops_of}
+use Rattle.run_printouts.proofs.Told.{told_run}
 use Rattle.side_by_side.proofs.Texts.{JoinsRuns, few_told, run_is, shown_runs, written_apart, written_whole}
 use Rattle.side_by_side.proofs.commands.texts.run_text_of.Goals as goal
 

@@ -1,4 +1,4 @@
-use Rattle.printouts.proofs.Runnable.{listed_runnable}
+use Rattle.run_printouts.proofs.Runnable.{listed_runnable}
 use Rattle.side_by_side.proofs.commands.texts.told_runs.Goals as goal
 
 pub push_runs-requires : goal.push_runs-requires

@@ -1,2 +1,0 @@
-pub mod KernelLines
-pub mod Problems
