@@ -3,7 +3,7 @@
 ghost use Rattle.std.specs.Prelude.{◌≡◌, ℕ, List};
 ghost use Rattle.graph_text.specs.Kinds.{IsOfKind, IsTimed, kind_word};
 
-use graph::Edge;
+use edges::Edge;
 use loop_data::Loop;
 use machine_data::Opcode;
 

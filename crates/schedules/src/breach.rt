@@ -1,6 +1,6 @@
 //! What a list of times and alternatives breaks.
 
-use graph::Edge;
+use edges::Edge;
 
 /// What a list of times and alternatives breaks first, so that it is no schedule. The numbers are tested
 /// first, operation by operation; then the rows, the edges and the stages.

@@ -7,7 +7,7 @@ ghost use Rattle.solution_text.specs.Verdicts.{breach_text, broken_line, broken_
 
 use crate::named::Register;
 use crate::parts::{Part, push_parts};
-use graph::Edge;
+use edges::Edge;
 use machine_data::OutOfMemory;
 use problems::Draft;
 use schedules::Breach;

@@ -1,7 +1,7 @@
 //! One attempt at an interval.
 
 ghost use Rattle.std.specs.Prelude.{◌≡◌, ◌≤◌, ℕ, length, replicate, None, IfOk};
-ghost use Rattle.graph.specs.Schedules.{IsLawfulSchedule};
+ghost use Rattle.edges.specs.Schedules.{IsLawfulSchedule};
 ghost use Rattle.schedules.specs.Problems.{IsProblem, mii_of};
 ghost use Rattle.modulo.specs.Attempts.{IsBlocked, EndsPlaced, AnswersAttempt};
 ghost use Rattle.machine_data.specs.declared.limits.TheConstants.{MAX_BUDGET, MAX_INTERVAL};
