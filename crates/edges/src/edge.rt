@@ -2,7 +2,7 @@
 
 /// A dependence of one operation upon another: at an interval `ii`, the issue times `t` of a schedule
 /// have to keep `t(to) + ii * distance >= t(from) + delay`. Edges are ordered by their fields.
-#[derive(Clone, Copy, Debug, PartialEq, Eq, PartialOrd, Ord)]
+#[derive(Clone, Copy, PartialEq, Eq, PartialOrd, Ord)]
 pub struct Edge {
     /// The operation that comes first, by its number; below 128.
     pub from: u8,

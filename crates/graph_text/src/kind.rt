@@ -8,7 +8,7 @@ use loop_data::Loop;
 use machine_data::Opcode;
 
 /// Why an operation depends on another one.
-#[derive(Clone, Copy, Debug, PartialEq, Eq)]
+#[derive(Clone, Copy, PartialEq, Eq)]
 pub enum Kind {
     /// It uses the other one's value.
     Value,

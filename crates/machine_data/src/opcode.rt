@@ -5,7 +5,7 @@ ghost use Rattle.machine_data.specs.Opcodes.{word_of, opcode_number, opcode_name
 
 /// What a statement of a loop does. The order is that of the words in the documents, and of
 /// [`Opcode::number`].
-#[derive(Clone, Copy, Debug, PartialEq, Eq, PartialOrd, Ord)]
+#[derive(Clone, Copy, Debug, PartialEq, Eq)]
 pub enum Opcode {
     Load,
     Store,

@@ -15,7 +15,7 @@ use solutions::{Broken, Solution};
 use writing::{Text, push_both, push_told};
 
 /// What a text of solutions lacks of a problem's solution. Numbers count from 0.
-#[derive(Clone, Copy, Debug, PartialEq, Eq)]
+#[derive(Clone, Copy, PartialEq, Eq)]
 pub enum Missing {
     /// It has no solution of the problem.
     Solution,

@@ -17,7 +17,7 @@ use std::alloc::Global;
 use unit_bound::Offers;
 
 /// A set of units, with how often the operations of an iteration have to use them.
-#[derive(Clone, Copy, Debug, Drop, PartialEq, Eq)]
+#[derive(Clone, Copy, Drop, PartialEq, Eq)]
 pub struct UnitSet {
     /// The set: bit `u` tells whether unit `u` is one of it.
     pub units: u64,

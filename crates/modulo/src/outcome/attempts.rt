@@ -13,7 +13,7 @@ use schedules::{Problem, Schedule};
 use std::alloc::Global;
 
 /// Why an attempt at an interval found no schedule: the first of these causes that holds.
-#[derive(Clone, Copy, Debug, PartialEq, Eq)]
+#[derive(Clone, Copy, PartialEq, Eq)]
 pub enum Failure {
     /// All alternatives of some operation collide with themselves at the interval; nothing was placed.
     Table,
@@ -33,7 +33,7 @@ pub enum Try<'a> {
 }
 
 /// What keeps an attempt from a schedule.
-#[derive(Debug, Drop)]
+#[derive(Drop)]
 pub enum Culprit {
     /// The first operation all of whose alternatives collide with themselves at the interval.
     Blocked(usize),
