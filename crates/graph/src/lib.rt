@@ -1,4 +1,12 @@
-//! Dependences between the operations of a loop, and the lower bounds of its initiation interval.
+//! The dependences between the operations of a loop, with ResMII, RecMII and heights.
+//!
+//! `edges` finds each dependence once, ascending by (from, to, distance, delay). `given` makes a graph of edges that
+//! are given in any order. The contracts speak of walks; the code is Bellman-Ford relaxation in place, from the last
+//! operation to the first. To find RecMII, the interval is raised as long as a circuit does not fit it, each time to
+//! the least one that this circuit fits. `feasible` and `rounds` ask of one interval. Laws say what a schedule that
+//! keeps the edges promises for any two instances, and that no such schedule has an interval below RecMII. ResMII is a
+//! bound of units by Rau's choice of alternatives: where operations have alternatives, a schedule may have a shorter
+//! interval. `res_mii_of` finds it for a list of alternatives, and shares its body with `res_mii` (`Offers`).
 #![tactic(auto)]
 
 mod dependence;
