@@ -315,11 +315,11 @@ class Written(unittest.TestCase):
                 self.assertEqual((done.returncode, done.stdout, done.stderr), (2, "", f"{words[0]}: memory ran out\n"))
 
 
-class Readme(unittest.TestCase):
+class Page(unittest.TestCase):
     def test_session(self):
-        """README's session prints what stands there. Without the library, plain Python solves in place of solve.py."""
-        with open(os.path.join(common.solving.ROOT, "README.md"), encoding="utf-8") as it:
-            section = it.read().split("\n## From C\n")[1].split("\n## ")[0]
+        """The session of docs/CLIENTS.md prints what stands there. Without the library, plain Python solves in place of solve.py."""
+        with open(os.path.join(common.solving.ROOT, "docs/CLIENTS.md"), encoding="utf-8") as it:
+            section = it.read().split("\n## A session\n")[1].split("\n## ")[0]
         lines = [it[4:] for it in section.split("\n") if it.startswith("    ")]
         room = os.path.join(common.ROOM, "readme")
         os.mkdir(room)

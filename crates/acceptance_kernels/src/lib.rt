@@ -1,4 +1,6 @@
-//! Tests of kernels that are built by hand, and of numbers of registers that are given.
+//! Tests of kernels that are built by hand, and of register numbers that are given.
+//!
+//! Kernels are refused, written and run, among them some that would be let through if a lifetime were cut short.
 #![tactic(auto)]
 
 #[cfg(test)]

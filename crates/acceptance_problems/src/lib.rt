@@ -1,5 +1,8 @@
-//! Tests of the crates for scheduling problems: drafts and their faults, a problem that is given by numbers, lines and whole texts with how many bytes the word at fault has, problems
-//! without names, and pieces of lines. All is worked by hand. What the program prints of texts is told by its sessions.
+//! Tests of scheduling problems: drafts and lines with one fault each, and a problem that was solved by hand.
+//!
+//! The fault that is told is compared, and for lines how many bytes the word at fault has. A problem without names is
+//! solved, judged and told. What the program prints of texts is in `tests/sessions`, and loops given as problems are in
+//! `tests/problems_as_loops`.
 #![tactic(auto)]
 
 #[cfg(test)]

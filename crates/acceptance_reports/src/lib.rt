@@ -1,5 +1,7 @@
-//! Tests of what the libraries tell of loops, by the calling thread alone, where the program calls others that share the loops among workers. They stand apart from the
-//! crates that they test, since a crate with tests is proved twice.
+//! Tests of what `explain` and `vary` tell of loops, by the calling thread alone.
+//!
+//! They stand apart from the crates that they test, since a crate with tests is proved twice. The program itself calls
+//! functions that share loops among workers.
 #![tactic(auto)]
 
 #[cfg(test)]

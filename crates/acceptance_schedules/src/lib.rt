@@ -1,5 +1,7 @@
-//! Tests that cross crates: worked loops, and problems without a loop, are scheduled on worked machines, and the times and
-//! alternatives of their operations are compared with values worked out by hand.
+//! Tests of schedules: worked loops and problems, with times and alternatives that were found by hand.
+//!
+//! They run over all three reservation tables, which also agree with one another on longer loops. Lists of times are
+//! checked.
 #![tactic(auto)]
 
 #[cfg(test)]

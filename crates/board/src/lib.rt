@@ -1,5 +1,10 @@
-//! The board that workers share: they draw pieces from it, look up the least interval known to succeed
-//! for a loop, and post intervals that succeeded.
+//! What workers share: the next piece to draw, and the least interval known to succeed for each loop.
+//!
+//! A `WordBoard` has one word for the next number and one for each loop. A draw is one `fetch_add`, a look one load and
+//! a post one `fetch_min`: no step is tried again, none waits, none takes memory. Promised: each piece is drawn once; a
+//! look answers an interval that some pass posted, never above what the pass itself posted or saw; and what the words
+//! are when the board is closed. Not promised: that a pass gets on, an order between passes, or that a look sees what
+//! another pass just posted. `LockedBoard` is the plain version under a lock, which may wait: only tests use it.
 #![tactic(auto)]
 
 ghost use Rattle.std.specs.Prelude.{◌≡◌, ℕ, ◌<◌, ◌≤◌, Bool, IsTrue, IfSome, is_none};

@@ -1,6 +1,7 @@
-//! Callers of a board: a worker over any board, and in tests each call of both boards, and threads that share a board of words.
+//! Tests of boards: workers over any board, each call of both boards, and threads that share a board of words.
 //!
-//! Nothing here waits, but for the tests of the board that locks: no other function has a bound that would let it.
+//! That threads see one another's posts is only tested. Nothing here waits, but for the tests of the board that locks:
+//! no other function has a bound that would let it.
 #![tactic(auto)]
 
 #[cfg(test)]

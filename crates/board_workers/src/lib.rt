@@ -1,4 +1,6 @@
-//! Workers over a shared board: what each does, and workers in threads.
+//! Workers in threads: each draws intervals of loops from a board, tries them and reports.
+//!
+//! It has only `reports` in common with `collecting`, so that both are built side by side.
 #![tactic(auto)]
 
 mod gate;

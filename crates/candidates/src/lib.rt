@@ -1,4 +1,9 @@
-//! From one interval of one loop to the listing of a file, on one thread: none is started, and no lock is taken.
+//! The least interval at which a loop has a kernel, and the listing of a file, by the calling thread alone.
+//!
+//! No thread is started and no lock is taken. `try_interval` answers what `Gives` says of a loop and an interval, in
+//! the words of the crates below: the attempt, the least registers, the emitted kernel. It stops as soon as more values
+//! live in one cycle than there are registers. `Trials` answers the same of one interval after another, over one table.
+//! `IsChoice` says which interval is the least that gives a kernel, without a step from one interval to the next.
 #![tactic(auto)]
 
 mod choices;

@@ -1,5 +1,9 @@
-//! The proved scheduler as a static library for C: a problem in arrays of numbers is solved into the caller's arrays, schedules that callers give are
-//! checked, and what the program prints of texts is written into the caller's room.
+//! The library for C: problems in arrays are solved or judged, and what commands print of texts is handed over.
+//!
+//! A problem of the caller's arrays is made a draft (`IsDraftOf`) and solved (`AnswersSolve`). Each argument is tested,
+//! so that no call has a condition that types do not state. A call with texts hands over what the program prints of
+//! them, or the line with which it refuses them, by the definitions of `engine` (`AnswersTexts`). The header is
+//! `include/modsched.h`, written by hand.
 #![tactic(auto)]
 
 ghost use Rattle.std.specs.Prelude.{◌≡◌, ◌≤◌, length, IfOk, MatchResult};

@@ -1,6 +1,8 @@
-//! Inputs and outputs, whole texts that are read from and written to them, files, and the standard output.
-//! Contracts see the bytes that an input has left and an output took, where they are known, and how many
-//! calls failed.
+//! Inputs and outputs with contracts: whole texts, files, and the standard input and output.
+//!
+//! Contracts tell the bytes that are left and those that are taken, where these are known, how many calls failed, and
+//! what an output has handed on: what it had taken when a flush last succeeded. `write_texts` writes several texts one
+//! after another, without a copy of them all.
 #![tactic(auto)]
 
 mod device;

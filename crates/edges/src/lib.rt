@@ -1,4 +1,7 @@
-//! Edges between operations: what one has to wait for another, and graphs of these.
+//! Edges between operations, each with how long one has to wait for another, and graphs of them.
+//!
+//! An edge has a delay in cycles and a distance in iterations. `given` makes a graph of edges that come in any order.
+//! Nothing here knows of loops, so that schedules of any operations stand on this crate alone.
 #![tactic(auto)]
 
 mod edge;

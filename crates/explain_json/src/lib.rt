@@ -1,5 +1,8 @@
-//! Why a loop has its interval, as JSON for programs that read it: its bounds with what they are due to, its dependences, the intervals
-//! that were tried, and its kernel.
+//! Why a loop has its interval, as a JSON object: bounds, dependences, the intervals tried, and the kernel.
+//!
+//! It attempts nothing. It takes what `told_choices` told of the loop (`IsTold`), with the choices of ResMII, the
+//! fullest set of units that was looked at and a critical circuit, and makes the value that the definition says
+//! (`object_of`).
 #![tactic(auto)]
 
 mod circuit;

@@ -1,4 +1,6 @@
-//! What `explain` prints of loops, as lines, as JSON and as a page, by the choices of one thread.
+//! What `explain` prints of loops as lines, as JSON or as a page, where the calling thread does all work.
+//!
+//! Lines and objects are made by two crates that know nothing of one another: `explain` and `explain_json`.
 #![tactic(auto)]
 
 mod explaining;

@@ -1,6 +1,8 @@
-//! Figures of a schedule: how long an iteration takes, how much later each operation could be issued, how many rotating
-//! registers its values need, which operation takes each slot of its modulo reservation table, and how many registers are
-//! live in each row.
+//! Figures of a schedule: iteration length, slacks, registers needed, live values, and what takes each slot.
+//!
+//! The slack of an operation is the greatest number of cycles by which it alone can be issued later (`issued_later`),
+//! so that each edge is kept and the last landing stays where it is. `Takers` tells which operation takes each slot,
+//! and a law says that no other one does. All that is told of a schedule, as text or as JSON, is made from these.
 #![tactic(auto)]
 
 mod figures;

@@ -1,4 +1,4 @@
-//! Why the texts of a machine and of loops, taken together, are refused.
+//! Why a machine text and a loop text, taken together, are refused, and which refusal comes first.
 #![tactic(auto)]
 
 mod fault;

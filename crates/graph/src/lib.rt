@@ -1,4 +1,8 @@
-//! Dependences between the operations of a loop, and the resource-constrained lower bound of its initiation interval.
+//! The dependences between the operations of a loop, and ResMII, the bound of its initiation interval by its units.
+//!
+//! `edges` finds each dependence once, ascending by (from, to, distance, delay). Laws say what a schedule that keeps
+//! these edges promises for the loads, stores and values of any two instances. ResMII is a bound of units by Rau's
+//! choice of alternatives: where operations have alternatives, a schedule may have a shorter interval.
 #![tactic(auto)]
 
 mod dependence;

@@ -1,5 +1,6 @@
-//! What graphs for Graphviz tell of a schedule: where an operation stands in it, which edges go to a later iteration or are of a
-//! circuit, and what came out.
+//! Marks of a schedule in graphs for Graphviz: where operations stand, and edges to later iterations.
+//!
+//! The graphs of loops and those of problems are marked alike.
 #![tactic(auto)]
 
 mod arrows;

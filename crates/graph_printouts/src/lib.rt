@@ -1,4 +1,4 @@
-//! What `edges` and `dot` print of machines and loops.
+//! What `edges` and `dot` print of a machine and loops.
 #![tactic(auto)]
 
 ghost use Rattle.graph.specs.Units.{first_lacking};

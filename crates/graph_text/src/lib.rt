@@ -1,4 +1,8 @@
-//! The dependences of loops, as text.
+//! The dependences of loops as lines, and as graphs for Graphviz with a critical circuit.
+//!
+//! An edge does not say of which kind it is: `kind_of` tells it by the two opcodes, and for a store that depends on a
+//! load also by the delay. Laws say that each dependence has one kind. `explain` and the texts of problems write some
+//! of their lines by this crate (`push_circuit_line`).
 #![tactic(auto)]
 
 mod drawing;

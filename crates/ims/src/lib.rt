@@ -1,4 +1,6 @@
-//! Iterative modulo scheduling of loops at one initiation interval.
+//! One attempt of iterative modulo scheduling at one interval, for a loop on a machine.
+//!
+//! Each call asks `modulo`, and each contract says of the loop what `modulo` says of its problem.
 #![tactic(auto)]
 
 mod laws;

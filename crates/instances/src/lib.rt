@@ -1,5 +1,9 @@
-//! Runs in which iterations of any operations overlap: what stands in the registers that values are allotted, and that
-//! values are those of the run of one iteration after another. It is definitions and laws alone.
+//! Laws of runs whose iterations overlap: what registers hold, and that values are those of sequential runs.
+//!
+//! These are definitions and laws alone, of operations of any kind. A run is an interval, issue times, values, reads,
+//! and a home for each value. The crate says which instance stands in a register in a cycle (`StandsIn`). Its law
+//! `RunsAreSequential` holds for whatever the operations compute: each history of overlapped iterations is that of one
+//! iteration after another.
 #![tactic(auto)]
 
 mod laws;

@@ -1,4 +1,7 @@
-//! What a program was invoked for: a command to carry out over the files that it names, or help, which ends the run. And what the process tells when it exits.
+//! What a program was called for: a command over the files that its line names, or help, which is shown.
+//!
+//! It also says by which number the process exits, and what the standard error gets (`exit_number`, `Told`). All
+//! programs begin and end with it.
 #![tactic(auto)]
 
 ghost use Rattle.std.specs.Prelude.{◌≡◌, List, map, IfErr, OnOk};

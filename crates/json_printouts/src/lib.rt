@@ -1,4 +1,4 @@
-//! What `json` prints of machines and loops.
+//! What `json` prints of a machine and loops, where the calling thread does all work.
 #![tactic(auto)]
 
 mod alone;

@@ -1,5 +1,12 @@
-//! The machine that runs a kernel with rotating registers. It runs each kernel that is well formed, and
-//! leaves the memory that the kernel's definition says; it can do so in two halves side by side.
+//! Runs kernels cycle by cycle on a machine in which each write lands when its latency has passed.
+//!
+//! `simulate` leaves what the definition `overlapped` says, for every well-formed kernel, trip count up to 100,000 and
+//! memory of the kernel's shape, unless memory runs out. The code has counters, a word of stage predicates, a base that
+//! rotates the registers, and a ring of writes in flight; the definition has none of these.
+//! `simulate_in_halves` runs both halves of a long run side by side. The second half begins from a guess: the memory
+//! and the preloads after some iterations. It runs until nothing is left of its first registers. When the first half
+//! comes to that turn, what both hold is compared. Where it differs, the calling thread runs the rest anew. So a wrong
+//! guess costs time alone, and nothing need be proved of it.
 #![tactic(auto)]
 
 mod clock;

@@ -1,5 +1,8 @@
-//! What `plain` prints of loops and `run` of a listing, whoever made it: the lines of runs, by the memory before and after them. `run_printouts` has what both
-//! print of texts.
+//! The lines of runs: what `plain` prints of loops, and `run` of the kernels of a listing.
+//!
+//! They are a function of the loop and of the memory that a run leaves, however it was run. So both commands print by
+//! the same code. Of a kernel it is known that it has as many arrays and live values as its loop (`AreRunnable`). No
+//! more is needed, and so this crate is proved beside those that find kernels.
 #![tactic(auto)]
 
 mod cells;

@@ -1,6 +1,6 @@
-//! What `schedule` prints of a listing, whoever made it, what `bounds` prints of loops on a machine, and the last lines of commands. It searches for
-//! nothing, allots no registers, makes no kernel and runs none. `printouts` has what `schedule` and `bounds` print of texts, and `lines_of_runs` what `run` prints of
-//! a listing.
+//! What `schedule` prints of kernels that were found, what `bounds` prints, and the last lines of commands.
+//!
+//! It searches for nothing. What is printed of a listing does not depend on who made it: workers, or one thread.
 #![tactic(auto)]
 
 mod bounds;

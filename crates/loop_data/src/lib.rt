@@ -1,5 +1,11 @@
-//! The language of loops as data, what its iterations do, and the memory of a run. It serves the
-//! crates of this repository: other users take the crate `loops`, which passes on what they need.
+//! Loops as data, the definition of what their iterations do, and the memory of a run.
+//!
+//! A `Loop` is valid by construction (`IsLoop`), and its accessors say so. The definition `plain` says what a loop
+//! does, one iteration after another, and laws tell it instance by instance. `opening` makes the memory before the
+//! first iteration. `into_parts` takes a memory apart for code that works on its cells, and `of_parts` puts it together
+//! again. `ListOf` and `ShortListOf` are the lists in loops and kernels: contracts see them as lists. What needs loops
+//! as data stands on this crate alone, and loads no proof about texts or runs. Users of the libraries take the crate
+//! `loops`, which passes on what they need.
 #![tactic(auto)]
 
 mod arithmetic;

@@ -1,5 +1,6 @@
-//! One line of a loop text: its words, and the form that they have. It serves the reader of loop texts
-//! alone: other users take the crate `loops`.
+//! One line of a loop text: its words with their columns, its numbers, and the form that it has.
+//!
+//! `problem_lines` finds the words of its lines by it, too. Users of the libraries take the crate `loops`.
 #![tactic(auto)]
 
 mod blanks;

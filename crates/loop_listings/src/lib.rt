@@ -1,5 +1,7 @@
-//! Listings: what is chosen for each loop of a file, or why there is nothing to choose; their text; and the pieces in which workers
-//! share the intervals of loops.
+//! What is chosen for each loop of a file, or why nothing is; its text; and the pieces that workers draw.
+//!
+//! A listing is a function of the loops and their choices, and its text is a function of the listing. This crate allots
+//! no registers and makes no kernel, and so is proved beside the crates that do.
 #![tactic(auto)]
 
 mod causes;

@@ -1,4 +1,8 @@
-//! Innermost loops of 64-bit integer operations: their text, and what they mean.
+//! Innermost loops of 64-bit integers, for users of the libraries: their text is read, written and run here.
+//!
+//! It stands over `loop_data`, `plain_runs`, `loop_lines` and `loop_reader`, and passes on what users need of them.
+//! `write_loop` writes the canonical text of a loop: to read that text gives just that loop (`reads_back`). The program
+//! takes the crates below itself, since no command prints a canonical text.
 #![tactic(auto)]
 
 mod write;

@@ -1,5 +1,8 @@
-//! The dependences of loops on a machine with the lower bounds of their initiation intervals, and these
-//! bounds as text.
+//! The dependences of a loop with ResMII and RecMII, and the lines of these that `bounds` prints.
+//!
+//! `measure` finds all of it at once. Where loops lack a table, `TextFault` names the first such loop with its first
+//! opcode that has none. A text of several things has a part for each, with a value that is right for it (`AreTexts`).
+//! The texts of `graph_text` are defined so, too, and the same lemmas serve both.
 #![tactic(auto)]
 
 mod fault;

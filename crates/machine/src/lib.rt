@@ -1,5 +1,8 @@
-//! Descriptions of VLIW machines: the functional units, the rotating registers and, for each opcode
-//! of the loop language, its latency and the reservation tables by which it may be issued.
+//! Reads machine texts: units, registers, and for each opcode its latency and reservation tables.
+//!
+//! For all bytes, `read_machine` answers the machine that the text describes or the first check that it fails, as the
+//! definition `machine_of` says, unless memory runs out. Words of faults are specified, here and elsewhere: a clause
+//! `output` says exactly what `Display` prints. Users of the libraries find here what they need of `machine_data`.
 #![tactic(auto)]
 
 mod read;

@@ -1,5 +1,8 @@
-//! Machines as data: opcodes, reservation tables, functional units and rotating registers; and the limits of every text, setting and
-//! schedule.
+//! Machines as data: opcodes, units, reservation tables and registers; and the limits of all texts and settings.
+//!
+//! A `Machine` is valid by construction: whatever the checks of a machine text require is an invariant of the type, and
+//! its accessors say so. What needs machines and no machine text stands on this crate, so that it loads no proof about
+//! texts. `limits` names the limits of machines, loops, problems and settings.
 #![tactic(auto)]
 
 mod alternative;

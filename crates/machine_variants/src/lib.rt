@@ -1,5 +1,7 @@
-//! Variants of a machine: a unit twice, a latency that is one cycle less, or another number of registers; and copies of loops, to be
-//! prepared on each of them.
+//! Variants of a machine: a unit twice, a latency that is one cycle less, or another number of registers.
+//!
+//! `varied` says which machine a variant is, `variants_of` which variants there are, and `concerns` which of them
+//! concern a loop. To prepare a loop is to give it away, so this crate also makes copies of loops (`copied_loop`).
 #![tactic(auto)]
 
 mod copies;

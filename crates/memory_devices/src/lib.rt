@@ -1,5 +1,6 @@
-//! Inputs and outputs in memory, some of which fail. Contracts see the bytes that an input has left and an
-//! output took, and how many calls failed.
+//! Inputs and outputs in memory, some of which fail, for tests and for callers of `modsched`.
+//!
+//! Contracts tell all of their bytes, and when those fail that do (`FaultyReads`, `FaultyWrites`, `FaultyFlushes`).
 #![tactic(auto)]
 
 mod faulty;

@@ -1,6 +1,8 @@
-//! Makes calls that take memory, each twice with the same arguments, and prints for each what the two came to. It is for runs in which
-//! growths of memory are refused (`tests/refused_memory`). Then each call has to come to what it comes to with ample memory or to a
-//! refusal, and what it was lent has to be as it was, so that a second call with ample memory comes to the same.
+//! Makes calls that take memory, each twice with the same arguments, and prints what they come to.
+//!
+//! `tests/refused_memory` runs it with each growth of memory refused in turn. Then a call has to come to what it comes
+//! to with ample memory, or to a refusal, and what it was lent has to be as it was. Its stored run is the one with
+//! ample memory.
 #![tactic(auto)]
 
 mod answers;

@@ -1,4 +1,10 @@
-//! The program: its command line, and the work of its subcommands over inputs and an output.
+//! The work of every command, over inputs and an output: one contract says what each of them writes.
+//!
+//! For the unread bytes of its inputs, `engine` writes exactly the specified output and hands it on, or rejects the
+//! input and writes nothing. It reports an I/O error of a device if and only if that device's error count rose. It
+//! first reads the machine's text, or that of the problems whose solutions are judged, and then the other one. One pure
+//! function says what is printed of them (`answer_of`). Users of the libraries take this crate, which passes on what
+//! stands below it.
 #![tactic(auto)]
 
 mod commands;

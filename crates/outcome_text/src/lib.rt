@@ -1,4 +1,6 @@
-//! What a scheduling problem comes to, as text: its solution, or why it has none, with what its bounds are due to.
+//! What a problem comes to, as text: its solution or why it has none, with notes on its bounds.
+//!
+//! The notes tell a circuit that RecMII is due to (`IsCircuitOf`), and the units that ResMII is due to (`AreFullest`).
 #![tactic(auto)]
 
 mod circuit;

@@ -1,6 +1,10 @@
-//! Kernels that overlap the iterations of a scheduled loop: how long values live, what an allotment of
-//! rotating registers is, which kernel a schedule and an allotment give, and the law that its run does
-//! what the loop does one iteration after another.
+//! The theorem of the whole, as definitions and laws: a kernel leaves the memory that its loop leaves.
+//!
+//! It is `OverlapIsSequence` in `specs/Overlap.antt`, over the relation `RunsAsLoop`. `emit` of `rotating` promises it,
+//! and `engine` promises it of each kernel that it prints. `emitted` is the kernel of a schedule and an allotment.
+//! Between the kernel's writes and the plain run stands a third list: the writes that instances would make of the plain
+//! run's values, in the kernel's cycles. One induction proves that the kernel's list is this one. What registers hold
+//! comes from `instances`: a scheduled loop with its allotment is a run of it (`run_of`).
 #![tactic(auto)]
 
 mod laws;

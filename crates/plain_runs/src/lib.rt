@@ -1,7 +1,13 @@
-//! Runs loops: the memory that a loop leaves, as the definition `plain` of `loop_data` says. The code goes
-//! through blocks of iterations, and in each block one group of statements after another. Statements whose
-//! values nobody reads are left out. It serves the crates of this repository: other users take the crate
-//! `loops`, which passes its functions on.
+//! Runs loops one iteration after another, and leaves the memory that the definition `plain` says.
+//!
+//! The definition keeps the whole history of values. The code goes through blocks of at most 128 iterations, and keeps
+//! the values of each statement in a column. Statements are run in groups, as by loop distribution in a compiler: a
+//! group goes through the whole block before the next one does. Statements that wait for one another in a circuit are
+//! in one group. Groups are found without a proof. What is proved are the tests of them: `keeps_order` that groups can
+//! be run so, `may_go_by_two` that a statement can go through two iterations at once, `is_closed` that the statements
+//! which are left out are read by nobody. Where a test fails, the code takes the slower way. A run of fewer than 32
+//! iterations has one group.
+//! Users of the libraries take the crate `loops`.
 #![tactic(auto)]
 
 mod act;

@@ -1,5 +1,6 @@
-//! What `schedule` and `bounds` print of the texts of machines and loops, by the choices of one thread. `listing_printouts` has what they print of what was
-//! read and found. Other crates have what the other commands print of loops: `run_printouts` and `json_printouts` of texts, too.
+//! What `schedule` and `bounds` print of two texts, where the calling thread does all work.
+//!
+//! The small programs and `capi` ask for that (`schedule_alone`, `bounds_alone`).
 #![tactic(auto)]
 
 mod alone;

@@ -1,4 +1,6 @@
-//! What is wrong with texts of scheduling problems and of their solutions: what a command that reads them is told. The readers make these faults.
+//! What can be wrong with texts of problems or of solutions, and the words in which it is told.
+//!
+//! `exit_status` stands on this crate, and on no reader of such texts.
 #![tactic(auto)]
 
 mod expected;

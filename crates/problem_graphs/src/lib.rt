@@ -1,4 +1,4 @@
-//! The operations of a scheduling problem and what they wait for, as lines and as a graph in the language of Graphviz, also with its solution.
+//! What the operations of a problem wait for, as lines and as a graph for Graphviz, also with its solution.
 #![tactic(auto)]
 
 mod arrows;

@@ -1,5 +1,4 @@
-//! One line of a text of scheduling problems, or of a text of their solutions: its words, and the form that they
-//! have or the first fault of them alone. It serves the readers of such texts.
+//! One line of a text of problems or of solutions: its words and its form, or the first fault of the line.
 #![tactic(auto)]
 
 mod eights;

@@ -1,5 +1,9 @@
-//! What the commands that take scheduling problems print, from the bytes of their texts: what solving each problem comes to, and
-//! what is wrong with solutions of them.
+//! What the commands over scheduling problems print, from the bytes of their texts.
+//!
+//! `solve` and `check` solve or judge each problem once (`AnswersSolve`, `AnswersCheck`); `edges`, `dot` and `explain`
+//! tell of each what `problem_graphs` and `problem_reasons` do. One walk goes over the problems of a file, whatever is
+//! asked of them (`walk`). Workers draw problems from a counter, of which no clause speaks, and the calling thread
+//! solves what they leave. A fault of the text of problems comes before one of the solutions.
 #![tactic(auto)]
 
 mod answers;

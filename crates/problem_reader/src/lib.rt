@@ -1,4 +1,4 @@
-//! The reader of texts of scheduling problems: machines, and problems on them, or the first fault of the text.
+//! Reads texts of scheduling problems: machines and problems on them, or the first fault of the text.
 #![tactic(auto)]
 
 mod copies;

@@ -1,5 +1,8 @@
-//! Why scheduling problems have their intervals, as text: the units that they use, the fullest set of them, a critical circuit, each interval
-//! that is tried with what keeps it from a solution, what holds the one that has one, whether it is the least possible, and that solution.
+//! Why a problem has its interval, as text: units, circuits, each interval that fails, and the solution.
+//!
+//! The lines that loops have too are those of `reason_lines`. The lines of intervals are written from the failures that
+//! `solve_told` told: just the intervals from MII on that give no solution, each with its cause and culprits
+//! (`FailsFor`).
 #![tactic(auto)]
 
 mod circuit;

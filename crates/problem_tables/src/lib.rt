@@ -1,5 +1,6 @@
-//! What the lines of a text of scheduling problems have said so far, as tables with quick look-ups of names: the first
-//! fault of the next line, and the taking in of a line without one. It serves the reader of such texts.
+//! What the lines of a text of problems have said so far, as tables with quick look-ups of names.
+//!
+//! A table tells the first fault of the next line, and takes in a line without one. It serves `problem_reader`.
 #![tactic(auto)]
 
 mod ended;

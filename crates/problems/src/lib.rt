@@ -1,5 +1,9 @@
-//! Scheduling problems as data: operations with their kinds, values, reads and orders, as a back end of a compiler has
-//! them, checked once and valid from then on; and the limits of their texts.
+//! Scheduling problems as a back end has them: kinds, operations, values, reads and orders, checked once.
+//!
+//! A `Draft` says all of it by numbers, and `first_fault` tells the first thing wrong in it, in a fixed order. A draft
+//! without a fault gives a `Problem`, which holds a problem of `schedules` with an edge for each read and each order
+//! (`AnswersDraft`). The alternatives of a kind are kept once, and neighbouring kinds with the same ones share them.
+//! Laws say what schedules of a problem keep. `limits` names the limits of texts of problems and of solutions.
 #![tactic(auto)]
 
 mod checking;

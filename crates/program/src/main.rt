@@ -1,4 +1,7 @@
-//! The program `modsched`: software pipelining for a described VLIW machine, of innermost loops and of scheduling problems.
+//! The program `modsched`, with all commands: software pipelining of loops and of scheduling problems.
+//!
+//! Its stored run is the listing of the loop in README. That `main` prints and exits as it should on real files, pipes
+//! and devices is tested.
 #![tactic(auto)]
 
 ghost use Rattle.std.specs.Prelude.{IfErr};

@@ -1,5 +1,6 @@
-//! What the readers of machine texts and of loop texts find wrong, and what is told of it. It stands below both readers, so that a crate which passes
-//! their faults on need not stand on them.
+//! What can be wrong with a machine text or a loop text, and the words in which it is told.
+//!
+//! It stands below both readers, so that a crate which passes their faults on need not stand on them.
 #![tactic(auto)]
 
 mod loops;

@@ -1,5 +1,9 @@
-//! Lines that tell why intervals are no shorter, the same for loops and for scheduling problems: the fullest set of units, the intervals
-//! that fail, those of which the same is told in one line, and that no shorter interval is possible.
+//! Lines that say why an interval is no shorter, the same for loops and for problems.
+//!
+//! These are the line of the fullest set of units that was looked at (`push_set_line`), a line for each run of
+//! neighbouring intervals that fail and of which the same is told (`push_runs`), and the line `least possible`
+//! (`push_least`). A law says that no lawful schedule has an interval below what the set or the recurrences need
+//! (`LeastIsLeast`).
 #![tactic(auto)]
 
 mod laws;

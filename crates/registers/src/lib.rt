@@ -1,6 +1,11 @@
-//! Rotating registers for values: when each of a list of values lives, how many live at once, which numbers are
-//! lawful, which values meet where they are not, and the least numbers. It knows issue times and lists of values and
-//! reads, and neither loops nor schedules.
+//! When values live, which numbers of rotating registers are lawful for them, and the least such numbers.
+//!
+//! It knows lists of values with the operations that make and read them, and no loop or schedule. An operation may make
+//! several values, and read a value some cycles after its own issue. The registers of a file are seen as a circle, as
+//! long as their number times the interval; a value with a number is an arc of it. Numbers are lawful just where arcs
+//! are disjoint and none is longer than the circle. `find_least` and `fill_least` keep the gaps between arcs in order:
+//! from its own place on, a value takes the first gap that its arc fits into. `first_meeting` names the first two
+//! values that meet, and `crowd_in` tells how many live in a row.
 #![tactic(auto)]
 
 mod laws;

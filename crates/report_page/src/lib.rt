@@ -1,4 +1,7 @@
-//! The page that shows a document of loops.
+//! The HTML page of `explain`, around a JSON document of loops.
+//!
+//! The parts of the page are constants, which `clients/report/page_parts` makes of `head.html` and `tail.html`. `./x
+//! check` tests that they are the same bytes.
 #![tactic(auto)]
 
 mod head;

@@ -1,4 +1,4 @@
-//! What workers found of the intervals of loops.
+//! What a worker found of the intervals of loops, in entries that are true by their type.
 #![tactic(auto)]
 
 mod entry;

@@ -1,4 +1,9 @@
-//! Which units of a machine the resource-constrained lower bound of a loop counts, and which operations use them.
+//! What ResMII counts: the alternative that each operation takes in it, and the lines of units.
+//!
+//! `unit_choices` gives that alternative for each operation of a loop, and `unit_choices_of` for operations given by
+//! alternatives. The definition orders operations by their freedom, and asks that each choice be the best one after
+//! those before it. `push_unit_lines` writes a line for each unit that is used. A law says that the N of a unit marked
+//! `full` is ResMII.
 #![tactic(auto)]
 
 mod choices;

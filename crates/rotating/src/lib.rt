@@ -1,4 +1,8 @@
-//! Lifetimes, rotating registers and kernels of scheduled loops.
+//! Makes the kernel of a scheduled loop: when values live, their rotating registers, and the emitted parts.
+//!
+//! `allot` gives the values of a schedule the least numbers of `registers`. `first_without_number` tells the first
+//! value for which none is left, and `allot_or_lack` answers one or the other in one pass. `Allotment::check` accepts
+//! given numbers where they are lawful. `emit` makes the kernel, in lists of exact capacity.
 #![tactic(auto)]
 
 mod kernels;

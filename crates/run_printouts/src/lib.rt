@@ -1,5 +1,6 @@
-//! What `run` and `plain` print of the texts of machines and loops, by the choices of one thread. `lines_of_runs` has what they print of what was read and
-//! found.
+//! What `run` and `plain` print of texts, where the calling thread does all work.
+//!
+//! The small programs and `capi` ask for that (`run_alone`, `plain_alone`).
 #![tactic(auto)]
 
 mod alone;

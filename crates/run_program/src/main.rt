@@ -1,5 +1,7 @@
-//! The small program that has `run` and `plain`, of all loops of a text, by one thread. It stands on nearly all that the other one stands on, and
-//! on the crates that run loops and kernels. Of these commands it prints what the whole program prints, and ends so, unless memory runs out.
+//! A small program with `run` and `plain`, by one thread, which is built and proved long before the whole one.
+//!
+//! It prints what the whole program prints, and ends so, unless memory runs out. It stands on nearly all that
+//! `schedule_program` stands on, and on the crates that run loops and kernels.
 #![tactic(auto)]
 
 ghost use Rattle.std.specs.Prelude.{◌≡◌, is_ok, is_some, IfErr};

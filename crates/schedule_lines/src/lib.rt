@@ -1,5 +1,4 @@
-//! Schedules as text: their figures, when each operation is issued, when each value lives and in which register, and the modulo
-//! reservation table as a grid.
+//! A schedule as lines: its figures, when operations are issued, when values live, and its table as a grid.
 #![tactic(auto)]
 
 mod figure_lines;

@@ -1,6 +1,7 @@
-//! The small program that has `schedule` and `bounds`, of all loops of a text, by one thread. It stands on fewer than half of the crates of the whole
-//! program, and so is compiled and proved in a third of the time. Of these commands it prints what the whole program prints, and ends so, unless
-//! memory runs out.
+//! A small program with `schedule` and `bounds`, by one thread, which is built and proved long before the whole one.
+//!
+//! It prints what the whole program prints, and ends so, unless memory runs out. It stands on no crate that runs loops
+//! or kernels, and on fewer than half of the crates of the whole program.
 #![tactic(auto)]
 
 ghost use Rattle.std.specs.Prelude.{◌≡◌, is_ok, is_some, IfErr};

@@ -1,4 +1,8 @@
-//! The dependences of a loop as a graph in the language of Graphviz, with the schedule of its kernel or why it has none.
+//! The graph of a loop for Graphviz with its schedule, or with the reason why it has none.
+//!
+//! `push_drawn` draws the schedule, or the cause if there is none. This crate attempts nothing: `scheduled_printouts`
+//! tries the intervals of each loop, and says that each part of the text is the graph of the loop's choice
+//! (`AreScheduledGraphs`).
 #![tactic(auto)]
 
 mod arrows;

@@ -1,4 +1,4 @@
-//! What `dot --scheduled` prints: the graph of each loop with the schedule of its kernel, by the choices of one thread.
+//! What `dot --scheduled` prints of loops, where the calling thread does all work.
 #![tactic(auto)]
 
 mod graphs;

@@ -1,5 +1,8 @@
-//! Problems of modulo scheduling, of operations that are given by the edges between them and the alternatives of each; their
-//! schedules; and what a list of times and alternatives breaks first, where it is no schedule.
+//! What modulo scheduling is given (edges, latencies, alternatives), and which schedules of it are lawful.
+//!
+//! It knows no loop and attempts nothing. `Problem::new` finds ResMII and RecMII. A `Schedule` is lawful by its type:
+//! `Schedule::check` accepts a list of times and alternatives exactly if it is a schedule, and `Schedule::judge` names
+//! what another list breaks first.
 #![tactic(auto)]
 
 mod breach;

@@ -1,5 +1,9 @@
-//! What a command is given as numbers and words: the settings of a search (how hard it is tried to find a kernel, and by how many
-//! workers), a trip count, and the format of what it prints.
+//! The settings of a search, trip counts and output formats, each within its limits by its type.
+//!
+//! The settings are the budget ratio, the ceiling, the number of workers and the cut. This crate stands low, so that
+//! the command line needs none of the crates that schedule. Its definitions also say which interval a search has to
+//! find, whatever an interval gives (`IsLeastGiven`, `IsNoneGiven`). Lemmas say that there is one answer. `candidates`
+//! and `solutions` choose by these definitions.
 #![tactic(auto)]
 
 ghost use Rattle.std.specs.Prelude.{◌≡◌, ◌↔◌, IsOk, IfOk, IfErr};

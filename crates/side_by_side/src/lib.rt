@@ -1,5 +1,9 @@
-//! What `schedule`, `json`, `run`, `explain`, `dot --scheduled` and `vary` write, where workers in threads make what is written of each loop, or what is found of it, side by side. It is put together in
-//! the order of the loops: no byte depends on how many workers there are, on what each of them makes, or on when.
+//! What `schedule`, `json`, `run`, `explain`, `vary` and `dot --scheduled` print, by several workers.
+//!
+//! A worker makes what is printed of one loop, or for `vary` what is found of it; of a large text it also reads and
+//! schedules a piece (`schedule_text_of`, `document_text_of`, `run_text_of`). The clauses are those that the crates for
+//! the calling thread have, so no byte depends on workers. Where no worker is worth its start, the code of those crates
+//! does the work.
 #![tactic(auto)]
 
 mod commands;

@@ -1,4 +1,7 @@
-//! What the small programs share. Each has two commands, which one thread carries out on the files that a command line names.
+//! What the two small programs share: the files of a command are read, and what is wanted of them is written.
+//!
+//! What is wanted is a type that `Makes` something of two texts. The clauses of `answer` are those of `engine`,
+//! whatever is wanted.
 #![tactic(auto)]
 
 mod answers;

@@ -1,5 +1,7 @@
-//! What a scheduling problem comes to, as JSON for programs that read it: its solution, or why it has none, with what its bounds are
-//! due to.
+//! What a problem comes to, as JSON: its solution or why it has none, with what its bounds are due to.
+//!
+//! The value is made part by part as the definition says (`met_object`, `failed_object`), of the same rows, registers,
+//! lifetimes, circuits and units as the text. `serde_json` writes it.
 #![tactic(auto)]
 
 mod bounds;

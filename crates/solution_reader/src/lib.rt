@@ -1,4 +1,4 @@
-//! The reader of texts of solutions of scheduling problems, and each solution by the names of its problem.
+//! Reads texts of solutions of scheduling problems, each by the names of its problem.
 #![tactic(auto)]
 
 mod begun;

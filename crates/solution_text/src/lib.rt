@@ -1,5 +1,10 @@
-//! Solutions of scheduling problems as text: the lines that a check reads again, and after `#` what people want to know of
-//! them; and what a check says of them.
+//! Solutions of problems as text that `check` can read again, and what `check` says of a solution.
+//!
+//! The text is a function of the names, the problem with its bounds, and the solution (`solution_text`); without a
+//! solution, of the cause and the culprits of the last interval (`failed_text`). What `check` reads stands at the front
+//! of lines, and the rest after `#`. A law says of each register's name: in the turn in which it is resolved, it is the
+//! register in which the run of the solution has the instance (`NamesAreThoseOfRuns`). A part without a name is told by
+//! its number. `verdicts` writes what `check` says: that a solution holds, what it breaks first, or what is missing.
 #![tactic(auto)]
 
 mod causes;

@@ -1,4 +1,10 @@
-//! Solutions of scheduling problems: they are found, interval by interval, and anybody's solution is judged.
+//! Solves scheduling problems, and judges solutions that anybody made.
+//!
+//! `solve` tries one interval after another over one table: the attempt of `modulo`, then the least numbers of each
+//! rotating file. What it finds is lawful (`IsSolved`), and a run of `instances`, so that the laws of that crate hold
+//! of it. `solve_with_culprit` also tells what the last interval failed by, and `solve_told` tells it of each interval
+//! that fails (`FailsFor`). All texts of a problem are made of what these calls tell, so that printing never schedules.
+//! `Solution::check` judges a solution that is given, and names the first thing broken (`IsFirstBroken`).
 #![tactic(auto)]
 
 mod copies;

@@ -1,4 +1,7 @@
-//! What a command writes, whole or in parts that workers made: each part has the text of a loop, or of some of them, and they are put together in order.
+//! What a command prints, as one text or as parts that are put together in order.
+//!
+//! Each part is given back as it is joined (`joined`). Parts of 64 KiB or more on average, as `plain` and `run` may
+//! write, stay a list (`Parted`), which is written one after another. To contracts it is one text.
 #![tactic(auto)]
 
 mod joining;

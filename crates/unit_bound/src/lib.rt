@@ -1,4 +1,7 @@
-//! The resource-constrained lower bound of the initiation interval, of operations that are given by the alternatives of each.
+//! A bound of the initiation interval by units, for operations that are given by the alternatives of each.
+//!
+//! It is the bound by Rau's choice: operations with fewer alternatives first, each takes the alternative that leaves the
+//! most used unit with the lowest use. Where operations have alternatives, a schedule may have a shorter interval.
 #![tactic(auto)]
 
 mod offers;

@@ -1,5 +1,12 @@
-//! A bound of the interval by sets of units: how often the operations have to use the units of a set, whichever alternatives they take,
-//! over the number of these units.
+//! A lower bound of the interval by sets of units, which holds whichever alternatives operations take.
+//!
+//! Of the units of a set, an operation needs at least as many rows as its alternative with the fewest of them. The sum
+//! of these over all operations is at most the interval times the number of units in the set (`SchedulesKeepSets`). So
+//! no lawful schedule has a shorter interval. Of ResMII that need not be so. `fullest_set` looks at some sets only
+//! (`IsReached`): for each operation the units of the rows that its alternatives have at one place, and all units of
+//! its alternatives; all units of all operations; and unions of these. A set that it does not look at may be fuller.
+//! Rows for each unit are compared in parts of a row so small that two different fractions with at most 64 units are
+//! never taken for one.
 #![tactic(auto)]
 
 mod first_sets;

@@ -1,4 +1,8 @@
-//! Walks along edges: the recurrence-constrained lower bound of the initiation interval, heights, and rounds of relaxation.
+//! Walks along edges: RecMII, the bound of the initiation interval by circuits, and the heights of operations.
+//!
+//! The contracts speak of walks; the code is Bellman-Ford relaxation in place, from the last operation to the first. To
+//! find RecMII, the interval is raised as long as a circuit does not fit it, each time to the least one that this
+//! circuit fits. `feasible` and `rounds` ask of one interval. Laws say that no schedule has an interval below RecMII.
 #![tactic(auto)]
 
 mod height;

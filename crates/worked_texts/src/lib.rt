@@ -1,4 +1,4 @@
-//! Worked machines and loops as texts, which the tests of several crates read.
+//! Machines and loops as texts, worked by hand, which the tests of several crates read.
 #![tactic(auto)]
 
 mod gallery;

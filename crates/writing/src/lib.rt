@@ -1,4 +1,7 @@
-//! The parts of lines that texts are made of: words, numbers after words, and last lines, each pushed after a text.
+//! Parts of lines that all texts are made of: words, numbers, names with numbers, and lines of counts.
+//!
+//! Each call pushes its part after a text, which is a `String` or bytes (`Text`), and its clause says what stands there
+//! then. Where memory ran out, that is a beginning of the part, or nothing (`HasPart`).
 #![tactic(auto, using(crate::proofs::Beginnings::front_part, crate::proofs::Beginnings::later_part, crate::proofs::Beginnings::no_part))]
 
 mod lines;
