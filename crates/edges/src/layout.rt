@@ -1,4 +1,4 @@
-//! The dependences of a loop, laid out for a scheduler.
+//! Edges, laid out for a scheduler.
 
 pub(crate) mod graph;
 pub(crate) mod groups;
